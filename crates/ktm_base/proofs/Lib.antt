@@ -1,0 +1,3 @@
+pub mod ToldSteps
+pub mod Images
+pub mod GuidLemmas

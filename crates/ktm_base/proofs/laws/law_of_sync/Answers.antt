@@ -1,0 +1,5 @@
+use Rattle.ktm_base.proofs.Images.{sync_law}
+use Rattle.ktm_base.proofs.laws.law_of_sync.Goals as goal
+
+pub returns : goal.returns
+returns c = sync_law

@@ -1,0 +1,8 @@
+use Rattle.std.proofs.Common.{refl}
+use Rattle.ktm_mem.proofs.disk.MemDiskDisk.len.Goals as goal
+
+pub returns-in-Err-clause-call : goal.returns-in-Err-clause-call
+returns-in-Err-clause-call c = c.in-Err.ensures.call _ _ (λ off. refl)
+
+pub returns-clause-call : goal.returns-clause-call
+returns-clause-call c = c.in_default.ensures.call _ _ (λ off. refl)

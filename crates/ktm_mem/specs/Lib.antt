@@ -1,0 +1,4 @@
+pub mod Schedule
+pub mod Objects
+pub mod PowerSupply
+pub mod DiskInMemory
