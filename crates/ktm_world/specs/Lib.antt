@@ -1,0 +1,12 @@
+pub mod Keyed
+pub mod Handles
+pub mod Transactions
+pub mod Keys
+pub mod Present
+pub mod Outcome
+pub mod Decide
+pub mod Durable
+pub mod World
+pub mod Transcript
+pub mod EventGrammar
+pub mod Laws

@@ -1,27 +1,33 @@
 // What is recorded in the log.
-ghost use Rattle.std.specs.Prelude.{◌≡◌, List};
+ghost use Rattle.std.specs.Prelude.{◌≡◌};
 
 use ktm_base::{Bytes, Id, Text};
 use std::marker::Model;
 
-/// A key, and the value that it is given, or none where it is unset.
+/// A value under a key.
 #[derive(Clone, PartialEq, Debug, Drop)]
-pub struct Setting {
+pub struct Keyed<V> {
     pub key: Text,
-    pub value: Option<Bytes>,
+    pub value: V,
 }
 
-/// Settings in order. It is made from a vector, and gives it back, with no memory.
+/// A key of the store, with its value.
+pub type Entry = Keyed<Bytes>;
+
+/// A key, and the value that it is given, or none where it is unset.
+pub type Setting = Keyed<Option<Bytes>>;
+
+/// Settings, one for each key, by rising key. They are made from a vector, and give it back, with no memory.
 #[derive(Debug, Drop)]
 pub struct Settings {
     items: Vec<Setting>,
 }
 
 impl Model for Settings {
-    ghost use Rattle.std.specs.Prelude.{List};
-    ghost use Rattle.ktm_world.specs.declared.event.Setting.{Setting};
+    ghost use Rattle.std.specs.Prelude.{List, Option, ℕ};
+    ghost use Rattle.ktm_world.specs.declared.event.Keyed.{Keyed};
 
-    ghost Value = { List Setting };
+    ghost Value = { List (Keyed (Option (List ℕ))) };
 
     ghost view = { λ s. s.items.items };
 }
@@ -51,7 +57,7 @@ impl Settings {
 /// What one participant of a transaction has to record.
 #[derive(Debug, Drop)]
 pub enum Part {
-    /// The settings of the key-value resource manager, one for each key, by rising key.
+    /// The settings of the key-value resource manager.
     Settings(Settings),
 }
 
@@ -60,6 +66,6 @@ pub enum Part {
 pub enum Event {
     /// The machine started, for the so many-th time.
     Boot { boot: u32 },
-    /// A transaction with this one part committed.
+    /// A transaction that has this one part alone committed.
     Single { transaction: Id, part: Part },
 }

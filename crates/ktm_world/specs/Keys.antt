@@ -1,0 +1,65 @@
+-- The store of keys, and what each undecided transaction has set.
+use Rattle.std.specs.Prelude.{ℕ, ◌+◌, ◌==◌, ◌&&◌, ◌||◌, not, Bool, true, false, List, [], ◌∷◌, ◌++◌, length, nat_lt, Option, Some, None, is_some, sum_by, count_by, if◌then◌else◌}
+use Rattle.ktm_base.specs.declared.id.Id.{Id}
+use Rattle.ktm_world.specs.declared.event.Keyed.{Keyed}
+use Rattle.ktm_world.specs.Keyed.{value_at, put, without}
+use Rattle.ktm_world.specs.Transactions.{same_id}
+
+-- committed keys with their values
+abbrev pub Store : Type 0
+Store = List (Keyed (List ℕ))
+
+-- a transaction's own settings, one for each key: a value, or none where it unset the key
+abbrev pub OwnSettings : Type 0
+OwnSettings = List (Keyed (Option (List ℕ)))
+
+pub record Own : Type 0 where
+  pub transaction : Id
+  pub settings : OwnSettings
+
+pub record KeysNow : Type 0 where
+  pub store : Store
+  -- of the undecided transactions that have set or unset a key
+  pub own : List Own
+
+-- a transaction's own settings
+abbrev pub own_settings : List Own → Id → OwnSettings
+own_settings [] id = []
+own_settings (o ∷ os) id = if same_id o.transaction id then o.settings else own_settings os id
+
+-- a transaction has one setting more
+abbrev pub with_own : List Own → Id → List ℕ → Option (List ℕ) → List Own
+with_own [] id key value = record { transaction = id; settings = put [] key value } ∷ []
+with_own (o ∷ os) id key value = if same_id o.transaction id then record o { settings = put o.settings key value } ∷ os else o ∷ with_own os id key value
+
+-- a transaction's settings are gone
+abbrev pub without_own : List Own → Id → List Own
+without_own [] id = []
+without_own (o ∷ os) id = if same_id o.transaction id then os else o ∷ without_own os id
+
+-- what a transaction sees of a key: its own setting, else the committed value
+abbrev pub seen_through : Option (Option (List ℕ)) → Option (List ℕ) → Option (List ℕ)
+seen_through (Some setting) committed = setting
+seen_through None committed = committed
+
+abbrev pub value_seen : KeysNow → Option Id → List ℕ → Option (List ℕ)
+value_seen keys None key = value_at keys.store key
+value_seen keys (Some id) key = seen_through (value_at (own_settings keys.own id) key) (value_at keys.store key)
+
+-- does an undecided transaction other than this one hold the key, having set or unset it
+abbrev pub is_held_by_other : List Own → Id → List ℕ → Bool
+is_held_by_other [] id key = false
+is_held_by_other (o ∷ os) id key = (not (same_id o.transaction id) && is_some (value_at o.settings key)) || is_held_by_other os id key
+
+-- the keys in use: the committed ones, and those that each undecided transaction sets
+abbrev pub keys_used : KeysNow → ℕ
+keys_used keys = length keys.store + sum_by (λ o. count_by (λ s. is_some s.value) o.settings) keys.own
+
+-- a setting is made in the store
+abbrev pub stored : Store → Keyed (Option (List ℕ)) → Store
+stored store setting = elim setting.value as (λ _. Store) [ Some value ↦ put store setting.key value | None ↦ without store setting.key ]
+
+-- settings in order
+abbrev pub stored_all : Store → OwnSettings → Store
+stored_all store [] = store
+stored_all store (s ∷ ss) = stored_all (stored store s) ss

@@ -1,0 +1,59 @@
+-- The transactions of this boot.
+use Rattle.std.specs.Prelude.{ℕ, ◌+◌, ◌-◌, ◌^◌, ◌==◌, ◌&&◌, ◌||◌, not, Bool, true, false, List, [], ◌∷◌, ◌++◌, length, nat_lt, count_by, Option, Some, None, if◌then◌else◌}
+use Rattle.ktm_base.specs.declared.id.Id.{Id}
+use Rattle.ktm_world.specs.declared.object.Phase.{Phase}
+use Rattle.ktm_world.specs.declared.object.Phase.TheVariants.{Active, Ended}
+use Rattle.ktm_world.specs.declared.object.TransactionOutcome.{TransactionOutcome}
+use Rattle.ktm_world.specs.declared.object.TransactionOutcome.TheVariants.{Undetermined, Committed, Aborted}
+
+pub record Transaction : Type 0 where
+  pub id : Id
+  -- in milliseconds; 0 and 2 ^ 32 - 1 mean none
+  pub timeout : ℕ
+  -- the clock when it was made
+  pub created : ℕ
+  pub phase : Phase
+  pub outcome : TransactionOutcome
+
+pub record Transactions : Type 0 where
+  -- milliseconds since the boot
+  pub clock : ℕ
+  -- the number of the transaction that was made last, or 0
+  pub last : ℕ
+  -- in order of creation
+  pub items : List Transaction
+
+abbrev pub same_id : Id → Id → Bool
+same_id a b = (a.boot == b.boot) && (a.number == b.number)
+
+-- the transaction with this Id
+abbrev pub transaction_at : List Transaction → Id → Option Transaction
+transaction_at [] id = None
+transaction_at (t ∷ ts) id = if same_id t.id id then Some t else transaction_at ts id
+
+-- the transaction with this Id is changed
+abbrev pub change_at : List Transaction → Id → (Transaction → Transaction) → List Transaction
+change_at [] id f = []
+change_at (t ∷ ts) id f = if same_id t.id id then f t ∷ ts else t ∷ change_at ts id f
+
+abbrev pub is_active : Transaction → Bool
+is_active t = elim t.phase as (λ _. Bool) [ Active ↦ true | Ended ↦ false ]
+
+-- a transaction is live until it has ended
+abbrev pub is_live : Transaction → Bool
+is_live t = elim t.phase as (λ _. Bool) [ Active ↦ true | Ended ↦ false ]
+
+-- has the transaction this outcome
+abbrev pub is_committed : Transaction → Bool
+is_committed t = elim t.outcome as (λ _. Bool) [ Undetermined ↦ false | Committed ↦ true | Aborted ↦ false ]
+
+abbrev pub is_aborted : Transaction → Bool
+is_aborted t = elim t.outcome as (λ _. Bool) [ Undetermined ↦ false | Committed ↦ false | Aborted ↦ true ]
+
+-- would one transaction more pass the limit on live ones, or the greatest number
+abbrev pub no_transaction_left : Transactions → Bool
+no_transaction_left ts = nat_lt 64 (count_by is_live ts.items + 1) || nat_lt (2 ^ 32 - 1) (ts.last + 1)
+
+-- a transaction that committed, and has told all
+abbrev pub ended_committed : Transaction → Transaction
+ended_committed t = record t { phase = Ended; outcome = Committed }

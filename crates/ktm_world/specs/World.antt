@@ -1,0 +1,146 @@
+-- The machine with its whole history, and how it relates to what is so now.
+use Rattle.std.specs.Prelude.{◌≡◌, ℕ, ◌+◌, ◌≤◌, Bool, true, false, List, [], ◌∷◌, ◌++◌, length, map, drop}
+use Rattle.ktm_base.specs.declared.id.Pid.{Pid}
+use Rattle.ktm_world.specs.declared.command.Command.{Command}
+use Rattle.ktm_world.specs.declared.event.Event.{Event}
+use Rattle.ktm_world.specs.declared.event.Event.TheVariants.{Boot}
+use Rattle.ktm_world.specs.Handles.{Handle}
+use Rattle.ktm_world.specs.Transactions.{Transactions}
+use Rattle.ktm_world.specs.Keys.{Store, Own, stored_all}
+use Rattle.ktm_world.specs.Present.{Machine, Present}
+use Rattle.ktm_world.specs.Outcome.{Work, Outcome}
+use Rattle.ktm_world.specs.Decide.{decide}
+use Rattle.ktm_world.specs.Durable.{Durable, stand}
+
+-- the events of one command
+abbrev pub Group : Type 0
+Group = List Event
+
+-- the machine is up, or it is down and one of these logs is on its disk
+pub data Power : Type 0 where
+  up : Power
+  down : List (List Group) → Power
+
+pub record World : Type 0 where
+  -- the durable state of the image that the run began with
+  pub base : Durable
+  -- what was recorded since, a group for each command that recorded anything
+  pub log : List Group
+  -- how many groups no loss of power takes
+  pub kept : ℕ
+  -- the store at the last restart, and what was committed since
+  pub start : Store
+  pub works : List Work
+  -- this boot
+  pub boot : ℕ
+  pub transactions : Transactions
+  pub own : List Own
+  pub handles : List Handle
+  pub power : Power
+
+-- the store after these works
+abbrev pub committed_with : Store → List Work → Store
+committed_with store [] = store
+committed_with store (work ∷ works) = committed_with (stored_all store work.settings) works
+
+abbrev pub is_up : Power → Bool
+is_up up = true
+is_up (down may) = false
+
+-- how many events there are in the groups
+abbrev pub count_events : List Group → ℕ
+count_events [] = 0
+count_events (group ∷ groups) = length group + count_events groups
+
+-- what is so now
+abbrev pub present : World → Present
+present w = record {
+  machine = record { units = w.base.units; image = w.base.image; boot = w.boot; is_up = is_up w.power; events = w.base.events + count_events w.log };
+  transactions = w.transactions;
+  keys = record { store = committed_with w.start w.works; own = w.own };
+  handles = w.handles;
+}
+
+-- what an outcome makes of what is so now
+abbrev pub apply : Present → Outcome → Present
+apply x o = record {
+  machine = record x.machine { events = x.machine.events + length o.events };
+  transactions = o.transactions;
+  keys = record { store = committed_with x.keys.store o.works; own = o.own };
+  handles = o.handles;
+}
+
+abbrev pub step : Present → Pid → Command → Present
+step x process command = apply x (decide x process command)
+
+-- the group of a command, which is none where nothing was recorded
+abbrev pub as_groups : List Event → List Group
+as_groups [] = []
+as_groups (event ∷ events) = (event ∷ events) ∷ []
+
+-- once a group is recorded and answered, all groups are kept
+abbrev pub kept_after : ℕ → List Group → List Event → ℕ
+kept_after kept log [] = kept
+kept_after kept log (event ∷ events) = length log + 1
+
+-- what an outcome makes of the history
+abbrev pub extend : World → Outcome → World
+extend w o = record w {
+  log = w.log ++ as_groups o.events;
+  kept = kept_after w.kept w.log o.events;
+  works = w.works ++ o.works;
+  transactions = o.transactions;
+  own = o.own;
+  handles = o.handles;
+}
+
+abbrev pub after : World → Pid → Command → World
+after w process command = extend w (decide (present w) process command)
+
+-- the first groups of a log, for each number of them, from none to all
+abbrev pub prefixes : List Group → List (List Group)
+prefixes [] = [] ∷ []
+prefixes (group ∷ groups) = [] ∷ map (λ l. group ∷ l) (prefixes groups)
+
+-- what a loss of power may leave of a log of which so many groups are kept
+abbrev pub prefixes_from : ℕ → List Group → List (List Group)
+prefixes_from kept log = drop kept (prefixes log)
+
+-- the logs that may be found on the disk
+abbrev pub possible_by : Power → ℕ → List Group → List (List Group)
+possible_by up kept log = prefixes_from kept log
+possible_by (down may) kept log = may
+
+abbrev pub possible_logs : World → List (List Group)
+possible_logs w = possible_by w.power w.kept w.log
+
+-- the power went during a command: its group may have been recorded
+abbrev pub interrupted_world : World → Pid → Command → World
+interrupted_world w process command = record w { power = down (prefixes_from w.kept (w.log ++ as_groups (decide (present w) process command).events)) }
+
+-- what a restart records by itself
+abbrev pub own_group : Durable → Group
+own_group s = Boot (s.boots + 1) ∷ []
+
+-- the world that starts from a log, once the restart has recorded its own group
+abbrev pub opened : Durable → List Group → World
+opened base log = record {
+  base = base;
+  log = log ++ own_group (stand base log) ∷ [];
+  kept = length log + 1;
+  start = (stand base log).keys;
+  works = [];
+  boot = (stand base log).boots + 1;
+  transactions = record { clock = 0; last = 0; items = [] };
+  own = [];
+  handles = [];
+  power = up;
+}
+
+-- what every world of a run is, while its machine is up
+pub record IsLawful (w : World) : Type 0 where
+  -- the log stands for what is committed
+  pub keys : (stand w.base w.log).keys ≡ committed_with w.start w.works
+  pub boots : (stand w.base w.log).boots ≡ w.boot
+  -- all groups are kept
+  pub kept : w.kept ≡ length w.log

@@ -1,0 +1,22 @@
+// Laws of the model, over every world and every command, each the contract of a function that does nothing.
+ghost use Rattle.ktm_world.specs.Laws.{StepLaw, RefusalLaw, LawfulLaw, OpenedLaw};
+
+/// What is so after a command is what the command makes of what was so.
+pub fn law_of_step()
+    ensures { StepLaw }
+{}
+
+/// A refusal changes nothing.
+pub fn law_of_refusals()
+    ensures { RefusalLaw }
+{}
+
+/// A command leaves a lawful world lawful.
+pub fn law_of_lawful_worlds()
+    ensures { LawfulLaw }
+{}
+
+/// A restart opens a lawful world.
+pub fn law_of_opened_worlds()
+    ensures { OpenedLaw }
+{}
