@@ -181,9 +181,15 @@ calls_law a b c first second refused one two = record {
   later = omega (arith, one.later, two.later);
   counted = omega (arith, one.counted, two.counted);
   few = omega (arith, one.few, two.few);
-  cause = λ is. elim (two.cause is) [ inl off ↦ absurd (let up = one.down in cc) | inr rose ↦ inr (omega (arith, one.later, rose)) ];
-  stays = λ off. absurd (let answered = one.stays off in cc);
-  down = two.down;
+  cause = λ is. elim (two.cause is) [ inl off ↦ inl (sym same ∙ off) | inr rose ↦ inr (omega (arith, one.later, rose)) ];
+  down = two.down ∙ ap (λ x. x || refused) same;
   plan = two.plan ∙ one.plan;
   places = two.places ∙ one.places;
 }
+  where
+    or_false : (x : Bool) → x || false ≡ x
+    or_false true = refl
+    or_false false = refl
+
+    same : b.is_down ≡ a.is_down
+    same = one.down ∙ or_false a.is_down

@@ -1,5 +1,5 @@
 -- A disk: what a read sees, what a loss of power may leave, and what its calls do to both.
-use Rattle.std.specs.Prelude.{◌≡◌, ◌⊎◌, ℕ, ◌+◌, ◌-◌, ◌<◌, ◌≤◌, ◌==◌, max, Bool, true, false, List, [], ◌∷◌, ◌++◌, length, slice_index, Option, None, Some, IsTrue, if◌then◌else◌}
+use Rattle.std.specs.Prelude.{◌≡◌, ◌⊎◌, ℕ, ◌+◌, ◌-◌, ◌<◌, ◌≤◌, ◌==◌, max, Bool, true, false, ◌||◌, List, [], ◌∷◌, ◌++◌, length, slice_index, Option, None, Some, IsTrue, if◌then◌else◌}
 use Rattle.ktm_base.specs.declared.power.PowerCall.{PowerCall}
 use Rattle.ktm_base.specs.Count.{Rose}
 use Rattle.ktm_base.specs.Bytes.{written, covers, SameOutside, GrewTo, GrewTowards}
@@ -79,17 +79,16 @@ pub record GrowthRefused (len : ℕ) (old new : DiskState) : Type 0 where
   pub seen : GrewTowards len old.seen new.seen
   pub asked : Asked len old new
 
--- what at most so many device calls do to the counts, of which the last was refused or not
+-- what at most so many device calls in a row do to the counts, where the last one was refused, or none was
 pub record DeviceCalls (most : ℕ) (old new : DiskStatus) (refused : Bool) : Type 0 where
   -- the counts never fall
   pub later : old.downs ≤ new.downs
   pub counted : old.calls ≤ new.calls
   pub few : new.calls ≤ old.calls + most
-  -- it is refused only where the disk was down or went down
+  -- one is refused only where the disk was down or went down
   pub cause : IsTrue refused → IsTrue old.is_down ⊎ Rose old.downs new.downs
-  -- a disk that is down refuses each call, and a refusal leaves it down
-  pub stays : IsTrue old.is_down → IsTrue refused
-  pub down : new.is_down ≡ refused
+  -- the disk is down where it was down, or where one was refused
+  pub down : new.is_down ≡ (old.is_down || refused)
   -- no device call makes a plan
   pub plan : new.plan ≡ old.plan
   pub places : new.places ≡ old.places
@@ -103,6 +102,8 @@ counted_down false (Some n) = if n == 0 then None else Some (n - 1)
 -- what one device call does to the counts
 pub record DeviceCall (old new : DiskStatus) (refused : Bool) : Type 0 where
   pub counts : DeviceCalls 1 old new refused
+  -- without power it is refused
+  pub stays : IsTrue old.is_down → IsTrue refused
   -- at the moment that was set the call is refused
   pub falls : old.is_down ≡ false → old.armed ≡ Some 0 → IsTrue refused
   pub armed : new.armed ≡ counted_down old.is_down old.armed

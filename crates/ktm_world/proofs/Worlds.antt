@@ -10,7 +10,7 @@ use Rattle.ktm_world.specs.declared.event.Event.{Event}
 use Rattle.ktm_world.specs.declared.reply.Reply.{Reply}
 use Rattle.ktm_world.specs.declared.reply.Reply.TheVariants.{Refused}
 use Rattle.ktm_world.specs.Keys.{Store, OwnSettings, stored_all, own_settings}
-use Rattle.ktm_world.specs.Transactions.{Transaction}
+use Rattle.ktm_world.specs.declared.object.Transaction.{Transaction}
 use Rattle.ktm_world.specs.Present.{Present}
 use Rattle.ktm_world.specs.Outcome.{Work, Outcome, only_reply, first_refusal, refuse_or}
 use Rattle.ktm_world.specs.Decide.{decide, command_tests, command_effect, commit_events, commit_works, commit_transaction, named}

@@ -3,14 +3,9 @@ use Rattle.std.specs.Prelude.{ℕ, ◌+◌, ◌==◌, ◌&&◌, Bool, List, [], 
 use Rattle.ktm_base.specs.declared.id.Id.{Id}
 use Rattle.ktm_base.specs.declared.id.Pid.{Pid}
 use Rattle.ktm_base.specs.declared.id.Label.{Label}
+use Rattle.ktm_world.specs.declared.object.Handle.{Handle}
 use Rattle.ktm_world.specs.declared.object.Object.{Object}
 use Rattle.ktm_world.specs.declared.object.Object.TheVariants.{Transaction, Manager, Enlistment, File}
-
--- a label of a process is bound to an object
-pub record Handle : Type 0 where
-  pub process : Pid
-  pub label : Label
-  pub object : Object
 
 -- what a label of a process names, if it is bound
 abbrev pub object_at : List Handle → Pid → Label → Option Object

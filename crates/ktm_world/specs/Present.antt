@@ -1,6 +1,6 @@
 -- What is so now.
 use Rattle.std.specs.Prelude.{ℕ, Bool, List}
-use Rattle.ktm_world.specs.Handles.{Handle}
+use Rattle.ktm_world.specs.declared.object.Handle.{Handle}
 use Rattle.ktm_world.specs.Transactions.{Transactions}
 use Rattle.ktm_world.specs.Keys.{KeysNow}
 

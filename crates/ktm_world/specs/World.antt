@@ -4,7 +4,7 @@ use Rattle.ktm_base.specs.declared.id.Pid.{Pid}
 use Rattle.ktm_world.specs.declared.command.Command.{Command}
 use Rattle.ktm_world.specs.declared.event.Event.{Event}
 use Rattle.ktm_world.specs.declared.event.Event.TheVariants.{Boot}
-use Rattle.ktm_world.specs.Handles.{Handle}
+use Rattle.ktm_world.specs.declared.object.Handle.{Handle}
 use Rattle.ktm_world.specs.Transactions.{Transactions}
 use Rattle.ktm_world.specs.Keys.{Store, Own, stored_all}
 use Rattle.ktm_world.specs.Present.{Machine, Present}

@@ -11,5 +11,5 @@ mod reply;
 pub use command::{Command, Line, View};
 pub use event::{Entry, Event, Keyed, Part, Setting, Settings};
 pub use laws::{law_of_lawful_worlds, law_of_opened_worlds, law_of_refusals, law_of_step};
-pub use object::{Object, Phase, TransactionOutcome};
+pub use object::{Handle, Object, Phase, Transaction, TransactionOutcome};
 pub use reply::Reply;

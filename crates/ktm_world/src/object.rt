@@ -1,5 +1,5 @@
-// What a handle names, and how far a transaction is.
-use ktm_base::Id;
+// Handles, what they name, and transactions.
+use ktm_base::{Id, Label, Pid};
 
 /// What a handle names.
 #[derive(Clone, Copy, Debug, PartialEq, Eq)]
@@ -9,6 +9,14 @@ pub enum Object {
     Enlistment(Id),
     /// An open file, by its number in this boot.
     File(u32),
+}
+
+/// A label of a process that is bound to an object.
+#[derive(Clone, Copy, Debug, PartialEq, Eq)]
+pub struct Handle {
+    pub process: Pid,
+    pub label: Label,
+    pub object: Object,
 }
 
 /// How far a transaction is on its way to its end.
@@ -26,4 +34,16 @@ pub enum TransactionOutcome {
     Undetermined,
     Committed,
     Aborted,
+}
+
+/// A transaction of this boot.
+#[derive(Clone, Copy, Debug, PartialEq, Eq)]
+pub struct Transaction {
+    pub id: Id,
+    /// In milliseconds; 0 and 4,294,967,295 mean none.
+    pub timeout: u32,
+    /// The clock when it was made, in milliseconds since the boot.
+    pub created: u64,
+    pub phase: Phase,
+    pub outcome: TransactionOutcome,
 }
