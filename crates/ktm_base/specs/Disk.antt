@@ -102,8 +102,8 @@ counted_down false (Some n) = if n == 0 then None else Some (n - 1)
 -- what one device call does to the counts
 pub record DeviceCall (old new : DiskStatus) (refused : Bool) : Type 0 where
   pub counts : DeviceCalls 1 old new refused
-  -- without power it is refused
-  pub stays : IsTrue old.is_down → IsTrue refused
+  -- after it the disk is down exactly where it was refused; so a disk that is down refuses each call
+  pub down : new.is_down ≡ refused
   -- at the moment that was set the call is refused
   pub falls : old.is_down ≡ false → old.armed ≡ Some 0 → IsTrue refused
   pub armed : new.armed ≡ counted_down old.is_down old.armed

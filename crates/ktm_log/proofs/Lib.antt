@@ -1,0 +1,6 @@
+pub mod Parts
+pub mod Frames
+pub mod GoodOrBad
+pub mod Appends
+pub mod Steps
+pub mod Loading

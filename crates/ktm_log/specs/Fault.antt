@@ -1,0 +1,32 @@
+-- What the answers of a scan and of an append say.
+use Rattle.std.specs.Prelude.{ℕ, Bool, true, false, Result, Ok, Err}
+use Rattle.ktm_log.specs.declared.fault.LogFault.{LogFault}
+use Rattle.ktm_log.specs.declared.fault.LogFault.TheVariants.{Down as ScanDown, Bad, NoMemory}
+use Rattle.ktm_log.specs.declared.fault.AppendFault.{AppendFault}
+use Rattle.ktm_log.specs.declared.fault.AppendFault.TheVariants.{Down as AppendDown, Full}
+
+-- the fact, where the log is bad
+abbrev pub IfBad : {T : Type 0} → Result T LogFault → (ℕ → Type 0) → Type 0
+IfBad (Ok value) P = Unit {0}
+IfBad (Err ScanDown) P = Unit {0}
+IfBad (Err (Bad offset)) P = P offset
+IfBad (Err NoMemory) P = Unit {0}
+
+-- did a scan find the disk down
+abbrev pub scan_went_down : {T : Type 0} → Result T LogFault → Bool
+scan_went_down (Ok value) = false
+scan_went_down (Err ScanDown) = true
+scan_went_down (Err (Bad offset)) = false
+scan_went_down (Err NoMemory) = false
+
+-- did an append find the disk down
+abbrev pub append_went_down : {T : Type 0} → Result T AppendFault → Bool
+append_went_down (Ok value) = false
+append_went_down (Err AppendDown) = true
+append_went_down (Err Full) = false
+
+-- the fact, where an append found the disk down
+abbrev pub IfAppendDown : {T : Type 0} → Result T AppendFault → Type 0 → Type 0
+IfAppendDown (Ok value) P = Unit {0}
+IfAppendDown (Err AppendDown) P = P
+IfAppendDown (Err Full) P = Unit {0}
