@@ -9,7 +9,7 @@ ghost use Rattle.ktm_log.specs.Settle.{behind_gate};
 use crate::load::next_frame;
 use crate::settle::settle;
 use crate::{AppendFault, Area, LogFault, Payloads};
-use ktm_base::{Disk, Down};
+use ktm_base::{Disk, Down, NoMemory};
 use std::alloc::Global;
 use std::marker::Model;
 
@@ -52,6 +52,19 @@ fn fill(buffer: &mut Vec<u8>, payload: &[u8])
 }
 
 impl Log {
+    /// The log of an area whose first gate is closed. It takes memory for the area's length, so that no append takes any.
+    pub fn empty(alloc: Global, area: Area) -> Result<Log, NoMemory>
+        requires there { 0 < area.len }
+        requires small { area.at + area.len < 2 ^ 63 }
+        ensures { IfOk result (λ log. log ≡ record { area = area; end = 0 }) }
+    {
+        Ok(Log {
+            area,
+            end: 0,
+            buffer: Vec::with_capacity(alloc, area.len as usize)?,
+        })
+    }
+
     /// Reads a log from its begin, no further than it needs to find the closed gate. It takes memory for the payloads,
     /// and for the area's length once: no append takes any.
     pub fn scan<D: Disk>(alloc: Global, disk: &mut D, area: Area) -> Result<Scanned, LogFault>

@@ -1,0 +1,4 @@
+pub mod Images
+pub mod Known
+pub mod Adding
+pub mod Formats

@@ -1,0 +1,10 @@
+// Laws of the definitions, each the contract of a function that does nothing.
+ghost use Rattle.std.specs.Prelude.{ℕ, List};
+ghost use Rattle.ktm_base.specs.Disk.{DiskState, MayLeave};
+ghost use Rattle.ktm_world.specs.World.{Group};
+ghost use Rattle.ktm_journal.specs.Image.{IsImage, JournalAt, JournalState};
+
+/// Of a journal that is answered a loss of power takes nothing.
+pub fn law_of_what_is_left()
+    ensures { (j : JournalState) (log : List Group) (s : DiskState) (image : List ℕ) → JournalAt j log s → MayLeave s image → IsImage j.units j.image log image }
+{}

@@ -1,0 +1,15 @@
+//! The journal: the groups of events in an image on a disk. An image is made once, and then a group is added at a time;
+//! a loss of power leaves each group that was answered, and the one that was being added or not.
+#![tactic(auto)]
+
+mod fault;
+mod group;
+mod image;
+mod journal;
+mod laws;
+
+pub use fault::JournalFault;
+pub use group::{write_boot, write_single};
+pub use journal::Journal;
+pub use ktm_log::AppendFault;
+pub use laws::law_of_what_is_left;

@@ -1,0 +1,4 @@
+pub mod Changes
+pub mod Left
+pub mod Commits
+pub mod Worlds

@@ -1,0 +1,21 @@
+-- A command that was done in memory.
+use Rattle.std.specs.Prelude.{◌≡◌, ℕ, List, [], ◌∷◌, Option, is_none}
+use Rattle.ktm_base.specs.declared.id.Id.{Id}
+use Rattle.ktm_base.specs.declared.id.Pid.{Pid}
+use Rattle.ktm_world.specs.declared.command.Command.{Command}
+use Rattle.ktm_world.specs.declared.reply.Reply.{Reply}
+use Rattle.ktm_world.specs.Present.{Present}
+use Rattle.ktm_base.specs.declared.refusal.Refusal.TheVariants.{InvalidParameter, NotFound}
+use Rattle.ktm_world.specs.Keys.{value_seen}
+use Rattle.ktm_world.specs.Outcome.{Outcome, only_reply, first_refusal, refuse_or}
+use Rattle.ktm_world.specs.Decide.{decide, is_bad_key, reply_of_value}
+use Rattle.ktm_world.specs.World.{apply}
+
+-- the reply and what is so then are those that the command has
+pub record Answered (old : Present) (process : Pid) (command : Command) (reply : Reply) (new : Present) : Type 0 where
+  pub says : reply ≡ (decide old process command).reply
+  pub state : new ≡ apply old (decide old process command)
+
+-- what is told of a key, once it is known through what it is looked at
+abbrev pub get_through : Present → Option Id → List ℕ → Outcome
+get_through x who key = refuse_or x (first_refusal ((is_bad_key key, InvalidParameter) ∷ (is_none (value_seen x.keys who key), NotFound) ∷ [])) (only_reply x (reply_of_value (value_seen x.keys who key)))

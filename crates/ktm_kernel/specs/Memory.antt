@@ -1,0 +1,8 @@
+-- What the machine holds in memory.
+use Rattle.std.specs.Prelude.{ℕ}
+use Rattle.ktm_world.specs.Present.{Present}
+
+pub record MemoryState : Type 0 where
+  pub now : Present
+  -- how many keys the store can take without memory
+  pub room : ℕ

@@ -1,0 +1,12 @@
+//! The machine: what it holds in memory, and its journal on a disk. A call is decided on what is in memory, its events
+//! are recorded as one group, and only then the memory is changed.
+#![tactic(auto)]
+
+mod handles;
+mod kernel;
+mod laws;
+mod state;
+mod transactions;
+
+pub use kernel::{Kernel, KernelFault};
+pub use laws::law_of_what_is_left;

@@ -1,0 +1,4 @@
+pub mod Slot
+pub mod Place
+pub mod Count
+pub mod KvState
