@@ -10,3 +10,4 @@ pub mod World
 pub mod Transcript
 pub mod EventGrammar
 pub mod Laws
+pub mod Rows

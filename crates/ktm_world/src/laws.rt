@@ -1,4 +1,5 @@
 // Laws of the model, over every world and every command, each the contract of a function that does nothing.
+ghost use Rattle.ktm_world.specs.Rows.{FirstTransaction, Keys};
 ghost use Rattle.ktm_world.specs.Laws.{StepLaw, RefusalLaw, LawfulLaw, OpenedLaw};
 
 /// What is so after a command is what the command makes of what was so.
@@ -19,4 +20,14 @@ pub fn law_of_lawful_worlds()
 /// A restart opens a lawful world.
 pub fn law_of_opened_worlds()
     ensures { OpenedLaw }
+{}
+
+/// The first transaction of a new image, as the model has it.
+pub fn row_of_the_first_transaction()
+    ensures { FirstTransaction }
+{}
+
+/// Two transactions that meet on a key, as the model has them.
+pub fn row_of_keys()
+    ensures { Keys }
 {}

@@ -10,6 +10,9 @@ mod reply;
 
 pub use command::{Command, Line, View};
 pub use event::{Entry, Event, Keyed, Part, Setting, Settings};
-pub use laws::{law_of_lawful_worlds, law_of_opened_worlds, law_of_refusals, law_of_step};
+pub use laws::{
+    law_of_lawful_worlds, law_of_opened_worlds, law_of_refusals, law_of_step, row_of_keys,
+    row_of_the_first_transaction,
+};
 pub use object::{Handle, Object, Phase, Transaction, TransactionOutcome};
 pub use reply::Reply;

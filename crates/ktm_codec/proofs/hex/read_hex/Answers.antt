@@ -1,0 +1,8 @@
+use Rattle.std.proofs.Common.{◌∙◌}
+use Rattle.ktm_codec.proofs.HexLemmas.{unhex-pair}
+use Rattle.ktm_codec.proofs.hex.read_hex.Goals as goal
+
+pub pairs-preserved : goal.pairs-preserved
+pairs-preserved c =
+    rw c.in_ok-push.ensures.items
+    (unhex-pair c.pairs.bytes.items c.in-Some.after.now c.pairs.rest.now c.in-Some.byte c.in-Some.ensures.value ∙ c.pairs.invariant)

@@ -1,0 +1,51 @@
+-- Bytes in hexadecimal digits.
+use Rattle.std.specs.Prelude.{ℕ, ◌+◌, ◌-◌, ◌*◌, ◌/◌, ◌%◌, ◌<◌, nat_lt, nat_le, ◌&&◌, List, [], ◌∷◌, codes, Option, Some, None, if◌then◌else◌, flat_map, option_map, option_and_then, bytes_eq}
+use Rattle.std.specs.List.{AllByRecursion}
+
+-- the digit of a number below 16, with lower-case letters
+abbrev pub hex_digit : ℕ → ℕ
+hex_digit n = if nat_lt n 10 then 48 + n else 87 + n
+
+-- a byte as two digits
+abbrev pub hex_pair : ℕ → List ℕ
+hex_pair b = hex_digit (b / 16) ∷ hex_digit (b % 16) ∷ []
+
+-- each byte as two digits
+abbrev pub hex_of : List ℕ → List ℕ
+hex_of bytes = flat_map hex_pair bytes
+
+-- the same, and a dash where there are none
+abbrev pub hex_or_dash : List ℕ → List ℕ
+hex_or_dash [] = codes "-"
+hex_or_dash (b ∷ bs) = hex_of (b ∷ bs)
+
+-- each is a byte
+abbrev pub AreBytes : List ℕ → Type 0
+AreBytes bytes = AllByRecursion (λ b. b < 256) bytes
+
+-- the number that a lower-case digit stands for
+abbrev pub digit_value : ℕ → Option ℕ
+digit_value c =
+    if nat_le 48 c && nat_le c 57 then Some (c - 48) else
+    (if nat_le 97 c && nat_le c 102 then Some (c - 87) else None)
+
+-- the byte that two digits stand for
+abbrev pub pair_value : ℕ → ℕ → Option ℕ
+pair_value high low = option_and_then (λ h. option_map (λ l. h * 16 + l) (digit_value low)) (digit_value high)
+
+-- the byte that two digits at the front stand for, and what follows them
+abbrev pub first_pair : List ℕ → Option (ℕ × List ℕ)
+first_pair [] = None
+first_pair (high ∷ []) = None
+first_pair (high ∷ low ∷ rest) = option_map (λ b. (b, rest)) (pair_value high low)
+
+-- the bytes that pairs of digits stand for
+abbrev pub unhex : List ℕ → Option (List ℕ)
+unhex [] = Some []
+unhex (high ∷ []) = None
+unhex (high ∷ low ∷ rest) = option_and_then (λ b. option_map (λ bs. b ∷ bs) (unhex rest)) (pair_value high low)
+
+-- the same, where a dash stands for none
+abbrev pub unhex_or_dash : List ℕ → Option (List ℕ)
+unhex_or_dash [] = None
+unhex_or_dash (c ∷ cs) = if bytes_eq (c ∷ cs) (codes "-") then Some [] else unhex (c ∷ cs)

@@ -1,0 +1,85 @@
+// Numbers in decimal digits, without leading zeros.
+ghost use Rattle.std.specs.Prelude.{◌≡◌, ◌<◌, ◌≤◌, ◌^◌, ◌++◌, ℕ, List, IfSome, Some, false, decimal, option_map};
+ghost use Rattle.ktm_codec.specs.Number.{digits_at, number_at, starts_with_digit, with_digit};
+
+// The number with one digit more, if it is not too great.
+fn with_digit(most: u64, value: u64, digit: u8) -> Option<u64>
+    ensures { result ≡ with_digit most value digit }
+{
+    let digit = u64::from(digit);
+    if digit <= most && value <= (most - digit) / 10 {
+        Some(value * 10 + digit)
+    } else {
+        None
+    }
+}
+
+// The number whose digits go on in the text, and what follows them.
+#[tactic(auto, unfolding(crate::specs::Number::digits_at))]
+fn digits(most: u64, text: &[u8]) -> Option<(u64, &[u8])>
+    ensures value { option_map (λ read. (read.0, read.1.now)) result ≡ digits_at most 0 text.now }
+    ensures within { IfSome result (λ read. read.0 ≤ most) }
+{
+    let mut value = 0;
+    for (index, byte) in text.iter().enumerate() {
+        if !byte.is_ascii_digit() {
+            return Some((value, &text[index..]));
+        }
+        value = with_digit(most, value, *byte - b'0')?;
+    }
+    Some((value, &[]))
+}
+
+/// The number at the front of the text, and what follows its digits. There is none where it would be greater than the
+/// most. It has no leading zeros, so nothing is read past a zero.
+#[tactic(auto, unfolding(crate::specs::Number::number_at))]
+pub fn read_number(most: u64, text: &[u8]) -> Option<(u64, &[u8])>
+    ensures value { option_map (λ read. (read.0, read.1.now)) result ≡ number_at most text.now }
+    ensures within { IfSome result (λ read. read.0 ≤ most) }
+{
+    match text {
+        [b'0', rest @ ..] => Some((0, rest)),
+        [b'1'..=b'9', ..] => digits(most, text),
+        _ => None,
+    }
+}
+
+/// What is read as a number is its digits, and the digits of a number are read as it, unless more digits follow them.
+pub fn law_of_numbers()
+    ensures found { (most : ℕ) (text : List ℕ) (n : ℕ) (rest : List ℕ) → most < 2 ^ 64 → number_at most text ≡ Some (n, rest)
+        → (n ≤ most) × (text ≡ decimal n ++ rest) }
+    ensures every { (most n : ℕ) (rest : List ℕ) → most < 2 ^ 64 → n ≤ most → starts_with_digit rest ≡ false
+        → number_at most (decimal n ++ rest) ≡ Some (n, rest) }
+{}
+
+#[cfg(test)]
+mod tests {
+    use super::*;
+
+    #[test]
+    fn numbers(rt: HostRuntime) {
+        for (most, text, number, rest) in [
+            (9, "0", 0, ""),
+            (9, "00", 0, "0"),
+            (64, "64", 64, ""),
+            (64, "7 h", 7, " h"),
+            (u64::MAX, "18446744073709551615", u64::MAX, ""),
+        ] {
+            assert_eq!(rt;
+                read_number(most, text.as_bytes()),
+                Some((number, rest.as_bytes())),
+                "{text}"
+            );
+        }
+        for (most, text) in [
+            (64, ""),
+            (64, "x"),
+            (64, "65"),
+            (64, "-1"),
+            (u64::MAX, "18446744073709551616"),
+            (u64::MAX, "99999999999999999999"),
+        ] {
+            assert_eq!(rt; read_number(most, text.as_bytes()), None, "{text}");
+        }
+    }
+}

@@ -1,0 +1,29 @@
+// Words at the front of a text.
+ghost use Rattle.std.specs.Prelude.{◌≡◌, ◌++◌, ℕ, List, Some, option_map};
+ghost use Rattle.ktm_codec.specs.Word.{after_word};
+
+/// What follows the word, where the text begins with it.
+#[tactic(auto, unfolding(crate::specs::Word::after_word))]
+pub fn strip_word<'a>(text: &'a [u8], word: &[u8]) -> Option<&'a [u8]>
+    ensures { option_map (λ rest. rest.now) result ≡ after_word word.now text.now }
+{
+    text.strip_prefix(word)
+}
+
+/// What follows a word is what stands behind it.
+pub fn law_of_words()
+    ensures found { (word text rest : List ℕ) → after_word word text ≡ Some rest → text ≡ word ++ rest }
+    ensures every { (word rest : List ℕ) → after_word word (word ++ rest) ≡ Some rest }
+{}
+
+#[cfg(test)]
+mod tests {
+    use super::*;
+
+    #[test]
+    fn words(rt: HostRuntime) {
+        assert_eq!(rt; strip_word(b"ok 1", b"ok "), Some(b"1".as_slice()));
+        assert_eq!(rt; strip_word(b"ok", b"ok "), None);
+        assert_eq!(rt; strip_word(b"OK 1", b"ok "), None);
+    }
+}

@@ -1,0 +1,6 @@
+pub mod Calls
+pub mod Choices
+pub mod Drawn
+pub mod Pieces
+pub mod Ranges
+pub mod Steps

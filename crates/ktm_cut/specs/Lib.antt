@@ -1,0 +1,4 @@
+pub mod Told
+pub mod Switch
+pub mod Cut
+pub mod Left

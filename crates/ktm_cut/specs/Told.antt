@@ -1,0 +1,33 @@
+-- What a disk over a block tells, from the block's contents and what was asked since the last sync.
+use Rattle.std.specs.Prelude.{◌≡◌, ℕ, ◌<◌, ◌≤◌, max, false, List, length, slice_index, Option, None, Some}
+use Rattle.ktm_base.specs.Bytes.{covers}
+use Rattle.ktm_base.specs.Disk.{DiskState}
+
+-- the length after the last sync: where a growth was tried since, the one before it
+abbrev pub length_at_sync : Option ℕ → ℕ → ℕ
+length_at_sync None now = now
+length_at_sync (Some from) now = from
+
+-- the contents, the ranges written, the length before the first growth, and the greatest length asked for
+abbrev pub state_of : List (ℕ × ℕ) → Option ℕ → ℕ → List ℕ → DiskState
+state_of dirty grown_from asked seen = record {
+  seen = seen;
+  dirty = dirty;
+  shortest = length_at_sync grown_from (length seen);
+  longest = max (length_at_sync grown_from (length seen)) asked;
+}
+
+-- the same, where the block tells its contents
+abbrev pub told_of : List (ℕ × ℕ) → Option ℕ → ℕ → Option (List ℕ) → Option DiskState
+told_of dirty grown_from asked None = None
+told_of dirty grown_from asked (Some seen) = Some (state_of dirty grown_from asked seen)
+
+-- the length lies between the one after the last sync and the greatest one asked for
+abbrev pub IsLengthKnown : Option ℕ → ℕ → Option (List ℕ) → Type 0
+IsLengthKnown grown_from asked contents =
+    (seen : List ℕ) → contents ≡ Some seen → (length_at_sync grown_from (length seen) ≤ length seen) × (length seen ≤ max (length_at_sync grown_from (length seen)) asked)
+
+-- the same length, and the same bytes at the places below a length that no range covers
+pub record SameElsewhere (ranges : List (ℕ × ℕ)) (shortest : ℕ) (old new : List ℕ) : Type 0 where
+  pub same_length : length new ≡ length old
+  pub others : (place : ℕ) → place < shortest → covers ranges place ≡ false → slice_index new place ≡ slice_index old place

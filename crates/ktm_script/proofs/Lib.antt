@@ -1,0 +1,4 @@
+pub mod Steps
+pub mod PartLemmas
+pub mod CommandLemmas
+pub mod LineLemmas

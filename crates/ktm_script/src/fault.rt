@@ -1,0 +1,34 @@
+// Why a line was not read.
+ghost use Rattle.std.specs.Prelude.{◌≡◌};
+
+use ktm_base::NoMemory as OutOfMemory;
+use std::alloc::AllocError;
+
+/// Why a line was not read.
+#[derive(Clone, Copy, Debug, PartialEq, Eq)]
+pub enum LineFault {
+    /// It is not the spelling of a line that is built.
+    BadLine,
+    /// Memory was wanted and not to be had.
+    NoMemory,
+}
+
+impl From<OutOfMemory> for LineFault {
+    ghost use Rattle.ktm_script.specs.declared.fault.LineFault.TheVariants.{NoMemory};
+
+    ghost from_gives = { λ _ fault. fault ≡ NoMemory };
+
+    fn from(_: OutOfMemory) -> Self {
+        LineFault::NoMemory
+    }
+}
+
+impl From<AllocError> for LineFault {
+    ghost use Rattle.ktm_script.specs.declared.fault.LineFault.TheVariants.{NoMemory};
+
+    ghost from_gives = { λ _ fault. fault ≡ NoMemory };
+
+    fn from(_: AllocError) -> Self {
+        LineFault::NoMemory
+    }
+}
