@@ -1,5 +1,9 @@
-//! Tests of the crates below, over the outside in memory.
+//! Tests of the crates together, over the outside in memory.
 #![tactic(auto)]
 
+#[cfg(test)]
+mod cut;
+#[cfg(test)]
+mod journal;
 #[cfg(test)]
 mod log;
