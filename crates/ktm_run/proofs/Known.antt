@@ -1,0 +1,51 @@
+-- Bytes that are known piece by piece, and counts that never fall.
+use Rattle.std.proofs.Common.{◌≡◌, ℕ, ◌+◌, ◌-◌, ◌<◌, ◌≤◌, List, [], ◌++◌, length, take, drop, Option, None, Some, refl, sym, ◌∙◌, ap, subst, append_assoc, arith, length-append}
+use Rattle.std.proofs.lemmas.List.{append-nil, take_rest}
+use Rattle.std.proofs.Math.Seq.{take-add}
+use Rattle.std.specs.Io.KnownBytes.{Appends, Consumes}
+use Rattle.ktm_base.specs.Count.{Rose}
+use Rattle.ktm_base.specs.Told.{IfTold}
+
+pub Appends-none : (o : Option (List ℕ)) → Appends o o []
+Appends-none None = tt
+Appends-none (Some xs) = sym (append-nil xs)
+
+pub Appends-trans : (a b c : Option (List ℕ)) (xs ys : List ℕ) → Appends a b xs → Appends b c ys → Appends a c (xs ++ ys)
+Appends-trans None b c xs ys h k = tt
+Appends-trans (Some a) None c xs ys h k = absurd h
+Appends-trans (Some a) (Some b) None xs ys h k = absurd k
+Appends-trans (Some a) (Some b) (Some c) xs ys h k = k ∙ ap (λ (l : List ℕ). l ++ ys) h ∙ append_assoc a xs ys
+
+-- the next n bytes behind the first i
+pub Appends-more : (a b c : Option (List ℕ)) (xs : List ℕ) (i n : ℕ) → Appends a b (take i xs) → Appends b c (take n (take (length xs - i) (drop i xs))) → Appends a c (take (i + n) xs)
+Appends-more a b c xs i n h k =
+    rw take-add (Appends-trans a b c (take i xs) (take n (drop i xs)) h (subst (λ (l : List ℕ). Appends b c (take n l)) (take_rest xs i) k))
+
+pub Consumes-none : (o : Option (List ℕ)) → Consumes o o []
+Consumes-none None = tt
+Consumes-none (Some xs) = refl
+
+pub Consumes-trans : (a b c : Option (List ℕ)) (xs ys : List ℕ) → Consumes a b xs → Consumes b c ys → Consumes a c (xs ++ ys)
+Consumes-trans None b c xs ys h k = tt
+Consumes-trans (Some a) None c xs ys h k = absurd h
+Consumes-trans (Some a) (Some b) None xs ys h k = absurd k
+Consumes-trans (Some a) (Some b) (Some c) xs ys h k = h ∙ ap (λ (l : List ℕ). xs ++ l) k ∙ sym (append_assoc xs ys c)
+
+-- a count that rose later rose
+pub Rose-later : (a b c : ℕ) → a ≤ b → Rose b c → Rose a c
+Rose-later a b c h k = omega arith
+
+-- and one that rose before
+pub Rose-before : (a b c : ℕ) → Rose a b → b ≤ c → Rose a c
+Rose-before a b c h k = omega arith
+
+-- a read of no byte
+pub Consumes-end : (a b c : Option (List ℕ)) (xs ys : List ℕ) (n : ℕ) → Consumes a b xs → Consumes b c (take n ys) → n ≡ 0 → Consumes a c xs
+Consumes-end a b c xs ys n h k none =
+    subst (λ (l : List ℕ). Consumes a c l) (append-nil xs) (Consumes-trans a b c xs [] h (subst (λ m. Consumes b c (take m ys)) none k))
+
+-- what was read is as long as what was told
+pub Consumes-long : (a b : Option (List ℕ)) (xs : List ℕ) (n : ℕ) → Consumes a b xs → n < length xs → IfTold a (λ l. n < length l)
+Consumes-long None b xs n h long = tt
+Consumes-long (Some a) None xs n h long = absurd h
+Consumes-long (Some a) (Some b) xs n h long = rw h (simp length-append (omega arith))

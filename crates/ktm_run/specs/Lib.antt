@@ -1,0 +1,5 @@
+pub mod Script
+pub mod Form
+pub mod Status
+pub mod Progress
+pub mod Theorem

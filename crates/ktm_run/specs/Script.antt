@@ -1,0 +1,77 @@
+-- The lines of a script, what they mean, and how replies are written.
+use Rattle.std.specs.Prelude.{◌≡◌, ℕ, ◌+◌, ◌==◌, Bool, false, not, List, [], ◌∷◌, ◌++◌, Option, Some, None, IsTrue, take, if◌then◌else◌}
+use Rattle.std.specs.List.{filter, flat_map}
+use Rattle.ktm_reply.specs.Spelling.{reply_spelling}
+use Rattle.ktm_script.specs.Built.{is_built}
+use Rattle.ktm_script.specs.Spelling.{IsLine, most_bytes, spelling}
+use Rattle.ktm_world.specs.declared.command.Line.{Line}
+use Rattle.ktm_world.specs.declared.reply.Reply.{Reply}
+use Rattle.ktm_world.specs.Transcript.{Step, Transcript}
+use Rattle.ktm_world.specs.World.{World}
+
+-- what ends a line
+abbrev pub newline : ℕ
+newline = 10
+
+-- the lines that end in a newline, of these bytes behind a part of a line
+abbrev pub lines_from : List ℕ → List ℕ → List (List ℕ)
+lines_from part [] = []
+lines_from part (byte ∷ bytes) = if byte == newline then part ∷ lines_from [] bytes else lines_from (part ++ byte ∷ []) bytes
+
+-- what is behind the last newline
+abbrev pub part_from : List ℕ → List ℕ → List ℕ
+part_from part [] = part
+part_from part (byte ∷ bytes) = if byte == newline then part_from [] bytes else part_from (part ++ byte ∷ []) bytes
+
+-- a last line that has no newline counts where it is not empty
+abbrev pub last_line : List ℕ → List (List ℕ)
+last_line [] = []
+last_line (byte ∷ bytes) = (byte ∷ bytes) ∷ []
+
+-- the lines of a script: those that end in a newline, and what is behind the last newline where it is not empty
+abbrev pub cut_lines : List ℕ → List (List ℕ)
+cut_lines script = lines_from [] script ++ last_line (part_from [] script)
+
+-- the first byte of a comment
+abbrev pub number_sign : ℕ
+number_sign = 35
+
+-- each line has a reply but the empty one and those that begin with a number sign
+abbrev pub has_reply : List ℕ → Bool
+has_reply [] = false
+has_reply (byte ∷ bytes) = not (byte == number_sign)
+
+-- the bytes spell this line, or no line that there is
+abbrev pub Means : List ℕ → Option Line → Type 0
+Means bytes (Some line) = IsLine line × IsTrue (is_built line) × (spelling line ≡ bytes)
+Means bytes None = (line : Line) → IsLine line → IsTrue (is_built line) → ¬ (spelling line ≡ bytes)
+
+-- each of the first means its own of the second
+abbrev pub MeanAll : List (List ℕ) → List (Option Line) → Type 0
+MeanAll [] [] = Unit {0}
+MeanAll [] (line ∷ lines) = ⊥
+MeanAll (bytes ∷ rest) [] = ⊥
+MeanAll (bytes ∷ rest) (line ∷ lines) = Means bytes line × MeanAll rest lines
+
+-- from a world, the lines of the script that have a reply come to these replies and this world
+pub record IsTranscript (w : World) (script : List ℕ) (replies : List Reply) (new : World) : Type 0 where
+  pub lines : List (Option Line)
+  pub mean : MeanAll (filter has_reply (cut_lines script)) lines
+  pub steps : List Step
+  pub run : Transcript w lines steps replies new
+
+-- a reply as it is written
+abbrev pub reply_line : Reply → List ℕ
+reply_line reply = reply_spelling reply ++ newline ∷ []
+
+-- all replies, one after another
+abbrev pub written_replies : List Reply → List ℕ
+written_replies replies = flat_map reply_line replies
+
+-- at most so many bytes of a line are kept: one more than any line of the grammar has
+abbrev pub kept_of : List ℕ → List ℕ
+kept_of part = take (most_bytes + 1) part
+
+-- at most so many bytes are a script
+abbrev pub most_script : ℕ
+most_script = 67108864

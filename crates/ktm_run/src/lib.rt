@@ -1,0 +1,14 @@
+//! The program but for its edges: its words, the loop over a script, and the status that it ends with.
+#![tactic(auto)]
+
+mod fault;
+mod form;
+mod line;
+mod open;
+mod program;
+mod script;
+mod status;
+mod write;
+
+pub use program::ktm;
+pub use status::Status;

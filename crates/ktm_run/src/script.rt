@@ -1,0 +1,134 @@
+// The loop over a script.
+ghost use Rattle.std.specs.Prelude.{◌≡◌, ◌<◌, ◌≤◌, ℕ, List, [], length, take, IfOk, OnOk, IsErrOf};
+ghost use Rattle.std.specs.Io.KnownBytes.{Consumes, IsAtEnd};
+ghost use Rattle.ktm_base.specs.Count.{Rose};
+ghost use Rattle.ktm_base.specs.Stream.{Faults};
+ghost use Rattle.ktm_base.specs.Told.{IfTold};
+ghost use Rattle.ktm_kernel.specs.Stands.{IsReady};
+ghost use Rattle.ktm_run.specs.Progress.{Now, Progress};
+ghost use Rattle.ktm_run.specs.Script.{cut_lines, kept_of, last_line, most_script};
+
+use crate::fault::RunFault;
+use crate::line::{do_line, feed};
+use crate::status::Status;
+use ktm_base::{Disk, Failed, Sink, Source};
+use ktm_kernel::Kernel;
+use std::alloc::Global;
+
+/// The most bytes of a script.
+const MOST_SCRIPT: u64 = 67_108_864;
+
+/// How many bytes are read at a time.
+const PIECE: usize = 4096;
+
+// Reads at most so many bytes into the front of the buffer.
+fn read_some<S: Source>(source: &mut S, buffer: &mut [u8], most: u64) -> Result<usize, Failed>
+    requires some { 0 < most }
+    requires room { 0 < length buffer.old }
+    ensures count { IfOk result (λ n. n ≤ most) }
+    ensures within { IfOk result (λ n. n ≤ length buffer.new) }
+    ensures reads { IfOk result (λ n. Consumes (S.left source.old) (S.left source.new) (take n buffer.new)) }
+    ensures end { IfOk result (λ n. n ≡ 0 → IsAtEnd (S.left source.new)) }
+    ensures faults { Faults (S.faults source.old) (S.faults source.new) result }
+{
+    let room = (buffer.len() as u64).min(most) as usize;
+    let Ok(count) = source.read(&mut buffer[..room]) else {
+        return Err(Failed);
+    };
+    Ok(count)
+}
+
+// Answers what is behind the last newline.
+fn finish<K: Sink, D: Disk>(
+    alloc: Global,
+    kernel: &mut Kernel,
+    disk: &mut D,
+    sink: &mut K,
+    kept: &[u8],
+) -> Result<(), RunFault>
+    requires { IsReady kernel.old (D.told disk.old) (D.status disk.old) }
+    ensures done { OnOk result ((part : List ℕ) → kept.now ≡ kept_of part → Progress
+        (record { machine = kernel.old; disk = D.told disk.old; taken = K.taken sink.old })
+        (record { machine = kernel.new; disk = D.told disk.new; taken = K.taken sink.new })
+        (last_line part)) }
+    ensures fault { IsErrOf result RunFault.SinkFault → Rose (K.faults sink.old) (K.faults sink.new) }
+{
+    if kept.is_empty() {
+        return Ok(());
+    }
+    if let Err(fault) = do_line(alloc, kernel, disk, sink, kept) {
+        return Err(fault);
+    }
+    Ok(())
+}
+
+// Answers the lines of the script, which is read through the buffer.
+fn run_pieces<S: Source, K: Sink, D: Disk>(
+    alloc: Global,
+    kernel: &mut Kernel,
+    source: &mut S,
+    sink: &mut K,
+    disk: &mut D,
+    buffer: &mut [u8],
+) -> Status
+    requires ready { IsReady kernel.old (D.told disk.old) (D.status disk.old) }
+    requires room { 0 < length buffer.old }
+    ensures done { result ≡ Status.Done → (script : List ℕ) × Consumes (S.left source.old) (S.left source.new) script × IsAtEnd (S.left source.new) × Progress
+        (record { machine = kernel.old; disk = D.told disk.old; taken = K.taken sink.old })
+        (record { machine = kernel.new; disk = D.told disk.new; taken = K.taken sink.new })
+        (cut_lines script) }
+    ensures source { result ≡ Status.SourceFault → Rose (S.faults source.old) (S.faults source.new) }
+    ensures sink { result ≡ Status.SinkFault → Rose (K.faults sink.old) (K.faults sink.new) }
+    ensures too_long { result ≡ Status.ScriptTooLong → IfTold (S.left source.old) (λ bytes. most_script < length bytes) }
+    ensures not_usage { result ≡ Status.Usage → ⊥ }
+    ensures not_image { result ≡ Status.BadImage → ⊥ }
+    ensures not_disk { result ≡ Status.DiskFault → ⊥ }
+{
+    let mut kept = Vec::new(alloc);
+    let mut left = MOST_SCRIPT;
+    'pieces: loop {
+        let Ok(count) = read_some(source, buffer, left + 1) else {
+            return Status::SourceFault;
+        };
+        if count == 0 {
+            match finish(alloc, kernel, disk, sink, &kept) {
+                Ok(()) => return Status::Done,
+                Err(RunFault::SinkFault) => return Status::SinkFault,
+                Err(RunFault::NoMemory) => return Status::NoMemory,
+            }
+        }
+        let within = (count as u64).min(left) as usize;
+        match feed(alloc, kernel, disk, sink, &mut kept, &buffer[..within]) {
+            Ok(()) => {}
+            Err(RunFault::SinkFault) => return Status::SinkFault,
+            Err(RunFault::NoMemory) => return Status::NoMemory,
+        }
+        if within < count {
+            return Status::ScriptTooLong;
+        }
+        left -= count as u64;
+    }
+}
+
+/// Answers the lines of the script.
+pub fn run_script<S: Source, K: Sink, D: Disk>(
+    alloc: Global,
+    kernel: &mut Kernel,
+    source: &mut S,
+    sink: &mut K,
+    disk: &mut D,
+) -> Status
+    requires { IsReady kernel.old (D.told disk.old) (D.status disk.old) }
+    ensures done { result ≡ Status.Done → (script : List ℕ) × Consumes (S.left source.old) (S.left source.new) script × IsAtEnd (S.left source.new) × Progress
+        (record { machine = kernel.old; disk = D.told disk.old; taken = K.taken sink.old })
+        (record { machine = kernel.new; disk = D.told disk.new; taken = K.taken sink.new })
+        (cut_lines script) }
+    ensures source { result ≡ Status.SourceFault → Rose (S.faults source.old) (S.faults source.new) }
+    ensures sink { result ≡ Status.SinkFault → Rose (K.faults sink.old) (K.faults sink.new) }
+    ensures too_long { result ≡ Status.ScriptTooLong → IfTold (S.left source.old) (λ bytes. most_script < length bytes) }
+    ensures not_usage { result ≡ Status.Usage → ⊥ }
+    ensures not_image { result ≡ Status.BadImage → ⊥ }
+    ensures not_disk { result ≡ Status.DiskFault → ⊥ }
+{
+    run_pieces(alloc, kernel, source, sink, disk, &mut [0; PIECE])
+}

@@ -1,0 +1,41 @@
+// How a run ends.
+ghost use Rattle.std.specs.Prelude.{◌≡◌};
+ghost use Rattle.ktm_run.specs.Status.{exit_code_of};
+
+/// How a run ended. All but the first two end it early.
+#[derive(Clone, Copy, Debug, PartialEq, Eq)]
+pub enum Status {
+    /// The script is at its end, and each of its lines was answered.
+    Done,
+    /// The words are of no form.
+    Usage,
+    /// The script could not be read.
+    SourceFault,
+    /// A line could not be written.
+    SinkFault,
+    /// Memory was wanted and not to be had.
+    NoMemory,
+    /// The image cannot be opened.
+    BadImage,
+    /// The disk had no power before the machine was up.
+    DiskFault,
+    /// The script goes on behind its greatest length. The lines that ended before it were answered.
+    ScriptTooLong,
+}
+
+impl Status {
+    pub fn exit_code(self) -> u8
+        ensures { result ≡ exit_code_of self }
+    {
+        match self {
+            Status::Done => 0,
+            Status::Usage => 1,
+            Status::SourceFault => 2,
+            Status::SinkFault => 3,
+            Status::NoMemory => 4,
+            Status::BadImage => 5,
+            Status::DiskFault => 6,
+            Status::ScriptTooLong => 7,
+        }
+    }
+}
