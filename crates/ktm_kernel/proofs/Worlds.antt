@@ -84,7 +84,7 @@ module _ (old new : KernelState) (process : Pid) (command : Command) (reply : Re
     interrupted,
     interrupted_world w process command,
     (ap is_up on, cut.says, refl),
-    record { now = cut.state ∙ ap fallen stands.now; disk = left cut },
+    record { now = cut.state ∙ ap fallen stands.now; base = stands.base ∙ sym (ap (λ j. empty_state j.units j.image) cut.journal); disk = left cut },
   )
 
 -- a machine that was up

@@ -30,6 +30,7 @@ LeavesPossible j w s = (image : List ℕ) → MayLeave s image → (log : List G
 -- a machine that is down stands for the world
 pub record HasFallen (k : KernelState) (told : Option DiskState) (w : World) : Type 0 where
   pub now : k.now ≡ present w
+  pub base : w.base ≡ empty_state k.journal.units k.journal.image
   pub disk : Tells told (LeavesPossible k.journal w)
 
 abbrev pub StandsBy : Bool → KernelState → Option DiskState → World → Type 0

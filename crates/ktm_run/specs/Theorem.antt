@@ -1,13 +1,15 @@
 -- What a run of a script that was done comes to, and why one was not done.
-use Rattle.std.specs.Prelude.{ℕ, List, [], Option, IsTrue, ◌⊎◌}
+use Rattle.std.specs.Prelude.{ℕ, List, [], Option, IsTrue, ◌⊎◌, Contains}
 use Rattle.std.specs.Io.KnownBytes.{Appends, Consumes, IsAtEnd}
 use Rattle.ktm_base.specs.Count.{Rose}
-use Rattle.ktm_base.specs.Disk.{DiskState, DiskStatus}
+use Rattle.ktm_base.specs.Disk.{DiskState, DiskStatus, MayLeave}
+use Rattle.ktm_base.specs.Told.{Tells}
+use Rattle.ktm_journal.specs.Image.{IsImage}
 use Rattle.ktm_kernel.specs.Stands.{KernelState, KernelAt}
 use Rattle.ktm_run.specs.Script.{IsTranscript, written_replies}
 use Rattle.ktm_world.specs.declared.reply.Reply.{Reply}
 use Rattle.ktm_world.specs.Durable.{empty_state}
-use Rattle.ktm_world.specs.World.{World, opened}
+use Rattle.ktm_world.specs.World.{World, Group, opened, possible_logs}
 
 -- what the source had left and has left, what the sink had taken and has taken, and what the disk tells at the end
 pub record RunTheorem (left_before left_now taken_before taken_now : Option (List ℕ)) (told : Option DiskState) : Type 0 where
@@ -25,6 +27,8 @@ pub record RunTheorem (left_before left_now taken_before taken_now : Option (Lis
   -- a machine over this disk stands for the world
   pub machine : KernelState
   pub stands : KernelAt machine told world
+  -- each image that a loss of power may leave holds one of the world's possible logs
+  pub images : Tells told (λ s. (image : List ℕ) → MayLeave s image → (log : List Group) × Contains (possible_logs world) log × IsImage 1024 1 log image)
 
 -- the disk was down before, or it went down
 abbrev pub WentDown : DiskStatus → DiskStatus → Type 0

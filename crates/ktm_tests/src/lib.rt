@@ -7,3 +7,5 @@ mod cut;
 mod journal;
 #[cfg(test)]
 mod log;
+#[cfg(test)]
+mod run;

@@ -1,0 +1,2 @@
+-- Lemmas for the edges of the program.
+mod Calls

@@ -1,0 +1,2 @@
+-- What the edges of the program keep.
+pub mod Supply
