@@ -1,12 +1,10 @@
 -- What may be left after a step, from what could be left before it.
-use Rattle.std.proofs.Common.{◌≡◌, ◌⊎◌, ◌↔◌, ℕ, ◌+◌, ◌-◌, ◌^◌, ◌<◌, ◌≤◌, min, max, Bool, true, false, ◌&&◌, ◌||◌, nat_le, nat_lt, List, [], ◌∷◌, ◌++◌, length, get_or, take, drop, refl, sym, ◌∙◌, ap, subst, arith, inl, inr, IsTrue}
+use Rattle.std.proofs.Common.{◌≡◌, ◌⊎◌, ℕ, ◌+◌, ◌-◌, ◌<◌, ◌≤◌, Bool, true, false, ◌&&◌, ◌||◌, nat_le, nat_lt, List, [], ◌∷◌, ◌++◌, length, get_or, take, refl, sym, ◌∙◌, ap, subst, arith, inl, inr}
 use Rattle.std.proofs.lemmas.Grind.{common_steps, same_number_lists}
 use Rattle.std.proofs.lemmas.Bool.{cases_lt}
 use Rattle.std.proofs.lemmas.Bool.Decides.{nat_tests}
-use Rattle.ktm_base.specs.Count.{Rose, raised}
-use Rattle.ktm_base.specs.Bytes.{written, covers, SameOutside, GrewTo, GrewTowards}
-use Rattle.ktm_base.specs.Disk.{DiskState, DiskStatus, MayLeave, IsSafe, Dirtied, Wrote, WriteRefused, Synced, Asked, Grew, GrowthRefused, DeviceCalls}
-use Rattle.ktm_base.specs.Power.{Restored, NotRestored}
+use Rattle.ktm_base.specs.Bytes.{written, covers, SameOutside}
+use Rattle.ktm_base.specs.Disk.{DiskState, MayLeave, Dirtied, Asked}
 use Rattle.ktm_base.specs.Laws.{LeaveTheSame, with_dirty, with_longest, WriteLaw, WriteRefusedLaw, SafeLaw, SyncLaw, GrowthLaw, GrowthRefusedLaw, TwoWritesLaw, PowerLaw, CallsLaw}
 
 or_assoc : (a b c : Bool) → a || (b || c) ≡ a || b || c

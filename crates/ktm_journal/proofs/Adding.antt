@@ -1,9 +1,7 @@
 -- How the forms of the grammar are added, one behind the other.
-use Rattle.std.proofs.Common.{◌≡◌, ℕ, ◌+◌, ◌<◌, ◌^◌, List, [], ◌∷◌, ◌++◌, length, get_or, take, refl, sym, ◌∙◌, ap, subst, arith, append_assoc}
+use Rattle.std.proofs.Common.{◌≡◌, ℕ, ◌+◌, ◌<◌, List, [], ◌∷◌, ◌++◌, length, get_or, take, refl, sym, ◌∙◌, ap, subst, arith, append_assoc}
 use Rattle.std.proofs.lemmas.List.{append-nil, take_more, take_all}
-use Rattle.std.proofs.lemmas.Nat.{from_le_bytes-to_le_bytes_4, from_le_bytes-to_le_bytes_2}
-use Rattle.std.specs.Int.{to_le_bytes, w16, w32}
-use Rattle.ktm_world.specs.EventGrammar.{IsU16, IsU32, Then, Tagged, IsRow}
+use Rattle.ktm_world.specs.EventGrammar.{Then, Tagged, IsRow}
 use Rattle.ktm_journal.specs.Spelling.{Adds}
 
 pub adds_then : (P Q : List ℕ → Type 0) (a b c : List ℕ) → Adds P a b → Adds Q b c → Adds (Then P Q) a c

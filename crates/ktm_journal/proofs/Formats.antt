@@ -1,12 +1,12 @@
 -- What the writes of a new image make of a disk.
-use Rattle.std.proofs.Common.{◌≡◌, ◌⊎◌, inl, inr, ℕ, ◌+◌, ◌-◌, ◌%◌, ◌<◌, ◌≤◌, List, [], ◌∷◌, length, get_or, take, drop, replicate, refl, sym, ◌∙◌, ap, subst, arith}
-use Rattle.std.proofs.lemmas.List.{take-take, drop-take, get_or-take, get_or-replicate, length-replicate}
+use Rattle.std.proofs.Common.{◌≡◌, ◌⊎◌, inl, inr, ℕ, ◌+◌, ◌-◌, ◌%◌, ◌≤◌, List, [], ◌∷◌, length, get_or, take, drop, refl, sym, ◌∙◌, ap, subst, arith}
+use Rattle.std.proofs.lemmas.List.{take-take, drop-take, get_or-take}
 use Rattle.std.specs.Int.{from_le_bytes, w16, w32}
 use Rattle.ktm_base.specs.Bytes.{written}
 use Rattle.ktm_base.specs.Disk.{DiskState, IsSafe, Grew}
 use Rattle.ktm_base.proofs.Images.{same_written, length-written}
 use Rattle.ktm_log.specs.declared.area.Area.{Area}
-use Rattle.ktm_log.specs.Log.{LogState, IsLog, IsClosed, area_bytes, end_of}
+use Rattle.ktm_log.specs.Log.{LogState, area_bytes}
 use Rattle.ktm_log.proofs.Parts.{not_covered, same_part, written_part, get_or-area, length-area}
 use Rattle.ktm_log.proofs.Frames.{first_at, closed_at}
 use Rattle.ktm_journal.specs.Image.{IsFormatted, JournalAt, empty_snapshot, image_len, log_area}

@@ -1,10 +1,6 @@
 -- Which groups have bytes, and how bytes are added to others.
 use Rattle.std.specs.Prelude.{◌≡◌, ℕ, ◌<◌, ◌^◌, ◌++◌, List, length, Option, All, IfSome}
 use Rattle.ktm_world.specs.declared.event.Keyed.{Keyed}
-use Rattle.ktm_world.specs.declared.event.Part.{Part}
-use Rattle.ktm_world.specs.declared.event.Part.TheVariants.{Settings}
-use Rattle.ktm_world.specs.declared.event.Event.{Event}
-use Rattle.ktm_world.specs.declared.event.Event.TheVariants.{Boot, Single}
 
 -- a key's length fits one byte, and a value's length two
 pub record IsSpellableSetting (setting : Keyed (Option (List ℕ))) : Type 0 where

@@ -1,12 +1,11 @@
 -- A commit, recorded or cut off.
-use Rattle.std.proofs.Common.{◌≡◌, ◌⊎◌, ℕ, Bool, true, false, ◌||◌, cond, not, eqb, List, [], ◌∷◌, ◌++◌, length, Option, Some, None, refl, sym, ◌∙◌, ap, subst}
+use Rattle.std.proofs.Common.{◌≡◌, ℕ, Bool, true, false, ◌||◌, cond, not, eqb, List, [], ◌∷◌, ◌++◌, length, Option, Some, None, refl, sym, ◌∙◌, ap, subst}
 use Rattle.ktm_base.specs.declared.id.Pid.{Pid}
 use Rattle.ktm_base.specs.declared.id.Label.{Label}
-use Rattle.ktm_base.specs.declared.refusal.Refusal.{Refusal}
 use Rattle.ktm_base.specs.declared.refusal.Refusal.TheVariants.{MachineDown}
-use Rattle.ktm_base.specs.Disk.{DiskState, MayLeave}
+use Rattle.ktm_base.specs.Disk.{DiskState}
 use Rattle.ktm_base.specs.Told.{Tells}
-use Rattle.ktm_journal.specs.Image.{JournalState, JournalAt, IsImage, LeavesGroupOrNot}
+use Rattle.ktm_journal.specs.Image.{JournalState, JournalAt, LeavesGroupOrNot}
 use Rattle.ktm_world.specs.declared.command.Command.TheVariants.{CommitTransaction}
 use Rattle.ktm_world.specs.declared.event.Event.TheVariants.{Single}
 use Rattle.ktm_world.specs.declared.event.Part.TheVariants.{Settings}
@@ -18,10 +17,7 @@ use Rattle.ktm_world.specs.Present.{Present}
 use Rattle.ktm_world.specs.Outcome.{first_refusal, refuse_or}
 use Rattle.ktm_world.specs.Decide.{decide, named, transaction_tests, commit_transaction, commit_events}
 use Rattle.ktm_world.specs.World.{Group, apply, as_groups}
-use Rattle.ktm_kernel.specs.Stands.{KernelState}
-use Rattle.ktm_kernel.specs.Answered.{Answered}
 use Rattle.ktm_kernel.specs.Done.{IsDone, IsCutOff, LeavesWithOr, fallen}
-use Rattle.ktm_base.proofs.ToldSteps.{Tells-map}
 
 -- the group of a transaction that set something
 recorded : (t : Transaction) (settings : OwnSettings) → eqb (length settings) 0 ≡ false → as_groups (commit_events t.id settings) ≡ (Single t.id (Settings settings) ∷ []) ∷ []

@@ -1,14 +1,14 @@
 -- What a loss of power leaves of a machine.
-use Rattle.std.proofs.Common.{◌≡◌, ◌⊎◌, ℕ, ◌+◌, ◌<◌, Bool, true, false, List, [], ◌∷◌, ◌++◌, map, length, get_or, drop, zero, suc, Option, Some, None, refl, sym, ◌∙◌, ap, subst, inl, inr, arith}
+use Rattle.std.proofs.Common.{◌≡◌, ℕ, List, [], ◌∷◌, ◌++◌, map, length, drop, zero, suc, Option, refl, sym, ap, subst, arith}
 use Rattle.std.proofs.lemmas.List.{append-nil}
 use Rattle.std.specs.Prelude.{Contains}
-use Rattle.ktm_base.specs.Disk.{DiskState, MayLeave}
+use Rattle.ktm_base.specs.Disk.{DiskState}
 use Rattle.ktm_base.specs.Told.{Tells}
 use Rattle.ktm_base.proofs.ToldSteps.{Tells-map}
-use Rattle.ktm_journal.specs.Image.{JournalState, JournalAt, IsImage}
+use Rattle.ktm_journal.specs.Image.{JournalAt}
 use Rattle.ktm_journal.proofs.Images.{what_is_left}
 use Rattle.ktm_world.specs.World.{World, Group, Power, up, down, is_up, prefixes, prefixes_from, possible_logs, possible_by}
-use Rattle.ktm_kernel.specs.Stands.{KernelState, Stands, HasFallen, StandsBy, KernelAt, LeavesPossible, LeftLaw}
+use Rattle.ktm_kernel.specs.Stands.{KernelState, Stands, StandsBy, LeavesPossible, LeftLaw}
 
 -- a list's first element, and one that stands somewhere
 first_is : {X : Type 0} (x : X) (xs : List X) → Contains (x ∷ xs) x

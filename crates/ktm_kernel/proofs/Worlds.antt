@@ -1,12 +1,11 @@
 -- From what a call did to what it is for the world that the machine stands for.
-use Rattle.std.proofs.Common.{◌≡◌, ◌⊎◌, ℕ, Bool, true, false, cond, not, List, [], ◌∷◌, ◌++◌, length, Option, Some, None, Result, Ok, Err, IfOk, refl, sym, ◌∙◌, ap, subst, inl, inr}
+use Rattle.std.proofs.Common.{◌≡◌, ℕ, Bool, true, false, cond, not, List, [], ◌∷◌, ◌++◌, length, Option, Some, None, Result, Ok, Err, IfOk, refl, sym, ◌∙◌, ap, subst, inl, inr}
 use Rattle.std.proofs.lemmas.List.{append-nil}
 use Rattle.std.specs.Prelude.{Contains}
-use Rattle.ktm_base.specs.declared.fault.NoMemory.{NoMemory}
 use Rattle.ktm_base.specs.declared.id.Pid.{Pid}
 use Rattle.ktm_base.specs.declared.refusal.Refusal.{Refusal}
 use Rattle.ktm_base.specs.declared.refusal.Refusal.TheVariants.{MachineDown}
-use Rattle.ktm_base.specs.Disk.{DiskState, MayLeave}
+use Rattle.ktm_base.specs.Disk.{DiskState}
 use Rattle.ktm_base.specs.Told.{Tells}
 use Rattle.ktm_base.proofs.ToldSteps.{Tells-map}
 use Rattle.ktm_journal.specs.Image.{JournalState, JournalAt, IsImage}
@@ -20,10 +19,10 @@ use Rattle.ktm_world.specs.Present.{Present}
 use Rattle.ktm_world.specs.Outcome.{Outcome, first_refusal, refuse_or}
 use Rattle.ktm_world.specs.Decide.{decide, command_tests, command_effect}
 use Rattle.ktm_world.specs.World.{World, Group, Power, up, down, is_up, present, apply, after, as_groups, interrupted_world, prefixes_from}
-use Rattle.ktm_world.specs.Transcript.{Step, answered, interrupted, Does}
+use Rattle.ktm_world.specs.Transcript.{answered, interrupted}
 use Rattle.ktm_world.proofs.Worlds.{step_law, lawful_law, refusal_law}
 use Rattle.ktm_kernel.specs.Answered.{Answered}
-use Rattle.ktm_kernel.specs.Stands.{KernelState, Stands, HasFallen, StandsBy, KernelAt, LeavesPossible, DoesLine}
+use Rattle.ktm_kernel.specs.Stands.{KernelState, Stands, StandsBy, KernelAt, LeavesPossible, DoesLine}
 use Rattle.ktm_kernel.specs.Done.{IsDone, IsCutOff, Ends, LeavesWithOr, fallen}
 use Rattle.ktm_kernel.proofs.Left.{log_possible, more_possible}
 

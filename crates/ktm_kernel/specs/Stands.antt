@@ -1,6 +1,5 @@
 -- When a machine with its disk stands for a world.
-use Rattle.std.specs.Prelude.{◌≡◌, ◌⊎◌, ℕ, Bool, true, false, List, [], Option, Some, Contains, Result, Ok, Err}
-use Rattle.ktm_base.specs.declared.id.Pid.{Pid}
+use Rattle.std.specs.Prelude.{◌≡◌, ℕ, Bool, true, false, List, Option, Contains}
 use Rattle.ktm_base.specs.Disk.{DiskState, DiskStatus, MayLeave}
 use Rattle.ktm_base.specs.Told.{Tells, IfTold}
 use Rattle.ktm_journal.specs.Image.{JournalState, JournalAt, IsImage, IsFormatted}
@@ -8,7 +7,7 @@ use Rattle.ktm_world.specs.declared.command.Line.{Line}
 use Rattle.ktm_world.specs.declared.reply.Reply.{Reply}
 use Rattle.ktm_world.specs.Present.{Present}
 use Rattle.ktm_world.specs.Durable.{empty_state}
-use Rattle.ktm_world.specs.World.{World, Group, Power, present, possible_logs, is_up, IsLawful}
+use Rattle.ktm_world.specs.World.{World, Group, present, possible_logs, is_up, IsLawful}
 use Rattle.ktm_world.specs.Transcript.{Step, Does}
 
 -- what a machine is: what is so now, and its journal

@@ -1,5 +1,5 @@
 -- What a disk in memory tells, and which of its calls fail.
-use Rattle.std.specs.Prelude.{ℕ, List, length}
+use Rattle.std.specs.Prelude.{ℕ, length}
 use Rattle.ktm_base.specs.Disk.{DiskState, DiskStatus}
 use Rattle.ktm_mem.specs.PowerSupply.{status_with}
 use Rattle.ktm_mem.specs.declared.schedule.Schedule.{Schedule}

@@ -1,5 +1,5 @@
 -- What a source, a sink and a block in memory tell, and which of their calls fail.
-use Rattle.std.specs.Prelude.{ℕ, List, Option, Some, drop}
+use Rattle.std.specs.Prelude.{ℕ, List, drop}
 use Rattle.ktm_mem.specs.declared.schedule.Schedule.{Schedule}
 use Rattle.ktm_mem.specs.declared.source.MemSource.{MemSource}
 use Rattle.ktm_mem.specs.declared.sink.MemSink.{MemSink}

@@ -1,4 +1,6 @@
 // A file that is opened at its first use.
+ghost use Rattle.std.specs.Prelude.{◌≡◌, None};
+
 use std::fs::OpenOptions;
 use std::io;
 use std::rt::Files;
@@ -13,7 +15,9 @@ pub struct LateFile<R: Files> {
 }
 
 impl<R: Files + Drop> LateFile<R> {
-    pub fn new(rt: R, path: String, how: OpenOptions) -> LateFile<R> {
+    pub fn new(rt: R, path: String, how: OpenOptions) -> LateFile<R>
+        ensures { result.file ≡ None }
+    {
         LateFile {
             rt,
             path,

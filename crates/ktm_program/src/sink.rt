@@ -1,5 +1,5 @@
 // The transcript, to standard output.
-ghost use Rattle.std.specs.Prelude.{None};
+ghost use Rattle.std.specs.Prelude.{◌≡◌, None};
 
 use ktm_base::{Failed, Sink};
 use std::io::Print;
@@ -12,7 +12,9 @@ pub struct StdSink<R> {
 }
 
 impl<R: Print> StdSink<R> {
-    pub fn new(rt: R) -> StdSink<R> {
+    pub fn new(rt: R) -> StdSink<R>
+        ensures { result.faults ≡ 0 }
+    {
         StdSink { rt, faults: 0 }
     }
 }

@@ -15,7 +15,9 @@ pub struct FileSource<R: Files> {
 }
 
 impl<R: Files + Drop> FileSource<R> {
-    pub fn new(rt: R, path: String) -> FileSource<R> {
+    pub fn new(rt: R, path: String) -> FileSource<R>
+        ensures { result.faults ≡ 0 }
+    {
         let mut how = OpenOptions::new();
         how.read(true);
         FileSource {

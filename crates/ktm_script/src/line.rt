@@ -35,6 +35,11 @@ fn any_line(alloc: Global, text: &[u8]) -> Result<Line, LineFault>
     process_line(alloc, text)
 }
 
+/// Two lines of the grammar with one spelling are one line, also where they are not built.
+pub fn law_of_one_meaning()
+    ensures { (x y : Line) → IsLine x → IsLine y → spelling x ≡ spelling y → x ≡ y }
+{}
+
 /// The line that the bytes spell, without a newline.
 pub fn read_line(alloc: Global, line: &[u8]) -> Result<Line, LineFault>
     // what is read is a line that is built, and the bytes are its spelling
@@ -50,11 +55,6 @@ pub fn read_line(alloc: Global, line: &[u8]) -> Result<Line, LineFault>
         Err(LineFault::BadLine)
     }
 }
-
-/// Two lines of the grammar with one spelling are one line, also where they are not built.
-pub fn law_of_one_meaning()
-    ensures { (x y : Line) → IsLine x → IsLine y → spelling x ≡ spelling y → x ≡ y }
-{}
 
 #[cfg(test)]
 mod tests {

@@ -1,10 +1,12 @@
 // What the appends of a log write, and what a scan reads.
-ghost use Rattle.std.specs.Prelude.{◌≡◌, IfOk};
+ghost use Rattle.std.specs.Prelude.{◌≡◌, ◌≤◌, IfOk, length};
+ghost use Rattle.ktm_base.specs.Told.{IfTold};
 ghost use Rattle.ktm_mem.specs.DiskInMemory.{status_of};
 
-use ktm_base::{Bytes, NoMemory};
-use ktm_log::{AppendFault, Area, Log, LogFault};
-use ktm_mem::{Calls, MemDisk};
+use ktm_base::{Bytes, Disk, NoMemory, PowerDisk};
+use ktm_cut::CutDisk;
+use ktm_log::{AppendFault, Area, Log, LogFault, Scanned};
+use ktm_mem::{Calls, MemBlock, MemDisk};
 use std::alloc::Global;
 use std::test::Fail;
 
@@ -70,6 +72,60 @@ fn torn_frame(rt: HostRuntime) -> Result<(), Fail> {
             Err(fault) => return Err(fault.into()),
         };
         assert_eq!(rt; found, wanted);
+    }
+    Ok(())
+}
+
+fn cut_disk_of(alloc: Global, bytes: &[u8]) -> Result<CutDisk<MemBlock>, NoMemory>
+    ensures { IfOk result (λ disk. (⟦<CutDisk<MemBlock> as Disk>⟧.status disk).pending ≡ 0) }
+{
+    let bytes = Bytes::new(bytes.to_vec(alloc)?);
+    let room = bytes.len();
+    CutDisk::new(
+        alloc,
+        MemBlock::new(alloc, bytes, room, Calls::none(alloc))?,
+    )
+}
+
+// A scan of a disk whose length is looked at first.
+fn scan<D: Disk>(alloc: Global, disk: &mut D) -> Result<Scanned, LogFault>
+    ensures area { IfOk result (λ scanned. scanned.log.area ≡ record { at = 8; len = 40 }) }
+    ensures within { IfOk result (λ scanned. IfTold (D.told disk.new) (λ s. 48 ≤ length s.seen)) }
+    ensures pending { (D.status disk.new).pending ≡ (D.status disk.old).pending }
+{
+    let Ok(len) = disk.len() else {
+        return Err(LogFault::Down);
+    };
+    if len < 48 {
+        return Err(LogFault::Down);
+    }
+    Log::scan(alloc, disk, AREA)
+}
+
+#[test]
+fn append_through_a_loss_of_power(rt: HostRuntime) -> Result<(), Fail> {
+    for calls in 0..5u64 {
+        for pick in 0..16u64 {
+            let mut disk = cut_disk_of(rt.alloc(), &[0; 64])?;
+            let mut log = scan(rt.alloc(), &mut disk)?.log;
+            log.append(&mut disk, &[1, 2, 3])?;
+            let mut log = scan(rt.alloc(), &mut disk)?.log;
+            disk.plan_room(rt.alloc())?;
+            disk.arm(calls);
+            let appended = log.append(&mut disk, &[4, 5]).is_ok();
+            assert_eq!(rt; appended, calls == 4);
+            disk.plan_room(rt.alloc())?;
+            disk.off();
+            disk.power(pick)?;
+
+            let read = scan(rt.alloc(), &mut disk)?;
+            let payloads = read.payloads.as_slice();
+            assert!(rt; payloads.len() == 2 || (payloads.len() == 1 && !appended));
+            assert_eq!(rt; payloads[0].as_slice(), [1, 2, 3].as_slice());
+            if payloads.len() == 2 {
+                assert_eq!(rt; payloads[1].as_slice(), [4, 5].as_slice());
+            }
+        }
     }
     Ok(())
 }

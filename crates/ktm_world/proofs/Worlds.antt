@@ -1,5 +1,5 @@
 -- What a command does to the history, and to what is so now.
-use Rattle.std.proofs.Common.{◌≡◌, ℕ, ◌+◌, List, [], ◌∷◌, ◌++◌, length, Option, None, Some, Bool, refl, sym, ◌∙◌, ap, subst, arith, add_assoc, length-append}
+use Rattle.std.proofs.Common.{◌≡◌, ℕ, ◌+◌, List, [], ◌∷◌, ◌++◌, length, Option, None, Some, refl, sym, ◌∙◌, ap, subst, arith, add_assoc, length-append}
 use Rattle.std.proofs.lemmas.List.{append-nil}
 use Rattle.ktm_base.specs.declared.id.Id.{Id}
 use Rattle.ktm_base.specs.declared.id.Pid.{Pid}
@@ -12,10 +12,10 @@ use Rattle.ktm_world.specs.declared.reply.Reply.TheVariants.{Refused}
 use Rattle.ktm_world.specs.Keys.{Store, OwnSettings, stored_all, own_settings}
 use Rattle.ktm_world.specs.declared.object.Transaction.{Transaction}
 use Rattle.ktm_world.specs.Present.{Present}
-use Rattle.ktm_world.specs.Outcome.{Work, Outcome, only_reply, first_refusal, refuse_or}
-use Rattle.ktm_world.specs.Decide.{decide, command_tests, command_effect, commit_events, commit_works, commit_transaction, named}
-use Rattle.ktm_world.specs.Durable.{Durable, stand, after_events, after_event}
-use Rattle.ktm_world.specs.World.{World, Group, Power, committed_with, count_events, present, apply, step, extend, after, as_groups, kept_after, opened, IsLawful, own_group}
+use Rattle.ktm_world.specs.Outcome.{Work, Outcome, only_reply, refuse_or}
+use Rattle.ktm_world.specs.Decide.{decide, command_effect, commit_events, commit_works, commit_transaction, named}
+use Rattle.ktm_world.specs.Durable.{Durable, stand, after_events}
+use Rattle.ktm_world.specs.World.{World, Group, committed_with, count_events, present, apply, extend, as_groups, kept_after, IsLawful, own_group}
 use Rattle.ktm_world.specs.Laws.{StepLaw, RefusalLaw, LawfulLaw, OpenedLaw}
 
 committed_with-append : (store : Store) (ws vs : List Work) → committed_with store (ws ++ vs) ≡ committed_with (committed_with store ws) vs

@@ -1,5 +1,5 @@
 -- What each command does. Its tests stand in the order in which a command is tested.
-use Rattle.std.specs.Prelude.{ℕ, ◌+◌, ◌==◌, ◌||◌, not, Bool, true, false, List, [], ◌∷◌, ◌++◌, length, nat_lt, Option, Some, None, is_some, is_none, if◌then◌else◌}
+use Rattle.std.specs.Prelude.{ℕ, ◌+◌, ◌==◌, ◌||◌, not, Bool, false, List, [], ◌∷◌, ◌++◌, length, nat_lt, Option, Some, None, is_some, is_none}
 use Rattle.std.specs.Option.{option_and_then}
 use Rattle.ktm_base.specs.declared.id.Id.{Id}
 use Rattle.ktm_base.specs.declared.id.Pid.{Pid}
@@ -20,10 +20,9 @@ use Rattle.ktm_world.specs.declared.object.Phase.TheVariants.{Active}
 use Rattle.ktm_world.specs.declared.object.TransactionOutcome.TheVariants.{Undetermined}
 use Rattle.ktm_world.specs.declared.reply.Reply.{Reply}
 use Rattle.ktm_world.specs.declared.reply.Reply.TheVariants.{Done, Guid, Committed, Contents, Refused}
-use Rattle.ktm_world.specs.declared.object.Handle.{Handle}
 use Rattle.ktm_world.specs.Handles.{object_at, transaction_id, no_handle_left}
 use Rattle.ktm_world.specs.declared.object.Transaction.{Transaction}
-use Rattle.ktm_world.specs.Transactions.{Transactions, transaction_at, change_at, is_active, is_committed, is_aborted, no_transaction_left, ended_committed}
+use Rattle.ktm_world.specs.Transactions.{transaction_at, change_at, is_active, is_committed, is_aborted, no_transaction_left, ended_committed}
 use Rattle.ktm_world.specs.Keys.{OwnSettings, own_settings, with_own, without_own, value_seen, is_held_by_other, keys_used}
 use Rattle.ktm_world.specs.Present.{Present}
 use Rattle.ktm_world.specs.Outcome.{Work, Outcome, only_reply, first_refusal, refuse_or}

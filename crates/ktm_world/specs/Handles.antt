@@ -1,5 +1,5 @@
 -- The handles of all processes.
-use Rattle.std.specs.Prelude.{ℕ, ◌+◌, ◌==◌, ◌&&◌, Bool, List, [], ◌∷◌, ◌++◌, length, nat_lt, Option, Some, None, if◌then◌else◌}
+use Rattle.std.specs.Prelude.{◌+◌, ◌==◌, ◌&&◌, Bool, List, [], ◌∷◌, length, nat_lt, Option, Some, None, if◌then◌else◌}
 use Rattle.ktm_base.specs.declared.id.Id.{Id}
 use Rattle.ktm_base.specs.declared.id.Pid.{Pid}
 use Rattle.ktm_base.specs.declared.id.Label.{Label}

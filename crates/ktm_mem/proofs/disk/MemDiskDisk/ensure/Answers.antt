@@ -1,6 +1,4 @@
-use Rattle.std.proofs.Common.{refl, sym, subst, ◌∙◌}
-use Rattle.ktm_base.specs.Disk.{DeviceCall}
-use Rattle.ktm_mem.specs.DiskInMemory.{status_of}
+use Rattle.std.proofs.Common.{refl, sym, ◌∙◌}
 use Rattle.ktm_mem.proofs.disk.MemDiskDisk.ensure.Goals as goal
 
 pub returns-then-is_err-clause-call : goal.returns-then-is_err-clause-call

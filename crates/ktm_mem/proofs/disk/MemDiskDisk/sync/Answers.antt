@@ -1,4 +1,4 @@
-use Rattle.std.proofs.Common.{refl, ◌≡◌, ◌||◌, true, false, Bool, IsTrue, sym, ap, ◌∙◌}
+use Rattle.std.proofs.Common.{refl}
 use Rattle.ktm_mem.proofs.OffOrNot.{not_off}
 use Rattle.ktm_mem.proofs.disk.MemDiskDisk.sync.Goals as goal
 
