@@ -1,5 +1,5 @@
 -- What is kept of a line stands for the whole line, and runs of lines go one after another.
-use Rattle.std.proofs.Common.{◌≡◌, ℕ, ◌+◌, ◌<◌, ◌≤◌, true, false, List, [], ◌∷◌, ◌++◌, length, get_or, take, drop, cond, eqb, Option, None, Some, refl, sym, ◌∙◌, ap, subst, arith, length-take, length-append}
+use Rattle.std.proofs.Common.{◌≡◌, ◌⊎◌, inl, inr, Bool, ℕ, ◌+◌, ◌<◌, ◌≤◌, true, false, List, [], ◌∷◌, ◌++◌, length, get_or, take, drop, cond, eqb, Option, None, Some, refl, sym, ◌∙◌, ap, subst, arith, length-take, length-append}
 use Rattle.std.proofs.lemmas.List.{append-nil, at_drop_more, take_all, take-append-le}
 use Rattle.std.proofs.Math.Dec.{eqb-suc-zero}
 use Rattle.std.proofs.lemmas.List.Elements.{filter-append}
@@ -7,17 +7,21 @@ use Rattle.std.proofs.lemmas.Grind.{common_steps, flat_map-append}
 use Rattle.std.specs.Io.KnownBytes.{Appends}
 use Rattle.std.specs.List.{filter}
 use borrow.Enum.Total.{values_d}
-use Rattle.ktm_kernel.specs.Stands.{KernelAt, DoesLine}
-use Rattle.ktm_run.proofs.Known.{Appends-none, Appends-trans}
-use Rattle.ktm_run.specs.Progress.{Now, Progress}
+use Rattle.ktm_kernel.specs.Stands.{KernelState, StandsBy, KernelAt, DoesLine}
+use Rattle.ktm_base.specs.Count.{Rose}
+use Rattle.ktm_base.specs.Disk.{DiskState}
+use Rattle.ktm_base.specs.declared.refusal.Refusal.TheVariants.{MachineDown}
+use Rattle.ktm_world.specs.declared.reply.Reply.TheVariants.{Refused}
+use Rattle.ktm_run.proofs.Known.{Appends-none, Appends-trans, Rose-later, Rose-before}
+use Rattle.ktm_run.specs.Progress.{Now, HaveCause, Progress}
 use Rattle.ktm_run.specs.Script.{lines_from, part_from, last_line, has_reply, Means, MeanAll, reply_line, kept_of}
 use Rattle.ktm_script.specs.Spelling.{spelling, IsLine}
 use Rattle.ktm_world.specs.contracts.command.Line.{enum}
 use Rattle.ktm_world.specs.declared.command.Line.{Line}
 use Rattle.ktm_world.specs.declared.command.Line.TheVariants.{Process}
 use Rattle.ktm_world.specs.declared.reply.Reply.{Reply}
-use Rattle.ktm_world.specs.Transcript.{Step, Transcript}
-use Rattle.ktm_world.specs.World.{World}
+use Rattle.ktm_world.specs.Transcript.{Step, answered, interrupted, Does, Transcript}
+use Rattle.ktm_world.specs.World.{World, is_up}
 
 -- a line is what its parts make
 pub whole_line : (x : Line) (p q : _) → Process (values_d enum 0 p x).0 (values_d enum 0 q x).1.0 ≡ x
@@ -70,14 +74,40 @@ Transcript-append w [] [] (r ∷ rs) mid ys ts qs new h d = absurd h
 Transcript-append w (x ∷ xs) [] rs mid ys ts qs new h d = absurd h
 Transcript-append w (x ∷ xs) (s ∷ ss) [] mid ys ts qs new h d = absurd h
 
+pub HaveCause-wider : (a b c d : ℕ) (steps : List Step) → a ≤ b → c ≤ d → HaveCause b c steps → HaveCause a d steps
+HaveCause-wider a b c d [] h k cause = tt
+HaveCause-wider a b c d (answered ∷ steps) h k cause = HaveCause-wider a b c d steps h k cause
+HaveCause-wider a b c d (interrupted ∷ steps) h k cause = Rose-later a b d h (Rose-before b c d cause k)
+
+HaveCause-append : (a b c : ℕ) (ss ts : List Step) → a ≤ b → b ≤ c → HaveCause a b ss → HaveCause b c ts → HaveCause a c (ss ++ ts)
+HaveCause-append a b c [] ts h k cause more = HaveCause-wider a b c c ts h (omega arith) more
+HaveCause-append a b c (answered ∷ ss) ts h k cause more = HaveCause-append a b c ss ts h k cause more
+HaveCause-append a b c (interrupted ∷ ss) ts h k cause more = Rose-before a b c cause k
+
+-- a machine that is up for a world is up
+up_of : (w_up : Bool) (k : KernelState) (told : Option DiskState) (w : World) → StandsBy w_up k told w → k.now.machine.is_up ≡ is_up w.power
+up_of true k told w stands = ap (λ x. x.machine.is_up) stands.now
+up_of false k told w fallen = ap (λ x. x.machine.is_up) fallen.now
+
+step_cause : (a b : Now) (w : World) (meant : Option Line) (step : Step) (reply : Reply) (v : World) → KernelAt a.machine a.disk w
+    → (reply ≡ Refused MachineDown → (a.machine.now.machine.is_up ≡ false) ⊎ Rose a.downs b.downs) → Does w meant step reply v → HaveCause a.downs b.downs (step ∷ [])
+step_cause a b w meant answered reply v at cause does = tt
+step_cause a b w (Some (Process process command)) interrupted reply v at cause (on, says, is) =
+    elim (cause says) [
+      | inl off ↦ let wrong : true ≡ false = sym on ∙ sym (up_of (is_up w.power) a.machine a.disk w at) ∙ off in cc
+      | inr rose ↦ rose
+    ]
+step_cause a b w None interrupted reply v at cause does = absurd does
+
 pub Progress-none : (now : Now) → Progress now now []
-Progress-none now = record { runs = λ w stands. ([], [], [], w, tt, refl, Appends-none now.taken, stands) }
+Progress-none now = record { later = omega arith; runs = λ w stands. ([], [], [], w, tt, refl, Appends-none now.taken, stands, tt) }
 
 pub Progress-then : (a b c : Now) (xs ys : List (List ℕ)) → Progress a b xs → Progress b c ys → Progress a c (xs ++ ys)
 Progress-then a b c xs ys p q = record {
+  later = omega (arith, p.later, q.later);
   runs = λ w stands.
-      let (ms, ss, rs, v, mean, run, wrote, kept) = p.runs w stands in
-      let (ns, ts, qs, u, means, more, then, left) = q.runs v kept in (
+      let (ms, ss, rs, v, mean, run, wrote, kept, cause) = p.runs w stands in
+      let (ns, ts, qs, u, means, more, then, left, causes) = q.runs v kept in (
         ms ++ ns,
         ss ++ ts,
         rs ++ qs,
@@ -86,6 +116,7 @@ Progress-then a b c xs ys p q = record {
         Transcript-append w ms ss rs v ns ts qs u run more,
         subst (λ (l : List ℕ). Appends a.taken c.taken l) (sym (flat_map-append reply_line rs qs)) (Appends-trans a.taken b.taken c.taken _ _ wrote then),
         left,
+        HaveCause-append a.downs b.downs c.downs ss ts p.later q.later cause causes,
       );
 }
 
@@ -95,14 +126,17 @@ Progress-as a b xs ys same p = subst (λ (l : List (List ℕ)). Progress a b l) 
 -- a line that has no reply
 pub Progress-silent : (now : Now) (line : List ℕ) → has_reply line ≡ false → Progress now now (line ∷ [])
 Progress-silent now line silent = record {
-  runs = λ w stands. ([], [], [], w, subst (λ t. MeanAll (cond t (line ∷ []) []) []) (sym silent) tt, refl, Appends-none now.taken, stands);
+  later = omega arith;
+  runs = λ w stands. ([], [], [], w, subst (λ t. MeanAll (cond t (line ∷ []) []) []) (sym silent) tt, refl, Appends-none now.taken, stands, tt);
 }
 
 -- and one that has
 pub Progress-line : (a b : Now) (line : List ℕ) (reply : Reply) → has_reply line ≡ true
     → ((w : World) → KernelAt a.machine a.disk w → (meant : Option Line) × Means line meant × DoesLine w meant reply b.machine b.disk)
-    → Appends a.taken b.taken (reply_line reply) → Progress a b (line ∷ [])
-Progress-line a b line reply answered does wrote = record {
+    → Appends a.taken b.taken (reply_line reply) → a.downs ≤ b.downs
+    → (reply ≡ Refused MachineDown → (a.machine.now.machine.is_up ≡ false) ⊎ Rose a.downs b.downs) → Progress a b (line ∷ [])
+Progress-line a b line reply has does wrote later cause = record {
+  later = later;
   runs = λ w stands.
       let (meant, means, came) = does w stands in
       let (step, v, done, kept) = came in (
@@ -110,10 +144,11 @@ Progress-line a b line reply answered does wrote = record {
         step ∷ [],
         reply ∷ [],
         v,
-        subst (λ t. MeanAll (cond t (line ∷ []) []) (meant ∷ [])) (sym answered) (means, tt),
+        subst (λ t. MeanAll (cond t (line ∷ []) []) (meant ∷ [])) (sym has) (means, tt),
         (v, done, refl),
         subst (λ (l : List ℕ). Appends a.taken b.taken l) (sym (append-nil (reply_line reply))) wrote,
         kept,
+        step_cause a b w meant step reply v stands cause done,
       );
 }
 

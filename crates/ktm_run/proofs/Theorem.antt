@@ -1,5 +1,5 @@
 -- From the lines of a whole script to the theorem.
-use Rattle.std.proofs.Common.{◌≡◌, ℕ, Bool, true, false, List, [], ◌∷◌, Option, Some, None, sym, ◌∙◌, ap, subst}
+use Rattle.std.proofs.Common.{◌≡◌, ◌≤◌, arith, ℕ, Bool, true, false, List, [], ◌∷◌, Option, Some, None, sym, ◌∙◌, ap, subst}
 use Rattle.std.specs.Prelude.{Contains}
 use Rattle.std.specs.Io.KnownBytes.{Consumes, IsAtEnd}
 use Rattle.ktm_base.specs.Disk.{DiskState, MayLeave}
@@ -7,6 +7,7 @@ use Rattle.ktm_base.specs.Told.{Tells}
 use Rattle.ktm_journal.specs.Image.{IsImage}
 use Rattle.ktm_kernel.proofs.Left.{left_law}
 use Rattle.ktm_kernel.specs.Stands.{KernelState, StandsBy, KernelAt}
+use Rattle.ktm_run.proofs.Lines.{HaveCause-wider}
 use Rattle.ktm_run.specs.Progress.{Now, Progress}
 use Rattle.ktm_run.specs.Script.{cut_lines}
 use Rattle.ktm_run.specs.Theorem.{RunTheorem}
@@ -56,15 +57,16 @@ images_of k told w began stands = subst (λ n. Tells told (Leaves n 1)) units (s
     number = ap (λ d. d.image) same
 
 pub theorem_of : (before now : Option (List ℕ)) (a b : Now) (script : List ℕ) → Consumes before now script → IsAtEnd now → Progress a b (cut_lines script)
-    → KernelAt a.machine a.disk (opened (empty_state 1024 1) []) → RunTheorem before now a.taken b.taken b.disk
-theorem_of before now a b script read end progress stood =
-    let (meant, steps, replies, world, mean, run, wrote, stands) = progress.runs (opened (empty_state 1024 1) []) stood in record {
+    → KernelAt a.machine a.disk (opened (empty_state 1024 1) []) → (first : ℕ) → first ≤ a.downs → RunTheorem before now a.taken b.taken b.disk first b.downs
+theorem_of before now a b script read end progress stood first until =
+    let (meant, steps, replies, world, mean, run, wrote, stands, causes) = progress.runs (opened (empty_state 1024 1) []) stood in record {
       script = script;
       replies = replies;
       world = world;
       was_read = read;
       at_end = end;
       transcript = record { lines = meant; mean = mean; steps = steps; run = run };
+      causes = HaveCause-wider first a.downs b.downs b.downs steps until (omega arith) causes;
       was_written = wrote;
       machine = b.machine;
       stands = stands;

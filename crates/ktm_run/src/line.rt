@@ -1,11 +1,13 @@
 // A line of a script.
-ghost use Rattle.std.specs.Prelude.{◌≡◌, ◌≤◌, ◌++◌, ◌∷◌, [], ℕ, List, Option, IfOk, OnOk, IsErrOf};
+ghost use Rattle.std.specs.Prelude.{◌≡◌, ◌≤◌, ◌⊎◌, false, ◌++◌, ◌∷◌, [], ℕ, List, Option, IfOk, OnOk, IsErrOf};
 ghost use Rattle.ktm_base.specs.Count.{Rose};
+ghost use Rattle.ktm_base.specs.declared.refusal.Refusal.TheVariants.{MachineDown};
 ghost use Rattle.ktm_kernel.specs.Stands.{KernelAt, DoesLine, IsReady};
 ghost use Rattle.ktm_run.specs.Progress.{Now, Progress};
 ghost use Rattle.ktm_run.specs.Script.{has_reply, kept_of, Means, lines_from, part_from};
 ghost use Rattle.ktm_world.specs.World.{World};
 ghost use Rattle.ktm_world.specs.declared.command.Line.{Line};
+ghost use Rattle.ktm_world.specs.declared.reply.Reply.TheVariants.{Refused};
 
 use crate::fault::RunFault;
 use crate::write::write_line;
@@ -38,7 +40,10 @@ fn answer<D: Disk>(
     requires { IsReady kernel.old (D.told disk.old) (D.status disk.old) }
     ensures does { IfOk result (λ reply. (w : World) → KernelAt kernel.old (D.told disk.old) w
         → (meant : Option Line) × Means line.now meant × DoesLine w meant reply kernel.new (D.told disk.new)) }
+    ensures cause { IfOk result (λ reply. reply ≡ Refused MachineDown
+        → (kernel.old.now.machine.is_up ≡ false) ⊎ Rose (D.status disk.old).downs (D.status disk.new).downs) }
     ensures ready { OnOk result (IsReady kernel.new (D.told disk.new) (D.status disk.new)) }
+    ensures downs { OnOk result ((D.status disk.old).downs ≤ (D.status disk.new).downs) }
 {
     match read_line(alloc, line) {
         Ok(Line::Process(process, command)) => {
@@ -62,8 +67,8 @@ pub fn do_line<K: Sink, D: Disk>(
 ) -> Result<(), RunFault>
     requires { IsReady kernel.old (D.told disk.old) (D.status disk.old) }
     ensures done { OnOk result ((line : List ℕ) → kept.now ≡ kept_of line → Progress
-        (record { machine = kernel.old; disk = D.told disk.old; taken = K.taken sink.old })
-        (record { machine = kernel.new; disk = D.told disk.new; taken = K.taken sink.new })
+        (record { machine = kernel.old; disk = D.told disk.old; taken = K.taken sink.old; downs = (D.status disk.old).downs })
+        (record { machine = kernel.new; disk = D.told disk.new; taken = K.taken sink.new; downs = (D.status disk.new).downs })
         (line ∷ [])) }
     ensures ready { OnOk result (IsReady kernel.new (D.told disk.new) (D.status disk.new)) }
     ensures fault { IsErrOf result RunFault.SinkFault → Rose (K.faults sink.old) (K.faults sink.new) }
@@ -107,8 +112,8 @@ pub fn feed<K: Sink, D: Disk>(
 ) -> Result<(), RunFault>
     requires { IsReady kernel.old (D.told disk.old) (D.status disk.old) }
     ensures done { OnOk result ((part : List ℕ) → kept.old.items ≡ kept_of part → Progress
-        (record { machine = kernel.old; disk = D.told disk.old; taken = K.taken sink.old })
-        (record { machine = kernel.new; disk = D.told disk.new; taken = K.taken sink.new })
+        (record { machine = kernel.old; disk = D.told disk.old; taken = K.taken sink.old; downs = (D.status disk.old).downs })
+        (record { machine = kernel.new; disk = D.told disk.new; taken = K.taken sink.new; downs = (D.status disk.new).downs })
         (lines_from part bytes.now)) }
     ensures kept { OnOk result ((part : List ℕ) → kept.old.items ≡ kept_of part → kept.new.items ≡ kept_of (part_from part bytes.now)) }
     ensures ready { OnOk result (IsReady kernel.new (D.told disk.new) (D.status disk.new)) }

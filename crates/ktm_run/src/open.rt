@@ -1,5 +1,5 @@
 // The machine of an image.
-ghost use Rattle.std.specs.Prelude.{◌≡◌, ◌⊎◌, ◌<◌, [], ℕ, length, Err, IfOk, IsErrOf};
+ghost use Rattle.std.specs.Prelude.{◌≡◌, ◌⊎◌, ◌<◌, ◌≤◌, [], ℕ, length, Err, IfOk, IsErrOf};
 ghost use Rattle.ktm_base.specs.Told.{IfTold, Tells};
 ghost use Rattle.ktm_kernel.specs.Stands.{KernelAt, IsReady};
 ghost use Rattle.ktm_run.specs.Theorem.{WentDown};
@@ -23,6 +23,7 @@ fn new_kernel<D: Disk>(alloc: Global, disk: &mut D) -> Result<Kernel, OpenFault>
     requires { (D.status disk.old).pending ≡ 0 }
     ensures stands { IfOk result (λ kernel. Tells (D.told disk.old) (λ s. Unit {0}) → KernelAt kernel (D.told disk.new) (opened (empty_state 1024 1) [])) }
     ensures ready { IfOk result (λ kernel. IsReady kernel (D.told disk.new) (D.status disk.new)) }
+    ensures downs { (D.status disk.old).downs ≤ (D.status disk.new).downs }
     ensures down { IsErrOf result OpenFault.Down → WentDown (D.status disk.old) (D.status disk.new) }
     ensures not_bad { IsErrOf result OpenFault.BadImage → ⊥ }
 {
@@ -43,6 +44,7 @@ pub fn open_kernel<D: Disk>(alloc: Global, disk: &mut D) -> Result<Kernel, OpenF
     requires { (D.status disk.old).pending ≡ 0 }
     ensures stands { IfOk result (λ kernel. Tells (D.told disk.old) (λ s. Unit {0}) → KernelAt kernel (D.told disk.new) (opened (empty_state 1024 1) [])) }
     ensures ready { IfOk result (λ kernel. IsReady kernel (D.told disk.new) (D.status disk.new)) }
+    ensures downs { (D.status disk.old).downs ≤ (D.status disk.new).downs }
     ensures down { IsErrOf result OpenFault.Down → WentDown (D.status disk.old) (D.status disk.new) }
     ensures bad { IsErrOf result OpenFault.BadImage → IfTold (D.told disk.old) (λ s. 0 < length s.seen) }
     ensures not_empty { Tells (D.told disk.old) (λ s. 0 < length s.seen) → (result ≡ Err OpenFault.BadImage) ⊎ (result ≡ Err OpenFault.Down) }

@@ -26,7 +26,7 @@ fn run_image<S: Source, K: Sink, D: Disk>(
 ) -> Status
     requires { (D.status disk.old).pending ≡ 0 }
     ensures done { result ≡ Status.Done → Tells (D.told disk.old) (λ s. s.seen ≡ [])
-        → RunTheorem (S.left source.old) (S.left source.new) (K.taken sink.old) (K.taken sink.new) (D.told disk.new) }
+        → RunTheorem (S.left source.old) (S.left source.new) (K.taken sink.old) (K.taken sink.new) (D.told disk.new) (D.status disk.old).downs (D.status disk.new).downs }
     ensures source { result ≡ Status.SourceFault → Rose (S.faults source.old) (S.faults source.new) }
     ensures sink { result ≡ Status.SinkFault → Rose (K.faults sink.old) (K.faults sink.new) }
     ensures bad_image { result ≡ Status.BadImage → IfTold (D.told disk.old) (λ s. 0 < length s.seen) }
@@ -64,7 +64,7 @@ pub fn ktm<S: Source, K: Sink, D: Disk>(
 ) -> Status
     requires { (D.status disk.old).pending ≡ 0 }
     ensures done { result ≡ Status.Done → Tells (D.told disk.old) (λ s. s.seen ≡ [])
-        → RunTheorem (S.left source.old) (S.left source.new) (K.taken sink.old) (K.taken sink.new) (D.told disk.new) }
+        → RunTheorem (S.left source.old) (S.left source.new) (K.taken sink.old) (K.taken sink.new) (D.told disk.new) (D.status disk.old).downs (D.status disk.new).downs }
     ensures form { (is_run (map string_bytes words.now) ≡ true) ⊎ (result ≡ Status.Usage) ⊎ (result ≡ Status.SinkFault) }
     ensures usage { result ≡ Status.Usage → is_run (map string_bytes words.now) ≡ false }
     ensures source { result ≡ Status.SourceFault → Rose (S.faults source.old) (S.faults source.new) }

@@ -48,8 +48,8 @@ fn finish<K: Sink, D: Disk>(
 ) -> Result<(), RunFault>
     requires { IsReady kernel.old (D.told disk.old) (D.status disk.old) }
     ensures done { OnOk result ((part : List ℕ) → kept.now ≡ kept_of part → Progress
-        (record { machine = kernel.old; disk = D.told disk.old; taken = K.taken sink.old })
-        (record { machine = kernel.new; disk = D.told disk.new; taken = K.taken sink.new })
+        (record { machine = kernel.old; disk = D.told disk.old; taken = K.taken sink.old; downs = (D.status disk.old).downs })
+        (record { machine = kernel.new; disk = D.told disk.new; taken = K.taken sink.new; downs = (D.status disk.new).downs })
         (last_line part)) }
     ensures fault { IsErrOf result RunFault.SinkFault → Rose (K.faults sink.old) (K.faults sink.new) }
 {
@@ -74,8 +74,8 @@ fn run_pieces<S: Source, K: Sink, D: Disk>(
     requires ready { IsReady kernel.old (D.told disk.old) (D.status disk.old) }
     requires room { 0 < length buffer.old }
     ensures done { result ≡ Status.Done → (script : List ℕ) × Consumes (S.left source.old) (S.left source.new) script × IsAtEnd (S.left source.new) × Progress
-        (record { machine = kernel.old; disk = D.told disk.old; taken = K.taken sink.old })
-        (record { machine = kernel.new; disk = D.told disk.new; taken = K.taken sink.new })
+        (record { machine = kernel.old; disk = D.told disk.old; taken = K.taken sink.old; downs = (D.status disk.old).downs })
+        (record { machine = kernel.new; disk = D.told disk.new; taken = K.taken sink.new; downs = (D.status disk.new).downs })
         (cut_lines script) }
     ensures source { result ≡ Status.SourceFault → Rose (S.faults source.old) (S.faults source.new) }
     ensures sink { result ≡ Status.SinkFault → Rose (K.faults sink.old) (K.faults sink.new) }
@@ -120,8 +120,8 @@ pub fn run_script<S: Source, K: Sink, D: Disk>(
 ) -> Status
     requires { IsReady kernel.old (D.told disk.old) (D.status disk.old) }
     ensures done { result ≡ Status.Done → (script : List ℕ) × Consumes (S.left source.old) (S.left source.new) script × IsAtEnd (S.left source.new) × Progress
-        (record { machine = kernel.old; disk = D.told disk.old; taken = K.taken sink.old })
-        (record { machine = kernel.new; disk = D.told disk.new; taken = K.taken sink.new })
+        (record { machine = kernel.old; disk = D.told disk.old; taken = K.taken sink.old; downs = (D.status disk.old).downs })
+        (record { machine = kernel.new; disk = D.told disk.new; taken = K.taken sink.new; downs = (D.status disk.new).downs })
         (cut_lines script) }
     ensures source { result ≡ Status.SourceFault → Rose (S.faults source.old) (S.faults source.new) }
     ensures sink { result ≡ Status.SinkFault → Rose (K.faults sink.old) (K.faults sink.new) }

@@ -12,3 +12,5 @@ returns-clause-done g c = λ line is.
     (sym (has_reply-kept line) ∙ ap has_reply (sym is) ∙ sym c.if-not-is_answered.ensures)
     (λ w stands. let (meant, means, came) = c.in-Ok.ensures.does w stands in (meant, Means-kept line meant (rw is at means), came))
     (rw (← c.in-Ok-write_reply.ensures, ← c.as_slice.ensures) c.in_default-write_line.ensures.ok)
+    c.in-Ok.ensures.downs
+    c.in-Ok.ensures.cause

@@ -10,8 +10,8 @@ invariant-loop-byte g l = record {
       × (lines ++ lines_from now (drop l.byte-index l.bytes) ≡ lines_from part l.fn.bytes)
       × (part_from now (drop l.byte-index l.bytes) ≡ part_from part l.fn.bytes)
       × Progress
-      (record { machine = l.fn.kernel; disk = g.D.Disk.told l.fn.disk; taken = g.K.Sink.taken l.fn.sink })
-      (record { machine = l.kernel; disk = g.D.Disk.told l.disk; taken = g.K.Sink.taken l.sink })
+      (record { machine = l.fn.kernel; disk = g.D.Disk.told l.fn.disk; taken = g.K.Sink.taken l.fn.sink; downs = (g.D.Disk.status l.fn.disk).downs })
+      (record { machine = l.kernel; disk = g.D.Disk.told l.disk; taken = g.K.Sink.taken l.sink; downs = (g.D.Disk.status l.disk).downs })
       lines;
   ready : IsReady l.kernel (g.D.Disk.told l.disk) (g.D.Disk.status l.disk);
   later : g.K.Sink.faults l.fn.sink ≤ g.K.Sink.faults l.sink;

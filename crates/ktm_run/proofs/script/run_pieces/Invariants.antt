@@ -9,8 +9,8 @@ abbrev pub invariant-pieces : goal.invariant-pieces
 invariant-pieces g l = record {
   went : (script : List ℕ) × Consumes (g.S.Source.left l.fn.source) (g.S.Source.left l.source) script
       × (length script + l.left ≡ most_script) × (l.kept.items ≡ kept_of (part_from [] script)) × Progress
-      (record { machine = l.fn.kernel; disk = g.D.Disk.told l.fn.disk; taken = g.K.Sink.taken l.fn.sink })
-      (record { machine = l.kernel; disk = g.D.Disk.told l.disk; taken = g.K.Sink.taken l.sink })
+      (record { machine = l.fn.kernel; disk = g.D.Disk.told l.fn.disk; taken = g.K.Sink.taken l.fn.sink; downs = (g.D.Disk.status l.fn.disk).downs })
+      (record { machine = l.kernel; disk = g.D.Disk.told l.disk; taken = g.K.Sink.taken l.sink; downs = (g.D.Disk.status l.disk).downs })
       (lines_from [] script);
   ready : IsReady l.kernel (g.D.Disk.told l.disk) (g.D.Disk.status l.disk);
   bound : l.left ≤ most_script;
