@@ -1,4 +1,5 @@
 pub mod Guid
+pub mod Names
 pub mod Count
 pub mod Told
 pub mod Bytes
@@ -6,3 +7,4 @@ pub mod Stream
 pub mod Disk
 pub mod Power
 pub mod Laws
+pub mod Grammar

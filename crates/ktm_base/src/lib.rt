@@ -10,6 +10,7 @@ mod guids;
 mod id;
 mod laws;
 mod lists;
+mod names;
 mod power;
 mod refusal;
 mod sink;
@@ -24,7 +25,8 @@ pub use laws::{
     law_of_calls, law_of_ensure, law_of_ensure_refused, law_of_power, law_of_sync,
     law_of_two_writes, law_of_what_is_safe, law_of_write, law_of_write_refused,
 };
-pub use lists::{Bytes, PageList, Text};
+pub use lists::{Bytes, PageList, Text, TextList};
+pub use names::fold;
 pub use power::{PowerCall, PowerDisk};
 pub use refusal::Refusal;
 pub use sink::Sink;

@@ -24,6 +24,12 @@ pub struct PageList {
     items: Vec<u32>,
 }
 
+/// Texts in a row: names or keys.
+#[derive(Clone, Debug, Drop)]
+pub struct TextList {
+    items: Vec<Text>,
+}
+
 impl Model for Text {
     ghost Value = { List ℕ };
 
@@ -225,5 +231,54 @@ impl PageList {
         Ok(PageList {
             items: self.items.to_vec(alloc)?,
         })
+    }
+}
+
+impl Model for TextList {
+    ghost Value = { List (List ℕ) };
+
+    ghost view = { λ t. t.items.items };
+}
+
+impl PartialEq for TextList {
+    ghost use Rattle.std.specs.Cmp.Lexicographic.{pointwise};
+
+    ghost eq = { pointwise bytes_eq };
+
+    ghost use Rattle.std.specs.Cmp.{partial_equiv_from_equiv};
+    ghost use Rattle.std.proofs.lemmas.Cmp.{nat_list_eq_equiv, lists_equiv};
+
+    ghost laws = { partial_equiv_from_equiv (lists_equiv nat_list_eq_equiv) };
+
+    fn eq(&self, other: &TextList) -> bool {
+        self.items.as_slice() == other.items.as_slice()
+    }
+}
+
+impl Eq for TextList {
+    ghost use Rattle.std.proofs.lemmas.Cmp.{nat_list_eq_equiv, lists_equiv};
+
+    ghost laws = { lists_equiv nat_list_eq_equiv };
+}
+
+impl TextList {
+    pub fn new(items: Vec<Text>) -> Self
+        ensures { result ≡ items.items }
+    {
+        TextList { items }
+    }
+
+    /// The vector that it was made from.
+    pub fn into_vec(self) -> Vec<Text>
+        ensures { result.items ≡ self }
+    {
+        let TextList { items } = self;
+        items
+    }
+
+    pub fn as_slice(&self) -> &[Text]
+        ensures { result.now ≡ self.now }
+    {
+        &self.items
     }
 }

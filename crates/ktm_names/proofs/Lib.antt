@@ -1,0 +1,4 @@
+pub mod PartLemmas
+pub mod PlaceLemmas
+pub mod PathLemmas
+pub mod WalkLemmas

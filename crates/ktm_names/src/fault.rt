@@ -1,0 +1,34 @@
+// Why a path or a pattern was not read.
+ghost use Rattle.std.specs.Prelude.{◌≡◌};
+
+use ktm_base::NoMemory as OutOfMemory;
+use std::alloc::AllocError;
+
+/// Why a path or a pattern was not read.
+#[derive(Clone, Copy, Debug, PartialEq, Eq)]
+pub enum PathFault {
+    /// The text is none.
+    NotAPath,
+    /// Memory was wanted and not to be had.
+    NoMemory,
+}
+
+impl From<OutOfMemory> for PathFault {
+    ghost use Rattle.ktm_names.specs.declared.fault.PathFault.TheVariants.{NoMemory};
+
+    ghost from_gives = { λ _ fault. fault ≡ NoMemory };
+
+    fn from(_: OutOfMemory) -> Self {
+        PathFault::NoMemory
+    }
+}
+
+impl From<AllocError> for PathFault {
+    ghost use Rattle.ktm_names.specs.declared.fault.PathFault.TheVariants.{NoMemory};
+
+    ghost from_gives = { λ _ fault. fault ≡ NoMemory };
+
+    fn from(_: AllocError) -> Self {
+        PathFault::NoMemory
+    }
+}

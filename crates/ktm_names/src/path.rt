@@ -1,0 +1,150 @@
+// Paths.
+ghost use Rattle.std.specs.Prelude.{◌≡◌, ◌↔◌, ◌<◌, ◌≤◌, ℕ, List, [], Some, All, IsTrue, IfOk, IfErr, length, map, slice_get};
+ghost use Rattle.ktm_base.specs.Names.{IsName, IsPath};
+
+use crate::PathFault;
+use crate::list::PlacedTexts;
+use crate::parts::{are_names, parts_of};
+use ktm_base::NoMemory;
+use std::alloc::Global;
+use std::marker::Model;
+
+/// A path: the names from the root on, which has none.
+#[derive(Debug, Drop)]
+pub struct Path {
+    names: PlacedTexts,
+}
+
+impl Model for Path {
+    ghost use Rattle.std.specs.Prelude.{ℕ, List, length, All, ◌≤◌};
+    ghost use Rattle.ktm_base.specs.Names.{IsName};
+
+    ghost Value = { List (List ℕ) };
+
+    ghost view = { λ p. p.names };
+
+    ghost invariant = { λ p. (length p.names ≤ 32) × All IsName p.names };
+}
+
+impl Path {
+    /// The path of these names.
+    pub(crate) fn of(alloc: Global, names: &[&[u8]]) -> Result<Self, NoMemory>
+        requires few { length names.now ≤ 32 }
+        requires names { All (λ name. IsName name.now) names.now }
+        ensures { IfOk result (λ path. path ≡ map (λ name. name.now) names.now) }
+    {
+        Ok(Path {
+            names: PlacedTexts::of(alloc, names)?,
+        })
+    }
+
+    /// The path that the text is.
+    pub fn read(alloc: Global, text: &[u8]) -> Result<Self, PathFault>
+        ensures ok { IfOk result (λ path. IsPath path text.now) }
+        // it is refused only where it is no path
+        ensures not { IfErr result (λ fault. fault ≡ PathFault.NotAPath → (names : List (List ℕ)) → ¬ IsPath names text.now) }
+    {
+        if text == b"\\".as_slice() {
+            return Ok(Path {
+                names: PlacedTexts::new(alloc),
+            });
+        }
+        let parts = parts_of(alloc, text)?;
+        if !are_names(&parts) {
+            return Err(PathFault::NotAPath);
+        }
+        Ok(Path::of(alloc, &parts)?)
+    }
+
+    /// How many names it has.
+    pub fn len(&self) -> usize
+        ensures value { result ≡ length self.now }
+        ensures few { result ≤ 32 }
+    {
+        self.names.len()
+    }
+
+    /// Is it the root.
+    pub fn is_empty(&self) -> bool
+        ensures { IsTrue result ↔ (self.now ≡ []) }
+    {
+        self.names.len() == 0
+    }
+
+    /// Its name at this index, counted from the root.
+    pub fn name(&self, index: usize) -> &[u8]
+        requires { index < length self.now }
+        ensures value { slice_get self.now index ≡ Some result.now }
+        ensures name { IsName result.now }
+    {
+        self.names.get(index)
+    }
+}
+
+/// A text is the path of one list of names at most.
+pub fn law_of_one_path()
+    ensures { (x y : List (List ℕ)) (text : List ℕ) → IsPath x text → IsPath y text → x ≡ y }
+{}
+
+#[cfg(test)]
+mod tests {
+    use super::*;
+    use std::test::Fail;
+
+    // A path of so many names of so many characters.
+    fn long(alloc: Global, names: usize, characters: usize) -> Result<Vec<u8>, Fail> {
+        let mut text = Vec::new(alloc);
+        for _ in 0..names {
+            text.push(b'\\')?;
+            for _ in 0..characters {
+                text.push(b'x')?;
+            }
+        }
+        Ok(text)
+    }
+
+    #[test]
+    fn paths(rt: HostRuntime) -> Result<(), Fail> {
+        let alloc = rt.alloc();
+        for (text, names) in [
+            ("\\", 0),
+            ("\\a", 1),
+            ("\\Dir\\g", 2),
+            ("\\app\\bin\\f01 b.txt", 3),
+            ("\\.a\\ b", 2),
+            ("\\~!@#$%^&()_+-={}[];',`", 1),
+        ] {
+            assert_eq!(rt; Path::read(alloc, text.as_bytes())?.len(), names, "{text}");
+        }
+        for (names, characters) in [(32, 1), (1, 255), (32, 255)] {
+            let text = long(alloc, names, characters)?;
+            assert_eq!(rt; Path::read(alloc, &text)?.len(), names);
+        }
+        let path = Path::read(alloc, b"\\Dir\\g")?;
+        assert!(rt; !path.is_empty() && path.len() == 2);
+        assert_eq!(rt; path.name(0), b"Dir".as_slice());
+        assert_eq!(rt; path.name(1), b"g".as_slice());
+        Ok(())
+    }
+
+    #[test]
+    fn no_paths(rt: HostRuntime) -> Result<(), Fail> {
+        let alloc = rt.alloc();
+        for text in [
+            "", "a", "a\\b", "\\a\\", "\\\\", "\\\\a", "\\a\\\\b", "\\a.", "\\a ", "\\.", "\\..",
+            "\\a.\\b", "\\a \\b", "\\a/b", "\\a:b", "\\a*b", "\\a?b", "\\a\"b", "\\a<b", "\\a>b",
+            "\\a|b", "\\a\x1fb", "\\a\x7fb",
+        ] {
+            assert_eq!(rt;
+                Path::read(alloc, text.as_bytes()).err(),
+                Some(PathFault::NotAPath),
+                "{text}"
+            );
+        }
+        for (names, characters) in [(33, 1), (1, 256), (2, 256), (2000, 0)] {
+            let text = long(alloc, names, characters)?;
+            assert_eq!(rt; Path::read(alloc, &text).err(), Some(PathFault::NotAPath));
+        }
+        Ok(())
+    }
+}
