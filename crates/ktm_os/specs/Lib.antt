@@ -1,0 +1,3 @@
+-- What the edges to the system keep.
+pub mod Count
+pub mod File

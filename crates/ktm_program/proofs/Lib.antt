@@ -1,2 +1,0 @@
--- Lemmas for the edges of the program.
-mod Calls

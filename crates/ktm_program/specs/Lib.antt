@@ -1,2 +1,0 @@
--- What the edges of the program keep.
-pub mod Supply
