@@ -4,7 +4,8 @@ use Rattle.std.proofs.lemmas.Option.{option_and_then_some, same_Some, some_pair_
 use Rattle.std.proofs.lemmas.Bool.{cases_Bool}
 use Rattle.std.proofs.lemmas.Grind.{common_steps}
 use Rattle.std.proofs.lemmas.Slice.Eq.{bytes_eq-Decides}
-use Rattle.ktm_codec.specs.Hex.{AreBytes, digit_value, first_pair, hex_digit, hex_of, hex_or_dash, pair_value, unhex, unhex_or_dash}
+use Rattle.ktm_base.specs.Bytes.{AreBytes}
+use Rattle.ktm_codec.specs.Hex.{digit_value, first_pair, hex_digit, hex_of, hex_or_dash, pair_value, unhex, unhex_or_dash}
 
 map-front : (front : List ℕ) (b : ℕ) (r : Option (List ℕ)) → option_map (λ bs. (front ++ b ∷ []) ++ bs) r ≡ option_map (λ bs. front ++ bs) (option_map (λ bs. b ∷ bs) r)
 map-front front b None = refl

@@ -1,6 +1,5 @@
 -- Bytes in hexadecimal digits.
-use Rattle.std.specs.Prelude.{ℕ, ◌+◌, ◌-◌, ◌*◌, ◌/◌, ◌%◌, ◌<◌, nat_lt, nat_le, ◌&&◌, List, [], ◌∷◌, codes, Option, Some, None, if◌then◌else◌, flat_map, option_map, option_and_then, bytes_eq}
-use Rattle.std.specs.List.{AllByRecursion}
+use Rattle.std.specs.Prelude.{ℕ, ◌+◌, ◌-◌, ◌*◌, ◌/◌, ◌%◌, nat_lt, nat_le, ◌&&◌, List, [], ◌∷◌, codes, Option, Some, None, if◌then◌else◌, flat_map, option_map, option_and_then, bytes_eq}
 
 -- the digit of a number below 16, with lower-case letters
 abbrev pub hex_digit : ℕ → ℕ
@@ -18,10 +17,6 @@ hex_of bytes = flat_map hex_pair bytes
 abbrev pub hex_or_dash : List ℕ → List ℕ
 hex_or_dash [] = codes "-"
 hex_or_dash (b ∷ bs) = hex_of (b ∷ bs)
-
--- each is a byte
-abbrev pub AreBytes : List ℕ → Type 0
-AreBytes bytes = AllByRecursion (λ b. b < 256) bytes
 
 -- the number that a lower-case digit stands for
 abbrev pub digit_value : ℕ → Option ℕ

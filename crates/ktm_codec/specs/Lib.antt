@@ -1,3 +1,4 @@
 pub mod Hex
 pub mod Number
 pub mod Word
+pub mod Spans

@@ -1,6 +1,7 @@
 // Bytes in hexadecimal digits.
 ghost use Rattle.std.specs.Prelude.{◌≡◌, ◌<◌, ◌++◌, List, ℕ, IfOk, IfSome, OnOk, Some, length, option_map, take};
-ghost use Rattle.ktm_codec.specs.Hex.{AreBytes, digit_value, first_pair, hex_digit, hex_of, hex_or_dash, pair_value, unhex, unhex_or_dash};
+ghost use Rattle.ktm_base.specs.Bytes.{AreBytes};
+ghost use Rattle.ktm_codec.specs.Hex.{digit_value, first_pair, hex_digit, hex_of, hex_or_dash, pair_value, unhex, unhex_or_dash};
 
 use ktm_base::{Bytes, NoMemory};
 use std::alloc::Global;

@@ -3,9 +3,14 @@
 #![tactic(auto)]
 
 mod hex;
+mod little_endian;
 mod number;
 mod word;
 
 pub use hex::{law_of_hex, put_hex, put_hex_or_dash, read_hex_or_dash};
-pub use number::{law_of_numbers, read_number};
+pub use little_endian::{
+    bytes_at, law_of_spellings, put_bytes, put_text, put_u8, put_u16, put_u32, put_u64, put_value,
+    text_at, u8_at, u16_at, u32_at, u64_at, value_at,
+};
+pub use number::{law_of_numbers, put_number, read_number};
 pub use word::{law_of_words, strip_word};

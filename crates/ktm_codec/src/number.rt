@@ -1,6 +1,9 @@
 // Numbers in decimal digits, without leading zeros.
-ghost use Rattle.std.specs.Prelude.{◌≡◌, ◌<◌, ◌≤◌, ◌^◌, ◌++◌, ℕ, List, IfSome, Some, false, decimal, option_map};
+ghost use Rattle.std.specs.Prelude.{◌≡◌, ◌<◌, ◌≤◌, ◌^◌, ◌++◌, ℕ, List, IfSome, OnOk, Some, false, decimal, option_map};
 ghost use Rattle.ktm_codec.specs.Number.{digits_at, number_at, starts_with_digit, with_digit};
+
+use itoa::Buffer;
+use ktm_base::NoMemory;
 
 // The number with one digit more, if it is not too great.
 fn with_digit(most: u64, value: u64, digit: u8) -> Option<u64>
@@ -28,6 +31,13 @@ fn digits(most: u64, text: &[u8]) -> Option<(u64, &[u8])>
         value = with_digit(most, value, *byte - b'0')?;
     }
     Some((value, &[]))
+}
+
+/// Writes a number at the end.
+pub fn put_number(out: &mut Vec<u8>, number: u64) -> Result<(), NoMemory>
+    ensures { OnOk result (out.new.items ≡ out.old.items ++ decimal number) }
+{
+    Ok(out.extend_from_slice(Buffer::new().format(number).as_bytes())?)
 }
 
 /// The number at the front of the text, and what follows its digits. There is none where it would be greater than the

@@ -6,11 +6,11 @@ use Rattle.ktm_base.specs.Bytes.{written}
 use Rattle.ktm_base.specs.Disk.{DiskState, IsSafe, Grew}
 use Rattle.ktm_base.proofs.Images.{same_written, length-written}
 use Rattle.ktm_log.specs.declared.area.Area.{Area}
-use Rattle.ktm_log.specs.Log.{LogState, area_bytes}
+use Rattle.ktm_log.specs.Log.{area_bytes}
 use Rattle.ktm_log.proofs.Parts.{not_covered, same_part, written_part, get_or-area, length-area}
 use Rattle.ktm_log.proofs.Frames.{first_at, closed_at}
-use Rattle.ktm_journal.specs.Image.{IsFormatted, JournalAt, empty_snapshot, image_len, log_area}
-use Rattle.ktm_journal.specs.Format.{IsHeader, IsLaid, SettledBoth, empty_log}
+use Rattle.ktm_journal.specs.Image.{IsFormatted, HoldsLog, empty_snapshot, image_len, log_area}
+use Rattle.ktm_journal.specs.Format.{IsHeader, IsLaid, SettledBoth}
 
 length-empty_snapshot : length empty_snapshot ≡ 44
 unfolding empty_snapshot
@@ -71,7 +71,7 @@ laid units len area snapshot a b d len_is area_is snapshot_is grew settled =
     (subst (λ (x : Area). SettledBoth 4096 empty_snapshot x.at (0 ∷ []) b d) area_is (subst (λ (l : List ℕ). SettledBoth 4096 l area.at (0 ∷ []) b d) snapshot_is settled))
 
 -- a part of the header
-header_part : (h b : List ℕ) (from n : ℕ) → take 18 b ≡ h → from + n ≤ 18 → take n (drop from b) ≡ take n (drop from h)
+pub header_part : (h b : List ℕ) (from n : ℕ) → take 18 b ≡ h → from + n ≤ 18 → take n (drop from b) ≡ take n (drop from h)
 header_part h b from n is fits =
     let split : 18 ≡ from + (18 - from) = omega arith in
     sym (ap (λ (l : List ℕ). take n (drop from l)) (sym is)
@@ -79,8 +79,8 @@ header_part h b from n is fits =
     ∙ ap (λ (l : List ℕ). take n l) (drop-take from (18 - from) b)
     ∙ take-take n (18 - from) (drop from b) (omega arith))
 
-pub headed : (units image : ℕ) (h : List ℕ) (a b : DiskState) → IsLaid units a.seen → IsHeader units image h → SettledBoth 0 h 2048 (0 ∷ []) a b → IsSafe b × IsLaid units b.seen × IsFormatted units image b.seen
-headed units image h a b was header settled =
+pub headed : (units image : ℕ) (h : List ℕ) (a b : DiskState) → 16 ≤ units → units ≤ 1024 → IsLaid units a.seen → IsHeader units image h → SettledBoth 0 h 2048 (0 ∷ []) a b → IsSafe b × IsLaid units b.seen × IsFormatted units image b.seen
+headed units image h a b least most was header settled =
     let apart : 0 + length h ≤ 2048 = omega (arith, header.long) in
     let fits : 2048 + 1 ≤ length a.seen = omega (arith, was.long) in
     let long : image_len units ≤ length b.seen = omega (arith, was.long, both_long 0 h 2048 (0 ∷ []) a b apart fits settled) in
@@ -93,30 +93,34 @@ headed units image h a b was header settled =
         gate = both_behind 0 h 2048 (0 ∷ []) a b apart fits settled (log_area units).at 1 (omega arith) ∙ was.gate;
       },
       record {
-        long = long;
-        magic = header_part h b.seen 0 8 front (omega arith) ∙ header.magic;
-        layout = ap (λ (l : List ℕ). from_le_bytes w32 l) (header_part h b.seen 8 4 front (omega arith)) ∙ header.layout;
-        units_are = ap (λ (l : List ℕ). from_le_bytes w32 l) (header_part h b.seen 12 4 front (omega arith)) ∙ header.units_are;
-        number = ap (λ (l : List ℕ). from_le_bytes w16 l) (header_part h b.seen 16 2 front (omega arith)) ∙ header.number;
-        selector = ap (λ n. n % 2) (byte_at b.seen 2048 0 (both_second 0 h 2048 (0 ∷ []) a b apart fits settled));
+        headed = record {
+          least = least;
+          most = most;
+          long = long;
+          magic = header_part h b.seen 0 8 front (omega arith) ∙ header.magic;
+          layout = ap (λ (l : List ℕ). from_le_bytes w32 l) (header_part h b.seen 8 4 front (omega arith)) ∙ header.layout;
+          units_are = ap (λ (l : List ℕ). from_le_bytes w32 l) (header_part h b.seen 12 4 front (omega arith)) ∙ header.units_are;
+          number = ap (λ (l : List ℕ). from_le_bytes w16 l) (header_part h b.seen 16 2 front (omega arith)) ∙ header.number;
+          selector = ap (λ n. n % 2) (byte_at b.seen 2048 0 (both_second 0 h 2048 (0 ∷ []) a b apart fits settled));
+        };
         snapshot = snapshot;
       },
     )
 
 -- a new image has no group
-pub new_journal : (units image : ℕ) (l : LogState) (s : DiskState) → l ≡ empty_log (log_area units) → IsSafe s → IsLaid units s.seen → IsFormatted units image s.seen → JournalAt (record { units = units; image = image; log = l }) [] s
-new_journal units image l s is safe laid formatted =
-    let within : (log_area units).at + (log_area units).len ≤ length s.seen = omega (arith, laid.long) in
-    let shut = get_or-area (log_area units) s.seen 0 (omega arith) ∙ ap (λ n. get_or s.seen n 0) (omega arith) ∙ byte_at s.seen (log_area units).at 0 laid.gate in
-    subst (λ (x : LogState). JournalAt (record { units = units; image = image; log = x }) [] s) (sym is) (record {
-      area = refl;
-      formatted = formatted;
-      payloads = [];
-      groups = tt;
-      rests = record {
-        safe = safe;
-        within = within;
-        log = record { frames = tt; gate = closed_at (area_bytes (log_area units) s.seen) 0 (omega (arith, length-area (log_area units) s.seen within)) (λ e. absurd (omega (arith, shut, e))) };
-        gate_at = refl;
+holds_none : (units image : ℕ) (bytes : List ℕ) → IsLaid units bytes → IsFormatted units image bytes → HoldsLog units image [] bytes
+holds_none units image bytes laid formatted =
+    let within : (log_area units).at + (log_area units).len ≤ length bytes = omega (arith, laid.long) in
+    let shut = get_or-area (log_area units) bytes 0 (omega arith) ∙ ap (λ n. get_or bytes n 0) (omega arith) ∙ byte_at bytes (log_area units).at 0 laid.gate in
+    record {
+      is = record {
+        formatted = formatted;
+        payloads = [];
+        groups = tt;
+        frames = record { frames = tt; gate = closed_at (area_bytes (log_area units) bytes) 0 (omega (arith, length-area (log_area units) bytes within)) (λ e. absurd (omega (arith, shut, e))) };
       };
-    })
+      applies = refl;
+    }
+
+pub new_image : (units image : ℕ) (s : DiskState) → IsSafe s × IsLaid units s.seen × IsFormatted units image s.seen → IsSafe s × HoldsLog units image [] s.seen
+new_image units image s put = (put.0, holds_none units image s.seen put.1 put.2)

@@ -14,12 +14,16 @@ use Rattle.ktm_journal.specs.Image.{IsFormatted, HoldGroups, IsImage, JournalSta
 -- header and snapshot lie before the log
 pub formatted_elsewhere : (units image : ℕ) (old new : List ℕ) → IsFormatted units image old → SameElsewhere (log_area units) old new → IsFormatted units image new
 formatted_elsewhere units image old new was same = record {
-  long = omega (arith, was.long, same.same_length);
-  magic = part 0 8 (omega arith) ∙ was.magic;
-  layout = ap (λ (l : List ℕ). from_le_bytes w32 l) (part 8 4 (omega arith)) ∙ was.layout;
-  units_are = ap (λ (l : List ℕ). from_le_bytes w32 l) (part 12 4 (omega arith)) ∙ was.units_are;
-  number = ap (λ (l : List ℕ). from_le_bytes w16 l) (part 16 2 (omega arith)) ∙ was.number;
-  selector = ap (λ n. n % 2) (before 2048 (omega arith)) ∙ was.selector;
+  headed = record {
+    least = was.headed.least;
+    most = was.headed.most;
+    long = omega (arith, was.headed.long, same.same_length);
+    magic = part 0 8 (omega arith) ∙ was.headed.magic;
+    layout = ap (λ (l : List ℕ). from_le_bytes w32 l) (part 8 4 (omega arith)) ∙ was.headed.layout;
+    units_are = ap (λ (l : List ℕ). from_le_bytes w32 l) (part 12 4 (omega arith)) ∙ was.headed.units_are;
+    number = ap (λ (l : List ℕ). from_le_bytes w16 l) (part 16 2 (omega arith)) ∙ was.headed.number;
+    selector = ap (λ n. n % 2) (before 2048 (omega arith)) ∙ was.headed.selector;
+  };
   snapshot = part 4096 44 (omega arith) ∙ was.snapshot;
 }
   where

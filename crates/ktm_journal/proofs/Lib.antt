@@ -1,4 +1,7 @@
 pub mod Images
 pub mod Known
-pub mod Adding
 pub mod Formats
+pub mod Loads
+pub mod Folds
+pub mod LogLoads
+pub mod OneImage

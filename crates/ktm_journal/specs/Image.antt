@@ -1,11 +1,13 @@
 -- The image of a journal on a disk: a header, and behind it areas, of which one holds a snapshot and the next a log.
-use Rattle.std.specs.Prelude.{◌≡◌, ◌⊎◌, ℕ, ◌+◌, ◌*◌, ◌%◌, ◌≤◌, List, [], ◌∷◌, ◌++◌, length, take, drop, slice_index, codes}
+use Rattle.std.specs.Prelude.{◌≡◌, ◌⊎◌, ℕ, ◌+◌, ◌-◌, ◌*◌, ◌%◌, ◌≤◌, IsTrue, List, [], ◌∷◌, ◌++◌, length, take, drop, slice_index, codes}
 use Rattle.std.specs.Int.{from_le_bytes, w16, w32}
 use Rattle.ktm_base.specs.Disk.{DiskState, MayLeave}
 use Rattle.ktm_log.specs.declared.area.Area.{Area}
 use Rattle.ktm_log.specs.Log.{LogState, IsLog, Rests, area_bytes}
 use Rattle.ktm_world.specs.World.{Group}
 use Rattle.ktm_world.specs.EventGrammar.{IsGroupOf}
+use Rattle.ktm_world.specs.Durable.{Durable, empty_state, stand, log_applies}
+use Rattle.ktm_world.specs.Sizes.{log_size}
 
 -- how many bytes an area has
 abbrev pub area_len : ℕ → ℕ
@@ -25,15 +27,25 @@ empty_snapshot =
     36 ∷ 0 ∷ 0 ∷ 0 ∷ 0 ∷ 0 ∷ 0 ∷ 0 ∷ 0 ∷ 0 ∷ 0 ∷ 0 ∷ 0 ∷ 0 ∷ 0 ∷ 0 ∷ 0 ∷ 0 ∷ 0 ∷ 0
     ∷ 2 ∷ 0 ∷ 0 ∷ 0 ∷ 0 ∷ 0 ∷ 0 ∷ 0 ∷ 0 ∷ 0 ∷ 0 ∷ 0 ∷ 0 ∷ 0 ∷ 0 ∷ 0 ∷ 0 ∷ 0 ∷ 0 ∷ 0 ∷ 0 ∷ 0 ∷ 0 ∷ 0 ∷ []
 
--- the bytes are long enough, begin with the header of this image, and have the empty snapshot
-pub record IsFormatted (units image : ℕ) (bytes : List ℕ) : Type 0 where
+-- the bytes begin with the header of this image, and are long enough for its areas
+pub record IsHeaded (units image : ℕ) (bytes : List ℕ) : Type 0 where
+  pub least : 16 ≤ units
+  pub most : units ≤ 1024
   pub long : image_len units ≤ length bytes
   pub magic : take 8 bytes ≡ codes "KTMTXF01"
   pub layout : from_le_bytes w32 (take 4 (drop 8 bytes)) ≡ 1
   pub units_are : from_le_bytes w32 (take 4 (drop 12 bytes)) ≡ units
   pub number : from_le_bytes w16 (take 2 (drop 16 bytes)) ≡ image
   pub selector : slice_index bytes 2048 % 2 ≡ 0
-  pub snapshot : take 44 (drop 4096 bytes) ≡ empty_snapshot
+
+-- the first bytes of the snapshot's area
+abbrev pub snapshot_of : List ℕ → List ℕ
+snapshot_of bytes = take 44 (drop 4096 bytes)
+
+-- behind the header is the empty snapshot
+pub record IsFormatted (units image : ℕ) (bytes : List ℕ) : Type 0 where
+  pub headed : IsHeaded units image bytes
+  pub snapshot : snapshot_of bytes ≡ empty_snapshot
 
 -- each payload is its group
 abbrev pub HoldGroups : List Group → List (List ℕ) → Type 0
@@ -48,6 +60,21 @@ pub record IsImage (units image : ℕ) (log : List Group) (bytes : List ℕ) : T
   pub payloads : List (List ℕ)
   pub groups : HoldGroups log payloads
   pub frames : IsLog payloads (area_bytes (log_area units) bytes)
+
+-- the bytes are this image, its groups are these, and their events apply one after another
+pub record HoldsLog (units image : ℕ) (log : List Group) (bytes : List ℕ) : Type 0 where
+  pub is : IsImage units image log bytes
+  pub applies : IsTrue (log_applies (empty_state units image) log)
+
+-- the bytes stand for this durable state: it is what the groups of the image come to
+pub record StandsFor (state : Durable) (bytes : List ℕ) : Type 0 where
+  pub log : List Group
+  pub holds : HoldsLog state.units state.image log bytes
+  pub comes_to : state ≡ stand (empty_state state.units state.image) log
+
+-- how many bytes of the log's area the groups leave
+abbrev pub left_after : ℕ → List Group → ℕ
+left_after units log = area_len units - log_size log
 
 -- what is known of a journal: its image, and its log
 pub record JournalState : Type 0 where

@@ -1,3 +1,4 @@
 pub mod Image
-pub mod Spelling
 pub mod Format
+pub mod Bad
+pub mod Load

@@ -1,10 +1,13 @@
-// Why there is no journal.
+// Why a journal was not opened.
 
-/// Why an image was not made.
+/// Why an image was not loaded.
 #[derive(Clone, Copy, Debug, PartialEq, Eq)]
-pub enum JournalFault {
-    /// The disk has no power. What it held may be lost.
+pub enum LoadFault {
+    /// The disk has no power.
     Down,
-    /// Memory was wanted and not to be had. No call was made.
+    /// The bytes are no image of a state, for what stands at this offset: 0 for the length and the header, 4,096 for the
+    /// snapshot, or the gate of the first bad frame.
+    Bad(u64),
+    /// Memory was wanted and not to be had. Nothing was written.
     NoMemory,
 }

@@ -8,9 +8,9 @@ ghost use Rattle.ktm_journal.specs.Format.{Anything, IsHeader, IsLaid, SettledBo
 use ktm_base::{Disk, Down};
 use ktm_log::Area;
 
-const SELECTOR_AT: u64 = 2048;
+pub(crate) const SELECTOR_AT: u64 = 2048;
 
-const SNAPSHOT_AT: u64 = 4096;
+pub(crate) const SNAPSHOT_AT: u64 = 4096;
 
 fn area_len(units: u32) -> u64
     requires { units ≤ 1024 }
@@ -19,7 +19,7 @@ fn area_len(units: u32) -> u64
     8192 * u64::from(units) + 65536
 }
 
-fn image_len(units: u32) -> u64
+pub(crate) fn image_len(units: u32) -> u64
     requires { units ≤ 1024 }
     ensures { result ≡ image_len units }
 {
@@ -50,7 +50,7 @@ fn header(units: u32, image: u16) -> [u8; 18]
 
 // The length of the snapshot, and behind it no event, no boot, the next node number 2, and four empty lists.
 #[tactic(auto, unfolding(crate::specs::Image::empty_snapshot))]
-fn empty_snapshot() -> [u8; 44]
+pub(crate) fn empty_snapshot() -> [u8; 44]
     ensures { result ≡ empty_snapshot }
 {
     let mut bytes = [0; 44];
@@ -109,6 +109,8 @@ pub(crate) fn lay<D: Disk>(disk: &mut D, units: u32) -> Result<(), Down>
 
 /// Writes the header before what was laid.
 pub(crate) fn put_header<D: Disk>(disk: &mut D, units: u32, image: u16) -> Result<(), Down>
+    requires from { 16 ≤ units }
+    requires to { units ≤ 1024 }
     requires laid { IfTold (D.told disk.old) (λ s. IsLaid units s.seen) }
     requires pending { (D.status disk.old).pending ≡ 0 }
     ensures ok { OnOk result (Goes (λ old new. IsSafe new × IsLaid units new.seen × IsFormatted units image new.seen) (D.told disk.old) (D.told disk.new)) }

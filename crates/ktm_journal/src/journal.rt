@@ -1,17 +1,20 @@
 // The journal of an image, and how it grows.
-ghost use Rattle.std.specs.Prelude.{◌≡◌, ◌↔◌, ◌+◌, ◌*◌, ◌<◌, ◌≤◌, List, [], ◌∷◌, ◌++◌, length, IfOk, OnOk, IfErr, Err, false};
+ghost use Rattle.std.specs.Prelude.{◌≡◌, ◌↔◌, ℕ, ◌+◌, ◌-◌, ◌*◌, ◌<◌, ◌≤◌, List, [], ◌∷◌, ◌++◌, length, IfOk, OnOk, OnErr, IfErr, Err, false, is_err};
 ghost use Rattle.ktm_base.specs.Told.{IfTold, Tells, Goes};
-ghost use Rattle.ktm_base.specs.Disk.{DeviceCalls};
+ghost use Rattle.ktm_base.specs.Disk.{DeviceCalls, IsSafe};
 ghost use Rattle.ktm_log.specs.Fault.{IfAppendDown, append_went_down};
 ghost use Rattle.ktm_world.specs.World.{Group};
 ghost use Rattle.ktm_world.specs.EventGrammar.{IsGroupOf};
-ghost use Rattle.ktm_journal.specs.Image.{IsFormatted, JournalAt, LeavesGroupOrNot};
-ghost use Rattle.ktm_journal.specs.Format.{Anything, format_went_down};
+ghost use Rattle.ktm_journal.specs.Image.{HoldsLog, IsFormatted, IsHeaded, JournalAt, LeavesGroupOrNot, StandsFor, log_area};
+ghost use Rattle.ktm_journal.specs.Bad.{IfBad, IsBadAt, load_went_down};
+ghost use Rattle.ktm_journal.specs.Format.{Anything};
 
-use crate::JournalFault;
+use crate::LoadFault;
 use crate::image::{lay, log_area, put_header};
+use crate::load::{Header, fold, read_form};
 use ktm_base::{Disk, Down};
-use ktm_log::{AppendFault, Log};
+use ktm_log::{AppendFault, Log, LogFault};
+use ktm_world::Durable;
 use std::alloc::Global;
 use std::marker::Model;
 
@@ -34,39 +37,98 @@ impl Model for Journal {
     ghost invariant = { λ j. (j.units ≤ 1024) × (j.log.area ≡ log_area j.units) };
 }
 
+/// A journal that was loaded, and the durable state that its image stands for.
+#[derive(Drop)]
+pub struct Loaded {
+    pub journal: Journal,
+    pub state: Durable,
+}
+
 impl Journal {
-    /// Makes the disk a new image, whatever it held, and gives its journal, which has no group. Memory is taken once,
-    /// before anything is written.
-    pub fn format<D: Disk>(
-        alloc: Global,
-        disk: &mut D,
-        units: u32,
-        image: u16,
-    ) -> Result<Journal, JournalFault>
+    /// Makes the disk a new image, whatever it held. It takes no memory. A format that the power ended leaves an image that
+    /// may stand for nothing.
+    pub fn format<D: Disk>(disk: &mut D, units: u32, image: u16) -> Result<(), Down>
         requires from { 16 ≤ units }
         requires to { units ≤ 1024 }
         requires pending { (D.status disk.old).pending ≡ 0 }
-        ensures units { IfOk result (λ journal. journal.units ≡ units) }
-        ensures image { IfOk result (λ journal. journal.image ≡ image) }
-        ensures end { IfOk result (λ journal. journal.log.end ≡ 0) }
-        ensures ok { IfOk result (λ journal. Goes (λ old new. JournalAt journal [] new) (D.told disk.old) (D.told disk.new)) }
-        ensures formatted { IfOk result (λ journal. IfTold (D.told disk.new) (λ s. IsFormatted journal.units journal.image s.seen)) }
-        ensures down { result ≡ Err JournalFault.Down → Goes Anything (D.told disk.old) (D.told disk.new) }
-        ensures no_memory { result ≡ Err JournalFault.NoMemory → (D.told disk.new ≡ D.told disk.old) × (D.status disk.new ≡ D.status disk.old) }
+        ensures ok { OnOk result (Goes (λ old new. IsSafe new × HoldsLog units image [] new.seen) (D.told disk.old) (D.told disk.new)) }
+        ensures down { OnErr result (Goes Anything (D.told disk.old) (D.told disk.new)) }
         ensures pending { OnOk result ((D.status disk.new).pending ≡ 0) }
         ensures up { OnOk result ((D.status disk.new).is_down ≡ false) }
-        ensures calls { DeviceCalls (8 * units + 64) (D.status disk.old) (D.status disk.new) (format_went_down result) }
+        ensures calls { DeviceCalls (8 * units + 64) (D.status disk.old) (D.status disk.new) (is_err result) }
     {
-        let Ok(log) = Log::empty(alloc, log_area(units)) else {
-            return Err(JournalFault::NoMemory);
-        };
         if let Err(Down) = lay(disk, units) {
-            return Err(JournalFault::Down);
+            return Err(Down);
         }
         if let Err(Down) = put_header(disk, units, image) {
-            return Err(JournalFault::Down);
+            return Err(Down);
         }
-        Ok(Journal { units, image, log })
+        Ok(())
+    }
+
+    /// Reads the image of a disk, and gives its journal with the state that it stands for. It writes nothing, and takes the
+    /// memory that appends need.
+    pub fn load<D: Disk>(alloc: Global, disk: &mut D) -> Result<Loaded, LoadFault>
+        ensures units { IfOk result (λ loaded. (loaded.journal.units ≡ loaded.state.units) × (16 ≤ loaded.state.units) × (loaded.state.units ≤ 1024)) }
+        ensures image { IfOk result (λ loaded. loaded.journal.image ≡ loaded.state.image) }
+        ensures area { IfOk result (λ loaded. loaded.journal.log.area ≡ log_area loaded.state.units) }
+        ensures keys { IfOk result (λ loaded. length loaded.state.keys ≤ loaded.state.units) }
+        ensures stands { IfOk result (λ loaded. IfTold (D.told disk.old) (λ s. StandsFor loaded.state s.seen)) }
+        ensures formatted { IfOk result (λ loaded. IfTold (D.told disk.new) (λ s. IsFormatted loaded.journal.units loaded.journal.image s.seen)) }
+        ensures journal { IfOk result (λ loaded. (log : List Group) → Tells (D.told disk.old) (λ s. IsSafe s × HoldsLog loaded.state.units loaded.state.image log s.seen)
+            → Tells (D.told disk.new) (JournalAt loaded.journal log)) }
+        ensures bad { IfBad result (λ offset. IfTold (D.told disk.old) (λ s. IsBadAt s.seen offset)) }
+        ensures same { D.told disk.new ≡ D.told disk.old }
+        ensures pending { (D.status disk.new).pending ≡ (D.status disk.old).pending }
+        ensures up { OnOk result ((D.status disk.new).is_down ≡ false) }
+        ensures up_bad { IfBad result (λ offset. (D.status disk.new).is_down ≡ false) }
+        ensures calls { DeviceCalls (8 * 1024 + 64) (D.status disk.old) (D.status disk.new) (load_went_down result) }
+        ensures few { (units image : ℕ) → Tells (D.told disk.old) (λ s. IsHeaded units image s.seen) → (D.status disk.new).calls ≤ (D.status disk.old).calls + (8 * units + 64) }
+    {
+        let header = match read_form(disk) {
+            Ok(header) => header,
+            Err(fault) => return Err(fault),
+        };
+        Journal::read_log(alloc, disk, header)
+    }
+
+    // Reads the log behind this header.
+    fn read_log<D: Disk>(alloc: Global, disk: &mut D, header: Header) -> Result<Loaded, LoadFault>
+        requires most { header.units ≤ 1024 }
+        requires formatted { IfTold (D.told disk.old) (λ s. IsFormatted header.units header.image s.seen) }
+        ensures units { IfOk result (λ loaded. (loaded.journal.units ≡ header.units) × (loaded.state.units ≡ header.units)) }
+        ensures image { IfOk result (λ loaded. (loaded.journal.image ≡ header.image) × (loaded.state.image ≡ header.image)) }
+        ensures area { IfOk result (λ loaded. loaded.journal.log.area ≡ log_area header.units) }
+        ensures keys { IfOk result (λ loaded. length loaded.state.keys ≤ loaded.state.units) }
+        ensures stands { IfOk result (λ loaded. IfTold (D.told disk.old) (λ s. StandsFor loaded.state s.seen)) }
+        ensures journal { IfOk result (λ loaded. (log : List Group) → Tells (D.told disk.old) (λ s. IsSafe s × HoldsLog header.units header.image log s.seen)
+            → Tells (D.told disk.new) (JournalAt loaded.journal log)) }
+        ensures bad { IfBad result (λ offset. IfTold (D.told disk.old) (λ s. IsBadAt s.seen offset)) }
+        ensures same { D.told disk.new ≡ D.told disk.old }
+        ensures pending { (D.status disk.new).pending ≡ (D.status disk.old).pending }
+        ensures up { OnOk result ((D.status disk.new).is_down ≡ false) }
+        ensures up_bad { IfBad result (λ offset. (D.status disk.new).is_down ≡ false) }
+        ensures calls { DeviceCalls (2 * header.units + 16) (D.status disk.old) (D.status disk.new) (load_went_down result) }
+    {
+        match Log::scan(alloc, disk, log_area(header.units)) {
+            Ok(scanned) => match fold(alloc, header, scanned.payloads.as_slice()) {
+                Ok(state) => Ok(Loaded {
+                    journal: Journal {
+                        units: header.units,
+                        image: header.image,
+                        log: scanned.log,
+                    },
+                    state,
+                }),
+                Err(fault) => Err(fault),
+            },
+            Err(LogFault::Bad(offset, before)) => match fold(alloc, header, before.as_slice()) {
+                Ok(_) => Err(LoadFault::Bad(offset)),
+                Err(fault) => Err(fault),
+            },
+            Err(LogFault::Down) => Err(LoadFault::Down),
+            Err(LogFault::NoMemory) => Err(LoadFault::NoMemory),
+        }
     }
 
     /// Records a group: once it is answered no loss of power takes it. It takes no memory, and makes four device calls.
@@ -75,6 +137,8 @@ impl Journal {
         requires formatted { IfTold (D.told disk.old) (λ s. IsFormatted self.old.units self.old.image s.seen) }
         ensures units { self.new.units ≡ self.old.units }
         ensures image { self.new.image ≡ self.old.image }
+        ensures area { self.new.log.area ≡ self.old.log.area }
+        ensures end { OnOk result (self.new.log.end ≡ self.old.log.end + length group.now + 5) }
         ensures full { (result ≡ Err AppendFault.Full) ↔ (self.old.log.area.len < self.old.log.end + length group.now + 6) }
         ensures refused { IfErr result (λ fault. self.new ≡ self.old) }
         ensures unchanged { result ≡ Err AppendFault.Full → (D.told disk.new ≡ D.told disk.old) × (D.status disk.new ≡ D.status disk.old) }
@@ -92,6 +156,13 @@ impl Journal {
             return Err(AppendFault::Full);
         }
         self.log.append(disk, group)
+    }
+
+    /// How many bytes of the log are left.
+    pub fn left(&self) -> u64
+        ensures { result ≡ self.now.log.area.len - self.now.log.end }
+    {
+        self.log.spare() + 1
     }
 
     /// The size that it was made with.

@@ -3,13 +3,15 @@
 #![tactic(auto)]
 
 mod fault;
-mod group;
 mod image;
 mod journal;
 mod laws;
+mod load;
 
-pub use fault::JournalFault;
-pub use group::{write_boot, write_single};
-pub use journal::Journal;
+pub use fault::LoadFault;
+pub use journal::{Journal, Loaded};
 pub use ktm_log::AppendFault;
-pub use laws::law_of_what_is_left;
+pub use laws::{
+    law_of_bad_images, law_of_bad_places, law_of_one_log, law_of_states, law_of_what_is_free,
+    law_of_what_is_left,
+};

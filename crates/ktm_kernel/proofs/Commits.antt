@@ -1,12 +1,21 @@
--- A commit, recorded or cut off.
-use Rattle.std.proofs.Common.{◌≡◌, ℕ, Bool, true, false, ◌||◌, cond, not, eqb, List, [], ◌∷◌, ◌++◌, length, Option, Some, None, refl, sym, ◌∙◌, ap, subst}
+-- A commit, recorded, cut off, or refused by a full log.
+use Rattle.std.proofs.Common.{◌≡◌, ℕ, ◌+◌, ◌-◌, ◌^◌, ◌<◌, ◌≤◌, Bool, true, false, cond, not, eqb, List, [], ◌∷◌, ◌++◌, length, nat_lt, ◌&&◌, IfSome, Option, Some, None, Result, Ok, Err, refl, sym, ◌∙◌, ap, subst, arith, inl, inr}
+use Rattle.std.proofs.Math.Bool.{and-false}
+use Rattle.std.proofs.lemmas.Bool.{cases_lt, lt-ltb, le-ltb}
+use Rattle.std.proofs.lemmas.List.{append-nil}
+use Rattle.std.proofs.lemmas.List.Elements.{All-weaker}
+use Rattle.ktm_base.specs.declared.id.Id.{Id}
 use Rattle.ktm_base.specs.declared.id.Pid.{Pid}
 use Rattle.ktm_base.specs.declared.id.Label.{Label}
-use Rattle.ktm_base.specs.declared.refusal.Refusal.TheVariants.{MachineDown}
+use Rattle.ktm_base.specs.declared.refusal.Refusal.TheVariants.{MachineDown, LogFull}
 use Rattle.ktm_base.specs.Disk.{DiskState}
 use Rattle.ktm_base.specs.Told.{Tells}
+use Rattle.ktm_log.specs.declared.fault.AppendFault.{AppendFault}
+use Rattle.ktm_log.specs.declared.fault.AppendFault.TheVariants.{Down, Full}
 use Rattle.ktm_journal.specs.Image.{JournalState, JournalAt, LeavesGroupOrNot}
+use Rattle.ktm_event.specs.Spelling.{IsSpellableSetting, AreSpellableSettings}
 use Rattle.ktm_world.specs.declared.command.Command.TheVariants.{CommitTransaction}
+use Rattle.ktm_world.specs.declared.event.Event.{Event}
 use Rattle.ktm_world.specs.declared.event.Event.TheVariants.{Single}
 use Rattle.ktm_world.specs.declared.event.Part.TheVariants.{Settings}
 use Rattle.ktm_world.specs.declared.object.Transaction.{Transaction}
@@ -14,53 +23,171 @@ use Rattle.ktm_world.specs.declared.reply.Reply.TheVariants.{Committed, Refused}
 use Rattle.ktm_world.specs.EventGrammar.{IsGroupOf}
 use Rattle.ktm_world.specs.Keys.{OwnSettings, own_settings}
 use Rattle.ktm_world.specs.Present.{Present}
-use Rattle.ktm_world.specs.Outcome.{first_refusal, refuse_or}
-use Rattle.ktm_world.specs.Decide.{decide, named, transaction_tests, commit_transaction, commit_events}
-use Rattle.ktm_world.specs.World.{Group, apply, as_groups}
-use Rattle.ktm_kernel.specs.Done.{IsDone, IsCutOff, LeavesWithOr, fallen}
+use Rattle.ktm_world.specs.Outcome.{only_reply, first_refusal, refuse_or, is_full, within_log}
+use Rattle.ktm_world.specs.Decide.{decide, with_room, named, transaction_tests, commit_transaction, commit_events}
+use Rattle.ktm_world.specs.Sizes.{log_size}
+use Rattle.ktm_world.specs.World.{Group, apply, as_groups, IsLawfulNow, IsOfBoot}
+use Rattle.ktm_world.proofs.NowLemmas.{named-of_boot}
+use Rattle.ktm_world.proofs.OwnLemmas.{IsWithinLimits, own_settings_within_limits, few_own_settings}
+use Rattle.ktm_world.proofs.SizeLemmas.{size_law}
+use Rattle.ktm_kernel.specs.Done.{FewEvents, IsDone, IsCutOff, LeavesWithOr, fallen}
 
--- the group of a transaction that set something
-recorded : (t : Transaction) (settings : OwnSettings) → eqb (length settings) 0 ≡ false → as_groups (commit_events t.id settings) ≡ (Single t.id (Settings settings) ∷ []) ∷ []
-recorded t [] some = absurd (cc)
-recorded t (s ∷ ss) some = refl
+-- ---- what is committed has bytes
 
-module _ (x : Present) (process : Pid) (label : Label) (t : Transaction) (up : x.machine.is_up ≡ true) (is : named x process label ≡ Some t) (passed : first_refusal (transaction_tests (Some t)) ≡ None) where
-  decided : decide x process (CommitTransaction label) ≡ commit_transaction x (Some t)
-  decided =
+short_value-of : (value : Option (List ℕ)) → IfSome value (λ bytes. length bytes ≤ 960) → IfSome value (λ bytes. length bytes < 2 ^ 16)
+short_value-of None short = tt
+short_value-of (Some value) short = omega arith
+
+pub spellable : (x : Present) (id : Id) → IsLawfulNow x → x.machine.units ≤ 1024 → AreSpellableSettings (own_settings x.keys.own id)
+spellable x id now units = record {
+  few = let few = few_own_settings x id now in omega arith;
+  each = All-weaker IsWithinLimits IsSpellableSetting
+      (λ s within. record { text = within.text; short_key = omega (arith, within.short_key); short_value = short_value-of s.value within.short_value })
+      (own_settings x.keys.own id) (own_settings_within_limits x id now);
+}
+
+-- the Id of a transaction that is named
+pub named_from : (x : Present) (process : Pid) (label : Label) (t : Transaction) → IsLawfulNow x → named x process label ≡ Some t → (1 ≤ t.id.boot) × (1 ≤ t.id.number)
+named_from x process label t now is =
+    let of_boot : IsOfBoot x.machine.boot t = subst (λ (n : Option Transaction). IfSome n (IsOfBoot x.machine.boot)) is (named-of_boot x process label now) in
+    (omega (arith, of_boot.boot_is, now.boot_from), of_boot.number_from)
+
+-- ---- the group of a transaction that set something
+
+recorded : (id : Id) (settings : OwnSettings) → eqb (length settings) 0 ≡ false → commit_events id settings ≡ Single id (Settings settings) ∷ []
+recorded id [] some = absurd (cc)
+recorded id (s ∷ ss) some = refl
+
+-- it takes as many bytes as its payload has, and five for the frame
+pub size_is : (id : Id) (settings : OwnSettings) (payload : List ℕ) → eqb (length settings) 0 ≡ false → IsGroupOf (Single id (Settings settings) ∷ []) payload
+    → log_size (as_groups (commit_events id settings)) ≡ length payload + 5
+size_is id settings payload some is =
+    let long = size_law (Single id (Settings settings) ∷ []) payload is in
+    let size = ap (λ (es : List Event). log_size (as_groups es)) (recorded id settings some) in
+    omega (arith, long, size)
+
+-- what is left of the log then
+pub left_is : (x : Present) (id : Id) (settings : OwnSettings) (payload : List ℕ) (len end then left : ℕ) → settings ≡ own_settings x.keys.own id → eqb (length settings) 0 ≡ false
+    → IsGroupOf (Single id (Settings settings) ∷ []) payload → x.machine.left ≡ len - end → then ≡ end + length payload + 5 → left ≡ len - then
+    → left ≡ x.machine.left - log_size (as_groups (commit_events id (own_settings x.keys.own id)))
+left_is x id settings payload len end then left own some is before ends now =
+    let size = size_is id settings payload some is in
+    let same = ap (λ (ss : OwnSettings). log_size (as_groups (commit_events id ss))) own in
+    omega arith
+
+-- ---- whether the log has room for it
+
+ok_is_not_err : {T E : Type 0} (value : T) (fault : E) → Ok value ≡ Err fault → ⊥
+ok_is_not_err value fault e = cc
+
+pub fits_of_ok : {T : Type 0} (value : T) (len end long : ℕ) → (len < end + long + 6 → Ok value ≡ Err Full) → end + long + 6 ≤ len
+fits_of_ok value len end long full = elim (cases_lt len (end + long + 6)) [
+  | inl less ↦ absurd (ok_is_not_err value Full (full less))
+  | inr more ↦ more
+]
+
+down_is_not_full : {T : Type 0} (e : Result T AppendFault) → e ≡ Err Down → e ≡ Err Full → ⊥
+down_is_not_full e down full = cc
+
+pub fits_of_down : {T : Type 0} (e : Result T AppendFault) (len end long : ℕ) → e ≡ Err Down → (len < end + long + 6 → e ≡ Err Full) → end + long + 6 ≤ len
+fits_of_down e len end long down full = elim (cases_lt len (end + long + 6)) [
+  | inl less ↦ absurd (down_is_not_full e down (full less))
+  | inr more ↦ more
+]
+
+pub fits_left : (x : Present) (len end long : ℕ) → x.machine.left ≡ len - end → end + long + 6 ≤ len → long + 6 ≤ x.machine.left
+fits_left x len end long before fits = omega arith
+
+pub full_of : (x : Present) (len end long : ℕ) → x.machine.left ≡ len - end → len < end + long + 6 → x.machine.left < long + 6
+full_of x len end long before full = omega arith
+
+-- a machine that is up has a transaction to commit, which set something
+module _ (x : Present) (process : Pid) (label : Label) (t : Transaction) (up : x.machine.is_up ≡ true) (is : named x process label ≡ Some t) (passed : first_refusal (transaction_tests (Some t)) ≡ None)
+    (settings : OwnSettings) (own : settings ≡ own_settings x.keys.own t.id) (some : eqb (length settings) 0 ≡ false)
+    (payload : List ℕ) (group : IsGroupOf (Single t.id (Settings settings) ∷ []) payload) where
+  room : with_room x process (CommitTransaction label) ≡ commit_transaction x (Some t)
+  room =
       ap (λ u. refuse_or x (cond (not u) (Some MachineDown) (first_refusal (transaction_tests (named x process label)))) (commit_transaction x (named x process label))) up
       ∙ ap (λ (n : Option Transaction). refuse_or x (first_refusal (transaction_tests n)) (commit_transaction x n)) is
       ∙ ap (λ r. refuse_or x r (commit_transaction x (Some t))) passed
 
-  module _ (settings : OwnSettings) (own : settings ≡ own_settings x.keys.own t.id) (some : eqb (length settings) 0 ≡ false) where
-    groups : as_groups (decide x process (CommitTransaction label)).events ≡ (Single t.id (Settings settings) ∷ []) ∷ []
-    groups = ap (λ o. as_groups o.events) decided ∙ ap (λ (ss : OwnSettings). as_groups (commit_events t.id ss)) (sym own) ∙ recorded t settings some
+  events : (commit_transaction x (Some t)).events ≡ Single t.id (Settings settings) ∷ []
+  events = ap (λ (ss : OwnSettings). commit_events t.id ss) (sym own) ∙ recorded t.id settings some
 
-    pub commit_done : (j k : JournalState) (payload : List ℕ) (new : Present) (before now : Option DiskState)
-        → IsGroupOf (Single t.id (Settings settings) ∷ []) payload
+  full_is : is_full x.machine.left (commit_transaction x (Some t)).events ≡ nat_lt x.machine.left (length payload + 6)
+  full_is = ap (λ (es : List Event). is_full x.machine.left es) events ∙ ap (λ n. nat_lt x.machine.left n) (let long = size_law (Single t.id (Settings settings) ∷ []) payload group in omega (arith, long))
+
+  decided_by : (b : Bool) → nat_lt x.machine.left (length payload + 6) ≡ b
+      → decide x process (CommitTransaction label) ≡ cond b (record (only_reply x (Refused LogFull)) { stops = true }) (commit_transaction x (Some t))
+  decided_by b is_b = ap (λ o. within_log x o) room
+      ∙ ap (λ c. cond c (record (only_reply x (Refused LogFull)) { stops = true }) (commit_transaction x (Some t))) (full_is ∙ is_b)
+
+  module _ (fits : length payload + 6 ≤ x.machine.left) where
+    decided : decide x process (CommitTransaction label) ≡ commit_transaction x (Some t)
+    decided = decided_by false (le-ltb _ _ fits)
+
+    decided_events : (decide x process (CommitTransaction label)).events ≡ Single t.id (Settings settings) ∷ []
+    decided_events = ap (λ o. o.events) decided ∙ events
+
+    few : x.machine.events + 1 < 2 ^ 63 → FewEvents x process (CommitTransaction label)
+    few count = inr (let one = ap (λ (es : List Event). length es) decided_events in omega (arith, one, count))
+
+    pub commit_done : (j k : JournalState) (new : Present) (before now : Option DiskState)
+        → x.machine.events + 1 < 2 ^ 63
         → new ≡ apply x (commit_transaction x (Some t))
         → k.units ≡ j.units → k.image ≡ j.image
         → ((log : List Group) (events : Group) → IsGroupOf events payload → Tells before (JournalAt j log) → Tells now (JournalAt k (log ++ events ∷ [])))
         → IsDone (record { now = x; journal = j }) process (CommitTransaction label) Committed (record { now = new; journal = k }) before now
-    commit_done j k payload new before now group state units image added = record {
-      answered = record { says = ap (λ o. o.reply) (sym decided); state = state ∙ ap (λ o. apply x o) (sym decided) };
+    commit_done j k new before now count state units image added = record {
+      says = ap (λ o. o.reply) (sym decided);
+      state = state ∙ ap (λ o. apply x o) (sym decided);
+      few = few count;
       units = units;
       image = image;
-      log = λ log at. subst (λ (gs : List Group). Tells now (JournalAt k (log ++ gs))) (sym groups) (added log (Single t.id (Settings settings) ∷ []) group at);
+      log = λ log at. subst (λ (es : List Event). Tells now (JournalAt k (log ++ as_groups es))) (sym decided_events) (added log (Single t.id (Settings settings) ∷ []) group at);
     }
 
-    pub commit_cut : (j k : JournalState) (payload : List ℕ) (new : Present) (before now : Option DiskState)
-        → IsGroupOf (Single t.id (Settings settings) ∷ []) payload
+    pub commit_cut : (j k : JournalState) (new : Present) (before now : Option DiskState)
+        → x.machine.events + 1 < 2 ^ 63
         → new ≡ fallen x
         → k ≡ j
         → ((log : List Group) (events : Group) → IsGroupOf events payload → Tells before (JournalAt j log) → Tells now (LeavesGroupOrNot j log events))
         → IsCutOff (record { now = x; journal = j }) process (CommitTransaction label) (Refused MachineDown) (record { now = new; journal = k }) before now
-    commit_cut j k payload new before now group state same left = record {
+    commit_cut j k new before now count state same left = record {
       says = refl;
       state = state;
+      few = few count;
       journal = same;
-      log = λ log at. subst (λ (gs : List Group). Tells now (LeavesWithOr j log gs)) (sym groups) (left log (Single t.id (Settings settings) ∷ []) group at);
+      log = λ log at. subst (λ (es : List Event). Tells now (LeavesWithOr j log (as_groups es))) (sym decided_events) (left log (Single t.id (Settings settings) ∷ []) group at);
     }
 
-pub or_true : (b : Bool) → (b || true) ≡ true
-or_true true = refl
-or_true false = refl
+  module _ (full : x.machine.left < length payload + 6) where
+    stopped : decide x process (CommitTransaction label) ≡ record (only_reply x (Refused LogFull)) { stops = true }
+    stopped = decided_by true (lt-ltb _ _ full)
+
+    pub commit_full : (j k : JournalState) (new : Present) (before now : Option DiskState)
+        → new ≡ fallen x
+        → k ≡ j
+        → now ≡ before
+        → IsDone (record { now = x; journal = j }) process (CommitTransaction label) (Refused LogFull) (record { now = new; journal = k }) before now
+    commit_full j k new before now state same told = record {
+      says = ap (λ o. o.reply) (sym stopped);
+      state = state ∙ fallen_is ∙ ap (λ o. apply x o) (sym stopped);
+      few = inl (ap (λ o. o.events) stopped);
+      units = ap (λ i. i.units) same;
+      image = ap (λ i. i.image) same;
+      log = λ log at. subst (λ (es : List Event). Tells now (JournalAt k (log ++ as_groups es))) (ap (λ o. o.events) (sym stopped))
+          (subst (λ (l : List Group). Tells now (JournalAt k l)) (sym (append-nil log)) (subst (λ i. Tells now (JournalAt i log)) (sym same) (subst (λ d. Tells d (JournalAt j log)) (sym told) at)));
+    }
+      where
+        fallen_is : fallen x ≡ apply x (record (only_reply x (Refused LogFull)) { stops = true })
+        fallen_is i = record (fallen x) { machine = record (fallen x).machine { is_up = off i; events = none_more i; left = none_less i } }
+          where
+            off : false ≡ (x.machine.is_up && false)
+            off = sym (and-false x.machine.is_up)
+
+            none_more : x.machine.events ≡ x.machine.events + 0
+            none_more = omega arith
+
+            none_less : x.machine.left ≡ x.machine.left - 0
+            none_less = omega arith

@@ -1,4 +1,9 @@
 pub mod Changes
+pub mod Possible
+pub mod Decided
 pub mod Left
-pub mod Commits
 pub mod Worlds
+pub mod Ready
+pub mod Commits
+pub mod Restarts
+pub mod StartAgain

@@ -1,98 +1,155 @@
 -- From what a call did to what it is for the world that the machine stands for.
-use Rattle.std.proofs.Common.{◌≡◌, ℕ, Bool, true, false, cond, not, List, [], ◌∷◌, ◌++◌, length, Option, Some, None, Result, Ok, Err, IfOk, refl, sym, ◌∙◌, ap, subst, inl, inr}
+use Rattle.std.proofs.Common.{◌≡◌, ℕ, ◌<◌, ◌^◌, Bool, true, false, cond, not, List, ◌++◌, length, Option, Some, Result, Ok, Err, IfOk, refl, sym, ◌∙◌, ap, subst, inl, inr, arith, append_assoc}
 use Rattle.std.proofs.lemmas.List.{append-nil}
 use Rattle.std.specs.Prelude.{Contains}
 use Rattle.ktm_base.specs.declared.id.Pid.{Pid}
-use Rattle.ktm_base.specs.declared.refusal.Refusal.{Refusal}
 use Rattle.ktm_base.specs.declared.refusal.Refusal.TheVariants.{MachineDown}
 use Rattle.ktm_base.specs.Disk.{DiskState}
 use Rattle.ktm_base.specs.Told.{Tells}
 use Rattle.ktm_base.proofs.ToldSteps.{Tells-map}
-use Rattle.ktm_journal.specs.Image.{JournalState, JournalAt, IsImage}
+use Rattle.ktm_journal.specs.Image.{JournalState, JournalAt, IsImage, HoldsLog}
+use Rattle.ktm_journal.proofs.Images.{what_is_left}
 use Rattle.ktm_world.specs.declared.command.Command.{Command}
-use Rattle.ktm_world.specs.declared.command.Line.TheVariants.{Process}
+use Rattle.ktm_world.specs.declared.command.Line.TheVariants.{Crash, Process}
 use Rattle.ktm_world.specs.declared.event.Event.{Event}
 use Rattle.ktm_world.specs.declared.reply.Reply.{Reply}
-use Rattle.ktm_world.specs.declared.reply.Reply.TheVariants.{Refused}
-use Rattle.ktm_world.specs.Durable.{empty_state}
-use Rattle.ktm_world.specs.Present.{Present}
-use Rattle.ktm_world.specs.Outcome.{Outcome, first_refusal, refuse_or}
-use Rattle.ktm_world.specs.Decide.{decide, command_tests, command_effect}
-use Rattle.ktm_world.specs.World.{World, Group, Power, up, down, is_up, present, apply, after, as_groups, interrupted_world, prefixes_from}
-use Rattle.ktm_world.specs.Transcript.{answered, interrupted}
+use Rattle.ktm_world.specs.declared.reply.Reply.TheVariants.{Refused, Done}
+use Rattle.ktm_world.specs.Outcome.{Outcome, only_reply, first_refusal, refuse_or, within_log}
+use Rattle.ktm_world.specs.Decide.{decide, refusal_of, command_tests, command_effect}
+use Rattle.ktm_world.specs.Values.{IsCommand}
+use Rattle.ktm_world.specs.World.{World, Group, Power, up, down, is_up, present, apply, after, as_groups, power_after, crashed, interrupted_world, prefixes_from, possible_by, IsLawful}
+use Rattle.ktm_world.specs.Transcript.{answered, interrupted, CrashDoes}
 use Rattle.ktm_world.proofs.Worlds.{step_law, lawful_law, refusal_law}
-use Rattle.ktm_kernel.specs.Answered.{Answered}
-use Rattle.ktm_kernel.specs.Stands.{KernelState, Stands, StandsBy, KernelAt, LeavesPossible, DoesLine}
-use Rattle.ktm_kernel.specs.Done.{IsDone, IsCutOff, Ends, LeavesWithOr, fallen}
-use Rattle.ktm_kernel.proofs.Left.{log_possible, more_possible}
+use Rattle.ktm_kernel.specs.Stands.{KernelState, Began, Stands, HasFallen, StandsBy, KernelAt, LeavesPossible, DoesLine}
+use Rattle.ktm_kernel.specs.Done.{FewEvents, IsDone, IsCutOff, Ends, LeavesWithOr, fallen}
+use Rattle.ktm_kernel.proofs.Decided.{stopped_records_nothing}
+use Rattle.ktm_kernel.proofs.Left.{both_apply, log_is_possible, left_up}
+use Rattle.ktm_kernel.proofs.Possible.{log_possible, groups_possible}
 
 pub IfOk-map : {T E : Type 0} (r : Result T E) (P Q : T → Type 0) → ((x : T) → P x → Q x) → IfOk r P → IfOk r Q
 IfOk-map (Ok x) P Q f p = f x p
 IfOk-map (Err e) P Q f p = p
 
 -- what is so is that of the world, on or off
-now_is : (power : Power) (k : KernelState) (told : Option DiskState) (w : World) → StandsBy (is_up power) k told w → k.now ≡ present w
+pub now_is : (power : Power) (k : KernelState) (told : Option DiskState) (w : World) → StandsBy (is_up power) k told w → k.now ≡ present w
 now_is up k told w stands = stands.now
 now_is (down may) k told w fallen = fallen.now
 
 -- a machine that is up stands for a world that is up
-up_by : (power : Power) (k : KernelState) (told : Option DiskState) (w : World) → w.power ≡ power → StandsBy (is_up power) k told w → k.now.machine.is_up ≡ true → (w.power ≡ up) × Stands k told w
+pub up_by : (power : Power) (k : KernelState) (told : Option DiskState) (w : World) → w.power ≡ power → StandsBy (is_up power) k told w → k.now.machine.is_up ≡ true → (w.power ≡ up) × Stands k told w
 up_by up k told w is stands on = (is, stands)
 up_by (down may) k told w is fallen on = let off = sym on ∙ ap (λ x. x.machine.is_up) fallen.now ∙ ap is_up is in absurd (cc)
 
-groups_possible : (log : List Group) (events : List Event) → Contains (prefixes_from (length log) (log ++ as_groups events)) (log ++ as_groups events)
-groups_possible log [] = subst (λ (l : List Group). Contains (prefixes_from (length log) (log ++ [])) l) (sym (append-nil log)) (log_possible log [])
-groups_possible log (event ∷ events) = more_possible log (event ∷ events)
+-- what a run began with, for a journal of the same image and a world of the same run
+pub began_on : (j k : JournalState) (before : List Group) (w v : World) → k.units ≡ j.units → k.image ≡ j.image → v.base ≡ w.base → v.room ≡ w.room → Began j before w → Began k before v
+began_on j k before w v units image base room began = rw (units, image) (record { applies = began.applies; base = base ∙ began.base; room = room ∙ began.room })
 
-module _ (old new : KernelState) (process : Pid) (command : Command) (reply : Reply) (before now : Option DiskState) (w : World) (on : w.power ≡ up) (stands : Stands old before w) where
-  done_stands : IsDone old process command reply new before now → Stands new now (after w process command)
-  done_stands done = record {
-    now = done.answered.state ∙ ap (λ x. apply x (decide x process command)) stands.now ∙ sym (step_law.1 w process command);
-    lawful = lawful_law w process command stands.lawful;
-    base = stands.base ∙ ap (λ u. empty_state u old.journal.image) (sym done.units) ∙ ap (λ i. empty_state new.journal.units i) (sym done.image);
-    disk = subst (λ x. Tells now (JournalAt new.journal (w.log ++ as_groups (decide x process command).events))) stands.now (done.log w.log stands.disk);
+module _ (old new : KernelState) (process : Pid) (command : Command) (reply : Reply) (before now : Option DiskState) (w : World) (on : w.power ≡ up) (stands : Stands old before w) (is : IsCommand command) where
+  groups : List Group
+  groups = as_groups (decide (present w) process command).events
+
+  few_then : FewEvents old.now process command → (present (after w process command)).machine.events < 2 ^ 63
+  few_then few =
+      let counted = ap (λ x. x.machine.events) (step_law.1 w process command) in
+      let fewer = subst (λ x. FewEvents x process command) stands.now few in
+      elim fewer [
+        | inl none ↦ let zero : length (decide (present w) process command).events ≡ 0 = ap (λ (es : List Event). length es) none in omega (arith, counted, zero, stands.lawful.few)
+        | inr some ↦ omega (arith, counted, some)
+      ]
+
+  lawful_then : FewEvents old.now process command → IsLawful (after w process command)
+  lawful_then few = lawful_law w process command is (few_then few) stands.lawful
+
+  now_then : IsDone old process command reply new before now → new.now ≡ present (after w process command)
+  now_then done = done.state ∙ ap (λ x. apply x (decide x process command)) stands.now ∙ sym (step_law.1 w process command)
+
+  log_then : IsDone old process command reply new before now → Tells now (JournalAt new.journal ((stands.before ++ w.log) ++ groups))
+  unfolding groups
+  log_then done = subst (λ x. Tells now (JournalAt new.journal ((stands.before ++ w.log) ++ as_groups (decide x process command).events))) stands.now (done.log (stands.before ++ w.log) stands.disk)
+
+  done_up : IsDone old process command reply new before now → Stands new now (after w process command)
+  unfolding groups
+  done_up done = record {
+    now = now_then done;
+    lawful = lawful_then done.few;
+    before = stands.before;
+    began = began_on old.journal new.journal stands.before w (after w process command) done.units done.image refl refl stands.began;
+    disk = subst (λ (l : List Group). Tells now (JournalAt new.journal l)) (append_assoc stands.before w.log groups) (log_then done);
   }
+
+  done_stopped : IsDone old process command reply new before now → (decide (present w) process command).stops ≡ true → HasFallen new now (after w process command)
+  unfolding groups
+  done_stopped done stops = record {
+    now = now_then done;
+    before = stands.before;
+    began = began_on old.journal new.journal stands.before w (after w process command) done.units done.image refl refl stands.began;
+    disk = Tells-map now (JournalAt new.journal ((stands.before ++ w.log) ++ groups)) (LeavesPossible new.journal stands.before (after w process command)) (log_then done) (λ s at image left. (
+      w.log,
+      subst (λ b. Contains (possible_by (power_after b w) (after w process command).kept (after w process command).log) w.log) (sym stops) (log_is_possible w on stands.lawful.kept),
+      record {
+        is = subst (λ (l : List Group). IsImage new.journal.units new.journal.image l image) same (what_is_left new.journal ((stands.before ++ w.log) ++ groups) s image at left);
+        applies = both_apply new.journal stands.before w (began_on old.journal new.journal stands.before w w done.units done.image refl refl stands.began) w.log stands.lawful.applies;
+      },
+    ));
+  }
+    where
+      same : (stands.before ++ w.log) ++ groups ≡ stands.before ++ w.log
+      same = ap (λ (es : List Event). (stands.before ++ w.log) ++ as_groups es) (stopped_records_nothing (present w) process command stops) ∙ append-nil (stands.before ++ w.log)
+
+  done_stands : IsDone old process command reply new before now → (b : Bool) → (decide (present w) process command).stops ≡ b → StandsBy (is_up (power_after b w)) new now (after w process command)
+  done_stands done false goes_on = subst (λ power. StandsBy (is_up power) new now (after w process command)) (sym on) (done_up done)
+  done_stands done true stops = done_stopped done stops
 
   pub done_line : IsDone old process command reply new before now → DoesLine w (Some (Process process command)) reply new now
   done_line done = (
     answered,
     after w process command,
-    (done.answered.says ∙ ap (λ x. (decide x process command).reply) stands.now, refl),
-    subst (λ power. StandsBy (is_up power) new now (after w process command)) (sym on) (done_stands done),
+    (done.says ∙ ap (λ x. (decide x process command).reply) stands.now, refl),
+    done_stands done (decide (present w) process command).stops refl,
   )
 
-  left : IsCutOff old process command reply new before now → Tells now (LeavesPossible new.journal (interrupted_world w process command))
-  left cut = Tells-map now _ (LeavesPossible new.journal (interrupted_world w process command))
-      (subst (λ x. Tells now (LeavesWithOr old.journal w.log (as_groups (decide x process command).events))) stands.now (cut.log w.log stands.disk))
+  left : IsCutOff old process command reply new before now → Tells now (LeavesPossible new.journal stands.before (interrupted_world w process command))
+  unfolding groups
+  left cut = Tells-map now _ (LeavesPossible new.journal stands.before (interrupted_world w process command))
+      (subst (λ x. Tells now (LeavesWithOr old.journal (stands.before ++ w.log) (as_groups (decide x process command).events))) stands.now (cut.log (stands.before ++ w.log) stands.disk))
       (λ s either image may. elim (either image may) [
-        | inl without ↦ (w.log, kept (log_possible w.log groups), same without)
-        | inr with_it ↦ (w.log ++ groups, kept (groups_possible w.log (decide (present w) process command).events), same with_it)
+        | inl without ↦ (w.log, kept (log_possible w.log groups), same (record { is = without; applies = both_apply old.journal stands.before w stands.began w.log stands.lawful.applies }))
+        | inr with_it ↦ (
+          w.log ++ groups,
+          kept (groups_possible w.log (decide (present w) process command).events),
+          same (record {
+            is = subst (λ (l : List Group). IsImage old.journal.units old.journal.image l image) (append_assoc stands.before w.log groups) with_it;
+            applies = both_apply old.journal stands.before w stands.began (w.log ++ groups) (lawful_then cut.few).applies;
+          }),
+        )
       ])
     where
-      groups : List Group
-      groups = as_groups (decide (present w) process command).events
-
       kept : {log : List Group} → Contains (prefixes_from (length w.log) (w.log ++ groups)) log → Contains (prefixes_from w.kept (w.log ++ groups)) log
       kept {log} there = subst (λ n. Contains (prefixes_from n (w.log ++ groups)) log) (sym stands.lawful.kept) there
 
-      same : {log : List Group} {image : List ℕ} → IsImage old.journal.units old.journal.image log image → IsImage new.journal.units new.journal.image log image
-      same {log} {image} is = subst (λ j. IsImage j.units j.image log image) (sym cut.journal) is
+      same : {log : List Group} {image : List ℕ} → HoldsLog old.journal.units old.journal.image log image → HoldsLog new.journal.units new.journal.image log image
+      same {log} {image} holds = subst (λ j. HoldsLog j.units j.image log image) (sym cut.journal) holds
 
   pub cut_line : IsCutOff old process command reply new before now → DoesLine w (Some (Process process command)) reply new now
   cut_line cut = (
     interrupted,
     interrupted_world w process command,
     (ap is_up on, cut.says, refl),
-    record { now = cut.state ∙ ap fallen stands.now; base = stands.base ∙ sym (ap (λ j. empty_state j.units j.image) cut.journal); disk = left cut },
+    record {
+      now = cut.state ∙ ap fallen stands.now;
+      before = stands.before;
+      began = subst (λ j. Began j stands.before (interrupted_world w process command)) (sym cut.journal) (began_on old.journal old.journal stands.before w (interrupted_world w process command) refl refl refl refl stands.began);
+      disk = left cut;
+    },
   )
 
 -- a machine that was up
 pub ended_line : (is_down : Bool) (old new : KernelState) (process : Pid) (command : Command) (reply : Reply) (before now : Option DiskState)
-    → old.now.machine.is_up ≡ true → Ends is_down old process command reply new before now → (w : World) → KernelAt old before w → DoesLine w (Some (Process process command)) reply new now
-ended_line false old new process command reply before now on done w at =
-    let (power, stands) = up_by w.power old before w refl at on in done_line old new process command reply before now w power stands done
-ended_line true old new process command reply before now on cut w at =
-    let (power, stands) = up_by w.power old before w refl at on in cut_line old new process command reply before now w power stands cut
+    → old.now.machine.is_up ≡ true → IsCommand command → Ends is_down old process command reply new before now → (w : World) → KernelAt old before w → DoesLine w (Some (Process process command)) reply new now
+ended_line false old new process command reply before now on is done w at =
+    let (power, stands) = up_by w.power old before w refl at on in done_line old new process command reply before now w power stands is done
+ended_line true old new process command reply before now on is cut w at =
+    let (power, stands) = up_by w.power old before w refl at on in cut_line old new process command reply before now w power stands is cut
 
 -- a machine that was down
 pub down_line : (k : KernelState) (told : Option DiskState) (process : Pid) (command : Command) → k.now.machine.is_up ≡ false
@@ -100,28 +157,27 @@ pub down_line : (k : KernelState) (told : Option DiskState) (process : Pid) (com
 down_line k told process command off w at = (
   answered,
   after w process command,
-  (ap (λ r. (refuse_or (present w) r (command_effect (present w) process command)).reply) (sym tested), refl),
+  (sym (ap (λ (o : Outcome). o.reply) refused), refl),
   subst (λ v. KernelAt k told v) (sym (refusal_law w process command MachineDown tested)) at,
 )
   where
-    tested : first_refusal ((not (present w).machine.is_up, MachineDown) ∷ command_tests (present w) process command) ≡ Some MachineDown
+    tested : refusal_of (present w) process command ≡ Some MachineDown
     tested = ap (λ u. cond (not u) (Some MachineDown) (first_refusal (command_tests (present w) process command))) (ap (λ x. x.machine.is_up) (sym (now_is w.power k told w at)) ∙ off)
 
--- a command that records nothing was done in memory alone
-quiet : (x : Present) (tested : Option Refusal) (effect : Outcome) → effect.events ≡ [] → (refuse_or x tested effect).events ≡ []
-quiet x None effect none = none
-quiet x (Some refusal) effect none = refl
+    refused : decide (present w) process command ≡ only_reply (present w) (Refused MachineDown)
+    refused = ap (λ r. within_log (present w) (refuse_or (present w) r (command_effect (present w) process command))) tested
 
-pub quiet_ends : (is_down : Bool) (x y : Present) (j : JournalState) (process : Pid) (command : Command) (reply : Reply) (told : Option DiskState)
-    → is_down ≡ false → (command_effect x process command).events ≡ [] → Answered x process command reply y
-    → Ends is_down (record { now = x; journal = j }) process command reply (record { now = y; journal = j }) told told
-quiet_ends true x y j process command reply told on none done = absurd (cc)
-quiet_ends false x y j process command reply told on none done = record {
-  answered = done;
-  units = refl;
-  image = refl;
-  log = λ log at. subst (λ (gs : List Group). Tells told (JournalAt j gs)) (sym (ap (λ (es : List Event). log ++ as_groups es) nothing ∙ append-nil log)) at;
-}
-  where
-    nothing : (decide x process command).events ≡ []
-    nothing = quiet x (first_refusal ((not x.machine.is_up, MachineDown) ∷ command_tests x process command)) (command_effect x process command) none
+-- a machine whose power goes while nothing is recorded
+pub crash_line : (k : KernelState) → k.now.machine.is_up ≡ true → (told : Option DiskState) (w : World) → KernelAt k told w → DoesLine w (Some Crash) Done (record k { now = fallen k.now }) told
+crash_line k on told w at =
+    let (power, stands) = up_by w.power k told w refl at on in (
+      answered,
+      crashed w,
+      subst (λ p. CrashDoes (is_up p) w Done (crashed w)) (sym power) (refl, refl),
+      record {
+        now = ap fallen stands.now;
+        before = stands.before;
+        began = began_on k.journal k.journal stands.before w (crashed w) refl refl refl refl stands.began;
+        disk = left_up k told w power stands;
+      },
+    )

@@ -6,15 +6,15 @@ use Rattle.ktm_world.specs.declared.command.Command.{Command}
 use Rattle.ktm_world.specs.declared.reply.Reply.{Reply}
 use Rattle.ktm_world.specs.Present.{Present}
 use Rattle.ktm_base.specs.declared.refusal.Refusal.TheVariants.{InvalidParameter, NotFound}
-use Rattle.ktm_world.specs.Keys.{value_seen}
+use Rattle.ktm_world.specs.Keys.{value_seen, is_bad_key}
 use Rattle.ktm_world.specs.Outcome.{Outcome, only_reply, first_refusal, refuse_or}
-use Rattle.ktm_world.specs.Decide.{decide, is_bad_key, reply_of_value}
+use Rattle.ktm_world.specs.Decide.{with_room, reply_of_value}
 use Rattle.ktm_world.specs.World.{apply}
 
--- the reply and what is so then are those that the command has
+-- the reply and what is so then are those that the command has where the log has room
 pub record Answered (old : Present) (process : Pid) (command : Command) (reply : Reply) (new : Present) : Type 0 where
-  pub says : reply ≡ (decide old process command).reply
-  pub state : new ≡ apply old (decide old process command)
+  pub says : reply ≡ (with_room old process command).reply
+  pub state : new ≡ apply old (with_room old process command)
 
 -- what is told of a key, once it is known through what it is looked at
 abbrev pub get_through : Present → Option Id → List ℕ → Outcome

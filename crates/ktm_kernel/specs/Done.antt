@@ -1,5 +1,5 @@
 -- What a call did to the machine and to the groups on its disk, for whatever world it stands for.
-use Rattle.std.specs.Prelude.{◌≡◌, ◌⊎◌, ℕ, Bool, true, false, List, ◌++◌, Option}
+use Rattle.std.specs.Prelude.{◌≡◌, ◌⊎◌, ℕ, ◌+◌, ◌^◌, ◌<◌, Bool, true, false, List, [], ◌++◌, length, Option}
 use Rattle.ktm_base.specs.declared.id.Pid.{Pid}
 use Rattle.ktm_base.specs.declared.refusal.Refusal.TheVariants.{MachineDown}
 use Rattle.ktm_base.specs.Disk.{DiskState, MayLeave}
@@ -10,13 +10,18 @@ use Rattle.ktm_world.specs.declared.reply.Reply.{Reply}
 use Rattle.ktm_world.specs.declared.reply.Reply.TheVariants.{Refused}
 use Rattle.ktm_world.specs.Present.{Present}
 use Rattle.ktm_world.specs.Decide.{decide}
-use Rattle.ktm_world.specs.World.{Group, as_groups}
-use Rattle.ktm_kernel.specs.Answered.{Answered}
+use Rattle.ktm_world.specs.World.{Group, apply, as_groups}
 use Rattle.ktm_kernel.specs.Stands.{KernelState}
 
--- the command's group was recorded, where it has one
+-- there are fewer than 2^63 events, where it recorded any
+abbrev pub FewEvents : Present → Pid → Command → Type 0
+FewEvents x process command = (decide x process command).events ≡ [] ⊎ x.machine.events + length (decide x process command).events < 2 ^ 63
+
+-- the command was answered, and its group was recorded, where it has one
 pub record IsDone (old : KernelState) (process : Pid) (command : Command) (reply : Reply) (new : KernelState) (before now : Option DiskState) : Type 0 where
-  pub answered : Answered old.now process command reply new.now
+  pub says : reply ≡ (decide old.now process command).reply
+  pub state : new.now ≡ apply old.now (decide old.now process command)
+  pub few : FewEvents old.now process command
   pub units : new.journal.units ≡ old.journal.units
   pub image : new.journal.image ≡ old.journal.image
   pub log : (log : List Group) → Tells before (JournalAt old.journal log) → Tells now (JournalAt new.journal (log ++ as_groups (decide old.now process command).events))
@@ -33,6 +38,7 @@ LeavesWithOr j log more s = (image : List ℕ) → MayLeave s image → IsImage 
 pub record IsCutOff (old : KernelState) (process : Pid) (command : Command) (reply : Reply) (new : KernelState) (before now : Option DiskState) : Type 0 where
   pub says : reply ≡ Refused MachineDown
   pub state : new.now ≡ fallen old.now
+  pub few : FewEvents old.now process command
   pub journal : new.journal ≡ old.journal
   pub log : (log : List Group) → Tells before (JournalAt old.journal log) → Tells now (LeavesWithOr old.journal log (as_groups (decide old.now process command).events))
 

@@ -1,5 +1,5 @@
 pub mod Memory
 pub mod Answered
-pub mod Fault
 pub mod Stands
+pub mod Restarts
 pub mod Done

@@ -1,13 +1,14 @@
 -- When a machine with its disk stands for a world.
-use Rattle.std.specs.Prelude.{◌≡◌, ℕ, Bool, true, false, List, Option, Contains}
-use Rattle.ktm_base.specs.Disk.{DiskState, DiskStatus, MayLeave}
-use Rattle.ktm_base.specs.Told.{Tells, IfTold}
-use Rattle.ktm_journal.specs.Image.{JournalState, JournalAt, IsImage, IsFormatted}
+use Rattle.std.specs.Prelude.{◌≡◌, ℕ, Bool, true, false, List, ◌++◌, Option, Contains, IsTrue}
+use Rattle.ktm_base.specs.Disk.{DiskState, DiskStatus, MayLeave, IsSafe}
+use Rattle.ktm_base.specs.Power.{Restored, NotRestored}
+use Rattle.ktm_base.specs.Told.{Tells, IfTold, Goes}
+use Rattle.ktm_journal.specs.Image.{JournalState, JournalAt, HoldsLog, IsFormatted, StandsFor, left_after}
 use Rattle.ktm_world.specs.declared.command.Line.{Line}
 use Rattle.ktm_world.specs.declared.reply.Reply.{Reply}
 use Rattle.ktm_world.specs.Present.{Present}
-use Rattle.ktm_world.specs.Durable.{empty_state}
-use Rattle.ktm_world.specs.World.{World, Group, present, possible_logs, is_up, IsLawful}
+use Rattle.ktm_world.specs.Durable.{empty_state, stand, log_applies}
+use Rattle.ktm_world.specs.World.{World, Group, present, possible_logs, is_up, interrupted_restart, IsLawfulNow, IsLawful}
 use Rattle.ktm_world.specs.Transcript.{Step, Does}
 
 -- what a machine is: what is so now, and its journal
@@ -15,22 +16,30 @@ pub record KernelState : Type 0 where
   pub now : Present
   pub journal : JournalState
 
--- a machine that is up stands for the world, and its journal holds the world's log
+-- the world's run began with an image of this journal that held these groups
+pub record Began (j : JournalState) (before : List Group) (w : World) : Type 0 where
+  pub applies : IsTrue (log_applies (empty_state j.units j.image) before)
+  pub base : w.base ≡ stand (empty_state j.units j.image) before
+  pub room : w.room ≡ left_after j.units before
+
+-- a machine that is up stands for the world, and its journal holds what the run began with and the world's log
 pub record Stands (k : KernelState) (told : Option DiskState) (w : World) : Type 0 where
   pub now : k.now ≡ present w
   pub lawful : IsLawful w
-  pub base : w.base ≡ empty_state k.journal.units k.journal.image
-  pub disk : Tells told (JournalAt k.journal w.log)
+  pub before : List Group
+  pub began : Began k.journal before w
+  pub disk : Tells told (JournalAt k.journal (before ++ w.log))
 
--- each image that a loss of power may leave holds one of the possible logs
-abbrev pub LeavesPossible : JournalState → World → DiskState → Type 0
-LeavesPossible j w s = (image : List ℕ) → MayLeave s image → (log : List Group) × Contains (possible_logs w) log × IsImage j.units j.image log image
+-- each image that a loss of power may leave holds what the run began with and one of the possible logs
+abbrev pub LeavesPossible : JournalState → List Group → World → DiskState → Type 0
+LeavesPossible j before w s = (image : List ℕ) → MayLeave s image → (log : List Group) × Contains (possible_logs w) log × HoldsLog j.units j.image (before ++ log) image
 
 -- a machine that is down stands for the world
 pub record HasFallen (k : KernelState) (told : Option DiskState) (w : World) : Type 0 where
   pub now : k.now ≡ present w
-  pub base : w.base ≡ empty_state k.journal.units k.journal.image
-  pub disk : Tells told (LeavesPossible k.journal w)
+  pub before : List Group
+  pub began : Began k.journal before w
+  pub disk : Tells told (LeavesPossible k.journal before w)
 
 abbrev pub StandsBy : Bool → KernelState → Option DiskState → World → Type 0
 StandsBy true k told w = Stands k told w
@@ -45,11 +54,38 @@ abbrev pub DoesLine : World → Option Line → Reply → KernelState → Option
 DoesLine w line reply k told = (step : Step) × (new : World) × Does w line step reply new × KernelAt k told new
 
 -- while its machine is up, the disk is up too, is this machine's image, and nothing waits to be synced
-pub record IsReady (k : KernelState) (told : Option DiskState) (status : DiskStatus) : Type 0 where
+pub record IsPowered (k : KernelState) (told : Option DiskState) (status : DiskStatus) : Type 0 where
   pub power : k.now.machine.is_up ≡ true → status.is_down ≡ false
   pub settled : k.now.machine.is_up ≡ true → status.pending ≡ 0
   pub image : k.now.machine.is_up ≡ true → IfTold told (λ s. IsFormatted k.journal.units k.journal.image s.seen)
 
--- a loss of power leaves one of the possible logs
+-- and what is so now is lawful
+pub record IsReady (k : KernelState) (told : Option DiskState) (status : DiskStatus) : Type 0 where
+  pub powered : IsPowered k told status
+  pub lawful : k.now.machine.is_up ≡ true → IsLawfulNow k.now
+
+-- a machine that is down, whose disk has the power again and holds one of the possible logs, all of it safe
+pub record FoundAt (k : KernelState) (told : Option DiskState) (w : World) : Type 0 where
+  pub off : is_up w.power ≡ false
+  pub now : k.now ≡ present w
+  pub before : List Group
+  pub began : Began k.journal before w
+  pub disk : Tells told (λ s. IsSafe s × ((log : List Group) × Contains (possible_logs w) log × HoldsLog k.journal.units k.journal.image (before ++ log) s.seen))
+
+-- each image that a loss of power may leave stands for the state that one of the possible logs comes to
+abbrev pub LeavesStates : World → DiskState → Type 0
+LeavesStates w s = (image : List ℕ) → MayLeave s image → (log : List Group) × Contains (possible_logs w) log × StandsFor (stand w.base log) image
+
+-- a loss of power leaves the state of one of the possible logs
 abbrev pub LeftLaw : Type 0
-LeftLaw = (k : KernelState) (told : Option DiskState) (w : World) → KernelAt k told w → Tells told (LeavesPossible k.journal w)
+LeftLaw = (k : KernelState) (told : Option DiskState) (w : World) → KernelAt k told w → Tells told (LeavesStates w)
+
+-- what giving the power back to the disk of a machine that is down makes of it: one of the possible logs is found; or the power
+-- failed again, and what may be left is among the possible logs of the interrupted restart
+abbrev pub PowerLaw : Type 0
+PowerLaw = (k : KernelState) (old new : Option DiskState) (w : World) → is_up w.power ≡ false → KernelAt k old w
+    → (Goes Restored old new → FoundAt k new w) × (Goes NotRestored old new → KernelAt k new (interrupted_restart w))
+
+-- what was found is safe, so a loss of power leaves its state
+abbrev pub FoundLaw : Type 0
+FoundLaw = (k : KernelState) (told : Option DiskState) (w : World) → FoundAt k told w → Tells told (LeavesStates w)

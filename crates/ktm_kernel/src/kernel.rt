@@ -1,99 +1,77 @@
 // The machine over its disk.
-ghost use Rattle.std.specs.Prelude.{◌≡◌, ◌⊎◌, ◌<◌, [], ◌∷◌, true, false, Some, IfOk, OnOk, IsTrue};
+ghost use Rattle.std.specs.Prelude.{◌≡◌, ◌⊎◌, ◌+◌, true, false, Option, Some, IfOk, OnOk, OnErr};
 ghost use Rattle.ktm_base.specs.Count.{Rose};
-ghost use Rattle.ktm_base.specs.Told.{Tells, IfTold};
-ghost use Rattle.ktm_base.specs.Disk.{DeviceCalls};
+ghost use Rattle.ktm_base.specs.Disk.{DeviceCalls, DiskState};
 ghost use Rattle.ktm_base.specs.declared.refusal.Refusal.TheVariants.{MachineDown};
-ghost use Rattle.ktm_journal.specs.Image.{JournalAt, IsFormatted};
-ghost use Rattle.ktm_journal.specs.Spelling.{IsSpellableSetting, AreSpellableSettings};
-ghost use Rattle.ktm_world.specs.declared.event.Event.TheVariants.{Single};
-ghost use Rattle.ktm_world.specs.declared.event.Part.TheVariants.{Settings};
-ghost use Rattle.ktm_world.specs.EventGrammar.{IsGroupOf};
 ghost use Rattle.ktm_world.specs.declared.command.Command.TheVariants.{CommitTransaction};
-ghost use Rattle.ktm_world.specs.declared.command.Line.TheVariants.{Process};
-ghost use Rattle.ktm_world.specs.declared.reply.Reply.TheVariants.{Refused};
-ghost use Rattle.ktm_world.specs.Durable.{empty_state};
-ghost use Rattle.ktm_world.specs.World.{World, opened};
-ghost use Rattle.ktm_kernel.specs.Done.{Ends};
-ghost use Rattle.ktm_kernel.specs.Fault.{opening_went_down};
-ghost use Rattle.ktm_kernel.specs.Stands.{KernelAt, DoesLine, IsReady};
+ghost use Rattle.ktm_world.specs.declared.command.Line.TheVariants.{Crash, Process};
+ghost use Rattle.ktm_world.specs.declared.reply.Reply.TheVariants.{Refused, Done};
+ghost use Rattle.ktm_world.specs.Values.{IsCommand};
+ghost use Rattle.ktm_world.specs.World.{World};
+ghost use Rattle.ktm_kernel.specs.Done.{Ends, fallen};
+ghost use Rattle.ktm_kernel.specs.Stands.{KernelAt, DoesLine, IsPowered, IsReady};
 
 use crate::state::State;
-use ktm_base::{Bytes, Disk, Id, Label, NoMemory, Pid, Refusal};
-use ktm_journal::{AppendFault, Journal, write_boot, write_single};
-use ktm_world::{Command, Reply, Setting};
+use ktm_base::{Disk, Label, NoMemory, Pid, Refusal};
+use ktm_event::write_single;
+use ktm_journal::{AppendFault, Journal};
+use ktm_world::{Command, Reply};
 use std::alloc::Global;
 use std::marker::Model;
 
 /// The machine, while its script runs.
 #[derive(Drop)]
 pub struct Kernel {
-    alloc: Global,
-    state: State,
-    journal: Journal,
+    pub(crate) alloc: Global,
+    pub(crate) state: State,
+    pub(crate) journal: Journal,
 }
 
 impl Model for Kernel {
+    ghost use Rattle.std.specs.Prelude.{◌≡◌, ◌-◌, ◌≤◌};
     ghost use Rattle.ktm_kernel.specs.Stands.{KernelState};
 
     ghost Value = { KernelState };
 
     ghost view = { λ k. record { now = k.state.now; journal = k.journal } };
-}
 
-/// Why a machine did not start.
-#[derive(Clone, Copy, Debug, PartialEq, Eq)]
-pub enum KernelFault {
-    /// The disk has no power.
-    Down,
-    /// Memory was wanted and not to be had.
-    NoMemory,
+    ghost invariant = { λ k. (k.state.now.machine.left ≡ k.journal.log.area.len - k.journal.log.end) × (k.state.now.machine.units ≤ 1024) };
 }
 
 impl Kernel {
-    /// Starts the machine for the first time, over a journal that has no group yet.
-    pub fn open<D: Disk>(
-        alloc: Global,
-        disk: &mut D,
-        journal: Journal,
-    ) -> Result<Kernel, KernelFault>
-        requires pending { (D.status disk.old).pending < 64 }
-        requires image { IfTold (D.told disk.old) (λ s. IsFormatted journal.units journal.image s.seen) }
-        ensures stands { IfOk result (λ kernel. Tells (D.told disk.old) (JournalAt journal [])
-            → KernelAt kernel (D.told disk.new) (opened (empty_state journal.units journal.image) [])) }
-        ensures ready { IfOk result (λ kernel. IsReady kernel (D.told disk.new) (D.status disk.new)) }
-        ensures calls { DeviceCalls 4 (D.status disk.old) (D.status disk.new) (opening_went_down result) }
+    /// Is the machine up.
+    pub fn is_up(&self) -> bool
+        ensures { result ≡ self.now.now.machine.is_up }
     {
-        let Ok(group) = write_boot(alloc, 1) else {
-            return Err(KernelFault::NoMemory);
-        };
-        let mut journal = journal;
-        match journal.append(disk, group.as_slice()) {
-            Ok(()) => Ok(Kernel {
-                alloc,
-                state: State::first_boot(alloc, journal.units(), journal.image()),
-                journal,
-            }),
-            Err(AppendFault::Down) => Err(KernelFault::Down),
-            Err(AppendFault::Full) => Err(KernelFault::NoMemory),
-        }
+        self.state.is_up()
     }
 
-    /// Answers a call of a process. After MACHINE_DOWN the machine is down. Where memory is wanting the machine is not used
-    /// again; its disk holds what it held before the call.
+    /// The power is gone: the machine is down until it is started again from its disk.
+    pub fn crash(&mut self)
+        requires { self.old.now.machine.is_up ≡ true }
+        ensures fallen { self.new ≡ record self.old { now = fallen self.old.now } }
+        ensures does { (told : Option DiskState) (w : World) → KernelAt self.old told w → DoesLine w (Some Crash) Done self.new told }
+    {
+        self.state.fall();
+    }
+
+    /// Answers a call of a process. After MACHINE_DOWN and ERROR_LOG_FULL the machine is down. Where memory is wanting the
+    /// machine is not used again; its disk holds what it held before the call.
     pub fn call<D: Disk>(
         &mut self,
         disk: &mut D,
         process: Pid,
         command: Command,
     ) -> Result<Reply, NoMemory>
-        requires { IsReady self.old (D.told disk.old) (D.status disk.old) }
+        requires ready { IsReady self.old (D.told disk.old) (D.status disk.old) }
+        requires command { IsCommand command }
         ensures does { IfOk result (λ reply. (w : World) → KernelAt self.old (D.told disk.old) w
             → DoesLine w (Some (Process process command)) reply self.new (D.told disk.new)) }
         ensures cause { IfOk result (λ reply. reply ≡ Refused MachineDown
             → (self.old.now.machine.is_up ≡ false) ⊎ Rose (D.status disk.old).downs (D.status disk.new).downs) }
         ensures ready { OnOk result (IsReady self.new (D.told disk.new) (D.status disk.new)) }
         ensures calls { OnOk result (DeviceCalls 4 (D.status disk.old) (D.status disk.new) (D.status disk.new).is_down) }
+        ensures no_memory { OnErr result ((D.told disk.new ≡ D.told disk.old) × (D.status disk.new ≡ D.status disk.old)) }
     {
         if !self.state.is_up() {
             return Ok(Reply::Refused(Refusal::MachineDown));
@@ -110,9 +88,11 @@ impl Kernel {
     ) -> Result<Reply, NoMemory>
         requires up { self.old.now.machine.is_up ≡ true }
         requires ready { IsReady self.old (D.told disk.old) (D.status disk.old) }
+        requires command { IsCommand command }
         ensures ends { IfOk result (λ reply. Ends (D.status disk.new).is_down self.old process command reply self.new (D.told disk.old) (D.told disk.new)) }
-        ensures ready { OnOk result (IsReady self.new (D.told disk.new) (D.status disk.new)) }
+        ensures powered { OnOk result (IsPowered self.new (D.told disk.new) (D.status disk.new)) }
         ensures calls { OnOk result (DeviceCalls 4 (D.status disk.old) (D.status disk.new) (D.status disk.new).is_down) }
+        ensures no_memory { OnErr result ((D.told disk.new ≡ D.told disk.old) × (D.status disk.new ≡ D.status disk.old)) }
     {
         match command {
             Command::CreateTransaction { label, timeout } => {
@@ -126,7 +106,9 @@ impl Kernel {
                 key,
                 value,
             } => self.state.kv_set(process, transaction, key, value),
+            Command::KvUnset { transaction, key } => self.state.kv_unset(process, transaction, key),
             Command::KvGet { view, key } => self.state.kv_get(self.alloc, process, view, &key),
+            Command::KvList { view } => self.state.kv_list(self.alloc, process, view),
         }
     }
 
@@ -140,8 +122,9 @@ impl Kernel {
         requires up { self.old.now.machine.is_up ≡ true }
         requires ready { IsReady self.old (D.told disk.old) (D.status disk.old) }
         ensures ends { IfOk result (λ reply. Ends (D.status disk.new).is_down self.old process (CommitTransaction label) reply self.new (D.told disk.old) (D.told disk.new)) }
-        ensures ready { OnOk result (IsReady self.new (D.told disk.new) (D.status disk.new)) }
+        ensures powered { OnOk result (IsPowered self.new (D.told disk.new) (D.status disk.new)) }
         ensures calls { OnOk result (DeviceCalls 4 (D.status disk.old) (D.status disk.new) (D.status disk.new).is_down) }
+        ensures no_memory { OnErr result ((D.told disk.new ≡ D.told disk.old) × (D.status disk.new ≡ D.status disk.old)) }
     {
         let t = match self.state.committing(process, label) {
             Ok(t) => t,
@@ -150,47 +133,25 @@ impl Kernel {
         self.state.reserve(t.id)?;
         let settings = self.state.own_settings(t.id);
         if settings.is_empty() {
-            self.state.commit(t);
+            let left = self.state.left();
+            self.state.commit(t, left);
             return Ok(Reply::Committed);
         }
-        let group = single(self.alloc, t.id, settings)?;
+        let group = write_single(self.alloc, t.id, settings)?;
         match self.journal.append(disk, group.as_slice()) {
             Ok(()) => {
-                self.state.commit(t);
+                let left = self.journal.left();
+                self.state.commit(t, left);
                 Ok(Reply::Committed)
             }
             Err(AppendFault::Down) => {
                 self.state.fall();
                 Ok(Reply::Refused(Refusal::MachineDown))
             }
-            Err(AppendFault::Full) => Err(NoMemory),
+            Err(AppendFault::Full) => {
+                self.state.fall();
+                Ok(Reply::Refused(Refusal::LogFull))
+            }
         }
     }
-}
-
-// The payload of a commit. A text that is too long for its field is not among a transaction's settings.
-fn single(alloc: Global, transaction: Id, settings: &[Setting]) -> Result<Bytes, NoMemory>
-    ensures { IfOk result (λ bytes. IsGroupOf (Single transaction (Settings settings.now) ∷ []) bytes) }
-{
-    if !are_spellable(settings) {
-        return Err(NoMemory);
-    }
-    write_single(alloc, transaction, settings)
-}
-
-// Does each length fit its field.
-fn are_spellable(settings: &[Setting]) -> bool
-    ensures { IsTrue result → AreSpellableSettings settings.now }
-{
-    settings.len() <= u32::MAX as usize && settings.iter().all(is_spellable)
-}
-
-fn is_spellable(setting: &Setting) -> bool
-    ensures { IsTrue result → IsSpellableSetting setting.now }
-{
-    setting.key.len() < 256
-        && match &setting.value {
-            Some(value) => value.len() < 65536,
-            None => true,
-        }
 }

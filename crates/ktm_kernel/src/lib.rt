@@ -5,8 +5,10 @@
 mod handles;
 mod kernel;
 mod laws;
+mod restart;
 mod state;
 mod transactions;
 
-pub use kernel::{Kernel, KernelFault};
-pub use laws::law_of_what_is_left;
+pub use kernel::Kernel;
+pub use laws::{law_of_power, law_of_what_is_found, law_of_what_is_left};
+pub use restart::{RestartFault, Restarted};

@@ -1,13 +1,14 @@
 // What the machine holds in memory.
-ghost use Rattle.std.specs.Prelude.{◌≡◌, ◌||◌, ◌+◌, ◌^◌, ◌<◌, ◌≤◌, true, Some, None, [], IfOk, IfErr, OnOk, is_some, length};
-ghost use Rattle.ktm_world.specs.declared.command.Command.TheVariants.{CreateTransaction, KvSet, KvGet};
+ghost use Rattle.std.specs.Prelude.{◌≡◌, ◌||◌, ◌+◌, ◌-◌, ◌^◌, ◌<◌, ◌≤◌, true, Some, None, [], IfOk, IfErr, OnOk, is_some, length};
+ghost use Rattle.ktm_world.specs.declared.command.Command.TheVariants.{CreateTransaction, KvSet, KvUnset, KvGet, KvList};
 ghost use Rattle.ktm_world.specs.Handles.{no_handle_left};
 ghost use Rattle.ktm_world.specs.Transactions.{no_transaction_left};
 ghost use Rattle.ktm_world.specs.Outcome.{first_refusal};
 ghost use Rattle.ktm_world.specs.Keys.{own_settings};
-ghost use Rattle.ktm_world.specs.Decide.{named, transaction_tests, is_bad_key, is_bad_value, commit_transaction};
-ghost use Rattle.ktm_world.specs.Durable.{empty_state};
-ghost use Rattle.ktm_world.specs.World.{apply, present, opened};
+ghost use Rattle.ktm_world.specs.Decide.{named, transaction_tests, view_tests, viewer, commit_events, commit_transaction};
+ghost use Rattle.ktm_world.specs.Sizes.{log_size};
+ghost use Rattle.ktm_world.specs.World.{apply, as_groups};
+ghost use Rattle.ktm_kernel.specs.Memory.{fresh};
 ghost use Rattle.ktm_kernel.specs.Answered.{Answered, get_through};
 ghost use Rattle.ktm_kernel.specs.Done.{fallen};
 
@@ -16,7 +17,10 @@ use crate::transactions::{
     end_committed, is_aborted, is_active, is_committed, live_count, transaction_of,
 };
 use ktm_base::{Bytes, Id, Label, NoMemory, ObjectKind, Pid, Refusal, Text, guid};
-use ktm_world::{Handle, Object, Phase, Reply, Setting, Transaction, TransactionOutcome, View};
+use ktm_world::{
+    Durable, Handle, Object, Phase, Reply, Setting, Transaction, TransactionOutcome, View,
+    is_bad_key, is_bad_value,
+};
 use kv_rm::KvRm;
 use std::alloc::Global;
 use std::marker::Model;
@@ -27,11 +31,8 @@ const MOST_TRANSACTIONS: usize = 64;
 /// The most handles over all processes.
 const MOST_HANDLES: usize = 4096;
 
-/// The longest key, in bytes.
-const MOST_KEY_BYTES: usize = 64;
-
-/// The longest value, in bytes.
-const MOST_VALUE_BYTES: usize = 960;
+/// The most events that an image ever records.
+const MOST_EVENTS: u64 = (1 << 63) - 1;
 
 #[derive(Drop)]
 pub struct State {
@@ -40,6 +41,7 @@ pub struct State {
     boot: u32,
     is_up: bool,
     events: u64,
+    left: u64,
     clock: u64,
     last_transaction: u32,
     transactions: Vec<Transaction>,
@@ -55,7 +57,7 @@ impl Model for State {
     ghost view = { λ s. record {
       room = s.keys.room;
       now = record {
-        machine = record { units = s.units; image = s.image; boot = s.boot; is_up = s.is_up; events = s.events };
+        machine = record { units = s.units; image = s.image; boot = s.boot; is_up = s.is_up; events = s.events; left = s.left };
         transactions = record { clock = s.clock; last = s.last_transaction; items = s.transactions.items };
         keys = s.keys.keys;
         handles = s.handles.items;
@@ -97,7 +99,8 @@ impl State {
         timeout: u32,
     ) -> Result<Reply, NoMemory>
         requires { self.old.now.machine.is_up ≡ true }
-        ensures { IfOk result (λ reply. Answered self.old.now process (CreateTransaction label timeout) reply self.new.now) }
+        ensures answered { IfOk result (λ reply. Answered self.old.now process (CreateTransaction label timeout) reply self.new.now) }
+        ensures machine { self.new.now.machine ≡ self.old.now.machine }
     {
         if self.is_bound(process, label) {
             return Ok(Reply::Refused(Refusal::InvalidParameter));
@@ -142,18 +145,6 @@ fn refusal_of(t: &Transaction) -> Option<Refusal>
     None
 }
 
-fn is_bad_key(key: &Text) -> bool
-    ensures { result ≡ is_bad_key key.now }
-{
-    key.len() == 0 || key.len() > MOST_KEY_BYTES
-}
-
-fn is_bad_value(value: &Bytes) -> bool
-    ensures { result ≡ is_bad_value value.now }
-{
-    value.len() > MOST_VALUE_BYTES
-}
-
 impl State {
     /// Gives a key a value, in a transaction.
     pub fn kv_set(
@@ -164,7 +155,8 @@ impl State {
         value: Bytes,
     ) -> Result<Reply, NoMemory>
         requires { self.old.now.machine.is_up ≡ true }
-        ensures { IfOk result (λ reply. Answered self.old.now process (KvSet label key value) reply self.new.now) }
+        ensures answered { IfOk result (λ reply. Answered self.old.now process (KvSet label key value) reply self.new.now) }
+        ensures machine { self.new.now.machine ≡ self.old.now.machine }
     {
         let Some(t) = self.named(process, label) else {
             return Ok(Reply::Refused(Refusal::InvalidHandle));
@@ -185,6 +177,37 @@ impl State {
         Ok(Reply::Done)
     }
 
+    /// Takes the value of a key away, in a transaction.
+    pub fn kv_unset(&mut self, process: Pid, label: Label, key: Text) -> Result<Reply, NoMemory>
+        requires { self.old.now.machine.is_up ≡ true }
+        ensures answered { IfOk result (λ reply. Answered self.old.now process (KvUnset label key) reply self.new.now) }
+        ensures machine { self.new.now.machine ≡ self.old.now.machine }
+    {
+        let Some(t) = self.named(process, label) else {
+            return Ok(Reply::Refused(Refusal::InvalidHandle));
+        };
+        if let Some(refusal) = refusal_of(&t) {
+            return Ok(Reply::Refused(refusal));
+        }
+        if is_bad_key(&key) {
+            return Ok(Reply::Refused(Refusal::InvalidParameter));
+        }
+        if self.keys.value_seen(Some(t.id), key.as_slice()).is_none() {
+            return Ok(Reply::Refused(Refusal::NotFound));
+        }
+        if self.keys.is_held_by_other(t.id, key.as_slice()) {
+            return Ok(Reply::Refused(Refusal::TransactionalConflict));
+        }
+        if self
+            .keys
+            .is_full_of_changes_with(self.units, t.id, key.as_slice())
+        {
+            return Ok(Reply::Refused(Refusal::NotEnoughQuota));
+        }
+        self.keys.unset(t.id, key)?;
+        Ok(Reply::Done)
+    }
+
     // What is told of a key, through a transaction or the plain view.
     fn get_through(&self, alloc: Global, who: Option<Id>, key: &Text) -> Result<Reply, NoMemory>
         ensures { IfOk result (λ reply. reply ≡ (get_through self.now.now who key.now).reply) }
@@ -195,6 +218,20 @@ impl State {
         match self.keys.value_seen(who, key.as_slice()) {
             Some(value) => Ok(Reply::Contents(value.copy(alloc)?)),
             None => Ok(Reply::Refused(Refusal::NotFound)),
+        }
+    }
+
+    // Through which transaction a view looks, or why it cannot.
+    fn viewer(&self, process: Pid, view: View) -> Result<Option<Id>, Refusal>
+        ensures ok { IfOk result (λ who. (first_refusal (view_tests self.now.now process view) ≡ None) × (viewer self.now.now process view ≡ who)) }
+        ensures err { IfErr result (λ refusal. first_refusal (view_tests self.now.now process view) ≡ Some refusal) }
+    {
+        let View::Transaction(label) = view else {
+            return Ok(None);
+        };
+        match self.committing(process, label) {
+            Ok(t) => Ok(Some(t.id)),
+            Err(refusal) => Err(refusal),
         }
     }
 
@@ -209,19 +246,21 @@ impl State {
         requires { self.now.now.machine.is_up ≡ true }
         ensures { IfOk result (λ reply. Answered self.now.now process (KvGet view key.now) reply self.now.now) }
     {
-        let who = match view {
-            View::Plain => None,
-            View::Transaction(label) => {
-                let Some(t) = self.named(process, label) else {
-                    return Ok(Reply::Refused(Refusal::InvalidHandle));
-                };
-                if let Some(refusal) = refusal_of(&t) {
-                    return Ok(Reply::Refused(refusal));
-                }
-                Some(t.id)
-            }
-        };
-        self.get_through(alloc, who, key)
+        match self.viewer(process, view) {
+            Ok(who) => self.get_through(alloc, who, key),
+            Err(refusal) => Ok(Reply::Refused(refusal)),
+        }
+    }
+
+    /// Lists the keys that are seen.
+    pub fn kv_list(&self, alloc: Global, process: Pid, view: View) -> Result<Reply, NoMemory>
+        requires { self.now.now.machine.is_up ≡ true }
+        ensures { IfOk result (λ reply. Answered self.now.now process (KvList view) reply self.now.now) }
+    {
+        match self.viewer(process, view) {
+            Ok(who) => Ok(Reply::Keys(self.keys.keys_seen(alloc, who)?)),
+            Err(refusal) => Ok(Reply::Refused(refusal)),
+        }
     }
 }
 
@@ -251,23 +290,26 @@ impl State {
     pub fn reserve(&mut self, transaction: Id) -> Result<(), NoMemory>
         ensures same { self.new.now ≡ self.old.now }
         ensures room { OnOk result (length (own_settings self.old.now.keys.own transaction) ≤ self.new.room) }
-        ensures count { OnOk result (self.new.now.machine.events + 1 < 2 ^ 64) }
+        ensures count { OnOk result (self.new.now.machine.events + 1 < 2 ^ 63) }
     {
-        if self.events == u64::MAX {
+        if self.events >= MOST_EVENTS {
             return Err(NoMemory);
         }
         self.keys.reserve(transaction)
     }
 
-    /// Commits a transaction that is recorded, where it has settings. It takes no memory.
-    pub fn commit(&mut self, t: Transaction)
+    /// Commits a transaction that is recorded, where it has settings, with so many bytes of the log left then. It takes no
+    /// memory.
+    pub fn commit(&mut self, t: Transaction, left: u64)
         requires room { length (own_settings self.old.now.keys.own t.id) ≤ self.old.room }
-        requires count { self.old.now.machine.events + 1 < 2 ^ 64 }
+        requires count { self.old.now.machine.events + 1 < 2 ^ 63 }
+        requires left { left ≡ self.old.now.machine.left - log_size (as_groups (commit_events t.id (own_settings self.old.now.keys.own t.id))) }
         ensures { self.new.now ≡ apply self.old.now (commit_transaction self.old.now (Some t)) }
     {
         if !self.keys.own_settings(t.id).is_empty() {
             self.events += 1;
         }
+        self.left = left;
         end_committed(&mut self.transactions, t.id);
         self.keys.commit(t.id);
     }
@@ -285,21 +327,31 @@ impl State {
         self.is_up
     }
 
-    /// What a new image holds after its first boot.
-    pub fn first_boot(alloc: Global, units: u32, image: u16) -> Self
-        ensures { result.now ≡ present (opened (empty_state units image) []) }
+    /// How many bytes of the log are left.
+    pub fn left(&self) -> u64
+        ensures { result ≡ self.now.now.machine.left }
+    {
+        self.left
+    }
+
+    /// What the machine holds once it started from this state, and recorded that.
+    pub fn start(alloc: Global, state: Durable, left: u64) -> Self
+        requires boots { state.boots + 1 < 2 ^ 32 }
+        requires events { state.events + 1 < 2 ^ 63 }
+        ensures { result.now ≡ fresh state left }
     {
         State {
-            units,
-            image,
-            boot: 1,
+            units: state.units(),
+            image: state.image(),
+            boot: state.boots() + 1,
             is_up: true,
-            events: 1,
+            events: state.events() + 1,
+            left,
             clock: 0,
             last_transaction: 0,
             transactions: Vec::new(alloc),
             handles: Vec::new(alloc),
-            keys: KvRm::new(alloc),
+            keys: KvRm::with_store(alloc, state.into_keys()),
         }
     }
 }

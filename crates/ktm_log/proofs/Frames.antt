@@ -17,6 +17,10 @@ pub end_of-push : (ps : List (List ℕ)) (p : List ℕ) → end_of (ps ++ p ∷ 
 end_of-push [] p = omega arith
 end_of-push (q ∷ ps) p = omega (arith, end_of-push ps p)
 
+pub end_of-append : (ps qs : List (List ℕ)) → end_of (ps ++ qs) ≡ end_of ps + end_of qs
+end_of-append [] qs = omega arith
+end_of-append (p ∷ ps) qs = omega (arith, end_of-append ps qs)
+
 pub first_at : (b : List ℕ) (at : ℕ) → get_or (drop at b) 0 0 ≡ get_or b at 0
 first_at b at = get_or-drop at b 0 0 ∙ ap (λ n. get_or b n 0) (omega arith)
 
@@ -24,6 +28,13 @@ first_at b at = get_or-drop at b 0 0 ∙ ap (λ n. get_or b n 0) (omega arith)
 pub begins-push : (ps : List (List ℕ)) (p b : List ℕ) → BeginsWith ps b → IsFrame p (drop (end_of ps) b) → BeginsWith (ps ++ p ∷ []) b
 begins-push [] p b begins frame = (frame, tt)
 begins-push (q ∷ ps) p b begins frame = (begins.0, begins-push ps p (drop (length q + 5) b) begins.1 (subst (λ (l : List ℕ). IsFrame p l) (sym (drop-drop (end_of ps) (length q + 5) b)) frame))
+
+-- the frame behind others, and those
+pub begins-split : (ps rest : List (List ℕ)) (p b : List ℕ) → BeginsWith (ps ++ p ∷ rest) b → BeginsWith ps b × IsFrame p (drop (end_of ps) b)
+begins-split [] rest p b begins = (tt, begins.0)
+begins-split (q ∷ ps) rest p b begins =
+    let (front, frame) = begins-split ps rest p (drop (length q + 5) b) begins.1 in
+    ((begins.0, front), subst (λ (l : List ℕ). IsFrame p l) (drop-drop (end_of ps) (length q + 5) b) frame)
 
 -- where the contents are told
 pub frames_more : (area : Area) (ps qs : List (List ℕ)) (p : List ℕ) (at : ℕ) (o n : Option DiskState) → n ≡ o → qs ≡ ps ++ p ∷ [] → at ≡ end_of ps → IfTold o (λ s. BeginsWith ps (area_bytes area s.seen)) → IfTold n (λ s. IsFrame p (drop at (area_bytes area s.seen))) → IfTold n (λ s. BeginsWith qs (area_bytes area s.seen))

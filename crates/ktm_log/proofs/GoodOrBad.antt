@@ -1,8 +1,8 @@
 -- Which logs bytes are: one good or one bad, and not both.
-use Rattle.std.proofs.Common.{◌≡◌, ◌⊎◌, inl, inr, ℕ, ◌+◌, ◌<◌, ◌≤◌, zero, suc, List, [], ◌∷◌, length, get_or, take, drop, refl, sym, ◌∙◌, ap, subst, arith, length-take, length-drop}
+use Rattle.std.proofs.Common.{◌≡◌, ◌⊎◌, inl, inr, ℕ, ◌+◌, ◌<◌, ◌≤◌, zero, suc, List, [], ◌∷◌, ◌++◌, length, get_or, take, drop, refl, sym, ◌∙◌, ap, subst, arith, length-take, length-drop}
 use Rattle.std.proofs.lemmas.List.{drop-drop}
 use Rattle.std.proofs.lemmas.Bool.{cases_eq, cases_lt}
-use Rattle.ktm_log.specs.Log.{IsFrame, IsClosed, IsLog, IsTorn, IsBadLog, end_of, size_at}
+use Rattle.ktm_log.specs.Log.{BeginsWith, IsFrame, IsClosed, IsLog, IsTorn, IsBadLog, end_of, size_at}
 
 -- behind the first frame
 log_rest : (p : List ℕ) (ps : List (List ℕ)) (b : List ℕ) → IsLog (p ∷ ps) b → IsLog ps (drop (length p + 5) b)
@@ -18,11 +18,25 @@ bad_rest p ps b log = record {
 }
 
 -- bytes begin with one frame at most
-one_frame : (p q b : List ℕ) → IsFrame p b → IsFrame q b → p ≡ q
+pub one_frame : (p q b : List ℕ) → IsFrame p b → IsFrame q b → p ≡ q
 one_frame p q b left right = sym left.payload_is ∙ ap (λ n. take n (drop 5 b)) (sym left.size ∙ right.size) ∙ right.payload_is
 
-torn_is_no_frame : (p b : List ℕ) → IsFrame p b → IsTorn b → ⊥
+pub torn_is_no_frame : (p b : List ℕ) → IsFrame p b → IsTorn b → ⊥
 torn_is_no_frame p b frame torn = absurd (omega (arith, frame.size, frame.fits, torn.short))
+
+-- of two rows of frames that bytes begin with one goes on where the other ends, or they are the same
+pub begins_compare : (ps qs : List (List ℕ)) (b : List ℕ) → BeginsWith ps b → BeginsWith qs b
+    → ((r : List ℕ) × (rest : List (List ℕ)) × (ps ≡ qs ++ r ∷ rest)) ⊎ (ps ≡ qs) ⊎ ((r : List ℕ) × (rest : List (List ℕ)) × (qs ≡ ps ++ r ∷ rest))
+begins_compare [] [] b left right = inr (inl refl)
+begins_compare [] (q ∷ qs) b left right = inr (inr (q, qs, refl))
+begins_compare (p ∷ ps) [] b left right = inl (p, ps, refl)
+begins_compare (p ∷ ps) (q ∷ qs) b left right =
+    let first = one_frame p q b left.0 right.0 in
+    elim (begins_compare ps qs (drop (length q + 5) b) (subst (λ (x : List ℕ). BeginsWith ps (drop (length x + 5) b)) first left.1) right.1) [
+      | inl longer ↦ inl (longer.0, longer.1, ap (λ (x : List ℕ). x ∷ ps) first ∙ ap (λ (l : List (List ℕ)). q ∷ l) longer.2)
+      | inr (inl same) ↦ inr (inl (ap (λ (x : List ℕ). x ∷ ps) first ∙ ap (λ (l : List (List ℕ)). q ∷ l) same))
+      | inr (inr longer) ↦ inr (inr (longer.0, longer.1, ap (λ (x : List ℕ). x ∷ qs) (sym first) ∙ ap (λ (l : List (List ℕ)). p ∷ l) longer.2))
+    ]
 
 pub one_log : (ps qs : List (List ℕ)) (b : List ℕ) → IsLog ps b → IsLog qs b → ps ≡ qs
 one_log [] [] b left right = refl

@@ -1,12 +1,14 @@
 // Why a log was not read or not written.
+use crate::Payloads;
 
 /// Why a scan has no log.
-#[derive(Clone, Copy, Debug, PartialEq, Eq)]
+#[derive(Debug, Drop)]
 pub enum LogFault {
     /// The disk has no power.
     Down,
-    /// There is an open gate at this offset of the disk, and its frame passes the area's end.
-    Bad(u64),
+    /// There is an open gate at this offset of the disk, and its frame passes the area's end. The payloads are those of the
+    /// frames before it.
+    Bad(u64, Payloads),
     /// Memory was wanted and not to be had.
     NoMemory,
 }
@@ -18,4 +20,15 @@ pub enum AppendFault {
     Down,
     /// The area has no room for the frame and a gate behind it. No call was made.
     Full,
+}
+
+/// Why no next frame was found, and no closed gate.
+#[derive(Clone, Copy, Debug, PartialEq, Eq)]
+pub(crate) enum FrameFault {
+    /// The disk has no power.
+    Down,
+    /// The gate is open, and its frame passes the area's end.
+    Torn,
+    /// Memory was wanted and not to be had.
+    NoMemory,
 }

@@ -1,11 +1,12 @@
 // Reading an area from its begin, in pieces.
 ghost use Rattle.std.specs.Prelude.{◌≡◌, ◌+◌, ◌^◌, ◌<◌, ◌≤◌, length, drop, OnOk, IfOk, is_err, vec_capacity, false};
 ghost use Rattle.ktm_base.specs.Told.{IfTold};
-ghost use Rattle.ktm_log.specs.Fault.{IfBad, scan_went_down};
+ghost use Rattle.ktm_log.specs.Fault.{IfTorn, frame_went_down};
 ghost use Rattle.ktm_log.specs.Log.{area_bytes, size_at, IsTorn};
 ghost use Rattle.ktm_log.specs.Load.{Holds, Loads, Finds};
 
-use crate::{Area, LogFault};
+use crate::Area;
+use crate::fault::FrameFault;
 use ktm_base::{Bytes, Disk, Down};
 use std::alloc::Global;
 
@@ -68,7 +69,7 @@ pub(crate) fn next_frame<D: Disk>(
     area: Area,
     read: &mut Vec<u8>,
     at: u64,
-) -> Result<Option<Bytes>, LogFault>
+) -> Result<Option<Bytes>, FrameFault>
     requires small { area.at + area.len < 2 ^ 63 }
     requires room { area.len ≤ vec_capacity read.old }
     requires inside { at < area.len }
@@ -76,34 +77,34 @@ pub(crate) fn next_frame<D: Disk>(
     ensures same { D.told disk.new ≡ D.told disk.old }
     ensures room { area.len ≤ vec_capacity read.new }
     ensures holds { OnOk result (Holds area (D.told disk.new) (D.status disk.new).is_down read.new.items) }
-    ensures loads { Loads area (length read.old.items) (length read.new.items) (D.status disk.old) (D.status disk.new) (scan_went_down result) }
+    ensures loads { Loads area (length read.old.items) (length read.new.items) (D.status disk.old) (D.status disk.new) (frame_went_down result) }
     ensures up { OnOk result ((D.status disk.new).is_down ≡ false) }
     ensures found { IfOk result (λ found. Finds area (D.told disk.new) at found) }
-    ensures bad { IfBad result (λ offset. (offset ≡ area.at + at) × ((D.status disk.new).is_down ≡ false) × IfTold (D.told disk.new) (λ s. IsTorn (drop at (area_bytes area s.seen)))) }
+    ensures torn { IfTorn result (IfTold (D.told disk.new) (λ s. IsTorn (drop at (area_bytes area s.seen)))) }
+    ensures up_torn { IfTorn result ((D.status disk.new).is_down ≡ false) }
 {
-    let offset = area.at + at;
     if let Err(Down) = load(disk, area, read, at + 1) {
-        return Err(LogFault::Down);
+        return Err(FrameFault::Down);
     }
     if read[at as usize] != 1 {
         return Ok(None);
     }
     if area.len - at < 6 {
-        return Err(LogFault::Bad(offset));
+        return Err(FrameFault::Torn);
     }
     if let Err(Down) = load(disk, area, read, at + 5) {
-        return Err(LogFault::Down);
+        return Err(FrameFault::Down);
     }
     let size = u64::from(payload_size(&read[at as usize..]));
     if area.len - at < size + 6 {
-        return Err(LogFault::Bad(offset));
+        return Err(FrameFault::Torn);
     }
     if let Err(Down) = load(disk, area, read, at + size + 6) {
-        return Err(LogFault::Down);
+        return Err(FrameFault::Down);
     }
     let start = at as usize + 5;
     let Ok(payload) = read[start..start + size as usize].to_vec(alloc) else {
-        return Err(LogFault::NoMemory);
+        return Err(FrameFault::NoMemory);
     };
     Ok(Some(Bytes::new(payload)))
 }

@@ -6,10 +6,11 @@ ghost use Rattle.ktm_log.specs.Fault.{IfBad, IfAppendDown, scan_went_down, appen
 ghost use Rattle.ktm_log.specs.Log.{LogState, IsLog, IsBadLog, Rests, LeavesEither, SameElsewhere, area_bytes, end_of};
 ghost use Rattle.ktm_log.specs.Settle.{behind_gate};
 
+use crate::fault::FrameFault;
 use crate::load::next_frame;
 use crate::settle::settle;
 use crate::{AppendFault, Area, LogFault, Payloads};
-use ktm_base::{Disk, Down, NoMemory};
+use ktm_base::{Disk, Down};
 use std::alloc::Global;
 use std::marker::Model;
 
@@ -52,19 +53,6 @@ fn fill(buffer: &mut Vec<u8>, payload: &[u8])
 }
 
 impl Log {
-    /// The log of an area whose first gate is closed. It takes memory for the area's length, so that no append takes any.
-    pub fn empty(alloc: Global, area: Area) -> Result<Log, NoMemory>
-        requires there { 0 < area.len }
-        requires small { area.at + area.len < 2 ^ 63 }
-        ensures { IfOk result (λ log. log ≡ record { area = area; end = 0 }) }
-    {
-        Ok(Log {
-            area,
-            end: 0,
-            buffer: Vec::with_capacity(alloc, area.len as usize)?,
-        })
-    }
-
     /// Reads a log from its begin, no further than it needs to find the closed gate. It takes memory for the payloads,
     /// and for the area's length once: no append takes any.
     pub fn scan<D: Disk>(alloc: Global, disk: &mut D, area: Area) -> Result<Scanned, LogFault>
@@ -73,14 +61,16 @@ impl Log {
         requires within { IfTold (D.told disk.old) (λ s. area.at + area.len ≤ length s.seen) }
         ensures area { IfOk result (λ scanned. scanned.log.area ≡ area) }
         ensures end { IfOk result (λ scanned. scanned.log.end ≡ end_of scanned.payloads) }
+        ensures inside { IfOk result (λ scanned. end_of scanned.payloads < area.len) }
         ensures log { IfOk result (λ scanned. IfTold (D.told disk.old) (λ s. IsLog scanned.payloads (area_bytes area s.seen))) }
         ensures stands { IfOk result (λ scanned. Tells (D.told disk.old) IsSafe
             → Tells (D.told disk.new) (Rests area scanned.payloads scanned.log.end)) }
-        ensures bad { IfBad result (λ offset. IfTold (D.told disk.old) (λ s. (ps : List (List ℕ)) × IsBadLog ps (area_bytes area s.seen) × (offset ≡ area.at + end_of ps))) }
+        ensures bad { IfBad result (λ offset before. (offset ≡ area.at + end_of before) × IfTold (D.told disk.old) (λ s. IsBadLog before (area_bytes area s.seen))) }
+        ensures inside_bad { IfBad result (λ offset before. end_of before < area.len) }
         ensures same { D.told disk.new ≡ D.told disk.old }
         ensures pending { (D.status disk.new).pending ≡ (D.status disk.old).pending }
         ensures up { OnOk result ((D.status disk.new).is_down ≡ false) }
-        ensures up_bad { IfBad result (λ offset. (D.status disk.new).is_down ≡ false) }
+        ensures up_bad { IfBad result (λ offset before. (D.status disk.new).is_down ≡ false) }
         ensures calls { DeviceCalls ((area.len + 4095) / 4096) (D.status disk.old) (D.status disk.new) (scan_went_down result) }
     {
         let Ok(mut buffer) = Vec::with_capacity(alloc, area.len as usize) else {
@@ -88,16 +78,27 @@ impl Log {
         };
         let mut payloads = Vec::new(alloc);
         let mut end = 0;
-        while let Some(payload) = next_frame(alloc, disk, area, &mut buffer, end)? {
-            end += payload.len() as u64 + 5;
-            let Ok(()) = payloads.push(payload) else {
-                return Err(LogFault::NoMemory);
-            };
+        loop {
+            match next_frame(alloc, disk, area, &mut buffer, end) {
+                Ok(Some(payload)) => {
+                    end += payload.len() as u64 + 5;
+                    let Ok(()) = payloads.push(payload) else {
+                        return Err(LogFault::NoMemory);
+                    };
+                }
+                Ok(None) => {
+                    return Ok(Scanned {
+                        log: Log { area, end, buffer },
+                        payloads: Payloads::new(payloads),
+                    });
+                }
+                Err(FrameFault::Down) => return Err(LogFault::Down),
+                Err(FrameFault::Torn) => {
+                    return Err(LogFault::Bad(area.at + end, Payloads::new(payloads)));
+                }
+                Err(FrameFault::NoMemory) => return Err(LogFault::NoMemory),
+            }
         }
-        Ok(Scanned {
-            log: Log { area, end, buffer },
-            payloads: Payloads::new(payloads),
-        })
     }
 
     /// Adds a frame. It takes no memory, and makes four device calls: the body with a closed gate behind it is

@@ -1,10 +1,10 @@
 -- How replies are spelled.
-use Rattle.std.specs.Prelude.{ℕ, List, ◌++◌, codes}
+use Rattle.std.specs.Prelude.{ℕ, List, ◌++◌, codes, decimal, flat_map}
 use Rattle.ktm_base.specs.declared.refusal.Refusal.{Refusal}
 use Rattle.ktm_base.specs.declared.refusal.Refusal.TheVariants.{BadLine, MachineDown, MachineUp, InvalidHandle, HandleNoLongerValid, TransactionAlreadyCommitted, TransactionAlreadyAborted, TransactionNotActive, EnlistmentNotSuperior, TransactionRequestNotValid, InvalidParameter, InvalidName, TransactionNotFound, ResourceManagerNotFound, EnlistmentNotFound, NotFound, PathNotFound, FileNotFound, FileExists, AlreadyExists, TransactionSuperiorExists, AccessDenied, Directory, DirNotEmpty, TransactionalConflict, SharingViolation, WaitTimeout, NotEnoughQuota, DiskFull, LogFull}
 use Rattle.ktm_codec.specs.Hex.{hex_or_dash}
 use Rattle.ktm_world.specs.declared.reply.Reply.{Reply}
-use Rattle.ktm_world.specs.declared.reply.Reply.TheVariants.{Refused, Done, Guid, Committed, Pending, Contents}
+use Rattle.ktm_world.specs.declared.reply.Reply.TheVariants.{Refused, Done, Guid, Committed, Pending, Contents, Keys, Restarted, BadImage}
 use Rattle.uuid.specs.Text.{hyphenated_text, lower}
 
 -- a refusal's name
@@ -40,6 +40,10 @@ refusal_name NotEnoughQuota = codes "ERROR_NOT_ENOUGH_QUOTA"
 refusal_name DiskFull = codes "ERROR_DISK_FULL"
 refusal_name LogFull = codes "ERROR_LOG_FULL"
 
+-- a key between quotation marks, behind a space
+abbrev pub key_spelling : List ℕ → List ℕ
+key_spelling key = codes " \"" ++ key ++ codes "\""
+
 -- the one spelling of a reply, without a newline
 abbrev pub reply_spelling : Reply → List ℕ
 reply_spelling (Refused refusal) = refusal_name refusal
@@ -48,3 +52,6 @@ reply_spelling (Guid guid) = codes "ok " ++ hyphenated_text lower guid
 reply_spelling Committed = codes "ok committed"
 reply_spelling Pending = codes "ok pending"
 reply_spelling (Contents bytes) = codes "ok " ++ hex_or_dash bytes
+reply_spelling (Keys keys) = codes "ok" ++ flat_map key_spelling keys
+reply_spelling (Restarted events in_doubt) = codes "restarted events=" ++ decimal events ++ codes " indoubt=" ++ decimal in_doubt
+reply_spelling (BadImage offset) = codes "BAD_IMAGE " ++ decimal offset

@@ -1,10 +1,10 @@
 // Replies as lines.
-ghost use Rattle.std.specs.Prelude.{◌≡◌, ◌++◌, IfOk, OnOk};
-ghost use Rattle.ktm_reply.specs.Spelling.{refusal_name, reply_spelling};
+ghost use Rattle.std.specs.Prelude.{◌≡◌, ◌++◌, IfOk, OnOk, decimal, flat_map};
+ghost use Rattle.ktm_reply.specs.Spelling.{key_spelling, refusal_name, reply_spelling};
 ghost use Rattle.uuid.specs.Text.{hyphenated_text, lower};
 
-use ktm_base::{Bytes, NoMemory, Refusal};
-use ktm_codec::put_hex_or_dash;
+use ktm_base::{Bytes, NoMemory, Refusal, Text};
+use ktm_codec::{put_hex_or_dash, put_number};
 use ktm_world::Reply;
 use std::alloc::Global;
 use uuid::Uuid;
@@ -55,6 +55,17 @@ fn put_guid(out: &mut Vec<u8>, guid: &Uuid) -> Result<(), NoMemory>
     Ok(out.extend_from_slice(text.as_bytes())?)
 }
 
+fn put_keys(out: &mut Vec<u8>, keys: &[Text]) -> Result<(), NoMemory>
+    ensures { OnOk result (out.new.items ≡ out.old.items ++ flat_map key_spelling keys.now) }
+{
+    for key in keys {
+        out.extend_from_slice(b" \"")?;
+        out.extend_from_slice(key.as_slice())?;
+        out.extend_from_slice(b"\"")?;
+    }
+    Ok(())
+}
+
 /// The line that a reply is, without a newline.
 pub fn write_reply(alloc: Global, reply: &Reply) -> Result<Bytes, NoMemory>
     ensures { IfOk result (λ line. line ≡ reply_spelling reply.now) }
@@ -73,6 +84,20 @@ pub fn write_reply(alloc: Global, reply: &Reply) -> Result<Bytes, NoMemory>
             line.extend_from_slice(b"ok ")?;
             put_hex_or_dash(&mut line, bytes.as_slice())?;
         }
+        Reply::Keys(keys) => {
+            line.extend_from_slice(b"ok")?;
+            put_keys(&mut line, keys.as_slice())?;
+        }
+        Reply::Restarted { events, in_doubt } => {
+            line.extend_from_slice(b"restarted events=")?;
+            put_number(&mut line, *events)?;
+            line.extend_from_slice(b" indoubt=")?;
+            put_number(&mut line, u64::from(*in_doubt))?;
+        }
+        Reply::BadImage(offset) => {
+            line.extend_from_slice(b"BAD_IMAGE ")?;
+            put_number(&mut line, *offset)?;
+        }
     }
     Ok(Bytes::new(line))
 }
@@ -80,7 +105,16 @@ pub fn write_reply(alloc: Global, reply: &Reply) -> Result<Bytes, NoMemory>
 #[cfg(test)]
 mod tests {
     use super::*;
+    use ktm_base::TextList;
     use std::test::Fail;
+
+    fn keys(alloc: Global, keys: &[&str]) -> Result<Reply, NoMemory> {
+        let mut texts = Vec::new(alloc);
+        for key in keys {
+            texts.push(Text::new(key.as_bytes().to_vec(alloc)?))?;
+        }
+        Ok(Reply::Keys(TextList::new(texts)))
+    }
 
     #[test]
     fn spellings(rt: HostRuntime) -> Result<(), Fail> {
@@ -102,6 +136,25 @@ mod tests {
             (Reply::Pending, "ok pending"),
             (Reply::Contents(contents), "ok 000aff"),
             (Reply::Contents(Bytes::new(Vec::new(alloc))), "ok -"),
+            (keys(alloc, &[])?, "ok"),
+            (keys(alloc, &["~"])?, "ok \"~\""),
+            (keys(alloc, &["", "a b", "k"])?, "ok \"\" \"a b\" \"k\""),
+            (
+                Reply::Restarted {
+                    events: 0,
+                    in_doubt: 4_294_967_295,
+                },
+                "restarted events=0 indoubt=4294967295",
+            ),
+            (
+                Reply::Restarted {
+                    events: u64::MAX,
+                    in_doubt: 0,
+                },
+                "restarted events=18446744073709551615 indoubt=0",
+            ),
+            (Reply::BadImage(0), "BAD_IMAGE 0"),
+            (Reply::BadImage(4096), "BAD_IMAGE 4096"),
         ] {
             let written = write_reply(alloc, &reply)?;
             assert_eq!(rt; written.as_slice(), line.as_bytes(), "{line}");

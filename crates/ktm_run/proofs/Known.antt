@@ -2,7 +2,7 @@
 use Rattle.std.proofs.Common.{◌≡◌, ℕ, ◌+◌, ◌-◌, ◌<◌, ◌≤◌, List, [], ◌++◌, length, take, drop, Option, None, Some, refl, sym, ◌∙◌, ap, subst, append_assoc, arith, length-append}
 use Rattle.std.proofs.lemmas.List.{append-nil, take_rest}
 use Rattle.std.proofs.Math.Seq.{take-add}
-use Rattle.std.specs.Io.KnownBytes.{Appends, Consumes}
+use Rattle.std.specs.Io.KnownBytes.{Appends, Consumes, Keeps}
 use Rattle.ktm_base.specs.Count.{Rose}
 use Rattle.ktm_base.specs.Told.{IfTold}
 
@@ -15,6 +15,18 @@ Appends-trans None b c xs ys h k = tt
 Appends-trans (Some a) None c xs ys h k = absurd h
 Appends-trans (Some a) (Some b) None xs ys h k = absurd k
 Appends-trans (Some a) (Some b) (Some c) xs ys h k = k ∙ ap (λ (l : List ℕ). l ++ ys) h ∙ append_assoc a xs ys
+
+pub Appends-kept : (a b c : Option (List ℕ)) (xs : List ℕ) → Appends a b xs → Keeps b c → Appends a c xs
+Appends-kept None b c xs h k = tt
+Appends-kept (Some a) None c xs h k = absurd h
+Appends-kept (Some a) (Some b) None xs h k = absurd k
+Appends-kept (Some a) (Some b) (Some c) xs h k = k ∙ h
+
+pub Consumes-kept : (a b c : Option (List ℕ)) (xs : List ℕ) → Consumes a b xs → Keeps b c → Consumes a c xs
+Consumes-kept None b c xs h k = tt
+Consumes-kept (Some a) None c xs h k = absurd h
+Consumes-kept (Some a) (Some b) None xs h k = absurd k
+Consumes-kept (Some a) (Some b) (Some c) xs h k = h ∙ ap (λ (l : List ℕ). xs ++ l) (sym k)
 
 -- the next n bytes behind the first i
 pub Appends-more : (a b c : Option (List ℕ)) (xs : List ℕ) (i n : ℕ) → Appends a b (take i xs) → Appends b c (take n (take (length xs - i) (drop i xs))) → Appends a c (take (i + n) xs)

@@ -1,3 +1,8 @@
 pub mod Known
 pub mod Lines
-pub mod Theorem
+pub mod Counting
+pub mod Runs
+pub mod Breaks
+pub mod Answering
+pub mod Openings
+pub mod Theorems

@@ -1,5 +1,5 @@
 -- The words of the program, and what it says to others.
-use Rattle.std.specs.Prelude.{ℕ, Bool, false, List, [], ◌∷◌, ◌++◌, codes}
+use Rattle.std.specs.Prelude.{ℕ, Bool, false, List, [], ◌∷◌, ◌++◌, codes, decimal}
 use Rattle.std.specs.Str.{bytes_eq}
 
 -- run IMAGE SCRIPT
@@ -14,6 +14,6 @@ is_run (form ∷ image ∷ script ∷ more ∷ words) = false
 abbrev pub usage_line : List ℕ
 usage_line = codes "usage: ktm run IMAGE SCRIPT | format IMAGE UNITS | dump IMAGE | gen IMAGE NUMBER LINES" ++ 10 ∷ []
 
--- what is said where the image cannot be opened
-abbrev pub bad_image_line : List ℕ
-bad_image_line = codes "bad image at 0" ++ 10 ∷ []
+-- what is said where the image cannot be opened, for what stands at this offset
+abbrev pub bad_image_line : ℕ → List ℕ
+bad_image_line offset = codes "bad image at " ++ decimal offset ++ 10 ∷ []

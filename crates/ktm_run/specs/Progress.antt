@@ -1,34 +1,91 @@
 -- What lines made of the machine, its disk and the sink.
-use Rattle.std.specs.Prelude.{ℕ, ◌≤◌, List, [], ◌∷◌, Option}
+use Rattle.std.specs.Prelude.{◌≡◌, ◌⊎◌, ℕ, ◌+◌, ◌*◌, ◌≤◌, false, List, [], ◌∷◌, ◌++◌, length, Option, Some}
 use Rattle.std.specs.List.{filter}
 use Rattle.std.specs.Io.KnownBytes.{Appends}
-use Rattle.ktm_base.specs.Count.{Rose}
-use Rattle.ktm_base.specs.Disk.{DiskState}
-use Rattle.ktm_kernel.specs.Stands.{KernelState, KernelAt}
-use Rattle.ktm_run.specs.Script.{has_reply, MeanAll, written_replies}
+use Rattle.ktm_base.specs.declared.power.PowerCall.{PowerCall}
+use Rattle.ktm_base.specs.declared.power.PowerCall.TheVariants.{Power}
+use Rattle.ktm_base.specs.Disk.{DiskState, DiskStatus}
+use Rattle.ktm_base.specs.Told.{Tells}
+use Rattle.ktm_kernel.specs.Stands.{KernelState, KernelAt, LeavesStates}
+use Rattle.ktm_run.specs.Plan.{plan_of, plans, falls_of, falls, RoseBy, most_calls}
+use Rattle.ktm_run.specs.Script.{has_reply, Means, MeanAll, AppendsPart, reply_line, written_replies}
 use Rattle.ktm_world.specs.declared.command.Line.{Line}
+use Rattle.ktm_world.specs.declared.command.Line.TheVariants.{Restart}
 use Rattle.ktm_world.specs.declared.reply.Reply.{Reply}
-use Rattle.ktm_world.specs.Transcript.{Step, answered, interrupted, Transcript}
-use Rattle.ktm_world.specs.World.{World}
+use Rattle.ktm_world.specs.Transcript.{Step, Does, Transcript}
+use Rattle.ktm_world.specs.World.{World, is_up}
 
--- the machine, what its disk tells, what the sink took, and how often the disk went down
-pub record Now : Type 0 where
+-- the machine, and what its disk tells and counts
+pub record Scene : Type 0 where
   pub machine : KernelState
   pub disk : Option DiskState
+  pub status : DiskStatus
+
+-- and what the sink took
+pub record Now : Type 0 where
+  pub scene : Scene
   pub taken : Option (List ℕ)
-  pub downs : ℕ
 
--- between two counts of how often the disk went down, it did so for a step that was interrupted
-abbrev pub HaveCause : ℕ → ℕ → List Step → Type 0
-HaveCause before now [] = Unit {0}
-HaveCause before now (answered ∷ steps) = HaveCause before now steps
-HaveCause before now (interrupted ∷ steps) = Rose before now
+-- between two scenes of a world's run, so many lines were executed that had this plan and took the disk down so often
+pub record Counts (w : World) (old new : Scene) (lines : ℕ) (plan : List PowerCall) (fell : ℕ) : Type 0 where
+  pub rose : RoseBy fell old.status.downs new.status.downs
+  pub plan_is : new.status.plan ≡ old.status.plan ++ plan
+  pub few : new.status.calls ≤ old.status.calls + lines * most_calls w.base.units
 
--- for every world before them, the lines come by a transcript to a world after them, its replies were written, and none of
--- its steps was interrupted but where the disk went down
-pub record Progress (old new : Now) (lines : List (List ℕ)) : Type 0 where
-  pub later : old.downs ≤ new.downs
-  pub runs : (w : World) → KernelAt old.machine old.disk w →
-      (meant : List (Option Line)) × (steps : List Step) × (replies : List Reply) × (v : World)
-      × MeanAll (filter has_reply lines) meant × Transcript w meant steps replies v
-      × Appends old.taken new.taken (written_replies replies) × KernelAt new.machine new.disk v × HaveCause old.downs new.downs steps
+-- a line came to this reply, by a step to a world for which the machine then stands
+pub record Did (w : World) (old new : Scene) (line : Option Line) (reply : Reply) : Type 0 where
+  pub step : Step
+  pub world : World
+  pub does : Does w line step reply world
+  pub stands : KernelAt new.machine new.disk world
+  pub counts : Counts w old new 1 (plan_of line reply) (falls_of line step reply)
+
+-- for every world that the machine stands for
+abbrev pub Answers : Scene → Scene → Option Line → Reply → Type 0
+Answers old new line reply = (w : World) → KernelAt old.machine old.disk w → Did w old new line reply
+
+-- a line was not executed, or it was a restart that found no memory: what may be left is of the same world
+pub record Unanswered (w : World) (old new : Scene) (line : List ℕ) : Type 0 where
+  pub leaves : Tells new.disk (LeavesStates w)
+  pub counts : Counts w old new 1 [] 0 ⊎ ((pick : ℕ) × Means line (Some (Restart pick)) × (is_up w.power ≡ false) × Counts w old new 1 (Power pick ∷ []) 0)
+
+-- the lines came by a transcript to a world for which the machine then stands, and their replies were written
+pub record Ran (w : World) (old new : Now) (lines : List (List ℕ)) : Type 0 where
+  pub meant : List (Option Line)
+  pub steps : List Step
+  pub replies : List Reply
+  pub world : World
+  pub mean : MeanAll (filter has_reply lines) meant
+  pub run : Transcript w meant steps replies world
+  pub wrote : Appends old.taken new.taken (written_replies replies)
+  pub stands : KernelAt new.scene.machine new.scene.disk world
+  pub counts : Counts w old.scene new.scene (length meant) (plans meant replies) (falls meant steps replies)
+
+abbrev pub Progress : Now → Now → List (List ℕ) → Type 0
+Progress old new lines = (w : World) → KernelAt old.scene.machine old.scene.disk w → Ran w old new lines
+
+-- a line was answered, and a part of its reply was written
+pub record HalfWritten (w : World) (old new : Now) (line : List ℕ) : Type 0 where
+  pub meant : Option Line
+  pub mean : Means line meant
+  pub reply : Reply
+  pub did : Did w old.scene new.scene meant reply
+  pub wrote : AppendsPart old.taken new.taken (reply_line reply)
+  pub leaves : Tells new.scene.disk (LeavesStates did.world)
+
+-- a line at which a run ended early
+abbrev pub Broke : World → Now → Now → List ℕ → Type 0
+Broke w old new line = (Appends old.taken new.taken [] × Unanswered w old.scene new.scene line) ⊎ HalfWritten w old new line
+
+-- of these lines the first ones were answered, and at the next one the run ended
+pub record Stopped (w : World) (old new : Now) (lines : List (List ℕ)) : Type 0 where
+  pub before : List (List ℕ)
+  pub line : List ℕ
+  pub behind : List (List ℕ)
+  pub split : lines ≡ before ++ line ∷ behind
+  pub at : Now
+  pub ran : Ran w old at before
+  pub broke : Broke ran.world at new line
+
+abbrev pub Stops : Now → Now → List (List ℕ) → Type 0
+Stops old new lines = (w : World) → KernelAt old.scene.machine old.scene.disk w → Stopped w old new lines

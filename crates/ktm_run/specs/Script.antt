@@ -1,13 +1,11 @@
 -- The lines of a script, what they mean, and how replies are written.
-use Rattle.std.specs.Prelude.{◌≡◌, ℕ, ◌+◌, ◌==◌, Bool, false, not, List, [], ◌∷◌, ◌++◌, Option, Some, None, IsTrue, take, if◌then◌else◌}
+use Rattle.std.specs.Prelude.{◌≡◌, ℕ, ◌+◌, ◌==◌, Bool, false, not, List, [], ◌∷◌, ◌++◌, Option, Some, None, take, if◌then◌else◌}
 use Rattle.std.specs.List.{filter, flat_map}
+use Rattle.std.specs.Io.KnownBytes.{Appends}
 use Rattle.ktm_reply.specs.Spelling.{reply_spelling}
-use Rattle.ktm_script.specs.Built.{is_built}
 use Rattle.ktm_script.specs.Spelling.{IsLine, most_bytes, spelling}
 use Rattle.ktm_world.specs.declared.command.Line.{Line}
 use Rattle.ktm_world.specs.declared.reply.Reply.{Reply}
-use Rattle.ktm_world.specs.Transcript.{Step, Transcript}
-use Rattle.ktm_world.specs.World.{World}
 
 -- what ends a line
 abbrev pub newline : ℕ
@@ -43,8 +41,8 @@ has_reply (byte ∷ bytes) = not (byte == number_sign)
 
 -- the bytes spell this line, or no line that there is
 abbrev pub Means : List ℕ → Option Line → Type 0
-Means bytes (Some line) = IsLine line × IsTrue (is_built line) × (spelling line ≡ bytes)
-Means bytes None = (line : Line) → IsLine line → IsTrue (is_built line) → ¬ (spelling line ≡ bytes)
+Means bytes (Some line) = IsLine line × (spelling line ≡ bytes)
+Means bytes None = (line : Line) → IsLine line → ¬ (spelling line ≡ bytes)
 
 -- each of the first means its own of the second
 abbrev pub MeanAll : List (List ℕ) → List (Option Line) → Type 0
@@ -53,13 +51,6 @@ MeanAll [] (line ∷ lines) = ⊥
 MeanAll (bytes ∷ rest) [] = ⊥
 MeanAll (bytes ∷ rest) (line ∷ lines) = Means bytes line × MeanAll rest lines
 
--- from a world, the lines of the script that have a reply come to these replies and this world
-pub record IsTranscript (w : World) (script : List ℕ) (replies : List Reply) (new : World) : Type 0 where
-  pub lines : List (Option Line)
-  pub mean : MeanAll (filter has_reply (cut_lines script)) lines
-  pub steps : List Step
-  pub run : Transcript w lines steps replies new
-
 -- a reply as it is written
 abbrev pub reply_line : Reply → List ℕ
 reply_line reply = reply_spelling reply ++ newline ∷ []
@@ -67,6 +58,10 @@ reply_line reply = reply_spelling reply ++ newline ∷ []
 -- all replies, one after another
 abbrev pub written_replies : List Reply → List ℕ
 written_replies replies = flat_map reply_line replies
+
+-- a sink took a part of the bytes, from their front
+abbrev pub AppendsPart : Option (List ℕ) → Option (List ℕ) → List ℕ → Type 0
+AppendsPart old new bytes = (part : List ℕ) × (rest : List ℕ) × (bytes ≡ part ++ rest) × Appends old new part
 
 -- at most so many bytes of a line are kept: one more than any line of the grammar has
 abbrev pub kept_of : List ℕ → List ℕ

@@ -1,7 +1,7 @@
 -- The program's exit codes.
 use Rattle.std.specs.Prelude.{ℕ}
 use Rattle.ktm_run.specs.declared.status.Status.{Status}
-use Rattle.ktm_run.specs.declared.status.Status.TheVariants.{Done, Usage, SourceFault, SinkFault, NoMemory, BadImage, DiskFault, ScriptTooLong}
+use Rattle.ktm_run.specs.declared.status.Status.TheVariants.{Done, Usage, SourceFault, SinkFault, NoMemory, BadImage, DiskFault, ScriptTooLong, LogFull}
 
 abbrev pub exit_code_of : Status → ℕ
 exit_code_of Done = 0
@@ -12,3 +12,4 @@ exit_code_of NoMemory = 4
 exit_code_of BadImage = 5
 exit_code_of DiskFault = 6
 exit_code_of ScriptTooLong = 7
+exit_code_of LogFull = 8

@@ -10,7 +10,10 @@ pub enum RunFault {
 /// Why no machine was started.
 #[derive(Clone, Copy, Debug, PartialEq, Eq)]
 pub enum OpenFault {
-    BadImage,
+    /// The image cannot be opened, for what stands at this offset.
+    BadImage(u64),
     Down,
+    /// The log has no room for what a start records.
+    Full,
     NoMemory,
 }

@@ -1,6 +1,7 @@
 //! The program but for its edges: its words, the loop over a script, and the status that it ends with.
 #![tactic(auto)]
 
+mod answer;
 mod fault;
 mod form;
 mod line;

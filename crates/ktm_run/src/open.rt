@@ -1,15 +1,19 @@
 // The machine of an image.
-ghost use Rattle.std.specs.Prelude.{◌≡◌, ◌⊎◌, ◌<◌, ◌≤◌, [], ℕ, length, Err, IfOk, IsErrOf};
-ghost use Rattle.ktm_base.specs.Told.{IfTold, Tells};
+ghost use Rattle.std.specs.Prelude.{◌≡◌, ◌+◌, ◌*◌, ◌<◌, ◌≤◌, [], ℕ, List, length, false, true, is_err, IfOk, OnOk, IsErrOf};
+ghost use Rattle.ktm_base.specs.Disk.{DeviceCalls, MayLeave};
+ghost use Rattle.ktm_base.specs.Told.{IfTold, Tells, Goes};
+ghost use Rattle.ktm_journal.specs.Bad.{IsBadAt};
 ghost use Rattle.ktm_kernel.specs.Stands.{KernelAt, IsReady};
-ghost use Rattle.ktm_run.specs.Theorem.{WentDown};
-ghost use Rattle.ktm_world.specs.Durable.{empty_state};
-ghost use Rattle.ktm_world.specs.World.{opened};
+ghost use Rattle.ktm_run.specs.Opening.{Prepared, IfBadImage, IfOpened};
+ghost use Rattle.ktm_run.specs.Theorem.{Begins, BeginsAs, RunCounts, WentDown};
+ghost use Rattle.ktm_world.specs.Durable.{Durable};
+ghost use Rattle.ktm_world.specs.Outcome.{is_full};
+ghost use Rattle.ktm_world.specs.World.{opened, own_group};
 
 use crate::fault::OpenFault;
-use ktm_base::Disk;
-use ktm_journal::{Journal, JournalFault};
-use ktm_kernel::{Kernel, KernelFault};
+use ktm_base::{Disk, Down};
+use ktm_journal::Journal;
+use ktm_kernel::{Kernel, RestartFault, Restarted};
 use std::alloc::Global;
 
 /// The units of an image that the program makes itself.
@@ -18,42 +22,50 @@ const UNITS: u32 = 1024;
 /// The number of such an image.
 const IMAGE: u16 = 1;
 
-// Makes the disk a new image, and starts its machine.
-fn new_kernel<D: Disk>(alloc: Global, disk: &mut D) -> Result<Kernel, OpenFault>
+// Makes a disk without a byte a new image.
+fn prepare<D: Disk>(disk: &mut D) -> Result<(), Down>
     requires { (D.status disk.old).pending ≡ 0 }
-    ensures stands { IfOk result (λ kernel. Tells (D.told disk.old) (λ s. Unit {0}) → KernelAt kernel (D.told disk.new) (opened (empty_state 1024 1) [])) }
-    ensures ready { IfOk result (λ kernel. IsReady kernel (D.told disk.new) (D.status disk.new)) }
-    ensures downs { (D.status disk.old).downs ≤ (D.status disk.new).downs }
-    ensures down { IsErrOf result OpenFault.Down → WentDown (D.status disk.old) (D.status disk.new) }
-    ensures not_bad { IsErrOf result OpenFault.BadImage → ⊥ }
+    ensures ok { OnOk result (Goes Prepared (D.told disk.old) (D.told disk.new)) }
+    ensures pending { OnOk result ((D.status disk.new).pending ≡ 0) }
+    ensures up { OnOk result ((D.status disk.new).is_down ≡ false) }
+    ensures calls { DeviceCalls (8 * 1024 + 65) (D.status disk.old) (D.status disk.new) (is_err result) }
+    ensures few { Tells (D.told disk.old) (λ s. 0 < length s.seen) → (D.status disk.new).calls ≤ (D.status disk.old).calls + 1 }
 {
-    let journal = match Journal::format(alloc, disk, UNITS, IMAGE) {
-        Ok(journal) => journal,
-        Err(JournalFault::Down) => return Err(OpenFault::Down),
-        Err(JournalFault::NoMemory) => return Err(OpenFault::NoMemory),
+    let Ok(len) = disk.len() else {
+        return Err(Down);
     };
-    match Kernel::open(alloc, disk, journal) {
-        Ok(kernel) => Ok(kernel),
-        Err(KernelFault::Down) => Err(OpenFault::Down),
-        Err(KernelFault::NoMemory) => Err(OpenFault::NoMemory),
+    if len == 0 {
+        if let Err(Down) = Journal::format(disk, UNITS, IMAGE) {
+            return Err(Down);
+        }
     }
+    Ok(())
 }
 
 /// Starts the machine of the image. A disk without a byte becomes a new one.
 pub fn open_kernel<D: Disk>(alloc: Global, disk: &mut D) -> Result<Kernel, OpenFault>
     requires { (D.status disk.old).pending ≡ 0 }
-    ensures stands { IfOk result (λ kernel. Tells (D.told disk.old) (λ s. Unit {0}) → KernelAt kernel (D.told disk.new) (opened (empty_state 1024 1) [])) }
+    ensures stands { IfOk result (λ kernel. (base : Durable) (room : ℕ) → Tells (D.told disk.old) (Begins base room)
+        → KernelAt kernel (D.told disk.new) (opened base room []) × (is_full room (own_group base) ≡ false)) }
+    ensures counts { OnOk result ((base : Durable) (room : ℕ) → Tells (D.told disk.old) (Begins base room) → RunCounts base.units (D.status disk.old) (D.status disk.new) 0 [] 0) }
     ensures ready { IfOk result (λ kernel. IsReady kernel (D.told disk.new) (D.status disk.new)) }
-    ensures downs { (D.status disk.old).downs ≤ (D.status disk.new).downs }
+    ensures full { IsErrOf result OpenFault.Full → (base : Durable) (room : ℕ) → Tells (D.told disk.old) (Begins base room) → is_full room (own_group base) ≡ true }
+    ensures opens { IfOpened result (IfTold (D.told disk.old) (λ s. (base : Durable) × (room : ℕ) × BeginsAs base room s.seen)) }
+    ensures bad { IfBadImage result (λ offset. IfTold (D.told disk.old) (λ s. (0 < length s.seen) × IsBadAt s.seen offset)) }
     ensures down { IsErrOf result OpenFault.Down → WentDown (D.status disk.old) (D.status disk.new) }
-    ensures bad { IsErrOf result OpenFault.BadImage → IfTold (D.told disk.old) (λ s. 0 < length s.seen) }
-    ensures not_empty { Tells (D.told disk.old) (λ s. 0 < length s.seen) → (result ≡ Err OpenFault.BadImage) ⊎ (result ≡ Err OpenFault.Down) }
+    ensures no_memory { IsErrOf result OpenFault.NoMemory → (base : Durable) (room : ℕ) → Tells (D.told disk.old) (Begins base room)
+        → Tells (D.told disk.new) (λ s. (image : List ℕ) → MayLeave s image → BeginsAs base room image) }
+    ensures plan { (D.status disk.new).plan ≡ (D.status disk.old).plan }
+    ensures downs { (D.status disk.old).downs ≤ (D.status disk.new).downs }
 {
-    let Ok(len) = disk.len() else {
+    if let Err(Down) = prepare(disk) {
         return Err(OpenFault::Down);
-    };
-    if len != 0 {
-        return Err(OpenFault::BadImage);
     }
-    new_kernel(alloc, disk)
+    match Kernel::restart(alloc, disk) {
+        Ok(Restarted { kernel, .. }) => Ok(kernel),
+        Err(RestartFault::Down) => Err(OpenFault::Down),
+        Err(RestartFault::Bad(offset)) => Err(OpenFault::BadImage(offset)),
+        Err(RestartFault::Full) => Err(OpenFault::Full),
+        Err(RestartFault::NoMemory) => Err(OpenFault::NoMemory),
+    }
 }

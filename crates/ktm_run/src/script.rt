@@ -1,17 +1,17 @@
 // The loop over a script.
-ghost use Rattle.std.specs.Prelude.{◌≡◌, ◌<◌, ◌≤◌, ℕ, List, [], length, take, IfOk, OnOk, IsErrOf};
-ghost use Rattle.std.specs.Io.KnownBytes.{Consumes, IsAtEnd};
+ghost use Rattle.std.specs.Prelude.{◌≡◌, ◌⊎◌, ◌+◌, ◌<◌, ◌≤◌, ℕ, List, [], length, take, IfOk, OnOk, OnErr, IsErrOf, vec_capacity};
+ghost use Rattle.std.specs.Io.KnownBytes.{Consumes, IsAtEnd, Keeps};
 ghost use Rattle.ktm_base.specs.Count.{Rose};
 ghost use Rattle.ktm_base.specs.Stream.{Faults};
 ghost use Rattle.ktm_base.specs.Told.{IfTold};
 ghost use Rattle.ktm_kernel.specs.Stands.{IsReady};
-ghost use Rattle.ktm_run.specs.Progress.{Now, Progress};
-ghost use Rattle.ktm_run.specs.Script.{cut_lines, kept_of, last_line, most_script};
+ghost use Rattle.ktm_run.specs.Progress.{Progress, Stops};
+ghost use Rattle.ktm_run.specs.Script.{cut_lines, kept_of, last_line, lines_from, most_script};
 
 use crate::fault::RunFault;
 use crate::line::{do_line, feed};
 use crate::status::Status;
-use ktm_base::{Disk, Failed, Sink, Source};
+use ktm_base::{Failed, PowerDisk, Sink, Source};
 use ktm_kernel::Kernel;
 use std::alloc::Global;
 
@@ -29,6 +29,7 @@ fn read_some<S: Source>(source: &mut S, buffer: &mut [u8], most: u64) -> Result<
     ensures within { IfOk result (λ n. n ≤ length buffer.new) }
     ensures reads { IfOk result (λ n. Consumes (S.left source.old) (S.left source.new) (take n buffer.new)) }
     ensures end { IfOk result (λ n. n ≡ 0 → IsAtEnd (S.left source.new)) }
+    ensures kept { OnErr result (Keeps (S.left source.old) (S.left source.new)) }
     ensures faults { Faults (S.faults source.old) (S.faults source.new) result }
 {
     let room = (buffer.len() as u64).min(most) as usize;
@@ -39,7 +40,7 @@ fn read_some<S: Source>(source: &mut S, buffer: &mut [u8], most: u64) -> Result<
 }
 
 // Answers what is behind the last newline.
-fn finish<K: Sink, D: Disk>(
+fn finish<K: Sink, D: PowerDisk>(
     alloc: Global,
     kernel: &mut Kernel,
     disk: &mut D,
@@ -48,8 +49,12 @@ fn finish<K: Sink, D: Disk>(
 ) -> Result<(), RunFault>
     requires { IsReady kernel.old (D.told disk.old) (D.status disk.old) }
     ensures done { OnOk result ((part : List ℕ) → kept.now ≡ kept_of part → Progress
-        (record { machine = kernel.old; disk = D.told disk.old; taken = K.taken sink.old; downs = (D.status disk.old).downs })
-        (record { machine = kernel.new; disk = D.told disk.new; taken = K.taken sink.new; downs = (D.status disk.new).downs })
+        (record { scene = record { machine = kernel.old; disk = D.told disk.old; status = D.status disk.old }; taken = K.taken sink.old })
+        (record { scene = record { machine = kernel.new; disk = D.told disk.new; status = D.status disk.new }; taken = K.taken sink.new })
+        (last_line part)) }
+    ensures stopped { OnErr result ((part : List ℕ) → kept.now ≡ kept_of part → Stops
+        (record { scene = record { machine = kernel.old; disk = D.told disk.old; status = D.status disk.old }; taken = K.taken sink.old })
+        (record { scene = record { machine = kernel.new; disk = D.told disk.new; status = D.status disk.new }; taken = K.taken sink.new })
         (last_line part)) }
     ensures fault { IsErrOf result RunFault.SinkFault → Rose (K.faults sink.old) (K.faults sink.new) }
 {
@@ -63,42 +68,56 @@ fn finish<K: Sink, D: Disk>(
 }
 
 // Answers the lines of the script, which is read through the buffer.
-fn run_pieces<S: Source, K: Sink, D: Disk>(
+fn run_pieces<S: Source, K: Sink, D: PowerDisk>(
     alloc: Global,
     kernel: &mut Kernel,
     source: &mut S,
     sink: &mut K,
     disk: &mut D,
     buffer: &mut [u8],
+    kept: &mut Vec<u8>,
 ) -> Status
     requires ready { IsReady kernel.old (D.told disk.old) (D.status disk.old) }
     requires room { 0 < length buffer.old }
-    ensures done { result ≡ Status.Done → (script : List ℕ) × Consumes (S.left source.old) (S.left source.new) script × IsAtEnd (S.left source.new) × Progress
-        (record { machine = kernel.old; disk = D.told disk.old; taken = K.taken sink.old; downs = (D.status disk.old).downs })
-        (record { machine = kernel.new; disk = D.told disk.new; taken = K.taken sink.new; downs = (D.status disk.new).downs })
+    requires kept { (kept.old.items ≡ []) × (140001 ≤ vec_capacity kept.old) }
+    ensures done { result ≡ Status.Done → (script : List ℕ) × Consumes (S.left source.old) (S.left source.new) script × IsAtEnd (S.left source.new) × (length script ≤ most_script) × Progress
+        (record { scene = record { machine = kernel.old; disk = D.told disk.old; status = D.status disk.old }; taken = K.taken sink.old })
+        (record { scene = record { machine = kernel.new; disk = D.told disk.new; status = D.status disk.new }; taken = K.taken sink.new })
         (cut_lines script) }
+    ensures between { result ≡ Status.SourceFault → (script : List ℕ) × Consumes (S.left source.old) (S.left source.new) script × (length script ≤ most_script) × Progress
+        (record { scene = record { machine = kernel.old; disk = D.told disk.old; status = D.status disk.old }; taken = K.taken sink.old })
+        (record { scene = record { machine = kernel.new; disk = D.told disk.new; status = D.status disk.new }; taken = K.taken sink.new })
+        (lines_from [] script) }
+    ensures behind { result ≡ Status.ScriptTooLong → (script : List ℕ) × Consumes (S.left source.old) (S.left source.new) script × (length script ≡ most_script + 1) × Progress
+        (record { scene = record { machine = kernel.old; disk = D.told disk.old; status = D.status disk.old }; taken = K.taken sink.old })
+        (record { scene = record { machine = kernel.new; disk = D.told disk.new; status = D.status disk.new }; taken = K.taken sink.new })
+        (lines_from [] (take most_script script)) }
+    ensures within { (result ≡ Status.SinkFault) ⊎ (result ≡ Status.NoMemory) → (script : List ℕ) × Consumes (S.left source.old) (S.left source.new) script × (length script ≤ most_script + 1) × Stops
+        (record { scene = record { machine = kernel.old; disk = D.told disk.old; status = D.status disk.old }; taken = K.taken sink.old })
+        (record { scene = record { machine = kernel.new; disk = D.told disk.new; status = D.status disk.new }; taken = K.taken sink.new })
+        (cut_lines (take most_script script)) }
     ensures source { result ≡ Status.SourceFault → Rose (S.faults source.old) (S.faults source.new) }
     ensures sink { result ≡ Status.SinkFault → Rose (K.faults sink.old) (K.faults sink.new) }
     ensures too_long { result ≡ Status.ScriptTooLong → IfTold (S.left source.old) (λ bytes. most_script < length bytes) }
     ensures not_usage { result ≡ Status.Usage → ⊥ }
     ensures not_image { result ≡ Status.BadImage → ⊥ }
     ensures not_disk { result ≡ Status.DiskFault → ⊥ }
+    ensures not_full { result ≡ Status.LogFull → ⊥ }
 {
-    let mut kept = Vec::new(alloc);
     let mut left = MOST_SCRIPT;
     'pieces: loop {
         let Ok(count) = read_some(source, buffer, left + 1) else {
             return Status::SourceFault;
         };
         if count == 0 {
-            match finish(alloc, kernel, disk, sink, &kept) {
+            match finish(alloc, kernel, disk, sink, kept) {
                 Ok(()) => return Status::Done,
                 Err(RunFault::SinkFault) => return Status::SinkFault,
                 Err(RunFault::NoMemory) => return Status::NoMemory,
             }
         }
         let within = (count as u64).min(left) as usize;
-        match feed(alloc, kernel, disk, sink, &mut kept, &buffer[..within]) {
+        match feed(alloc, kernel, disk, sink, kept, &buffer[..within]) {
             Ok(()) => {}
             Err(RunFault::SinkFault) => return Status::SinkFault,
             Err(RunFault::NoMemory) => return Status::NoMemory,
@@ -110,25 +129,40 @@ fn run_pieces<S: Source, K: Sink, D: Disk>(
     }
 }
 
-/// Answers the lines of the script.
-pub fn run_script<S: Source, K: Sink, D: Disk>(
+/// Answers the lines of the script, with room for the part of a line that is behind the last newline.
+pub fn run_script<S: Source, K: Sink, D: PowerDisk>(
     alloc: Global,
     kernel: &mut Kernel,
     source: &mut S,
     sink: &mut K,
     disk: &mut D,
+    kept: &mut Vec<u8>,
 ) -> Status
-    requires { IsReady kernel.old (D.told disk.old) (D.status disk.old) }
-    ensures done { result ≡ Status.Done → (script : List ℕ) × Consumes (S.left source.old) (S.left source.new) script × IsAtEnd (S.left source.new) × Progress
-        (record { machine = kernel.old; disk = D.told disk.old; taken = K.taken sink.old; downs = (D.status disk.old).downs })
-        (record { machine = kernel.new; disk = D.told disk.new; taken = K.taken sink.new; downs = (D.status disk.new).downs })
+    requires ready { IsReady kernel.old (D.told disk.old) (D.status disk.old) }
+    requires kept { (kept.old.items ≡ []) × (140001 ≤ vec_capacity kept.old) }
+    ensures done { result ≡ Status.Done → (script : List ℕ) × Consumes (S.left source.old) (S.left source.new) script × IsAtEnd (S.left source.new) × (length script ≤ most_script) × Progress
+        (record { scene = record { machine = kernel.old; disk = D.told disk.old; status = D.status disk.old }; taken = K.taken sink.old })
+        (record { scene = record { machine = kernel.new; disk = D.told disk.new; status = D.status disk.new }; taken = K.taken sink.new })
         (cut_lines script) }
+    ensures between { result ≡ Status.SourceFault → (script : List ℕ) × Consumes (S.left source.old) (S.left source.new) script × (length script ≤ most_script) × Progress
+        (record { scene = record { machine = kernel.old; disk = D.told disk.old; status = D.status disk.old }; taken = K.taken sink.old })
+        (record { scene = record { machine = kernel.new; disk = D.told disk.new; status = D.status disk.new }; taken = K.taken sink.new })
+        (lines_from [] script) }
+    ensures behind { result ≡ Status.ScriptTooLong → (script : List ℕ) × Consumes (S.left source.old) (S.left source.new) script × (length script ≡ most_script + 1) × Progress
+        (record { scene = record { machine = kernel.old; disk = D.told disk.old; status = D.status disk.old }; taken = K.taken sink.old })
+        (record { scene = record { machine = kernel.new; disk = D.told disk.new; status = D.status disk.new }; taken = K.taken sink.new })
+        (lines_from [] (take most_script script)) }
+    ensures within { (result ≡ Status.SinkFault) ⊎ (result ≡ Status.NoMemory) → (script : List ℕ) × Consumes (S.left source.old) (S.left source.new) script × (length script ≤ most_script + 1) × Stops
+        (record { scene = record { machine = kernel.old; disk = D.told disk.old; status = D.status disk.old }; taken = K.taken sink.old })
+        (record { scene = record { machine = kernel.new; disk = D.told disk.new; status = D.status disk.new }; taken = K.taken sink.new })
+        (cut_lines (take most_script script)) }
     ensures source { result ≡ Status.SourceFault → Rose (S.faults source.old) (S.faults source.new) }
     ensures sink { result ≡ Status.SinkFault → Rose (K.faults sink.old) (K.faults sink.new) }
     ensures too_long { result ≡ Status.ScriptTooLong → IfTold (S.left source.old) (λ bytes. most_script < length bytes) }
     ensures not_usage { result ≡ Status.Usage → ⊥ }
     ensures not_image { result ≡ Status.BadImage → ⊥ }
     ensures not_disk { result ≡ Status.DiskFault → ⊥ }
+    ensures not_full { result ≡ Status.LogFull → ⊥ }
 {
-    run_pieces(alloc, kernel, source, sink, disk, &mut [0; PIECE])
+    run_pieces(alloc, kernel, source, sink, disk, &mut [0; PIECE], kept)
 }

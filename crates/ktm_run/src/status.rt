@@ -21,6 +21,8 @@ pub enum Status {
     DiskFault,
     /// The script goes on behind its greatest length. The lines that ended before it were answered.
     ScriptTooLong,
+    /// The log of the image has no room for what the start of the machine records.
+    LogFull,
 }
 
 impl Status {
@@ -36,6 +38,7 @@ impl Status {
             Status::BadImage => 5,
             Status::DiskFault => 6,
             Status::ScriptTooLong => 7,
+            Status::LogFull => 8,
         }
     }
 }

@@ -12,13 +12,10 @@ use Rattle.ktm_codec.specs.Number.{number_at, starts_with_digit}
 use Rattle.ktm_codec.specs.Word.{after_word}
 use Rattle.ktm_world.specs.declared.command.View.{View}
 use Rattle.ktm_world.specs.declared.command.View.TheVariants.{Plain, Transaction}
-use Rattle.ktm_script.specs.Reading.{named_at, process_at, label_at, view_at, is_line_byte, text_from, quoted_at}
-use Rattle.ktm_script.specs.Spelling.{IsTextByte, IsText, IsPid, IsLabel, IsView, label_spelling, view_spelling, quoted, quotation_mark}
-use Rattle.ktm_script.proofs.Steps.{bind_some, on_word_some}
-
--- what is at the front of a text, and what follows it
-abbrev pub Spells : List ℕ → List ℕ → List ℕ → Type 0
-Spells front rest text = text ≡ front ++ rest
+use Rattle.ktm_script.specs.Reading.{named_at, process_at, label_at, view_at, is_line_byte, text_from, quoted_at, last_number_at, last_text_at}
+use Rattle.ktm_script.specs.Spelling.{label_spelling, view_spelling, quoted}
+use Rattle.ktm_world.specs.Values.{quotation_mark, IsTextByte, IsText, IsPid, IsLabel, IsView}
+use Rattle.ktm_script.proofs.Steps.{bind_some, at_end_is, on_word_some}
 
 named_is : (letter : List ℕ) (most : ℕ) (text : List ℕ) (n : ℕ) (rest : List ℕ) → most < 2 ^ 64 → named_at letter most text ≡ Some (n, rest)
     → (1 ≤ n) × (n ≤ most) × (text ≡ letter ++ decimal n ++ rest)
@@ -146,3 +143,34 @@ quoted_is (c ∷ cs) t rest e = elim (cases_eq c quotation_mark) [
 pub quoted_again : (t rest : List ℕ) → IsText t → quoted_at (quoted t ++ rest) ≡ Some (t, rest)
 unfolding quoted_at
 quoted_again t rest h = ap (λ (xs : List ℕ). text_from [] xs) (append_assoc t (quotation_mark ∷ []) rest) ∙ text_again [] t rest h
+
+pub last_number_is : (most : ℕ) (text : List ℕ) (n : ℕ) → most < 2 ^ 64 → last_number_at most text ≡ Some n → (n ≤ most) × (text ≡ decimal n)
+unfolding last_number_at
+last_number_is most text n fits e = bind_some _ (number_at most text) n e (λ number f end.
+    let whole = at_end_is number.0 n number.1 end in
+    let read = number_is most text number.0 number.1 fits f in
+    let spelled : text ≡ decimal number.0 = read.1 ∙ rw whole.0 (append-nil (decimal number.0)) in
+    (rw (← whole.1) read.0, rw (← whole.1) spelled))
+
+pub last_number_again : (most n : ℕ) → most < 2 ^ 64 → n ≤ most → last_number_at most (decimal n) ≡ Some n
+unfolding last_number_at
+last_number_again most n fits within =
+    let read : number_at most (decimal n) ≡ Some (n, []) = rw append-nil at (number_again most n [] fits within refl) in
+    rw read refl
+
+pub last_text_is : (text t : List ℕ) → last_text_at text ≡ Some t → IsText t × (text ≡ codes " " ++ quoted t)
+unfolding last_text_at
+last_text_is text t e = bind_some _ (after_word (codes " ") text) t e (λ mark f g.
+    bind_some _ (quoted_at mark) t g (λ read h end.
+    let whole = at_end_is read.0 t read.1 end in
+    let space = after_word_is (codes " ") text mark f in
+    let first = quoted_is mark read.0 read.1 h in
+    let spelled : text ≡ codes " " ++ quoted read.0 = space ∙ ap (λ (xs : List ℕ). codes " " ++ xs) (first.1 ∙ rw whole.0 (append-nil (quoted read.0))) in
+    let P : List ℕ → Type 0 = λ x. IsText x × (text ≡ codes " " ++ quoted x) in
+    subst P whole.1 (first.0, spelled)))
+
+pub last_text_again : (t : List ℕ) → IsText t → last_text_at (codes " " ++ quoted t) ≡ Some t
+unfolding last_text_at
+last_text_again t h =
+    let read : quoted_at (quoted t) ≡ Some (t, []) = ap quoted_at (sym (append-nil (quoted t))) ∙ quoted_again t [] h in
+    rw (after_word_again (codes " ") (quoted t), read) refl

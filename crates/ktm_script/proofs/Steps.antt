@@ -1,8 +1,7 @@
 -- Steps of reading.
-use Rattle.std.proofs.Common.{◌≡◌, ℕ, List, [], ◌∷◌, ◌++◌, Option, Some, None, Result, refl, ◌∙◌, ap, append_assoc, ok_or}
+use Rattle.std.proofs.Common.{◌≡◌, ℕ, List, [], ◌∷◌, ◌++◌, Option, Some, None, refl, ◌∙◌, ap, append_assoc, ok_or}
 use Rattle.std.proofs.lemmas.Option.{same_Some}
 use Rattle.ktm_script.specs.Reading.{◌>>=◌, Gives, at_end, on_word}
-use Rattle.ktm_script.specs.declared.fault.LineFault.{LineFault}
 use Rattle.ktm_script.specs.declared.fault.LineFault.TheVariants.{BadLine}
 
 -- a step that reads something, and the steps behind it
@@ -23,14 +22,6 @@ pub on_word_some : {X P : Type 0} (o : Option (List ℕ)) (read : List ℕ → O
     → ((rest : List ℕ) → o ≡ Some rest → read rest ≡ Some y → P) → (other ≡ Some y → P) → P
 on_word_some None read other y e there gone = gone e
 on_word_some (Some rest) read other y e there gone = there rest refl e
-
-pub at_word : {X : Type 0} (r : Result X LineFault) (o : Option (List ℕ)) (read : List ℕ → Option X) (other : Option X) (rest : List ℕ)
-    → Some rest ≡ o → Gives r (read rest) → Gives r (on_word o read other)
-at_word r o read other rest e g = rw (← e) g
-
-pub past_word : {X : Type 0} (r : Result X LineFault) (o : Option (List ℕ)) (read : List ℕ → Option X) (other : Option X)
-    → None ≡ o → Gives r other → Gives r (on_word o read other)
-past_word r o read other e g = rw (← e) g
 
 pub or_bad : {X : Type 0} (o : Option X) → Gives (ok_or o BadLine) o
 or_bad None = refl

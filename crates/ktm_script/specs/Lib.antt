@@ -1,3 +1,2 @@
-pub mod Spelling
-pub mod Built
 pub mod Reading
+pub mod Spelling

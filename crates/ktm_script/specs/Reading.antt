@@ -1,19 +1,19 @@
 -- Reading from left to right. The laws in proofs/ say that it reads what `Spelling` spells; no public contract rests on this file alone.
-use Rattle.std.specs.Prelude.{◌≡◌, ℕ, ◌==◌, nat_le, Bool, ◌&&◌, List, [], ◌∷◌, ◌++◌, length, codes, Option, Some, None, Result, Ok, Err, if◌then◌else◌}
+use Rattle.std.specs.Prelude.{◌≡◌, ℕ, ◌==◌, nat_le, Bool, ◌&&◌, List, [], ◌∷◌, ◌++◌, codes, Option, Some, None, Result, Ok, Err, if◌then◌else◌}
 use Rattle.ktm_base.specs.declared.id.Label.{Label}
 use Rattle.ktm_base.specs.declared.id.Pid.{Pid}
 use Rattle.ktm_codec.specs.Hex.{unhex_or_dash}
 use Rattle.ktm_codec.specs.Number.{number_at}
 use Rattle.ktm_codec.specs.Word.{after_word}
-use Rattle.ktm_script.specs.Spelling.{most_bytes, quotation_mark}
 use Rattle.ktm_script.specs.declared.fault.LineFault.{LineFault}
 use Rattle.ktm_script.specs.declared.fault.LineFault.TheVariants.{BadLine, NoMemory}
 use Rattle.ktm_world.specs.declared.command.Command.{Command}
-use Rattle.ktm_world.specs.declared.command.Command.TheVariants.{CreateTransaction, CommitTransaction, KvSet, KvGet}
+use Rattle.ktm_world.specs.declared.command.Command.TheVariants.{CreateTransaction, CommitTransaction, KvSet, KvUnset, KvGet, KvList}
 use Rattle.ktm_world.specs.declared.command.Line.{Line}
-use Rattle.ktm_world.specs.declared.command.Line.TheVariants.{Process}
+use Rattle.ktm_world.specs.declared.command.Line.TheVariants.{Cut, Crash, Restart, Process}
 use Rattle.ktm_world.specs.declared.command.View.{View}
 use Rattle.ktm_world.specs.declared.command.View.TheVariants.{Plain, Transaction}
+use Rattle.ktm_world.specs.Values.{quotation_mark}
 
 -- the next step, where the first one read something
 infixl 10 ◌>>=◌
@@ -72,12 +72,25 @@ unfoldable pub quoted_at : List ℕ → Option (List ℕ × List ℕ)
 quoted_at [] = None
 quoted_at (c ∷ cs) = if c == quotation_mark then text_from [] cs else None
 
+-- a number, where nothing follows it
+unfoldable pub last_number_at : ℕ → List ℕ → Option ℕ
+last_number_at most text = do
+  number ← number_at most text
+  at_end number.0 number.1
+
+-- a text behind a space, where nothing follows it
+unfoldable pub last_text_at : List ℕ → Option (List ℕ)
+last_text_at text = do
+  rest ← after_word (codes " ") text
+  quoted ← quoted_at rest
+  at_end quoted.0 quoted.1
+
 unfoldable pub create_at : List ℕ → Option Command
 create_at text = do
   label ← label_at text
   rest ← after_word (codes " ") label.1
-  timeout ← number_at 0xFFFF_FFFF rest
-  at_end (CreateTransaction label.0 timeout.0) timeout.1
+  timeout ← last_number_at 0xFFFF_FFFF rest
+  Some (CreateTransaction label.0 timeout)
 
 unfoldable pub commit_at : List ℕ → Option Command
 commit_at text = do
@@ -99,33 +112,53 @@ set_at text = do
   value ← unhex_or_dash parts.2
   Some (KvSet parts.0 parts.1 value)
 
--- the view and the key
-unfoldable pub get_parts_at : List ℕ → Option (View × List ℕ)
-get_parts_at text = do
-  view ← view_at text
-  rest ← after_word (codes " ") view.1
-  key ← quoted_at rest
-  at_end (view.0, key.0) key.1
+unfoldable pub unset_at : List ℕ → Option Command
+unset_at text = do
+  label ← label_at text
+  key ← last_text_at label.1
+  Some (KvUnset label.0 key)
 
 unfoldable pub get_at : List ℕ → Option Command
 get_at text = do
-  parts ← get_parts_at text
-  Some (KvGet parts.0 parts.1)
+  view ← view_at text
+  key ← last_text_at view.1
+  Some (KvGet view.0 key)
+
+unfoldable pub list_at : List ℕ → Option Command
+list_at text = do
+  view ← view_at text
+  at_end (KvList view.0) view.1
 
 unfoldable pub command_at : List ℕ → Option Command
 command_at text =
     on_word (after_word (codes "CreateTransaction ") text) create_at
     (on_word (after_word (codes "CommitTransaction ") text) commit_at
     (on_word (after_word (codes "KvSet ") text) set_at
-    (on_word (after_word (codes "KvGet ") text) get_at None)))
+    (on_word (after_word (codes "KvUnset ") text) unset_at
+    (on_word (after_word (codes "KvGet ") text) get_at
+    (on_word (after_word (codes "KvList ") text) list_at None)))))
 
-unfoldable pub line_at : List ℕ → Option Line
-line_at text = do
+unfoldable pub process_line_at : List ℕ → Option Line
+process_line_at text = do
   process ← process_at text
   rest ← after_word (codes " ") process.1
   command ← command_at rest
   Some (Process process.0 command)
 
--- a line of the grammar, built or not
-unfoldable pub read_at : List ℕ → Option Line
-read_at text = if nat_le (length text) most_bytes then line_at text else None
+-- the number of the disk's calls that still pass
+unfoldable pub cut_at : List ℕ → Option Line
+cut_at text = do
+  calls ← last_number_at 0xFFFF_FFFF_FFFF_FFFF text
+  Some (Cut calls)
+
+unfoldable pub restart_at : List ℕ → Option Line
+restart_at text = do
+  seed ← last_number_at 0xFFFF_FFFF_FFFF_FFFF text
+  Some (Restart seed)
+
+-- a line, however long
+unfoldable pub line_at : List ℕ → Option Line
+line_at text =
+    on_word (after_word (codes "cut ") text) cut_at
+    (on_word (after_word (codes "crash") text) (at_end Crash)
+    (on_word (after_word (codes "restart ") text) restart_at (process_line_at text)))

@@ -7,7 +7,7 @@ use std::alloc::AllocError;
 /// Why a line was not read.
 #[derive(Clone, Copy, Debug, PartialEq, Eq)]
 pub enum LineFault {
-    /// It is not the spelling of a line that is built.
+    /// It is not the spelling of a line.
     BadLine,
     /// Memory was wanted and not to be had.
     NoMemory,

@@ -1,12 +1,15 @@
-//! Reads the lines of scripts. A line of the grammar has one spelling, and what is not that of a line is a bad line. Some
-//! lines of the grammar are not built yet; they are bad lines too.
+//! Reads and writes the lines of scripts. A line of the grammar has one spelling, and what is not that of a line is a bad
+//! line.
 #![tactic(auto)]
 
-mod built;
 mod command;
 mod fault;
 mod line;
 mod parts;
+#[cfg(test)]
+mod tests;
+mod write;
 
 pub use fault::LineFault;
 pub use line::{law_of_one_meaning, read_line};
+pub use write::{law_of_round_trip, write_line};

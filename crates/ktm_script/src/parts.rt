@@ -1,6 +1,6 @@
 // The parts of a line. Each reader answers with what it read and what follows that.
 ghost use Rattle.std.specs.Prelude.{◌≡◌, ◌≤◌, [], IfSome, option_map};
-ghost use Rattle.ktm_script.specs.Reading.{label_at, named_at, process_at, quoted_at, text_from, view_at};
+ghost use Rattle.ktm_script.specs.Reading.{label_at, last_number_at, last_text_at, named_at, process_at, quoted_at, text_from, view_at};
 
 use ktm_base::{Label, Pid};
 use ktm_codec::{read_number, strip_word};
@@ -71,4 +71,23 @@ pub fn quoted(text: &[u8]) -> Option<(&[u8], &[u8])>
         [b'"', rest @ ..] => to_quotation_mark(rest),
         _ => None,
     }
+}
+
+// A number that nothing follows.
+#[tactic(auto, unfolding(crate::specs::Reading::last_number_at))]
+pub fn last_number(most: u64, text: &[u8]) -> Option<u64>
+    ensures value { result ≡ last_number_at most text.now }
+    ensures within { IfSome result (λ number. number ≤ most) }
+{
+    let (number, rest) = read_number(most, text)?;
+    if rest.is_empty() { Some(number) } else { None }
+}
+
+// A text behind a space, which nothing follows.
+#[tactic(auto, unfolding(crate::specs::Reading::last_text_at))]
+pub fn last_text(text: &[u8]) -> Option<&[u8]>
+    ensures { option_map (λ read. read.now) result ≡ last_text_at text.now }
+{
+    let (key, rest) = quoted(strip_word(text, b" ")?)?;
+    if rest.is_empty() { Some(key) } else { None }
 }

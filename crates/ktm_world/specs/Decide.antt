@@ -1,5 +1,5 @@
 -- What each command does. Its tests stand in the order in which a command is tested.
-use Rattle.std.specs.Prelude.{ℕ, ◌+◌, ◌==◌, ◌||◌, not, Bool, false, List, [], ◌∷◌, ◌++◌, length, nat_lt, Option, Some, None, is_some, is_none}
+use Rattle.std.specs.Prelude.{ℕ, ◌+◌, ◌||◌, not, Bool, false, List, [], ◌∷◌, ◌++◌, nat_lt, Option, Some, None, is_some, is_none}
 use Rattle.std.specs.Option.{option_and_then}
 use Rattle.ktm_base.specs.declared.id.Id.{Id}
 use Rattle.ktm_base.specs.declared.id.Pid.{Pid}
@@ -9,7 +9,7 @@ use Rattle.ktm_base.specs.declared.refusal.Refusal.{Refusal}
 use Rattle.ktm_base.specs.declared.refusal.Refusal.TheVariants.{MachineDown, InvalidHandle, TransactionAlreadyCommitted, TransactionAlreadyAborted, TransactionNotActive, InvalidParameter, NotFound, TransactionalConflict, NotEnoughQuota, DiskFull}
 use Rattle.ktm_base.specs.Guid.{guid_of}
 use Rattle.ktm_world.specs.declared.command.Command.{Command}
-use Rattle.ktm_world.specs.declared.command.Command.TheVariants.{CreateTransaction, CommitTransaction, KvSet, KvGet}
+use Rattle.ktm_world.specs.declared.command.Command.TheVariants.{CreateTransaction, CommitTransaction, KvSet, KvUnset, KvGet, KvList}
 use Rattle.ktm_world.specs.declared.command.View.{View}
 use Rattle.ktm_world.specs.declared.command.View.TheVariants.{Plain, Transaction as Through}
 use Rattle.ktm_world.specs.declared.event.Event.{Event}
@@ -19,13 +19,13 @@ use Rattle.ktm_world.specs.declared.object.Object.TheVariants.{Transaction as Tr
 use Rattle.ktm_world.specs.declared.object.Phase.TheVariants.{Active}
 use Rattle.ktm_world.specs.declared.object.TransactionOutcome.TheVariants.{Undetermined}
 use Rattle.ktm_world.specs.declared.reply.Reply.{Reply}
-use Rattle.ktm_world.specs.declared.reply.Reply.TheVariants.{Done, Guid, Committed, Contents, Refused}
+use Rattle.ktm_world.specs.declared.reply.Reply.TheVariants.{Done, Guid, Committed, Contents, Keys, Refused}
 use Rattle.ktm_world.specs.Handles.{object_at, transaction_id, no_handle_left}
 use Rattle.ktm_world.specs.declared.object.Transaction.{Transaction}
 use Rattle.ktm_world.specs.Transactions.{transaction_at, change_at, is_active, is_committed, is_aborted, no_transaction_left, ended_committed}
-use Rattle.ktm_world.specs.Keys.{OwnSettings, own_settings, with_own, without_own, value_seen, is_held_by_other, keys_used}
+use Rattle.ktm_world.specs.Keys.{OwnSettings, own_settings, with_own, without_own, value_seen, store_seen, keys_of, is_held_by_other, keys_used, changes_pending, is_bad_key, is_bad_value}
 use Rattle.ktm_world.specs.Present.{Present}
-use Rattle.ktm_world.specs.Outcome.{Work, Outcome, only_reply, first_refusal, refuse_or}
+use Rattle.ktm_world.specs.Outcome.{Work, Outcome, only_reply, first_refusal, refuse_or, within_log}
 
 -- ---- what a label names
 
@@ -93,14 +93,6 @@ commit_transaction x (Some t) = record (only_reply x Committed) {
 
 -- ---- keys
 
--- a key has 1 to 64 bytes
-abbrev pub is_bad_key : List ℕ → Bool
-is_bad_key key = (length key == 0) || nat_lt 64 (length key)
-
--- a value has at most 960 bytes
-abbrev pub is_bad_value : List ℕ → Bool
-is_bad_value value = nat_lt 960 (length value)
-
 abbrev pub is_held : Present → Option Transaction → List ℕ → Bool
 is_held x None key = false
 is_held x (Some t) key = is_held_by_other x.keys.own t.id key
@@ -119,6 +111,19 @@ kv_set_tests x t key value =
 
 abbrev pub kv_set : Present → Option Transaction → List ℕ → List ℕ → Outcome
 kv_set x t key value = record (only_reply x Done) { own = (with_setting x t key (Some value)).keys.own }
+
+-- an unset key is a change that waits
+abbrev pub kv_unset_tests : Present → Option Transaction → List ℕ → List (Bool × Refusal)
+kv_unset_tests x t key =
+    transaction_tests t
+    ++ ((is_bad_key key, InvalidParameter)
+    ∷ (is_none (value_seen x.keys (id_of_named t) key), NotFound)
+    ∷ (is_held x t key, TransactionalConflict)
+    ∷ (nat_lt x.machine.units (changes_pending (with_setting x t key None).keys), NotEnoughQuota)
+    ∷ [])
+
+abbrev pub kv_unset : Present → Option Transaction → List ℕ → Outcome
+kv_unset x t key = record (only_reply x Done) { own = (with_setting x t key None).keys.own }
 
 abbrev pub view_tests : Present → Pid → View → List (Bool × Refusal)
 view_tests x process Plain = []
@@ -142,6 +147,10 @@ reply_of_value (Some value) = Contents value
 abbrev pub kv_get : Present → Pid → View → List ℕ → Outcome
 kv_get x process view key = only_reply x (reply_of_value (value_seen x.keys (viewer x process view) key))
 
+-- the keys that are seen, by rising key
+abbrev pub kv_list : Present → Pid → View → Outcome
+kv_list x process view = only_reply x (Keys (keys_of (store_seen x.keys (viewer x process view))))
+
 -- ---- every command
 
 -- the tests of a command on a machine that is up
@@ -149,15 +158,27 @@ abbrev pub command_tests : Present → Pid → Command → List (Bool × Refusal
 command_tests x process (CreateTransaction label timeout) = create_transaction_tests x process label
 command_tests x process (CommitTransaction label) = transaction_tests (named x process label)
 command_tests x process (KvSet label key value) = kv_set_tests x (named x process label) key value
+command_tests x process (KvUnset label key) = kv_unset_tests x (named x process label) key
 command_tests x process (KvGet view key) = kv_get_tests x process view key
+command_tests x process (KvList view) = view_tests x process view
 
 -- what a command does that is not refused
 abbrev pub command_effect : Present → Pid → Command → Outcome
 command_effect x process (CreateTransaction label timeout) = create_transaction x process label timeout
 command_effect x process (CommitTransaction label) = commit_transaction x (named x process label)
 command_effect x process (KvSet label key value) = kv_set x (named x process label) key value
+command_effect x process (KvUnset label key) = kv_unset x (named x process label) key
 command_effect x process (KvGet view key) = kv_get x process view key
+command_effect x process (KvList view) = kv_list x process view
+
+-- the refusal of a command, if it has one beside that of a full log
+abbrev pub refusal_of : Present → Pid → Command → Option Refusal
+refusal_of x process command = first_refusal ((not x.machine.is_up, MachineDown) ∷ command_tests x process command)
+
+-- what a command does where the log has room
+abbrev pub with_room : Present → Pid → Command → Outcome
+with_room x process command = refuse_or x (refusal_of x process command) (command_effect x process command)
 
 -- a command is decided once, on what is so now
 abbrev pub decide : Present → Pid → Command → Outcome
-decide x process command = refuse_or x (first_refusal ((not x.machine.is_up, MachineDown) ∷ command_tests x process command)) (command_effect x process command)
+decide x process command = within_log x (with_room x process command)

@@ -1,10 +1,13 @@
 -- The durable state, and what the events of a log make of it.
-use Rattle.std.specs.Prelude.{◌≡◌, ◌≢◌, ℕ, ◌+◌, ◌-◌, ◌^◌, ◌<◌, ◌≤◌, List, [], ◌∷◌, length}
+use Rattle.std.specs.Prelude.{ℕ, ◌+◌, ◌-◌, ◌^◌, ◌==◌, ◌&&◌, not, Bool, true, false, List, [], ◌∷◌, length, nat_lt, nat_le, Option, Some, None}
+use Rattle.std.specs.List.{list_all}
 use Rattle.ktm_world.specs.declared.event.Event.{Event}
 use Rattle.ktm_world.specs.declared.event.Event.TheVariants.{Boot, Single}
+use Rattle.ktm_world.specs.declared.event.Keyed.{Keyed}
 use Rattle.ktm_world.specs.declared.event.Part.{Part}
 use Rattle.ktm_world.specs.declared.event.Part.TheVariants.{Settings}
-use Rattle.ktm_world.specs.Keys.{Store, OwnSettings, stored_all}
+use Rattle.ktm_world.specs.Keyed.{is_rising}
+use Rattle.ktm_world.specs.Keys.{Store, OwnSettings, stored_all, is_bad_key, is_bad_value}
 
 pub record Durable : Type 0 where
   -- of the image's header; no event changes them
@@ -41,7 +44,36 @@ abbrev pub stand : Durable → List (List Event) → Durable
 stand base [] = base
 stand base (group ∷ groups) = stand (after_events base group) groups
 
--- does the event apply to the state
-abbrev pub Applies : Durable → Event → Type 0
-Applies s (Boot boot) = (boot ≡ s.boots + 1) × (boot < 2 ^ 32 - 1)
-Applies s (Single transaction part) = (transaction.boot ≡ s.boots) × (settings_of part ≢ []) × (length (stored_all s.keys (settings_of part)) ≤ s.units)
+-- what a key may be set to: nothing, or a value within the limit
+abbrev pub is_bad_set_to : Option (List ℕ) → Bool
+is_bad_set_to None = false
+is_bad_set_to (Some value) = is_bad_value value
+
+-- a key and what it is set to are within the limits
+abbrev pub is_good_setting : Keyed (Option (List ℕ)) → Bool
+is_good_setting setting = not (is_bad_key setting.key) && not (is_bad_set_to setting.value)
+
+-- settings that a transaction may record: one at least, by rising key, each within the limits
+abbrev pub are_good_settings : OwnSettings → Bool
+are_good_settings settings = not (length settings == 0) && is_rising settings && list_all is_good_setting settings
+
+-- does the event apply to the state, its limits then holding: a boot is the next one, a transaction is one of the present
+-- boot, and there are no more keys than units
+abbrev pub fact_applies : Durable → Event → Bool
+fact_applies s (Boot boot) = boot == s.boots + 1 && nat_lt boot (2 ^ 32 - 1)
+fact_applies s (Single transaction part) =
+    transaction.boot == s.boots && are_good_settings (settings_of part) && nat_le (length (stored_all s.keys (settings_of part))) s.units
+
+-- and there are fewer than 2^63 events then
+abbrev pub event_applies : Durable → Event → Bool
+event_applies s event = fact_applies s event && nat_lt (s.events + 1) (2 ^ 63)
+
+-- do the events apply, one after another
+abbrev pub events_apply : Durable → List Event → Bool
+events_apply s [] = true
+events_apply s (event ∷ events) = event_applies s event && events_apply (after_event s event) events
+
+-- do the groups of a log apply, one after another
+abbrev pub log_applies : Durable → List (List Event) → Bool
+log_applies base [] = true
+log_applies base (group ∷ groups) = events_apply base group && log_applies (after_events base group) groups

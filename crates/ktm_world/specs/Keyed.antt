@@ -1,5 +1,5 @@
 -- Lists of values under keys, by rising key. Keys are compared byte by byte.
-use Rattle.std.specs.Prelude.{ℕ, Bool, List, [], ◌∷◌, Option, Some, None, if◌then◌else◌}
+use Rattle.std.specs.Prelude.{ℕ, Bool, true, ◌&&◌, List, [], ◌∷◌, Option, Some, None, if◌then◌else◌}
 use Rattle.std.specs.Ordering.{is_lt, nat_cmp}
 use Rattle.std.specs.Cmp.Lexicographic.{slice_cmp}
 use Rattle.std.specs.Str.{bytes_eq}
@@ -25,3 +25,13 @@ put (x ∷ xs) key value =
 abbrev pub without : {V : Type 0} → List (Keyed V) → List ℕ → List (Keyed V)
 without [] key = []
 without (x ∷ xs) key = if bytes_eq x.key key then xs else x ∷ without xs key
+
+-- does the key come before the first key of the list, if it has one
+abbrev pub comes_first : {V : Type 0} → List ℕ → List (Keyed V) → Bool
+comes_first key [] = true
+comes_first key (x ∷ xs) = comes_before key x.key
+
+-- does each key of the list come before the next one
+abbrev pub is_rising : {V : Type 0} → List (Keyed V) → Bool
+is_rising [] = true
+is_rising (x ∷ xs) = comes_first x.key xs && is_rising xs

@@ -1,9 +1,17 @@
 -- The store of keys, and what each undecided transaction has set.
-use Rattle.std.specs.Prelude.{ℕ, ◌+◌, ◌&&◌, ◌||◌, not, Bool, false, List, [], ◌∷◌, length, Option, Some, None, is_some, sum_by, count_by, if◌then◌else◌}
+use Rattle.std.specs.Prelude.{ℕ, ◌+◌, ◌==◌, ◌&&◌, ◌||◌, not, Bool, false, List, [], ◌∷◌, length, map, nat_lt, Option, Some, None, is_some, is_none, sum_by, count_by, if◌then◌else◌}
 use Rattle.ktm_base.specs.declared.id.Id.{Id}
 use Rattle.ktm_world.specs.declared.event.Keyed.{Keyed}
 use Rattle.ktm_world.specs.Keyed.{value_at, put, without}
 use Rattle.ktm_world.specs.Transactions.{same_id}
+
+-- a key has 1 to 64 bytes
+abbrev pub is_bad_key : List ℕ → Bool
+is_bad_key key = (length key == 0) || nat_lt 64 (length key)
+
+-- a value has at most 960 bytes
+abbrev pub is_bad_value : List ℕ → Bool
+is_bad_value value = nat_lt 960 (length value)
 
 -- committed keys with their values
 abbrev pub Store : Type 0
@@ -55,6 +63,10 @@ is_held_by_other (o ∷ os) id key = (not (same_id o.transaction id) && is_some 
 abbrev pub keys_used : KeysNow → ℕ
 keys_used keys = length keys.store + sum_by (λ o. count_by (λ s. is_some s.value) o.settings) keys.own
 
+-- the changes that wait: the keys that each undecided transaction unsets
+abbrev pub changes_pending : KeysNow → ℕ
+changes_pending keys = sum_by (λ o. count_by (λ s. is_none s.value) o.settings) keys.own
+
 -- a setting is made in the store
 abbrev pub stored : Store → Keyed (Option (List ℕ)) → Store
 stored store setting = elim setting.value as (λ _. Store) [ Some value ↦ put store setting.key value | None ↦ without store setting.key ]
@@ -63,3 +75,12 @@ stored store setting = elim setting.value as (λ _. Store) [ Some value ↦ put 
 abbrev pub stored_all : Store → OwnSettings → Store
 stored_all store [] = store
 stored_all store (s ∷ ss) = stored_all (stored store s) ss
+
+-- the store as a transaction sees it, with its own settings made in it, or as all see it
+abbrev pub store_seen : KeysNow → Option Id → Store
+store_seen keys None = keys.store
+store_seen keys (Some id) = stored_all keys.store (own_settings keys.own id)
+
+-- the keys of a store
+abbrev pub keys_of : Store → List (List ℕ)
+keys_of store = map (λ x. x.key) store

@@ -1,28 +1,41 @@
 -- Laws of the model.
-use Rattle.std.specs.Prelude.{◌≡◌, ◌∷◌, not, List, Some}
+use Rattle.std.specs.Prelude.{◌≡◌, ℕ, ◌^◌, ◌<◌, ◌≤◌, List, length, Some, IsTrue}
 use Rattle.ktm_base.specs.declared.id.Pid.{Pid}
 use Rattle.ktm_base.specs.declared.refusal.Refusal.{Refusal}
-use Rattle.ktm_base.specs.declared.refusal.Refusal.TheVariants.{MachineDown}
 use Rattle.ktm_world.specs.declared.command.Command.{Command}
-use Rattle.ktm_world.specs.Outcome.{Outcome, first_refusal}
-use Rattle.ktm_world.specs.Decide.{command_tests}
-use Rattle.ktm_world.specs.Durable.{Durable}
-use Rattle.ktm_world.specs.World.{World, Group, present, after, extend, apply, step, opened, IsLawful}
+use Rattle.ktm_world.specs.Outcome.{Outcome}
+use Rattle.ktm_world.specs.Present.{Present}
+use Rattle.ktm_world.specs.Decide.{refusal_of}
+use Rattle.ktm_world.specs.Durable.{Durable, events_apply, log_applies, stand}
+use Rattle.ktm_world.specs.EventGrammar.{IsGroupOf}
+use Rattle.ktm_world.specs.Sizes.{group_size}
+use Rattle.ktm_world.specs.Values.{IsCommand}
+use Rattle.ktm_world.specs.World.{World, Group, present, after, extend, apply, step, opened, own_group, IsLawfulNow, IsLawful}
 
 -- appending to the history and recomputing is the same as changing what was computed, for every outcome and so for every command
 abbrev pub StepLaw : Type 0
 StepLaw = ((w : World) (o : Outcome) → present (extend w o) ≡ apply (present w) o)
     × ((w : World) (process : Pid) (command : Command) → present (after w process command) ≡ step (present w) process command)
 
--- a command that is refused leaves the world as it was
+-- a command that is refused, but for a full log, leaves the world as it was
 abbrev pub RefusalLaw : Type 0
 RefusalLaw = (w : World) (process : Pid) (command : Command) (refusal : Refusal)
-    → first_refusal ((not (present w).machine.is_up, MachineDown) ∷ command_tests (present w) process command) ≡ Some refusal
-    → after w process command ≡ w
+    → refusal_of (present w) process command ≡ Some refusal → after w process command ≡ w
 
--- each command keeps what is lawful together
+-- each command keeps what is lawful now
+abbrev pub LawfulNowLaw : Type 0
+LawfulNowLaw = (x : Present) (process : Pid) (command : Command) → IsCommand command → IsLawfulNow x → IsLawfulNow (step x process command)
+
+-- each command keeps what is lawful together, while there are fewer than 2^63 events
 abbrev pub LawfulLaw : Type 0
-LawfulLaw = (w : World) (process : Pid) (command : Command) → IsLawful w → IsLawful (after w process command)
+LawfulLaw = (w : World) (process : Pid) (command : Command) → IsCommand command → (present (after w process command)).machine.events < 2 ^ 63
+    → IsLawful w → IsLawful (after w process command)
 
+-- a restart opens a lawful world, from a log that applies, where its own group applies too
 abbrev pub OpenedLaw : Type 0
-OpenedLaw = (base : Durable) (log : List Group) → IsLawful (opened base log)
+OpenedLaw = (base : Durable) (room : ℕ) (log : List Group) → IsTrue (log_applies base log) → IsTrue (events_apply (stand base log) (own_group (stand base log)))
+    → length base.keys ≤ base.units → IsLawful (opened base room log)
+
+-- a group takes as many bytes as are counted for it
+abbrev pub SizeLaw : Type 0
+SizeLaw = (group : Group) (bytes : List ℕ) → IsGroupOf group bytes → length bytes ≡ group_size group

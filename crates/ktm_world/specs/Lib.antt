@@ -1,4 +1,5 @@
 pub mod Keyed
+pub mod Slot
 pub mod Handles
 pub mod Transactions
 pub mod Keys
@@ -11,3 +12,5 @@ pub mod Transcript
 pub mod EventGrammar
 pub mod Laws
 pub mod Rows
+pub mod Values
+pub mod Sizes

@@ -14,6 +14,8 @@ pub record Machine : Type 0 where
   pub is_up : Bool
   -- how many events were ever recorded
   pub events : ℕ
+  -- how many bytes are left in the log
+  pub left : ℕ
 
 pub record Present : Type 0 where
   pub machine : Machine

@@ -4,10 +4,10 @@ use Rattle.ktm_base.specs.declared.id.Pid.{Pid}
 use Rattle.ktm_base.specs.declared.id.Label.{Label}
 use Rattle.ktm_base.specs.declared.refusal.Refusal.TheVariants.{NotFound, TransactionAlreadyCommitted, InvalidParameter, TransactionalConflict}
 use Rattle.ktm_world.specs.declared.command.Command.{Command}
-use Rattle.ktm_world.specs.declared.command.Command.TheVariants.{CreateTransaction, CommitTransaction, KvSet, KvGet}
+use Rattle.ktm_world.specs.declared.command.Command.TheVariants.{CreateTransaction, CommitTransaction, KvSet, KvUnset, KvGet, KvList}
 use Rattle.ktm_world.specs.declared.command.View.TheVariants.{Plain, Transaction}
 use Rattle.ktm_world.specs.declared.reply.Reply.{Reply}
-use Rattle.ktm_world.specs.declared.reply.Reply.TheVariants.{Refused, Done, Guid, Committed, Contents}
+use Rattle.ktm_world.specs.declared.reply.Reply.TheVariants.{Refused, Done, Guid, Committed, Contents, Keys as KeyList}
 use Rattle.ktm_world.specs.Decide.{decide}
 use Rattle.ktm_world.specs.Durable.{empty_state}
 use Rattle.ktm_world.specs.World.{World, present, after, opened}
@@ -19,7 +19,7 @@ answers w (call ∷ calls) = (decide (present w) call.0 call.1).reply ∷ answer
 
 -- a new image of 1,024 units with the number 1, after its first boot
 abbrev pub blank : World
-blank = opened (empty_state 1024 1) []
+blank = opened (empty_state 1024 1) 8454144 []
 
 abbrev pub p1 : Pid
 p1 = record { 0 = 1 }
@@ -66,11 +66,13 @@ Keys =
     ∷ (p2, CreateTransaction h1 0)
     ∷ (p1, KvSet h1 (98 ∷ []) (2 ∷ []))
     ∷ (p1, KvSet h1 (97 ∷ []) (1 ∷ []))
+    ∷ (p1, KvList (Transaction h1))
+    ∷ (p1, KvList Plain)
     ∷ (p2, KvSet h1 (97 ∷ []) (3 ∷ []))
-    ∷ (p2, KvGet (Transaction h1) (97 ∷ []))
+    ∷ (p1, KvUnset h1 (98 ∷ []))
+    ∷ (p1, KvUnset h1 (98 ∷ []))
     ∷ (p1, CommitTransaction h1)
     ∷ (p2, KvGet (Transaction h1) (97 ∷ []))
-    ∷ (p2, KvSet h1 (97 ∷ []) (3 ∷ []))
     ∷ (p2, KvSet h1 [] (0 ∷ []))
     ∷ []
     )
@@ -78,10 +80,12 @@ Keys =
     ∷ Guid (transaction_guid 2)
     ∷ Done
     ∷ Done
+    ∷ KeyList ((97 ∷ []) ∷ (98 ∷ []) ∷ [])
+    ∷ KeyList []
     ∷ Refused TransactionalConflict
+    ∷ Done
     ∷ Refused NotFound
     ∷ Committed
     ∷ Contents (1 ∷ [])
-    ∷ Done
     ∷ Refused InvalidParameter
     ∷ []

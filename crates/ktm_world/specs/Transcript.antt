@@ -1,24 +1,55 @@
 -- What the lines of a script may come to.
-use Rattle.std.specs.Prelude.{◌≡◌, true, List, [], ◌∷◌, Option, Some, None}
-use Rattle.ktm_base.specs.declared.refusal.Refusal.TheVariants.{BadLine, MachineDown}
+use Rattle.std.specs.Prelude.{◌≡◌, Bool, true, false, List, [], ◌∷◌, Option, Some, None, Contains}
+use Rattle.ktm_base.specs.declared.refusal.Refusal.TheVariants.{BadLine, MachineDown, MachineUp, LogFull}
 use Rattle.ktm_world.specs.declared.command.Line.{Line}
-use Rattle.ktm_world.specs.declared.command.Line.TheVariants.{Process}
+use Rattle.ktm_world.specs.declared.command.Line.TheVariants.{Cut, Crash, Restart, Process}
 use Rattle.ktm_world.specs.declared.reply.Reply.{Reply}
-use Rattle.ktm_world.specs.declared.reply.Reply.TheVariants.{Refused}
+use Rattle.ktm_world.specs.declared.reply.Reply.TheVariants.{Refused, Done, Restarted}
 use Rattle.ktm_world.specs.Decide.{decide}
-use Rattle.ktm_world.specs.World.{World, present, after, interrupted_world, is_up}
+use Rattle.ktm_world.specs.Durable.{stand}
+use Rattle.ktm_world.specs.World.{World, Group, present, after, crashed, interrupted_world, interrupted_restart, found_full, is_full_to_open, opened, possible_logs, is_up}
 
--- what came of a line
+-- what came of a line: it was answered, the power went in it, or it was a restart that found this log, with room for what it
+-- records or without
 pub data Step : Type 0 where
   answered : Step
   interrupted : Step
+  found : List Group → Step
+  full : List Group → Step
+
+-- a crash of a machine that is up or down
+abbrev pub CrashDoes : Bool → World → Reply → World → Type 0
+CrashDoes true w reply new = (reply ≡ Done) × (new ≡ crashed w)
+CrashDoes false w reply new = (reply ≡ Refused MachineDown) × (new ≡ w)
+
+-- a restart on a machine that is down, one of whose possible logs was found
+pub record Finds (w : World) (log : List Group) (is_full : Bool) : Type 0 where
+  pub down : is_up w.power ≡ false
+  pub possible : Contains (possible_logs w) log
+  pub room : is_full_to_open w log ≡ is_full
 
 -- from a world, a line comes by this step to this reply and this world; a line that is not in the grammar is none
 abbrev pub Does : World → Option Line → Step → Reply → World → Type 0
 Does w (Some (Process process command)) answered reply new = (reply ≡ (decide (present w) process command).reply) × (new ≡ after w process command)
 Does w (Some (Process process command)) interrupted reply new = (is_up w.power ≡ true) × (reply ≡ Refused MachineDown) × (new ≡ interrupted_world w process command)
+Does w (Some (Process process command)) (found log) reply new = ⊥
+Does w (Some (Process process command)) (full log) reply new = ⊥
+Does w (Some (Cut calls)) answered reply new = (reply ≡ Done) × (new ≡ w)
+Does w (Some (Cut calls)) interrupted reply new = ⊥
+Does w (Some (Cut calls)) (found log) reply new = ⊥
+Does w (Some (Cut calls)) (full log) reply new = ⊥
+Does w (Some Crash) answered reply new = CrashDoes (is_up w.power) w reply new
+Does w (Some Crash) interrupted reply new = ⊥
+Does w (Some Crash) (found log) reply new = ⊥
+Does w (Some Crash) (full log) reply new = ⊥
+Does w (Some (Restart pick)) answered reply new = (is_up w.power ≡ true) × (reply ≡ Refused MachineUp) × (new ≡ w)
+Does w (Some (Restart pick)) interrupted reply new = (is_up w.power ≡ false) × (reply ≡ Refused MachineDown) × (new ≡ interrupted_restart w)
+Does w (Some (Restart pick)) (found log) reply new = Finds w log false × (reply ≡ Restarted (stand w.base log).events 0) × (new ≡ opened w.base w.room log)
+Does w (Some (Restart pick)) (full log) reply new = Finds w log true × (reply ≡ Refused LogFull) × (new ≡ found_full w log)
 Does w None answered reply new = (reply ≡ Refused BadLine) × (new ≡ w)
 Does w None interrupted reply new = ⊥
+Does w None (found log) reply new = ⊥
+Does w None (full log) reply new = ⊥
 
 -- the lines that have a reply, with a step and a reply for each
 abbrev pub Transcript : World → List (Option Line) → List Step → List Reply → World → Type 0

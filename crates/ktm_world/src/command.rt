@@ -4,6 +4,13 @@ use ktm_base::{Bytes, Label, Pid, Text};
 /// A line of a script that is in its grammar.
 #[derive(Clone, PartialEq, Debug, Drop)]
 pub enum Line {
+    /// The power goes once so many more calls of the disk have passed.
+    Cut(u64),
+    /// The power goes now.
+    Crash,
+    /// The power is back and the machine starts. What the last loss of power left in bytes that were not synced depends on
+    /// the number.
+    Restart(u64),
     /// A process calls the system.
     Process(Pid, Command),
 }
@@ -26,10 +33,19 @@ pub enum Command {
         key: Text,
         value: Bytes,
     },
+    /// Takes the value of a key away, in a transaction.
+    KvUnset {
+        transaction: Label,
+        key: Text,
+    },
     /// Reads the value of a key.
     KvGet {
         view: View,
         key: Text,
+    },
+    /// Lists the keys that have a value, by rising key.
+    KvList {
+        view: View,
     },
 }
 

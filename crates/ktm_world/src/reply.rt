@@ -1,5 +1,5 @@
 // What the machine answers.
-use ktm_base::{Bytes, Refusal};
+use ktm_base::{Bytes, Refusal, TextList};
 use uuid::Uuid;
 
 /// The answer to a line.
@@ -16,4 +16,10 @@ pub enum Reply {
     Pending,
     /// Bytes of a file or of a value.
     Contents(Bytes),
+    /// Keys, by rising key.
+    Keys(TextList),
+    /// The machine started: how many events it found, and how many transactions are in doubt.
+    Restarted { events: u64, in_doubt: u32 },
+    /// The image cannot be opened, for what stands at this offset.
+    BadImage(u64),
 }

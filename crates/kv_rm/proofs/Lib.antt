@@ -1,4 +1,3 @@
-pub mod Slots
 pub mod Places
 pub mod Counts
-pub mod Stores
+pub mod MarkLemmas

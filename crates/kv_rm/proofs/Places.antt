@@ -6,7 +6,7 @@ use Rattle.ktm_world.specs.Keyed.{put}
 use Rattle.ktm_world.specs.Keys.{Own, own_settings, with_own, without_own}
 use Rattle.ktm_world.specs.Transactions.{same_id}
 use Rattle.kv_rm.specs.Place.{IsPlace}
-use Rattle.kv_rm.proofs.Slots.{rest_is}
+use Rattle.ktm_world.proofs.Slots.{rest_is}
 
 own_settings_same : (o : Own) (os : List Own) (id : Id) → same_id o.transaction id ≡ true → own_settings (o ∷ os) id ≡ o.settings
 own_settings_same o os id same = rw same refl

@@ -1,4 +1,4 @@
-pub mod Slot
 pub mod Place
 pub mod Count
+pub mod Marks
 pub mod KvState

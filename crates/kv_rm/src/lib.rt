@@ -2,8 +2,7 @@
 #![tactic(auto)]
 
 mod count;
-mod keyed;
-mod make;
+mod list;
 mod own;
 mod rm;
 
@@ -13,6 +12,7 @@ pub use rm::KvRm;
 mod tests {
     use super::*;
     use ktm_base::{Bytes, Id, Text};
+    use ktm_world::{Durable, Event, Part, Settings};
     use std::alloc::Global;
     use std::process::Abort;
     use std::test::Fail;
@@ -34,6 +34,11 @@ mod tests {
         Ok(())
     }
 
+    fn unset(alloc: Global, keys: &mut KvRm, transaction: Id, key: &[u8]) -> Result<(), Fail> {
+        keys.unset(transaction, Text::new(key.to_vec(alloc)?))?;
+        Ok(())
+    }
+
     fn commit(keys: &mut KvRm, transaction: Id) -> Result<(), Fail> {
         keys.reserve(transaction)?;
         keys.commit(transaction);
@@ -51,10 +56,27 @@ mod tests {
         }
     }
 
+    // The keys that are seen, each with a comma after it.
+    fn check_list(
+        rt: &impl Abort,
+        alloc: Global,
+        keys: &KvRm,
+        who: Option<Id>,
+        seen: &[u8],
+    ) -> Result<(), Fail> {
+        let mut line = Vec::new(alloc);
+        for key in keys.keys_seen(alloc, who)?.as_slice() {
+            line.extend_from_slice(key.as_slice())?;
+            line.push(b',')?;
+        }
+        assert_eq!(rt; line.as_slice(), seen);
+        Ok(())
+    }
+
     #[test]
     fn settings_are_seen_once_committed(rt: HostRuntime) -> Result<(), Fail> {
         let alloc = rt.alloc();
-        let mut keys = KvRm::new(alloc);
+        let mut keys = KvRm::with_store(alloc, Vec::new(alloc));
         set(alloc, &mut keys, FIRST, b"b", b"two")?;
         set(alloc, &mut keys, FIRST, b"a", b"one")?;
         let mut order = Vec::new(alloc);
@@ -76,6 +98,74 @@ mod tests {
         check(&rt, &keys, None, &[(b"a", b"one"), (b"b", b"two")]);
         commit(&mut keys, SECOND)?;
         check(&rt, &keys, None, &[(b"a", b"three"), (b"b", b"two")]);
+        Ok(())
+    }
+
+    // Three keys, committed.
+    fn three_keys(alloc: Global) -> Result<KvRm, Fail> {
+        let mut keys = KvRm::with_store(alloc, Vec::new(alloc));
+        set(alloc, &mut keys, FIRST, b"b", b"two")?;
+        set(alloc, &mut keys, FIRST, b"c", b"three")?;
+        set(alloc, &mut keys, FIRST, b"a", b"one")?;
+        commit(&mut keys, FIRST)?;
+        Ok(keys)
+    }
+
+    #[test]
+    fn keys_are_listed(rt: HostRuntime) -> Result<(), Fail> {
+        let alloc = rt.alloc();
+        let mut keys = three_keys(alloc)?;
+        unset(alloc, &mut keys, SECOND, b"b")?;
+        set(alloc, &mut keys, SECOND, b"bb", b"four")?;
+        check_list(&rt, alloc, &keys, Some(SECOND), b"a,bb,c,")?;
+        check_list(&rt, alloc, &keys, None, b"a,b,c,")?;
+        commit(&mut keys, SECOND)?;
+        check_list(&rt, alloc, &keys, None, b"a,bb,c,")?;
+        Ok(())
+    }
+
+    #[test]
+    fn keys_are_unset(rt: HostRuntime) -> Result<(), Fail> {
+        let alloc = rt.alloc();
+        let mut keys = three_keys(alloc)?;
+        unset(alloc, &mut keys, SECOND, b"b")?;
+        check(&rt, &keys, Some(SECOND), &[(b"a", b"one"), (b"b", b"")]);
+        check(&rt, &keys, None, &[(b"a", b"one"), (b"b", b"two")]);
+        assert!(rt; keys.is_held_by_other(FIRST, b"b"));
+        assert!(rt; keys.is_full_of_changes_with(1, SECOND, b"a"));
+        assert!(rt; !keys.is_full_of_changes_with(2, SECOND, b"a"));
+        assert!(rt; !keys.is_full_of_changes_with(1, SECOND, b"b"));
+        assert!(rt; keys.is_full_with(3, SECOND, b"b"));
+        commit(&mut keys, SECOND)?;
+        check(&rt, &keys, None, &[(b"a", b"one"), (b"b", b"")]);
+        Ok(())
+    }
+
+    #[test]
+    fn committed_keys_are_found_again(rt: HostRuntime) -> Result<(), Fail> {
+        let alloc = rt.alloc();
+        let mut keys = KvRm::with_store(alloc, Vec::new(alloc));
+        set(alloc, &mut keys, FIRST, b"b", b"two")?;
+        set(alloc, &mut keys, FIRST, b"a", b"one")?;
+        let mut settings = Vec::new(alloc);
+        for setting in keys.own_settings(FIRST) {
+            settings.push(setting.clone()?)?;
+        }
+        let part = Part::Settings(Settings::new(settings));
+        let mut events = Vec::new(alloc);
+        events.push(Event::Boot { boot: 1 })?;
+        events.push(Event::Single {
+            transaction: FIRST,
+            part,
+        })?;
+        let mut state = Durable::empty(alloc, 4, 7);
+        assert!(rt; state.apply_all(events)?);
+        assert_eq!(rt; state.units(), 4);
+        assert_eq!(rt; state.image(), 7);
+        assert_eq!(rt; state.events(), 2);
+        assert_eq!(rt; state.boots(), 1);
+        let keys = KvRm::with_store(alloc, state.into_keys());
+        check(&rt, &keys, None, &[(b"a", b"one"), (b"b", b"two")]);
         Ok(())
     }
 }

@@ -5,9 +5,8 @@ ghost use Rattle.ktm_world.specs.Keys.{own_settings, with_own, without_own, is_h
 ghost use Rattle.ktm_world.specs.Transactions.{same_id};
 ghost use Rattle.kv_rm.specs.Place.{IsPlace, IsAbsent};
 
-use crate::keyed;
 use ktm_base::{Bytes, Id, NoMemory, Text};
-use ktm_world::{Keyed, Setting};
+use ktm_world::{Keyed, Setting, keyed};
 use std::alloc::Global;
 use std::marker::Model;
 

@@ -1,14 +1,14 @@
 // The manager.
-ghost use Rattle.std.specs.Prelude.{◌≡◌, ◌≤◌, ℕ, List, [], Some, OnOk, OnErr, IsOk, length, nat_lt};
+ghost use Rattle.std.specs.Prelude.{◌≡◌, ◌≤◌, ℕ, List, [], Some, None, IfOk, OnOk, OnErr, IsOk, length, nat_lt};
 ghost use Rattle.std.specs.Option.{option_copied};
-ghost use Rattle.ktm_world.specs.Keys.{own_settings, with_own, without_own, value_seen, is_held_by_other, keys_used, stored_all};
+ghost use Rattle.ktm_world.specs.Keys.{own_settings, with_own, without_own, value_seen, is_held_by_other, keys_used, changes_pending, stored_all, store_seen, keys_of};
 
-use crate::count::{keys_in_use, own_gains};
-use crate::keyed::value_of;
-use crate::make::make_all;
+use crate::count::{Counted, count_own, own_gains};
+use crate::list::keys_with;
 use crate::own::{OwnKeys, is_held, set_own, settings_of, take_own};
-use ktm_base::{Bytes, Id, NoMemory, Text};
-use ktm_world::{Entry, Setting};
+use ktm_base::{Bytes, Id, NoMemory, Text, TextList};
+use ktm_world::keyed::value_of;
+use ktm_world::{Entry, Setting, make_all};
 use std::alloc::Global;
 use std::marker::Model;
 
@@ -33,13 +33,13 @@ impl Model for KvRm {
 }
 
 impl KvRm {
-    /// With no key.
-    pub fn new(alloc: Global) -> Self
-        ensures { result.keys ≡ record { store = []; own = [] } }
+    /// With these committed keys, which rise.
+    pub fn with_store(alloc: Global, store: Vec<Entry>) -> Self
+        ensures { result.keys ≡ record { store = store.items; own = [] } }
     {
         KvRm {
             alloc,
-            store: Vec::new(alloc),
+            store,
             own: Vec::new(alloc),
         }
     }
@@ -56,6 +56,16 @@ impl KvRm {
         value_of(&self.store, key)
     }
 
+    /// The keys that a transaction sees, or that the plain view has, where there is no transaction: by rising key.
+    pub fn keys_seen(&self, alloc: Global, who: Option<Id>) -> Result<TextList, NoMemory>
+        ensures { IfOk result (λ keys. keys ≡ keys_of (store_seen self.now.keys who)) }
+    {
+        match who {
+            Some(transaction) => keys_with(alloc, &self.store, settings_of(&self.own, transaction)),
+            None => keys_with(alloc, &self.store, &[]),
+        }
+    }
+
     /// Has another transaction, undecided yet, set or unset the key.
     pub fn is_held_by_other(&self, transaction: Id, key: &[u8]) -> bool
         ensures { result ≡ is_held_by_other self.now.keys.own transaction key.now }
@@ -67,9 +77,18 @@ impl KvRm {
     pub fn is_full_with(&self, units: u32, transaction: Id, key: &[u8]) -> bool
         ensures { (value : List ℕ) → result ≡ nat_lt units (keys_used (record self.now.keys { own = with_own self.now.keys.own transaction key.now (Some value) })) }
     {
-        let used = keys_in_use(self.store.len(), &self.own);
-        let more = usize::from(own_gains(&self.own, transaction, key));
+        let used = count_own(Counted::Values, self.store.len(), &self.own);
+        let more = usize::from(own_gains(Counted::Values, &self.own, transaction, key));
         used.saturating_add(more) > units as usize
+    }
+
+    /// Would one change more that waits, the key unset by this transaction, pass the limit.
+    pub fn is_full_of_changes_with(&self, units: u32, transaction: Id, key: &[u8]) -> bool
+        ensures { result ≡ nat_lt units (changes_pending (record self.now.keys { own = with_own self.now.keys.own transaction key.now None })) }
+    {
+        let waiting = count_own(Counted::Unsets, 0, &self.own);
+        let more = usize::from(own_gains(Counted::Unsets, &self.own, transaction, key));
+        waiting.saturating_add(more) > units as usize
     }
 
     /// A value in place of the transaction's earlier one, where it has one under the key.
@@ -79,6 +98,15 @@ impl KvRm {
         ensures room { self.new.room ≡ self.old.room }
     {
         set_own(self.alloc, &mut self.own, transaction, key, Some(value))
+    }
+
+    /// The key has no value, once the transaction commits.
+    pub fn unset(&mut self, transaction: Id, key: Text) -> Result<(), NoMemory>
+        ensures ok { OnOk result (self.new.keys ≡ record self.old.keys { own = with_own self.old.keys.own transaction key None }) }
+        ensures err { OnErr result (self.new.keys ≡ self.old.keys) }
+        ensures room { self.new.room ≡ self.old.room }
+    {
+        set_own(self.alloc, &mut self.own, transaction, key, None)
     }
 
     /// In the order in which a commit makes them.

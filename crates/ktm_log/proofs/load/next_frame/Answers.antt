@@ -1,22 +1,19 @@
-use Rattle.std.proofs.Common.{◌≡◌, ℕ, ◌+◌, ◌≤◌, List, length, take, drop, get_or, refl, ◌∙◌, ap, sym, arith, length-take, length-drop}
+use Rattle.std.proofs.Common.{◌≡◌, ℕ, ◌+◌, ◌≤◌, List, length, take, drop, get_or, ◌∙◌, ap, sym, arith, length-take, length-drop}
 use Rattle.std.proofs.lemmas.List.{get_or_read, take_rest}
 use Rattle.ktm_log.specs.Log.{size_at}
 use Rattle.ktm_log.proofs.Loading.{loads_then, finds_torn, finds_frame}
 use Rattle.ktm_log.proofs.load.next_frame.Goals as goal
 
-pub returns-then-area-at-clause-bad : goal.returns-then-area-at-clause-bad
-returns-then-area-at-clause-bad g c =
+pub returns-then-area-at-clause-torn : goal.returns-then-area-at-clause-torn
+returns-then-area-at-clause-torn g c =
     let at = c.args.at in
     let first = c.load.new.read.items in
     let second = c.load-2.new.read.items in
     let gate : get_or first at 0 ≡ 1 = sym (get_or_read first at c.index.result.now (omega (arith, c.in_default.ensures.upto)) c.index.ensures 0) ∙ c.if-index-ne1.false in
     let size : c.from-size.result ≡ size_at (drop at second) =
-    c.from-size.ensures ∙ c.payload_size.ensures ∙ ap size_at (take_rest c.deref.result.now at) ∙ ap (λ (l : List ℕ). size_at (drop at l)) c.deref.ensures.value in (
-      refl,
-      c.in_default-load.ensures.holds.up (omega (arith, c.in_default-load.ensures.upto)),
-      finds_torn c.args.area at first second c.from-size.result (omega (arith, c.in_default.ensures.upto)) gate (omega (arith, c.in_default-load.ensures.upto)) size
-          _ _ c.load-2.ensures.same c.in_default.ensures.holds.bytes c.in_default-load.ensures.holds.bytes (omega arith) (omega arith),
-    )
+    c.from-size.ensures ∙ c.payload_size.ensures ∙ ap size_at (take_rest c.deref.result.now at) ∙ ap (λ (l : List ℕ). size_at (drop at l)) c.deref.ensures.value in
+    finds_torn c.args.area at first second c.from-size.result (omega (arith, c.in_default.ensures.upto)) gate (omega (arith, c.in_default-load.ensures.upto)) size
+    _ _ c.load-2.ensures.same c.in_default.ensures.holds.bytes c.in_default-load.ensures.holds.bytes (omega arith) (omega arith)
 
 pub returns-in-Err-load-2-clause-loads : goal.returns-in-Err-load-2-clause-loads
 returns-in-Err-load-2-clause-loads g c =

@@ -1,16 +1,42 @@
-use Rattle.std.proofs.Common.{sym, ◌∙◌, ap}
-use Rattle.ktm_run.proofs.Lines.{Progress-silent, Progress-line, has_reply-kept, Means-kept}
-use Rattle.ktm_run.specs.Script.{has_reply}
+use Rattle.std.proofs.Common.{◌≡◌, inl, inr, List, ℕ, ◌++◌, [], ◌∷◌, sym, ◌∙◌, ap, subst}
+use Rattle.ktm_run.proofs.Breaks.{unanswered_here, unanswered_kept, did_planned, unanswered_planned, half_written, AppendsPart-none}
+use Rattle.ktm_run.proofs.Known.{Appends-none}
+use Rattle.ktm_run.proofs.Lines.{has_reply-kept, Means-kept}
+use Rattle.ktm_run.proofs.Runs.{Progress-silent, Progress-line}
+use Rattle.ktm_run.specs.Script.{has_reply, AppendsPart}
 use Rattle.ktm_run.proofs.line.do_line.Goals as goal
 
 pub returns-then-not-is_answered-clause-done : goal.returns-then-not-is_answered-clause-done
 returns-then-not-is_answered-clause-done g c = λ line is. Progress-silent _ line (sym (has_reply-kept line) ∙ ap has_reply (sym is) ∙ sym c.if-not-is_answered.ensures)
 
+pub returns-in-Err-clause-broke : goal.returns-in-Err-clause-broke
+returns-in-Err-clause-broke g c = λ line is w stands.
+    rw (c.in-Err.ensures.err, c.in-Err.ensures.same) (inl (Appends-none _, unanswered_here w _ line stands))
+
+pub returns-in_default-answer-clause-broke : goal.returns-in_default-answer-clause-broke
+returns-in_default-answer-clause-broke g c = λ line is w stands.
+    inl (
+      Appends-none _,
+      unanswered_planned c.args.kernel.now _ _ c.plan_room.ensures.same _ _ _ c.plan_room.ensures.others w line
+          (λ v at. unanswered_kept v _ _ line (rw is at (c.in_default-answer.ensures.no_memory v at))) stands,
+    )
+
+pub returns-in_default-write_reply-clause-broke : goal.returns-in_default-write_reply-clause-broke
+returns-in_default-write_reply-clause-broke g c = λ line is w stands.
+    let (meant, means, answers) = c.in-Ok.ensures.does in
+    inr (half_written c.args.kernel.now _ _ c.plan_room.ensures.same _ _ _ c.plan_room.ensures.others w _ _ line meant c.in-Ok.reply (Means-kept line meant (rw is at means)) answers (AppendsPart-none _ _) stands)
+
+pub returns-in-Err-write_line-clause-broke : goal.returns-in-Err-write_line-clause-broke
+returns-in-Err-write_line-clause-broke g c = λ line is w stands.
+    let (meant, means, answers) = c.in-Ok.ensures.does in
+    inr (half_written c.args.kernel.now _ _ c.plan_room.ensures.same _ _ _ c.plan_room.ensures.others w _ _ line meant c.in-Ok.reply (Means-kept line meant (rw is at means)) answers
+    (rw (← c.in-Ok-write_reply.ensures, ← c.as_slice.ensures) c.in-Err-write_line.ensures.err) stands)
+
 pub returns-clause-done : goal.returns-clause-done
 returns-clause-done g c = λ line is.
-    Progress-line _ _ line c.in-Ok.reply
+    let (meant, means, answers) = c.in-Ok.ensures.does in
+    Progress-line _ _ line meant c.in-Ok.reply
     (sym (has_reply-kept line) ∙ ap has_reply (sym is) ∙ sym c.if-not-is_answered.ensures)
-    (λ w stands. let (meant, means, came) = c.in-Ok.ensures.does w stands in (meant, Means-kept line meant (rw is at means), came))
+    (Means-kept line meant (rw is at means))
+    (λ w stands. did_planned c.args.kernel.now _ _ c.plan_room.ensures.same _ _ _ c.plan_room.ensures.others w meant c.in-Ok.reply answers stands)
     (rw (← c.in-Ok-write_reply.ensures, ← c.as_slice.ensures) c.in_default-write_line.ensures.ok)
-    c.in-Ok.ensures.downs
-    c.in-Ok.ensures.cause

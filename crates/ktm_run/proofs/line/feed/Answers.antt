@@ -1,12 +1,13 @@
 use Rattle.std.proofs.Common.{ℕ, List, [], ◌∷◌, ◌++◌, get_or, refl, sym, ◌∙◌, ap, append_assoc, arith}
 use Rattle.std.proofs.lemmas.List.{append-nil, drop_all}
 use Rattle.std.proofs.lemmas.Bool.{ne_eqb}
-use Rattle.ktm_run.proofs.Lines.{Progress-none, Progress-as, Progress-then, lines_end, part_end, lines_within, part_within}
+use Rattle.ktm_run.proofs.Lines.{lines_end, part_end, lines_within, part_within}
+use Rattle.ktm_run.proofs.Runs.{Progress-none, Progress-as, Progress-then, Stops-line, Stops-after, Stops-within, Stops-as}
 use Rattle.ktm_run.specs.Script.{kept_of, lines_from, part_from}
 use Rattle.ktm_run.proofs.line.feed.Goals as goal
 
 pub loop-byte-init : goal.loop-byte-init
-loop-byte-init g c = record { went = λ part is. (part, [], is, refl, refl, Progress-none _); ready = c.requires; later = omega arith }
+loop-byte-init g c = record { went = λ part is. (part, [], is, refl, refl, Progress-none _); room = c.requires.room; ready = c.requires.ready; later = omega arith }
 
 pub loop-byte-preserved-then-byte-ne10 : goal.loop-byte-preserved-then-byte-ne10
 loop-byte-preserved-then-byte-ne10 g c = record {
@@ -18,11 +19,12 @@ loop-byte-preserved-then-byte-ne10 g c = record {
       let other = ne_eqb (get_or bytes i 0) 10 c.if-byte-ne10.true in (
         now ++ get_or bytes i 0 ∷ [],
         lines,
-        c.in_default.ensures now kept,
+        c.keep.ensures.kept now kept,
         ap (λ (l : List (List ℕ)). lines ++ l) (sym (lines_within now bytes i within other)) ∙ all,
         sym (part_within now bytes i within other) ∙ rest,
         went,
       );
+  room = c.keep.ensures.room;
   ready = c.loop-byte.invariant.ready;
   later = c.loop-byte.invariant.later;
 }
@@ -40,9 +42,10 @@ loop-byte-preserved g c = record {
         c.clear.ensures.items,
         append_assoc lines (now ∷ []) _ ∙ ap (λ (l : List (List ℕ)). lines ++ l) (sym (lines_end now bytes i within ends)) ∙ all,
         sym (part_end now bytes i within ends) ∙ rest,
-        Progress-then _ _ _ lines (now ∷ []) went (c.in_ok-do_line.ensures.done now (c.deref.ensures.value ∙ kept)),
+        Progress-then _ _ _ lines (now ∷ []) went (c.in_default.ensures.done now (c.deref.ensures.value ∙ kept)),
       );
-  ready = c.in_ok-do_line.ensures.ready;
+  room = omega (arith, c.clear.ensures.capacity, c.loop-byte.invariant.room);
+  ready = c.in_default.ensures.ready;
   later = omega (arith, c.loop-byte.invariant.later, c.do_line.ensures.later);
 }
 
@@ -57,3 +60,11 @@ returns-clause-kept g c = λ part is.
     let (now, lines, kept, all, rest, went) = c.loop-byte.invariant.went part is in
     let none = drop_all c.loop-byte.byte-index c.args.bytes.now c.loop-byte-test.false in
     kept ∙ ap kept_of (ap (part_from now) (sym none) ∙ rest)
+
+pub returns-in-Err-clause-stopped : goal.returns-in-Err-clause-stopped
+returns-in-Err-clause-stopped g c = λ part is.
+    let (now, lines, kept, all, rest, went) = c.loop-byte.invariant.went part is in
+    let bytes = c.args.bytes.now in
+    let i = c.loop-byte.byte-index in
+    Stops-as _ _ _ _ (append_assoc lines (now ∷ []) _ ∙ ap (λ (l : List (List ℕ)). lines ++ l) (sym (lines_end now bytes i c.loop-byte-test.true c.if-byte-ne10.false)) ∙ all)
+    (Stops-within _ _ (lines ++ now ∷ []) _ (Stops-after _ _ _ lines (now ∷ []) went (Stops-line _ _ now (c.in-Err.ensures.broke now (c.deref.ensures.value ∙ kept)))))

@@ -1,4 +1,26 @@
+use Rattle.ktm_run.proofs.Openings.{tells_base, stands_opened, no_room, left_begins, opening_counts, opens_begin, bad_was_there}
 use Rattle.ktm_run.proofs.open.open_kernel.Goals as goal
 
-pub returns-clause-stands : goal.returns-clause-stands
-returns-clause-stands g c = rw c.len.ensures.same at c.new_kernel.ensures.stands
+pub returns-in-Ok-clause-stands : goal.returns-in-Ok-clause-stands
+returns-in-Ok-clause-stands g c = λ base room tells.
+    stands_opened base room _ _ _ _ _ (tells_base base room _ _ tells c.in_default.ensures.ok) c.in-Ok.ensures.starts
+
+pub returns-in-Ok-clause-counts : goal.returns-in-Ok-clause-counts
+returns-in-Ok-clause-counts g c = λ base room tells.
+    opening_counts base room _ _ _ _ _ _ _ tells c.in_default.ensures.ok c.in_default.ensures.calls c.in-Ok.ensures.calls c.in_default.ensures.few c.in-Ok.ensures.few
+
+pub returns-in-Ok-clause-opens : goal.returns-in-Ok-clause-opens
+returns-in-Ok-clause-opens g c = opens_begin _ _ c.in_default.ensures.ok c.in-Ok.ensures.found
+
+pub returns-in-Err-Bad-clause-bad : goal.returns-in-Err-Bad-clause-bad
+returns-in-Err-Bad-clause-bad g c = bad_was_there _ _ _ c.in_default.ensures.ok (rw c.in-Err-Bad.field-0-is at c.in-Err-Bad.ensures.bad)
+
+pub returns-in-Err-Full-clause-full : goal.returns-in-Err-Full-clause-full
+returns-in-Err-Full-clause-full g c = λ is base room tells. no_room base room _ (tells_base base room _ _ tells c.in_default.ensures.ok) (rw c.in-Err-Full.field-0-is at c.in-Err-Full.ensures.full)
+
+pub returns-in-Err-Full-clause-opens : goal.returns-in-Err-Full-clause-opens
+returns-in-Err-Full-clause-opens g c = opens_begin _ _ c.in_default.ensures.ok (rw c.in-Err-Full.field-0-is at c.in-Err-Full.ensures.found)
+
+pub returns-in-Err-NoMemory-clause-no_memory : goal.returns-in-Err-NoMemory-clause-no_memory
+returns-in-Err-NoMemory-clause-no_memory g c = λ is base room tells.
+    rw (rw c.in-Err-NoMemory.field-0-is at c.in-Err-NoMemory.ensures.unwritten) (left_begins base room _ (tells_base base room _ _ tells c.in_default.ensures.ok))

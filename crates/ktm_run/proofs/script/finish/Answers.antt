@@ -1,5 +1,6 @@
 use Rattle.std.proofs.Common.{sym, []}
-use Rattle.ktm_run.proofs.Lines.{Progress-none, Progress-as, last_none, last_some}
+use Rattle.ktm_run.proofs.Lines.{last_none, last_some}
+use Rattle.ktm_run.proofs.Runs.{Progress-none, Progress-as, Stops-line, Stops-as}
 use Rattle.ktm_run.proofs.script.finish.Goals as goal
 
 pub returns-then-is_empty-clause-done : goal.returns-then-is_empty-clause-done
@@ -7,3 +8,6 @@ returns-then-is_empty-clause-done g c = λ part is. Progress-as _ _ [] _ (sym (l
 
 pub returns-clause-done : goal.returns-clause-done
 returns-clause-done g c = λ part is. Progress-as _ _ _ _ (sym (last_some part c.args.kept.now is c.if-is_empty.ensures)) (c.in_default.ensures.done part is)
+
+pub returns-in-Err-clause-stopped : goal.returns-in-Err-clause-stopped
+returns-in-Err-clause-stopped g c = λ part is. Stops-as _ _ _ _ (sym (last_some part c.args.kept.now is c.if-is_empty.ensures)) (Stops-line _ _ part (c.in-Err.ensures.broke part is))

@@ -1,4 +1,4 @@
-use Rattle.std.proofs.Common.{◌≡◌, ◌+◌, ◌≤◌, ℕ, List, [], length}
+use Rattle.std.proofs.Common.{◌≡◌, ◌+◌, ◌≤◌, ℕ, List, [], length, vec_capacity}
 use Rattle.std.specs.Io.KnownBytes.{Consumes}
 use Rattle.ktm_kernel.specs.Stands.{IsReady}
 use Rattle.ktm_run.specs.Progress.{Progress}
@@ -9,9 +9,10 @@ abbrev pub invariant-pieces : goal.invariant-pieces
 invariant-pieces g l = record {
   went : (script : List ℕ) × Consumes (g.S.Source.left l.fn.source) (g.S.Source.left l.source) script
       × (length script + l.left ≡ most_script) × (l.kept.items ≡ kept_of (part_from [] script)) × Progress
-      (record { machine = l.fn.kernel; disk = g.D.Disk.told l.fn.disk; taken = g.K.Sink.taken l.fn.sink; downs = (g.D.Disk.status l.fn.disk).downs })
-      (record { machine = l.kernel; disk = g.D.Disk.told l.disk; taken = g.K.Sink.taken l.sink; downs = (g.D.Disk.status l.disk).downs })
+      (record { scene = record { machine = l.fn.kernel; disk = g.D.Disk.told l.fn.disk; status = g.D.Disk.status l.fn.disk }; taken = g.K.Sink.taken l.fn.sink })
+      (record { scene = record { machine = l.kernel; disk = g.D.Disk.told l.disk; status = g.D.Disk.status l.disk }; taken = g.K.Sink.taken l.sink })
       (lines_from [] script);
+  room : 140001 ≤ vec_capacity l.kept;
   ready : IsReady l.kernel (g.D.Disk.told l.disk) (g.D.Disk.status l.disk);
   bound : l.left ≤ most_script;
   source_later : g.S.Source.faults l.fn.source ≤ g.S.Source.faults l.source;

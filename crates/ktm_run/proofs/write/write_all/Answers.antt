@@ -1,5 +1,6 @@
 use Rattle.std.proofs.Common.{ℕ, arith, length-take, length-drop}
-use Rattle.ktm_run.proofs.Known.{Appends-more}
+use Rattle.ktm_run.proofs.Breaks.{AppendsPart-take}
+use Rattle.ktm_run.proofs.Known.{Appends-more, Appends-kept}
 use Rattle.ktm_run.proofs.write.write_all.Goals as goal
 
 pub loop-at-preserved : goal.loop-at-preserved
@@ -8,3 +9,9 @@ loop-at-preserved g c = record {
   so_far = Appends-more _ _ _ _ _ _ c.loop-at.invariant.so_far c.in-Ok.ensures.writes;
   later = omega (arith, c.write.ensures.faults.later, c.loop-at.invariant.later);
 }
+
+pub returns-in_default-clause-err : goal.returns-in_default-clause-err
+returns-in_default-clause-err g c = AppendsPart-take _ _ c.loop-at.at c.args.bytes.now (Appends-kept _ _ _ _ c.loop-at.invariant.so_far c.in_default.ensures.writes)
+
+pub returns-then-count-eq0-clause-err : goal.returns-then-count-eq0-clause-err
+returns-then-count-eq0-clause-err g c = AppendsPart-take _ _ _ c.args.bytes.now (Appends-more _ _ _ _ _ _ c.loop-at.invariant.so_far c.in-Ok.ensures.writes)

@@ -6,8 +6,8 @@ use Rattle.ktm_log.specs.Log.{BeginsWith, area_bytes, end_of}
 use Rattle.ktm_log.specs.Load.{Holds, Loads}
 use Rattle.ktm_log.proofs.log.Log.scan.Given as goal
 
-abbrev pub invariant-loop-payloads : goal.invariant-loop-payloads
-invariant-loop-payloads g l = record {
+abbrev pub invariant-loop-payload : goal.invariant-loop-payload
+invariant-loop-payload g l = record {
   same : g.D.Disk.told l.disk ≡ g.D.Disk.told l.initial.disk;
   room : l.area.len ≤ vec_capacity l.buffer;
   holds : Holds l.area (g.D.Disk.told l.disk) (g.D.Disk.status l.disk).is_down l.buffer.items;
@@ -17,5 +17,5 @@ invariant-loop-payloads g l = record {
   frames : IfTold (g.D.Disk.told l.disk) (λ (s : DiskState). BeginsWith l.payloads.items (area_bytes l.area s.seen));
 }
 
-abbrev pub decreases-loop-payloads : goal.decreases-loop-payloads
-decreases-loop-payloads g l = l.area.len - l.end
+abbrev pub decreases-loop-payload : goal.decreases-loop-payload
+decreases-loop-payload g l = l.area.len - l.end

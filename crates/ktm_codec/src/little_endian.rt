@@ -1,0 +1,215 @@
+// Numbers with the least byte first, and bytes behind their length.
+ghost use Rattle.std.specs.Prelude.{◌≡◌, ◌+◌, ◌^◌, ◌<◌, ◌≤◌, length, vec_len, vec_capacity, option_map};
+ghost use Rattle.ktm_base.specs.Grammar.{IsU8, IsU16, IsU32, IsU64, IsTextOf, IsValueOf, IsBytesOf};
+ghost use Rattle.ktm_codec.specs.Spans.{Adds, OneSpelling, Reads, Unambiguous};
+
+// Each function that reads answers what is spelled from a place of the bytes on, and the place behind it.
+
+/// The number of one byte at a place, and the place behind it.
+pub fn u8_at(bytes: &[u8], at: usize) -> Option<(u8, usize)>
+    ensures { Reads IsU8 bytes.now at result }
+{
+    let [byte, ..] = bytes.get(at..)? else {
+        return None;
+    };
+    Some((*byte, at + 1))
+}
+
+/// The number of two bytes at a place, and the place behind it.
+pub fn u16_at(bytes: &[u8], at: usize) -> Option<(u16, usize)>
+    ensures { Reads IsU16 bytes.now at result }
+{
+    let [a, b, ..] = bytes.get(at..)? else {
+        return None;
+    };
+    Some((u16::from_le_bytes([*a, *b]), at + 2))
+}
+
+/// The number of four bytes at a place, and the place behind it.
+pub fn u32_at(bytes: &[u8], at: usize) -> Option<(u32, usize)>
+    ensures { Reads IsU32 bytes.now at result }
+{
+    let [a, b, c, d, ..] = bytes.get(at..)? else {
+        return None;
+    };
+    Some((u32::from_le_bytes([*a, *b, *c, *d]), at + 4))
+}
+
+/// The number of eight bytes at a place, and the place behind it.
+pub fn u64_at(bytes: &[u8], at: usize) -> Option<(u64, usize)>
+    ensures { Reads IsU64 bytes.now at result }
+{
+    let [a, b, c, d, e, f, g, h, ..] = bytes.get(at..)? else {
+        return None;
+    };
+    let number = u64::from_le_bytes([*a, *b, *c, *d, *e, *f, *g, *h]);
+    Some((number, at + 8))
+}
+
+/// The text at a place, which stands behind its length in one byte, and the place behind it.
+pub fn text_at(bytes: &[u8], at: usize) -> Option<(&[u8], usize)>
+    ensures { Reads IsTextOf bytes.now at (option_map (λ read. (read.0.now, read.1)) result) }
+{
+    let (len, start) = u8_at(bytes, at)?;
+    let end = start + usize::from(len);
+    Some((bytes.get(start..end)?, end))
+}
+
+/// The value at a place, which stands behind its length in two bytes, and the place behind it.
+pub fn value_at(bytes: &[u8], at: usize) -> Option<(&[u8], usize)>
+    ensures { Reads IsValueOf bytes.now at (option_map (λ read. (read.0.now, read.1)) result) }
+{
+    let (len, start) = u16_at(bytes, at)?;
+    let end = start + usize::from(len);
+    Some((bytes.get(start..end)?, end))
+}
+
+/// The bytes at a place, which stand behind their length in four bytes, and the place behind them.
+pub fn bytes_at(bytes: &[u8], at: usize) -> Option<(&[u8], usize)>
+    ensures { Reads IsBytesOf bytes.now at (option_map (λ read. (read.0.now, read.1)) result) }
+{
+    let (len, start) = u32_at(bytes, at)?;
+    let end = start + len as usize;
+    Some((bytes.get(start..end)?, end))
+}
+
+/// Writes a number of one byte at the end. It takes no memory.
+pub fn put_u8(out: &mut Vec<u8>, value: u8)
+    requires { vec_len out.old + 1 ≤ vec_capacity out.old }
+    ensures adds { Adds (IsU8 value) out.old.items out.new.items }
+    ensures len { vec_len out.new ≡ vec_len out.old + 1 }
+    ensures room { vec_capacity out.old ≤ vec_capacity out.new }
+{
+    out.push_reserved(value);
+}
+
+/// Writes a number of two bytes at the end. It takes no memory.
+pub fn put_u16(out: &mut Vec<u8>, value: u16)
+    requires { vec_len out.old + 2 ≤ vec_capacity out.old }
+    ensures adds { Adds (IsU16 value) out.old.items out.new.items }
+    ensures len { vec_len out.new ≡ vec_len out.old + 2 }
+    ensures room { vec_capacity out.old ≤ vec_capacity out.new }
+{
+    out.extend_from_slice(&value.to_le_bytes()).unwrap();
+}
+
+/// Writes a number of four bytes at the end. It takes no memory.
+pub fn put_u32(out: &mut Vec<u8>, value: u32)
+    requires { vec_len out.old + 4 ≤ vec_capacity out.old }
+    ensures adds { Adds (IsU32 value) out.old.items out.new.items }
+    ensures len { vec_len out.new ≡ vec_len out.old + 4 }
+    ensures room { vec_capacity out.old ≤ vec_capacity out.new }
+{
+    out.extend_from_slice(&value.to_le_bytes()).unwrap();
+}
+
+/// Writes a number of eight bytes at the end. It takes no memory.
+pub fn put_u64(out: &mut Vec<u8>, value: u64)
+    requires { vec_len out.old + 8 ≤ vec_capacity out.old }
+    ensures adds { Adds (IsU64 value) out.old.items out.new.items }
+    ensures len { vec_len out.new ≡ vec_len out.old + 8 }
+    ensures room { vec_capacity out.old ≤ vec_capacity out.new }
+{
+    out.extend_from_slice(&value.to_le_bytes()).unwrap();
+}
+
+/// Writes a text at the end, behind its length in one byte. It takes no memory.
+pub fn put_text(out: &mut Vec<u8>, text: &[u8])
+    requires short { length text.now < 2 ^ 8 }
+    requires room { vec_len out.old + 1 + length text.now ≤ vec_capacity out.old }
+    ensures adds { Adds (IsTextOf text.now) out.old.items out.new.items }
+    ensures len { vec_len out.new ≡ vec_len out.old + 1 + length text.now }
+    ensures room { vec_capacity out.old ≤ vec_capacity out.new }
+{
+    put_u8(out, text.len() as u8);
+    out.extend_from_slice(text).unwrap();
+}
+
+/// Writes a value at the end, behind its length in two bytes. It takes no memory.
+pub fn put_value(out: &mut Vec<u8>, value: &[u8])
+    requires short { length value.now < 2 ^ 16 }
+    requires room { vec_len out.old + 2 + length value.now ≤ vec_capacity out.old }
+    ensures adds { Adds (IsValueOf value.now) out.old.items out.new.items }
+    ensures len { vec_len out.new ≡ vec_len out.old + 2 + length value.now }
+    ensures room { vec_capacity out.old ≤ vec_capacity out.new }
+{
+    put_u16(out, value.len() as u16);
+    out.extend_from_slice(value).unwrap();
+}
+
+/// Writes bytes at the end, behind their length in four bytes. It takes no memory.
+pub fn put_bytes(out: &mut Vec<u8>, bytes: &[u8])
+    requires short { length bytes.now < 2 ^ 32 }
+    requires room { vec_len out.old + 4 + length bytes.now ≤ vec_capacity out.old }
+    ensures adds { Adds (IsBytesOf bytes.now) out.old.items out.new.items }
+    ensures len { vec_len out.new ≡ vec_len out.old + 4 + length bytes.now }
+    ensures room { vec_capacity out.old ≤ vec_capacity out.new }
+{
+    put_u32(out, bytes.len() as u32);
+    out.extend_from_slice(bytes).unwrap();
+}
+
+/// No spelling begins another one, and a thing has one spelling. So what is written is read again, whatever follows it,
+/// and what is read is written as it was.
+pub fn law_of_spellings()
+    ensures u8s { Unambiguous IsU8 × OneSpelling IsU8 }
+    ensures u16s { Unambiguous IsU16 × OneSpelling IsU16 }
+    ensures u32s { Unambiguous IsU32 × OneSpelling IsU32 }
+    ensures u64s { Unambiguous IsU64 × OneSpelling IsU64 }
+    ensures texts { Unambiguous IsTextOf × OneSpelling IsTextOf }
+    ensures values { Unambiguous IsValueOf × OneSpelling IsValueOf }
+    ensures bytes { Unambiguous IsBytesOf × OneSpelling IsBytesOf }
+{}
+
+#[cfg(test)]
+mod tests {
+    use super::*;
+    use std::test::Fail;
+
+    const SPELLED: [u8; 24] = [
+        7, 2, 1, 6, 5, 4, 3, 14, 13, 12, 11, 10, 9, 8, 7, 1, b'k', 2, 0, b'v', b'w', 0, 0, 0,
+    ];
+
+    #[test]
+    fn written_behind_one_another(rt: HostRuntime) -> Result<(), Fail> {
+        let mut out = Vec::with_capacity(rt.alloc(), 25)?;
+        put_u8(&mut out, 7);
+        put_u16(&mut out, 0x0102);
+        put_u32(&mut out, 0x0304_0506);
+        put_u64(&mut out, 0x0708_090a_0b0c_0d0e);
+        put_text(&mut out, b"k");
+        put_value(&mut out, b"vw");
+        put_bytes(&mut out, b"");
+        assert_eq!(rt; out.len(), 25, "as long as its parts");
+        assert_eq!(rt; &out.as_slice()[..24], SPELLED.as_slice(), "in their order");
+        Ok(())
+    }
+
+    #[test]
+    fn read_behind_one_another(rt: HostRuntime) {
+        assert_eq!(rt; u8_at(&SPELLED, 0), Some((7, 1)));
+        assert_eq!(rt; u16_at(&SPELLED, 1), Some((0x0102, 3)));
+        assert_eq!(rt; u32_at(&SPELLED, 3), Some((0x0304_0506, 7)));
+        assert_eq!(rt; u64_at(&SPELLED, 7), Some((0x0708_090a_0b0c_0d0e, 15)));
+        assert_eq!(rt; text_at(&SPELLED, 15), Some((b"k".as_slice(), 17)));
+        assert_eq!(rt; value_at(&SPELLED, 17), Some((b"vw".as_slice(), 21)));
+    }
+
+    #[test]
+    fn cut_short(rt: HostRuntime) {
+        assert_eq!(rt; u8_at(&SPELLED, 24), None, "at the end");
+        assert_eq!(rt; u8_at(&SPELLED, usize::MAX), None, "past the end");
+        assert_eq!(rt; u16_at(&SPELLED, 23), None, "one byte of two");
+        assert_eq!(rt; u32_at(&SPELLED, 21), None, "three bytes of four");
+        assert_eq!(rt; u64_at(&SPELLED, 17), None, "seven bytes of eight");
+        assert_eq!(rt; text_at(&[2, b'k'], 0), None, "one byte of two");
+        assert_eq!(rt; value_at(&[1], 0), None, "half a length");
+        assert_eq!(rt; value_at(&[2, 0, b'v'], 0), None, "one byte of two");
+        assert_eq!(rt; bytes_at(&[1, 0, 0, 0], 0), None, "no byte of one");
+        assert_eq!(rt;
+            bytes_at(&[1, 0, 0, 0, 9], 0),
+            Some(([9].as_slice(), 5)),
+            "all of them"
+        );
+    }
+}

@@ -1,0 +1,6 @@
+use Rattle.ktm_event.proofs.Events.{one_group, one_spelling}
+use Rattle.ktm_event.proofs.Spellable.{group_fits}
+use Rattle.ktm_event.proofs.laws.law_of_groups.Goals as goal
+
+pub returns : goal.returns
+returns c = record { group = one_group; spelling = one_spelling; written = group_fits }

@@ -1,0 +1,142 @@
+-- Bytes are an image of one log at most, or they are bad at one place.
+use Rattle.std.proofs.Common.{◌≡◌, inl, inr, ℕ, ◌+◌, true, IsTrue, List, [], ◌∷◌, ◌++◌, drop, refl, sym, ◌∙◌, ap, subst}
+use Rattle.std.proofs.lemmas.Bool.{and_parts}
+use Rattle.ktm_log.specs.Log.{BeginsWith, IsFrame, IsClosed, area_bytes, end_of}
+use Rattle.ktm_log.proofs.Frames.{begins-split}
+use Rattle.ktm_log.proofs.GoodOrBad.{begins_compare, one_frame, one_log, torn_is_no_frame}
+use Rattle.ktm_event.proofs.Events.{one_group}
+use Rattle.ktm_world.specs.World.{Group}
+use Rattle.ktm_world.specs.Durable.{Durable, empty_state, stand, events_apply, log_applies}
+use Rattle.ktm_world.specs.EventGrammar.{IsGroupOf}
+use Rattle.ktm_world.specs.Sizes.{log_size}
+use Rattle.ktm_world.proofs.Logs.{log_applies-append}
+use Rattle.ktm_journal.specs.Image.{IsHeaded, HoldGroups, HoldsLog, StandsFor, log_area}
+use Rattle.ktm_journal.specs.Bad.{IsBadFrame, IsBadAt}
+
+-- payloads are the groups of one log at most
+one_groups : (log more : List Group) (ps : List (List ℕ)) → HoldGroups log ps → HoldGroups more ps → log ≡ more
+one_groups [] [] ps left right = refl
+one_groups [] (h ∷ more) [] left right = absurd right
+one_groups [] (h ∷ more) (p ∷ ps) left right = absurd left
+one_groups (g ∷ log) more [] left right = absurd left
+one_groups (g ∷ log) [] (p ∷ ps) left right = absurd right
+one_groups (g ∷ log) (h ∷ more) (p ∷ ps) left right =
+    ap (λ (x : Group). x ∷ log) (one_group g h p left.0 right.0) ∙ ap (λ (l : List Group). h ∷ l) (one_groups log more ps left.1 right.1)
+
+-- a header says one size and one number
+one_header : (u v i j : ℕ) (bytes : List ℕ) → IsHeaded u i bytes → IsHeaded v j bytes → (u ≡ v) × (i ≡ j)
+one_header u v i j bytes left right = (sym left.units_are ∙ right.units_are, sym left.number ∙ right.number)
+
+same_log : (u i : ℕ) (log more : List Group) (bytes : List ℕ) → HoldsLog u i log bytes → HoldsLog u i more bytes → log ≡ more
+same_log u i log more bytes left right =
+    one_groups log more right.is.payloads
+    (subst (λ (ps : List (List ℕ)). HoldGroups log ps) (one_log left.is.payloads right.is.payloads (area_bytes (log_area u) bytes) left.is.frames right.is.frames) left.is.groups)
+    right.is.groups
+
+pub one_image : (u v i j : ℕ) (log more : List Group) (bytes : List ℕ) → HoldsLog u i log bytes → HoldsLog v j more bytes → (u ≡ v) × (i ≡ j) × (log ≡ more)
+one_image u v i j log more bytes left right =
+    let (units, image) = one_header u v i j bytes left.is.formatted.headed right.is.formatted.headed in
+    (units, image, same_log v j log more bytes (subst (λ n. HoldsLog n j log bytes) units (subst (λ n. HoldsLog u n log bytes) image left)) right)
+
+pub one_state : (a b : Durable) (bytes : List ℕ) → StandsFor a bytes → StandsFor b bytes → a ≡ b
+one_state a b bytes left right =
+    let (units, image, log) = one_image a.units b.units a.image b.image left.log right.log bytes left.holds right.holds in
+    left.comes_to ∙ ap (λ n. stand (empty_state n a.image) left.log) units ∙ ap (λ n. stand (empty_state b.units n) left.log) image
+    ∙ ap (λ (l : List Group). stand (empty_state b.units b.image) l) log ∙ sym right.comes_to
+
+-- a group behind others, and those
+pub record IsSplit (log : List Group) (qs : List (List ℕ)) (p : List ℕ) : Type 0 where
+  pub front : List Group
+  pub events : Group
+  pub more : List Group
+  pub is : log ≡ front ++ events ∷ more
+  pub groups : HoldGroups front qs
+  pub group : IsGroupOf events p
+
+split_groups : (log : List Group) (qs rest : List (List ℕ)) (p : List ℕ) → HoldGroups log (qs ++ p ∷ rest) → IsSplit log qs p
+split_groups [] [] rest p hold = absurd hold
+split_groups [] (q ∷ qs) rest p hold = absurd hold
+split_groups (g ∷ log) [] rest p hold = record { front = []; events = g; more = log; is = refl; groups = tt; group = hold.0 }
+split_groups (g ∷ log) (q ∷ qs) rest p hold =
+    let behind = split_groups log qs rest p hold.1 in
+    record {
+      front = g ∷ behind.front;
+      events = behind.events;
+      more = behind.more;
+      is = ap (λ (l : List Group). g ∷ l) behind.is;
+      groups = (hold.0, behind.groups);
+      group = behind.group;
+    }
+
+-- of groups that apply each applies behind those before it
+applies_behind : (base : Durable) (front more : List Group) (events : Group) → IsTrue (log_applies base (front ++ events ∷ more)) → events_apply (stand base front) events ≡ true
+applies_behind base front more events applies =
+    (and_parts _ _ (and_parts _ _ (sym (log_applies-append base front (events ∷ more)) ∙ applies)).1).0
+
+module _ (units image : ℕ) (log : List Group) (bytes : List ℕ) (bad : IsBadFrame units image log bytes) where
+  -- where the bad frame is no log goes on
+  not_longer : (more : List Group) (ps rest : List (List ℕ)) (r : List ℕ) → HoldGroups more ps → IsTrue (log_applies (empty_state units image) more)
+      → BeginsWith ps (area_bytes (log_area units) bytes) → ps ≡ bad.payloads ++ r ∷ rest → ⊥
+  not_longer more ps rest r groups applies begins is =
+      let base = empty_state units image in
+      let at = drop (end_of bad.payloads) (area_bytes (log_area units) bytes) in
+      let frame : IsFrame r at = (begins-split bad.payloads rest r _ (subst (λ (l : List (List ℕ)). BeginsWith l (area_bytes (log_area units) bytes)) is begins)).1 in
+      let split = split_groups more bad.payloads rest r (subst (λ (l : List (List ℕ)). HoldGroups more l) is groups) in
+      let good = applies_behind base split.front split.more split.events (subst (λ (l : List Group). IsTrue (log_applies base l)) split.is applies) in
+      let here = subst (λ (l : List Group). events_apply (stand base l) split.events ≡ true) (one_groups split.front log bad.payloads split.groups bad.groups) good in
+      elim bad.bad [
+        | inl torn ↦ torn_is_no_frame r at frame torn
+        | inr (p, other, is_bad) ↦ absurd (cc (here, is_bad split.events (subst (λ (x : List ℕ). IsGroupOf split.events x) (one_frame r p at frame other) split.group)))
+      ]
+
+  -- and its gate is open
+  no_end : IsClosed (drop (end_of bad.payloads) (area_bytes (log_area units) bytes)) → ⊥
+  no_end closed = elim bad.bad [ inl torn ↦ closed.closed torn.open_gate | inr (p, frame, is_bad) ↦ closed.closed frame.open_gate ]
+
+  no_log : (more : List Group) → HoldsLog units image more bytes → ⊥
+  no_log more holds =
+      let ps = holds.is.payloads in
+      let b = area_bytes (log_area units) bytes in
+      elim (begins_compare ps bad.payloads b holds.is.frames.frames bad.frames) [
+        | inl (r, rest, is) ↦ not_longer more ps rest r holds.is.groups holds.applies holds.is.frames.frames is
+        | inr (inl same) ↦ no_end (subst (λ (l : List (List ℕ)). IsClosed (drop (end_of l) b)) same holds.is.frames.gate)
+        | inr (inr (r, rest, is)) ↦ holds.is.frames.gate.closed (begins-split ps rest r b (subst (λ (l : List (List ℕ)). BeginsWith l b) is bad.frames)).1.open_gate
+      ]
+
+pub not_bad : (state : Durable) (bytes : List ℕ) (offset : ℕ) → StandsFor state bytes → IsBadAt bytes offset → ⊥
+not_bad state bytes offset stands bad = elim bad [
+  | inl (none, at) ↦ none state.units state.image stands.holds.is.formatted.headed
+  | inr (inl (units, image, headed, other, at)) ↦ other stands.holds.is.formatted.snapshot
+  | inr (inr (units, image, log, frame, at)) ↦
+      let (u, i) = one_header state.units units state.image image bytes stands.holds.is.formatted.headed frame.formatted.headed in
+      no_log units image log bytes frame stands.log (subst (λ n. HoldsLog n image stands.log bytes) u (subst (λ n. HoldsLog state.units n stands.log bytes) i stands.holds))
+]
+
+one_bad_frame : (u i : ℕ) (log more : List Group) (bytes : List ℕ) → IsBadFrame u i log bytes → IsBadFrame u i more bytes → log ≡ more
+one_bad_frame u i log more bytes left right = elim (begins_compare left.payloads right.payloads (area_bytes (log_area u) bytes) left.frames right.frames) [
+  | inl (r, rest, is) ↦ absurd (not_longer u i more bytes right log left.payloads rest r left.groups left.applies left.frames is)
+  | inr (inl same) ↦ one_groups log more right.payloads (subst (λ (ps : List (List ℕ)). HoldGroups log ps) same left.groups) right.groups
+  | inr (inr (r, rest, is)) ↦ absurd (not_longer u i log bytes left more right.payloads rest r right.groups right.applies right.frames is)
+]
+
+pub one_bad_place : (a b : ℕ) (bytes : List ℕ) → IsBadAt bytes a → IsBadAt bytes b → a ≡ b
+one_bad_place a b bytes left right = elim left [
+  | inl (none, here) ↦ elim right [
+    | inl (neither, there) ↦ here ∙ sym there
+    | inr (inl (v, j, headed, other, there)) ↦ absurd (none v j headed)
+    | inr (inr (v, j, more, frame, there)) ↦ absurd (none v j frame.formatted.headed)
+  ]
+  | inr (inl (u, i, headed, other, here)) ↦ elim right [
+    | inl (none, there) ↦ absurd (none u i headed)
+    | inr (inl (v, j, header, another, there)) ↦ here ∙ sym there
+    | inr (inr (v, j, more, frame, there)) ↦ absurd (other frame.formatted.snapshot)
+  ]
+  | inr (inr (u, i, log, bad, here)) ↦ elim right [
+    | inl (none, there) ↦ absurd (none u i bad.formatted.headed)
+    | inr (inl (v, j, header, other, there)) ↦ absurd (other bad.formatted.snapshot)
+    | inr (inr (v, j, more, frame, there)) ↦
+        let (units, image) = one_header u v i j bytes bad.formatted.headed frame.formatted.headed in
+        let same = one_bad_frame v j log more bytes (subst (λ n. IsBadFrame n j log bytes) units (subst (λ n. IsBadFrame u n log bytes) image bad)) frame in
+        here ∙ ap (λ n. (log_area n).at + log_size log) units ∙ ap (λ (l : List Group). (log_area v).at + log_size l) same ∙ sym there
+  ]
+]

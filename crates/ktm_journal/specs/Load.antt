@@ -1,0 +1,40 @@
+-- What a load finds on its way.
+use Rattle.std.specs.Prelude.{◌≡◌, ℕ, ◌+◌, ◌%◌, ◌≤◌, IsTrue, List, ◌∷◌, ◌++◌, Option, None, Some}
+use Rattle.ktm_log.specs.Log.{end_of}
+use Rattle.ktm_world.specs.World.{Group}
+use Rattle.ktm_world.specs.Durable.{Durable, empty_state, stand, log_applies}
+use Rattle.ktm_journal.specs.declared.load.Header.{Header}
+use Rattle.ktm_journal.specs.Image.{IsHeaded, HoldGroups, image_len, log_area}
+use Rattle.ktm_journal.specs.Format.{IsHeader}
+use Rattle.ktm_journal.specs.Bad.{HasNoHeader, IsBadPayload}
+
+-- the header is that of an image, in bytes of this length and with this selector
+pub record IsFront (units image len selector : ℕ) (header : List ℕ) : Type 0 where
+  pub least : 16 ≤ units
+  pub most : units ≤ 1024
+  pub long : image_len units ≤ len
+  pub even : selector % 2 ≡ 0
+  pub header_is : IsHeader units image header
+
+-- the header that the bytes begin with, if they do
+abbrev pub BeginsAnImage : Option Header → List ℕ → Type 0
+BeginsAnImage None bytes = HasNoHeader bytes
+BeginsAnImage (Some header) bytes = IsHeaded header.units header.image bytes
+
+-- the payloads are groups that apply one after another, and they come to this state
+pub record ComesTo (units image : ℕ) (payloads : List (List ℕ)) (state : Durable) : Type 0 where
+  pub log : List Group
+  pub groups : HoldGroups log payloads
+  pub applies : IsTrue (log_applies (empty_state units image) log)
+  pub is : state ≡ stand (empty_state units image) log
+
+-- of the payloads the first bad one is that of the frame at this offset of the image
+pub record IsFirstBad (units image : ℕ) (payloads : List (List ℕ)) (offset : ℕ) : Type 0 where
+  pub before : List (List ℕ)
+  pub payload : List ℕ
+  pub rest : List (List ℕ)
+  pub split : payloads ≡ before ++ payload ∷ rest
+  pub state : Durable
+  pub good : ComesTo units image before state
+  pub bad : IsBadPayload state payload
+  pub at : offset ≡ (log_area units).at + end_of before

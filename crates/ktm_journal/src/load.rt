@@ -1,0 +1,172 @@
+// Reading an image.
+ghost use Rattle.std.specs.Prelude.{◌≡◌, ◌↔◌, ℕ, ◌+◌, ◌^◌, ◌<◌, ◌≤◌, List, length, take, drop, None, Ok, IfOk, IfSome, OnOk, IsTrue, is_err, false, true};
+ghost use Rattle.std.specs.Int.{from_le_bytes, w16, w32};
+ghost use Rattle.ktm_base.specs.Told.{IfTold};
+ghost use Rattle.ktm_base.specs.Disk.{DeviceCalls};
+ghost use Rattle.ktm_log.specs.Log.{end_of};
+ghost use Rattle.ktm_world.specs.Durable.{after_events, events_apply};
+ghost use Rattle.ktm_world.specs.World.{Group};
+ghost use Rattle.ktm_world.specs.EventGrammar.{IsGroupOf};
+ghost use Rattle.ktm_journal.specs.Image.{IsFormatted, IsHeaded, area_len, empty_snapshot, snapshot_of};
+ghost use Rattle.ktm_journal.specs.Format.{IsHeader};
+ghost use Rattle.ktm_journal.specs.Bad.{IfBad, IsBadAt, IsBadPayload, load_went_down};
+ghost use Rattle.ktm_journal.specs.Load.{BeginsAnImage, ComesTo, IsFirstBad, IsFront};
+
+use crate::LoadFault;
+use crate::image::{SELECTOR_AT, SNAPSHOT_AT, empty_snapshot, image_len, log_area};
+use ktm_base::{Bytes, Disk, Down, NoMemory};
+use ktm_event::{EventFault, read_group};
+use ktm_world::Durable;
+use std::alloc::Global;
+
+/// What the header of an image says.
+#[derive(Clone, Copy, Debug)]
+pub(crate) struct Header {
+    pub units: u32,
+    pub image: u16,
+}
+
+fn u16_at(bytes: &[u8], at: usize) -> u16
+    requires { at + 2 ≤ length bytes.now }
+    ensures { result ≡ from_le_bytes w16 (take 2 (drop at bytes.now)) }
+{
+    u16::from_le_bytes([bytes[at], bytes[at + 1]])
+}
+
+fn u32_at(bytes: &[u8], at: usize) -> u32
+    requires { at + 4 ≤ length bytes.now }
+    ensures { result ≡ from_le_bytes w32 (take 4 (drop at bytes.now)) }
+{
+    u32::from_le_bytes([bytes[at], bytes[at + 1], bytes[at + 2], bytes[at + 3]])
+}
+
+// What these bytes say, if they begin an image of some size and number.
+fn parse(bytes: &[u8; 18]) -> Option<Header>
+    ensures some { IfSome result (λ header. IsHeader header.units header.image bytes.now) }
+    ensures none { result ≡ None → (units image : ℕ) → ¬ IsHeader units image bytes.now }
+{
+    if bytes[..8] != b"KTMTXF01"[..] || u32_at(bytes, 8) != 1 {
+        return None;
+    }
+    Some(Header {
+        units: u32_at(bytes, 12),
+        image: u16_at(bytes, 16),
+    })
+}
+
+// What these bytes say, if they are the header of an image in bytes of this length and with this selector.
+fn front(bytes: &[u8; 18], selector: u8, len: u64) -> Option<Header>
+    ensures some { IfSome result (λ header. IsFront header.units header.image len selector bytes.now) }
+    ensures none { result ≡ None → (units image : ℕ) → ¬ IsFront units image len selector bytes.now }
+{
+    let Some(header) = parse(bytes) else {
+        return None;
+    };
+    if header.units < 16
+        || 1024 < header.units
+        || len < image_len(header.units)
+        || selector % 2 != 0
+    {
+        return None;
+    }
+    Some(header)
+}
+
+// The header of the disk's image, if it has one.
+fn read_header<D: Disk>(disk: &mut D) -> Result<Option<Header>, Down>
+    ensures told { IfOk result (λ found. IfTold (D.told disk.old) (λ s. BeginsAnImage found s.seen)) }
+    ensures size { IfOk result (λ found. IfSome found (λ header. (16 ≤ header.units) × (header.units ≤ 1024))) }
+    ensures same { D.told disk.new ≡ D.told disk.old }
+    ensures pending { (D.status disk.new).pending ≡ (D.status disk.old).pending }
+    ensures up { OnOk result ((D.status disk.new).is_down ≡ false) }
+    ensures calls { DeviceCalls 3 (D.status disk.old) (D.status disk.new) (is_err result) }
+{
+    let len = match disk.len() {
+        Ok(len) => len,
+        Err(Down) => return Err(Down),
+    };
+    if len < SNAPSHOT_AT {
+        return Ok(None);
+    }
+    let mut header = [0; 18];
+    if let Err(Down) = disk.read_at(0, &mut header) {
+        return Err(Down);
+    }
+    let mut selector = [0; 1];
+    if let Err(Down) = disk.read_at(SELECTOR_AT, &mut selector) {
+        return Err(Down);
+    }
+    Ok(front(&header, selector[0], len))
+}
+
+// Is the empty snapshot there?
+fn read_snapshot<D: Disk>(disk: &mut D) -> Result<bool, Down>
+    requires within { IfTold (D.told disk.old) (λ s. 4096 + 44 ≤ length s.seen) }
+    ensures told { IfOk result (λ is. IfTold (D.told disk.old) (λ s. IsTrue is ↔ (snapshot_of s.seen ≡ empty_snapshot))) }
+    ensures same { D.told disk.new ≡ D.told disk.old }
+    ensures pending { (D.status disk.new).pending ≡ (D.status disk.old).pending }
+    ensures up { OnOk result ((D.status disk.new).is_down ≡ false) }
+    ensures calls { DeviceCalls 1 (D.status disk.old) (D.status disk.new) (is_err result) }
+{
+    let mut snapshot = [0; 44];
+    if let Err(Down) = disk.read_at(SNAPSHOT_AT, &mut snapshot) {
+        return Err(Down);
+    }
+    Ok(snapshot == empty_snapshot())
+}
+
+/// Reads what lies before the log.
+pub(crate) fn read_form<D: Disk>(disk: &mut D) -> Result<Header, LoadFault>
+    ensures formatted { IfOk result (λ header. IfTold (D.told disk.old) (λ s. IsFormatted header.units header.image s.seen)) }
+    ensures size { IfOk result (λ header. (16 ≤ header.units) × (header.units ≤ 1024)) }
+    ensures bad { IfBad result (λ offset. IfTold (D.told disk.old) (λ s. IsBadAt s.seen offset)) }
+    ensures same { D.told disk.new ≡ D.told disk.old }
+    ensures pending { (D.status disk.new).pending ≡ (D.status disk.old).pending }
+    ensures up { OnOk result ((D.status disk.new).is_down ≡ false) }
+    ensures up_bad { IfBad result (λ offset. (D.status disk.new).is_down ≡ false) }
+    ensures calls { DeviceCalls 4 (D.status disk.old) (D.status disk.new) (load_went_down result) }
+{
+    let header = match read_header(disk) {
+        Ok(Some(header)) => header,
+        Ok(None) => return Err(LoadFault::Bad(0)),
+        Err(Down) => return Err(LoadFault::Down),
+    };
+    match read_snapshot(disk) {
+        Ok(true) => Ok(header),
+        Ok(false) => Err(LoadFault::Bad(SNAPSHOT_AT)),
+        Err(Down) => Err(LoadFault::Down),
+    }
+}
+
+// Makes of the state what a payload says, if it is a group of events that apply.
+fn apply(alloc: Global, state: &mut Durable, payload: &[u8]) -> Result<bool, NoMemory>
+    ensures good { result ≡ Ok true → (events : Group) × IsGroupOf events payload.now × IsTrue (events_apply state.old events) × (state.new ≡ after_events state.old events) }
+    ensures bad { result ≡ Ok false → IsBadPayload state.old payload.now }
+{
+    match read_group(alloc, payload) {
+        Ok(events) => state.apply_all(events),
+        Err(EventFault::NotAnEvent) => Ok(false),
+        Err(EventFault::NoMemory) => Err(NoMemory),
+    }
+}
+
+/// The state that the payloads of a log come to.
+pub(crate) fn fold(alloc: Global, header: Header, payloads: &[Bytes]) -> Result<Durable, LoadFault>
+    requires most { header.units ≤ 1024 }
+    requires small { end_of payloads.now ≤ area_len header.units }
+    ensures good { IfOk result (λ state. ComesTo header.units header.image payloads.now state) }
+    ensures keys { IfOk result (λ state. length state.keys ≤ state.units) }
+    ensures bad { IfBad result (λ offset. IsFirstBad header.units header.image payloads.now offset) }
+    ensures up { load_went_down result ≡ false }
+{
+    let mut state = Durable::empty(alloc, header.units, header.image);
+    let mut at = log_area(header.units).at;
+    for payload in payloads {
+        match apply(alloc, &mut state, payload.as_slice()) {
+            Ok(true) => at += payload.len() as u64 + 5,
+            Ok(false) => return Err(LoadFault::Bad(at)),
+            Err(NoMemory) => return Err(LoadFault::NoMemory),
+        }
+    }
+    Ok(state)
+}

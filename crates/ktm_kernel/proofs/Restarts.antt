@@ -1,0 +1,169 @@
+-- What a restart finds on a disk, and what it makes of it.
+use Rattle.std.proofs.Common.{◌≡◌, ℕ, ◌+◌, ◌-◌, ◌≤◌, ◌<◌, true, false, List, [], ◌∷◌, ◌++◌, length, Option, None, Some, refl, sym, ◌∙◌, ap, subst, arith, inl, inr, append_assoc}
+use Rattle.std.proofs.lemmas.Bool.{and_from, and_parts, lt-ltb, le-ltb}
+use Rattle.std.proofs.lemmas.List.Elements.{All-nil}
+use Rattle.std.specs.Prelude.{IsTrue}
+use Rattle.ktm_base.specs.Disk.{DiskState, DiskStatus, IsSafe}
+use Rattle.ktm_base.specs.Told.{IfTold, Tells}
+use Rattle.ktm_base.proofs.Images.{safe_law}
+use Rattle.ktm_base.proofs.ToldSteps.{Tells-map}
+use Rattle.ktm_journal.specs.Image.{JournalState, JournalAt, IsImage, HoldsLog, IsFormatted, StandsFor, LeavesGroupOrNot, left_after}
+use Rattle.ktm_journal.proofs.LogLoads.{journal_left}
+use Rattle.ktm_journal.proofs.OneImage.{one_image}
+use Rattle.ktm_world.specs.EventGrammar.{IsGroupOf}
+use Rattle.ktm_world.specs.Durable.{Durable, empty_state, stand, events_apply, log_applies}
+use Rattle.ktm_world.specs.Sizes.{log_size}
+use Rattle.ktm_world.specs.World.{Group, own_group, opened, present, count_events, IsLawfulNow, IsLawful}
+use Rattle.ktm_world.proofs.Logs.{stand-append, stand-units, stand-image, stand-events, log_applies-append, count_events-append, few_keys}
+use Rattle.ktm_world.proofs.SizeLemmas.{size_law, log_size-append}
+use Rattle.ktm_world.proofs.Worlds.{opened_law}
+use Rattle.ktm_kernel.specs.Memory.{fresh}
+use Rattle.ktm_kernel.specs.Restarts.{HoldsBoth, base_of, is_full_for_own, Started, LeavesOwnOrNot}
+use Rattle.ktm_kernel.specs.Stands.{KernelState, IsReady}
+
+-- the state that was read is what the groups that are there come to
+pub record IsFound (units image : ℕ) (before log : List Group) (state : Durable) : Type 0 where
+  pub units_are : state.units ≡ units
+  pub image_is : state.image ≡ image
+  pub is : state ≡ stand (base_of units image before) log
+  pub applies : IsTrue (log_applies (empty_state units image) (before ++ log))
+
+found_in : (units image : ℕ) (before log : List Group) (state : Durable) (bytes : List ℕ) → StandsFor state bytes → HoldsLog units image (before ++ log) bytes → IsFound units image before log state
+found_in units image before log state bytes stands holds =
+    let (u, i, l) = one_image state.units units state.image image stands.log (before ++ log) bytes stands.holds holds in
+    record {
+      units_are = u;
+      image_is = i;
+      is = stands.comes_to ∙ ap (λ n. stand (empty_state n state.image) stands.log) u ∙ ap (λ n. stand (empty_state units n) stands.log) i
+          ∙ ap (λ (gs : List Group). stand (empty_state units image) gs) l ∙ stand-append (empty_state units image) before log;
+      applies = holds.applies;
+    }
+
+pub found : (units image : ℕ) (before log : List Group) (state : Durable) (told : Option DiskState) → IfTold told (λ s. StandsFor state s.seen) → Tells told (HoldsBoth units image before log) → IsFound units image before log state
+found units image before log state None stands holds = absurd holds
+found units image before log state (Some s) stands holds = found_in units image before log state s.seen stands holds.1
+
+-- how many bytes the group of a restart has
+pub own_size : (state : Durable) (payload : List ℕ) → IsGroupOf (own_group state) payload → length payload ≡ 9
+own_size state payload is = size_law (own_group state) payload is ∙ omega arith
+
+-- what a disk that nothing was written to may leave
+pub unwritten_leaves : (units image : ℕ) (before log : List Group) (told : Option DiskState) → Tells told (HoldsBoth units image before log) → Tells told (LeavesOwnOrNot units image before log)
+unwritten_leaves units image before log told holds = Tells-map told (HoldsBoth units image before log) (LeavesOwnOrNot units image before log) holds
+    (λ s held bytes may. inl (subst (λ (l : List ℕ). HoldsLog units image (before ++ log) l) (sym ((safe_law s bytes held.0).0 may)) held.1))
+
+module _ (units image : ℕ) (before log : List Group) (state : Durable) (is : IsFound units image before log state) where
+  abbrev base : Durable
+  base = base_of units image before
+
+  applied : IsTrue (log_applies (empty_state units image) before) × IsTrue (log_applies base log)
+  applied = and_parts _ _ (sym (log_applies-append (empty_state units image) before log) ∙ is.applies)
+
+  -- its journal is at the groups that are there
+  pub journal_at : (j : JournalState) (old new : Option DiskState)
+      → ((gs : List Group) → Tells old (λ s. IsSafe s × HoldsLog state.units state.image gs s.seen) → Tells new (JournalAt j gs))
+      → Tells old (HoldsBoth units image before log) → Tells new (JournalAt j (before ++ log))
+  journal_at j old new loaded holds = loaded (before ++ log) (Tells-map old (HoldsBoth units image before log) _ holds (λ s held. (
+    held.0,
+    subst (λ u. HoldsLog u state.image (before ++ log) s.seen) (sym is.units_are) (subst (λ i. HoldsLog units i (before ++ log) s.seen) (sym is.image_is) held.1),
+  )))
+
+  -- what it has left
+  pub left_found : (j : JournalState) (told : Option DiskState) → j.units ≡ state.units → Tells told (JournalAt j (before ++ log)) → j.log.area.len - j.log.end ≡ left_after units before - log_size log
+  left_found j None units_are at = absurd at
+  left_found j (Some s) units_are at =
+      let left = journal_left j (before ++ log) s at in
+      let size = log_size-append before log in
+      let same = is.units_are in
+      omega arith
+
+  module _ (j : JournalState) (told : Option DiskState) (units_are : j.units ≡ state.units) (at : Tells told (JournalAt j (before ++ log))) (payload : List ℕ) (group : IsGroupOf (own_group state) payload) where
+    -- the log is full exactly where the group of the restart does not fit
+    pub is_full : j.log.area.len < j.log.end + length payload + 6 → is_full_for_own units image before log ≡ true
+    is_full less =
+        let left = left_found j told units_are at in
+        let long = own_size state payload group in
+        lt-ltb (left_after units before - log_size log) 15 (omega arith)
+
+    is_not_full : j.log.end + length payload + 6 ≤ j.log.area.len → is_full_for_own units image before log ≡ false
+    is_not_full fits =
+        let left = left_found j told units_are at in
+        let long = own_size state payload group in
+        le-ltb (left_after units before - log_size log) 15 (omega arith)
+
+  own_applies : events_apply state (own_group state) ≡ true → IsTrue (events_apply (stand base log) (own_group (stand base log)))
+  own_applies may = subst (λ (s : Durable). IsTrue (events_apply s (own_group s))) is.is may
+
+  within : length base.keys ≤ base.units
+  within =
+      let few = few_keys (empty_state units image) before applied.0 (omega arith) in
+      let same = stand-units (empty_state units image) before in
+      omega arith
+
+  lawful : events_apply state (own_group state) ≡ true → IsLawful (opened base (left_after units before) log)
+  lawful may = opened_law base (left_after units before) log applied.1 (own_applies may) within
+
+  -- what is so then is that of the world that was opened
+  fresh_is : (left : ℕ) → left ≡ left_after units before - log_size log - 14 → fresh state left ≡ present (opened base (left_after units before) log)
+  fresh_is left left_is = ap (λ (s : Durable). fresh s left) is.is ∙ (λ i. record {
+    machine = record { units = stand-units base log i; image = stand-image base log i; boot = (stand base log).boots + 1; is_up = true; events = one_more i; left = less i };
+    transactions = record { clock = 0; last = 0; items = [] };
+    keys = record { store = (stand base log).keys; own = [] };
+    handles = [];
+  })
+    where
+      one_more : (stand base log).events + 1 ≡ base.events + count_events (log ++ own_group (stand base log) ∷ [])
+      one_more = let events = stand-events base log in let more = count_events-append log (own_group (stand base log)) in omega arith
+
+      less : left ≡ left_after units before - log_size (log ++ own_group (stand base log) ∷ [])
+      less = let size = log_size-append log (own_group (stand base log) ∷ []) in omega arith
+
+  -- of the journal that the group of the restart was added to
+  module _ (may : events_apply state (own_group state) ≡ true) (j k : JournalState) (units_are : j.units ≡ state.units) (image_is : j.image ≡ state.image) (old new : Option DiskState)
+      (at : Tells old (JournalAt j (before ++ log))) (payload : List ℕ) (group : IsGroupOf (own_group state) payload) where
+    pub started : (kernel : KernelState) (left events : ℕ) → kernel.journal ≡ k → kernel.now ≡ fresh state left → left ≡ k.log.area.len - k.log.end → events ≡ state.events
+        → k.units ≡ j.units → k.image ≡ j.image → k.log.area ≡ j.log.area → k.log.end ≡ j.log.end + length payload + 5 → j.log.end + length payload + 6 ≤ j.log.area.len
+        → ((gs : List Group) (group : Group) → IsGroupOf group payload → Tells old (JournalAt j gs) → Tells new (JournalAt k (gs ++ group ∷ [])))
+        → Started units image before log kernel events 0 new
+    started kernel left events journal now left_is events_are k_units k_image area end fits added = record {
+      room = is_not_full j old units_are at payload group fits;
+      stands = record {
+        now = now ∙ fresh_is left (omega (arith, left_is, ap (λ a. a.len) area, end, left_found j old units_are at, own_size state payload group));
+        lawful = lawful may;
+        before = before;
+        began = rw (journal, k_units ∙ units_are ∙ is.units_are, k_image ∙ image_is ∙ is.image_is) (record { applies = applied.0; base = refl; room = refl });
+        disk = subst (λ i. Tells new (JournalAt i (before ++ (log ++ own_group (stand base log) ∷ [])))) (sym journal)
+            (subst (λ (gs : List Group). Tells new (JournalAt k gs)) (append_assoc before log (own_group (stand base log) ∷ []))
+            (subst (λ (s : Durable). Tells new (JournalAt k ((before ++ log) ++ own_group s ∷ []))) is.is (added (before ++ log) (own_group state) group at)));
+      };
+      events_are = events_are ∙ ap (λ (s : Durable). s.events) is.is;
+      none_in_doubt = refl;
+    }
+
+    pub cut_off : ((gs : List Group) (group : Group) → IsGroupOf group payload → Tells old (JournalAt j gs) → Tells new (LeavesGroupOrNot j gs group)) → Tells new (LeavesOwnOrNot units image before log)
+    cut_off left = Tells-map new _ (LeavesOwnOrNot units image before log) (left (before ++ log) (own_group state) group at) (λ s either bytes may_be. elim (either bytes may_be) [
+      | inl without ↦ inl (record { is = same (before ++ log) bytes without; applies = is.applies })
+      | inr with_it ↦ inr (record { is = same _ bytes (subst (λ (gs : List Group). IsImage j.units j.image gs bytes) both with_it); applies = both_apply })
+    ])
+      where
+        same : (gs : List Group) (bytes : List ℕ) → IsImage j.units j.image gs bytes → IsImage units image gs bytes
+        same gs bytes image_of = subst (λ u. IsImage u image gs bytes) (units_are ∙ is.units_are) (subst (λ i. IsImage j.units i gs bytes) (image_is ∙ is.image_is) image_of)
+
+        both : (before ++ log) ++ own_group state ∷ [] ≡ before ++ (log ++ own_group (stand base log) ∷ [])
+        both = append_assoc before log (own_group state ∷ []) ∙ ap (λ (s : Durable). before ++ (log ++ own_group s ∷ [])) is.is
+
+        both_apply : IsTrue (log_applies (empty_state units image) (before ++ (log ++ own_group (stand base log) ∷ [])))
+        both_apply =
+            log_applies-append (empty_state units image) before (log ++ own_group (stand base log) ∷ [])
+            ∙ and_from _ _ applied.0 (log_applies-append base log (own_group (stand base log) ∷ []) ∙ and_from _ _ applied.1 (and_from _ _ (own_applies may) refl))
+
+-- a machine that started is ready for calls
+pub fresh_ready : (kernel : KernelState) (state : Durable) (left : ℕ) (told : Option DiskState) (status : DiskStatus) → kernel.now ≡ fresh state left → length state.keys ≤ state.units
+    → status.is_down ≡ false → status.pending ≡ 0 → IfTold told (λ s. IsFormatted kernel.journal.units kernel.journal.image s.seen) → IsReady kernel told status × (kernel.now.machine.is_up ≡ true)
+fresh_ready kernel state left told status now few up settled formatted = (
+  record {
+    powered = record { power = λ on. up; settled = λ on. settled; image = λ on. formatted };
+    lawful = λ on. subst (λ x. IsLawfulNow x) (sym now) (record { boot_from = omega arith; transactions = All-nil _; own = All-nil _; keys = omega arith; changes = omega arith });
+  },
+  ap (λ x. x.machine.is_up) now,
+)

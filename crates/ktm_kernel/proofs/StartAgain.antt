@@ -1,0 +1,169 @@
+-- A machine that is down, whose disk has the power back, and is started again.
+use Rattle.std.proofs.Common.{◌≡◌, ℕ, ◌+◌, ◌-◌, ◌*◌, ◌≤◌, Bool, true, false, List, [], ◌∷◌, ◌++◌, Option, None, Some, refl, sym, ◌∙◌, ap, subst, arith, inl, inr}
+use Rattle.std.specs.Prelude.{Contains}
+use Rattle.ktm_base.specs.declared.refusal.Refusal.TheVariants.{MachineDown, LogFull}
+use Rattle.ktm_base.specs.Disk.{DiskState}
+use Rattle.ktm_base.specs.Told.{IfTold, Tells}
+use Rattle.ktm_base.proofs.Images.{safe_law, power_law as images_power_law}
+use Rattle.ktm_base.proofs.ToldSteps.{Tells-map, Tells-step}
+use Rattle.ktm_journal.specs.Bad.{IsBadAt}
+use Rattle.ktm_journal.specs.Image.{IsHeaded, HoldsLog}
+use Rattle.ktm_journal.proofs.OneImage.{not_bad}
+use Rattle.ktm_world.specs.declared.command.Line.TheVariants.{Restart}
+use Rattle.ktm_world.specs.declared.reply.Reply.TheVariants.{Refused, Restarted}
+use Rattle.ktm_world.specs.Durable.{Durable, empty_state, stand}
+use Rattle.ktm_world.specs.Outcome.{is_full}
+use Rattle.ktm_world.specs.Sizes.{log_size}
+use Rattle.ktm_world.specs.World.{World, Group, down, is_up, present, own_group, opened, possible_logs, interrupted_restart, found_full, is_full_to_open}
+use Rattle.ktm_world.specs.Transcript.{interrupted, found, full}
+use Rattle.ktm_world.proofs.Logs.{stand-units}
+use Rattle.ktm_kernel.specs.Restarts.{HoldsBoth, base_of, is_full_for_own, Started, LeavesOwnOrNot}
+use Rattle.ktm_kernel.specs.Stands.{KernelState, HasFallen, StandsBy, KernelAt, LeavesPossible, DoesLine, FoundAt, PowerLaw, FoundLaw}
+use Rattle.ktm_kernel.proofs.Left.{stands_for}
+use Rattle.ktm_kernel.proofs.Possible.{first_is, Contains-map, in_first, in_second}
+use Rattle.ktm_kernel.proofs.Worlds.{began_on}
+
+-- what is so now of a machine that is down is the same, whatever is possible on its disk
+off_present : (w : World) → is_up w.power ≡ false → (may : List (List Group)) → present w ≡ present (record w { power = down may })
+off_present w off may i = record (present w) { machine = record (present w).machine { is_up = off i } }
+
+pub power_law : PowerLaw
+power_law k old new w off at = (
+  λ restored. record {
+    off = off;
+    now = fallen.now;
+    before = fallen.before;
+    began = fallen.began;
+    disk = Tells-step old new (LeavesPossible k.journal fallen.before w) _ fallen.disk restored (λ a b leaves back. (back.safe, leaves b.seen back.left));
+  },
+  λ failed. record {
+    now = fallen.now ∙ off_present w off (possible_logs (interrupted_restart w));
+    before = fallen.before;
+    began = began_on k.journal k.journal fallen.before w (interrupted_restart w) refl refl refl refl fallen.began;
+    disk = Tells-step old new (LeavesPossible k.journal fallen.before w) (LeavesPossible k.journal fallen.before (interrupted_restart w)) fallen.disk failed (λ a b leaves again image may.
+        let (log, possible, holds) = leaves image ((images_power_law a b image may).1 again) in
+        (log, in_first (possible_logs w) _ log possible, holds));
+  },
+)
+  where
+    fallen : HasFallen k old w
+    fallen = subst (λ b. StandsBy b k old w) off at
+
+-- the run's base and room are those that a restart speaks of
+module _ (k : KernelState) (told now : Option DiskState) (w : World) (pick : ℕ) (at : FoundAt k told w) where
+  abbrev base : Durable
+  base = base_of k.journal.units k.journal.image at.before
+
+  full_is : (log : List Group) (b : Bool) → is_full_for_own k.journal.units k.journal.image at.before log ≡ b → is_full_to_open w log ≡ b
+  full_is log b is = ap (λ (s : Durable). is_full (w.room - log_size log) (own_group (stand s log))) at.began.base ∙ ap (λ n. is_full (n - log_size log) (own_group (stand base log))) at.began.room ∙ is
+
+  started : (new : KernelState) (events in_doubt : ℕ) (log : List Group) → Contains (possible_logs w) log → Started k.journal.units k.journal.image at.before log new events in_doubt now
+      → DoesLine w (Some (Restart pick)) (Restarted events in_doubt) new now
+  started new events in_doubt log possible starts = (
+    found log,
+    opened w.base w.room log,
+    (
+      record { down = at.off; possible = possible; room = full_is log false starts.room },
+      ap (λ n. Restarted n in_doubt) (starts.events_are ∙ ap (λ (s : Durable). (stand s log).events) (sym at.began.base)) ∙ ap (λ n. Restarted (stand w.base log).events n) starts.none_in_doubt,
+      refl,
+    ),
+    subst (λ (s : Durable). KernelAt new now (opened s w.room log)) (sym at.began.base) (subst (λ n. KernelAt new now (opened base n log)) (sym at.began.room) starts.stands),
+  )
+
+  cut : (log : List Group) → Contains (possible_logs w) log → Tells now (LeavesOwnOrNot k.journal.units k.journal.image at.before log) → DoesLine w (Some (Restart pick)) (Refused MachineDown) k now
+  cut log possible leaves = (
+    interrupted,
+    interrupted_restart w,
+    (at.off, refl, refl),
+    record {
+      now = at.now ∙ off_present w at.off (possible_logs (interrupted_restart w));
+      before = at.before;
+      began = began_on k.journal k.journal at.before w (interrupted_restart w) refl refl refl refl at.began;
+      disk = Tells-map now (LeavesOwnOrNot k.journal.units k.journal.image at.before log) (LeavesPossible k.journal at.before (interrupted_restart w)) leaves (λ s either image may. elim (either image may) [
+        | inl without ↦ (log, in_first (possible_logs w) _ log possible, without)
+        | inr with_it ↦ (
+          log ++ own_group (stand w.base log) ∷ [],
+          in_second (possible_logs w) _ _ (Contains-map (λ (l : List Group). l ++ own_group (stand w.base l) ∷ []) (possible_logs w) log possible),
+          subst (λ (s : Durable). HoldsLog k.journal.units k.journal.image (at.before ++ (log ++ own_group (stand s log) ∷ [])) image) (sym at.began.base) with_it,
+        )
+      ]);
+    },
+  )
+
+  stays : (log : List Group) → Contains (possible_logs w) log → is_full_for_own k.journal.units k.journal.image at.before log ≡ true → Tells now (HoldsBoth k.journal.units k.journal.image at.before log)
+      → DoesLine w (Some (Restart pick)) (Refused LogFull) k now
+  stays log possible is holds = (
+    full log,
+    found_full w log,
+    (record { down = at.off; possible = possible; room = full_is log true is }, refl, refl),
+    record {
+      now = at.now ∙ off_present w at.off (log ∷ []);
+      before = at.before;
+      began = began_on k.journal k.journal at.before w (found_full w log) refl refl refl refl at.began;
+      disk = Tells-map now (HoldsBoth k.journal.units k.journal.image at.before log) (LeavesPossible k.journal at.before (found_full w log)) holds (λ s held image may. (
+        log,
+        first_is log [],
+        subst (λ (l : List ℕ). HoldsLog k.journal.units k.journal.image (at.before ++ log) l) (sym ((safe_law s image held.0).0 may)) held.1,
+      ));
+    },
+  )
+
+-- ---- the answers of a restart, for the log that the disk holds
+
+pub started_line : (k new : KernelState) (events in_doubt : ℕ) (told now : Option DiskState)
+    → ((units image : ℕ) (before log : List Group) → Tells told (HoldsBoth units image before log) → Started units image before log new events in_doubt now)
+    → (pick : ℕ) (w : World) → FoundAt k told w → DoesLine w (Some (Restart pick)) (Restarted events in_doubt) new now
+started_line k new events in_doubt None now starts pick w at = absurd at.disk
+started_line k new events in_doubt (Some s) now starts pick w at =
+    let (safe, held) = at.disk in
+    let (log, possible, holds) = held in
+    started k (Some s) now w pick at new events in_doubt log possible (starts k.journal.units k.journal.image at.before log (safe, holds))
+
+pub interrupted_line : (k : KernelState) (told now : Option DiskState)
+    → ((units image : ℕ) (before log : List Group) → Tells told (HoldsBoth units image before log) → Tells now (LeavesOwnOrNot units image before log))
+    → (pick : ℕ) (w : World) → FoundAt k told w → DoesLine w (Some (Restart pick)) (Refused MachineDown) k now
+interrupted_line k None now leaves pick w at = absurd at.disk
+interrupted_line k (Some s) now leaves pick w at =
+    let (safe, held) = at.disk in
+    let (log, possible, holds) = held in
+    cut k (Some s) now w pick at log possible (leaves k.journal.units k.journal.image at.before log (safe, holds))
+
+pub full_line : (k : KernelState) (told now : Option DiskState) → now ≡ told
+    → ((units image : ℕ) (before log : List Group) → Tells told (HoldsBoth units image before log) → is_full_for_own units image before log ≡ true)
+    → (pick : ℕ) (w : World) → FoundAt k told w → DoesLine w (Some (Restart pick)) (Refused LogFull) k now
+full_line k None now same is pick w at = absurd at.disk
+full_line k (Some s) now same is pick w at =
+    let (safe, held) = at.disk in
+    let (log, possible, holds) = held in
+    stays k (Some s) now w pick at log possible (is k.journal.units k.journal.image at.before log (safe, holds))
+    (subst (λ d. Tells d (HoldsBoth k.journal.units k.journal.image at.before log)) (sym same) (safe, holds))
+
+-- what holds one of the logs is not bad
+pub found_is_good : (k : KernelState) (told : Option DiskState) (offset : ℕ) → IfTold told (λ s. IsBadAt s.seen offset) → (w : World) → FoundAt k told w → ⊥
+found_is_good k None offset bad w at = absurd at.disk
+found_is_good k (Some s) offset bad w at =
+    let (safe, held) = at.disk in
+    let (log, possible, holds) = held in
+    not_bad (stand w.base log) s.seen offset (stands_for k.journal at.before w at.began log s.seen holds) bad
+
+-- it takes as many device calls as the units of the run's image ask for
+pub found_few : (k : KernelState) (told : Option DiskState) (a b : ℕ) → ((units image : ℕ) → Tells told (λ s. IsHeaded units image s.seen) → b ≤ a + (8 * units + 68))
+    → (w : World) → FoundAt k told w → b ≤ a + (8 * w.base.units + 68)
+found_few k None a b few w at = absurd at.disk
+found_few k (Some s) a b few w at =
+    let (safe, held) = at.disk in
+    let (log, possible, holds) = held in
+    let most = few k.journal.units k.journal.image holds.is.formatted.headed in
+    let units = ap (λ (d : Durable). d.units) at.began.base ∙ stand-units (empty_state k.journal.units k.journal.image) at.before in
+    omega arith
+
+-- what is safe is what a loss of power leaves
+pub found_law : FoundLaw
+found_law k None w at = absurd at.disk
+found_law k (Some s) w at = λ image may.
+    let (safe, held) = at.disk in
+    let (log, possible, holds) = held in (
+      log,
+      possible,
+      stands_for k.journal at.before w at.began log image (subst (λ (l : List ℕ). HoldsLog k.journal.units k.journal.image (at.before ++ log) l) (sym ((safe_law s image safe).0 may)) holds),
+    )

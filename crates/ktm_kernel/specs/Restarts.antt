@@ -1,0 +1,83 @@
+-- What a restart makes of a disk that holds groups.
+use Rattle.std.specs.Prelude.{◌≡◌, ◌⊎◌, ℕ, ◌-◌, Bool, true, false, List, [], ◌∷◌, ◌++◌, Option, Result, Ok, Err}
+use Rattle.ktm_base.specs.Disk.{DiskState, MayLeave, IsSafe}
+use Rattle.ktm_journal.specs.Image.{HoldsLog, left_after}
+use Rattle.ktm_world.specs.Durable.{Durable, empty_state, stand}
+use Rattle.ktm_world.specs.Outcome.{is_full}
+use Rattle.ktm_world.specs.Sizes.{log_size}
+use Rattle.ktm_world.specs.World.{Group, own_group, opened}
+use Rattle.ktm_kernel.specs.declared.restart.RestartFault.{RestartFault}
+use Rattle.ktm_kernel.specs.declared.restart.RestartFault.TheVariants.{Down, Bad, Full, NoMemory}
+use Rattle.ktm_kernel.specs.Stands.{KernelState, KernelAt}
+
+-- all of the disk is safe, and it holds the groups that a run began with, and then those of a log
+abbrev pub HoldsBoth : ℕ → ℕ → List Group → List Group → DiskState → Type 0
+HoldsBoth units image before log s = IsSafe s × HoldsLog units image (before ++ log) s.seen
+
+-- the state that the run began with
+abbrev pub base_of : ℕ → ℕ → List Group → Durable
+base_of units image before = stand (empty_state units image) before
+
+-- has the log no room for the group of a restart
+abbrev pub is_full_for_own : ℕ → ℕ → List Group → List Group → Bool
+is_full_for_own units image before log = is_full (left_after units before - log_size log) (own_group (stand (base_of units image before) log))
+
+-- the machine stands for the world that was opened from the log, and how many events were found is told
+pub record Started (units image : ℕ) (before log : List Group) (kernel : KernelState) (events in_doubt : ℕ) (told : Option DiskState) : Type 0 where
+  pub room : is_full_for_own units image before log ≡ false
+  pub stands : KernelAt kernel told (opened (base_of units image before) (left_after units before) log)
+  pub events_are : events ≡ (stand (base_of units image before) log).events
+  pub none_in_doubt : in_doubt ≡ 0
+
+-- each image that a loss of power may leave holds the groups that were there, with that of the restart or without
+abbrev pub LeavesOwnOrNot : ℕ → ℕ → List Group → List Group → DiskState → Type 0
+LeavesOwnOrNot units image before log s = (bytes : List ℕ) → MayLeave s bytes
+    → HoldsLog units image (before ++ log) bytes ⊎ HoldsLog units image (before ++ (log ++ own_group (stand (base_of units image before) log) ∷ [])) bytes
+
+-- the fact, where a restart found the disk down
+abbrev pub IfDown : {T : Type 0} → Result T RestartFault → Type 0 → Type 0
+IfDown (Ok value) P = Unit {0}
+IfDown (Err Down) P = P
+IfDown (Err (Bad offset)) P = Unit {0}
+IfDown (Err Full) P = Unit {0}
+IfDown (Err NoMemory) P = Unit {0}
+
+-- the fact, where it found the log full
+abbrev pub IfFull : {T : Type 0} → Result T RestartFault → Type 0 → Type 0
+IfFull (Ok value) P = Unit {0}
+IfFull (Err Down) P = Unit {0}
+IfFull (Err (Bad offset)) P = Unit {0}
+IfFull (Err Full) P = P
+IfFull (Err NoMemory) P = Unit {0}
+
+-- the fact, where it could open the image
+abbrev pub IfLoaded : {T : Type 0} → Result T RestartFault → Type 0 → Type 0
+IfLoaded (Ok value) P = P
+IfLoaded (Err Down) P = Unit {0}
+IfLoaded (Err (Bad offset)) P = Unit {0}
+IfLoaded (Err Full) P = P
+IfLoaded (Err NoMemory) P = Unit {0}
+
+-- the fact of the offset, where it found the image bad
+abbrev pub IfBad : {T : Type 0} → Result T RestartFault → (ℕ → Type 0) → Type 0
+IfBad (Ok value) P = Unit {0}
+IfBad (Err Down) P = Unit {0}
+IfBad (Err (Bad offset)) P = P offset
+IfBad (Err Full) P = Unit {0}
+IfBad (Err NoMemory) P = Unit {0}
+
+-- the fact, where it wrote nothing
+abbrev pub IfUnwritten : {T : Type 0} → Result T RestartFault → Type 0 → Type 0
+IfUnwritten (Ok value) P = Unit {0}
+IfUnwritten (Err Down) P = Unit {0}
+IfUnwritten (Err (Bad offset)) P = P
+IfUnwritten (Err Full) P = P
+IfUnwritten (Err NoMemory) P = P
+
+-- did it find the disk down
+abbrev pub restart_went_down : {T : Type 0} → Result T RestartFault → Bool
+restart_went_down (Ok value) = false
+restart_went_down (Err Down) = true
+restart_went_down (Err (Bad offset)) = false
+restart_went_down (Err Full) = false
+restart_went_down (Err NoMemory) = false

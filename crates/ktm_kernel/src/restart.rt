@@ -1,0 +1,143 @@
+// Starting the machine from its disk.
+ghost use Rattle.std.specs.Prelude.{◌≡◌, ◌+◌, ◌*◌, ◌≤◌, ℕ, List, IfOk, OnOk, OnErr, Some, true, false};
+ghost use Rattle.ktm_base.specs.Count.{Rose};
+ghost use Rattle.ktm_base.specs.declared.refusal.Refusal.TheVariants.{MachineDown, MachineUp};
+ghost use Rattle.ktm_world.specs.declared.command.Line.TheVariants.{Restart};
+ghost use Rattle.ktm_world.specs.declared.reply.Reply.TheVariants.{Refused};
+ghost use Rattle.ktm_base.specs.Told.{IfTold, Tells};
+ghost use Rattle.ktm_base.specs.Disk.{DeviceCalls};
+ghost use Rattle.ktm_journal.specs.Bad.{IsBadAt};
+ghost use Rattle.ktm_journal.specs.Image.{IsHeaded, StandsFor};
+ghost use Rattle.ktm_world.specs.Durable.{Durable, events_apply};
+ghost use Rattle.ktm_world.specs.World.{World, Group, own_group};
+ghost use Rattle.ktm_kernel.specs.Restarts.{HoldsBoth, Started, LeavesOwnOrNot, is_full_for_own, IfDown, IfFull, IfLoaded, IfBad, IfUnwritten, restart_went_down};
+ghost use Rattle.ktm_kernel.specs.Stands.{IsReady, FoundAt, DoesLine};
+
+use crate::kernel::Kernel;
+use crate::state::State;
+use ktm_base::{Disk, NoMemory, Refusal};
+use ktm_event::write_boot;
+use ktm_journal::{AppendFault, Journal, LoadFault, Loaded};
+use ktm_world::{Durable, Reply};
+use std::alloc::Global;
+
+/// A machine that started.
+#[derive(Drop)]
+pub struct Restarted {
+    pub kernel: Kernel,
+    /// How many events were found, before the one that this start recorded.
+    pub events: u64,
+    /// How many transactions are in doubt. None is, since none has a superior so far.
+    pub in_doubt: u32,
+}
+
+/// Why a machine did not start.
+#[derive(Clone, Copy, Debug, PartialEq, Eq)]
+pub enum RestartFault {
+    /// The disk has no power. What the start records may be there or not.
+    Down,
+    /// The image cannot be opened, for what stands at this offset. Nothing was written.
+    Bad(u64),
+    /// The log has no room for what a start records. Nothing was written.
+    Full,
+    /// Memory was wanted and not to be had. Nothing was written.
+    NoMemory,
+}
+
+impl Kernel {
+    /// Starts the machine from the image of its disk: it reads the groups that are there, and records that it started.
+    pub fn restart<D: Disk>(alloc: Global, disk: &mut D) -> Result<Restarted, RestartFault>
+        requires pending { (D.status disk.old).pending ≡ 0 }
+        ensures starts { IfOk result (λ restarted. (units image : ℕ) (before log : List Group) → Tells (D.told disk.old) (HoldsBoth units image before log)
+            → Started units image before log restarted.kernel restarted.events restarted.in_doubt (D.told disk.new)) }
+        ensures ready { IfOk result (λ restarted. IsReady restarted.kernel (D.told disk.new) (D.status disk.new) × (restarted.kernel.now.machine.is_up ≡ true)) }
+        ensures down { IfDown result ((units image : ℕ) (before log : List Group) → Tells (D.told disk.old) (HoldsBoth units image before log)
+            → Tells (D.told disk.new) (LeavesOwnOrNot units image before log)) }
+        ensures full { IfFull result ((units image : ℕ) (before log : List Group) → Tells (D.told disk.old) (HoldsBoth units image before log)
+            → is_full_for_own units image before log ≡ true) }
+        ensures found { IfLoaded result (IfTold (D.told disk.old) (λ s. (state : Durable) × StandsFor state s.seen)) }
+        ensures bad { IfBad result (λ offset. IfTold (D.told disk.old) (λ s. IsBadAt s.seen offset)) }
+        ensures unwritten { IfUnwritten result (D.told disk.new ≡ D.told disk.old) }
+        ensures calls { DeviceCalls (8 * 1024 + 68) (D.status disk.old) (D.status disk.new) (restart_went_down result) }
+        ensures few { (units image : ℕ) → Tells (D.told disk.old) (λ s. IsHeaded units image s.seen) → (D.status disk.new).calls ≤ (D.status disk.old).calls + (8 * units + 68) }
+    {
+        let Loaded { journal, state } = match Journal::load(alloc, disk) {
+            Ok(loaded) => loaded,
+            Err(LoadFault::Down) => return Err(RestartFault::Down),
+            Err(LoadFault::Bad(offset)) => return Err(RestartFault::Bad(offset)),
+            Err(LoadFault::NoMemory) => return Err(RestartFault::NoMemory),
+        };
+        if !may_boot(&state) {
+            return Err(RestartFault::NoMemory);
+        }
+        let Ok(group) = write_boot(alloc, state.boots() + 1) else {
+            return Err(RestartFault::NoMemory);
+        };
+        let mut journal = journal;
+        match journal.append(disk, group.as_slice()) {
+            Ok(()) => {}
+            Err(AppendFault::Down) => return Err(RestartFault::Down),
+            Err(AppendFault::Full) => return Err(RestartFault::Full),
+        }
+        let events = state.events();
+        let left = journal.left();
+        Ok(Restarted {
+            kernel: Kernel {
+                alloc,
+                state: State::start(alloc, state, left),
+                journal,
+            },
+            events,
+            in_doubt: 0,
+        })
+    }
+}
+
+impl Kernel {
+    /// Starts a machine that is down again, from its disk, whose power is back; what it held in memory is gone. The reply is
+    /// that of a restart: how many events were found; ERROR_LOG_FULL or BAD_IMAGE, and the machine stays down; or
+    /// MACHINE_DOWN where the power went again. Where memory is wanting nothing was written.
+    pub fn start_again<D: Disk>(&mut self, disk: &mut D) -> Result<Reply, NoMemory>
+        requires off { self.old.now.machine.is_up ≡ false }
+        requires power { (D.status disk.old).is_down ≡ false }
+        requires pending { (D.status disk.old).pending ≡ 0 }
+        ensures does { IfOk result (λ reply. (pick : ℕ) (w : World) → FoundAt self.old (D.told disk.old) w
+            → DoesLine w (Some (Restart pick)) reply self.new (D.told disk.new)) }
+        ensures cause { IfOk result (λ reply. reply ≡ Refused MachineDown → Rose (D.status disk.old).downs (D.status disk.new).downs) }
+        ensures not_up { IfOk result (λ reply. reply ≡ Refused MachineUp → ⊥) }
+        ensures ready { OnOk result (IsReady self.new (D.told disk.new) (D.status disk.new)) }
+        ensures calls { DeviceCalls (8 * 1024 + 68) (D.status disk.old) (D.status disk.new) (D.status disk.new).is_down }
+        ensures few { (w : World) → FoundAt self.old (D.told disk.old) w → (D.status disk.new).calls ≤ (D.status disk.old).calls + (8 * w.base.units + 68) }
+        ensures no_memory { OnErr result ((D.told disk.new ≡ D.told disk.old) × ((D.status disk.new).is_down ≡ false)) }
+    {
+        match Kernel::restart(self.alloc, disk) {
+            Ok(
+                Restarted {
+                    kernel,
+                    events,
+                    in_doubt,
+                },
+            ) => {
+                *self = kernel;
+                Ok(Reply::Restarted { events, in_doubt })
+            }
+            Err(RestartFault::Down) => Ok(Reply::Refused(Refusal::MachineDown)),
+            Err(RestartFault::Bad(offset)) => Ok(Reply::BadImage(offset)),
+            Err(RestartFault::Full) => Ok(Reply::Refused(Refusal::LogFull)),
+            Err(RestartFault::NoMemory) => Err(NoMemory),
+        }
+    }
+}
+
+/// The most boots that an image ever has.
+const MOST_BOOTS: u32 = u32::MAX - 2;
+
+/// The most events that an image ever records.
+const MOST_EVENTS: u64 = (1 << 63) - 2;
+
+/// Are there numbers left for one boot and one event more. A log has no room for so many that there are none.
+fn may_boot(state: &Durable) -> bool
+    ensures { result ≡ events_apply state.now (own_group state.now) }
+{
+    state.boots() <= MOST_BOOTS && state.events() <= MOST_EVENTS
+}

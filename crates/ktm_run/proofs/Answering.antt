@@ -1,0 +1,206 @@
+-- What the answers to lines come to, of the machine and of the counts.
+use Rattle.std.proofs.Common.{◌≡◌, ◌⊎◌, inl, inr, ℕ, ◌+◌, ◌*◌, ◌≤◌, Bool, true, false, List, [], ◌∷◌, ◌++◌, Option, Some, Result, Ok, Err, IfOk, OnErr, refl, sym, ◌∙◌, ap, subst, arith}
+use Rattle.std.proofs.lemmas.List.{append-nil}
+use Rattle.ktm_base.specs.declared.id.Pid.{Pid}
+use Rattle.ktm_base.specs.declared.fault.NoMemory.{NoMemory}
+use Rattle.ktm_base.specs.declared.power.PowerCall.{PowerCall}
+use Rattle.ktm_base.specs.declared.power.PowerCall.TheVariants.{Power}
+use Rattle.ktm_base.specs.declared.refusal.Refusal.TheVariants.{MachineDown}
+use Rattle.ktm_base.specs.Count.{Rose}
+use Rattle.ktm_base.specs.Disk.{DiskState, DiskStatus, DeviceCalls}
+use Rattle.ktm_base.specs.Power.{after_off, planned, Restored, NotRestored}
+use Rattle.ktm_base.specs.Told.{Tells, Goes}
+use Rattle.ktm_kernel.specs.Stands.{KernelState, StandsBy, KernelAt, FoundAt, DoesLine, LeavesStates}
+use Rattle.ktm_kernel.proofs.Left.{left_law}
+use Rattle.ktm_kernel.proofs.StartAgain.{power_law, found_law}
+use Rattle.ktm_run.proofs.Counting.{RoseBy-none}
+use Rattle.ktm_run.specs.Plan.{plan_of, falls_of, RoseBy}
+use Rattle.ktm_run.specs.Progress.{Scene, Counts, Answers, Unanswered}
+use Rattle.ktm_run.specs.Script.{Means}
+use Rattle.ktm_world.specs.declared.command.Command.{Command}
+use Rattle.ktm_world.specs.declared.command.Line.{Line}
+use Rattle.ktm_world.specs.declared.command.Line.TheVariants.{Crash, Restart, Process}
+use Rattle.ktm_world.specs.declared.reply.Reply.{Reply}
+use Rattle.ktm_world.specs.declared.reply.Reply.TheVariants.{Refused, Done}
+use Rattle.ktm_world.specs.Present.{Present}
+use Rattle.ktm_world.specs.Transcript.{Step, answered, interrupted, found, full, CrashDoes, Does}
+use Rattle.ktm_world.specs.World.{World, present, is_up, interrupted_restart}
+
+-- what is so now of a machine that stands for a world
+now_of : (b : Bool) (k : KernelState) (told : Option DiskState) (w : World) → StandsBy b k told w → k.now ≡ present w
+now_of true k told w stands = stands.now
+now_of false k told w fallen = fallen.now
+
+-- a machine is up where its world is
+pub up_of : (k : KernelState) (told : Option DiskState) (w : World) → KernelAt k told w → k.now.machine.is_up ≡ is_up w.power
+up_of k told w at = ap (λ (x : Present). x.machine.is_up) (now_of (is_up w.power) k told w at)
+
+-- so its world is down where it is
+pub off_of : (k : KernelState) (told : Option DiskState) (w : World) → k.now.machine.is_up ≡ false → KernelAt k told w → is_up w.power ≡ false
+off_of k told w off at = sym (up_of k told w at) ∙ off
+
+-- ---- the counts of one line
+
+pub counted : (w : World) (k n : KernelState) (before now : Option DiskState) (a b : DiskStatus) (plan : List PowerCall) (fell : ℕ)
+    → RoseBy fell a.downs b.downs → b.plan ≡ a.plan ++ plan → b.calls ≤ a.calls + (8 * w.base.units + 68)
+    → Counts w (record { machine = k; disk = before; status = a }) (record { machine = n; disk = now; status = b }) 1 plan fell
+counted w k n before now a b plan fell rose is few = record { rose = rose; plan_is = is; few = omega arith }
+
+-- a line that changed no count
+quiet : (w : World) (k n : KernelState) (before now : Option DiskState) (a b : DiskStatus) → b ≡ a
+    → Counts w (record { machine = k; disk = before; status = a }) (record { machine = n; disk = now; status = b }) 1 [] 0
+quiet w k n before now a b same = counted w k n before now a b [] 0
+    (let is = ap (λ s. s.downs) same in omega arith)
+    (ap (λ s. s.plan) same ∙ sym (append-nil a.plan))
+    (let is = ap (λ s. s.calls) same in omega arith)
+
+-- ---- a call of a process
+
+-- the power went in a call only where the count of downs rose
+call_rose : (k : KernelState) (told : Option DiskState) (w new : World) (a b : DiskStatus) (process : Pid) (command : Command) (step : Step) (reply : Reply)
+    → KernelAt k told w → Does w (Some (Process process command)) step reply new → (reply ≡ Refused MachineDown → (k.now.machine.is_up ≡ false) ⊎ Rose a.downs b.downs) → a.downs ≤ b.downs
+    → RoseBy (falls_of (Some (Process process command)) step reply) a.downs b.downs
+call_rose k told w new a b process command answered reply at does cause later = RoseBy-none a.downs b.downs later
+call_rose k told w new a b process command interrupted reply at (on, says, is) cause later = elim (cause says) [
+  | inl off ↦ let wrong : true ≡ false = sym on ∙ off_of k told w off at in absurd (cc)
+  | inr rose ↦ rose
+]
+call_rose k told w new a b process command (found log) reply at none cause later = absurd none
+call_rose k told w new a b process command (full log) reply at none cause later = absurd none
+
+pub called : (k n : KernelState) (before now : Option DiskState) (a b : DiskStatus) (process : Pid) (command : Command) (reply : Reply)
+    → ((w : World) → KernelAt k before w → DoesLine w (Some (Process process command)) reply n now)
+    → (reply ≡ Refused MachineDown → (k.now.machine.is_up ≡ false) ⊎ Rose a.downs b.downs) → DeviceCalls 4 a b b.is_down
+    → Answers (record { machine = k; disk = before; status = a }) (record { machine = n; disk = now; status = b }) (Some (Process process command)) reply
+called k n before now a b process command reply does cause calls = λ w at.
+    let (step, new, done, stands) = does w at in record {
+      step = step;
+      world = new;
+      does = done;
+      stands = stands;
+      counts = counted w k n before now a b [] (falls_of (Some (Process process command)) step reply)
+          (call_rose k before w new a b process command step reply at done cause calls.later)
+          (calls.plan ∙ sym (append-nil a.plan))
+          (let few = calls.few in omega arith);
+    }
+
+-- a line that changed nothing
+pub not_executed : (k n : KernelState) (before now : Option DiskState) (a b : DiskStatus) (line : List ℕ) → now ≡ before → b ≡ a → (w : World) → KernelAt k before w
+    → Unanswered w (record { machine = k; disk = before; status = a }) (record { machine = n; disk = now; status = b }) line
+not_executed k n before now a b line told same w at = record {
+  leaves = subst (λ (o : Option DiskState). Tells o (LeavesStates w)) (sym told) (left_law k before w at);
+  counts = inl (quiet w k n before now a b same);
+}
+
+-- ---- a crash
+
+-- a crash that is answered takes the disk down
+off_rose : (w new : World) (a b : DiskStatus) (step : Step) → b ≡ after_off a → Does w (Some Crash) step Done new → RoseBy (falls_of (Some Crash) step Done) a.downs b.downs
+off_rose w new a b answered is does = let up = ap (λ s. s.downs) is in omega arith
+off_rose w new a b interrupted is none = absurd none
+off_rose w new a b (found log) is none = absurd none
+off_rose w new a b (full log) is none = absurd none
+
+pub went_down : (k n : KernelState) (before now : Option DiskState) (a b : DiskStatus) → now ≡ before → b ≡ after_off a
+    → ((told : Option DiskState) (w : World) → KernelAt k told w → DoesLine w (Some Crash) Done n told)
+    → Answers (record { machine = k; disk = before; status = a }) (record { machine = n; disk = now; status = b }) (Some Crash) Done
+went_down k n before now a b told is does = λ w at.
+    let (step, new, done, stands) = does now w (subst (λ (o : Option DiskState). KernelAt k o w) (sym told) at) in record {
+      step = step;
+      world = new;
+      does = done;
+      stands = stands;
+      counts = counted w k n before now a b _ (falls_of (Some Crash) step Done) (off_rose w new a b step is done) (ap (λ s. s.plan) is) (let few = ap (λ s. s.calls) is in omega arith);
+    }
+
+pub is_down_still : (k : KernelState) (told : Option DiskState) (a : DiskStatus) → k.now.machine.is_up ≡ false
+    → Answers (record { machine = k; disk = told; status = a }) (record { machine = k; disk = told; status = a }) (Some Crash) (Refused MachineDown)
+is_down_still k told a off = λ w at. record {
+  step = answered;
+  world = w;
+  does = subst (λ b. CrashDoes b w (Refused MachineDown) w) (sym (off_of k told w off at)) (refl, refl);
+  stands = at;
+  counts = quiet w k k told told a a refl;
+}
+
+-- ---- a restart
+
+-- the power failed again
+pub failed_again : (k : KernelState) (before now : Option DiskState) (a b : DiskStatus) (pick : ℕ) → k.now.machine.is_up ≡ false
+    → b ≡ record (planned a (Power pick)) { is_down = true; downs = b.downs } → Rose a.downs b.downs → Goes NotRestored before now
+    → Answers (record { machine = k; disk = before; status = a }) (record { machine = k; disk = now; status = b }) (Some (Restart pick)) (Refused MachineDown)
+failed_again k before now a b pick off is rose goes = λ w at.
+    let down = off_of k before w off at in record {
+      step = interrupted;
+      world = interrupted_restart w;
+      does = (down, refl, refl);
+      stands = (power_law k before now w down at).1 goes;
+      counts = counted w k k before now a b (Power pick ∷ []) 1 rose (ap (λ s. s.plan) is) (let few = ap (λ s. s.calls) is in omega arith);
+    }
+
+-- the power is back
+pub found_at : (k : KernelState) (before now : Option DiskState) → k.now.machine.is_up ≡ false → Goes Restored before now → (w : World) → KernelAt k before w → FoundAt k now w
+found_at k before now off goes w at = (power_law k before now w (off_of k before w off at) at).0 goes
+
+-- the disk once its power is back
+abbrev powered : DiskStatus → ℕ → DiskStatus
+powered a pick = record (planned a (Power pick)) { is_down = false; pending = 0 }
+
+-- a machine that was down and starts asks for the power
+started_plan : (w new : World) (pick : ℕ) (step : Step) (reply : Reply) → is_up w.power ≡ false → Does w (Some (Restart pick)) step reply new → plan_of (Some (Restart pick)) reply ≡ Power pick ∷ []
+started_plan w new pick answered reply off (on, says, is) = let wrong : true ≡ false = sym on ∙ off in absurd (cc)
+started_plan w new pick interrupted reply off (down, says, is) = ap (λ r. plan_of (Some (Restart pick)) r) says
+started_plan w new pick (found log) reply off (finds, says, is) = ap (λ r. plan_of (Some (Restart pick)) r) says
+started_plan w new pick (full log) reply off (finds, says, is) = ap (λ r. plan_of (Some (Restart pick)) r) says
+
+-- and the power goes in it only where the count of downs rose
+started_rose : (w new : World) (pick : ℕ) (step : Step) (reply : Reply) (a b : DiskStatus) → Does w (Some (Restart pick)) step reply new → (reply ≡ Refused MachineDown → Rose a.downs b.downs) → a.downs ≤ b.downs
+    → RoseBy (falls_of (Some (Restart pick)) step reply) a.downs b.downs
+started_rose w new pick answered reply a b does cause later = RoseBy-none a.downs b.downs later
+started_rose w new pick interrupted reply a b (down, says, is) cause later = cause says
+started_rose w new pick (found log) reply a b does cause later = RoseBy-none a.downs b.downs later
+started_rose w new pick (full log) reply a b does cause later = RoseBy-none a.downs b.downs later
+
+-- a machine that starts again, on a disk whose power came back
+module _ (k n : KernelState) (before mid now : Option DiskState) (a m b : DiskStatus) (pick : ℕ)
+    (off : k.now.machine.is_up ≡ false) (power : m ≡ powered a pick) (goes : Goes Restored before mid)
+    (calls : DeviceCalls (8 * 1024 + 68) m b b.is_down) (few : (w : World) → FoundAt k mid w → b.calls ≤ m.calls + (8 * w.base.units + 68)) where
+  starts_counted : (w : World) (fell : ℕ) → KernelAt k before w → RoseBy fell m.downs b.downs → Counts w (record { machine = k; disk = before; status = a }) (record { machine = n; disk = now; status = b }) 1 (Power pick ∷ []) fell
+  starts_counted w fell at rose = counted w k n before now a b (Power pick ∷ []) fell
+      (subst (λ d. RoseBy fell d b.downs) (ap (λ s. s.downs) power) rose)
+      (calls.plan ∙ ap (λ s. s.plan) power)
+      (subst (λ d. b.calls ≤ d + (8 * w.base.units + 68)) (ap (λ s. s.calls) power) (few w (found_at k before mid off goes w at)))
+
+  pub started : (reply : Reply) → ((pick : ℕ) (w : World) → FoundAt k mid w → DoesLine w (Some (Restart pick)) reply n now) → (reply ≡ Refused MachineDown → Rose m.downs b.downs)
+      → Answers (record { machine = k; disk = before; status = a }) (record { machine = n; disk = now; status = b }) (Some (Restart pick)) reply
+  started reply does cause = λ w at.
+      let (step, new, done, stands) = does pick w (found_at k before mid off goes w at) in record {
+        step = step;
+        world = new;
+        does = done;
+        stands = stands;
+        counts = subst (λ (p : List PowerCall). Counts w (record { machine = k; disk = before; status = a }) (record { machine = n; disk = now; status = b }) 1 p (falls_of (Some (Restart pick)) step reply))
+            (sym (started_plan w new pick step reply (off_of k before w off at) done))
+            (starts_counted w (falls_of (Some (Restart pick)) step reply) at (started_rose w new pick step reply m b done cause calls.later));
+      }
+
+  pub not_started : now ≡ mid → (line : List ℕ) (w : World) → Means line (Some (Restart pick)) → KernelAt k before w
+      → Unanswered w (record { machine = k; disk = before; status = a }) (record { machine = n; disk = now; status = b }) line
+  not_started same line w means at = record {
+    leaves = subst (λ (o : Option DiskState). Tells o (LeavesStates w)) (sym same) (found_law k mid w (found_at k before mid off goes w at));
+    counts = inr (pick, means, off_of k before w off at, starts_counted w 0 at (RoseBy-none m.downs b.downs calls.later));
+  }
+
+-- ---- what was read of a line
+
+pub meant : (bytes : List ℕ) (x y : Line) → x ≡ y → Means bytes (Some x) → Means bytes (Some y)
+meant bytes x y is means = subst (λ (line : Line). Means bytes (Some line)) is means
+
+pub answers_so : (r : Result Reply NoMemory) (old new : Scene) (bytes : List ℕ) (line : Option Line) → Means bytes line → IfOk r (λ reply. Answers old new line reply)
+    → IfOk r (λ reply. (meant : Option Line) × Means bytes meant × Answers old new meant reply)
+answers_so (Ok reply) old new bytes line means answers = (line, means, answers)
+answers_so (Err fault) old new bytes line means answers = tt
+
+pub OnErr-map : (r : Result Reply NoMemory) (P Q : Type 0) → (P → Q) → OnErr r P → OnErr r Q
+OnErr-map (Ok reply) P Q f h = tt
+OnErr-map (Err fault) P Q f h = f h

@@ -1,0 +1,89 @@
+-- Where a run ends early at a line, and a plan that got room.
+use Rattle.std.proofs.Common.{◌≡◌, inl, inr, ℕ, ◌+◌, ◌*◌, ◌≤◌, List, [], ◌∷◌, ◌++◌, Option, None, Some, Result, Ok, Err, OnErr, IfOk, refl, sym, ◌∙◌, ap, subst, arith, append_assoc, take, drop}
+use Rattle.std.proofs.lemmas.List.{append-nil, take-append-drop}
+use Rattle.std.specs.Io.KnownBytes.{Appends}
+use Rattle.ktm_base.specs.declared.power.PowerCall.{PowerCall}
+use Rattle.ktm_base.specs.Disk.{DiskState, DiskStatus}
+use Rattle.ktm_kernel.specs.Stands.{KernelState, KernelAt}
+use Rattle.ktm_kernel.proofs.Left.{left_law}
+use Rattle.ktm_run.proofs.Known.{Appends-none, Appends-trans}
+use Rattle.ktm_run.proofs.Counting.{RoseBy-none}
+use Rattle.ktm_run.proofs.Lines.{Means-kept}
+use Rattle.ktm_run.specs.Progress.{Scene, Now, Counts, Did, Answers, Unanswered, HalfWritten}
+use Rattle.ktm_run.specs.Script.{AppendsPart, Means, kept_of, reply_line}
+use Rattle.ktm_world.specs.declared.command.Line.{Line}
+use Rattle.ktm_world.specs.declared.command.Line.TheVariants.{Restart}
+use Rattle.ktm_world.specs.declared.reply.Reply.{Reply}
+use Rattle.ktm_world.specs.World.{World}
+
+-- a line that was not executed at all
+pub unanswered_here : (w : World) (s : Scene) (line : List ℕ) → KernelAt s.machine s.disk w → Unanswered w s s line
+unanswered_here w s line stands = record {
+  leaves = left_law s.machine s.disk w stands;
+  counts = inl (record { rose = RoseBy-none s.status.downs s.status.downs (omega arith); plan_is = sym (append-nil s.status.plan); few = omega arith });
+}
+
+-- what is kept of a line means what the line means
+pub unanswered_kept : (w : World) (a b : Scene) (line : List ℕ) → Unanswered w a b (kept_of line) → Unanswered w a b line
+unanswered_kept w a b line h = record {
+  leaves = h.leaves;
+  counts = elim h.counts [
+    | inl none ↦ inl none
+    | inr some ↦ inr (some.0, Means-kept line (Some (Restart some.0)) some.1, some.2, some.3)
+  ];
+}
+
+-- what was counted from a status on whose plan there is more room
+module _ (machine : KernelState) (disk mid_disk : Option DiskState) (same : mid_disk ≡ disk) (old mid : DiskStatus) (new : Scene) (room : mid ≡ record old { places = mid.places }) where
+  abbrev pub before : Scene
+  before = record { machine = machine; disk = disk; status = old }
+
+  abbrev pub roomy : Scene
+  roomy = record { machine = machine; disk = mid_disk; status = mid }
+
+  counted : (w : World) (lines : ℕ) (plan : List PowerCall) (fell : ℕ) → Counts w roomy new lines plan fell → Counts w before new lines plan fell
+  counted w lines plan fell h =
+      let downs = ap (λ (s : DiskStatus). s.downs) room in
+      let calls = ap (λ (s : DiskStatus). s.calls) room in
+      let up = h.rose in
+      let few = h.few in record {
+        rose = omega (arith, downs, up);
+        plan_is = h.plan_is ∙ ap (λ (s : DiskStatus). s.plan ++ plan) room;
+        few = omega (arith, calls, few);
+      }
+
+  pub did_planned : (w : World) (line : Option Line) (reply : Reply) → Answers roomy new line reply → KernelAt machine disk w → Did w before new line reply
+  did_planned w line reply answers stands =
+      let did = answers w (subst (λ (d : Option DiskState). KernelAt machine d w) (sym same) stands) in
+      record { step = did.step; world = did.world; does = did.does; stands = did.stands; counts = counted w 1 _ _ did.counts }
+
+  pub unanswered_planned : (w : World) (line : List ℕ) → ((w : World) → KernelAt roomy.machine roomy.disk w → Unanswered w roomy new line) → KernelAt machine disk w → Unanswered w before new line
+  unanswered_planned w line leaves stands =
+      let h = leaves w (subst (λ (d : Option DiskState). KernelAt machine d w) (sym same) stands) in record {
+        leaves = h.leaves;
+        counts = elim h.counts [
+          | inl none ↦ inl (counted w 1 [] 0 none)
+          | inr some ↦ inr (some.0, some.1, some.2, counted w 1 _ 0 some.3)
+        ];
+      }
+
+  -- a line whose reply was not written whole
+  pub half_written : (w : World) (taken now : Option (List ℕ)) (line : List ℕ) (meant : Option Line) (reply : Reply) → Means line meant → Answers roomy new meant reply → AppendsPart taken now (reply_line reply) → KernelAt machine disk w
+      → HalfWritten w (record { scene = before; taken = taken }) (record { scene = new; taken = now }) line
+  half_written w taken now line meant reply means answers wrote stands =
+      let did = did_planned w meant reply answers stands in
+      record { meant = meant; mean = means; reply = reply; did = did; wrote = wrote; leaves = left_law new.machine new.disk did.world did.stands }
+
+pub AppendsPart-none : (o : Option (List ℕ)) (bytes : List ℕ) → AppendsPart o o bytes
+AppendsPart-none o bytes = ([], bytes, refl, Appends-none o)
+
+-- a whole, and then a part of what is behind it
+pub AppendsPart-then : (a b c : Option (List ℕ)) (xs ys : List ℕ) → Appends a b xs → AppendsPart b c ys → AppendsPart a c (xs ++ ys)
+AppendsPart-then a b c xs ys whole (part, rest, split, took) = (xs ++ part, rest, ap (λ (l : List ℕ). xs ++ l) split ∙ sym (append_assoc xs part rest), Appends-trans a b c xs part whole took)
+
+pub AppendsPart-more : (a b : Option (List ℕ)) (xs ys : List ℕ) → AppendsPart a b xs → AppendsPart a b (xs ++ ys)
+AppendsPart-more a b xs ys (part, rest, split, took) = (part, rest ++ ys, ap (λ (l : List ℕ). l ++ ys) split ∙ append_assoc part rest ys, took)
+
+-- the first bytes
+pub AppendsPart-take : (a b : Option (List ℕ)) (n : ℕ) (xs : List ℕ) → Appends a b (take n xs) → AppendsPart a b xs
+AppendsPart-take a b n xs took = (take n xs, drop n xs, sym (take-append-drop n xs), took)

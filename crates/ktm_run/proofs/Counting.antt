@@ -1,0 +1,97 @@
+-- Counts over lines, one after another.
+use Rattle.std.proofs.Common.{◌≡◌, ℕ, ◌+◌, ◌*◌, ◌-◌, ◌^◌, ◌≤◌, min, Bool, true, false, List, [], ◌∷◌, ◌++◌, length, Option, Some, None, refl, sym, ◌∙◌, ap, subst, arith, append_assoc, add-mul}
+use Rattle.std.proofs.lemmas.List.{append-nil}
+use Rattle.ktm_base.specs.declared.power.PowerCall.{PowerCall}
+use Rattle.ktm_run.specs.Plan.{plan_of, plans, falls_of, falls, RoseBy, most_calls}
+use Rattle.ktm_run.specs.Progress.{Scene, Counts}
+use Rattle.ktm_world.specs.declared.command.Line.{Line}
+use Rattle.ktm_world.specs.declared.command.Line.TheVariants.{Cut, Crash, Restart, Process}
+use Rattle.ktm_world.specs.declared.reply.Reply.{Reply}
+use Rattle.ktm_world.specs.Durable.{Durable}
+use Rattle.ktm_world.specs.Transcript.{Step, answered, interrupted, found, full, CrashDoes, Does, Transcript}
+use Rattle.ktm_world.specs.World.{World}
+
+pub RoseBy-none : (a b : ℕ) → a ≤ b → RoseBy 0 a b
+RoseBy-none a b h = omega arith
+
+pub RoseBy-then : (m n a b c : ℕ) → RoseBy m a b → RoseBy n b c → RoseBy (m + n) a c
+RoseBy-then m n a b c h k = omega arith
+
+pub RoseBy-later : (m a b c : ℕ) → RoseBy m a b → b ≤ c → RoseBy m a c
+RoseBy-later m a b c h k = omega arith
+
+few-then : (a b c m n x : ℕ) → b ≤ a + m * x → c ≤ b + n * x → c ≤ a + (m + n) * x
+few-then a b c m n x h k = rw (add-mul m n x) (omega arith)
+
+pub Counts-then : (w v : World) (a b c : Scene) (m n : ℕ) (p q : List PowerCall) (f g : ℕ) → v.base ≡ w.base → Counts w a b m p f → Counts v b c n q g → Counts w a c (m + n) (p ++ q) (f + g)
+Counts-then w v a b c m n p q f g same h k = record {
+  rose = RoseBy-then f g a.status.downs b.status.downs c.status.downs h.rose k.rose;
+  plan_is = k.plan_is ∙ ap (λ (l : List PowerCall). l ++ q) h.plan_is ∙ append_assoc a.status.plan p q;
+  few = few-then a.status.calls b.status.calls c.status.calls m n (most_calls w.base.units) h.few (subst (λ (d : Durable). c.status.calls ≤ b.status.calls + n * most_calls d.units) same k.few);
+}
+
+pub Counts-none : (w : World) (a : Scene) → Counts w a a 0 [] 0
+Counts-none w a = record { rose = RoseBy-none a.status.downs a.status.downs (omega arith); plan_is = sym (append-nil a.status.plan); few = omega arith }
+
+-- ---- along a transcript
+
+crash_keeps_base : (up : Bool) (w : World) (reply : Reply) (mid : World) → CrashDoes up w reply mid → mid.base ≡ w.base
+crash_keeps_base true w reply mid (says, is) = ap (λ v. v.base) is
+crash_keeps_base false w reply mid (says, is) = ap (λ v. v.base) is
+
+-- a line leaves the state that the run began with
+pub does_keeps_base : (w : World) (line : Option Line) (step : Step) (reply : Reply) (mid : World) → Does w line step reply mid → mid.base ≡ w.base
+does_keeps_base w (Some (Process process command)) answered reply mid (says, is) = ap (λ v. v.base) is
+does_keeps_base w (Some (Process process command)) interrupted reply mid (on, says, is) = ap (λ v. v.base) is
+does_keeps_base w (Some (Process process command)) (found log) reply mid none = absurd none
+does_keeps_base w (Some (Process process command)) (full log) reply mid none = absurd none
+does_keeps_base w (Some (Cut calls)) answered reply mid (says, is) = ap (λ v. v.base) is
+does_keeps_base w (Some (Cut calls)) interrupted reply mid none = absurd none
+does_keeps_base w (Some (Cut calls)) (found log) reply mid none = absurd none
+does_keeps_base w (Some (Cut calls)) (full log) reply mid none = absurd none
+does_keeps_base w (Some Crash) answered reply mid does = crash_keeps_base _ w reply mid does
+does_keeps_base w (Some Crash) interrupted reply mid none = absurd none
+does_keeps_base w (Some Crash) (found log) reply mid none = absurd none
+does_keeps_base w (Some Crash) (full log) reply mid none = absurd none
+does_keeps_base w (Some (Restart pick)) answered reply mid (on, says, is) = ap (λ v. v.base) is
+does_keeps_base w (Some (Restart pick)) interrupted reply mid (off, says, is) = ap (λ v. v.base) is
+does_keeps_base w (Some (Restart pick)) (found log) reply mid (finds, says, is) = ap (λ v. v.base) is
+does_keeps_base w (Some (Restart pick)) (full log) reply mid (finds, says, is) = ap (λ v. v.base) is
+does_keeps_base w None answered reply mid (says, is) = ap (λ v. v.base) is
+does_keeps_base w None interrupted reply mid none = absurd none
+does_keeps_base w None (found log) reply mid none = absurd none
+does_keeps_base w None (full log) reply mid none = absurd none
+
+pub keeps_base : (w : World) (lines : List (Option Line)) (steps : List Step) (replies : List Reply) (new : World) → Transcript w lines steps replies new → new.base ≡ w.base
+keeps_base w [] [] [] new is = ap (λ v. v.base) is
+keeps_base w [] [] (reply ∷ replies) new run = absurd run
+keeps_base w [] (step ∷ steps) replies new run = absurd run
+keeps_base w (line ∷ lines) [] replies new run = absurd run
+keeps_base w (line ∷ lines) (step ∷ steps) [] new run = absurd run
+keeps_base w (line ∷ lines) (step ∷ steps) (reply ∷ replies) new (mid, does, run) = keeps_base mid lines steps replies new run ∙ does_keeps_base w line step reply mid does
+
+pub Transcript-append : (w : World) (xs : List (Option Line)) (ss : List Step) (rs : List Reply) (mid : World) (ys : List (Option Line)) (ts : List Step) (qs : List Reply) (new : World)
+    → Transcript w xs ss rs mid → Transcript mid ys ts qs new → Transcript w (xs ++ ys) (ss ++ ts) (rs ++ qs) new
+Transcript-append w [] [] [] mid ys ts qs new h d = subst (λ (v : World). Transcript v ys ts qs new) h d
+Transcript-append w (x ∷ xs) (s ∷ ss) (r ∷ rs) mid ys ts qs new h d = (h.0, h.1, Transcript-append h.0 xs ss rs mid ys ts qs new h.2 d)
+Transcript-append w [] (s ∷ ss) rs mid ys ts qs new h d = absurd h
+Transcript-append w [] [] (r ∷ rs) mid ys ts qs new h d = absurd h
+Transcript-append w (x ∷ xs) [] rs mid ys ts qs new h d = absurd h
+Transcript-append w (x ∷ xs) (s ∷ ss) [] mid ys ts qs new h d = absurd h
+
+pub plans-append : (w : World) (xs : List (Option Line)) (ss : List Step) (rs : List Reply) (mid : World) (ys : List (Option Line)) (qs : List Reply) → Transcript w xs ss rs mid → plans (xs ++ ys) (rs ++ qs) ≡ plans xs rs ++ plans ys qs
+plans-append w [] [] [] mid ys qs h = refl
+plans-append w (x ∷ xs) (s ∷ ss) (r ∷ rs) mid ys qs h = ap (λ (l : List PowerCall). plan_of x r ++ l) (plans-append h.0 xs ss rs mid ys qs h.2) ∙ sym (append_assoc (plan_of x r) (plans xs rs) (plans ys qs))
+plans-append w [] (s ∷ ss) rs mid ys qs h = absurd h
+plans-append w [] [] (r ∷ rs) mid ys qs h = absurd h
+plans-append w (x ∷ xs) [] rs mid ys qs h = absurd h
+plans-append w (x ∷ xs) (s ∷ ss) [] mid ys qs h = absurd h
+
+pub falls-append : (w : World) (xs : List (Option Line)) (ss : List Step) (rs : List Reply) (mid : World) (ys : List (Option Line)) (ts : List Step) (qs : List Reply) → Transcript w xs ss rs mid
+    → falls (xs ++ ys) (ss ++ ts) (rs ++ qs) ≡ falls xs ss rs + falls ys ts qs
+falls-append w [] [] [] mid ys ts qs h = omega arith
+falls-append w (x ∷ xs) (s ∷ ss) (r ∷ rs) mid ys ts qs h = let more = falls-append h.0 xs ss rs mid ys ts qs h.2 in omega arith
+falls-append w [] (s ∷ ss) rs mid ys ts qs h = absurd h
+falls-append w [] [] (r ∷ rs) mid ys ts qs h = absurd h
+falls-append w (x ∷ xs) [] rs mid ys ts qs h = absurd h
+falls-append w (x ∷ xs) (s ∷ ss) [] mid ys ts qs h = absurd h

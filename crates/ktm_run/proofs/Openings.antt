@@ -1,0 +1,155 @@
+-- What a run begins from, on a disk that was prepared.
+use Rattle.std.proofs.Common.{◌≡◌, ◌⊎◌, inl, inr, ℕ, ◌+◌, ◌-◌, ◌*◌, ◌<◌, ◌≤◌, Bool, true, false, List, [], ◌∷◌, ◌++◌, length, Option, Some, None, refl, sym, ◌∙◌, ap, subst, arith}
+use Rattle.std.proofs.lemmas.List.{append-nil}
+use Rattle.ktm_base.specs.Disk.{DiskState, DiskStatus, DeviceCalls, MayLeave, IsSafe}
+use Rattle.ktm_base.specs.Told.{IfTold, Tells, Goes}
+use Rattle.ktm_base.proofs.Images.{safe_law}
+use Rattle.ktm_base.proofs.ToldSteps.{Tells-map, Tells-step}
+use Rattle.ktm_journal.specs.Bad.{IsBadAt}
+use Rattle.ktm_journal.specs.Image.{HoldsLog, IsHeaded, StandsFor, left_after}
+use Rattle.ktm_journal.proofs.OneImage.{not_bad}
+use Rattle.ktm_kernel.specs.Restarts.{HoldsBoth, Started, base_of, is_full_for_own}
+use Rattle.ktm_kernel.specs.Stands.{KernelState, KernelAt}
+use Rattle.ktm_run.specs.Opening.{Prepared}
+use Rattle.ktm_run.specs.Theorem.{Begins, BeginsAs, BeginsWith, RunCounts}
+use Rattle.ktm_world.specs.Durable.{Durable, empty_state}
+use Rattle.ktm_world.specs.Outcome.{is_full}
+use Rattle.ktm_world.specs.Sizes.{log_size}
+use Rattle.ktm_world.specs.World.{Group, opened, own_group}
+
+-- all of the disk is safe, and it holds groups that come to the state and leave the room
+pub record IsBase (base : Durable) (room : ℕ) (s : DiskState) : Type 0 where
+  pub before : List Group
+  pub holds : HoldsBoth base.units base.image before [] s
+  pub comes_to : base ≡ base_of base.units base.image before
+  pub room_is : room ≡ left_after base.units before
+
+begins_there : (base : Durable) (room : ℕ) (bytes : List ℕ) → 0 < length bytes → BeginsAs base room bytes → BeginsWith base room bytes
+begins_there base room [] some begins = absurd (omega arith)
+begins_there base room (byte ∷ bytes) some begins = begins
+
+begins_new : (base : Durable) (room : ℕ) (bytes : List ℕ) → bytes ≡ [] → BeginsAs base room bytes → (base ≡ empty_state 1024 1) × (room ≡ left_after 1024 [])
+begins_new base room bytes none begins = subst (λ (l : List ℕ). BeginsAs base room l) none begins
+
+-- no image is without a byte
+begins_as : (base : Durable) (room : ℕ) (bytes : List ℕ) → BeginsWith base room bytes → BeginsAs base room bytes
+begins_as base room [] begins = absurd (omega (arith, begins.holds.is.formatted.headed.long))
+begins_as base room (byte ∷ bytes) begins = begins
+
+begins_with : (base : Durable) (room : ℕ) (s : DiskState) → IsBase base room s → BeginsWith base room s.seen
+begins_with base room s is = record {
+  log = is.before;
+  holds = subst (λ (l : List Group). HoldsLog base.units base.image l s.seen) (append-nil is.before) is.holds.1;
+  comes_to = is.comes_to;
+  room_is = is.room_is;
+}
+
+new_base : (base : Durable) (room : ℕ) (s : DiskState) → base ≡ empty_state 1024 1 → room ≡ left_after 1024 [] → IsSafe s → HoldsLog 1024 1 [] s.seen → IsBase base room s
+new_base base room s is left safe holds =
+    subst (λ (d : Durable). IsBase d room s) (sym is)
+    (subst (λ n. IsBase (empty_state 1024 1) n s) (sym left) (record { before = []; holds = (safe, holds); comes_to = refl; room_is = refl }))
+
+old_base : (base : Durable) (room : ℕ) (s : DiskState) → IsSafe s → BeginsWith base room s.seen → IsBase base room s
+old_base base room s safe begins = record {
+  before = begins.log;
+  holds = (safe, subst (λ (l : List Group). HoldsLog base.units base.image l s.seen) (sym (append-nil begins.log)) begins.holds);
+  comes_to = begins.comes_to;
+  room_is = begins.room_is;
+}
+
+prepared_base : (base : Durable) (room : ℕ) (old new : DiskState) → Begins base room old → Prepared old new → IsBase base room new
+prepared_base base room old new (safe, begins) prepared = elim prepared [
+  | inl (none, all, holds) ↦ let (is, left) = begins_new base room old.seen none begins in new_base base room new is left all holds
+  | inr (some, same) ↦ subst (λ (s : DiskState). IsBase base room s) (sym same) (old_base base room old safe (begins_there base room old.seen some begins))
+]
+
+pub tells_base : (base : Durable) (room : ℕ) (old new : Option DiskState) → Tells old (Begins base room) → Goes Prepared old new → Tells new (IsBase base room)
+tells_base base room old new tells goes = Tells-step old new (Begins base room) (IsBase base room) tells goes (prepared_base base room)
+
+all_left : (n : ℕ) → n - log_size [] ≡ n
+all_left n = omega arith
+
+module _ (base : Durable) (room : ℕ) where
+  -- the machine that started stands for the world that was opened
+  pub stands_opened : (told new : Option DiskState) (kernel : KernelState) (events in_doubt : ℕ) → Tells told (IsBase base room)
+      → ((units image : ℕ) (before log : List Group) → Tells told (HoldsBoth units image before log) → Started units image before log kernel events in_doubt new)
+      → KernelAt kernel new (opened base room []) × (is_full room (own_group base) ≡ false)
+  stands_opened None new kernel events in_doubt is starts = absurd is
+  stands_opened (Some s) new kernel events in_doubt is starts =
+      let start = starts base.units base.image is.before [] is.holds in (
+        subst (λ n. KernelAt kernel new (opened base n [])) (sym is.room_is)
+            (subst (λ (d : Durable). KernelAt kernel new (opened d (left_after base.units is.before) [])) (sym is.comes_to) start.stands),
+        subst (λ n. is_full n (own_group base) ≡ false) (all_left (left_after base.units is.before) ∙ sym is.room_is) start.room,
+      )
+
+  pub no_room : (told : Option DiskState) → Tells told (IsBase base room)
+      → ((units image : ℕ) (before log : List Group) → Tells told (HoldsBoth units image before log) → is_full_for_own units image before log ≡ true)
+      → is_full room (own_group base) ≡ true
+  no_room None is full = absurd is
+  no_room (Some s) is full =
+      subst (λ n. is_full n (own_group base) ≡ true) (all_left (left_after base.units is.before) ∙ sym is.room_is) (full base.units base.image is.before [] is.holds)
+
+  -- what is left where nothing was written may begin the same run
+  pub left_begins : (told : Option DiskState) → Tells told (IsBase base room) → Tells told (λ s. (image : List ℕ) → MayLeave s image → BeginsAs base room image)
+  left_begins told tells = Tells-map told (IsBase base room) _ tells (λ s is image left.
+      subst (λ (l : List ℕ). BeginsAs base room l) (sym ((safe_law s image is.holds.0).0 left)) (begins_as base room s.seen (begins_with base room s is)))
+
+  pub safe_begins : (told : Option DiskState) → Tells told (Begins base room) → Tells told (λ s. (image : List ℕ) → MayLeave s image → BeginsAs base room image)
+  safe_begins told tells = Tells-map told (Begins base room) _ tells (λ s begins image left.
+      subst (λ (l : List ℕ). BeginsAs base room l) (sym ((safe_law s image begins.0).0 left)) begins.1)
+
+  few_calls : (old new : DiskState) (a b c : DiskStatus) (x y : Bool) → Begins base room old → Prepared old new → DeviceCalls (8 * 1024 + 65) a b x → DeviceCalls (8 * 1024 + 68) b c y
+      → (0 < length old.seen → b.calls ≤ a.calls + 1) → ((units image : ℕ) → IsHeaded units image new.seen → c.calls ≤ b.calls + (8 * units + 68))
+      → c.calls ≤ a.calls + (0 + 4) * (16 * base.units + 256)
+  few_calls old new a b c x y begins prepared first second one few = elim prepared [
+    | inl (none, all, holds) ↦
+        let is = (begins_new base room old.seen none begins.1).0 in
+        let units : base.units ≡ 1024 = ap (λ (d : Durable). d.units) is in
+        omega (arith, first.few, second.few)
+    | inr (some, same) ↦
+        let is = prepared_base base room old new begins (inr (some, same)) in
+        let calls : c.calls ≤ b.calls + (8 * base.units + 68) = few base.units base.image is.holds.1.is.formatted.headed in
+        let before : b.calls ≤ a.calls + 1 = one some in
+        omega arith
+  ]
+
+  pub opening_counts : (old new : Option DiskState) (a b c : DiskStatus) (x y : Bool) → Tells old (Begins base room) → Goes Prepared old new → DeviceCalls (8 * 1024 + 65) a b x → DeviceCalls (8 * 1024 + 68) b c y
+      → (Tells old (λ s. 0 < length s.seen) → b.calls ≤ a.calls + 1) → ((units image : ℕ) → Tells new (λ s. IsHeaded units image s.seen) → c.calls ≤ b.calls + (8 * units + 68))
+      → RunCounts base.units a c 0 [] 0
+  opening_counts None new a b c x y tells goes first second one few = absurd tells
+  opening_counts (Some old) None a b c x y tells goes first second one few = absurd goes
+  opening_counts (Some old) (Some new) a b c x y tells goes first second one few = record {
+    rose = omega (arith, first.later, second.later);
+    plan_is = second.plan ∙ first.plan ∙ sym (append-nil a.plan);
+    few = few_calls old new a b c x y tells goes first second one few;
+  }
+
+  -- what begins a run is bad nowhere
+  pub begins_good : (told : Option DiskState) (offset : ℕ) → Tells told (Begins base room) → IfTold told (λ s. (0 < length s.seen) × IsBadAt s.seen offset) → ⊥
+  begins_good None offset tells bad = absurd tells
+  begins_good (Some s) offset tells bad =
+      let begins = begins_there base room s.seen bad.0 tells.1 in
+      not_bad base s.seen offset (record { log = begins.log; holds = begins.holds; comes_to = begins.comes_to }) bad.1
+
+-- an image that could be opened begins a run
+pub opens_begin : (old new : Option DiskState) → Goes Prepared old new → IfTold new (λ s. (state : Durable) × StandsFor state s.seen) → IfTold old (λ s. (base : Durable) × (room : ℕ) × BeginsAs base room s.seen)
+opens_begin None new goes found = tt
+opens_begin (Some old) None goes found = absurd goes
+opens_begin (Some old) (Some new) goes (state, stands) = elim goes [
+  | inl (none, all, holds) ↦ (empty_state 1024 1, left_after 1024 [], subst (λ (l : List ℕ). BeginsAs (empty_state 1024 1) (left_after 1024 []) l) (sym none) (refl, refl))
+  | inr (some, same) ↦ (
+    state,
+    left_after state.units stands.log,
+    subst (λ (s : DiskState). BeginsAs state (left_after state.units stands.log) s.seen) same
+        (begins_as state (left_after state.units stands.log) new.seen (record { log = stands.log; holds = stands.holds; comes_to = stands.comes_to; room_is = refl })),
+  )
+]
+
+-- a new image is bad nowhere, so a bad one was there
+pub bad_was_there : (old new : Option DiskState) (offset : ℕ) → Goes Prepared old new → IfTold new (λ s. IsBadAt s.seen offset) → IfTold old (λ s. (0 < length s.seen) × IsBadAt s.seen offset)
+bad_was_there None new offset goes bad = tt
+bad_was_there (Some old) None offset goes bad = absurd goes
+bad_was_there (Some old) (Some new) offset goes bad = elim goes [
+  | inl (none, all, holds) ↦ absurd (not_bad (empty_state 1024 1) new.seen offset (record { log = []; holds = holds; comes_to = refl }) bad)
+  | inr (some, same) ↦ (some, subst (λ (s : DiskState). IsBadAt s.seen offset) same bad)
+]

@@ -1,0 +1,123 @@
+-- Runs of lines go one after another, and end early at one line.
+use Rattle.std.proofs.Common.{◌≡◌, ◌⊎◌, inl, inr, ℕ, ◌+◌, ◌*◌, ◌≤◌, true, false, cond, List, [], ◌∷◌, ◌++◌, length, Option, None, Some, refl, sym, ◌∙◌, ap, subst, arith, append_assoc, length-append}
+use Rattle.std.proofs.lemmas.List.{append-nil}
+use Rattle.std.proofs.lemmas.List.Elements.{filter-append}
+use Rattle.std.proofs.lemmas.Grind.{flat_map-append}
+use Rattle.std.specs.Io.KnownBytes.{Appends}
+use Rattle.std.specs.List.{filter}
+use Rattle.ktm_base.specs.declared.power.PowerCall.{PowerCall}
+use Rattle.ktm_kernel.specs.Stands.{KernelAt}
+use Rattle.ktm_run.proofs.Known.{Appends-none, Appends-trans}
+use Rattle.ktm_run.proofs.Counting.{Counts-none, Counts-then, keeps_base, Transcript-append, plans-append, falls-append}
+use Rattle.ktm_run.specs.Plan.{plan_of, plans, falls_of, falls}
+use Rattle.ktm_run.specs.Progress.{Scene, Now, Counts, Did, Answers, Ran, Progress, Broke, Stopped, Stops}
+use Rattle.ktm_run.specs.Script.{has_reply, Means, MeanAll, reply_line}
+use Rattle.ktm_world.specs.declared.command.Line.{Line}
+use Rattle.ktm_world.specs.declared.reply.Reply.{Reply}
+use Rattle.ktm_world.specs.World.{World}
+
+MeanAll-append : (xs : List (List ℕ)) (ys : List (List ℕ)) (ms ns : List (Option Line)) → MeanAll xs ms → MeanAll ys ns → MeanAll (xs ++ ys) (ms ++ ns)
+MeanAll-append [] ys [] ns h k = k
+MeanAll-append [] ys (m ∷ ms) ns h k = absurd h
+MeanAll-append (x ∷ xs) ys [] ns h k = absurd h
+MeanAll-append (x ∷ xs) ys (m ∷ ms) ns h k = (h.0, MeanAll-append xs ys ms ns h.1 k)
+
+pub Progress-none : (now : Now) → Progress now now []
+Progress-none now = λ w stands. record { meant = []; steps = []; replies = []; world = w; mean = tt; run = refl; wrote = Appends-none now.taken; stands = stands; counts = Counts-none w now.scene }
+
+pub Ran-then : (w : World) (a b c : Now) (xs ys : List (List ℕ)) (p : Ran w a b xs) → Ran p.world b c ys → Ran w a c (xs ++ ys)
+Ran-then w a b c xs ys p q = record {
+  meant = p.meant ++ q.meant;
+  steps = p.steps ++ q.steps;
+  replies = p.replies ++ q.replies;
+  world = q.world;
+  mean = subst (λ (l : List (List ℕ)). MeanAll l (p.meant ++ q.meant)) (sym (filter-append has_reply xs ys)) (MeanAll-append (filter has_reply xs) (filter has_reply ys) p.meant q.meant p.mean q.mean);
+  run = Transcript-append w p.meant p.steps p.replies p.world q.meant q.steps q.replies q.world p.run q.run;
+  wrote = subst (λ (l : List ℕ). Appends a.taken c.taken l) (sym (flat_map-append reply_line p.replies q.replies)) (Appends-trans a.taken b.taken c.taken _ _ p.wrote q.wrote);
+  stands = q.stands;
+  counts =
+      subst (λ n. Counts w a.scene c.scene n (plans (p.meant ++ q.meant) (p.replies ++ q.replies)) (falls (p.meant ++ q.meant) (p.steps ++ q.steps) (p.replies ++ q.replies))) (sym (length-append p.meant q.meant))
+      (subst (λ (l : List PowerCall). Counts w a.scene c.scene (length p.meant + length q.meant) l (falls (p.meant ++ q.meant) (p.steps ++ q.steps) (p.replies ++ q.replies)))
+      (sym (plans-append w p.meant p.steps p.replies p.world q.meant q.replies p.run))
+      (subst (λ n. Counts w a.scene c.scene (length p.meant + length q.meant) (plans p.meant p.replies ++ plans q.meant q.replies) n)
+      (sym (falls-append w p.meant p.steps p.replies p.world q.meant q.steps q.replies p.run))
+      (Counts-then w p.world a.scene b.scene c.scene _ _ _ _ _ _ (keeps_base w p.meant p.steps p.replies p.world p.run) p.counts q.counts)));
+}
+
+pub Progress-then : (a b c : Now) (xs ys : List (List ℕ)) → Progress a b xs → Progress b c ys → Progress a c (xs ++ ys)
+Progress-then a b c xs ys p q = λ w stands. let first = p w stands in Ran-then w a b c xs ys first (q first.world first.stands)
+
+pub Progress-as : (a b : Now) (xs ys : List (List ℕ)) → xs ≡ ys → Progress a b xs → Progress a b ys
+Progress-as a b xs ys same p = subst (λ (l : List (List ℕ)). Progress a b l) same p
+
+-- a line that has no reply
+pub Progress-silent : (now : Now) (line : List ℕ) → has_reply line ≡ false → Progress now now (line ∷ [])
+Progress-silent now line silent = λ w stands. record {
+  meant = [];
+  steps = [];
+  replies = [];
+  world = w;
+  mean = subst (λ t. MeanAll (cond t (line ∷ []) []) []) (sym silent) tt;
+  run = refl;
+  wrote = Appends-none now.taken;
+  stands = stands;
+  counts = Counts-none w now.scene;
+}
+
+one_line : (w : World) (a b : Scene) (p : List PowerCall) (f : ℕ) (lines : ℕ) → lines ≡ 1 → Counts w a b 1 p f → Counts w a b lines (p ++ []) (f + 0)
+one_line w a b p f lines one h = record {
+  rose = let up = h.rose in omega arith;
+  plan_is = h.plan_is ∙ ap (λ (l : List PowerCall). a.status.plan ++ l) (sym (append-nil p));
+  few = subst (λ n. b.status.calls ≤ a.status.calls + n * (16 * w.base.units + 256)) (sym one) h.few;
+}
+
+-- and one that has
+pub Progress-line : (a b : Now) (line : List ℕ) (meant : Option Line) (reply : Reply) → has_reply line ≡ true → Means line meant → Answers a.scene b.scene meant reply
+    → Appends a.taken b.taken (reply_line reply) → Progress a b (line ∷ [])
+Progress-line a b line meant reply has means answers wrote = λ w stands.
+    let did = answers w stands in record {
+      meant = meant ∷ [];
+      steps = did.step ∷ [];
+      replies = reply ∷ [];
+      world = did.world;
+      mean = subst (λ t. MeanAll (cond t (line ∷ []) []) (meant ∷ [])) (sym has) (means, tt);
+      run = (did.world, did.does, refl);
+      wrote = subst (λ (l : List ℕ). Appends a.taken b.taken l) (sym (append-nil (reply_line reply))) wrote;
+      stands = did.stands;
+      counts = one_line w a.scene b.scene (plan_of meant reply) (falls_of meant did.step reply) (length (meant ∷ [])) (omega arith) did.counts;
+    }
+
+-- ---- a run that ends early
+
+pub Stops-line : (a b : Now) (line : List ℕ) → ((w : World) → KernelAt a.scene.machine a.scene.disk w → Broke w a b line) → Stops a b (line ∷ [])
+unfolding Progress-none
+Stops-line a b line broke = λ w stands. record { before = []; line = line; behind = []; split = refl; at = a; ran = Progress-none a w stands; broke = broke w stands }
+
+pub Stops-after : (a b c : Now) (xs ys : List (List ℕ)) → Progress a b xs → Stops b c ys → Stops a c (xs ++ ys)
+unfolding Ran-then
+Stops-after a b c xs ys p q = λ w stands.
+    let first = p w stands in
+    let last = q first.world first.stands in record {
+      before = xs ++ last.before;
+      line = last.line;
+      behind = last.behind;
+      split = ap (λ (l : List (List ℕ)). xs ++ l) last.split ∙ sym (append_assoc xs last.before (last.line ∷ last.behind));
+      at = last.at;
+      ran = Ran-then w a b last.at xs last.before first last.ran;
+      broke = last.broke;
+    }
+
+pub Stops-within : (a b : Now) (xs ys : List (List ℕ)) → Stops a b xs → Stops a b (xs ++ ys)
+Stops-within a b xs ys p = λ w stands.
+    let first = p w stands in record {
+      before = first.before;
+      line = first.line;
+      behind = first.behind ++ ys;
+      split = ap (λ (l : List (List ℕ)). l ++ ys) first.split ∙ append_assoc first.before (first.line ∷ first.behind) ys;
+      at = first.at;
+      ran = first.ran;
+      broke = first.broke;
+    }
+
+pub Stops-as : (a b : Now) (xs ys : List (List ℕ)) → xs ≡ ys → Stops a b xs → Stops a b ys
+Stops-as a b xs ys same p = subst (λ (l : List (List ℕ)). Stops a b l) same p

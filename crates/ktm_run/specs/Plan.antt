@@ -1,0 +1,61 @@
+-- What the lines of a script ask of the disk's power, and how often they take the machine down.
+use Rattle.std.specs.Prelude.{ℕ, ◌+◌, ◌-◌, ◌*◌, ◌^◌, ◌≤◌, min, Bool, true, false, List, [], ◌∷◌, ◌++◌, Option, Some, None, if◌then◌else◌}
+use Rattle.ktm_base.specs.declared.power.PowerCall.{PowerCall}
+use Rattle.ktm_base.specs.declared.power.PowerCall.TheVariants.{Arm, Off, Power}
+use Rattle.ktm_base.specs.declared.refusal.Refusal.TheVariants.{MachineUp}
+use Rattle.ktm_world.specs.declared.command.Line.{Line}
+use Rattle.ktm_world.specs.declared.command.Line.TheVariants.{Cut, Crash, Restart, Process}
+use Rattle.ktm_world.specs.declared.reply.Reply.{Reply}
+use Rattle.ktm_world.specs.declared.reply.Reply.TheVariants.{Refused, Done}
+use Rattle.ktm_world.specs.Transcript.{Step, answered, interrupted, found, full}
+
+-- is the reply ok alone
+abbrev pub is_done : Reply → Bool
+is_done Done = true
+is_done other = false
+
+-- did a restart find the machine up
+abbrev pub was_up : Reply → Bool
+was_up (Refused MachineUp) = true
+was_up other = false
+
+-- the plan of a line that was answered so: a cut sets the moment, a crash that is answered takes the disk down, and a restart of a
+-- machine that is down gives the power back
+abbrev pub plan_of : Option Line → Reply → List PowerCall
+plan_of None reply = []
+plan_of (Some (Process process command)) reply = []
+plan_of (Some (Cut calls)) reply = Arm calls ∷ []
+plan_of (Some Crash) reply = if is_done reply then Off ∷ [] else []
+plan_of (Some (Restart pick)) reply = if was_up reply then [] else Power pick ∷ []
+
+-- the plan of lines, one after another
+abbrev pub plans : List (Option Line) → List Reply → List PowerCall
+plans [] replies = []
+plans (line ∷ lines) [] = []
+plans (line ∷ lines) (reply ∷ replies) = plan_of line reply ++ plans lines replies
+
+-- did the disk go down for a line: it was interrupted, or it is a crash that was answered
+abbrev pub falls_of : Option Line → Step → Reply → ℕ
+falls_of line interrupted reply = 1
+falls_of (Some Crash) answered reply = if is_done reply then 1 else 0
+falls_of (Some (Cut calls)) answered reply = 0
+falls_of (Some (Restart pick)) answered reply = 0
+falls_of (Some (Process process command)) answered reply = 0
+falls_of None answered reply = 0
+falls_of line (found log) reply = 0
+falls_of line (full log) reply = 0
+
+-- for how many lines it did
+abbrev pub falls : List (Option Line) → List Step → List Reply → ℕ
+falls [] steps replies = 0
+falls (line ∷ lines) [] replies = 0
+falls (line ∷ lines) (step ∷ steps) [] = 0
+falls (line ∷ lines) (step ∷ steps) (reply ∷ replies) = falls_of line step reply + falls lines steps replies
+
+-- the count rose by at least so much; one that stands at its type's end counts as having risen
+abbrev pub RoseBy : ℕ → ℕ → ℕ → Type 0
+RoseBy n before now = min (before + n) (2 ^ 64 - 1) ≤ now
+
+-- the most device calls of one line, on an image of so many units
+abbrev pub most_calls : ℕ → ℕ
+most_calls units = 16 * units + 256

@@ -1,0 +1,103 @@
+// What the machine answers to a line.
+ghost use Rattle.std.specs.Prelude.{◌≡◌, ◌<◌, ◌≤◌, List, Some, None, ℕ, Option, IfOk, OnOk, OnErr};
+ghost use Rattle.ktm_kernel.specs.Stands.{KernelAt, IsReady};
+ghost use Rattle.ktm_run.specs.Progress.{Answers, Unanswered};
+ghost use Rattle.ktm_run.specs.Script.{Means};
+ghost use Rattle.ktm_world.specs.Values.{IsCommand};
+ghost use Rattle.ktm_world.specs.World.{World};
+ghost use Rattle.ktm_world.specs.declared.command.Line.{Line};
+ghost use Rattle.ktm_world.specs.declared.command.Line.TheVariants.{Cut, Crash, Restart, Process};
+
+use ktm_base::{Down, NoMemory, Pid, PowerDisk, Refusal};
+use ktm_kernel::Kernel;
+use ktm_script::{LineFault, read_line};
+use ktm_world::{Command, Line, Reply};
+use std::alloc::Global;
+
+// A process calls the system.
+fn call<D: PowerDisk>(
+    kernel: &mut Kernel,
+    disk: &mut D,
+    process: Pid,
+    command: Command,
+) -> Result<Reply, NoMemory>
+    requires ready { IsReady kernel.old (D.told disk.old) (D.status disk.old) }
+    requires command { IsCommand command }
+    ensures does { IfOk result (λ reply. Answers (record { machine = kernel.old; disk = D.told disk.old; status = D.status disk.old }) (record { machine = kernel.new; disk = D.told disk.new; status = D.status disk.new }) (Some (Process process command)) reply) }
+    ensures ready { OnOk result (IsReady kernel.new (D.told disk.new) (D.status disk.new)) }
+    ensures no_memory { OnErr result ((line : List ℕ) (w : World) → KernelAt kernel.old (D.told disk.old) w → Unanswered w (record { machine = kernel.old; disk = D.told disk.old; status = D.status disk.old }) (record { machine = kernel.new; disk = D.told disk.new; status = D.status disk.new }) line) }
+{
+    match kernel.call(disk, process, command) {
+        Ok(reply) => Ok(reply),
+        Err(NoMemory) => Err(NoMemory),
+    }
+}
+
+// The power goes once so many more calls of the disk have passed.
+fn cut<D: PowerDisk>(kernel: &Kernel, disk: &mut D, calls: u64) -> Reply
+    requires ready { IsReady kernel.now (D.told disk.old) (D.status disk.old) }
+    requires places { 0 < (D.status disk.old).places }
+    ensures does { Answers (record { machine = kernel.now; disk = D.told disk.old; status = D.status disk.old }) (record { machine = kernel.now; disk = D.told disk.new; status = D.status disk.new }) (Some (Cut calls)) result }
+    ensures ready { IsReady kernel.now (D.told disk.new) (D.status disk.new) }
+{
+    disk.arm(calls);
+    Reply::Done
+}
+
+// The power goes now.
+fn crash<D: PowerDisk>(kernel: &mut Kernel, disk: &mut D) -> Reply
+    requires ready { IsReady kernel.old (D.told disk.old) (D.status disk.old) }
+    requires places { 0 < (D.status disk.old).places }
+    ensures does { Answers (record { machine = kernel.old; disk = D.told disk.old; status = D.status disk.old }) (record { machine = kernel.new; disk = D.told disk.new; status = D.status disk.new }) (Some Crash) result }
+    ensures ready { IsReady kernel.new (D.told disk.new) (D.status disk.new) }
+{
+    if !kernel.is_up() {
+        return Reply::Refused(Refusal::MachineDown);
+    }
+    disk.off();
+    kernel.crash();
+    Reply::Done
+}
+
+// The power is back, and a machine that is down starts again.
+fn restart<D: PowerDisk>(kernel: &mut Kernel, disk: &mut D, pick: u64) -> Result<Reply, NoMemory>
+    requires ready { IsReady kernel.old (D.told disk.old) (D.status disk.old) }
+    requires places { 0 < (D.status disk.old).places }
+    ensures does { IfOk result (λ reply. Answers (record { machine = kernel.old; disk = D.told disk.old; status = D.status disk.old }) (record { machine = kernel.new; disk = D.told disk.new; status = D.status disk.new }) (Some (Restart pick)) reply) }
+    ensures ready { OnOk result (IsReady kernel.new (D.told disk.new) (D.status disk.new)) }
+    ensures no_memory { OnErr result ((line : List ℕ) (w : World) → Means line (Some (Restart pick)) → KernelAt kernel.old (D.told disk.old) w → Unanswered w (record { machine = kernel.old; disk = D.told disk.old; status = D.status disk.old }) (record { machine = kernel.new; disk = D.told disk.new; status = D.status disk.new }) line) }
+{
+    if kernel.is_up() {
+        return Ok(Reply::Refused(Refusal::MachineUp));
+    }
+    if let Err(Down) = disk.power(pick) {
+        return Ok(Reply::Refused(Refusal::MachineDown));
+    }
+    match kernel.start_again(disk) {
+        Ok(reply) => Ok(reply),
+        Err(NoMemory) => Err(NoMemory),
+    }
+}
+
+/// What the machine answers to a line, executed on a disk that has room for a plan.
+pub fn answer<D: PowerDisk>(
+    alloc: Global,
+    kernel: &mut Kernel,
+    disk: &mut D,
+    line: &[u8],
+) -> Result<Reply, NoMemory>
+    requires ready { IsReady kernel.old (D.told disk.old) (D.status disk.old) }
+    requires places { 0 < (D.status disk.old).places }
+    ensures does { IfOk result (λ reply. (meant : Option Line) × Means line.now meant × Answers (record { machine = kernel.old; disk = D.told disk.old; status = D.status disk.old }) (record { machine = kernel.new; disk = D.told disk.new; status = D.status disk.new }) meant reply) }
+    ensures ready { OnOk result (IsReady kernel.new (D.told disk.new) (D.status disk.new)) }
+    ensures no_memory { OnErr result ((w : World) → KernelAt kernel.old (D.told disk.old) w → Unanswered w (record { machine = kernel.old; disk = D.told disk.old; status = D.status disk.old }) (record { machine = kernel.new; disk = D.told disk.new; status = D.status disk.new }) line.now) }
+{
+    match read_line(alloc, line) {
+        Ok(Line::Process(process, command)) => call(kernel, disk, process, command),
+        Ok(Line::Cut(calls)) => Ok(cut(kernel, disk, calls)),
+        Ok(Line::Crash) => Ok(crash(kernel, disk)),
+        Ok(Line::Restart(pick)) => restart(kernel, disk, pick),
+        Err(LineFault::BadLine) => Ok(Reply::Refused(Refusal::BadLine)),
+        Err(LineFault::NoMemory) => Err(NoMemory),
+    }
+}

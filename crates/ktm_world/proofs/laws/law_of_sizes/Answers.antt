@@ -1,0 +1,5 @@
+use Rattle.ktm_world.proofs.SizeLemmas.{size_law}
+use Rattle.ktm_world.proofs.laws.law_of_sizes.Goals as goal
+
+pub returns : goal.returns
+returns c = size_law

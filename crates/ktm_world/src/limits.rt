@@ -1,0 +1,76 @@
+// The limits on keys and values, and on settings that are recorded.
+ghost use Rattle.std.specs.Prelude.{◌≡◌, ◌==◌, not};
+ghost use Rattle.std.specs.List.{list_all};
+ghost use Rattle.ktm_world.specs.Keyed.{comes_first, is_rising};
+ghost use Rattle.ktm_world.specs.Keys.{is_bad_key, is_bad_value};
+ghost use Rattle.ktm_world.specs.Durable.{is_bad_set_to, is_good_setting, are_good_settings};
+
+use crate::keyed::is_before;
+use crate::{Keyed, Setting};
+use ktm_base::{Bytes, Text};
+
+/// The longest key, in bytes.
+const MOST_KEY_BYTES: usize = 64;
+
+/// The longest value, in bytes.
+const MOST_VALUE_BYTES: usize = 960;
+
+pub fn is_bad_key(key: &Text) -> bool
+    ensures { result ≡ is_bad_key key.now }
+{
+    key.len() == 0 || key.len() > MOST_KEY_BYTES
+}
+
+pub fn is_bad_value(value: &Bytes) -> bool
+    ensures { result ≡ is_bad_value value.now }
+{
+    value.len() > MOST_VALUE_BYTES
+}
+
+fn is_bad_set_to(value: &Option<Bytes>) -> bool
+    ensures { result ≡ is_bad_set_to value.now }
+{
+    match value {
+        Some(value) => is_bad_value(value),
+        None => false,
+    }
+}
+
+fn is_good_setting(setting: &Setting) -> bool
+    ensures { result ≡ is_good_setting setting.now }
+{
+    !is_bad_key(&setting.key) && !is_bad_set_to(&setting.value)
+}
+
+fn comes_first<V>(key: &[u8], items: &[Keyed<V>]) -> bool
+    ensures { result ≡ comes_first key.now items.now }
+{
+    match items.first() {
+        Some(item) => is_before(key, item.key.as_slice()),
+        None => true,
+    }
+}
+
+fn is_rising<V>(items: &[Keyed<V>]) -> bool
+    ensures { result ≡ is_rising items.now }
+{
+    for (i, item) in items.iter().enumerate() {
+        if !comes_first(item.key.as_slice(), &items[i + 1..]) {
+            return false;
+        }
+    }
+    true
+}
+
+fn all_are_good(settings: &[Setting]) -> bool
+    ensures { result ≡ list_all is_good_setting settings.now }
+{
+    settings.iter().all(is_good_setting)
+}
+
+/// Are these settings as a transaction may record them: one at least, by rising key, each within the limits.
+pub fn are_good_settings(settings: &[Setting]) -> bool
+    ensures { result ≡ are_good_settings settings.now }
+{
+    !settings.is_empty() && is_rising(settings) && all_are_good(settings)
+}
