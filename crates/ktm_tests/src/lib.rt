@@ -2,10 +2,24 @@
 #![tactic(auto)]
 
 #[cfg(test)]
+mod commands;
+#[cfg(test)]
 mod cut;
 #[cfg(test)]
+mod devices;
+#[cfg(test)]
+mod first;
+#[cfg(test)]
+mod full;
+#[cfg(test)]
+mod images;
+#[cfg(test)]
 mod journal;
+#[cfg(test)]
+mod limits;
 #[cfg(test)]
 mod log;
 #[cfg(test)]
 mod run;
+#[cfg(test)]
+mod transcript;

@@ -1,50 +1,37 @@
 // Whole runs in memory.
 ghost use Rattle.std.specs.Prelude.{◌≤◌, length};
 
+use crate::transcript::Transcript;
 use ktm_base::{Bytes, NoMemory};
-use ktm_mem::{Calls, MemDisk, MemSink, MemSource};
+use ktm_cut::CutDisk;
+use ktm_journal::Journal;
+use ktm_mem::{Calls, MemBlock, MemSink, MemSource};
 use ktm_run::{Status, ktm};
 use std::alloc::Global;
+use std::process::Abort;
 use std::test::Fail;
 
 /// The length of an image of 1,024 units.
 const IMAGE_LEN: usize = 33_820_672;
 
-/// The place of the log in it.
-const LOG: usize = 8_458_240;
+/// How many bytes of replies a sink takes.
+const REPLIES: usize = 1 << 20;
 
-/// A line for each of the first commands, and some that are refused.
-const FIRST_TRANSACTION: &str = "p1 CreateTransaction h1 0
-p1 KvSet h1 \"k\" 01
-p1 KvGet - \"k\"
-p1 KvGet h1 \"k\"
-p1 CommitTransaction h1
-p1 KvGet - \"k\"
-p1 KvSet h1 \"k\" 02
-p1 CreateTransaction h1 0
-nonsense
-";
-
-/// Of each kind of calls, the number of the one that fails, counted from 1. None fails at 0.
+/// The number of the call that fails of the source, and of the sink, counted from 1. None fails at 0.
 #[derive(Clone, Copy)]
-struct Fails {
-    source: u64,
-    sink: u64,
-    disk: u64,
+pub struct Fails {
+    pub source: u64,
+    pub sink: u64,
 }
 
-const NO_FAIL: Fails = Fails {
-    source: 0,
-    sink: 0,
-    disk: 0,
-};
+pub const NO_FAIL: Fails = Fails { source: 0, sink: 0 };
 
 /// What a run came to.
 #[derive(Drop)]
-struct Came {
-    status: Status,
-    sink: MemSink,
-    disk: MemDisk,
+pub struct Outcome {
+    pub status: Status,
+    pub sink: MemSink,
+    pub block: MemBlock,
 }
 
 fn calls(alloc: Global, number: u64) -> Result<Calls, NoMemory> {
@@ -53,156 +40,86 @@ fn calls(alloc: Global, number: u64) -> Result<Calls, NoMemory> {
     Ok(Calls::new(numbers))
 }
 
-fn run(
+/// A block with these bytes, and room for an image, whose call with this number fails.
+pub fn block_of(alloc: Global, bytes: Vec<u8>, fail: u64) -> Result<MemBlock, NoMemory> {
+    let room = bytes.len().max(IMAGE_LEN);
+    MemBlock::new(alloc, Bytes::new(bytes), room, calls(alloc, fail)?)
+}
+
+/// A block without a byte.
+pub fn blank(alloc: Global) -> Result<MemBlock, NoMemory> {
+    block_of(alloc, Vec::new(alloc), 0)
+}
+
+/// A new image of 16 units.
+pub fn small_image(alloc: Global) -> Result<MemBlock, Fail> {
+    let mut disk = CutDisk::new(alloc, blank(alloc)?)?;
+    Journal::format(&mut disk, 16, 1)?;
+    Ok(disk.into_block())
+}
+
+/// Runs the program with these words.
+pub fn run_words(
     alloc: Global,
-    words: &[&str],
-    script: &[u8],
-    image: &[u8],
+    words: &[String],
+    script: Bytes,
+    block: MemBlock,
     fails: Fails,
-) -> Result<Came, NoMemory>
-    requires { length image.now ≤ IMAGE_LEN }
-{
-    let mut owned = Vec::new(alloc);
-    for word in words {
-        owned.push(String::from_str(alloc, word)?)?;
-    }
-    let script = Bytes::new(script.to_vec(alloc)?);
+) -> Result<Outcome, NoMemory> {
     let mut source = MemSource::new(script, calls(alloc, fails.source)?);
-    let mut sink = MemSink::new(alloc, 4096, calls(alloc, fails.sink)?)?;
-    let image = Bytes::new(image.to_vec(alloc)?);
-    let mut disk = MemDisk::new(alloc, image, IMAGE_LEN, calls(alloc, fails.disk)?)?;
-    let status = ktm(alloc, &owned, &mut source, &mut sink, &mut disk);
-    Ok(Came { status, sink, disk })
+    let mut sink = MemSink::new(alloc, REPLIES, calls(alloc, fails.sink)?)?;
+    let mut disk = CutDisk::new(alloc, block)?;
+    let status = ktm(alloc, words, &mut source, &mut sink, &mut disk);
+    Ok(Outcome {
+        status,
+        sink,
+        block: disk.into_block(),
+    })
 }
 
-// Runs the script on a new image.
-fn run_new(alloc: Global, script: &[u8], fails: Fails) -> Result<Came, NoMemory> {
-    run(alloc, &["run", "image", "script"], script, b"", fails)
-}
-
-#[test]
-fn first_transaction(rt: HostRuntime) -> Result<(), Fail> {
-    let came = run_new(rt.alloc(), FIRST_TRANSACTION.as_bytes(), NO_FAIL)?;
-    let replies = "ok 00000001-0001-0001-0000-000000000001
-ok
-ERROR_NOT_FOUND
-ok 01
-ok committed
-ok 01
-ERROR_TRANSACTION_ALREADY_COMMITTED
-ERROR_INVALID_PARAMETER
-BAD_LINE
-";
-    assert_eq!(rt; came.sink.bytes(), replies.as_bytes());
-    assert_eq!(rt; came.status, Status::Done);
-    let frames = [
-        1, 9, 0, 0, 0, 1, 0, 0, 0, 1, 1, 0, 0, 0, 1, 24, 0, 0, 0, 1, 0, 0, 0, 5, 1, 0, 0, 0, 1, 0,
-        0, 0, 3, 1, 0, 0, 0, 1, 107, 1, 1, 0, 1, 0,
-    ];
-    let log = came.disk.bytes().get(LOG..LOG + 44).ok_or("short")?;
-    assert_eq!(rt; log, frames.as_slice());
-    Ok(())
-}
-
-#[test]
-fn lines_of_each_kind(rt: HostRuntime) -> Result<(), Fail> {
-    let alloc = rt.alloc();
-    let long = vec![in alloc; b'x'; 150_000]?;
-    let mut comment_and_line = Vec::new(alloc);
-    comment_and_line.push(b'#')?;
-    comment_and_line.extend_from_slice(&long)?;
-    comment_and_line.push(b'\n')?;
-    comment_and_line.extend_from_slice(&long)?;
-    for (script, replies) in [
-        (b"".as_slice(), ""),
-        (b"\n\n#\n# comment\n".as_slice(), ""),
-        (b"# comment".as_slice(), ""),
-        (b" \n".as_slice(), "BAD_LINE\n"),
-        (b"nonsense".as_slice(), "BAD_LINE\n"),
-        (b"nonsense\n\nnonsense".as_slice(), "BAD_LINE\nBAD_LINE\n"),
-        (comment_and_line.as_slice(), "BAD_LINE\n"),
-    ] {
-        let came = run_new(alloc, script, NO_FAIL)?;
-        assert_eq!(rt; came.sink.bytes(), replies.as_bytes());
-        assert_eq!(rt; came.status, Status::Done);
+/// The words one by one.
+pub fn words_of(alloc: Global, text: &str) -> Result<Vec<String>, NoMemory> {
+    let mut words = Vec::new(alloc);
+    for word in text.split_whitespace() {
+        words.push(String::from_str(alloc, word)?)?;
     }
-    Ok(())
+    Ok(words)
 }
 
-#[test]
-fn statuses_of_the_program(rt: HostRuntime) -> Result<(), Fail> {
-    let alloc = rt.alloc();
-    let usage =
-        "usage: ktm run IMAGE SCRIPT | format IMAGE UNITS | dump IMAGE | gen IMAGE NUMBER LINES\n";
-    let short = ["run", "x"];
-    let other = ["ran", "image", "script"];
-    let long = ["run", "image", "script", "more"];
-    for words in [short.as_slice(), other.as_slice(), long.as_slice()] {
-        let came = run(alloc, words, b"nonsense", b"", NO_FAIL)?;
-        assert_eq!(rt; came.sink.bytes(), usage.as_bytes());
-        assert_eq!(rt; came.status, Status::Usage);
-    }
-
-    let words = ["run", "image", "script"];
-    let came = run(alloc, &words, b"nonsense", b"abc", NO_FAIL)?;
-    assert_eq!(rt; came.sink.bytes(), b"bad image at 0\n".as_slice());
-    assert_eq!(rt; came.status, Status::BadImage);
-
-    let came = run_new(
-        alloc,
-        b"nonsense\n",
-        Fails {
-            source: 2,
-            ..NO_FAIL
-        },
-    )?;
-    assert_eq!(rt; came.sink.bytes(), b"BAD_LINE\n".as_slice());
-    assert_eq!(rt; came.status, Status::SourceFault);
-
-    let came = run_new(alloc, b"nonsense\n", Fails { sink: 1, ..NO_FAIL })?;
-    assert_eq!(rt; came.sink.bytes(), b"".as_slice());
-    assert_eq!(rt; came.status, Status::SinkFault);
-
-    let came = run_new(alloc, b"nonsense\n", Fails { disk: 1, ..NO_FAIL })?;
-    assert_eq!(rt; came.sink.bytes(), b"".as_slice());
-    assert_eq!(rt; came.status, Status::DiskFault);
-    Ok(())
+/// Runs a script on an image.
+pub fn run_script(
+    alloc: Global,
+    script: Bytes,
+    block: MemBlock,
+    fails: Fails,
+) -> Result<Outcome, NoMemory> {
+    let words = words_of(alloc, "run image script")?;
+    run_words(alloc, &words, script, block, fails)
 }
 
-// The number of the first device call that the disk may refuse once the machine is up.
-fn first_call_of_a_command(alloc: Global, script: &[u8]) -> Result<u64, NoMemory> {
-    let mut refused = 0u64;
-    for step in [
-        8192, 4096, 2048, 1024, 512, 256, 128, 64, 32, 16, 8, 4, 2, 1,
-    ] {
-        let disk = refused.saturating_add(step);
-        let came = run_new(alloc, script, Fails { disk, ..NO_FAIL })?;
-        if came.status == Status::DiskFault {
-            refused = disk;
-        }
-    }
-    Ok(refused.saturating_add(1))
+/// Runs these lines on an image.
+pub fn run(alloc: Global, script: &[u8], block: MemBlock) -> Result<Outcome, NoMemory> {
+    let script = Bytes::new(script.to_vec(alloc)?);
+    run_script(alloc, script, block, NO_FAIL)
 }
 
-#[test]
-fn first_power_cuts(rt: HostRuntime) -> Result<(), Fail> {
-    let alloc = rt.alloc();
-    let script = FIRST_TRANSACTION.as_bytes();
-    let first = first_call_of_a_command(alloc, script)?;
-    let replies = "ok 00000001-0001-0001-0000-000000000001
-ok
-ERROR_NOT_FOUND
-ok 01
-MACHINE_DOWN
-MACHINE_DOWN
-MACHINE_DOWN
-MACHINE_DOWN
-BAD_LINE
-";
-    for disk in [first, first.saturating_add(1)] {
-        let came = run_new(alloc, script, Fails { disk, ..NO_FAIL })?;
-        assert_eq!(rt; came.sink.bytes(), replies.as_bytes());
-        assert_eq!(rt; came.status, Status::Done);
-    }
-    Ok(())
+/// The run ended with this status, and wrote these bytes.
+pub fn expect(rt: &impl Abort, outcome: &Outcome, replies: &[u8], status: Status) {
+    assert_eq!(rt;
+        str::from_utf8(outcome.sink.bytes()),
+        str::from_utf8(replies)
+    );
+    assert_eq!(rt; outcome.status, status);
+}
+
+/// Runs the script on the image to its end, with these replies, and gives the image back.
+pub fn follow(
+    rt: &impl Abort,
+    alloc: Global,
+    transcript: &Transcript,
+    block: MemBlock,
+) -> Result<MemBlock, NoMemory> {
+    let outcome = run(alloc, &transcript.script, block)?;
+    expect(rt, &outcome, &transcript.replies, Status::Done);
+    Ok(outcome.block)
 }
