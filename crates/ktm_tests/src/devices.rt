@@ -137,7 +137,7 @@ fn long_lines(rt: HostRuntime) -> Result<(), Fail> {
         ("x", 200_000, "BAD_LINE\n"),
         ("#", 140_001, ""),
         ("#", 200_000, ""),
-        // its value is too long, and so no handle is looked at
+        // a line of the grammar, whose handle is missing and whose value is too long
         ("p1 KvSet h1 \"k\" ", 140_000, "ERROR_INVALID_HANDLE\n"),
         ("p1 KvSet h1 \"k\" ", 140_002, "BAD_LINE\n"),
     ] {

@@ -1,6 +1,4 @@
 // Whole runs in memory.
-ghost use Rattle.std.specs.Prelude.{◌≤◌, length};
-
 use crate::transcript::Transcript;
 use ktm_base::{Bytes, NoMemory};
 use ktm_cut::CutDisk;
