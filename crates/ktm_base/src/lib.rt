@@ -11,6 +11,7 @@ mod id;
 mod laws;
 mod lists;
 mod names;
+mod notify;
 mod power;
 mod refusal;
 mod sink;
@@ -27,6 +28,7 @@ pub use laws::{
 };
 pub use lists::{Bytes, PageList, Text, TextList};
 pub use names::fold;
+pub use notify::Notify;
 pub use power::{PowerCall, PowerDisk};
 pub use refusal::Refusal;
 pub use sink::Sink;

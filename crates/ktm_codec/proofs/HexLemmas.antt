@@ -18,7 +18,7 @@ map-pair front rest more b (Some v) e =
     let parts = some_pair_parts b v rest more e in
     rw (parts.0, parts.1) (map-front front v (unhex more))
 
-option_map_some : {A B P : Type 0} (f : A → B) (o : Option A) (y : B) → option_map f o ≡ Some y → ((x : A) → o ≡ Some x → f x ≡ y → P) → P
+pub option_map_some : {A B P : Type 0} (f : A → B) (o : Option A) (y : B) → option_map f o ≡ Some y → ((x : A) → o ≡ Some x → f x ≡ y → P) → P
 option_map_some f None y e then = cc
 option_map_some f (Some x) y e then = then x refl (same_Some _ _ e)
 

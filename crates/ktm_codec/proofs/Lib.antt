@@ -1,6 +1,9 @@
+pub mod Steps
 pub mod HexLemmas
 pub mod NumberLemmas
 pub mod WordLemmas
+pub mod QuotedLemmas
+pub mod GuidLemmas
 pub mod Adding
 pub mod Forms
 pub mod SpansLemmas

@@ -2,10 +2,12 @@
 use Rattle.std.proofs.Common.{◌≡◌, ◌≢◌, ℕ, ◌+◌, ◌-◌, ◌*◌, ◌/◌, ◌%◌, ◌^◌, ◌<◌, ◌≤◌, nat_eq, nat_le, true, false, List, [], ◌∷◌, ◌++◌, Some, refl, sym, ap, ◌∙◌, arith, inl, inr, append_assoc}
 use Rattle.std.proofs.lemmas.Bool.{cases_Bool, cases_lt, cases_eq, le-leb}
 use Rattle.std.proofs.lemmas.Fmt.{decimal_by_steps, decimal_digit, decimal_step}
+use Rattle.std.proofs.lemmas.List.{append-nil}
 use Rattle.std.proofs.lemmas.Option.{some_pair_parts}
 use Rattle.std.specs.Char.{is_ascii_digit}
 use Rattle.std.specs.Fmt.{decimal}
-use Rattle.ktm_codec.specs.Number.{digits_at, number_at, starts_with_digit}
+use Rattle.ktm_codec.specs.Number.{digits_at, last_number_at, number_at, starts_with_digit}
+use Rattle.ktm_codec.proofs.Steps.{bind_some, at_end_is}
 
 -- one digit more
 digits-cons : (most value c : ℕ) (cs : List ℕ) → is_ascii_digit c ≡ true → value * 10 + (c - 48) ≤ most
@@ -138,3 +140,17 @@ number_is most (c ∷ cs) n rest fits e = elim (cases_eq c 48) [
         | inr no_digit ↦ cc (rw (test, no_digit) at e)
       ]
 ]
+
+pub last_number_is : (most : ℕ) (text : List ℕ) (n : ℕ) → most < 2 ^ 64 → last_number_at most text ≡ Some n → (n ≤ most) × (text ≡ decimal n)
+unfolding last_number_at
+last_number_is most text n fits e = bind_some _ (number_at most text) n e (λ read f end.
+    let whole = at_end_is read.0 n read.1 end in
+    let number = number_is most text read.0 read.1 fits f in
+    let spelled : text ≡ decimal read.0 = number.1 ∙ rw whole.0 (append-nil (decimal read.0)) in
+    (rw (← whole.1) number.0, rw (← whole.1) spelled))
+
+pub last_number_again : (most n : ℕ) → most < 2 ^ 64 → n ≤ most → last_number_at most (decimal n) ≡ Some n
+unfolding last_number_at
+last_number_again most n fits within =
+    let read : number_at most (decimal n) ≡ Some (n, []) = rw append-nil at (number_again most n [] fits within refl) in
+    rw read refl

@@ -1,6 +1,7 @@
 -- Numbers in decimal digits, without leading zeros.
 use Rattle.std.specs.Prelude.{ℕ, ◌+◌, ◌-◌, ◌*◌, ◌==◌, nat_le, Bool, false, List, [], ◌∷◌, Option, Some, None, if◌then◌else◌}
 use Rattle.std.specs.Char.{is_ascii_digit}
+use Rattle.ktm_codec.specs.Steps.{◌>>=◌, at_end}
 
 -- does the text begin with a digit
 abbrev pub starts_with_digit : List ℕ → Bool
@@ -25,3 +26,7 @@ number_at most [] = None
 number_at most (c ∷ cs) =
     if c == 48 then Some (0, cs) else
     (if is_ascii_digit c then digits_at most 0 (c ∷ cs) else None)
+
+-- the number that the whole text is
+unfoldable pub last_number_at : ℕ → List ℕ → Option ℕ
+last_number_at most text = number_at most text >>= λ read. at_end read.0 read.1

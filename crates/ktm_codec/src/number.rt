@@ -1,6 +1,6 @@
 // Numbers in decimal digits, without leading zeros.
 ghost use Rattle.std.specs.Prelude.{◌≡◌, ◌<◌, ◌≤◌, ◌^◌, ◌++◌, ℕ, List, IfSome, OnOk, Some, false, decimal, option_map};
-ghost use Rattle.ktm_codec.specs.Number.{digits_at, number_at, starts_with_digit, with_digit};
+ghost use Rattle.ktm_codec.specs.Number.{digits_at, last_number_at, number_at, starts_with_digit, with_digit};
 
 use itoa::Buffer;
 use ktm_base::NoMemory;
@@ -54,12 +54,25 @@ pub fn read_number(most: u64, text: &[u8]) -> Option<(u64, &[u8])>
     }
 }
 
-/// What is read as a number is its digits, and the digits of a number are read as it, unless more digits follow them.
+/// The number that the whole text is.
+#[tactic(auto, unfolding(crate::specs::Number::last_number_at))]
+pub fn read_last_number(most: u64, text: &[u8]) -> Option<u64>
+    ensures value { result ≡ last_number_at most text.now }
+    ensures within { IfSome result (λ number. number ≤ most) }
+{
+    let (number, rest) = read_number(most, text)?;
+    if rest.is_empty() { Some(number) } else { None }
+}
+
+/// What is read as a number is its digits, and the digits of a number are read as it, unless more digits follow them;
+/// likewise of a whole text.
 pub fn law_of_numbers()
     ensures found { (most : ℕ) (text : List ℕ) (n : ℕ) (rest : List ℕ) → most < 2 ^ 64 → number_at most text ≡ Some (n, rest)
         → (n ≤ most) × (text ≡ decimal n ++ rest) }
     ensures every { (most n : ℕ) (rest : List ℕ) → most < 2 ^ 64 → n ≤ most → starts_with_digit rest ≡ false
         → number_at most (decimal n ++ rest) ≡ Some (n, rest) }
+    ensures last_found { (most : ℕ) (text : List ℕ) (n : ℕ) → most < 2 ^ 64 → last_number_at most text ≡ Some n → (n ≤ most) × (text ≡ decimal n) }
+    ensures last_every { (most n : ℕ) → most < 2 ^ 64 → n ≤ most → last_number_at most (decimal n) ≡ Some n }
 {}
 
 #[cfg(test)]
@@ -91,5 +104,7 @@ mod tests {
         ] {
             assert_eq!(rt; read_number(most, text.as_bytes()), None, "{text}");
         }
+        assert_eq!(rt; read_last_number(64, b"64"), Some(64));
+        assert_eq!(rt; read_last_number(64, b"64 "), None);
     }
 }

@@ -1,3 +1,12 @@
+pub mod Pairs
+pub mod Changes
+pub mod Parts
 pub mod Events
-pub mod Readings
 pub mod Spellable
+pub mod Readings
+pub mod ChangeReadings
+pub mod PartReadings
+pub mod EventReadings
+pub mod Writings
+pub mod Groups
+pub mod KeptLemmas

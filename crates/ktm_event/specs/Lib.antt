@@ -1,2 +1,4 @@
 pub mod Reading
 pub mod Spelling
+pub mod Work
+pub mod Kept

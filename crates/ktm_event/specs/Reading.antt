@@ -1,10 +1,9 @@
 -- What is read at a place of the bytes, where reading may want memory.
-use Rattle.std.specs.Prelude.{ℕ, List, Result, Ok, Err, None}
+use Rattle.std.specs.Prelude.{ℕ, List, ◌∷◌, Result, Ok, Err, None}
 use Rattle.ktm_base.specs.declared.id.Id.{Id}
-use Rattle.ktm_base.specs.Grammar.{Then, IsTextOf}
+use Rattle.ktm_base.specs.Grammar.{IsTextOf}
 use Rattle.ktm_codec.specs.Spans.{Spans, Reads}
-use Rattle.ktm_world.specs.declared.event.Part.{Part}
-use Rattle.ktm_world.specs.EventGrammar.{IsIdOf, IsPartOf}
+use Rattle.ktm_world.specs.EventGrammar.{IsRecordOf}
 use Rattle.ktm_world.specs.Values.{IsText}
 use Rattle.ktm_event.specs.declared.fault.EventFault.{EventFault}
 use Rattle.ktm_event.specs.declared.fault.EventFault.TheVariants.{NotAnEvent, NoMemory}
@@ -15,11 +14,15 @@ Gives Form bytes at (Ok (x, end)) = Spans (Form x) bytes at end
 Gives Form bytes at (Err NotAnEvent) = Reads Form bytes at None
 Gives Form bytes at (Err NoMemory) = Unit {0}
 
+-- what stands behind this tag in the spelling of a thing
+abbrev pub Behind : {X : Type 0} → (X → List ℕ → Type 0) → ℕ → X → List ℕ → Type 0
+Behind Form tag x bytes = Form x (tag ∷ bytes)
+
 -- a key has the characters of a text, and its length in one byte before it
 pub record IsKeyOf (key bytes : List ℕ) : Type 0 where
   pub text : IsText key
   pub spelled : IsTextOf key bytes
 
--- behind the tag of a commit there are its transaction and its part
-abbrev pub IsCommitOf : Id × Part → List ℕ → Type 0
-IsCommitOf (transaction, part) = Then (IsIdOf transaction) (IsPartOf part)
+-- an enlistment, its resource manager and its recovery information, as one thing
+abbrev pub IsRecordedOf : Id × Id × List ℕ → List ℕ → Type 0
+IsRecordedOf (enlistment, manager, information) = IsRecordOf enlistment manager information

@@ -1,14 +1,20 @@
 //! Events as bytes: a group of them is the payload of one frame of the log. Each group has one spelling, which is
-//! written and read here.
+//! written and read here. A list of events can be kept as its bytes until it is recorded.
 #![tactic(auto)]
 
+mod change;
+mod event;
 mod fault;
+mod field;
+mod group;
+pub mod kept;
 mod laws;
-mod read;
-mod tags;
-mod write;
+mod part;
+mod setting;
+#[cfg(test)]
+mod tests;
 
+pub use event::{read_event, write_event};
 pub use fault::EventFault;
-pub use laws::law_of_groups;
-pub use read::{read_event, read_group};
-pub use write::{write_boot, write_group, write_single};
+pub use group::{read_group, write_boot, write_group, write_single};
+pub use laws::{law_of_events, law_of_groups, law_of_kept_events, law_of_round_trip};

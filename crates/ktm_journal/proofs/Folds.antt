@@ -4,10 +4,10 @@ use Rattle.std.proofs.lemmas.List.{take-append-drop, take_more}
 use Rattle.std.proofs.lemmas.Bool.{and_from}
 use Rattle.ktm_log.specs.Log.{end_of}
 use Rattle.ktm_log.proofs.Frames.{end_of-append}
-use Rattle.ktm_world.specs.World.{Group}
-use Rattle.ktm_world.specs.Durable.{Durable, empty_state, after_events, events_apply}
+use Rattle.ktm_world.specs.Logs.{Group}
+use Rattle.ktm_keys.specs.Durable.{Durable, empty_state, after_events, events_apply}
 use Rattle.ktm_world.specs.EventGrammar.{IsGroupOf}
-use Rattle.ktm_world.proofs.Logs.{stand-append, log_applies-append}
+use Rattle.ktm_keys.proofs.Logs.{stand-append, log_applies-append}
 use Rattle.ktm_journal.specs.Image.{log_area, area_len}
 use Rattle.ktm_journal.specs.Bad.{IsBadPayload}
 use Rattle.ktm_journal.specs.Load.{ComesTo, IsFirstBad}

@@ -8,10 +8,10 @@ use Rattle.ktm_log.specs.Log.{LogState, BeginsWith, IsLog, IsBadLog, Rests, area
 use Rattle.ktm_log.proofs.Frames.{begins-split}
 use Rattle.ktm_log.proofs.GoodOrBad.{one_log}
 use Rattle.ktm_log.proofs.Steps.{IfTold-both}
-use Rattle.ktm_world.specs.World.{Group}
-use Rattle.ktm_world.specs.Durable.{Durable, empty_state, stand}
+use Rattle.ktm_world.specs.Logs.{Group}
+use Rattle.ktm_keys.specs.Durable.{Durable, empty_state, stand}
 use Rattle.ktm_world.specs.Sizes.{frame_size, log_size}
-use Rattle.ktm_world.proofs.Logs.{stand-units, stand-image, few_keys}
+use Rattle.ktm_keys.proofs.Logs.{stand-units, stand-image, few_keys}
 use Rattle.ktm_world.proofs.SizeLemmas.{size_law}
 use Rattle.ktm_journal.specs.Image.{HoldGroups, HoldsLog, IsFormatted, JournalAt, JournalState, StandsFor, left_after, log_area}
 use Rattle.ktm_journal.specs.Bad.{IsBadAt, IsBadPayload}

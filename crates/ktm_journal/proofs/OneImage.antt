@@ -5,11 +5,11 @@ use Rattle.ktm_log.specs.Log.{BeginsWith, IsFrame, IsClosed, area_bytes, end_of}
 use Rattle.ktm_log.proofs.Frames.{begins-split}
 use Rattle.ktm_log.proofs.GoodOrBad.{begins_compare, one_frame, one_log, torn_is_no_frame}
 use Rattle.ktm_event.proofs.Events.{one_group}
-use Rattle.ktm_world.specs.World.{Group}
-use Rattle.ktm_world.specs.Durable.{Durable, empty_state, stand, events_apply, log_applies}
+use Rattle.ktm_world.specs.Logs.{Group}
+use Rattle.ktm_keys.specs.Durable.{Durable, empty_state, stand, events_apply, log_applies}
 use Rattle.ktm_world.specs.EventGrammar.{IsGroupOf}
 use Rattle.ktm_world.specs.Sizes.{log_size}
-use Rattle.ktm_world.proofs.Logs.{log_applies-append}
+use Rattle.ktm_keys.proofs.Logs.{log_applies-append}
 use Rattle.ktm_journal.specs.Image.{IsHeaded, HoldGroups, HoldsLog, StandsFor, log_area}
 use Rattle.ktm_journal.specs.Bad.{IsBadFrame, IsBadAt}
 

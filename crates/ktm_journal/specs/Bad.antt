@@ -1,8 +1,8 @@
 -- Bytes that are no image that stands for a state, and where it shows.
 use Rattle.std.specs.Prelude.{◌≡◌, ◌≢◌, ◌⊎◌, ℕ, ◌+◌, false, IsTrue, List, drop, Result, Ok, Err, Bool, true}
 use Rattle.ktm_log.specs.Log.{IsFrame, IsTorn, BeginsWith, area_bytes, end_of}
-use Rattle.ktm_world.specs.World.{Group}
-use Rattle.ktm_world.specs.Durable.{Durable, empty_state, stand, events_apply, log_applies}
+use Rattle.ktm_world.specs.Logs.{Group}
+use Rattle.ktm_keys.specs.Durable.{Durable, empty_state, stand, events_apply, log_applies}
 use Rattle.ktm_world.specs.EventGrammar.{IsGroupOf}
 use Rattle.ktm_world.specs.Sizes.{log_size}
 use Rattle.ktm_journal.specs.declared.fault.LoadFault.{LoadFault}

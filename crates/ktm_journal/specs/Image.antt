@@ -4,9 +4,9 @@ use Rattle.std.specs.Int.{from_le_bytes, w16, w32}
 use Rattle.ktm_base.specs.Disk.{DiskState, MayLeave}
 use Rattle.ktm_log.specs.declared.area.Area.{Area}
 use Rattle.ktm_log.specs.Log.{LogState, IsLog, Rests, area_bytes}
-use Rattle.ktm_world.specs.World.{Group}
+use Rattle.ktm_world.specs.Logs.{Group}
 use Rattle.ktm_world.specs.EventGrammar.{IsGroupOf}
-use Rattle.ktm_world.specs.Durable.{Durable, empty_state, stand, log_applies}
+use Rattle.ktm_keys.specs.Durable.{Durable, empty_state, stand, log_applies}
 use Rattle.ktm_world.specs.Sizes.{log_size}
 
 -- how many bytes an area has

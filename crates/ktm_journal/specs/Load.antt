@@ -1,8 +1,8 @@
 -- What a load finds on its way.
 use Rattle.std.specs.Prelude.{◌≡◌, ℕ, ◌+◌, ◌%◌, ◌≤◌, IsTrue, List, ◌∷◌, ◌++◌, Option, None, Some}
 use Rattle.ktm_log.specs.Log.{end_of}
-use Rattle.ktm_world.specs.World.{Group}
-use Rattle.ktm_world.specs.Durable.{Durable, empty_state, stand, log_applies}
+use Rattle.ktm_world.specs.Logs.{Group}
+use Rattle.ktm_keys.specs.Durable.{Durable, empty_state, stand, log_applies}
 use Rattle.ktm_journal.specs.declared.load.Header.{Header}
 use Rattle.ktm_journal.specs.Image.{IsHeaded, HoldGroups, image_len, log_area}
 use Rattle.ktm_journal.specs.Format.{IsHeader}

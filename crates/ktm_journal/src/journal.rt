@@ -3,7 +3,7 @@ ghost use Rattle.std.specs.Prelude.{◌≡◌, ◌↔◌, ℕ, ◌+◌, ◌-◌,
 ghost use Rattle.ktm_base.specs.Told.{IfTold, Tells, Goes};
 ghost use Rattle.ktm_base.specs.Disk.{DeviceCalls, IsSafe};
 ghost use Rattle.ktm_log.specs.Fault.{IfAppendDown, append_went_down};
-ghost use Rattle.ktm_world.specs.World.{Group};
+ghost use Rattle.ktm_world.specs.Logs.{Group};
 ghost use Rattle.ktm_world.specs.EventGrammar.{IsGroupOf};
 ghost use Rattle.ktm_journal.specs.Image.{HoldsLog, IsFormatted, IsHeaded, JournalAt, LeavesGroupOrNot, StandsFor, log_area};
 ghost use Rattle.ktm_journal.specs.Bad.{IfBad, IsBadAt, load_went_down};
@@ -13,8 +13,8 @@ use crate::LoadFault;
 use crate::image::{lay, log_area, put_header};
 use crate::load::{Header, fold, read_form};
 use ktm_base::{Disk, Down};
+use ktm_keys::Durable;
 use ktm_log::{AppendFault, Log, LogFault};
-use ktm_world::Durable;
 use std::alloc::Global;
 use std::marker::Model;
 

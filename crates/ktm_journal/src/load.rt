@@ -4,8 +4,8 @@ ghost use Rattle.std.specs.Int.{from_le_bytes, w16, w32};
 ghost use Rattle.ktm_base.specs.Told.{IfTold};
 ghost use Rattle.ktm_base.specs.Disk.{DeviceCalls};
 ghost use Rattle.ktm_log.specs.Log.{end_of};
-ghost use Rattle.ktm_world.specs.Durable.{after_events, events_apply};
-ghost use Rattle.ktm_world.specs.World.{Group};
+ghost use Rattle.ktm_keys.specs.Durable.{after_events, events_apply};
+ghost use Rattle.ktm_world.specs.Logs.{Group};
 ghost use Rattle.ktm_world.specs.EventGrammar.{IsGroupOf};
 ghost use Rattle.ktm_journal.specs.Image.{IsFormatted, IsHeaded, area_len, empty_snapshot, snapshot_of};
 ghost use Rattle.ktm_journal.specs.Format.{IsHeader};
@@ -16,7 +16,7 @@ use crate::LoadFault;
 use crate::image::{SELECTOR_AT, SNAPSHOT_AT, empty_snapshot, image_len, log_area};
 use ktm_base::{Bytes, Disk, Down, NoMemory};
 use ktm_event::{EventFault, read_group};
-use ktm_world::Durable;
+use ktm_keys::Durable;
 use std::alloc::Global;
 
 /// What the header of an image says.

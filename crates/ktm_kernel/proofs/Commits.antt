@@ -22,13 +22,15 @@ use Rattle.ktm_world.specs.declared.object.Transaction.{Transaction}
 use Rattle.ktm_world.specs.declared.reply.Reply.TheVariants.{Committed, Refused}
 use Rattle.ktm_world.specs.EventGrammar.{IsGroupOf}
 use Rattle.ktm_world.specs.Keys.{OwnSettings, own_settings}
-use Rattle.ktm_world.specs.Present.{Present}
-use Rattle.ktm_world.specs.Outcome.{only_reply, first_refusal, refuse_or, is_full, within_log}
-use Rattle.ktm_world.specs.Decide.{decide, with_room, named, transaction_tests, commit_transaction, commit_events}
+use Rattle.ktm_keys.specs.Present.{Present}
+use Rattle.ktm_keys.specs.Outcome.{only_reply, refuse_or, within_log}
+use Rattle.ktm_world.specs.Outcome.{first_refusal, is_full}
+use Rattle.ktm_keys.specs.Decide.{decide, with_room, named, transaction_tests, commit_transaction, commit_events}
 use Rattle.ktm_world.specs.Sizes.{log_size}
-use Rattle.ktm_world.specs.World.{Group, apply, as_groups, IsLawfulNow, IsOfBoot}
-use Rattle.ktm_world.proofs.NowLemmas.{named-of_boot}
-use Rattle.ktm_world.proofs.OwnLemmas.{IsWithinLimits, own_settings_within_limits, few_own_settings}
+use Rattle.ktm_world.specs.Logs.{Group, as_groups}
+use Rattle.ktm_keys.specs.World.{apply, IsLawfulNow, IsOfBoot}
+use Rattle.ktm_keys.proofs.NowLemmas.{named-of_boot}
+use Rattle.ktm_keys.proofs.OwnLemmas.{IsWithinLimits, own_settings_within_limits, few_own_settings}
 use Rattle.ktm_world.proofs.SizeLemmas.{size_law}
 use Rattle.ktm_kernel.specs.Done.{FewEvents, IsDone, IsCutOff, LeavesWithOr, fallen}
 

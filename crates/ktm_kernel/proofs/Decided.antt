@@ -12,10 +12,11 @@ use Rattle.ktm_world.specs.declared.event.Event.{Event}
 use Rattle.ktm_world.specs.declared.object.Transaction.{Transaction}
 use Rattle.ktm_world.specs.declared.reply.Reply.{Reply}
 use Rattle.ktm_world.specs.declared.reply.Reply.TheVariants.{Refused}
-use Rattle.ktm_world.specs.Present.{Present}
-use Rattle.ktm_world.specs.Outcome.{Outcome, only_reply, first_refusal, refuse_or, is_full}
-use Rattle.ktm_world.specs.Decide.{decide, with_room, refusal_of, command_tests, command_effect, commit_transaction, named, reply_of_value}
-use Rattle.ktm_world.specs.World.{apply}
+use Rattle.ktm_keys.specs.Present.{Present}
+use Rattle.ktm_keys.specs.Outcome.{Outcome, only_reply, refuse_or}
+use Rattle.ktm_world.specs.Outcome.{first_refusal, is_full}
+use Rattle.ktm_keys.specs.Decide.{decide, with_room, refusal_of, command_tests, command_effect, commit_transaction, named, reply_of_value}
+use Rattle.ktm_keys.specs.World.{apply}
 use Rattle.ktm_kernel.specs.Answered.{Answered}
 
 -- a command by itself stops no machine
@@ -30,6 +31,7 @@ effect_goes_on x process (KvSet label key value) = refl
 effect_goes_on x process (KvUnset label key) = refl
 effect_goes_on x process (KvGet view key) = refl
 effect_goes_on x process (KvList view) = refl
+effect_goes_on x process _ = refl
 
 refused_goes_on : (x : Present) (tested : Option Refusal) (effect : Outcome) → effect.stops ≡ false → (refuse_or x tested effect).stops ≡ false
 refused_goes_on x None effect goes_on = goes_on
@@ -116,6 +118,7 @@ tests_of_up x process (KvGet Plain key) = refl
 tests_of_up x process (KvGet (Through label) key) = refl
 tests_of_up x process (KvList Plain) = refl
 tests_of_up x process (KvList (Through label)) = refl
+tests_of_up x process _ = refl
 
 first_not_down : (tests : List (Bool × Refusal)) → none_of_down tests ≡ true → first_refusal tests ≡ Some MachineDown → ⊥
 unfolding is_of_down none_of_down
@@ -142,6 +145,7 @@ effect_not_down x process (KvSet label key value) e = cc
 effect_not_down x process (KvUnset label key) e = cc
 effect_not_down x process (KvGet view key) e = value_not_down _ e
 effect_not_down x process (KvList view) e = cc
+effect_not_down x process _ e = cc
 
 room_not_down : (x : Present) (tested : Option Refusal) (effect : Outcome) → (tested ≡ Some MachineDown → ⊥) → (effect.reply ≡ Refused MachineDown → ⊥) → (refuse_or x tested effect).reply ≡ Refused MachineDown → ⊥
 room_not_down x None effect first then e = then e

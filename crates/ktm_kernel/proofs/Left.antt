@@ -7,9 +7,10 @@ use Rattle.ktm_base.specs.Told.{Tells}
 use Rattle.ktm_base.proofs.ToldSteps.{Tells-map}
 use Rattle.ktm_journal.specs.Image.{JournalState, JournalAt, HoldsLog, StandsFor}
 use Rattle.ktm_journal.proofs.Images.{what_is_left}
-use Rattle.ktm_world.specs.Durable.{Durable, empty_state, stand, log_applies}
-use Rattle.ktm_world.specs.World.{World, Group, Power, up, down, is_up, prefixes_from, possible_logs, possible_by}
-use Rattle.ktm_world.proofs.Logs.{stand-append, stand-units, stand-image, log_applies-append}
+use Rattle.ktm_keys.specs.Durable.{Durable, empty_state, stand, log_applies}
+use Rattle.ktm_keys.specs.World.{World, possible_logs}
+use Rattle.ktm_world.specs.Logs.{Group, Power, up, down, is_up, prefixes_from, possible_by}
+use Rattle.ktm_keys.proofs.Logs.{stand-append, stand-units, stand-image, log_applies-append}
 use Rattle.ktm_kernel.specs.Stands.{KernelState, Began, Stands, StandsBy, LeavesPossible, LeavesStates, LeftLaw}
 use Rattle.ktm_kernel.proofs.Possible.{log_possible}
 

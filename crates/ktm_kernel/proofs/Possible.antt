@@ -3,7 +3,7 @@ use Rattle.std.proofs.Common.{◌≡◌, ℕ, List, [], ◌∷◌, ◌++◌, map
 use Rattle.std.proofs.lemmas.List.{append-nil}
 use Rattle.std.specs.Prelude.{Contains}
 use Rattle.ktm_world.specs.declared.event.Event.{Event}
-use Rattle.ktm_world.specs.World.{Group, as_groups, prefixes, prefixes_from}
+use Rattle.ktm_world.specs.Logs.{Group, as_groups, prefixes, prefixes_from}
 
 -- a list's first element, and one that stands somewhere
 pub first_is : {X : Type 0} (x : X) (xs : List X) → Contains (x ∷ xs) x

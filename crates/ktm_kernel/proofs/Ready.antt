@@ -12,11 +12,12 @@ use Rattle.ktm_world.specs.declared.command.Command.{Command}
 use Rattle.ktm_world.specs.declared.event.Event.{Event}
 use Rattle.ktm_world.specs.declared.reply.Reply.{Reply}
 use Rattle.ktm_world.specs.declared.reply.Reply.TheVariants.{Refused}
-use Rattle.ktm_world.specs.Decide.{decide, with_room, command_effect}
-use Rattle.ktm_world.specs.Present.{Present}
+use Rattle.ktm_keys.specs.Decide.{decide, with_room, command_effect}
+use Rattle.ktm_keys.specs.Present.{Present}
 use Rattle.ktm_world.specs.Values.{IsCommand}
-use Rattle.ktm_world.specs.World.{Group, apply, as_groups, IsLawfulNow}
-use Rattle.ktm_world.proofs.NowLemmas.{lawful_now_law}
+use Rattle.ktm_world.specs.Logs.{Group, as_groups}
+use Rattle.ktm_keys.specs.World.{apply, IsLawfulNow}
+use Rattle.ktm_keys.proofs.NowLemmas.{lawful_now_law}
 use Rattle.ktm_kernel.specs.Answered.{Answered}
 use Rattle.ktm_kernel.specs.Done.{Ends}
 use Rattle.ktm_kernel.specs.Stands.{KernelState, IsPowered, IsReady}

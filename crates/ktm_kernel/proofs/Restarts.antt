@@ -11,12 +11,14 @@ use Rattle.ktm_journal.specs.Image.{JournalState, JournalAt, IsImage, HoldsLog, 
 use Rattle.ktm_journal.proofs.LogLoads.{journal_left}
 use Rattle.ktm_journal.proofs.OneImage.{one_image}
 use Rattle.ktm_world.specs.EventGrammar.{IsGroupOf}
-use Rattle.ktm_world.specs.Durable.{Durable, empty_state, stand, events_apply, log_applies}
+use Rattle.ktm_keys.specs.Durable.{Durable, empty_state, stand, events_apply, log_applies}
 use Rattle.ktm_world.specs.Sizes.{log_size}
-use Rattle.ktm_world.specs.World.{Group, own_group, opened, present, count_events, IsLawfulNow, IsLawful}
-use Rattle.ktm_world.proofs.Logs.{stand-append, stand-units, stand-image, stand-events, log_applies-append, count_events-append, few_keys}
+use Rattle.ktm_world.specs.Logs.{Group, count_events}
+use Rattle.ktm_keys.specs.World.{own_group, opened, present, IsLawfulNow, IsLawful}
+use Rattle.ktm_keys.proofs.Logs.{stand-append, stand-units, stand-image, stand-events, log_applies-append, few_keys}
+use Rattle.ktm_world.proofs.Counts.{count_events-append}
 use Rattle.ktm_world.proofs.SizeLemmas.{size_law, log_size-append}
-use Rattle.ktm_world.proofs.Worlds.{opened_law}
+use Rattle.ktm_keys.proofs.Worlds.{opened_law}
 use Rattle.ktm_kernel.specs.Memory.{fresh}
 use Rattle.ktm_kernel.specs.Restarts.{HoldsBoth, base_of, is_full_for_own, Started, LeavesOwnOrNot}
 use Rattle.ktm_kernel.specs.Stands.{KernelState, IsReady}

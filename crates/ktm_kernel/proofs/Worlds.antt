@@ -14,12 +14,15 @@ use Rattle.ktm_world.specs.declared.command.Line.TheVariants.{Crash, Process}
 use Rattle.ktm_world.specs.declared.event.Event.{Event}
 use Rattle.ktm_world.specs.declared.reply.Reply.{Reply}
 use Rattle.ktm_world.specs.declared.reply.Reply.TheVariants.{Refused, Done}
-use Rattle.ktm_world.specs.Outcome.{Outcome, only_reply, first_refusal, refuse_or, within_log}
-use Rattle.ktm_world.specs.Decide.{decide, refusal_of, command_tests, command_effect}
+use Rattle.ktm_keys.specs.Outcome.{Outcome, only_reply, refuse_or, within_log}
+use Rattle.ktm_world.specs.Outcome.{first_refusal}
+use Rattle.ktm_keys.specs.Decide.{decide, refusal_of, command_tests, command_effect}
 use Rattle.ktm_world.specs.Values.{IsCommand}
-use Rattle.ktm_world.specs.World.{World, Group, Power, up, down, is_up, present, apply, after, as_groups, power_after, crashed, interrupted_world, prefixes_from, possible_by, IsLawful}
-use Rattle.ktm_world.specs.Transcript.{answered, interrupted, CrashDoes}
-use Rattle.ktm_world.proofs.Worlds.{step_law, lawful_law, refusal_law}
+use Rattle.ktm_keys.specs.World.{World, present, apply, after, power_after, crashed, interrupted_world, IsLawful}
+use Rattle.ktm_world.specs.Logs.{Group, Power, up, down, is_up, as_groups, prefixes_from, possible_by}
+use Rattle.ktm_world.specs.Transcript.{answered, interrupted}
+use Rattle.ktm_keys.specs.Transcript.{CrashDoes}
+use Rattle.ktm_keys.proofs.Worlds.{step_law, lawful_law, refusal_law}
 use Rattle.ktm_kernel.specs.Stands.{KernelState, Began, Stands, HasFallen, StandsBy, KernelAt, LeavesPossible, DoesLine}
 use Rattle.ktm_kernel.specs.Done.{FewEvents, IsDone, IsCutOff, Ends, LeavesWithOr, fallen}
 use Rattle.ktm_kernel.proofs.Decided.{stopped_records_nothing}

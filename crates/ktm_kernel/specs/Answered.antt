@@ -4,12 +4,13 @@ use Rattle.ktm_base.specs.declared.id.Id.{Id}
 use Rattle.ktm_base.specs.declared.id.Pid.{Pid}
 use Rattle.ktm_world.specs.declared.command.Command.{Command}
 use Rattle.ktm_world.specs.declared.reply.Reply.{Reply}
-use Rattle.ktm_world.specs.Present.{Present}
+use Rattle.ktm_keys.specs.Present.{Present}
 use Rattle.ktm_base.specs.declared.refusal.Refusal.TheVariants.{InvalidParameter, NotFound}
 use Rattle.ktm_world.specs.Keys.{value_seen, is_bad_key}
-use Rattle.ktm_world.specs.Outcome.{Outcome, only_reply, first_refusal, refuse_or}
-use Rattle.ktm_world.specs.Decide.{with_room, reply_of_value}
-use Rattle.ktm_world.specs.World.{apply}
+use Rattle.ktm_keys.specs.Outcome.{Outcome, only_reply, refuse_or}
+use Rattle.ktm_world.specs.Outcome.{first_refusal}
+use Rattle.ktm_keys.specs.Decide.{with_room, reply_of_value}
+use Rattle.ktm_keys.specs.World.{apply}
 
 -- the reply and what is so then are those that the command has where the log has room
 pub record Answered (old : Present) (process : Pid) (command : Command) (reply : Reply) (new : Present) : Type 0 where

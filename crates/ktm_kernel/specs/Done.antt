@@ -8,9 +8,10 @@ use Rattle.ktm_journal.specs.Image.{JournalState, JournalAt, IsImage}
 use Rattle.ktm_world.specs.declared.command.Command.{Command}
 use Rattle.ktm_world.specs.declared.reply.Reply.{Reply}
 use Rattle.ktm_world.specs.declared.reply.Reply.TheVariants.{Refused}
-use Rattle.ktm_world.specs.Present.{Present}
-use Rattle.ktm_world.specs.Decide.{decide}
-use Rattle.ktm_world.specs.World.{Group, apply, as_groups}
+use Rattle.ktm_keys.specs.Present.{Present}
+use Rattle.ktm_keys.specs.Decide.{decide}
+use Rattle.ktm_world.specs.Logs.{Group, as_groups}
+use Rattle.ktm_keys.specs.World.{apply}
 use Rattle.ktm_kernel.specs.Stands.{KernelState}
 
 -- there are fewer than 2^63 events, where it recorded any

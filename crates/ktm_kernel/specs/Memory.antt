@@ -1,7 +1,7 @@
 -- What the machine holds in memory.
 use Rattle.std.specs.Prelude.{ℕ, ◌+◌, true, []}
-use Rattle.ktm_world.specs.Durable.{Durable}
-use Rattle.ktm_world.specs.Present.{Present}
+use Rattle.ktm_keys.specs.Durable.{Durable}
+use Rattle.ktm_keys.specs.Present.{Present}
 
 pub record MemoryState : Type 0 where
   pub now : Present

@@ -2,10 +2,11 @@
 use Rattle.std.specs.Prelude.{◌≡◌, ◌⊎◌, ℕ, ◌-◌, Bool, true, false, List, [], ◌∷◌, ◌++◌, Option, Result, Ok, Err}
 use Rattle.ktm_base.specs.Disk.{DiskState, MayLeave, IsSafe}
 use Rattle.ktm_journal.specs.Image.{HoldsLog, left_after}
-use Rattle.ktm_world.specs.Durable.{Durable, empty_state, stand}
+use Rattle.ktm_keys.specs.Durable.{Durable, empty_state, stand}
 use Rattle.ktm_world.specs.Outcome.{is_full}
 use Rattle.ktm_world.specs.Sizes.{log_size}
-use Rattle.ktm_world.specs.World.{Group, own_group, opened}
+use Rattle.ktm_world.specs.Logs.{Group}
+use Rattle.ktm_keys.specs.World.{own_group, opened}
 use Rattle.ktm_kernel.specs.declared.restart.RestartFault.{RestartFault}
 use Rattle.ktm_kernel.specs.declared.restart.RestartFault.TheVariants.{Down, Bad, Full, NoMemory}
 use Rattle.ktm_kernel.specs.Stands.{KernelState, KernelAt}

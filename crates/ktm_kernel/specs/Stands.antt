@@ -6,10 +6,12 @@ use Rattle.ktm_base.specs.Told.{Tells, IfTold, Goes}
 use Rattle.ktm_journal.specs.Image.{JournalState, JournalAt, HoldsLog, IsFormatted, StandsFor, left_after}
 use Rattle.ktm_world.specs.declared.command.Line.{Line}
 use Rattle.ktm_world.specs.declared.reply.Reply.{Reply}
-use Rattle.ktm_world.specs.Present.{Present}
-use Rattle.ktm_world.specs.Durable.{empty_state, stand, log_applies}
-use Rattle.ktm_world.specs.World.{World, Group, present, possible_logs, is_up, interrupted_restart, IsLawfulNow, IsLawful}
-use Rattle.ktm_world.specs.Transcript.{Step, Does}
+use Rattle.ktm_keys.specs.Present.{Present}
+use Rattle.ktm_keys.specs.Durable.{empty_state, stand, log_applies}
+use Rattle.ktm_keys.specs.World.{World, present, possible_logs, interrupted_restart, IsLawfulNow, IsLawful}
+use Rattle.ktm_world.specs.Logs.{Group, is_up}
+use Rattle.ktm_world.specs.Transcript.{Step}
+use Rattle.ktm_keys.specs.Transcript.{Does}
 
 -- what a machine is: what is so now, and its journal
 pub record KernelState : Type 0 where

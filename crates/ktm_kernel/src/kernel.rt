@@ -6,8 +6,9 @@ ghost use Rattle.ktm_base.specs.declared.refusal.Refusal.TheVariants.{MachineDow
 ghost use Rattle.ktm_world.specs.declared.command.Command.TheVariants.{CommitTransaction};
 ghost use Rattle.ktm_world.specs.declared.command.Line.TheVariants.{Crash, Process};
 ghost use Rattle.ktm_world.specs.declared.reply.Reply.TheVariants.{Refused, Done};
+ghost use Rattle.ktm_world.specs.Built.{is_built_command};
 ghost use Rattle.ktm_world.specs.Values.{IsCommand};
-ghost use Rattle.ktm_world.specs.World.{World};
+ghost use Rattle.ktm_keys.specs.World.{World};
 ghost use Rattle.ktm_kernel.specs.Done.{Ends, fallen};
 ghost use Rattle.ktm_kernel.specs.Stands.{KernelAt, DoesLine, IsPowered, IsReady};
 
@@ -65,6 +66,7 @@ impl Kernel {
     ) -> Result<Reply, NoMemory>
         requires ready { IsReady self.old (D.told disk.old) (D.status disk.old) }
         requires command { IsCommand command }
+        requires built { is_built_command command ≡ true }
         ensures does { IfOk result (λ reply. (w : World) → KernelAt self.old (D.told disk.old) w
             → DoesLine w (Some (Process process command)) reply self.new (D.told disk.new)) }
         ensures cause { IfOk result (λ reply. reply ≡ Refused MachineDown
@@ -89,6 +91,7 @@ impl Kernel {
         requires up { self.old.now.machine.is_up ≡ true }
         requires ready { IsReady self.old (D.told disk.old) (D.status disk.old) }
         requires command { IsCommand command }
+        requires built { is_built_command command ≡ true }
         ensures ends { IfOk result (λ reply. Ends (D.status disk.new).is_down self.old process command reply self.new (D.told disk.old) (D.told disk.new)) }
         ensures powered { OnOk result (IsPowered self.new (D.told disk.new) (D.status disk.new)) }
         ensures calls { OnOk result (DeviceCalls 4 (D.status disk.old) (D.status disk.new) (D.status disk.new).is_down) }
@@ -109,6 +112,7 @@ impl Kernel {
             Command::KvUnset { transaction, key } => self.state.kv_unset(process, transaction, key),
             Command::KvGet { view, key } => self.state.kv_get(self.alloc, process, view, &key),
             Command::KvList { view } => self.state.kv_list(self.alloc, process, view),
+            _ => unreachable!(),
         }
     }
 

@@ -8,8 +8,9 @@ ghost use Rattle.ktm_base.specs.Told.{IfTold, Tells};
 ghost use Rattle.ktm_base.specs.Disk.{DeviceCalls};
 ghost use Rattle.ktm_journal.specs.Bad.{IsBadAt};
 ghost use Rattle.ktm_journal.specs.Image.{IsHeaded, StandsFor};
-ghost use Rattle.ktm_world.specs.Durable.{Durable, events_apply};
-ghost use Rattle.ktm_world.specs.World.{World, Group, own_group};
+ghost use Rattle.ktm_keys.specs.Durable.{Durable, events_apply};
+ghost use Rattle.ktm_keys.specs.World.{World, own_group};
+ghost use Rattle.ktm_world.specs.Logs.{Group};
 ghost use Rattle.ktm_kernel.specs.Restarts.{HoldsBoth, Started, LeavesOwnOrNot, is_full_for_own, IfDown, IfFull, IfLoaded, IfBad, IfUnwritten, restart_went_down};
 ghost use Rattle.ktm_kernel.specs.Stands.{IsReady, FoundAt, DoesLine};
 
@@ -18,7 +19,8 @@ use crate::state::State;
 use ktm_base::{Disk, NoMemory, Refusal};
 use ktm_event::write_boot;
 use ktm_journal::{AppendFault, Journal, LoadFault, Loaded};
-use ktm_world::{Durable, Reply};
+use ktm_keys::Durable;
+use ktm_world::Reply;
 use std::alloc::Global;
 
 /// A machine that started.

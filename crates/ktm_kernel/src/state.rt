@@ -2,12 +2,13 @@
 ghost use Rattle.std.specs.Prelude.{◌≡◌, ◌||◌, ◌+◌, ◌-◌, ◌^◌, ◌<◌, ◌≤◌, true, Some, None, [], IfOk, IfErr, OnOk, is_some, length};
 ghost use Rattle.ktm_world.specs.declared.command.Command.TheVariants.{CreateTransaction, KvSet, KvUnset, KvGet, KvList};
 ghost use Rattle.ktm_world.specs.Handles.{no_handle_left};
-ghost use Rattle.ktm_world.specs.Transactions.{no_transaction_left};
+ghost use Rattle.ktm_keys.specs.Transactions.{no_transaction_left};
 ghost use Rattle.ktm_world.specs.Outcome.{first_refusal};
 ghost use Rattle.ktm_world.specs.Keys.{own_settings};
-ghost use Rattle.ktm_world.specs.Decide.{named, transaction_tests, view_tests, viewer, commit_events, commit_transaction};
+ghost use Rattle.ktm_keys.specs.Decide.{named, transaction_tests, view_tests, viewer, commit_events, commit_transaction};
 ghost use Rattle.ktm_world.specs.Sizes.{log_size};
-ghost use Rattle.ktm_world.specs.World.{apply, as_groups};
+ghost use Rattle.ktm_keys.specs.World.{apply};
+ghost use Rattle.ktm_world.specs.Logs.{as_groups};
 ghost use Rattle.ktm_kernel.specs.Memory.{fresh};
 ghost use Rattle.ktm_kernel.specs.Answered.{Answered, get_through};
 ghost use Rattle.ktm_kernel.specs.Done.{fallen};
@@ -17,9 +18,10 @@ use crate::transactions::{
     end_committed, is_aborted, is_active, is_committed, live_count, transaction_of,
 };
 use ktm_base::{Bytes, Id, Label, NoMemory, ObjectKind, Pid, Refusal, Text, guid};
+use ktm_keys::Durable;
 use ktm_world::{
-    Durable, Handle, Object, Phase, Reply, Setting, Transaction, TransactionOutcome, View,
-    is_bad_key, is_bad_value,
+    Handle, Object, Phase, Reply, Setting, Transaction, TransactionOutcome, View, is_bad_key,
+    is_bad_value,
 };
 use kv_rm::KvRm;
 use std::alloc::Global;
@@ -118,6 +120,7 @@ impl State {
             created: self.clock,
             phase: Phase::Active,
             outcome: TransactionOutcome::Undetermined,
+            is_recorded: false,
         })?;
         self.handles.push(Handle {
             process,

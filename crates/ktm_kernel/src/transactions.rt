@@ -1,6 +1,7 @@
 // The transactions of this boot.
 ghost use Rattle.std.specs.Prelude.{◌≡◌, not, count_by};
-ghost use Rattle.ktm_world.specs.Transactions.{transaction_at, change_at, is_live, is_active, is_committed, is_aborted, ended_committed};
+ghost use Rattle.ktm_world.specs.Transactions.{transaction_at, change_at, is_live, is_active, is_committed, is_aborted};
+ghost use Rattle.ktm_keys.specs.Transactions.{ended_committed};
 
 use ktm_base::Id;
 use ktm_world::{Phase, Transaction, TransactionOutcome};
@@ -28,8 +29,8 @@ fn is_live(t: &Transaction) -> bool
     ensures { result ≡ is_live t.now }
 {
     match t.phase {
-        Phase::Active => true,
         Phase::Ended => false,
+        _ => true,
     }
 }
 
@@ -38,7 +39,7 @@ pub fn is_active(t: &Transaction) -> bool
 {
     match t.phase {
         Phase::Active => true,
-        Phase::Ended => false,
+        _ => false,
     }
 }
 

@@ -1,1 +1,5 @@
+pub mod Refusals
+pub mod Kinds
+pub mod States
 pub mod Spelling
+pub mod Reading

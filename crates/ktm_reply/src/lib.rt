@@ -1,6 +1,18 @@
-//! The lines that the machine answers with: `ok` with what there is to tell, or the name of a refusal.
+//! The lines that the machine answers with: `ok` with what there is to tell, or the name of a refusal. They are written
+//! and read.
 #![tactic(auto)]
 
-mod reply;
+mod fault;
+mod information;
+mod notification;
+mod read;
+mod refusal;
+#[cfg(test)]
+mod tests;
+mod texts;
+mod word;
+mod write;
 
-pub use reply::write_reply;
+pub use fault::ReplyFault;
+pub use read::{law_of_round_trip, read_reply};
+pub use write::write_reply;

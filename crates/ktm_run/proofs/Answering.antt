@@ -22,9 +22,11 @@ use Rattle.ktm_world.specs.declared.command.Line.{Line}
 use Rattle.ktm_world.specs.declared.command.Line.TheVariants.{Crash, Restart, Process}
 use Rattle.ktm_world.specs.declared.reply.Reply.{Reply}
 use Rattle.ktm_world.specs.declared.reply.Reply.TheVariants.{Refused, Done}
-use Rattle.ktm_world.specs.Present.{Present}
-use Rattle.ktm_world.specs.Transcript.{Step, answered, interrupted, found, full, CrashDoes, Does}
-use Rattle.ktm_world.specs.World.{World, present, is_up, interrupted_restart}
+use Rattle.ktm_keys.specs.Present.{Present}
+use Rattle.ktm_world.specs.Transcript.{Step, answered, interrupted, found, full}
+use Rattle.ktm_keys.specs.Transcript.{CrashDoes, Does}
+use Rattle.ktm_keys.specs.World.{World, present, interrupted_restart}
+use Rattle.ktm_world.specs.Logs.{is_up}
 
 -- what is so now of a machine that stands for a world
 now_of : (b : Bool) (k : KernelState) (told : Option DiskState) (w : World) → StandsBy b k told w → k.now ≡ present w

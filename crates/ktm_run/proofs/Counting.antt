@@ -5,11 +5,12 @@ use Rattle.ktm_base.specs.declared.power.PowerCall.{PowerCall}
 use Rattle.ktm_run.specs.Plan.{plan_of, plans, falls_of, falls, RoseBy, most_calls}
 use Rattle.ktm_run.specs.Progress.{Scene, Counts}
 use Rattle.ktm_world.specs.declared.command.Line.{Line}
-use Rattle.ktm_world.specs.declared.command.Line.TheVariants.{Cut, Crash, Restart, Process}
+use Rattle.ktm_world.specs.declared.command.Line.TheVariants.{Tick, Cut, Crash, Restart, Process}
 use Rattle.ktm_world.specs.declared.reply.Reply.{Reply}
-use Rattle.ktm_world.specs.Durable.{Durable}
-use Rattle.ktm_world.specs.Transcript.{Step, answered, interrupted, found, full, CrashDoes, Does, Transcript}
-use Rattle.ktm_world.specs.World.{World}
+use Rattle.ktm_keys.specs.Durable.{Durable}
+use Rattle.ktm_world.specs.Transcript.{Step, answered, interrupted, found, full}
+use Rattle.ktm_keys.specs.Transcript.{CrashDoes, Does, Transcript}
+use Rattle.ktm_keys.specs.World.{World}
 
 pub RoseBy-none : (a b : ℕ) → a ≤ b → RoseBy 0 a b
 RoseBy-none a b h = omega arith
@@ -45,6 +46,10 @@ does_keeps_base w (Some (Process process command)) answered reply mid (says, is)
 does_keeps_base w (Some (Process process command)) interrupted reply mid (on, says, is) = ap (λ v. v.base) is
 does_keeps_base w (Some (Process process command)) (found log) reply mid none = absurd none
 does_keeps_base w (Some (Process process command)) (full log) reply mid none = absurd none
+does_keeps_base w (Some (Tick ms)) answered reply mid (says, is) = ap (λ v. v.base) is
+does_keeps_base w (Some (Tick ms)) interrupted reply mid none = absurd none
+does_keeps_base w (Some (Tick ms)) (found log) reply mid none = absurd none
+does_keeps_base w (Some (Tick ms)) (full log) reply mid none = absurd none
 does_keeps_base w (Some (Cut calls)) answered reply mid (says, is) = ap (λ v. v.base) is
 does_keeps_base w (Some (Cut calls)) interrupted reply mid none = absurd none
 does_keeps_base w (Some (Cut calls)) (found log) reply mid none = absurd none

@@ -11,11 +11,13 @@ use Rattle.ktm_journal.proofs.OneImage.{not_bad}
 use Rattle.ktm_kernel.specs.Restarts.{HoldsBoth, Started, base_of, is_full_for_own}
 use Rattle.ktm_kernel.specs.Stands.{KernelState, KernelAt}
 use Rattle.ktm_run.specs.Opening.{Prepared}
-use Rattle.ktm_run.specs.Theorem.{Begins, BeginsAs, BeginsWith, RunCounts}
-use Rattle.ktm_world.specs.Durable.{Durable, empty_state}
+use Rattle.ktm_run.specs.KeyTheorem.{Begins, BeginsAs, BeginsWith}
+use Rattle.ktm_run.specs.Theorem.{RunCounts}
+use Rattle.ktm_keys.specs.Durable.{Durable, empty_state}
 use Rattle.ktm_world.specs.Outcome.{is_full}
 use Rattle.ktm_world.specs.Sizes.{log_size}
-use Rattle.ktm_world.specs.World.{Group, opened, own_group}
+use Rattle.ktm_world.specs.Logs.{Group}
+use Rattle.ktm_keys.specs.World.{opened, own_group}
 
 -- all of the disk is safe, and it holds groups that come to the state and leave the room
 pub record IsBase (base : Durable) (room : ℕ) (s : DiskState) : Type 0 where

@@ -12,15 +12,16 @@ use Rattle.ktm_run.specs.declared.status.Status.{Status}
 use Rattle.ktm_run.specs.declared.status.Status.TheVariants.{Done, Usage, SourceFault, SinkFault, NoMemory, BadImage, DiskFault, ScriptTooLong, LogFull}
 use Rattle.ktm_run.specs.Progress.{Scene, Now, Counts, Progress, Stops}
 use Rattle.ktm_run.specs.Script.{cut_lines, lines_from, most_script}
-use Rattle.ktm_run.specs.Theorem.{Outside, RunCounts, Replied, EndedBetween, EndedWithin, EndedEarly, RunTheorem}
-use Rattle.ktm_world.specs.Durable.{Durable}
+use Rattle.ktm_run.specs.KeyTheorem.{Replied, EndedBetween, EndedWithin, EndedEarly, RunTheorem}
+use Rattle.ktm_run.specs.Theorem.{Outside, RunCounts}
+use Rattle.ktm_keys.specs.Durable.{Durable}
 use Rattle.ktm_world.specs.Outcome.{is_full}
-use Rattle.ktm_world.specs.World.{opened, own_group}
+use Rattle.ktm_keys.specs.World.{opened, own_group}
 
 few_lines : (a b c n x : ℕ) → b ≤ a + (0 + 4) * x → c ≤ b + n * x → c ≤ a + (n + 4) * x
 few_lines a b c n x h k = rw (add-mul n 4 x) (omega arith)
 
-all_counts : (base : Durable) (room : ℕ) (old : DiskStatus) (first last : Scene) (n : ℕ) (plan : List PowerCall) (fell : ℕ) → RunCounts base.units old first.status 0 [] 0
+pub all_counts : (base : Durable) (room : ℕ) (old : DiskStatus) (first last : Scene) (n : ℕ) (plan : List PowerCall) (fell : ℕ) → RunCounts base.units old first.status 0 [] 0
     → Counts (opened base room []) first last n plan fell → RunCounts base.units old last.status n plan fell
 all_counts base room old first last n plan fell opening counts = record {
   rose = omega (arith, opening.rose, counts.rose);

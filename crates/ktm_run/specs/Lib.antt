@@ -4,4 +4,5 @@ pub mod Status
 pub mod Plan
 pub mod Progress
 pub mod Theorem
+pub mod KeyTheorem
 pub mod Opening

@@ -4,7 +4,7 @@ use Rattle.ktm_base.specs.declared.power.PowerCall.{PowerCall}
 use Rattle.ktm_base.specs.declared.power.PowerCall.TheVariants.{Arm, Off, Power}
 use Rattle.ktm_base.specs.declared.refusal.Refusal.TheVariants.{MachineUp}
 use Rattle.ktm_world.specs.declared.command.Line.{Line}
-use Rattle.ktm_world.specs.declared.command.Line.TheVariants.{Cut, Crash, Restart, Process}
+use Rattle.ktm_world.specs.declared.command.Line.TheVariants.{Tick, Cut, Crash, Restart, Process}
 use Rattle.ktm_world.specs.declared.reply.Reply.{Reply}
 use Rattle.ktm_world.specs.declared.reply.Reply.TheVariants.{Refused, Done}
 use Rattle.ktm_world.specs.Transcript.{Step, answered, interrupted, found, full}
@@ -24,6 +24,7 @@ was_up other = false
 abbrev pub plan_of : Option Line → Reply → List PowerCall
 plan_of None reply = []
 plan_of (Some (Process process command)) reply = []
+plan_of (Some (Tick ms)) reply = []
 plan_of (Some (Cut calls)) reply = Arm calls ∷ []
 plan_of (Some Crash) reply = if is_done reply then Off ∷ [] else []
 plan_of (Some (Restart pick)) reply = if was_up reply then [] else Power pick ∷ []
@@ -38,6 +39,7 @@ plans (line ∷ lines) (reply ∷ replies) = plan_of line reply ++ plans lines r
 abbrev pub falls_of : Option Line → Step → Reply → ℕ
 falls_of line interrupted reply = 1
 falls_of (Some Crash) answered reply = if is_done reply then 1 else 0
+falls_of (Some (Tick ms)) answered reply = 0
 falls_of (Some (Cut calls)) answered reply = 0
 falls_of (Some (Restart pick)) answered reply = 0
 falls_of (Some (Process process command)) answered reply = 0

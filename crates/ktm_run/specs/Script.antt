@@ -1,9 +1,10 @@
 -- The lines of a script, what they mean, and how replies are written.
-use Rattle.std.specs.Prelude.{◌≡◌, ℕ, ◌+◌, ◌==◌, Bool, false, not, List, [], ◌∷◌, ◌++◌, Option, Some, None, take, if◌then◌else◌}
+use Rattle.std.specs.Prelude.{◌≡◌, ℕ, ◌+◌, ◌==◌, Bool, true, false, not, List, [], ◌∷◌, ◌++◌, Option, Some, None, take, if◌then◌else◌}
 use Rattle.std.specs.List.{filter, flat_map}
 use Rattle.std.specs.Io.KnownBytes.{Appends}
 use Rattle.ktm_reply.specs.Spelling.{reply_spelling}
 use Rattle.ktm_script.specs.Spelling.{IsLine, most_bytes, spelling}
+use Rattle.ktm_world.specs.Built.{is_built}
 use Rattle.ktm_world.specs.declared.command.Line.{Line}
 use Rattle.ktm_world.specs.declared.reply.Reply.{Reply}
 
@@ -39,10 +40,10 @@ abbrev pub has_reply : List ℕ → Bool
 has_reply [] = false
 has_reply (byte ∷ bytes) = not (byte == number_sign)
 
--- the bytes spell this line, or no line that there is
+-- the bytes spell this line, which is built, or no line that is built
 abbrev pub Means : List ℕ → Option Line → Type 0
-Means bytes (Some line) = IsLine line × (spelling line ≡ bytes)
-Means bytes None = (line : Line) → IsLine line → ¬ (spelling line ≡ bytes)
+Means bytes (Some line) = IsLine line × (is_built line ≡ true) × (spelling line ≡ bytes)
+Means bytes None = (line : Line) → IsLine line → is_built line ≡ true → ¬ (spelling line ≡ bytes)
 
 -- each of the first means its own of the second
 abbrev pub MeanAll : List (List ℕ) → List (Option Line) → Type 0

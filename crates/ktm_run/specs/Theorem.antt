@@ -1,24 +1,27 @@
--- What a run of a script comes to, and why one was not done.
-use Rattle.std.specs.Prelude.{◌≡◌, ◌⊎◌, ℕ, ◌+◌, ◌*◌, ◌≤◌, IsTrue, true, false, List, [], ◌∷◌, ◌++◌, length, take, Option}
+-- What a run of a script comes to, and what stands where one ended early.
+use Rattle.std.specs.Prelude.{◌≡◌, ◌⊎◌, ℕ, ◌+◌, ◌*◌, ◌≤◌, IsTrue, true, false, List, [], ◌∷◌, ◌++◌, length, take, Option, Some, Contains}
 use Rattle.std.specs.List.{filter}
 use Rattle.std.specs.Io.KnownBytes.{Appends, Consumes, IsAtEnd, Keeps}
 use Rattle.ktm_base.specs.declared.power.PowerCall.{PowerCall}
+use Rattle.ktm_base.specs.declared.power.PowerCall.TheVariants.{Power}
 use Rattle.ktm_base.specs.Count.{Rose}
 use Rattle.ktm_base.specs.Disk.{DiskState, DiskStatus, MayLeave, IsSafe}
 use Rattle.ktm_base.specs.Told.{Tells}
 use Rattle.ktm_journal.specs.Image.{HoldsLog, left_after}
-use Rattle.ktm_kernel.specs.Stands.{LeavesStates}
-use Rattle.ktm_run.specs.Plan.{plans, falls, RoseBy, most_calls}
-use Rattle.ktm_run.specs.Progress.{Now, Scene, Ran, Stopped}
-use Rattle.ktm_run.specs.Script.{has_reply, cut_lines, lines_from, MeanAll, written_replies, most_script}
+use Rattle.ktm_world.specs.Durable.{Durable, empty_state, stand}
+use Rattle.ktm_world.specs.Transcript.{Does, Transcript, Step}
+use Rattle.ktm_world.specs.World.{World, opened, own_group, possible_logs}
+use Rattle.ktm_run.specs.Plan.{plan_of, plans, falls_of, falls, RoseBy, most_calls}
+use Rattle.ktm_run.specs.Script.{has_reply, cut_lines, lines_from, Means, MeanAll, AppendsPart, reply_line, written_replies, most_script}
 use Rattle.ktm_run.specs.declared.status.Status.{Status}
 use Rattle.ktm_run.specs.declared.status.Status.TheVariants.{Done, Usage, SourceFault, SinkFault, NoMemory, BadImage, DiskFault, ScriptTooLong, LogFull}
 use Rattle.ktm_world.specs.declared.command.Line.{Line}
+use Rattle.ktm_world.specs.declared.command.Line.TheVariants.{Restart}
 use Rattle.ktm_world.specs.declared.reply.Reply.{Reply}
-use Rattle.ktm_world.specs.Durable.{Durable, empty_state, stand}
 use Rattle.ktm_world.specs.Outcome.{is_full}
-use Rattle.ktm_world.specs.Transcript.{Step, Transcript}
-use Rattle.ktm_world.specs.World.{World, Group, opened, own_group}
+use Rattle.ktm_world.specs.Logs.{Group, is_up}
+
+-- ---- what a run begins from
 
 -- an image that stands for this state, with so many bytes of its log left
 pub record BeginsWith (base : Durable) (room : ℕ) (image : List ℕ) : Type 0 where
@@ -36,12 +39,35 @@ BeginsAs base room (byte ∷ image) = BeginsWith base room (byte ∷ image)
 abbrev pub Begins : Durable → ℕ → DiskState → Type 0
 Begins base room s = IsSafe s × BeginsAs base room s.seen
 
--- the outside at a moment: what the source has left, what the sink took, and what the disk tells and counts
+-- ---- what a disk may leave
+
+-- the image stands for this durable state: it is what the groups of its log come to
+pub record StandsFor (state : Durable) (image : List ℕ) : Type 0 where
+  pub log : List Group
+  pub holds : HoldsLog state.units state.image log image
+  pub comes_to : state ≡ stand (empty_state state.units state.image) log
+
+-- each image that a loss of power may leave stands for the state that one of the possible logs comes to
+abbrev pub LeavesStates : World → DiskState → Type 0
+LeavesStates w s = (image : List ℕ) → MayLeave s image → (log : List Group) × Contains (possible_logs w) log × StandsFor (stand w.base log) image
+
+-- ---- the run
+
+-- what the sink took, and what the disk tells and counts
+pub record Moment : Type 0 where
+  pub taken : Option (List ℕ)
+  pub disk : Option DiskState
+  pub status : DiskStatus
+
+-- the outside: that, and what the source has left
 pub record Outside : Type 0 where
   pub left : Option (List ℕ)
   pub taken : Option (List ℕ)
   pub disk : Option DiskState
   pub status : DiskStatus
+
+abbrev pub moment_of : Outside → Moment
+moment_of o = record { taken = o.taken; disk = o.disk; status = o.status }
 
 -- the disk's counts over so many lines that had this plan and took the disk down so often, the opening among them
 pub record RunCounts (units : ℕ) (old new : DiskStatus) (lines : ℕ) (plan : List PowerCall) (fell : ℕ) : Type 0 where
@@ -49,9 +75,15 @@ pub record RunCounts (units : ℕ) (old new : DiskStatus) (lines : ℕ) (plan : 
   pub plan_is : new.plan ≡ old.plan ++ plan
   pub few : new.calls ≤ old.calls + (lines + 4) * most_calls units
 
+-- and over so many lines of a run that was opened before
+pub record LineCounts (units : ℕ) (old new : DiskStatus) (lines : ℕ) (plan : List PowerCall) (fell : ℕ) : Type 0 where
+  pub rose : RoseBy fell old.downs new.downs
+  pub plan_is : new.plan ≡ old.plan ++ plan
+  pub few : new.calls ≤ old.calls + lines * most_calls units
+
 -- lines of a script were answered by a run that began so: their replies are those of a transcript, and were written, each in a
 -- line of its own
-pub record Replied (base : Durable) (room : ℕ) (old new : Outside) (lines : List (List ℕ)) : Type 0 where
+pub record Replied (base : Durable) (room : ℕ) (old new : Moment) (lines : List (List ℕ)) : Type 0 where
   pub meant : List (Option Line)
   pub steps : List Step
   pub replies : List Reply
@@ -75,26 +107,50 @@ pub record RunTheorem (base : Durable) (room : ℕ) (old new : Outside) : Type 0
   pub within : length script ≤ most_script
   -- the log had room for the opening
   pub room_left : is_full room (own_group base) ≡ false
-  pub replied : Replied base room old new (cut_lines script)
+  pub replied : Replied base room (moment_of old) (moment_of new) (cut_lines script)
+
+-- ---- a run that ended early
 
 -- the script so far, of which all lines that ended were answered
 pub record EndedBetween (base : Durable) (room : ℕ) (old new : Outside) (script lines : List ℕ) : Type 0 where
   pub was_read : Consumes old.left new.left script
   pub room_left : is_full room (own_group base) ≡ false
-  pub replied : Replied base room old new (lines_from [] lines)
+  pub replied : Replied base room (moment_of old) (moment_of new) (lines_from [] lines)
 
--- the script so far, in one of whose lines the run ended
+-- a line was not executed, or it was a restart that found no memory: nothing of a reply was written, and what may be left is of the
+-- same world
+pub record Unanswered (w : World) (old new : Moment) (line : List ℕ) : Type 0 where
+  pub wrote : Appends old.taken new.taken []
+  pub leaves : Tells new.disk (LeavesStates w)
+  pub counts : LineCounts w.base.units old.status new.status 1 [] 0
+      ⊎ ((pick : ℕ) × Means line (Some (Restart pick)) × (is_up w.power ≡ false) × LineCounts w.base.units old.status new.status 1 (Power pick ∷ []) 0)
+
+-- a line was answered, and a part of its reply was written
+pub record HalfWritten (w : World) (old new : Moment) (line : List ℕ) : Type 0 where
+  pub meant : Option Line
+  pub mean : Means line meant
+  pub step : Step
+  pub reply : Reply
+  pub world : World
+  pub does : Does w meant step reply world
+  pub wrote : AppendsPart old.taken new.taken (reply_line reply)
+  pub counts : LineCounts w.base.units old.status new.status 1 (plan_of meant reply) (falls_of meant step reply)
+  pub leaves : Tells new.disk (LeavesStates world)
+
+-- the script so far: its first lines were answered, and at the next one the run ended
 pub record EndedWithin (base : Durable) (room : ℕ) (old new : Outside) : Type 0 where
   pub script : List ℕ
   pub was_read : Consumes old.left new.left script
   pub not_longer : length script ≤ most_script + 1
   pub room_left : is_full room (own_group base) ≡ false
-  pub first : Scene
-  pub last : Scene
-  pub disk_is : last.disk ≡ new.disk
-  pub status_is : last.status ≡ new.status
-  pub opening : RunCounts base.units old.status first.status 0 [] 0
-  pub stopped : Stopped (opened base room []) (record { scene = first; taken = old.taken }) (record { scene = last; taken = new.taken }) (cut_lines (take most_script script))
+  pub before : List (List ℕ)
+  pub line : List ℕ
+  pub behind : List (List ℕ)
+  pub split : cut_lines (take most_script script) ≡ before ++ line ∷ behind
+  -- the moment before that line
+  pub at : Moment
+  pub replied : Replied base room (moment_of old) at before
+  pub broke : Unanswered replied.world at (moment_of new) line ⊎ HalfWritten replied.world at (moment_of new) line
 
 -- the machine was not started, no line was read, and what the disk holds may begin the same run
 pub record NotOpened (base : Durable) (room : ℕ) (old new : Outside) : Type 0 where

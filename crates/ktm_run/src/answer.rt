@@ -1,18 +1,32 @@
 // What the machine answers to a line.
-ghost use Rattle.std.specs.Prelude.{◌≡◌, ◌<◌, ◌≤◌, List, Some, None, ℕ, Option, IfOk, OnOk, OnErr};
+ghost use Rattle.std.specs.Prelude.{◌≡◌, ◌<◌, ◌≤◌, true, List, Some, None, ℕ, Option, Err, IfOk, OnOk, OnErr};
 ghost use Rattle.ktm_kernel.specs.Stands.{KernelAt, IsReady};
 ghost use Rattle.ktm_run.specs.Progress.{Answers, Unanswered};
 ghost use Rattle.ktm_run.specs.Script.{Means};
+ghost use Rattle.ktm_world.specs.Built.{is_built_command};
 ghost use Rattle.ktm_world.specs.Values.{IsCommand};
-ghost use Rattle.ktm_world.specs.World.{World};
+ghost use Rattle.ktm_keys.specs.World.{World};
 ghost use Rattle.ktm_world.specs.declared.command.Line.{Line};
 ghost use Rattle.ktm_world.specs.declared.command.Line.TheVariants.{Cut, Crash, Restart, Process};
 
 use ktm_base::{Down, NoMemory, Pid, PowerDisk, Refusal};
 use ktm_kernel::Kernel;
 use ktm_script::{LineFault, read_line};
-use ktm_world::{Command, Line, Reply};
+use ktm_world::{Command, Line, Reply, is_built};
 use std::alloc::Global;
+
+// The line that the bytes spell, where it is built.
+fn built_line(alloc: Global, line: &[u8]) -> Result<Line, LineFault>
+    ensures ok { IfOk result (λ x. Means line.now (Some x)) }
+    ensures bad { result ≡ Err LineFault.BadLine → Means line.now None }
+{
+    let line = read_line(alloc, line)?;
+    if is_built(&line) {
+        Ok(line)
+    } else {
+        Err(LineFault::BadLine)
+    }
+}
 
 // A process calls the system.
 fn call<D: PowerDisk>(
@@ -23,6 +37,7 @@ fn call<D: PowerDisk>(
 ) -> Result<Reply, NoMemory>
     requires ready { IsReady kernel.old (D.told disk.old) (D.status disk.old) }
     requires command { IsCommand command }
+    requires built { is_built_command command ≡ true }
     ensures does { IfOk result (λ reply. Answers (record { machine = kernel.old; disk = D.told disk.old; status = D.status disk.old }) (record { machine = kernel.new; disk = D.told disk.new; status = D.status disk.new }) (Some (Process process command)) reply) }
     ensures ready { OnOk result (IsReady kernel.new (D.told disk.new) (D.status disk.new)) }
     ensures no_memory { OnErr result ((line : List ℕ) (w : World) → KernelAt kernel.old (D.told disk.old) w → Unanswered w (record { machine = kernel.old; disk = D.told disk.old; status = D.status disk.old }) (record { machine = kernel.new; disk = D.told disk.new; status = D.status disk.new }) line) }
@@ -92,12 +107,16 @@ pub fn answer<D: PowerDisk>(
     ensures ready { OnOk result (IsReady kernel.new (D.told disk.new) (D.status disk.new)) }
     ensures no_memory { OnErr result ((w : World) → KernelAt kernel.old (D.told disk.old) w → Unanswered w (record { machine = kernel.old; disk = D.told disk.old; status = D.status disk.old }) (record { machine = kernel.new; disk = D.told disk.new; status = D.status disk.new }) line.now) }
 {
-    match read_line(alloc, line) {
-        Ok(Line::Process(process, command)) => call(kernel, disk, process, command),
-        Ok(Line::Cut(calls)) => Ok(cut(kernel, disk, calls)),
-        Ok(Line::Crash) => Ok(crash(kernel, disk)),
-        Ok(Line::Restart(pick)) => restart(kernel, disk, pick),
-        Err(LineFault::BadLine) => Ok(Reply::Refused(Refusal::BadLine)),
-        Err(LineFault::NoMemory) => Err(NoMemory),
+    let meant = match built_line(alloc, line) {
+        Ok(meant) => meant,
+        Err(LineFault::BadLine) => return Ok(Reply::Refused(Refusal::BadLine)),
+        Err(LineFault::NoMemory) => return Err(NoMemory),
+    };
+    match meant {
+        Line::Process(process, command) => call(kernel, disk, process, command),
+        Line::Cut(calls) => Ok(cut(kernel, disk, calls)),
+        Line::Crash => Ok(crash(kernel, disk)),
+        Line::Restart(pick) => restart(kernel, disk, pick),
+        Line::Tick(_) => unreachable!(),
     }
 }

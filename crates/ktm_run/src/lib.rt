@@ -4,6 +4,7 @@
 mod answer;
 mod fault;
 mod form;
+mod image;
 mod line;
 mod open;
 mod program;

@@ -1,9 +1,8 @@
 // The program.
-ghost use Rattle.std.specs.Prelude.{◌≡◌, ◌⊎◌, ◌<◌, ◌≤◌, ℕ, [], length, map, true, false, OnOk};
+ghost use Rattle.std.specs.Prelude.{◌≡◌, ◌⊎◌, ◌<◌, ◌≤◌, ℕ, [], length, map, true, false};
 ghost use Rattle.std.specs.Io.KnownBytes.{Appends};
 ghost use Rattle.std.specs.String.{string_bytes};
 ghost use Rattle.ktm_base.specs.Count.{Rose};
-ghost use Rattle.ktm_base.specs.Stream.{Faults};
 ghost use Rattle.ktm_base.specs.Told.{IfTold, Tells};
 ghost use Rattle.ktm_journal.specs.Bad.{IsBadAt};
 ghost use Rattle.ktm_run.specs.Form.{is_run, usage_line, bad_image_line};
@@ -12,67 +11,12 @@ ghost use Rattle.ktm_run.specs.Script.{most_script};
 ghost use Rattle.ktm_run.specs.Theorem.{Begins, BeginsAs, EndedEarly, WentDown};
 ghost use Rattle.ktm_world.specs.Durable.{Durable};
 
-use crate::fault::OpenFault;
 use crate::form::is_run_form;
-use crate::line::MOST_KEPT;
-use crate::open::open_kernel;
-use crate::script::run_script;
+use crate::image::run_image;
 use crate::status::Status;
-use crate::write::{write_all, write_line};
+use crate::write::write_line;
 use ktm_base::{Failed, PowerDisk, Sink, Source};
 use std::alloc::Global;
-
-// Says at which offset the image is bad.
-fn write_bad_image<K: Sink>(sink: &mut K, offset: u64) -> Result<(), Failed>
-    ensures ok { OnOk result (Appends (K.taken sink.old) (K.taken sink.new) (bad_image_line offset)) }
-    ensures faults { Faults (K.faults sink.old) (K.faults sink.new) result }
-{
-    if let Err(Failed) = write_all(sink, b"bad image at ") {
-        return Err(Failed);
-    }
-    let mut digits = itoa::Buffer::new();
-    if let Err(Failed) = write_line(sink, digits.format(offset).as_bytes()) {
-        return Err(Failed);
-    }
-    Ok(())
-}
-
-// Runs the script on the image.
-fn run_image<S: Source, K: Sink, D: PowerDisk>(
-    alloc: Global,
-    source: &mut S,
-    sink: &mut K,
-    disk: &mut D,
-) -> Status
-    requires { (D.status disk.old).pending ≡ 0 }
-    ensures run { (base : Durable) (room : ℕ) → Tells (D.told disk.old) (Begins base room)
-        → EndedEarly result base room (record { left = S.left source.old; taken = K.taken sink.old; disk = D.told disk.old; status = D.status disk.old }) (record { left = S.left source.new; taken = K.taken sink.new; disk = D.told disk.new; status = D.status disk.new }) }
-    ensures source { result ≡ Status.SourceFault → Rose (S.faults source.old) (S.faults source.new) }
-    ensures sink { result ≡ Status.SinkFault → Rose (K.faults sink.old) (K.faults sink.new) }
-    ensures bad_image { result ≡ Status.BadImage → (offset : ℕ) × Appends (K.taken sink.old) (K.taken sink.new) (bad_image_line offset)
-        × IfTold (D.told disk.old) (λ s. (0 < length s.seen) × IsBadAt s.seen offset) }
-    ensures opens { IfOpenedBy result (IfTold (D.told disk.old) (λ s. (base : Durable) × (room : ℕ) × BeginsAs base room s.seen)) }
-    ensures disk { result ≡ Status.DiskFault → WentDown (D.status disk.old) (D.status disk.new) × ((D.status disk.new).plan ≡ (D.status disk.old).plan) }
-    ensures too_long { result ≡ Status.ScriptTooLong → IfTold (S.left source.old) (λ bytes. most_script < length bytes) }
-    ensures not_usage { result ≡ Status.Usage → ⊥ }
-{
-    let Ok(mut kept) = Vec::with_capacity(alloc, MOST_KEPT) else {
-        return Status::NoMemory;
-    };
-    let mut kernel = match open_kernel(alloc, disk) {
-        Ok(kernel) => kernel,
-        Err(OpenFault::BadImage(offset)) => {
-            if let Err(Failed) = write_bad_image(sink, offset) {
-                return Status::SinkFault;
-            }
-            return Status::BadImage;
-        }
-        Err(OpenFault::Down) => return Status::DiskFault,
-        Err(OpenFault::Full) => return Status::LogFull,
-        Err(OpenFault::NoMemory) => return Status::NoMemory,
-    };
-    run_script(alloc, &mut kernel, source, sink, disk, &mut kept)
-}
 
 /// The program: its words are those behind its name, the source is the script, the sink is where the replies go, and the
 /// disk is the image. So far the words are `run IMAGE SCRIPT`. A disk without a byte becomes a new image.

@@ -1,207 +1,173 @@
 -- What is read as a command is spelled so, and what is spelled so is read.
-use Rattle.std.proofs.Common.{◌≡◌, ℕ, ◌^◌, ◌<◌, ◌≤◌, List, [], ◌++◌, Some, None, codes, refl, sym, ◌∙◌, ap, subst, arith, lit<}
-use Rattle.std.proofs.lemmas.List.{append-nil}
-use Rattle.std.proofs.lemmas.Option.{same_Some}
-use Rattle.std.specs.Fmt.{decimal}
+use Rattle.std.proofs.Common.{◌≡◌, ℕ, true, List, [], ◌∷◌, ◌++◌, Option, Some, codes, refl, ◌∙◌, ap, subst, arith, lit<, append_assoc}
 use Rattle.ktm_base.specs.declared.id.Label.{Label}
-use Rattle.ktm_codec.proofs.HexLemmas.{unhex_or_dash_is, unhex_or_dash_again}
-use Rattle.ktm_codec.proofs.WordLemmas.{after_word_is, after_word_again}
-use Rattle.ktm_base.specs.Bytes.{AreBytes}
-use Rattle.ktm_codec.specs.Hex.{hex_or_dash, unhex_or_dash}
-use Rattle.ktm_codec.specs.Word.{after_word}
 use Rattle.ktm_world.specs.declared.command.Command.{Command}
-use Rattle.ktm_world.specs.declared.command.Command.TheVariants.{CreateTransaction, CommitTransaction, KvSet, KvUnset, KvGet, KvList}
-use Rattle.ktm_world.specs.declared.command.View.{View}
-use Rattle.ktm_world.specs.Values.{IsText, IsLabel, IsView, IsCommand}
-use Rattle.ktm_script.specs.Reading.{label_at, view_at, quoted_at, last_number_at, last_text_at, create_at, commit_at, set_parts_at, set_at, unset_at, get_at, list_at, command_at}
-use Rattle.ktm_script.specs.Spelling.{label_spelling, view_spelling, quoted, command_spelling}
-use Rattle.ktm_script.proofs.PartLemmas.{label_is, label_again, view_is, view_again, quoted_is, quoted_again, last_number_is, last_number_again, last_text_is, last_text_again}
-use Rattle.ktm_script.proofs.Steps.{bind_some, at_end_is, on_word_some, regroup₄, regroup₆}
+use Rattle.ktm_world.specs.declared.command.Command.TheVariants.{CreateTransaction, OpenTransaction, CommitTransaction, RollbackTransaction, GetTransactionInformation, CreateResourceManager, OpenResourceManager, RecoverResourceManager, GetNotificationResourceManager, CreateEnlistment, OpenEnlistment, RecoverEnlistment, PrePrepareComplete, PrepareComplete, ReadOnlyEnlistment, CommitComplete, RollbackComplete, SinglePhaseReject, RollbackEnlistment, PrePrepareEnlistment, PrepareEnlistment, CommitEnlistment, SetEnlistmentRecoveryInformation, GetEnlistmentRecoveryInformation, CreateFile, CreateFileTransacted, ReadFile, WriteFile, SetEndOfFile, GetFileSizeEx, FlushFileBuffers, DeleteFile, CreateDirectory, RemoveDirectory, MoveFile, DeleteFileTransacted, CreateDirectoryTransacted, RemoveDirectoryTransacted, MoveFileTransacted, FindFiles, FindFilesTransacted, KvSet, KvUnset, KvGet, KvList, CloseHandle, DuplicateHandle, Exit}
+use Rattle.ktm_world.specs.declared.options.Access.{Access}
+use Rattle.ktm_world.specs.declared.options.Disposition.{Disposition}
+use Rattle.ktm_world.specs.declared.options.ShareMode.{ShareMode}
+use Rattle.ktm_world.specs.Values.{IsCommand}
+use Rattle.ktm_script.specs.declared.form.Form.{Form}
+use Rattle.ktm_script.specs.declared.form.Form.TheVariants as form
+use Rattle.ktm_script.specs.Reading.{made, whole, form_name, form_at, arguments_at, command_at}
+use Rattle.ktm_script.specs.Spelling.{space, ◌␣◌, label_spelling, access_spelling, share_spelling, disposition_spelling, command_spelling}
+use Rattle.ktm_codec.specs.Quoted.{quoted}
+use Rattle.ktm_script.proofs.PartLemmas.{reads_number, reads_process, reads_label, reads_view, reads_size, reads_text, reads_guid, reads_bytes, reads_durability, reads_form, reads_kind_in_transaction, reads_modes}
+use Rattle.ktm_script.proofs.Readers.{Reads, ends_part, spaced, both, whole_is, whole_again}
+use Rattle.ktm_script.proofs.Steps.{bind_some, map_some, at_end_is}
 
--- a command of the grammar, and its spelling behind its word
-record Read (word text : List ℕ) (c : Command) : Type 0 where
+-- a command of the grammar, and its spelling by its name and what stands behind that
+record Read (name text : List ℕ) (c : Command) : Type 0 where
   pub valid : IsCommand c
-  pub spelled : word ++ text ≡ command_spelling c
+  pub spelled : name ++ text ≡ command_spelling c
 
-create_is : (text : List ℕ) (c : Command) → create_at text ≡ Some c → Read (codes "CreateTransaction ") text c
-unfolding create_at
-create_is text c e = bind_some _ (label_at text) c e (λ l f g.
-    bind_some _ (after_word (codes " ") l.1) c g (λ digits h k.
-    bind_some _ (last_number_at 0xFFFF_FFFF digits) c k (λ n m whole.
-    let first = label_is text l.0 l.1 f in
-    let second = after_word_is (codes " ") l.1 digits h in
-    let third = last_number_is 0xFFFF_FFFF digits n (lit< tt) m in
-    let behind : text ≡ label_spelling l.0 ++ (codes " " ++ decimal n) = first.1 ∙ ap (λ (xs : List ℕ). label_spelling l.0 ++ xs) (second ∙ ap (λ (xs : List ℕ). codes " " ++ xs) third.1) in
-    subst (Read (codes "CreateTransaction ") text) (same_Some _ _ whole) (record {
-      valid = (first.0, omega (arith, third.0));
-      spelled = ap (λ (xs : List ℕ). codes "CreateTransaction " ++ xs) behind ∙ sym (regroup₄ (codes "CreateTransaction ") (label_spelling l.0) (codes " ") (decimal n));
-    }))))
+-- what is made of parts that were read
+made_is : {X : Type 0} {Is : X → Type 0} {spell : X → List ℕ} {at : List ℕ → Option (X × List ℕ)} → Reads Is spell at → (form : Form) (make : X → Command)
+    → ((x : X) → Is x → IsCommand (make x)) → ((x : X) → form_name form ++ spell x ≡ command_spelling (make x))
+    → (text : List ℕ) (c : Command) → made make at text ≡ Some c → Read (form_name form) text c
+made_is {X} {Is} {spell} {at} reads form make valid spelled text c e = map_some make (whole at text) c e (λ x f same.
+    let read = whole_is reads text x f in
+    subst (Read (form_name form) text) same (record { valid = valid x read.0; spelled = ap (λ (xs : List ℕ). form_name form ++ xs) read.1 ∙ spelled x }))
 
-create_again : (l : Label) (t : ℕ) → IsLabel l → t < 2 ^ 32 → create_at (label_spelling l ++ (codes " " ++ decimal t)) ≡ Some (CreateTransaction l t)
-unfolding create_at
-create_again l t h fits =
-    let within : t ≤ 0xFFFF_FFFF = omega arith in
-    rw (label_again l (codes " " ++ decimal t) h refl, after_word_again (codes " ") (decimal t), last_number_again 0xFFFF_FFFF t (lit< tt) within) refl
+-- a command that is read from its spelling
+record IsReadAgain (c : Command) : Type 0 where
+  pub form : Form
+  pub arguments : List ℕ
+  pub spelled : form_name form ++ arguments ≡ command_spelling c
+  pub ends : ends_part arguments ≡ true
+  pub read : arguments_at form arguments ≡ Some c
 
-commit_is : (text : List ℕ) (c : Command) → commit_at text ≡ Some c → Read (codes "CommitTransaction ") text c
-unfolding commit_at
-commit_is text c e = bind_some _ (label_at text) c e (λ l f end.
-    let whole = at_end_is (CommitTransaction l.0) c l.1 end in
-    let first = label_is text l.0 l.1 f in
-    let behind : text ≡ label_spelling l.0 = first.1 ∙ rw whole.0 (append-nil (label_spelling l.0)) in
-    subst (Read (codes "CommitTransaction ") text) whole.1 (record { valid = first.0; spelled = ap (λ (xs : List ℕ). codes "CommitTransaction " ++ xs) behind }))
+made_again : {X : Type 0} {Is : X → Type 0} {spell : X → List ℕ} {at : List ℕ → Option (X × List ℕ)} → Reads Is spell at → (form : Form) (make : X → Command)
+    (x : X) → Is x → form_name form ++ spell x ≡ command_spelling (make x) → ends_part (spell x) ≡ true → arguments_at form (spell x) ≡ made make at (spell x)
+    → IsReadAgain (make x)
+made_again {X} {Is} {spell} {at} reads form make x is spelled ends by =
+    let read : made make at (spell x) ≡ Some (make x) = rw (whole_again reads x is) refl in
+    record { form = form; arguments = spell x; spelled = spelled; ends = ends; read = by ∙ read }
 
-commit_again : (l : Label) → IsLabel l → commit_at (label_spelling l) ≡ Some (CommitTransaction l)
-unfolding commit_at
-commit_again l h =
-    let label : label_at (label_spelling l) ≡ Some (l, []) = ap label_at (sym (append-nil (label_spelling l))) ∙ label_again l [] h refl in
-    rw label refl
+modes_before : (a b c d : List ℕ) → (a ␣ b ␣ c) ++ space ∷ d ≡ a ␣ b ␣ c ␣ d
+modes_before a b c d = simp append_assoc
 
-set_is : (text : List ℕ) (c : Command) → set_at text ≡ Some c → Read (codes "KvSet ") text c
-unfolding set_at set_parts_at
-set_is text c e = bind_some _ (set_parts_at text) c e (λ parts f g.
-    bind_some _ (unhex_or_dash parts.2) c g (λ value h whole.
-    bind_some _ (label_at text) parts f (λ l k m.
-    bind_some _ (after_word (codes " ") l.1) parts m (λ mark n o.
-    bind_some _ (quoted_at mark) parts o (λ key p q.
-    bind_some _ (after_word (codes " ") key.1) parts q (λ digits r s.
-    let same = same_Some (l.0, key.0, digits) parts s in
-    let P : (Label × List ℕ × List ℕ) → Type 0 = λ x. (unhex_or_dash x.2 ≡ Some value) × (KvSet x.0 x.1 value ≡ c) in
-    let ends : P (l.0, key.0, digits) = subst P (sym same) (h, same_Some _ _ whole) in
-    let first = label_is text l.0 l.1 k in
-    let second = after_word_is (codes " ") l.1 mark n in
-    let third = quoted_is mark key.0 key.1 p in
-    let fourth = after_word_is (codes " ") key.1 digits r in
-    let fifth = unhex_or_dash_is digits value ends.0 in
-    let behind : text ≡ label_spelling l.0 ++ (codes " " ++ (quoted key.0 ++ (codes " " ++ hex_or_dash value))) =
-    first.1 ∙ ap (λ (xs : List ℕ). label_spelling l.0 ++ xs)
-    (second ∙ ap (λ (xs : List ℕ). codes " " ++ xs)
-    (third.1 ∙ ap (λ (xs : List ℕ). quoted key.0 ++ xs)
-    (fourth ∙ ap (λ (xs : List ℕ). codes " " ++ xs) fifth.1))) in
-    subst (Read (codes "KvSet ") text) ends.1 (record {
-      valid = (first.0, third.0, fifth.0);
-      spelled = ap (λ (xs : List ℕ). codes "KvSet " ++ xs) behind ∙ sym (regroup₆ (codes "KvSet ") (label_spelling l.0) (codes " ") (quoted key.0) (codes " ") (hex_or_dash value));
-    })))))))
+-- the modes of a file in a transaction are not the last of its parts
+transacted : (l : Label) (path : List ℕ) (a : Access) (s : ShareMode) (d : Disposition) (t : Label)
+    → codes "CreateFileTransacted" ␣ label_spelling l ␣ quoted path ␣ ((access_spelling a ␣ share_spelling s ␣ disposition_spelling d) ++ space ∷ label_spelling t)
+    ≡ command_spelling (CreateFileTransacted l path a s d t)
+transacted l path a s d t =
+    ap (λ (xs : List ℕ). codes "CreateFileTransacted" ␣ label_spelling l ␣ quoted path ␣ xs)
+    (modes_before (access_spelling a) (share_spelling s) (disposition_spelling d) (label_spelling t))
 
-set_again : (l : Label) (key value : List ℕ) → IsLabel l → IsText key → AreBytes value
-    → set_at (label_spelling l ++ (codes " " ++ (quoted key ++ (codes " " ++ hex_or_dash value)))) ≡ Some (KvSet l key value)
-unfolding set_at set_parts_at
-set_again l key value h text bytes =
-    rw (
-      label_again l (codes " " ++ (quoted key ++ (codes " " ++ hex_or_dash value))) h refl,
-      after_word_again (codes " ") (quoted key ++ (codes " " ++ hex_or_dash value)),
-      quoted_again key (codes " " ++ hex_or_dash value) text,
-      after_word_again (codes " ") (hex_or_dash value),
-      unhex_or_dash_again value bytes,
-    ) refl
+arguments_is : (form : Form) (text : List ℕ) (c : Command) → arguments_at form text ≡ Some c → Read (form_name form) text c
+arguments_is form.CreateTransaction = made_is (both reads_label (spaced (reads_number 0xFFFF_FFFF (lit< tt)))) form.CreateTransaction (λ x. CreateTransaction x.0 x.1) (λ x h. (h.0, omega (arith, h.1))) (λ x. refl)
+arguments_is form.OpenTransaction = made_is (both reads_label reads_guid) form.OpenTransaction (λ x. OpenTransaction x.0 x.1) (λ x h. (h.0, h.1)) (λ x. refl)
+arguments_is form.CommitTransaction = made_is reads_label form.CommitTransaction CommitTransaction (λ x h. h) (λ x. refl)
+arguments_is form.RollbackTransaction = made_is reads_label form.RollbackTransaction RollbackTransaction (λ x h. h) (λ x. refl)
+arguments_is form.GetTransactionInformation = made_is reads_label form.GetTransactionInformation GetTransactionInformation (λ x h. h) (λ x. refl)
+arguments_is form.CreateResourceManager = made_is (both reads_label reads_durability) form.CreateResourceManager (λ x. CreateResourceManager x.0 x.1) (λ x h. h.0) (λ x. refl)
+arguments_is form.OpenResourceManager = made_is (both reads_label reads_guid) form.OpenResourceManager (λ x. OpenResourceManager x.0 x.1) (λ x h. (h.0, h.1)) (λ x. refl)
+arguments_is form.RecoverResourceManager = made_is reads_label form.RecoverResourceManager RecoverResourceManager (λ x h. h) (λ x. refl)
+arguments_is form.GetNotificationResourceManager = made_is reads_label form.GetNotificationResourceManager GetNotificationResourceManager (λ x h. h) (λ x. refl)
+arguments_is form.CreateEnlistment = made_is (both reads_label (both reads_label reads_kind_in_transaction)) form.CreateEnlistment (λ x. CreateEnlistment x.0 x.1.0 x.1.1.0 x.1.1.1) (λ x h. (h.0, h.1.0, h.1.1.0)) (λ x. refl)
+arguments_is form.OpenEnlistment = made_is (both reads_label (both reads_label reads_guid)) form.OpenEnlistment (λ x. OpenEnlistment x.0 x.1.0 x.1.1) (λ x h. (h.0, h.1.0, h.1.1)) (λ x. refl)
+arguments_is form.RecoverEnlistment = made_is reads_label form.RecoverEnlistment RecoverEnlistment (λ x h. h) (λ x. refl)
+arguments_is form.PrePrepareComplete = made_is reads_label form.PrePrepareComplete PrePrepareComplete (λ x h. h) (λ x. refl)
+arguments_is form.PrepareComplete = made_is reads_label form.PrepareComplete PrepareComplete (λ x h. h) (λ x. refl)
+arguments_is form.ReadOnlyEnlistment = made_is reads_label form.ReadOnlyEnlistment ReadOnlyEnlistment (λ x h. h) (λ x. refl)
+arguments_is form.CommitComplete = made_is reads_label form.CommitComplete CommitComplete (λ x h. h) (λ x. refl)
+arguments_is form.RollbackComplete = made_is reads_label form.RollbackComplete RollbackComplete (λ x h. h) (λ x. refl)
+arguments_is form.SinglePhaseReject = made_is reads_label form.SinglePhaseReject SinglePhaseReject (λ x h. h) (λ x. refl)
+arguments_is form.RollbackEnlistment = made_is reads_label form.RollbackEnlistment RollbackEnlistment (λ x h. h) (λ x. refl)
+arguments_is form.PrePrepareEnlistment = made_is reads_label form.PrePrepareEnlistment PrePrepareEnlistment (λ x h. h) (λ x. refl)
+arguments_is form.PrepareEnlistment = made_is reads_label form.PrepareEnlistment PrepareEnlistment (λ x h. h) (λ x. refl)
+arguments_is form.CommitEnlistment = made_is reads_label form.CommitEnlistment CommitEnlistment (λ x h. h) (λ x. refl)
+arguments_is form.SetEnlistmentRecoveryInformation = made_is (both reads_label reads_bytes) form.SetEnlistmentRecoveryInformation (λ x. SetEnlistmentRecoveryInformation x.0 x.1) (λ x h. (h.0, h.1)) (λ x. refl)
+arguments_is form.GetEnlistmentRecoveryInformation = made_is reads_label form.GetEnlistmentRecoveryInformation GetEnlistmentRecoveryInformation (λ x h. h) (λ x. refl)
+arguments_is form.CreateFile = made_is (both reads_label (both reads_text reads_modes)) form.CreateFile (λ x. CreateFile x.0 x.1.0 x.1.1.0 x.1.1.1.0 x.1.1.1.1) (λ x h. (h.0, h.1.0)) (λ x. refl)
+arguments_is form.CreateFileTransacted = made_is (both reads_label (both reads_text (both reads_modes reads_label))) form.CreateFileTransacted (λ x. CreateFileTransacted x.0 x.1.0 x.1.1.0.0 x.1.1.0.1.0 x.1.1.0.1.1 x.1.1.1) (λ x h. (h.0, h.1.0, h.1.1.1)) (λ x. transacted x.0 x.1.0 x.1.1.0.0 x.1.1.0.1.0 x.1.1.0.1.1 x.1.1.1)
+arguments_is form.ReadFile = made_is (both reads_label (both reads_size reads_size)) form.ReadFile (λ x. ReadFile x.0 x.1.0 x.1.1) (λ x h. (h.0, h.1.0, h.1.1)) (λ x. refl)
+arguments_is form.WriteFile = made_is (both reads_label (both reads_size reads_bytes)) form.WriteFile (λ x. WriteFile x.0 x.1.0 x.1.1) (λ x h. (h.0, h.1.0, h.1.1)) (λ x. refl)
+arguments_is form.SetEndOfFile = made_is (both reads_label reads_size) form.SetEndOfFile (λ x. SetEndOfFile x.0 x.1) (λ x h. (h.0, h.1)) (λ x. refl)
+arguments_is form.GetFileSizeEx = made_is reads_label form.GetFileSizeEx GetFileSizeEx (λ x h. h) (λ x. refl)
+arguments_is form.FlushFileBuffers = made_is reads_label form.FlushFileBuffers FlushFileBuffers (λ x h. h) (λ x. refl)
+arguments_is form.DeleteFile = made_is reads_text form.DeleteFile DeleteFile (λ x h. h) (λ x. refl)
+arguments_is form.CreateDirectory = made_is reads_text form.CreateDirectory CreateDirectory (λ x h. h) (λ x. refl)
+arguments_is form.RemoveDirectory = made_is reads_text form.RemoveDirectory RemoveDirectory (λ x h. h) (λ x. refl)
+arguments_is form.MoveFile = made_is (both reads_text reads_text) form.MoveFile (λ x. MoveFile x.0 x.1) (λ x h. (h.0, h.1)) (λ x. refl)
+arguments_is form.DeleteFileTransacted = made_is (both reads_text reads_label) form.DeleteFileTransacted (λ x. DeleteFileTransacted x.0 x.1) (λ x h. (h.0, h.1)) (λ x. refl)
+arguments_is form.CreateDirectoryTransacted = made_is (both reads_text reads_label) form.CreateDirectoryTransacted (λ x. CreateDirectoryTransacted x.0 x.1) (λ x h. (h.0, h.1)) (λ x. refl)
+arguments_is form.RemoveDirectoryTransacted = made_is (both reads_text reads_label) form.RemoveDirectoryTransacted (λ x. RemoveDirectoryTransacted x.0 x.1) (λ x h. (h.0, h.1)) (λ x. refl)
+arguments_is form.MoveFileTransacted = made_is (both reads_text (both reads_text reads_label)) form.MoveFileTransacted (λ x. MoveFileTransacted x.0 x.1.0 x.1.1) (λ x h. (h.0, h.1.0, h.1.1)) (λ x. refl)
+arguments_is form.FindFiles = made_is reads_text form.FindFiles FindFiles (λ x h. h) (λ x. refl)
+arguments_is form.FindFilesTransacted = made_is (both reads_text reads_label) form.FindFilesTransacted (λ x. FindFilesTransacted x.0 x.1) (λ x h. (h.0, h.1)) (λ x. refl)
+arguments_is form.KvSet = made_is (both reads_label (both reads_text reads_bytes)) form.KvSet (λ x. KvSet x.0 x.1.0 x.1.1) (λ x h. (h.0, h.1.0, h.1.1)) (λ x. refl)
+arguments_is form.KvUnset = made_is (both reads_label reads_text) form.KvUnset (λ x. KvUnset x.0 x.1) (λ x h. (h.0, h.1)) (λ x. refl)
+arguments_is form.KvGet = made_is (both reads_view reads_text) form.KvGet (λ x. KvGet x.0 x.1) (λ x h. (h.0, h.1)) (λ x. refl)
+arguments_is form.KvList = made_is reads_view form.KvList KvList (λ x h. h) (λ x. refl)
+arguments_is form.CloseHandle = made_is reads_label form.CloseHandle CloseHandle (λ x h. h) (λ x. refl)
+arguments_is form.DuplicateHandle = made_is (both reads_label (both (spaced reads_process) reads_label)) form.DuplicateHandle (λ x. DuplicateHandle x.0 x.1.0 x.1.1) (λ x h. (h.0, h.1.0, h.1.1)) (λ x. refl)
+arguments_is form.Exit = λ text c e.
+    let ends = at_end_is Exit c text e in
+    subst (Read (form_name form.Exit) text) ends.1 (record { valid = tt; spelled = rw ends.0 refl })
 
-unset_is : (text : List ℕ) (c : Command) → unset_at text ≡ Some c → Read (codes "KvUnset ") text c
-unfolding unset_at
-unset_is text c e = bind_some _ (label_at text) c e (λ l f g.
-    bind_some _ (last_text_at l.1) c g (λ key h whole.
-    let first = label_is text l.0 l.1 f in
-    let second = last_text_is l.1 key h in
-    let behind : text ≡ label_spelling l.0 ++ (codes " " ++ quoted key) = first.1 ∙ ap (λ (xs : List ℕ). label_spelling l.0 ++ xs) second.1 in
-    subst (Read (codes "KvUnset ") text) (same_Some _ _ whole) (record {
-      valid = (first.0, second.0);
-      spelled = ap (λ (xs : List ℕ). codes "KvUnset " ++ xs) behind ∙ sym (regroup₄ (codes "KvUnset ") (label_spelling l.0) (codes " ") (quoted key));
-    })))
-
-unset_again : (l : Label) (key : List ℕ) → IsLabel l → IsText key → unset_at (label_spelling l ++ (codes " " ++ quoted key)) ≡ Some (KvUnset l key)
-unfolding unset_at
-unset_again l key h text = rw (label_again l (codes " " ++ quoted key) h refl, last_text_again key text) refl
-
-get_is : (text : List ℕ) (c : Command) → get_at text ≡ Some c → Read (codes "KvGet ") text c
-unfolding get_at
-get_is text c e = bind_some _ (view_at text) c e (λ v f g.
-    bind_some _ (last_text_at v.1) c g (λ key h whole.
-    let first = view_is text v.0 v.1 f in
-    let second = last_text_is v.1 key h in
-    let behind : text ≡ view_spelling v.0 ++ (codes " " ++ quoted key) = first.1 ∙ ap (λ (xs : List ℕ). view_spelling v.0 ++ xs) second.1 in
-    subst (Read (codes "KvGet ") text) (same_Some _ _ whole) (record {
-      valid = (first.0, second.0);
-      spelled = ap (λ (xs : List ℕ). codes "KvGet " ++ xs) behind ∙ sym (regroup₄ (codes "KvGet ") (view_spelling v.0) (codes " ") (quoted key));
-    })))
-
-get_again : (v : View) (key : List ℕ) → IsView v → IsText key → get_at (view_spelling v ++ (codes " " ++ quoted key)) ≡ Some (KvGet v key)
-unfolding get_at
-get_again v key h text = rw (view_again v (codes " " ++ quoted key) h refl, last_text_again key text) refl
-
-list_is : (text : List ℕ) (c : Command) → list_at text ≡ Some c → Read (codes "KvList ") text c
-unfolding list_at
-list_is text c e = bind_some _ (view_at text) c e (λ v f end.
-    let whole = at_end_is (KvList v.0) c v.1 end in
-    let first = view_is text v.0 v.1 f in
-    let behind : text ≡ view_spelling v.0 = first.1 ∙ rw whole.0 (append-nil (view_spelling v.0)) in
-    subst (Read (codes "KvList ") text) whole.1 (record { valid = first.0; spelled = ap (λ (xs : List ℕ). codes "KvList " ++ xs) behind }))
-
-list_again : (v : View) → IsView v → list_at (view_spelling v) ≡ Some (KvList v)
-unfolding list_at
-list_again v h =
-    let view : view_at (view_spelling v) ≡ Some (v, []) = ap view_at (sym (append-nil (view_spelling v))) ∙ view_again v [] h refl in
-    rw view refl
-
-behind_word : (word text rest : List ℕ) (c : Command) → after_word word text ≡ Some rest → Read word rest c → IsCommand c × (text ≡ command_spelling c)
-behind_word word text rest c e read = (read.valid, after_word_is word text rest e ∙ read.spelled)
-
--- the words of the other commands
-no_create : (rest : List ℕ) → (after_word (codes "CreateTransaction ") (codes "CommitTransaction " ++ rest) ≡ None)
-    × (after_word (codes "CreateTransaction ") (codes "KvSet " ++ rest) ≡ None) × (after_word (codes "CreateTransaction ") (codes "KvUnset " ++ rest) ≡ None)
-    × (after_word (codes "CreateTransaction ") (codes "KvGet " ++ rest) ≡ None) × (after_word (codes "CreateTransaction ") (codes "KvList " ++ rest) ≡ None)
-unfolding after_word
-no_create rest = (refl, refl, refl, refl, refl)
-
-no_commit : (rest : List ℕ) → (after_word (codes "CommitTransaction ") (codes "KvSet " ++ rest) ≡ None)
-    × (after_word (codes "CommitTransaction ") (codes "KvUnset " ++ rest) ≡ None) × (after_word (codes "CommitTransaction ") (codes "KvGet " ++ rest) ≡ None)
-    × (after_word (codes "CommitTransaction ") (codes "KvList " ++ rest) ≡ None)
-unfolding after_word
-no_commit rest = (refl, refl, refl, refl)
-
-no_set : (rest : List ℕ) → (after_word (codes "KvSet ") (codes "KvUnset " ++ rest) ≡ None) × (after_word (codes "KvSet ") (codes "KvGet " ++ rest) ≡ None)
-    × (after_word (codes "KvSet ") (codes "KvList " ++ rest) ≡ None)
-unfolding after_word
-no_set rest = (refl, refl, refl)
-
-no_unset : (rest : List ℕ) → (after_word (codes "KvUnset ") (codes "KvGet " ++ rest) ≡ None) × (after_word (codes "KvUnset ") (codes "KvList " ++ rest) ≡ None)
-unfolding after_word
-no_unset rest = (refl, refl)
-
-no_get : (rest : List ℕ) → after_word (codes "KvGet ") (codes "KvList " ++ rest) ≡ None
-unfolding after_word
-no_get rest = refl
+spelled_so : (c : Command) → IsCommand c → IsReadAgain c
+spelled_so (CreateTransaction label timeout) h = made_again (both reads_label (spaced (reads_number 0xFFFF_FFFF (lit< tt)))) form.CreateTransaction (λ x. CreateTransaction x.0 x.1) (label, timeout) (h.0, omega (arith, h.1)) refl refl refl
+spelled_so (OpenTransaction label guid) h = made_again (both reads_label reads_guid) form.OpenTransaction (λ x. OpenTransaction x.0 x.1) (label, guid) (h.0, h.1) refl refl refl
+spelled_so (CommitTransaction transaction) h = made_again reads_label form.CommitTransaction CommitTransaction transaction h refl refl refl
+spelled_so (RollbackTransaction transaction) h = made_again reads_label form.RollbackTransaction RollbackTransaction transaction h refl refl refl
+spelled_so (GetTransactionInformation transaction) h = made_again reads_label form.GetTransactionInformation GetTransactionInformation transaction h refl refl refl
+spelled_so (CreateResourceManager label durability) h = made_again (both reads_label reads_durability) form.CreateResourceManager (λ x. CreateResourceManager x.0 x.1) (label, durability) (h, tt) refl refl refl
+spelled_so (OpenResourceManager label guid) h = made_again (both reads_label reads_guid) form.OpenResourceManager (λ x. OpenResourceManager x.0 x.1) (label, guid) (h.0, h.1) refl refl refl
+spelled_so (RecoverResourceManager manager) h = made_again reads_label form.RecoverResourceManager RecoverResourceManager manager h refl refl refl
+spelled_so (GetNotificationResourceManager manager) h = made_again reads_label form.GetNotificationResourceManager GetNotificationResourceManager manager h refl refl refl
+spelled_so (CreateEnlistment label manager transaction kind) h = made_again (both reads_label (both reads_label reads_kind_in_transaction)) form.CreateEnlistment (λ x. CreateEnlistment x.0 x.1.0 x.1.1.0 x.1.1.1) (label, (manager, (transaction, kind))) (h.0, (h.1, (h.2, tt))) refl refl refl
+spelled_so (OpenEnlistment label manager guid) h = made_again (both reads_label (both reads_label reads_guid)) form.OpenEnlistment (λ x. OpenEnlistment x.0 x.1.0 x.1.1) (label, (manager, guid)) (h.0, (h.1, h.2)) refl refl refl
+spelled_so (RecoverEnlistment enlistment) h = made_again reads_label form.RecoverEnlistment RecoverEnlistment enlistment h refl refl refl
+spelled_so (PrePrepareComplete enlistment) h = made_again reads_label form.PrePrepareComplete PrePrepareComplete enlistment h refl refl refl
+spelled_so (PrepareComplete enlistment) h = made_again reads_label form.PrepareComplete PrepareComplete enlistment h refl refl refl
+spelled_so (ReadOnlyEnlistment enlistment) h = made_again reads_label form.ReadOnlyEnlistment ReadOnlyEnlistment enlistment h refl refl refl
+spelled_so (CommitComplete enlistment) h = made_again reads_label form.CommitComplete CommitComplete enlistment h refl refl refl
+spelled_so (RollbackComplete enlistment) h = made_again reads_label form.RollbackComplete RollbackComplete enlistment h refl refl refl
+spelled_so (SinglePhaseReject enlistment) h = made_again reads_label form.SinglePhaseReject SinglePhaseReject enlistment h refl refl refl
+spelled_so (RollbackEnlistment enlistment) h = made_again reads_label form.RollbackEnlistment RollbackEnlistment enlistment h refl refl refl
+spelled_so (PrePrepareEnlistment enlistment) h = made_again reads_label form.PrePrepareEnlistment PrePrepareEnlistment enlistment h refl refl refl
+spelled_so (PrepareEnlistment enlistment) h = made_again reads_label form.PrepareEnlistment PrepareEnlistment enlistment h refl refl refl
+spelled_so (CommitEnlistment enlistment) h = made_again reads_label form.CommitEnlistment CommitEnlistment enlistment h refl refl refl
+spelled_so (SetEnlistmentRecoveryInformation enlistment information) h = made_again (both reads_label reads_bytes) form.SetEnlistmentRecoveryInformation (λ x. SetEnlistmentRecoveryInformation x.0 x.1) (enlistment, information) (h.0, h.1) refl refl refl
+spelled_so (GetEnlistmentRecoveryInformation enlistment) h = made_again reads_label form.GetEnlistmentRecoveryInformation GetEnlistmentRecoveryInformation enlistment h refl refl refl
+spelled_so (CreateFile label path access share disposition) h = made_again (both reads_label (both reads_text reads_modes)) form.CreateFile (λ x. CreateFile x.0 x.1.0 x.1.1.0 x.1.1.1.0 x.1.1.1.1) (label, (path, (access, (share, disposition)))) (h.0, (h.1, (tt, (tt, tt)))) refl refl refl
+spelled_so (CreateFileTransacted label path access share disposition transaction) h = made_again (both reads_label (both reads_text (both reads_modes reads_label))) form.CreateFileTransacted (λ x. CreateFileTransacted x.0 x.1.0 x.1.1.0.0 x.1.1.0.1.0 x.1.1.0.1.1 x.1.1.1) (label, (path, ((access, (share, disposition)), transaction))) (h.0, (h.1, ((tt, (tt, tt)), h.2))) (transacted label path access share disposition transaction) refl refl
+spelled_so (ReadFile file offset many) h = made_again (both reads_label (both reads_size reads_size)) form.ReadFile (λ x. ReadFile x.0 x.1.0 x.1.1) (file, (offset, many)) (h.0, (h.1, h.2)) refl refl refl
+spelled_so (WriteFile file offset bytes) h = made_again (both reads_label (both reads_size reads_bytes)) form.WriteFile (λ x. WriteFile x.0 x.1.0 x.1.1) (file, (offset, bytes)) (h.0, (h.1, h.2)) refl refl refl
+spelled_so (SetEndOfFile file size) h = made_again (both reads_label reads_size) form.SetEndOfFile (λ x. SetEndOfFile x.0 x.1) (file, size) (h.0, h.1) refl refl refl
+spelled_so (GetFileSizeEx file) h = made_again reads_label form.GetFileSizeEx GetFileSizeEx file h refl refl refl
+spelled_so (FlushFileBuffers file) h = made_again reads_label form.FlushFileBuffers FlushFileBuffers file h refl refl refl
+spelled_so (DeleteFile path) h = made_again reads_text form.DeleteFile DeleteFile path h refl refl refl
+spelled_so (CreateDirectory path) h = made_again reads_text form.CreateDirectory CreateDirectory path h refl refl refl
+spelled_so (RemoveDirectory path) h = made_again reads_text form.RemoveDirectory RemoveDirectory path h refl refl refl
+spelled_so (MoveFile source target) h = made_again (both reads_text reads_text) form.MoveFile (λ x. MoveFile x.0 x.1) (source, target) (h.0, h.1) refl refl refl
+spelled_so (DeleteFileTransacted path transaction) h = made_again (both reads_text reads_label) form.DeleteFileTransacted (λ x. DeleteFileTransacted x.0 x.1) (path, transaction) (h.0, h.1) refl refl refl
+spelled_so (CreateDirectoryTransacted path transaction) h = made_again (both reads_text reads_label) form.CreateDirectoryTransacted (λ x. CreateDirectoryTransacted x.0 x.1) (path, transaction) (h.0, h.1) refl refl refl
+spelled_so (RemoveDirectoryTransacted path transaction) h = made_again (both reads_text reads_label) form.RemoveDirectoryTransacted (λ x. RemoveDirectoryTransacted x.0 x.1) (path, transaction) (h.0, h.1) refl refl refl
+spelled_so (MoveFileTransacted source target transaction) h = made_again (both reads_text (both reads_text reads_label)) form.MoveFileTransacted (λ x. MoveFileTransacted x.0 x.1.0 x.1.1) (source, (target, transaction)) (h.0, (h.1, h.2)) refl refl refl
+spelled_so (FindFiles searched) h = made_again reads_text form.FindFiles FindFiles searched h refl refl refl
+spelled_so (FindFilesTransacted searched transaction) h = made_again (both reads_text reads_label) form.FindFilesTransacted (λ x. FindFilesTransacted x.0 x.1) (searched, transaction) (h.0, h.1) refl refl refl
+spelled_so (KvSet transaction key value) h = made_again (both reads_label (both reads_text reads_bytes)) form.KvSet (λ x. KvSet x.0 x.1.0 x.1.1) (transaction, (key, value)) (h.0, (h.1, h.2)) refl refl refl
+spelled_so (KvUnset transaction key) h = made_again (both reads_label reads_text) form.KvUnset (λ x. KvUnset x.0 x.1) (transaction, key) (h.0, h.1) refl refl refl
+spelled_so (KvGet view key) h = made_again (both reads_view reads_text) form.KvGet (λ x. KvGet x.0 x.1) (view, key) (h.0, h.1) refl refl refl
+spelled_so (KvList view) h = made_again reads_view form.KvList KvList view h refl refl refl
+spelled_so (CloseHandle label) h = made_again reads_label form.CloseHandle CloseHandle label h refl refl refl
+spelled_so (DuplicateHandle label process source) h = made_again (both reads_label (both (spaced reads_process) reads_label)) form.DuplicateHandle (λ x. DuplicateHandle x.0 x.1.0 x.1.1) (label, (process, source)) (h.0, (h.1, h.2)) refl refl refl
+spelled_so Exit h = record { form = form.Exit; arguments = []; spelled = refl; ends = refl; read = refl }
 
 -- what is read is a command of the grammar, and is spelled so
-pub command_is : (text : List ℕ) (c : Command) → command_at text ≡ Some c → IsCommand c × (text ≡ command_spelling c)
+pub command_is : (text : List ℕ) (c : Command) → command_at text ≡ Some c → IsCommand c × (text ≡ space ∷ command_spelling c)
 unfolding command_at
-command_is text c e =
-    on_word_some (after_word (codes "CreateTransaction ") text) create_at _ c e (λ rest f g. behind_word (codes "CreateTransaction ") text rest c f (create_is rest c g)) (λ e₁.
-    on_word_some (after_word (codes "CommitTransaction ") text) commit_at _ c e₁ (λ rest f g. behind_word (codes "CommitTransaction ") text rest c f (commit_is rest c g)) (λ e₂.
-    on_word_some (after_word (codes "KvSet ") text) set_at _ c e₂ (λ rest f g. behind_word (codes "KvSet ") text rest c f (set_is rest c g)) (λ e₃.
-    on_word_some (after_word (codes "KvUnset ") text) unset_at _ c e₃ (λ rest f g. behind_word (codes "KvUnset ") text rest c f (unset_is rest c g)) (λ e₄.
-    on_word_some (after_word (codes "KvGet ") text) get_at _ c e₄ (λ rest f g. behind_word (codes "KvGet ") text rest c f (get_is rest c g)) (λ e₅.
-    on_word_some (after_word (codes "KvList ") text) list_at _ c e₅ (λ rest f g. behind_word (codes "KvList ") text rest c f (list_is rest c g)) (λ e₆. cc))))))
+command_is text c e = bind_some _ (form_at text) c e (λ f g h.
+    let name = reads_form.found text f.0 f.1 g in
+    let read = arguments_is f.0 f.1 c h in
+    (read.valid, name.1 ∙ ap (λ (xs : List ℕ). space ∷ xs) read.spelled))
 
 -- what is spelled so is read
-pub command_again : (c : Command) → IsCommand c → command_at (command_spelling c) ≡ Some c
+pub command_again : (c : Command) → IsCommand c → command_at (space ∷ command_spelling c) ≡ Some c
 unfolding command_at
-command_again (CreateTransaction l t) h =
-    let rest = label_spelling l ++ (codes " " ++ decimal t) in
-    ap command_at (regroup₄ (codes "CreateTransaction ") (label_spelling l) (codes " ") (decimal t))
-    ∙ rw (after_word_again (codes "CreateTransaction ") rest) (create_again l t h.0 h.1)
-command_again (CommitTransaction l) h =
-    rw ((no_create (label_spelling l)).0, after_word_again (codes "CommitTransaction ") (label_spelling l)) (commit_again l h)
-command_again (KvSet l key value) h =
-    let rest = label_spelling l ++ (codes " " ++ (quoted key ++ (codes " " ++ hex_or_dash value))) in
-    ap command_at (regroup₆ (codes "KvSet ") (label_spelling l) (codes " ") (quoted key) (codes " ") (hex_or_dash value))
-    ∙ rw ((no_create rest).1, (no_commit rest).0, after_word_again (codes "KvSet ") rest) (set_again l key value h.0 h.1 h.2)
-command_again (KvUnset l key) h =
-    let rest = label_spelling l ++ (codes " " ++ quoted key) in
-    ap command_at (regroup₄ (codes "KvUnset ") (label_spelling l) (codes " ") (quoted key))
-    ∙ rw ((no_create rest).2, (no_commit rest).1, (no_set rest).0, after_word_again (codes "KvUnset ") rest) (unset_again l key h.0 h.1)
-command_again (KvGet v key) h =
-    let rest = view_spelling v ++ (codes " " ++ quoted key) in
-    ap command_at (regroup₄ (codes "KvGet ") (view_spelling v) (codes " ") (quoted key))
-    ∙ rw ((no_create rest).3, (no_commit rest).2, (no_set rest).1, (no_unset rest).0, after_word_again (codes "KvGet ") rest) (get_again v key h.0 h.1)
-command_again (KvList v) h =
-    let rest = view_spelling v in
-    rw ((no_create rest).4, (no_commit rest).3, (no_set rest).2, (no_unset rest).1, no_get rest, after_word_again (codes "KvList ") rest) (list_again v h)
+command_again c h =
+    let again = spelled_so c h in
+    rw (← again.spelled, reads_form.every again.form again.arguments tt again.ends) again.read

@@ -1,4 +1,6 @@
 pub mod Steps
+pub mod Readers
+pub mod WordLemmas
 pub mod PartLemmas
 pub mod CommandLemmas
 pub mod LineLemmas

@@ -1,21 +1,55 @@
--- What is read as a part of a line is spelled so, and what is spelled so is read.
-use Rattle.std.proofs.Common.{◌≡◌, ◌≢◌, ℕ, ◌^◌, ◌<◌, ◌≤◌, true, false, List, [], ◌∷◌, ◌++◌, Some, None, codes, refl, sym, ◌∙◌, ap, subst, inl, inr, arith, append_assoc, nat_eq, lit<}
-use Rattle.std.proofs.lemmas.Bool.{cases_Bool, cases_eq}
-use Rattle.std.proofs.lemmas.List.{append-nil}
+-- The parts of a line are read as they are spelled.
+use Rattle.std.proofs.Common.{◌≡◌, ℕ, ◌/◌, ◌%◌, ◌^◌, ◌<◌, ◌≤◌, true, false, List, [], ◌∷◌, ◌++◌, Some, None, codes, refl, sym, ◌∙◌, ap, subst, inl, inr, arith, append_assoc, nat_eq, lit<}
+use Rattle.std.proofs.lemmas.Bool.{cases_Bool}
+use Rattle.std.proofs.lemmas.Bool.Decides.{nat_tests}
 use Rattle.std.proofs.lemmas.Option.{some_pair_parts}
 use Rattle.std.specs.Fmt.{decimal}
 use Rattle.ktm_base.specs.declared.id.Label.{Label}
 use Rattle.ktm_base.specs.declared.id.Pid.{Pid}
+use Rattle.ktm_base.specs.Bytes.{AreBytes}
+use Rattle.ktm_codec.proofs.GuidLemmas.{guid_is, guid_again}
+use Rattle.ktm_codec.proofs.HexLemmas.{unhex_or_dash_is, unhex_or_dash_again}
 use Rattle.ktm_codec.proofs.NumberLemmas.{number_is, number_again}
+use Rattle.ktm_codec.proofs.QuotedLemmas.{quoted_is, quoted_again}
 use Rattle.ktm_codec.proofs.WordLemmas.{after_word_is, after_word_again}
+use Rattle.ktm_codec.specs.Guid.{guid_at, guid_spelling}
+use Rattle.ktm_codec.specs.Hex.{hex_digit, hex_of, hex_or_dash, unhex_or_dash}
 use Rattle.ktm_codec.specs.Number.{number_at, starts_with_digit}
+use Rattle.ktm_codec.specs.Quoted.{AreTextBytes, is_text_byte, quoted}
 use Rattle.ktm_codec.specs.Word.{after_word}
 use Rattle.ktm_world.specs.declared.command.View.{View}
 use Rattle.ktm_world.specs.declared.command.View.TheVariants.{Plain, Transaction}
-use Rattle.ktm_script.specs.Reading.{named_at, process_at, label_at, view_at, is_line_byte, text_from, quoted_at, last_number_at, last_text_at}
-use Rattle.ktm_script.specs.Spelling.{label_spelling, view_spelling, quoted}
-use Rattle.ktm_world.specs.Values.{quotation_mark, IsTextByte, IsText, IsPid, IsLabel, IsView}
-use Rattle.ktm_script.proofs.Steps.{bind_some, at_end_is, on_word_some}
+use Rattle.ktm_world.specs.declared.options.Access.{Access}
+use Rattle.ktm_world.specs.declared.options.Access.TheVariants as access
+use Rattle.ktm_world.specs.declared.options.ShareMode.{ShareMode}
+use Rattle.ktm_world.specs.declared.options.ShareMode.TheVariants as share
+use Rattle.ktm_world.specs.declared.options.Disposition.{Disposition}
+use Rattle.ktm_world.specs.declared.options.Disposition.TheVariants as disposition
+use Rattle.ktm_world.specs.declared.options.Durability.{Durability}
+use Rattle.ktm_world.specs.declared.options.Durability.TheVariants as durability
+use Rattle.ktm_world.specs.declared.options.EnlistmentKind.{EnlistmentKind}
+use Rattle.ktm_world.specs.declared.options.EnlistmentKind.TheVariants as kind
+use Rattle.ktm_world.specs.Values.{IsTextByte, IsText, IsPid, IsLabel, IsView, IsGuid}
+use Rattle.ktm_script.specs.Reading.{behind_space, named_at, process_at, label_at, view_at, size_at, text_at, word_from, bytes_at, access_at, share_at, disposition_at, durability_at, kind_at, kind_in_transaction_at, modes_at, by_word, accesses, shares, dispositions, durabilities, kinds, form_name, forms, form_at}
+use Rattle.ktm_script.specs.Spelling.{space, ◌␣◌, process_spelling, label_spelling, view_spelling, access_spelling, share_spelling, disposition_spelling, durability_spelling, kind_spelling}
+use Rattle.ktm_script.specs.declared.form.Form.{Form}
+use Rattle.ktm_script.specs.declared.form.Form.TheVariants as form
+use Rattle.ktm_script.proofs.Readers.{Reads, ends_part, spaced, both}
+use Rattle.ktm_script.proofs.Steps.{bind_some, on_word_some}
+use Rattle.ktm_script.proofs.WordLemmas.{is_word, word_is, word_again, by_words}
+
+-- digits end where a part does
+no_digit : (rest : List ℕ) → ends_part rest ≡ true → starts_with_digit rest ≡ false
+no_digit [] ends = refl
+no_digit (c ∷ cs) ends =
+    let is : c ≡ space = grind (arith, nat_tests) in
+    rw is refl
+
+pub reads_number : (most : ℕ) → most < 2 ^ 64 → Reads (λ n. n ≤ most) decimal (number_at most)
+reads_number most fits = record {
+  found = λ text n rest e. number_is most text n rest fits e;
+  every = λ n rest within ends. number_again most n rest fits within (no_digit rest ends);
+}
 
 named_is : (letter : List ℕ) (most : ℕ) (text : List ℕ) (n : ℕ) (rest : List ℕ) → most < 2 ^ 64 → named_at letter most text ≡ Some (n, rest)
     → (1 ≤ n) × (n ≤ most) × (text ≡ letter ++ decimal n ++ rest)
@@ -32,145 +66,188 @@ named_is letter most text n rest fits e = bind_some _ (after_word letter text) (
           (rw (← same.0) above, rw (← same.0) spelled.0, word ∙ rw (← same.0, ← same.1, spelled.1) (sym (append_assoc letter (decimal number.0) number.1)))
     ]))
 
-named_again : (letter : List ℕ) (most n : ℕ) (rest : List ℕ) → most < 2 ^ 64 → 1 ≤ n → n ≤ most → starts_with_digit rest ≡ false
+named_again : (letter : List ℕ) (most n : ℕ) (rest : List ℕ) → most < 2 ^ 64 → 1 ≤ n → n ≤ most → ends_part rest ≡ true
     → named_at letter most (letter ++ decimal n ++ rest) ≡ Some (n, rest)
 unfolding named_at
 named_again letter most n rest fits above within ends =
     let some : nat_eq n 0 ≡ false = grind arith in
-    rw (append_assoc letter (decimal n) rest, after_word_again letter (decimal n ++ rest), number_again most n rest fits within ends, some) refl
+    rw (append_assoc letter (decimal n) rest, after_word_again letter (decimal n ++ rest), number_again most n rest fits within (no_digit rest ends), some) refl
 
-pub process_is : (text : List ℕ) (p : Pid) (rest : List ℕ) → process_at text ≡ Some (p, rest) → IsPid p × (text ≡ codes "p" ++ decimal p.0 ++ rest)
+pub reads_process : Reads IsPid process_spelling process_at
 unfolding process_at
-process_is text p rest e = bind_some _ (named_at (codes "p") 64 text) (p, rest) e (λ n f g.
-    let same = some_pair_parts (record { 0 = n.0 }) p n.1 rest g in
-    let read = named_is (codes "p") 64 text n.0 n.1 (lit< tt) f in
-    let number : n.0 ≡ p.0 = ap (λ (q : Pid). q.0) same.0 in
-    (record { from = rw (← number) read.0; to = rw (← number) read.1 }, rw (← number, ← same.1) read.2))
+reads_process = record {
+  found = λ text p rest e. bind_some _ (named_at (codes "p") 64 text) (p, rest) e (λ n f g.
+      let same = some_pair_parts (record { 0 = n.0 }) p n.1 rest g in
+      let read = named_is (codes "p") 64 text n.0 n.1 (lit< tt) f in
+      let number : n.0 ≡ p.0 = ap (λ (q : Pid). q.0) same.0 in
+      (record { from = rw (← number) read.0; to = rw (← number) read.1 }, rw (← number, ← same.1) read.2));
+  every = λ p rest is ends. rw (named_again (codes "p") 64 p.0 rest (lit< tt) is.from is.to ends) refl;
+}
 
-pub process_again : (p : Pid) (rest : List ℕ) → IsPid p → starts_with_digit rest ≡ false → process_at (codes "p" ++ decimal p.0 ++ rest) ≡ Some (p, rest)
-unfolding process_at
-process_again p rest h ends = rw (named_again (codes "p") 64 p.0 rest (lit< tt) h.from h.to ends) refl
-
-pub label_is : (text : List ℕ) (l : Label) (rest : List ℕ) → label_at text ≡ Some (l, rest) → IsLabel l × (text ≡ label_spelling l ++ rest)
+pub reads_label : Reads IsLabel (λ l. space ∷ label_spelling l) label_at
 unfolding label_at
-label_is text l rest e = bind_some _ (named_at (codes "h") 65535 text) (l, rest) e (λ n f g.
-    let same = some_pair_parts (record { 0 = n.0 }) l n.1 rest g in
-    let read = named_is (codes "h") 65535 text n.0 n.1 (lit< tt) f in
-    let number : n.0 ≡ l.0 = ap (λ (q : Label). q.0) same.0 in
-    (record { from = rw (← number) read.0; to = rw (← number) read.1 }, rw (← number, ← same.1) read.2))
+reads_label = record {
+  found = λ text l rest e. bind_some _ (named_at (codes " h") 65535 text) (l, rest) e (λ n f g.
+      let same = some_pair_parts (record { 0 = n.0 }) l n.1 rest g in
+      let read = named_is (codes " h") 65535 text n.0 n.1 (lit< tt) f in
+      let number : n.0 ≡ l.0 = ap (λ (q : Label). q.0) same.0 in
+      (record { from = rw (← number) read.0; to = rw (← number) read.1 }, rw (← number, ← same.1) read.2));
+  every = λ l rest is ends. rw (named_again (codes " h") 65535 l.0 rest (lit< tt) is.from is.to ends) refl;
+}
 
-pub label_again : (l : Label) (rest : List ℕ) → IsLabel l → starts_with_digit rest ≡ false → label_at (label_spelling l ++ rest) ≡ Some (l, rest)
-unfolding label_at
-label_again l rest h ends = rw (named_again (codes "h") 65535 l.0 rest (lit< tt) h.from h.to ends) refl
-
-pub view_is : (text : List ℕ) (v : View) (rest : List ℕ) → view_at text ≡ Some (v, rest) → IsView v × (text ≡ view_spelling v ++ rest)
-unfolding view_at
-view_is text v rest e = on_word_some (after_word (codes "-") text) _ _ (v, rest) e
-    (λ more f g.
-    let same = some_pair_parts Plain v more rest g in
-    let P : View → Type 0 = λ w. IsView w × (text ≡ view_spelling w ++ rest) in
-    subst P same.0 (tt, after_word_is (codes "-") text more f ∙ ap (λ (xs : List ℕ). codes "-" ++ xs) same.1))
-    (λ g. bind_some _ (label_at text) (v, rest) g (λ l f k.
-    let same = some_pair_parts (Transaction l.0) v l.1 rest k in
-    let P : View → Type 0 = λ w. IsView w × (text ≡ view_spelling w ++ rest) in
-    let read = label_is text l.0 l.1 f in
-    subst P same.0 (read.0, read.1 ∙ ap (λ (xs : List ℕ). label_spelling l.0 ++ xs) same.1)))
-
-no_dash : (rest : List ℕ) → after_word (codes "-") (codes "h" ++ rest) ≡ None
+no_dash : (rest : List ℕ) → after_word (codes " -") (codes " h" ++ rest) ≡ None
 unfolding after_word
 no_dash rest = refl
 
-pub view_again : (v : View) (rest : List ℕ) → IsView v → starts_with_digit rest ≡ false → view_at (view_spelling v ++ rest) ≡ Some (v, rest)
+pub reads_view : Reads IsView (λ v. space ∷ view_spelling v) view_at
 unfolding view_at
-view_again Plain rest h ends = rw (after_word_again (codes "-") rest) refl
-view_again (Transaction l) rest h ends = rw (no_dash (decimal l.0 ++ rest), label_again l rest h ends) refl
+reads_view = record {
+  found = λ text v rest e.
+      let P : View → Type 0 = λ w. IsView w × (text ≡ space ∷ view_spelling w ++ rest) in
+      on_word_some (after_word (codes " -") text) _ _ (v, rest) e
+      (λ more f g.
+      let same = some_pair_parts Plain v more rest g in
+      subst P same.0 (tt, after_word_is (codes " -") text more f ∙ ap (λ (xs : List ℕ). codes " -" ++ xs) same.1))
+      (λ g. bind_some _ (label_at text) (v, rest) g (λ l f k.
+      let same = some_pair_parts (Transaction l.0) v l.1 rest k in
+      let read = reads_label.found text l.0 l.1 f in
+      subst P same.0 (read.0, read.1 ∙ ap (λ (xs : List ℕ). space ∷ label_spelling l.0 ++ xs) same.1)));
+  every = again;
+}
+  where
+    again : (v : View) (rest : List ℕ) → IsView v → ends_part rest ≡ true → view_at (space ∷ view_spelling v ++ rest) ≡ Some (v, rest)
+    again Plain rest is ends = rw (after_word_again (codes " -") rest) refl
+    again (Transaction l) rest is ends = rw (no_dash (decimal l.0 ++ rest), reads_label.every l rest is ends) refl
 
-byte_is : (c : ℕ) → is_line_byte c ≡ true → c ≢ quotation_mark → IsTextByte c
-byte_is c e other = record { from = grind arith; to = grind arith; other = other }
+pub reads_size : Reads (λ n. n < 2 ^ 64) (λ n. space ∷ decimal n) size_at
+unfolding size_at
+reads_size =
+    let most = spaced (reads_number 0xFFFF_FFFF_FFFF_FFFF (lit< tt)) in
+    record {
+      found = λ text n rest e. let read = most.found text n rest e in (omega (arith, read.0), read.1);
+      every = λ n rest is ends. most.every n rest (omega arith) ends;
+    }
 
-byte_again : (c : ℕ) → IsTextByte c → (nat_eq c quotation_mark ≡ false) × (is_line_byte c ≡ true)
+byte_is : (c : ℕ) → is_text_byte c ≡ true → IsTextByte c
+byte_is c e = record { from = grind (arith, nat_tests); to = grind (arith, nat_tests); other = λ mark. grind (arith, nat_tests) }
+
+byte_again : (c : ℕ) → IsTextByte c → is_text_byte c ≡ true
 byte_again c h =
     let from = h.from in
     let to = h.to in
     let other = h.other in
-    let no_mark : nat_eq c quotation_mark ≡ false = grind arith in
-    (no_mark, grind arith)
+    grind (arith, nat_tests)
 
--- what was read behind the front
-text_is : (front text t rest : List ℕ) → text_from front text ≡ Some (t, rest)
-    → (more : List ℕ) × (t ≡ front ++ more) × IsText more × (text ≡ more ++ quotation_mark ∷ rest)
-unfolding text_from
-text_is front [] t rest e = cc
-text_is front (c ∷ cs) t rest e = elim (cases_eq c quotation_mark) [
-  | inl mark ↦
-      let test : nat_eq c quotation_mark ≡ true = grind arith in
-      let same = some_pair_parts front t cs rest (rw test at e) in
-      ([], sym same.0 ∙ sym (append-nil front), tt, rw (mark, same.1) refl)
-  | inr other ↦
-      let test : nat_eq c quotation_mark ≡ false = grind arith in
-      elim (cases_Bool (is_line_byte c)) [
-        | inl byte ↦
-            let ih = text_is (front ++ c ∷ []) cs t rest (rw (test, byte) at e) in
-            (c ∷ ih.0, ih.1 ∙ append_assoc front (c ∷ []) ih.0, (byte_is c byte other, ih.2), ap (λ (xs : List ℕ). c ∷ xs) ih.3)
-        | inr bad ↦ cc (rw (test, bad) at e)
-      ]
-]
+text_is : (t : List ℕ) → AreTextBytes t → IsText t
+text_is [] h = tt
+text_is (c ∷ cs) h = (byte_is c h.0, text_is cs h.1)
 
-text_again : (front t rest : List ℕ) → IsText t → text_from front (t ++ quotation_mark ∷ rest) ≡ Some (front ++ t, rest)
-unfolding text_from
-text_again front [] rest h = rw (append-nil front) refl
-text_again front (c ∷ cs) rest h =
-    let tests = byte_again c h.0 in
-    rw (tests.0, tests.1) (text_again (front ++ c ∷ []) cs rest h.1 ∙ ap (λ (xs : List ℕ). Some (xs, rest)) (append_assoc front (c ∷ []) cs))
+text_again : (t : List ℕ) → IsText t → AreTextBytes t
+text_again [] h = tt
+text_again (c ∷ cs) h = (byte_again c h.0, text_again cs h.1)
 
-closed : (t more rest cs : List ℕ) → t ≡ more → cs ≡ more ++ quotation_mark ∷ rest → cs ≡ t ++ quotation_mark ∷ [] ++ rest
-closed t more rest cs same e = e ∙ ap (λ (xs : List ℕ). xs ++ quotation_mark ∷ rest) (sym same) ∙ sym (append_assoc t (quotation_mark ∷ []) rest)
+pub reads_text : Reads IsText (λ t. space ∷ quoted t) text_at
+unfolding text_at
+reads_text = spaced (record {
+  found = λ text t rest e. let read = quoted_is text t rest e in (text_is t read.0, read.1);
+  every = λ t rest is ends. quoted_again t rest (text_again t is);
+})
 
-pub quoted_is : (text t rest : List ℕ) → quoted_at text ≡ Some (t, rest) → IsText t × (text ≡ quoted t ++ rest)
-unfolding quoted_at
-quoted_is [] t rest e = cc
-quoted_is (c ∷ cs) t rest e = elim (cases_eq c quotation_mark) [
-  | inl mark ↦
-      let test : nat_eq c quotation_mark ≡ true = grind arith in
-      let read = text_is [] cs t rest (rw test at e) in
-      let behind = closed t read.0 rest cs read.1 read.3 in
-      (subst IsText (sym read.1) read.2, ap (λ (b : ℕ). b ∷ cs) mark ∙ ap (λ (xs : List ℕ). quotation_mark ∷ xs) behind)
-  | inr other ↦
-      let test : nat_eq c quotation_mark ≡ false = grind arith in
-      cc (rw test at e)
-]
+pub reads_guid : Reads IsGuid (λ g. space ∷ guid_spelling g) (behind_space guid_at)
+reads_guid = spaced (record {
+  found = λ text g rest e. let read = guid_is text g rest e in (record { long = read.0; bytes = read.1 }, read.2);
+  every = λ g rest is ends. guid_again g rest is.long is.bytes;
+})
 
-pub quoted_again : (t rest : List ℕ) → IsText t → quoted_at (quoted t ++ rest) ≡ Some (t, rest)
-unfolding quoted_at
-quoted_again t rest h = ap (λ (xs : List ℕ). text_from [] xs) (append_assoc t (quotation_mark ∷ []) rest) ∙ text_again [] t rest h
+digit_no_space : (n : ℕ) → nat_eq (hex_digit n) space ≡ false
+digit_no_space n = grind (arith, nat_tests)
 
-pub last_number_is : (most : ℕ) (text : List ℕ) (n : ℕ) → most < 2 ^ 64 → last_number_at most text ≡ Some n → (n ≤ most) × (text ≡ decimal n)
-unfolding last_number_at
-last_number_is most text n fits e = bind_some _ (number_at most text) n e (λ number f end.
-    let whole = at_end_is number.0 n number.1 end in
-    let read = number_is most text number.0 number.1 fits f in
-    let spelled : text ≡ decimal number.0 = read.1 ∙ rw whole.0 (append-nil (decimal number.0)) in
-    (rw (← whole.1) read.0, rw (← whole.1) spelled))
+hex_of_word : (bytes : List ℕ) → is_word (hex_of bytes) ≡ true
+hex_of_word [] = refl
+hex_of_word (b ∷ bs) = rw (digit_no_space (b / 16), digit_no_space (b % 16)) (hex_of_word bs)
 
-pub last_number_again : (most n : ℕ) → most < 2 ^ 64 → n ≤ most → last_number_at most (decimal n) ≡ Some n
-unfolding last_number_at
-last_number_again most n fits within =
-    let read : number_at most (decimal n) ≡ Some (n, []) = rw append-nil at (number_again most n [] fits within refl) in
-    rw read refl
+hex_word : (bytes : List ℕ) → is_word (hex_or_dash bytes) ≡ true
+hex_word [] = refl
+hex_word (b ∷ bs) = hex_of_word (b ∷ bs)
 
-pub last_text_is : (text t : List ℕ) → last_text_at text ≡ Some t → IsText t × (text ≡ codes " " ++ quoted t)
-unfolding last_text_at
-last_text_is text t e = bind_some _ (after_word (codes " ") text) t e (λ mark f g.
-    bind_some _ (quoted_at mark) t g (λ read h end.
-    let whole = at_end_is read.0 t read.1 end in
-    let space = after_word_is (codes " ") text mark f in
-    let first = quoted_is mark read.0 read.1 h in
-    let spelled : text ≡ codes " " ++ quoted read.0 = space ∙ ap (λ (xs : List ℕ). codes " " ++ xs) (first.1 ∙ rw whole.0 (append-nil (quoted read.0))) in
-    let P : List ℕ → Type 0 = λ x. IsText x × (text ≡ codes " " ++ quoted x) in
-    subst P whole.1 (first.0, spelled)))
+pub reads_bytes : Reads AreBytes (λ b. space ∷ hex_or_dash b) bytes_at
+unfolding bytes_at
+reads_bytes = record {
+  found = λ text b rest e. bind_some _ (after_word (codes " ") text) (b, rest) e (λ behind f g.
+      bind_some _ (unhex_or_dash (word_from [] behind).0) (b, rest) g (λ read h k.
+      let same = some_pair_parts read b (word_from [] behind).1 rest k in
+      let hex = unhex_or_dash_is (word_from [] behind).0 read h in
+      let P : List ℕ → Type 0 = λ x. AreBytes x × (text ≡ space ∷ hex_or_dash x ++ rest) in
+      subst P same.0 (
+        hex.0,
+        after_word_is (codes " ") text behind f ∙ ap (λ (xs : List ℕ). space ∷ xs)
+            (word_is behind ∙ ap (λ (xs : List ℕ). xs ++ (word_from [] behind).1) hex.1 ∙ ap (λ (xs : List ℕ). hex_or_dash read ++ xs) same.1),
+      )));
+  every = λ b rest is ends. rw (after_word_again (codes " ") (hex_or_dash b ++ rest), word_again (hex_or_dash b) rest (hex_word b) ends, unhex_or_dash_again b is) refl;
+}
 
-pub last_text_again : (t : List ℕ) → IsText t → last_text_at (codes " " ++ quoted t) ≡ Some t
-unfolding last_text_at
-last_text_again t h =
-    let read : quoted_at (quoted t) ≡ Some (t, []) = ap quoted_at (sym (append-nil (quoted t))) ∙ quoted_again t [] h in
-    rw (after_word_again (codes " ") (quoted t), read) refl
+own_access : (x : Access) → (is_word (access_spelling x) ≡ true) × (by_word access_spelling accesses (access_spelling x) ≡ Some x)
+unfolding by_word
+own_access access.Read = (refl, refl)
+own_access _ = (refl, refl)
+
+pub reads_access : Reads (λ (x : Access). Unit {0}) (λ x. space ∷ access_spelling x) access_at
+unfolding access_at
+reads_access = by_words access_spelling accesses own_access
+
+own_share : (x : ShareMode) → (is_word (share_spelling x) ≡ true) × (by_word share_spelling shares (share_spelling x) ≡ Some x)
+unfolding by_word
+own_share share.Nothing = (refl, refl)
+own_share _ = (refl, refl)
+
+pub reads_share : Reads (λ (x : ShareMode). Unit {0}) (λ x. space ∷ share_spelling x) share_at
+unfolding share_at
+reads_share = by_words share_spelling shares own_share
+
+own_disposition : (x : Disposition) → (is_word (disposition_spelling x) ≡ true) × (by_word disposition_spelling dispositions (disposition_spelling x) ≡ Some x)
+unfolding by_word
+own_disposition disposition.CreateNew = (refl, refl)
+own_disposition _ = (refl, refl)
+
+pub reads_disposition : Reads (λ (x : Disposition). Unit {0}) (λ x. space ∷ disposition_spelling x) disposition_at
+unfolding disposition_at
+reads_disposition = by_words disposition_spelling dispositions own_disposition
+
+own_durability : (x : Durability) → (is_word (durability_spelling x) ≡ true) × (by_word durability_spelling durabilities (durability_spelling x) ≡ Some x)
+unfolding by_word
+own_durability durability.Volatile = (refl, refl)
+own_durability _ = (refl, refl)
+
+pub reads_durability : Reads (λ (x : Durability). Unit {0}) (λ x. space ∷ durability_spelling x) durability_at
+unfolding durability_at
+reads_durability = by_words durability_spelling durabilities own_durability
+
+own_kind : (x : EnlistmentKind) → (is_word (kind_spelling x) ≡ true) × (by_word kind_spelling kinds (kind_spelling x) ≡ Some x)
+unfolding by_word
+own_kind kind.Plain = (refl, refl)
+own_kind _ = (refl, refl)
+
+pub reads_kind : Reads (λ (x : EnlistmentKind). Unit {0}) (λ x. space ∷ kind_spelling x) kind_at
+unfolding kind_at
+reads_kind = by_words kind_spelling kinds own_kind
+
+own_form : (x : Form) → (is_word (form_name x) ≡ true) × (by_word form_name forms (form_name x) ≡ Some x)
+unfolding by_word
+own_form form.CreateTransaction = (refl, refl)
+own_form _ = (refl, refl)
+
+pub reads_form : Reads (λ (x : Form). Unit {0}) (λ x. space ∷ form_name x) form_at
+unfolding form_at
+reads_form = by_words form_name forms own_form
+
+pub reads_kind_in_transaction : Reads (λ (p : Label × EnlistmentKind). IsLabel p.0 × Unit {0}) (λ p. space ∷ (label_spelling p.0 ␣ kind_spelling p.1)) kind_in_transaction_at
+unfolding kind_in_transaction_at
+reads_kind_in_transaction = both reads_label reads_kind
+
+-- the letters and the word of the modes, behind a space each
+abbrev pub modes_spelling : (Access × (ShareMode × Disposition)) → List ℕ
+modes_spelling m = space ∷ (access_spelling m.0 ␣ share_spelling m.1.0 ␣ disposition_spelling m.1.1)
+
+pub reads_modes : Reads (λ (m : Access × (ShareMode × Disposition)). Unit {0} × (Unit {0} × Unit {0})) modes_spelling modes_at
+unfolding modes_at
+reads_modes = both reads_access (both reads_share reads_disposition)

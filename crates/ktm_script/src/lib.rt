@@ -2,12 +2,16 @@
 //! line.
 #![tactic(auto)]
 
+mod arguments;
 mod command;
 mod fault;
+mod form;
 mod line;
 mod parts;
+mod put;
 #[cfg(test)]
 mod tests;
+mod word;
 mod write;
 
 pub use fault::LineFault;

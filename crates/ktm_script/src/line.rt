@@ -1,40 +1,26 @@
 // Lines.
-ghost use Rattle.std.specs.Prelude.{◌≡◌, ◌⊎◌, IfOk, Ok, Err};
-ghost use Rattle.ktm_script.specs.Reading.{Gives, at_end, cut_at, line_at, process_line_at, restart_at};
+ghost use Rattle.std.specs.Prelude.{◌≡◌, ◌≤◌, ◌⊎◌, IfOk, IfSome, Ok, Err};
+ghost use Rattle.ktm_script.specs.Reading.{Gives, last_count_at, line_at, process_line_at};
 ghost use Rattle.ktm_script.specs.Spelling.{IsLine, spelling};
-ghost use Rattle.ktm_world.specs.declared.command.Line.TheVariants.{Crash};
 
-use crate::LineFault;
+use crate::LineFault::{self, BadLine};
 use crate::command::command;
-use crate::parts::{last_number, process};
+use crate::parts::{end, read_count, read_process};
 use ktm_codec::strip_word;
 use ktm_world::Line;
 use std::alloc::Global;
 
 const MOST_BYTES: usize = 140_000;
 
-#[tactic(auto, unfolding(crate::specs::Reading::cut_at))]
-fn cut(text: &[u8]) -> Option<Line>
-    ensures { result ≡ cut_at text.now }
+// A number behind a space, which nothing follows.
+#[tactic(auto, unfolding(crate::specs::Reading::last_count_at))]
+fn last_count(most: u64, text: &[u8]) -> Option<u64>
+    ensures value { result ≡ last_count_at most text.now }
+    ensures within { IfSome result (λ number. number ≤ most) }
 {
-    Some(Line::Cut(last_number(u64::MAX, text)?))
-}
-
-fn crash(text: &[u8]) -> Option<Line>
-    ensures { result ≡ at_end Crash text.now }
-{
-    if text.is_empty() {
-        Some(Line::Crash)
-    } else {
-        None
-    }
-}
-
-#[tactic(auto, unfolding(crate::specs::Reading::restart_at))]
-fn restart(text: &[u8]) -> Option<Line>
-    ensures { result ≡ restart_at text.now }
-{
-    Some(Line::Restart(last_number(u64::MAX, text)?))
+    let (number, rest) = read_count(most, text)?;
+    end(rest)?;
+    Some(number)
 }
 
 // A process and its command.
@@ -42,8 +28,7 @@ fn restart(text: &[u8]) -> Option<Line>
 fn process_line(alloc: Global, text: &[u8]) -> Result<Line, LineFault>
     ensures { Gives result (process_line_at text.now) }
 {
-    let (process, rest) = process(text).ok_or(LineFault::BadLine)?;
-    let rest = strip_word(rest, b" ").ok_or(LineFault::BadLine)?;
+    let (process, rest) = read_process(text).ok_or(BadLine)?;
     Ok(Line::Process(process, command(alloc, rest)?))
 }
 
@@ -52,12 +37,16 @@ fn process_line(alloc: Global, text: &[u8]) -> Result<Line, LineFault>
 fn line_of_any_length(alloc: Global, text: &[u8]) -> Result<Line, LineFault>
     ensures { Gives result (line_at text.now) }
 {
-    if let Some(rest) = strip_word(text, b"cut ") {
-        cut(rest).ok_or(LineFault::BadLine)
+    if let Some(rest) = strip_word(text, b"tick") {
+        let milliseconds = last_count(u64::from(u32::MAX), rest).ok_or(BadLine)?;
+        Ok(Line::Tick(milliseconds as u32))
+    } else if let Some(rest) = strip_word(text, b"cut") {
+        Ok(Line::Cut(last_count(u64::MAX, rest).ok_or(BadLine)?))
     } else if let Some(rest) = strip_word(text, b"crash") {
-        crash(rest).ok_or(LineFault::BadLine)
-    } else if let Some(rest) = strip_word(text, b"restart ") {
-        restart(rest).ok_or(LineFault::BadLine)
+        end(rest).ok_or(BadLine)?;
+        Ok(Line::Crash)
+    } else if let Some(rest) = strip_word(text, b"restart") {
+        Ok(Line::Restart(last_count(u64::MAX, rest).ok_or(BadLine)?))
     } else {
         process_line(alloc, text)
     }
@@ -76,7 +65,7 @@ pub fn read_line(alloc: Global, line: &[u8]) -> Result<Line, LineFault>
     ensures exact { (x : Line) → IsLine x → spelling x ≡ line.now → (result ≡ Ok x) ⊎ (result ≡ Err LineFault.NoMemory) }
 {
     if line.len() > MOST_BYTES {
-        return Err(LineFault::BadLine);
+        return Err(BadLine);
     }
     line_of_any_length(alloc, line)
 }

@@ -1,10 +1,23 @@
-// The parts of a line. Each reader answers with what it read and what follows that.
-ghost use Rattle.std.specs.Prelude.{◌≡◌, ◌≤◌, [], IfSome, option_map};
-ghost use Rattle.ktm_script.specs.Reading.{label_at, last_number_at, last_text_at, named_at, process_at, quoted_at, text_from, view_at};
+// The parts of a line, most of them behind a space. Each reader answers with what it read and what follows that.
+ghost use Rattle.std.specs.Prelude.{◌≡◌, ◌≤◌, IfSome, option_map};
+ghost use Rattle.ktm_codec.specs.Guid.{guid_at};
+ghost use Rattle.ktm_codec.specs.Number.{number_at};
+ghost use Rattle.ktm_script.specs.Reading.{GivesPart, access_at, at_end, behind_space, bytes_at, disposition_at, durability_at, kind_at, kind_in_transaction_at, label_at, modes_at, named_at, process_at, share_at, size_at, text_at, view_at, whole};
 
-use ktm_base::{Label, Pid};
-use ktm_codec::{read_number, strip_word};
-use ktm_world::View;
+use crate::LineFault::{self, BadLine};
+use crate::word::{one_of, split_word};
+use ktm_base::{Bytes, Label, Pid, Text};
+use ktm_codec::{read_guid, read_hex_or_dash, read_number, read_quoted, strip_word};
+use ktm_world::{Access, Disposition, Durability, EnlistmentKind, ShareMode, View};
+use std::alloc::Global;
+use uuid::Uuid;
+
+// Nothing follows.
+pub fn end(text: &[u8]) -> Option<()>
+    ensures { result ≡ at_end tt text.now }
+{
+    if text.is_empty() { Some(()) } else { None }
+}
 
 // A letter and a number from 1.
 #[tactic(auto, unfolding(crate::specs::Reading::named_at))]
@@ -20,8 +33,9 @@ fn named<'a>(letter: &[u8], most: u64, text: &'a [u8]) -> Option<(u64, &'a [u8])
     }
 }
 
+// A process, at the front.
 #[tactic(auto, unfolding(crate::specs::Reading::process_at))]
-pub fn process(text: &[u8]) -> Option<(Pid, &[u8])>
+pub fn read_process(text: &[u8]) -> Option<(Pid, &[u8])>
     ensures { option_map (λ read. (read.0, read.1.now)) result ≡ process_at text.now }
 {
     let (number, rest) = named(b"p", 64, text)?;
@@ -29,65 +43,145 @@ pub fn process(text: &[u8]) -> Option<(Pid, &[u8])>
 }
 
 #[tactic(auto, unfolding(crate::specs::Reading::label_at))]
-pub fn label(text: &[u8]) -> Option<(Label, &[u8])>
+pub fn read_label(text: &[u8]) -> Option<(Label, &[u8])>
     ensures { option_map (λ read. (read.0, read.1.now)) result ≡ label_at text.now }
 {
-    let (number, rest) = named(b"h", 65_535, text)?;
+    let (number, rest) = named(b" h", 65_535, text)?;
     Some((Label(number as u16), rest))
 }
 
 #[tactic(auto, unfolding(crate::specs::Reading::view_at))]
-pub fn view(text: &[u8]) -> Option<(View, &[u8])>
+pub fn read_view(text: &[u8]) -> Option<(View, &[u8])>
     ensures { option_map (λ read. (read.0, read.1.now)) result ≡ view_at text.now }
 {
-    if let Some(rest) = strip_word(text, b"-") {
+    if let Some(rest) = strip_word(text, b" -") {
         return Some((View::Plain, rest));
     }
-    let (label, rest) = label(text)?;
+    let (label, rest) = read_label(text)?;
     Some((View::Transaction(label), rest))
 }
 
-// The characters up to the next quotation mark, and what follows that.
-#[tactic(auto, unfolding(crate::specs::Reading::text_from))]
-fn to_quotation_mark(text: &[u8]) -> Option<(&[u8], &[u8])>
-    ensures { option_map (λ read. (read.0.now, read.1.now)) result ≡ text_from [] text.now }
+pub fn read_count(most: u64, text: &[u8]) -> Option<(u64, &[u8])>
+    ensures value { option_map (λ read. (read.0, read.1.now)) result ≡ behind_space (number_at most) text.now }
+    ensures within { IfSome result (λ read. read.0 ≤ most) }
 {
-    for (index, byte) in text.iter().enumerate() {
-        match byte {
-            b'"' => return Some((&text[..index], &text[index + 1..])),
-            0x20..=0x7E => {}
-            _ => return None,
-        }
-    }
-    None
+    read_number(most, strip_word(text, b" ")?)
 }
 
-// A text between quotation marks.
-#[tactic(auto, unfolding(crate::specs::Reading::quoted_at))]
-pub fn quoted(text: &[u8]) -> Option<(&[u8], &[u8])>
-    ensures { option_map (λ read. (read.0.now, read.1.now)) result ≡ quoted_at text.now }
+// A number of at most 64 bits.
+#[tactic(auto, unfolding(crate::specs::Reading::size_at))]
+pub fn read_size(text: &[u8]) -> Option<(u64, &[u8])>
+    ensures { option_map (λ read. (read.0, read.1.now)) result ≡ size_at text.now }
 {
-    match text {
-        [b'"', rest @ ..] => to_quotation_mark(rest),
+    read_count(u64::MAX, text)
+}
+
+// A GUID that nothing follows.
+pub fn read_last_guid(text: &[u8]) -> Option<Uuid>
+    ensures { result ≡ whole (behind_space guid_at) text.now }
+{
+    match read_guid(strip_word(text, b" ")?) {
+        Some((guid, [])) => Some(guid),
         _ => None,
     }
 }
 
-// A number that nothing follows.
-#[tactic(auto, unfolding(crate::specs::Reading::last_number_at))]
-pub fn last_number(most: u64, text: &[u8]) -> Option<u64>
-    ensures value { result ≡ last_number_at most text.now }
-    ensures within { IfSome result (λ number. number ≤ most) }
+#[tactic(auto, unfolding(crate::specs::Reading::durability_at))]
+pub fn read_durability(text: &[u8]) -> Option<(Durability, &[u8])>
+    ensures { option_map (λ read. (read.0, read.1.now)) result ≡ durability_at text.now }
 {
-    let (number, rest) = read_number(most, text)?;
-    if rest.is_empty() { Some(number) } else { None }
+    one_of(&[Durability::Volatile, Durability::Durable], text)
 }
 
-// A text behind a space, which nothing follows.
-#[tactic(auto, unfolding(crate::specs::Reading::last_text_at))]
-pub fn last_text(text: &[u8]) -> Option<&[u8]>
-    ensures { option_map (λ read. read.now) result ≡ last_text_at text.now }
+#[tactic(auto, unfolding(crate::specs::Reading::kind_at))]
+fn read_kind(text: &[u8]) -> Option<(EnlistmentKind, &[u8])>
+    ensures { option_map (λ read. (read.0, read.1.now)) result ≡ kind_at text.now }
 {
-    let (key, rest) = quoted(strip_word(text, b" ")?)?;
-    if rest.is_empty() { Some(key) } else { None }
+    one_of(
+        &[
+            EnlistmentKind::Plain,
+            EnlistmentKind::PrePrepare,
+            EnlistmentKind::SinglePhase,
+            EnlistmentKind::Both,
+            EnlistmentKind::Superior,
+        ],
+        text,
+    )
+}
+
+// The transaction of an enlistment, and its kind.
+#[tactic(auto, unfolding(crate::specs::Reading::kind_in_transaction_at))]
+pub fn read_kind_in_transaction(text: &[u8]) -> Option<(Label, EnlistmentKind, &[u8])>
+    ensures { option_map (λ read. ((read.0, read.1), read.2.now)) result ≡ kind_in_transaction_at text.now }
+{
+    let (transaction, rest) = read_label(text)?;
+    let (kind, rest) = read_kind(rest)?;
+    Some((transaction, kind, rest))
+}
+
+#[tactic(auto, unfolding(crate::specs::Reading::access_at))]
+fn read_access(text: &[u8]) -> Option<(Access, &[u8])>
+    ensures { option_map (λ read. (read.0, read.1.now)) result ≡ access_at text.now }
+{
+    one_of(&[Access::Read, Access::Write, Access::ReadWrite], text)
+}
+
+#[tactic(auto, unfolding(crate::specs::Reading::share_at))]
+fn read_share(text: &[u8]) -> Option<(ShareMode, &[u8])>
+    ensures { option_map (λ read. (read.0, read.1.now)) result ≡ share_at text.now }
+{
+    one_of(
+        &[
+            ShareMode::Nothing,
+            ShareMode::Read,
+            ShareMode::Write,
+            ShareMode::ReadWrite,
+        ],
+        text,
+    )
+}
+
+#[tactic(auto, unfolding(crate::specs::Reading::disposition_at))]
+fn read_disposition(text: &[u8]) -> Option<(Disposition, &[u8])>
+    ensures { option_map (λ read. (read.0, read.1.now)) result ≡ disposition_at text.now }
+{
+    one_of(
+        &[
+            Disposition::CreateNew,
+            Disposition::CreateAlways,
+            Disposition::OpenExisting,
+            Disposition::OpenAlways,
+            Disposition::TruncateExisting,
+        ],
+        text,
+    )
+}
+
+// How a file is opened.
+#[tactic(auto, unfolding(crate::specs::Reading::modes_at))]
+pub fn read_modes(text: &[u8]) -> Option<(Access, ShareMode, Disposition, &[u8])>
+    ensures { option_map (λ read. ((read.0, (read.1, read.2)), read.3.now)) result ≡ modes_at text.now }
+{
+    let (access, rest) = read_access(text)?;
+    let (share, rest) = read_share(rest)?;
+    let (disposition, rest) = read_disposition(rest)?;
+    Some((access, share, disposition, rest))
+}
+
+#[tactic(auto, unfolding(crate::specs::Reading::text_at))]
+pub fn read_text(alloc: Global, text: &[u8]) -> Result<(Text, &[u8]), LineFault>
+    ensures { GivesPart result (text_at text.now) }
+{
+    let text = strip_word(text, b" ").ok_or(BadLine)?;
+    let (text, rest) = read_quoted(text).ok_or(BadLine)?;
+    Ok((Text::new(text.to_vec(alloc)?), rest))
+}
+
+#[tactic(auto, unfolding(crate::specs::Reading::bytes_at))]
+pub fn read_bytes(alloc: Global, text: &[u8]) -> Result<(Bytes, &[u8]), LineFault>
+    ensures { GivesPart result (bytes_at text.now) }
+{
+    let (digits, rest) = split_word(strip_word(text, b" ").ok_or(BadLine)?);
+    let bytes = read_hex_or_dash(alloc, digits)?.ok_or(BadLine)?;
+    Ok((bytes, rest))
 }

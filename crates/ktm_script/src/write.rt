@@ -1,86 +1,335 @@
 // Lines as they are written.
-ghost use Rattle.std.specs.Prelude.{◌≡◌, ◌⊎◌, ◌++◌, IfOk, OnOk, Ok, Err, decimal};
-ghost use Rattle.ktm_script.specs.Spelling.{IsLine, command_spelling, label_spelling, quoted, spelling, view_spelling};
+ghost use Rattle.std.specs.Prelude.{◌≡◌, ◌⊎◌, ◌++◌, ◌∷◌, IfOk, OnOk, Ok, Err, decimal};
+ghost use Rattle.ktm_codec.specs.Guid.{guid_spelling};
+ghost use Rattle.ktm_codec.specs.Quoted.{quoted};
+ghost use Rattle.ktm_script.specs.Reading.{form_name};
+ghost use Rattle.ktm_script.specs.Spelling.{IsLine, command_spelling, label_spelling, space, spelling, ◌␣◌};
 
 use crate::LineFault;
+use crate::form::Form;
 use crate::line::read_line;
+use crate::put::{
+    put_bytes, put_count, put_guid_part, put_label, put_modes, put_modes_and_label, put_process,
+    put_text, put_view,
+};
+use crate::word::put_word;
 use ktm_base::{Bytes, Label, NoMemory, Text};
-use ktm_codec::{put_hex_or_dash, put_number};
-use ktm_world::{Command, Line, View};
+use ktm_world::{Command, Line};
 use std::alloc::Global;
+use uuid::Uuid;
 
-fn put_label(out: &mut Vec<u8>, label: Label) -> Result<(), NoMemory>
-    ensures { OnOk result (out.new.items ≡ out.old.items ++ label_spelling label) }
+fn put_one_label(out: &mut Vec<u8>, form: Form, label: Label) -> Result<(), NoMemory>
+    ensures { OnOk result (out.new.items ≡ out.old.items ++ space ∷ (form_name form ␣ label_spelling label)) }
 {
-    out.extend_from_slice(b"h")?;
-    put_number(out, u64::from(label.0))?;
-    Ok(())
+    put_word(out, form)?;
+    put_label(out, label)
 }
 
-fn put_view(out: &mut Vec<u8>, view: View) -> Result<(), NoMemory>
-    ensures { OnOk result (out.new.items ≡ out.old.items ++ view_spelling view) }
+fn put_label_and_guid(
+    out: &mut Vec<u8>,
+    form: Form,
+    label: Label,
+    guid: &Uuid,
+) -> Result<(), NoMemory>
+    ensures { OnOk result (out.new.items ≡ out.old.items ++ space ∷ (form_name form ␣ label_spelling label ␣ guid_spelling guid.now)) }
 {
-    match view {
-        View::Plain => out.extend_from_slice(b"-")?,
-        View::Transaction(label) => put_label(out, label)?,
-    }
-    Ok(())
+    put_one_label(out, form, label)?;
+    put_guid_part(out, guid)
 }
 
-// A text between quotation marks.
-fn put_quoted(out: &mut Vec<u8>, text: &Text) -> Result<(), NoMemory>
-    ensures { OnOk result (out.new.items ≡ out.old.items ++ quoted text.now) }
+fn put_label_and_count(
+    out: &mut Vec<u8>,
+    form: Form,
+    label: Label,
+    number: u64,
+) -> Result<(), NoMemory>
+    ensures { OnOk result (out.new.items ≡ out.old.items ++ space ∷ (form_name form ␣ label_spelling label ␣ decimal number)) }
 {
-    out.extend_from_slice(b"\"")?;
-    out.extend_from_slice(text.as_slice())?;
-    out.extend_from_slice(b"\"")?;
-    Ok(())
+    put_one_label(out, form, label)?;
+    put_count(out, number)
 }
 
+fn put_label_and_text(
+    out: &mut Vec<u8>,
+    form: Form,
+    label: Label,
+    text: &Text,
+) -> Result<(), NoMemory>
+    ensures { OnOk result (out.new.items ≡ out.old.items ++ space ∷ (form_name form ␣ label_spelling label ␣ quoted text.now)) }
+{
+    put_one_label(out, form, label)?;
+    put_text(out, text)
+}
+
+fn put_one_text(out: &mut Vec<u8>, form: Form, text: &Text) -> Result<(), NoMemory>
+    ensures { OnOk result (out.new.items ≡ out.old.items ++ space ∷ (form_name form ␣ quoted text.now)) }
+{
+    put_word(out, form)?;
+    put_text(out, text)
+}
+
+fn put_text_and_label(
+    out: &mut Vec<u8>,
+    form: Form,
+    text: &Text,
+    label: Label,
+) -> Result<(), NoMemory>
+    ensures { OnOk result (out.new.items ≡ out.old.items ++ space ∷ (form_name form ␣ quoted text.now ␣ label_spelling label)) }
+{
+    put_one_text(out, form, text)?;
+    put_label(out, label)
+}
+
+// A command behind a space.
 fn put_command(out: &mut Vec<u8>, command: &Command) -> Result<(), NoMemory>
-    ensures { OnOk result (out.new.items ≡ out.old.items ++ command_spelling command.now) }
+    ensures { OnOk result (out.new.items ≡ out.old.items ++ space ∷ command_spelling command.now) }
 {
     match command {
         Command::CreateTransaction { label, timeout } => {
-            out.extend_from_slice(b"CreateTransaction ")?;
-            put_label(out, *label)?;
-            out.extend_from_slice(b" ")?;
-            put_number(out, u64::from(*timeout))?;
+            put_label_and_count(out, Form::CreateTransaction, *label, u64::from(*timeout))
         }
-        Command::CommitTransaction { transaction } => {
-            out.extend_from_slice(b"CommitTransaction ")?;
+        Command::OpenTransaction { label, guid } => put_label_and_guid(
+            out,
+            Form::OpenTransaction,
+            *label,
+            guid,
+        ),
+        Command::CommitTransaction { transaction } => put_one_label(
+            out,
+            Form::CommitTransaction,
+            *transaction,
+        ),
+        Command::RollbackTransaction { transaction } => put_one_label(
+            out,
+            Form::RollbackTransaction,
+            *transaction,
+        ),
+        Command::GetTransactionInformation { transaction } => put_one_label(
+            out,
+            Form::GetTransactionInformation,
+            *transaction,
+        ),
+        Command::CreateResourceManager { label, durability } => {
+            put_one_label(out, Form::CreateResourceManager, *label)?;
+            put_word(out, *durability)
+        }
+        Command::OpenResourceManager { label, guid } => put_label_and_guid(
+            out,
+            Form::OpenResourceManager,
+            *label,
+            guid,
+        ),
+        Command::RecoverResourceManager { manager } => put_one_label(
+            out,
+            Form::RecoverResourceManager,
+            *manager,
+        ),
+        Command::GetNotificationResourceManager { manager } => put_one_label(
+            out,
+            Form::GetNotificationResourceManager,
+            *manager,
+        ),
+        Command::CreateEnlistment {
+            label,
+            manager,
+            transaction,
+            kind,
+        } => {
+            put_one_label(out, Form::CreateEnlistment, *label)?;
+            put_label(out, *manager)?;
             put_label(out, *transaction)?;
+            put_word(out, *kind)
         }
+        Command::OpenEnlistment {
+            label,
+            manager,
+            guid,
+        } => {
+            put_one_label(out, Form::OpenEnlistment, *label)?;
+            put_label(out, *manager)?;
+            put_guid_part(out, guid)
+        }
+        Command::RecoverEnlistment { enlistment } => put_one_label(
+            out,
+            Form::RecoverEnlistment,
+            *enlistment,
+        ),
+        Command::PrePrepareComplete { enlistment } => put_one_label(
+            out,
+            Form::PrePrepareComplete,
+            *enlistment,
+        ),
+        Command::PrepareComplete { enlistment } => put_one_label(
+            out,
+            Form::PrepareComplete,
+            *enlistment,
+        ),
+        Command::ReadOnlyEnlistment { enlistment } => put_one_label(
+            out,
+            Form::ReadOnlyEnlistment,
+            *enlistment,
+        ),
+        Command::CommitComplete { enlistment } => put_one_label(
+            out,
+            Form::CommitComplete,
+            *enlistment,
+        ),
+        Command::RollbackComplete { enlistment } => put_one_label(
+            out,
+            Form::RollbackComplete,
+            *enlistment,
+        ),
+        Command::SinglePhaseReject { enlistment } => put_one_label(
+            out,
+            Form::SinglePhaseReject,
+            *enlistment,
+        ),
+        Command::RollbackEnlistment { enlistment } => put_one_label(
+            out,
+            Form::RollbackEnlistment,
+            *enlistment,
+        ),
+        Command::PrePrepareEnlistment { enlistment } => put_one_label(
+            out,
+            Form::PrePrepareEnlistment,
+            *enlistment,
+        ),
+        Command::PrepareEnlistment { enlistment } => put_one_label(
+            out,
+            Form::PrepareEnlistment,
+            *enlistment,
+        ),
+        Command::CommitEnlistment { enlistment } => put_one_label(
+            out,
+            Form::CommitEnlistment,
+            *enlistment,
+        ),
+        Command::SetEnlistmentRecoveryInformation {
+            enlistment,
+            information,
+        } => {
+            put_one_label(out, Form::SetEnlistmentRecoveryInformation, *enlistment)?;
+            put_bytes(out, information)
+        }
+        Command::GetEnlistmentRecoveryInformation { enlistment } => put_one_label(
+            out,
+            Form::GetEnlistmentRecoveryInformation,
+            *enlistment,
+        ),
+        Command::CreateFile {
+            label,
+            path,
+            access,
+            share,
+            disposition,
+        } => {
+            put_label_and_text(out, Form::CreateFile, *label, path)?;
+            put_modes(out, *access, *share, *disposition)
+        }
+        Command::CreateFileTransacted {
+            label,
+            path,
+            access,
+            share,
+            disposition,
+            transaction,
+        } => {
+            put_label_and_text(out, Form::CreateFileTransacted, *label, path)?;
+            put_modes_and_label(out, *access, *share, *disposition, *transaction)
+        }
+        Command::ReadFile {
+            file,
+            offset,
+            length,
+        } => {
+            put_label_and_count(out, Form::ReadFile, *file, *offset)?;
+            put_count(out, *length)
+        }
+        Command::WriteFile {
+            file,
+            offset,
+            bytes,
+        } => {
+            put_label_and_count(out, Form::WriteFile, *file, *offset)?;
+            put_bytes(out, bytes)
+        }
+        Command::SetEndOfFile { file, size } => {
+            put_label_and_count(out, Form::SetEndOfFile, *file, *size)
+        }
+        Command::GetFileSizeEx { file } => put_one_label(out, Form::GetFileSizeEx, *file),
+        Command::FlushFileBuffers { file } => put_one_label(out, Form::FlushFileBuffers, *file),
+        Command::DeleteFile { path } => put_one_text(out, Form::DeleteFile, path),
+        Command::CreateDirectory { path } => put_one_text(out, Form::CreateDirectory, path),
+        Command::RemoveDirectory { path } => put_one_text(out, Form::RemoveDirectory, path),
+        Command::MoveFile { source, target } => {
+            put_one_text(out, Form::MoveFile, source)?;
+            put_text(out, target)
+        }
+        Command::DeleteFileTransacted { path, transaction } => put_text_and_label(
+            out,
+            Form::DeleteFileTransacted,
+            path,
+            *transaction,
+        ),
+        Command::CreateDirectoryTransacted { path, transaction } => put_text_and_label(
+            out,
+            Form::CreateDirectoryTransacted,
+            path,
+            *transaction,
+        ),
+        Command::RemoveDirectoryTransacted { path, transaction } => put_text_and_label(
+            out,
+            Form::RemoveDirectoryTransacted,
+            path,
+            *transaction,
+        ),
+        Command::MoveFileTransacted {
+            source,
+            target,
+            transaction,
+        } => {
+            put_one_text(out, Form::MoveFileTransacted, source)?;
+            put_text(out, target)?;
+            put_label(out, *transaction)
+        }
+        Command::FindFiles { pattern } => put_one_text(out, Form::FindFiles, pattern),
+        Command::FindFilesTransacted {
+            pattern,
+            transaction,
+        } => put_text_and_label(out, Form::FindFilesTransacted, pattern, *transaction),
         Command::KvSet {
             transaction,
             key,
             value,
         } => {
-            out.extend_from_slice(b"KvSet ")?;
-            put_label(out, *transaction)?;
-            out.extend_from_slice(b" ")?;
-            put_quoted(out, key)?;
-            out.extend_from_slice(b" ")?;
-            put_hex_or_dash(out, value.as_slice())?;
+            put_label_and_text(out, Form::KvSet, *transaction, key)?;
+            put_bytes(out, value)
         }
         Command::KvUnset { transaction, key } => {
-            out.extend_from_slice(b"KvUnset ")?;
-            put_label(out, *transaction)?;
-            out.extend_from_slice(b" ")?;
-            put_quoted(out, key)?;
+            put_label_and_text(out, Form::KvUnset, *transaction, key)
         }
         Command::KvGet { view, key } => {
-            out.extend_from_slice(b"KvGet ")?;
+            put_word(out, Form::KvGet)?;
             put_view(out, *view)?;
-            out.extend_from_slice(b" ")?;
-            put_quoted(out, key)?;
+            put_text(out, key)
         }
         Command::KvList { view } => {
-            out.extend_from_slice(b"KvList ")?;
-            put_view(out, *view)?;
+            put_word(out, Form::KvList)?;
+            put_view(out, *view)
         }
+        Command::CloseHandle { label } => put_one_label(out, Form::CloseHandle, *label),
+        Command::DuplicateHandle {
+            label,
+            process,
+            source,
+        } => {
+            put_one_label(out, Form::DuplicateHandle, *label)?;
+            out.push(b' ')?;
+            put_process(out, *process)?;
+            put_label(out, *source)
+        }
+        Command::Exit => put_word(out, Form::Exit),
     }
-    Ok(())
 }
 
 /// The spelling of the line, without a newline.
@@ -89,19 +338,21 @@ pub fn write_line(alloc: Global, line: &Line) -> Result<Bytes, NoMemory>
 {
     let mut bytes = Vec::new(alloc);
     match line {
+        Line::Tick(milliseconds) => {
+            bytes.extend_from_slice(b"tick")?;
+            put_count(&mut bytes, u64::from(*milliseconds))?;
+        }
         Line::Cut(calls) => {
-            bytes.extend_from_slice(b"cut ")?;
-            put_number(&mut bytes, *calls)?;
+            bytes.extend_from_slice(b"cut")?;
+            put_count(&mut bytes, *calls)?;
         }
         Line::Crash => bytes.extend_from_slice(b"crash")?,
         Line::Restart(seed) => {
-            bytes.extend_from_slice(b"restart ")?;
-            put_number(&mut bytes, *seed)?;
+            bytes.extend_from_slice(b"restart")?;
+            put_count(&mut bytes, *seed)?;
         }
         Line::Process(process, command) => {
-            bytes.extend_from_slice(b"p")?;
-            put_number(&mut bytes, u64::from(process.0))?;
-            bytes.extend_from_slice(b" ")?;
+            put_process(&mut bytes, *process)?;
             put_command(&mut bytes, command)?;
         }
     }

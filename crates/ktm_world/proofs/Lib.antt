@@ -1,10 +1,10 @@
 pub mod SizeLemmas
-pub mod Logs
 pub mod KeyedLemmas
 pub mod KeyLemmas
-pub mod OwnLemmas
-pub mod NowLemmas
-pub mod Records
-pub mod Worlds
 pub mod Slots
 pub mod Stores
+pub mod Worlds
+pub mod Texts
+pub mod Transcripts
+pub mod Computing
+pub mod Counts

@@ -1,175 +1,130 @@
--- What each command does. Its tests stand in the order in which a command is tested.
-use Rattle.std.specs.Prelude.{ℕ, ◌+◌, ◌||◌, not, Bool, false, List, [], ◌∷◌, ◌++◌, nat_lt, Option, Some, None, is_some, is_none}
-use Rattle.std.specs.Option.{option_and_then}
+-- What each command does. The tests of each form stand in the order in which it is tested.
+use Rattle.std.specs.Prelude.{Bool, not, List, [], ◌∷◌, ◌++◌, Option, None}
 use Rattle.ktm_base.specs.declared.id.Id.{Id}
-use Rattle.ktm_base.specs.declared.id.Pid.{Pid}
 use Rattle.ktm_base.specs.declared.id.Label.{Label}
-use Rattle.ktm_base.specs.declared.id.ObjectKind.TheVariants.{Transaction as TransactionKind}
+use Rattle.ktm_base.specs.declared.id.Pid.{Pid}
 use Rattle.ktm_base.specs.declared.refusal.Refusal.{Refusal}
-use Rattle.ktm_base.specs.declared.refusal.Refusal.TheVariants.{MachineDown, InvalidHandle, TransactionAlreadyCommitted, TransactionAlreadyAborted, TransactionNotActive, InvalidParameter, NotFound, TransactionalConflict, NotEnoughQuota, DiskFull}
-use Rattle.ktm_base.specs.Guid.{guid_of}
+use Rattle.ktm_base.specs.declared.refusal.Refusal.TheVariants.{MachineDown}
 use Rattle.ktm_world.specs.declared.command.Command.{Command}
-use Rattle.ktm_world.specs.declared.command.Command.TheVariants.{CreateTransaction, CommitTransaction, KvSet, KvUnset, KvGet, KvList}
-use Rattle.ktm_world.specs.declared.command.View.{View}
-use Rattle.ktm_world.specs.declared.command.View.TheVariants.{Plain, Transaction as Through}
-use Rattle.ktm_world.specs.declared.event.Event.{Event}
-use Rattle.ktm_world.specs.declared.event.Event.TheVariants.{Single}
-use Rattle.ktm_world.specs.declared.event.Part.TheVariants.{Settings}
-use Rattle.ktm_world.specs.declared.object.Object.TheVariants.{Transaction as TransactionObject}
-use Rattle.ktm_world.specs.declared.object.Phase.TheVariants.{Active}
-use Rattle.ktm_world.specs.declared.object.TransactionOutcome.TheVariants.{Undetermined}
-use Rattle.ktm_world.specs.declared.reply.Reply.{Reply}
-use Rattle.ktm_world.specs.declared.reply.Reply.TheVariants.{Done, Guid, Committed, Contents, Keys, Refused}
-use Rattle.ktm_world.specs.Handles.{object_at, transaction_id, no_handle_left}
-use Rattle.ktm_world.specs.declared.object.Transaction.{Transaction}
-use Rattle.ktm_world.specs.Transactions.{transaction_at, change_at, is_active, is_committed, is_aborted, no_transaction_left, ended_committed}
-use Rattle.ktm_world.specs.Keys.{OwnSettings, own_settings, with_own, without_own, value_seen, store_seen, keys_of, is_held_by_other, keys_used, changes_pending, is_bad_key, is_bad_value}
+use Rattle.ktm_world.specs.declared.command.Command.TheVariants.{CreateTransaction, OpenTransaction, CommitTransaction, RollbackTransaction, GetTransactionInformation, CreateResourceManager, OpenResourceManager, RecoverResourceManager, GetNotificationResourceManager, CreateEnlistment, OpenEnlistment, RecoverEnlistment, PrePrepareComplete, PrepareComplete, ReadOnlyEnlistment, CommitComplete, RollbackComplete, SinglePhaseReject, RollbackEnlistment, PrePrepareEnlistment, PrepareEnlistment, CommitEnlistment, SetEnlistmentRecoveryInformation, GetEnlistmentRecoveryInformation, CreateFile, CreateFileTransacted, ReadFile, WriteFile, SetEndOfFile, GetFileSizeEx, FlushFileBuffers, DeleteFile, CreateDirectory, RemoveDirectory, MoveFile, DeleteFileTransacted, CreateDirectoryTransacted, RemoveDirectoryTransacted, MoveFileTransacted, FindFiles, FindFilesTransacted, KvSet, KvUnset, KvGet, KvList, CloseHandle, DuplicateHandle, Exit}
+use Rattle.ktm_world.specs.Outcome.{first_refusal, Outcome, refuse_or, within_log}
+use Rattle.ktm_world.specs.Enlistments.{owes_pre_prepare, owes_prepare, owes_commit, owes_rollback}
+use Rattle.ktm_world.specs.FileCalls.{create_file_tests, create_file, read_file_tests, read_file, write_file_tests, write_file, set_end_tests, set_end, get_size, flush_tests, flush_file, delete_file_tests, delete_file, create_directory_tests, create_directory, remove_directory_tests, remove_directory, move_file_tests, move_file, find_files_tests, find_files}
+use Rattle.ktm_world.specs.HandleCalls.{close_handle_tests, close_handle, exit, duplicate_handle_tests, duplicate_handle}
+use Rattle.ktm_world.specs.KeyCalls.{kv_set_tests, kv_set, kv_unset_tests, kv_unset, kv_get_tests, kv_get, kv_list}
+use Rattle.ktm_world.specs.Labels.{transaction_named, manager_named, enlistment_named, file_named, invalid_handle, transaction_tests, view_tests, file_tests, id_of_named}
 use Rattle.ktm_world.specs.Present.{Present}
-use Rattle.ktm_world.specs.Outcome.{Work, Outcome, only_reply, first_refusal, refuse_or, within_log}
+use Rattle.ktm_world.specs.TransactionCalls.{create_transaction_tests, create_transaction, open_transaction_tests, open_transaction, commit_transaction, rollback_transaction_tests, rollback_transaction, get_transaction_information, create_resource_manager_tests, create_resource_manager, open_resource_manager_tests, open_resource_manager, recover_resource_manager, get_notification_tests, get_notification, create_enlistment_tests, create_enlistment, open_enlistment_tests, open_enlistment, enlistment_tests, superior_tests, may_recover, may_vote, may_reject_one_phase, may_roll_back_by, before_pre_prepare, before_prepare, waits_for_superior, is_live_now, recover_enlistment, pre_prepare_complete, prepare_complete, read_only_enlistment, commit_complete, rollback_complete, single_phase_reject, rollback_enlistment, pre_prepare_enlistment, prepare_enlistment, commit_enlistment, set_information_tests, set_information, get_information}
 
--- ---- what a label names
+-- the transaction in which a call is made
+abbrev pub caller : Present → Pid → Label → Option Id
+caller x process label = id_of_named (transaction_named x process label)
 
--- the transaction that a label of a process names
-abbrev pub named : Present → Pid → Label → Option Transaction
-named x process label = option_and_then (transaction_at x.transactions.items) (transaction_id (object_at x.handles process label))
-
-abbrev pub holds_of : (Transaction → Bool) → Option Transaction → Bool
-holds_of test None = false
-holds_of test (Some t) = test t
-
--- the tests on a handle of a transaction in a call that wants an active one
-abbrev pub transaction_tests : Option Transaction → List (Bool × Refusal)
-transaction_tests t =
-    (is_none t, InvalidHandle)
-    ∷ (holds_of is_committed t, TransactionAlreadyCommitted)
-    ∷ (holds_of is_aborted t, TransactionAlreadyAborted)
-    ∷ (holds_of (λ t. not (is_active t)) t, TransactionNotActive)
-    ∷ []
-
-abbrev pub id_of_named : Option Transaction → Option Id
-id_of_named None = None
-id_of_named (Some t) = Some t.id
-
--- ---- CreateTransaction
-
-abbrev pub create_transaction_tests : Present → Pid → Label → List (Bool × Refusal)
-create_transaction_tests x process label =
-    (is_some (object_at x.handles process label), InvalidParameter)
-    ∷ (no_handle_left x.handles || no_transaction_left x.transactions, NotEnoughQuota)
-    ∷ []
-
-abbrev pub next_id : Present → Id
-next_id x = record { boot = x.machine.boot; number = x.transactions.last + 1 }
-
--- a transaction with the next number, and the label bound to it
-abbrev pub create_transaction : Present → Pid → Label → ℕ → Outcome
-create_transaction x process label timeout = record (only_reply x (Guid (guid_of TransactionKind x.machine.image (next_id x)))) {
-  transactions = record x.transactions {
-    last = x.transactions.last + 1;
-    items = x.transactions.items ++ record { id = next_id x; timeout = timeout; created = x.transactions.clock; phase = Active; outcome = Undetermined } ∷ [];
-  };
-  handles = x.handles ++ record { process = process; label = label; object = TransactionObject (next_id x) } ∷ [];
-}
-
--- ---- CommitTransaction
-
--- the event and the work of a transaction with these settings; without settings there is nothing to record
-abbrev pub commit_events : Id → OwnSettings → List Event
-commit_events id [] = []
-commit_events id (s ∷ ss) = Single id (Settings (s ∷ ss)) ∷ []
-
-abbrev pub commit_works : Id → OwnSettings → List Work
-commit_works id [] = []
-commit_works id (s ∷ ss) = record { transaction = Some id; settings = s ∷ ss } ∷ []
-
-abbrev pub commit_transaction : Present → Option Transaction → Outcome
-commit_transaction x None = only_reply x Committed
-commit_transaction x (Some t) = record (only_reply x Committed) {
-  events = commit_events t.id (own_settings x.keys.own t.id);
-  works = commit_works t.id (own_settings x.keys.own t.id);
-  transactions = record x.transactions { items = change_at x.transactions.items t.id ended_committed };
-  own = without_own x.keys.own t.id;
-}
-
--- ---- keys
-
-abbrev pub is_held : Present → Option Transaction → List ℕ → Bool
-is_held x None key = false
-is_held x (Some t) key = is_held_by_other x.keys.own t.id key
-
-abbrev pub with_setting : Present → Option Transaction → List ℕ → Option (List ℕ) → Present
-with_setting x None key value = x
-with_setting x (Some t) key value = record x { keys = record x.keys { own = with_own x.keys.own t.id key value } }
-
-abbrev pub kv_set_tests : Present → Option Transaction → List ℕ → List ℕ → List (Bool × Refusal)
-kv_set_tests x t key value =
-    transaction_tests t
-    ++ ((is_bad_key key || is_bad_value value, InvalidParameter)
-    ∷ (is_held x t key, TransactionalConflict)
-    ∷ (nat_lt x.machine.units (keys_used (with_setting x t key (Some value)).keys), DiskFull)
-    ∷ [])
-
-abbrev pub kv_set : Present → Option Transaction → List ℕ → List ℕ → Outcome
-kv_set x t key value = record (only_reply x Done) { own = (with_setting x t key (Some value)).keys.own }
-
--- an unset key is a change that waits
-abbrev pub kv_unset_tests : Present → Option Transaction → List ℕ → List (Bool × Refusal)
-kv_unset_tests x t key =
-    transaction_tests t
-    ++ ((is_bad_key key, InvalidParameter)
-    ∷ (is_none (value_seen x.keys (id_of_named t) key), NotFound)
-    ∷ (is_held x t key, TransactionalConflict)
-    ∷ (nat_lt x.machine.units (changes_pending (with_setting x t key None).keys), NotEnoughQuota)
-    ∷ [])
-
-abbrev pub kv_unset : Present → Option Transaction → List ℕ → Outcome
-kv_unset x t key = record (only_reply x Done) { own = (with_setting x t key None).keys.own }
-
-abbrev pub view_tests : Present → Pid → View → List (Bool × Refusal)
-view_tests x process Plain = []
-view_tests x process (Through label) = transaction_tests (named x process label)
-
-abbrev pub viewer : Present → Pid → View → Option Id
-viewer x process Plain = None
-viewer x process (Through label) = id_of_named (named x process label)
-
-abbrev pub kv_get_tests : Present → Pid → View → List ℕ → List (Bool × Refusal)
-kv_get_tests x process view key =
-    view_tests x process view
-    ++ ((is_bad_key key, InvalidParameter)
-    ∷ (is_none (value_seen x.keys (viewer x process view) key), NotFound)
-    ∷ [])
-
-abbrev pub reply_of_value : Option (List ℕ) → Reply
-reply_of_value None = Refused NotFound
-reply_of_value (Some value) = Contents value
-
-abbrev pub kv_get : Present → Pid → View → List ℕ → Outcome
-kv_get x process view key = only_reply x (reply_of_value (value_seen x.keys (viewer x process view) key))
-
--- the keys that are seen, by rising key
-abbrev pub kv_list : Present → Pid → View → Outcome
-kv_list x process view = only_reply x (Keys (keys_of (store_seen x.keys (viewer x process view))))
-
--- ---- every command
+-- the tests of a call that is made in a transaction: those on its handle, and then those of the plain call
+abbrev pub transacted : Present → Pid → Label → List (Bool × Refusal) → List (Bool × Refusal)
+transacted x process label tests = transaction_tests (transaction_named x process label) ++ tests
 
 -- the tests of a command on a machine that is up
 abbrev pub command_tests : Present → Pid → Command → List (Bool × Refusal)
-command_tests x process (CreateTransaction label timeout) = create_transaction_tests x process label
-command_tests x process (CommitTransaction label) = transaction_tests (named x process label)
-command_tests x process (KvSet label key value) = kv_set_tests x (named x process label) key value
-command_tests x process (KvUnset label key) = kv_unset_tests x (named x process label) key
+command_tests x process (CreateTransaction label timeout) = create_transaction_tests x process label timeout
+command_tests x process (OpenTransaction label guid) = open_transaction_tests x process label guid
+command_tests x process (CommitTransaction label) = transaction_tests (transaction_named x process label)
+command_tests x process (RollbackTransaction label) = rollback_transaction_tests (transaction_named x process label)
+command_tests x process (GetTransactionInformation label) = invalid_handle (transaction_named x process label) ∷ []
+command_tests x process (CreateResourceManager label durability) = create_resource_manager_tests x process label durability
+command_tests x process (OpenResourceManager label guid) = open_resource_manager_tests x process label guid
+command_tests x process (RecoverResourceManager label) = invalid_handle (manager_named x process label) ∷ []
+command_tests x process (GetNotificationResourceManager label) = get_notification_tests (manager_named x process label)
+command_tests x process (CreateEnlistment label manager transaction kind) = create_enlistment_tests x process label (manager_named x process manager) (transaction_named x process transaction) kind
+command_tests x process (OpenEnlistment label manager guid) = open_enlistment_tests x process label (manager_named x process manager) guid
+command_tests x process (RecoverEnlistment label) = enlistment_tests (enlistment_named x process label) (may_recover x)
+command_tests x process (PrePrepareComplete label) = enlistment_tests (enlistment_named x process label) owes_pre_prepare
+command_tests x process (PrepareComplete label) = enlistment_tests (enlistment_named x process label) owes_prepare
+command_tests x process (ReadOnlyEnlistment label) = enlistment_tests (enlistment_named x process label) (may_vote x)
+command_tests x process (CommitComplete label) = enlistment_tests (enlistment_named x process label) owes_commit
+command_tests x process (RollbackComplete label) = enlistment_tests (enlistment_named x process label) owes_rollback
+command_tests x process (SinglePhaseReject label) = enlistment_tests (enlistment_named x process label) (may_reject_one_phase x)
+command_tests x process (RollbackEnlistment label) = enlistment_tests (enlistment_named x process label) (may_roll_back_by x)
+command_tests x process (PrePrepareEnlistment label) = superior_tests x (enlistment_named x process label) before_pre_prepare
+command_tests x process (PrepareEnlistment label) = superior_tests x (enlistment_named x process label) before_prepare
+command_tests x process (CommitEnlistment label) = superior_tests x (enlistment_named x process label) waits_for_superior
+command_tests x process (SetEnlistmentRecoveryInformation label information) = set_information_tests x (enlistment_named x process label) information
+command_tests x process (GetEnlistmentRecoveryInformation label) = enlistment_tests (enlistment_named x process label) (is_live_now x)
+command_tests x process (CreateFile label path access share disposition) = create_file_tests x None process label path access share disposition
+command_tests x process (CreateFileTransacted label path access share disposition transaction) = transacted x process transaction (create_file_tests x (caller x process transaction) process label path access share disposition)
+command_tests x process (ReadFile file offset many) = read_file_tests x (file_named x process file) many
+command_tests x process (WriteFile file offset bytes) = write_file_tests x (file_named x process file) offset bytes
+command_tests x process (SetEndOfFile file size) = set_end_tests x (file_named x process file) size
+command_tests x process (GetFileSizeEx file) = file_tests x (file_named x process file)
+command_tests x process (FlushFileBuffers file) = flush_tests x (file_named x process file)
+command_tests x process (DeleteFile path) = delete_file_tests x None path
+command_tests x process (CreateDirectory path) = create_directory_tests x None path
+command_tests x process (RemoveDirectory path) = remove_directory_tests x None path
+command_tests x process (MoveFile source target) = move_file_tests x None source target
+command_tests x process (DeleteFileTransacted path transaction) = transacted x process transaction (delete_file_tests x (caller x process transaction) path)
+command_tests x process (CreateDirectoryTransacted path transaction) = transacted x process transaction (create_directory_tests x (caller x process transaction) path)
+command_tests x process (RemoveDirectoryTransacted path transaction) = transacted x process transaction (remove_directory_tests x (caller x process transaction) path)
+command_tests x process (MoveFileTransacted source target transaction) = transacted x process transaction (move_file_tests x (caller x process transaction) source target)
+command_tests x process (FindFiles searched) = find_files_tests x None searched
+command_tests x process (FindFilesTransacted searched transaction) = transacted x process transaction (find_files_tests x (caller x process transaction) searched)
+command_tests x process (KvSet transaction key value) = kv_set_tests x (transaction_named x process transaction) key value
+command_tests x process (KvUnset transaction key) = kv_unset_tests x (transaction_named x process transaction) key
 command_tests x process (KvGet view key) = kv_get_tests x process view key
 command_tests x process (KvList view) = view_tests x process view
+command_tests x process (CloseHandle label) = close_handle_tests x process label
+command_tests x process (DuplicateHandle label from source) = duplicate_handle_tests x process label from source
+command_tests x process Exit = []
 
 -- what a command does that is not refused
 abbrev pub command_effect : Present → Pid → Command → Outcome
 command_effect x process (CreateTransaction label timeout) = create_transaction x process label timeout
-command_effect x process (CommitTransaction label) = commit_transaction x (named x process label)
-command_effect x process (KvSet label key value) = kv_set x (named x process label) key value
-command_effect x process (KvUnset label key) = kv_unset x (named x process label) key
+command_effect x process (OpenTransaction label guid) = open_transaction x process label guid
+command_effect x process (CommitTransaction label) = commit_transaction x (transaction_named x process label)
+command_effect x process (RollbackTransaction label) = rollback_transaction x (transaction_named x process label)
+command_effect x process (GetTransactionInformation label) = get_transaction_information x (transaction_named x process label)
+command_effect x process (CreateResourceManager label durability) = create_resource_manager x process label durability
+command_effect x process (OpenResourceManager label guid) = open_resource_manager x process label guid
+command_effect x process (RecoverResourceManager label) = recover_resource_manager x (manager_named x process label)
+command_effect x process (GetNotificationResourceManager label) = get_notification x (manager_named x process label)
+command_effect x process (CreateEnlistment label manager transaction kind) = create_enlistment x process label (manager_named x process manager) (transaction_named x process transaction) kind
+command_effect x process (OpenEnlistment label manager guid) = open_enlistment x process label (manager_named x process manager) guid
+command_effect x process (RecoverEnlistment label) = recover_enlistment x (enlistment_named x process label)
+command_effect x process (PrePrepareComplete label) = pre_prepare_complete x (enlistment_named x process label)
+command_effect x process (PrepareComplete label) = prepare_complete x (enlistment_named x process label)
+command_effect x process (ReadOnlyEnlistment label) = read_only_enlistment x (enlistment_named x process label)
+command_effect x process (CommitComplete label) = commit_complete x (enlistment_named x process label)
+command_effect x process (RollbackComplete label) = rollback_complete x (enlistment_named x process label)
+command_effect x process (SinglePhaseReject label) = single_phase_reject x (enlistment_named x process label)
+command_effect x process (RollbackEnlistment label) = rollback_enlistment x (enlistment_named x process label)
+command_effect x process (PrePrepareEnlistment label) = pre_prepare_enlistment x (enlistment_named x process label)
+command_effect x process (PrepareEnlistment label) = prepare_enlistment x (enlistment_named x process label)
+command_effect x process (CommitEnlistment label) = commit_enlistment x (enlistment_named x process label)
+command_effect x process (SetEnlistmentRecoveryInformation label information) = set_information x (enlistment_named x process label) information
+command_effect x process (GetEnlistmentRecoveryInformation label) = get_information x (enlistment_named x process label)
+command_effect x process (CreateFile label path access share disposition) = create_file x None process label path access share disposition
+command_effect x process (CreateFileTransacted label path access share disposition transaction) = create_file x (caller x process transaction) process label path access share disposition
+command_effect x process (ReadFile file offset many) = read_file x (file_named x process file) offset many
+command_effect x process (WriteFile file offset bytes) = write_file x (file_named x process file) offset bytes
+command_effect x process (SetEndOfFile file size) = set_end x (file_named x process file) size
+command_effect x process (GetFileSizeEx file) = get_size x (file_named x process file)
+command_effect x process (FlushFileBuffers file) = flush_file x
+command_effect x process (DeleteFile path) = delete_file x None path
+command_effect x process (CreateDirectory path) = create_directory x None path
+command_effect x process (RemoveDirectory path) = remove_directory x None path
+command_effect x process (MoveFile source target) = move_file x None source target
+command_effect x process (DeleteFileTransacted path transaction) = delete_file x (caller x process transaction) path
+command_effect x process (CreateDirectoryTransacted path transaction) = create_directory x (caller x process transaction) path
+command_effect x process (RemoveDirectoryTransacted path transaction) = remove_directory x (caller x process transaction) path
+command_effect x process (MoveFileTransacted source target transaction) = move_file x (caller x process transaction) source target
+command_effect x process (FindFiles searched) = find_files x None searched
+command_effect x process (FindFilesTransacted searched transaction) = find_files x (caller x process transaction) searched
+command_effect x process (KvSet transaction key value) = kv_set x (transaction_named x process transaction) key value
+command_effect x process (KvUnset transaction key) = kv_unset x (transaction_named x process transaction) key
 command_effect x process (KvGet view key) = kv_get x process view key
 command_effect x process (KvList view) = kv_list x process view
+command_effect x process (CloseHandle label) = close_handle x process label
+command_effect x process (DuplicateHandle label from source) = duplicate_handle x process label from source
+command_effect x process Exit = exit x process
 
 -- the refusal of a command, if it has one beside that of a full log
 abbrev pub refusal_of : Present → Pid → Command → Option Refusal

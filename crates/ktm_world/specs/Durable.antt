@@ -1,13 +1,46 @@
 -- The durable state, and what the events of a log make of it.
-use Rattle.std.specs.Prelude.{ℕ, ◌+◌, ◌-◌, ◌^◌, ◌==◌, ◌&&◌, not, Bool, true, false, List, [], ◌∷◌, length, nat_lt, nat_le, Option, Some, None}
-use Rattle.std.specs.List.{list_all}
+use Rattle.std.specs.Prelude.{ℕ, ◌+◌, ◌-◌, ◌^◌, ◌==◌, ◌&&◌, ◌||◌, not, Bool, true, false, List, [], ◌∷◌, ◌++◌, length, map, filter, find, fold, sum_by, count_by, nat_lt, nat_le, Option, Some, None, is_some, is_none, if◌then◌else◌}
+use Rattle.std.specs.List.{list_any, list_all, flat_map}
+use Rattle.ktm_base.specs.declared.id.Id.{Id}
+use Rattle.ktm_world.specs.declared.change.Change.{Change}
+use Rattle.ktm_world.specs.declared.change.Change.TheVariants.{Make, Put, Cut, Move, Drop}
+use Rattle.ktm_world.specs.declared.event.DonePart.{DonePart}
 use Rattle.ktm_world.specs.declared.event.Event.{Event}
-use Rattle.ktm_world.specs.declared.event.Event.TheVariants.{Boot, Single}
-use Rattle.ktm_world.specs.declared.event.Keyed.{Keyed}
+use Rattle.ktm_world.specs.declared.event.Event.TheVariants.{Boot, MadeRm, Plain, Ready, Single, Held, Decide, Undo, Done}
 use Rattle.ktm_world.specs.declared.event.Part.{Part}
-use Rattle.ktm_world.specs.declared.event.Part.TheVariants.{Settings}
-use Rattle.ktm_world.specs.Keyed.{is_rising}
-use Rattle.ktm_world.specs.Keys.{Store, OwnSettings, stored_all, is_bad_key, is_bad_value}
+use Rattle.ktm_world.specs.declared.event.Part.TheVariants.{Enlistment, Changes, Settings}
+use Rattle.ktm_world.specs.Keys.{are_good_settings, Store, OwnSettings, stored_all}
+use Rattle.ktm_world.specs.Keyed.{value_at}
+use Rattle.ktm_world.specs.Transactions.{same_id}
+use Rattle.ktm_world.specs.Changes.{changed, changed_all, apply_all, node_of, changes_bytes, is_make, next_after}
+use Rattle.ktm_world.specs.Committed.{written_files}
+use Rattle.ktm_world.specs.Holds.{Holder, Act, place, opens, deletes, moves_file, makes, drops_directory, moves_directory, meets}
+use Rattle.ktm_world.specs.Tree.{Tree, Node, node_at, bytes_or_none, bytes_of}
+use Rattle.ktm_world.specs.TransactionCalls.{most_information}
+use Rattle.ktm_world.specs.Uses.{units_of, nodes_made, most_live}
+
+-- how far a recorded transaction is: some parts are ready, it waits for its superior, or it commits
+pub data Stage : Type 0 where
+  ready : Stage
+  held : Stage
+  decided : Stage
+
+-- the superior of a transaction that waits for it
+pub record Superior : Type 0 where
+  pub enlistment : Id
+  pub manager : Id
+  pub information : List ℕ
+
+pub record RecordedPart : Type 0 where
+  pub is_done : Bool
+  pub part : Part
+
+-- a transaction that is not over
+pub record Recorded : Type 0 where
+  pub id : Id
+  pub stage : Stage
+  pub superior : Option Superior
+  pub parts : List RecordedPart
 
 pub record Durable : Type 0 where
   -- of the image's header; no event changes them
@@ -16,57 +49,313 @@ pub record Durable : Type 0 where
   -- how many events were ever recorded, and how many boots there were
   pub events : ℕ
   pub boots : ℕ
-  -- the committed keys
+  -- the number of the next node
+  pub next_node : ℕ
+  -- the committed files and keys
+  pub tree : Tree
   pub keys : Store
+  -- the durable resource managers, and the transactions that are not over, by rising Id
+  pub managers : List Id
+  pub transactions : List Recorded
 
 -- the state of an image that was just formatted
 abbrev pub empty_state : ℕ → ℕ → Durable
-empty_state units image = record { units = units; image = image; events = 0; boots = 0; keys = [] }
+empty_state units image = record { units = units; image = image; events = 0; boots = 0; next_node = 2; tree = []; keys = []; managers = []; transactions = [] }
 
--- the settings of a part
-abbrev pub settings_of : Part → OwnSettings
-settings_of (Settings settings) = settings
+-- ---- transactions that are not over
+
+abbrev pub is_ready : Stage → Bool
+is_ready ready = true
+is_ready _ = false
+
+abbrev pub is_held : Stage → Bool
+is_held held = true
+is_held _ = false
+
+abbrev pub is_decided : Stage → Bool
+is_decided decided = true
+is_decided _ = false
+
+abbrev pub changes_in : Part → List Change
+changes_in (Changes changes) = changes
+changes_in _ = []
+
+abbrev pub settings_in : Part → OwnSettings
+settings_in (Settings settings) = settings
+settings_in _ = []
+
+abbrev pub enlistments_in : Part → List Id
+enlistments_in (Enlistment enlistment manager information) = enlistment ∷ []
+enlistments_in _ = []
+
+-- what a transaction changes and sets by its parts; none is left once it is decided
+abbrev pub changes_of : Recorded → List Change
+changes_of t = flat_map (λ p. changes_in p.part) t.parts
+
+abbrev pub settings_of : Recorded → OwnSettings
+settings_of t = flat_map (λ p. settings_in p.part) t.parts
+
+abbrev pub superior_ids : Option Superior → List Id
+superior_ids None = []
+superior_ids (Some s) = s.enlistment ∷ []
+
+-- its enlistments, the superior's included
+abbrev pub enlistments_of : Recorded → List Id
+enlistments_of t = superior_ids t.superior ++ flat_map (λ p. enlistments_in p.part) t.parts
+
+abbrev pub recorded_at : List Recorded → Id → Option Recorded
+recorded_at ts id = find (λ t. same_id t.id id) ts
+
+abbrev pub is_before : Id → Id → Bool
+is_before a b = nat_lt a.boot b.boot || (a.boot == b.boot && nat_lt a.number b.number)
+
+-- an Id at its place among rising ones
+abbrev pub with_manager : List Id → Id → List Id
+with_manager [] id = id ∷ []
+with_manager (a ∷ ids) id = if is_before id a then id ∷ a ∷ ids else a ∷ with_manager ids id
+
+-- a transaction at its place by rising Id, in place of the one with its Id
+abbrev pub with_recorded : List Recorded → Recorded → List Recorded
+with_recorded [] t = t ∷ []
+with_recorded (a ∷ ts) t = if same_id a.id t.id then t ∷ ts else (if is_before t.id a.id then t ∷ a ∷ ts else a ∷ with_recorded ts t)
+
+abbrev pub without_recorded : List Recorded → Id → List Recorded
+without_recorded ts id = filter (λ t. not (same_id t.id id)) ts
+
+-- the transaction, or a new one that is ready
+abbrev pub recorded_or_new : List Recorded → Id → Recorded
+recorded_or_new [] id = record { id = id; stage = ready; superior = None; parts = [] }
+recorded_or_new (t ∷ ts) id = if same_id t.id id then t else recorded_or_new ts id
+
+-- ---- what an event makes of the state
+
+abbrev pub next_after_all : ℕ → List Change → ℕ
+next_after_all next changes = fold next_after next changes
+
+-- changes and settings are committed
+abbrev pub committing : Durable → List Change → OwnSettings → Durable
+committing s changes settings = record s { tree = changed_all s.tree changes; keys = stored_all s.keys settings; next_node = next_after_all s.next_node changes }
+
+-- a list that was committed is not kept
+abbrev pub emptied : Part → Part
+emptied (Enlistment enlistment manager information) = Enlistment enlistment manager information
+emptied (Changes changes) = Changes []
+emptied (Settings settings) = Settings []
+
+abbrev pub emptied_part : RecordedPart → RecordedPart
+emptied_part p = record p { part = emptied p.part }
+
+-- a transaction stays while it has a part that is not done
+abbrev pub while_not_done : List Recorded → Recorded → List Recorded
+while_not_done ts t = if list_any (λ p. not p.is_done) t.parts then with_recorded ts t else without_recorded ts t.id
+
+abbrev pub decide_recorded : Durable → Option Recorded → Durable
+decide_recorded s None = s
+decide_recorded s (Some t) = record (committing s (changes_of t) (settings_of t)) {
+  transactions = while_not_done s.transactions (record t { stage = decided; parts = map emptied_part t.parts });
+}
+
+abbrev pub is_part_of : DonePart → Part → Bool
+is_part_of (DonePart.Enlistment id) (Enlistment enlistment manager information) = same_id id enlistment
+is_part_of DonePart.Files (Changes changes) = true
+is_part_of DonePart.Keys (Settings settings) = true
+is_part_of _ _ = false
+
+abbrev pub is_of_enlistment : DonePart → Bool
+is_of_enlistment (DonePart.Enlistment id) = true
+is_of_enlistment _ = false
+
+-- an enlistment that is done is taken out, and another part is marked
+abbrev pub parts_done : DonePart → List RecordedPart → List RecordedPart
+parts_done done parts =
+    if is_of_enlistment done then filter (λ p. not (is_part_of done p.part)) parts else map (λ (p : RecordedPart). record p { is_done = p.is_done || is_part_of done p.part }) parts
+
+abbrev pub finish_recorded : Durable → DonePart → Option Recorded → Durable
+finish_recorded s done None = s
+finish_recorded s done (Some t) = record s { transactions = while_not_done s.transactions (record t { parts = parts_done done t.parts }) }
+
+-- a transaction has one part more that is ready
+abbrev pub with_part : Durable → Id → Part → Durable
+with_part s id part = record s {
+  transactions = with_recorded s.transactions (let t = recorded_or_new s.transactions id in record t { parts = t.parts ++ record { is_done = false; part = part } ∷ [] });
+  next_node = next_after_all s.next_node (changes_in part);
+}
+
+abbrev pub hold_recorded : Durable → Id → Superior → Durable
+hold_recorded s id superior = record s { transactions = with_recorded s.transactions (let t = recorded_or_new s.transactions id in record t { stage = held; superior = Some superior }) }
 
 -- what an event makes of the state, beside counting it
 abbrev pub fact_of : Durable → Event → Durable
-fact_of s (Boot boot) = record s { boots = boot }
-fact_of s (Single transaction part) = record s { keys = stored_all s.keys (settings_of part) }
+fact_of s (Boot boot) = record s { boots = boot; transactions = filter (λ t. not (is_ready t.stage)) s.transactions }
+fact_of s (MadeRm manager) = record s { managers = with_manager s.managers manager }
+fact_of s (Plain change) = committing s (change ∷ []) []
+fact_of s (Ready transaction part) = with_part s transaction part
+fact_of s (Single transaction part) = committing s (changes_in part) (settings_in part)
+fact_of s (Held transaction enlistment manager information) = hold_recorded s transaction (record { enlistment = enlistment; manager = manager; information = information })
+fact_of s (Decide transaction) = decide_recorded s (recorded_at s.transactions transaction)
+fact_of s (Undo transaction) = record s { transactions = without_recorded s.transactions transaction }
+fact_of s (Done transaction done) = finish_recorded s done (recorded_at s.transactions transaction)
 
 abbrev pub after_event : Durable → Event → Durable
 after_event s event = record (fact_of s event) { events = s.events + 1 }
 
 abbrev pub after_events : Durable → List Event → Durable
-after_events s [] = s
-after_events s (event ∷ events) = after_events (after_event s event) events
+after_events s events = fold after_event s events
 
 -- the state after the groups of a log
 abbrev pub stand : Durable → List (List Event) → Durable
-stand base [] = base
-stand base (group ∷ groups) = stand (after_events base group) groups
+stand base log = fold after_events base log
 
--- what a key may be set to: nothing, or a value within the limit
-abbrev pub is_bad_set_to : Option (List ℕ) → Bool
-is_bad_set_to None = false
-is_bad_set_to (Some value) = is_bad_value value
+-- ---- when an event applies
 
--- a key and what it is set to are within the limits
-abbrev pub is_good_setting : Keyed (Option (List ℕ)) → Bool
-is_good_setting setting = not (is_bad_key setting.key) && not (is_bad_set_to setting.value)
+-- what a change does to files and names, as a call that makes it
+abbrev pub act_of_node : Tree → Option Node → Change → List Act
+act_of_node tree None change = []
+act_of_node tree (Some node) (Put number offset contents) = opens number true ∷ []
+act_of_node tree (Some node) (Cut number size pages) = opens number true ∷ []
+act_of_node tree (Some node) (Move number parent name) =
+    (if is_some node.content then moves_file number (place node.parent node.name) (place parent name) else moves_directory number (place node.parent node.name) (place parent name)) ∷ []
+act_of_node tree (Some node) (Drop number) =
+    (if is_some node.content then deletes number (place node.parent node.name) else drops_directory number (place node.parent node.name)) ∷ []
+act_of_node tree (Some node) (Make number parent kind name) = []
 
--- settings that a transaction may record: one at least, by rising key, each within the limits
-abbrev pub are_good_settings : OwnSettings → Bool
-are_good_settings settings = not (length settings == 0) && is_rising settings && list_all is_good_setting settings
+abbrev pub acts_of : Tree → Change → List Act
+acts_of tree (Make number parent kind name) = makes (place parent name) ∷ []
+acts_of tree change = act_of_node tree (node_at tree (node_of change)) change
 
--- does the event apply to the state, its limits then holding: a boot is the next one, a transaction is one of the present
--- boot, and there are no more keys than units
+-- what changes do, each on the tree that it finds
+abbrev pub acts_of_all : Tree → List Change → List Act
+acts_of_all tree [] = []
+acts_of_all tree (change ∷ changes) = acts_of tree change ++ acts_of_all (changed tree change) changes
+
+-- what a waiting transaction holds
+abbrev pub holder_of : Durable → Recorded → Holder
+holder_of s t = record { tree = s.tree; changes = changes_of t; writes = [] }
+
+-- the waiting transactions but this one
+abbrev pub others : Durable → Option Id → List Recorded
+others s None = filter (λ t. not (is_decided t.stage)) s.transactions
+others s (Some id) = filter (λ t. not (is_decided t.stage) && not (same_id t.id id)) s.transactions
+
+abbrev pub is_made_in : List Change → ℕ → Bool
+is_made_in changes node = list_any (λ change. is_make change && node_of change == node) changes
+
+-- changes that apply, meet no hold of another transaction, and make no node that is made in another one's waiting work
+abbrev pub changes_apply : Durable → Option Id → List Change → Bool
+changes_apply s who changes =
+    list_all (λ t. not (list_any (meets (holder_of s t)) (acts_of_all s.tree changes)) && not (list_any (λ change. is_make change && is_made_in (changes_of t) (node_of change)) changes)) (others s who)
+    && apply_all s.tree changes
+
+-- settings that meet no hold of another transaction
+abbrev pub settings_apply : Durable → Option Id → OwnSettings → Bool
+settings_apply s who settings =
+    list_all (λ t. not (list_any (λ setting. is_some (value_at (settings_of t) setting.key)) settings)) (others s who)
+
+abbrev pub was_cut : Option ℕ → ℕ → Bool
+was_cut None node = false
+was_cut (Some cut) node = cut == node
+
+-- by rising number, for each file one cut to nothing, and at most one put at 0 behind it
+abbrev pub are_final_bytes : ℕ → Option ℕ → List Change → Bool
+are_final_bytes least cut [] = true
+are_final_bytes least cut (Cut node size pages ∷ changes) = nat_le least node && size == 0 && are_final_bytes (node + 1) (Some node) changes
+are_final_bytes least cut (Put node offset contents ∷ changes) = was_cut cut node && offset == 0 && are_final_bytes least None changes
+are_final_bytes least cut (_ ∷ changes) = false
+
+-- what was made, moved and dropped comes first, and then the bytes
+abbrev pub ends_in_bytes : List Change → Bool
+ends_in_bytes [] = true
+ends_in_bytes (change ∷ changes) = if changes_bytes change then are_final_bytes 0 None (change ∷ changes) else ends_in_bytes changes
+
+abbrev pub gives_bytes : List Change → ℕ → Bool
+gives_bytes changes file = list_any (λ change. changes_bytes change && node_of change == file) changes
+
+-- the files that were made and left
+abbrev pub made_files : List Change → List ℕ
+made_files changes = written_files (filter (λ change. not (changes_bytes change)) changes)
+
+abbrev pub is_some_change : List Change → Bool
+is_some_change [] = false
+is_some_change (change ∷ changes) = true
+
+-- changes as a transaction records them: some at least, its bytes last, and the bytes of each file that it made and left
+abbrev pub are_recorded_changes : List Change → Bool
+are_recorded_changes changes = is_some_change changes && ends_in_bytes changes && list_all (gives_bytes changes) (made_files changes)
+
+abbrev pub is_manager : Durable → Id → Bool
+is_manager s id = list_any (λ other. same_id other id) s.managers
+
+-- an enlistment of the present boot that no transaction of the state has, of a resource manager that is there
+abbrev pub is_new_enlistment : Durable → Id → Id → List ℕ → Bool
+is_new_enlistment s enlistment manager information =
+    enlistment.boot == s.boots && not (list_any (λ t. list_any (λ other. same_id other enlistment) (enlistments_of t)) s.transactions)
+    && is_manager s manager && nat_le (length information) most_information
+
+abbrev pub has_changes_part : Recorded → Bool
+has_changes_part t = list_any (λ p. is_part_of DonePart.Files p.part) t.parts
+
+abbrev pub has_settings_part : Recorded → Bool
+has_settings_part t = list_any (λ p. is_part_of DonePart.Keys p.part) t.parts
+
+abbrev pub part_applies : Durable → Id → Part → Bool
+part_applies s id (Enlistment enlistment manager information) = is_new_enlistment s enlistment manager information
+part_applies s id (Changes changes) = not (has_changes_part (recorded_or_new s.transactions id)) && are_recorded_changes changes && changes_apply s (Some id) changes
+part_applies s id (Settings settings) = not (has_settings_part (recorded_or_new s.transactions id)) && are_good_settings settings && settings_apply s (Some id) settings
+
+-- the part of a transaction that has this one alone: no enlistment's
+abbrev pub is_sole : Part → Bool
+is_sole (Enlistment enlistment manager information) = false
+is_sole _ = true
+
+abbrev pub stage_passes : Durable → Id → (Recorded → Bool) → Bool
+stage_passes s id test = list_any (λ t. same_id t.id id && test t) s.transactions
+
+abbrev pub has_part : Recorded → Bool
+has_part t = list_any (λ p. true) t.parts
+
+-- is the transaction of the present boot, and new or ready
+abbrev pub may_get_ready : Durable → Id → Bool
+may_get_ready s id = id.boot == s.boots && is_ready (recorded_or_new s.transactions id).stage
+
+abbrev pub has_undone : DonePart → Recorded → Bool
+has_undone done t = is_decided t.stage && list_any (λ p. is_part_of done p.part && not p.is_done) t.parts
+
+-- does an event apply, but for the limits
 abbrev pub fact_applies : Durable → Event → Bool
 fact_applies s (Boot boot) = boot == s.boots + 1 && nat_lt boot (2 ^ 32 - 1)
+fact_applies s (MadeRm manager) = manager.boot == s.boots && not (is_manager s manager)
+fact_applies s (Plain change) = changes_apply s None (change ∷ [])
+fact_applies s (Ready transaction part) = may_get_ready s transaction && part_applies s transaction part
 fact_applies s (Single transaction part) =
-    transaction.boot == s.boots && are_good_settings (settings_of part) && nat_le (length (stored_all s.keys (settings_of part))) s.units
+    transaction.boot == s.boots && is_none (recorded_at s.transactions transaction) && is_sole part && part_applies s transaction part
+fact_applies s (Held transaction enlistment manager information) = may_get_ready s transaction && is_new_enlistment s enlistment manager information
+fact_applies s (Decide transaction) = stage_passes s transaction (λ t. is_held t.stage || (is_ready t.stage && has_part t))
+fact_applies s (Undo transaction) = stage_passes s transaction (λ t. not (is_decided t.stage))
+fact_applies s (Done transaction done) = stage_passes s transaction (has_undone done)
 
--- and there are fewer than 2^63 events then
+-- ---- the limits
+
+abbrev pub waiting : Durable → List Recorded
+waiting s = filter (λ t. not (is_decided t.stage)) s.transactions
+
+abbrev pub units_waiting : Durable → Recorded → ℕ
+units_waiting s t = sum_by (λ file. units_of (bytes_of (changed_all s.tree (changes_of t)) file)) (written_files (changes_of t))
+
+-- the units, nodes, keys and changes that wait are within the units of the image; and there are no more than 64 transactions,
+-- enlistments and resource managers
+unfoldable pub is_within_limits : Durable → Bool
+is_within_limits s =
+    nat_le (sum_by (λ node. units_of (bytes_or_none node.content)) s.tree + sum_by (units_waiting s) (waiting s)) s.units
+    && nat_le (1 + length s.tree + sum_by (λ t. nodes_made (changes_of t)) (waiting s)) s.units
+    && nat_le (length s.keys + sum_by (λ t. count_by (λ setting. is_some setting.value) (settings_of t)) (waiting s)) s.units
+    && nat_le (sum_by (λ t. count_by (λ change. not (changes_bytes change)) (changes_of t) + count_by (λ setting. is_none setting.value) (settings_of t)) (waiting s)) s.units
+    && nat_le (length s.transactions) most_live
+    && nat_le (sum_by (λ t. length (enlistments_of t)) s.transactions) most_live
+    && nat_le (length s.managers) most_live
+
+-- does an event apply: the limits hold then, and there are fewer than 2^63 events
 abbrev pub event_applies : Durable → Event → Bool
-event_applies s event = fact_applies s event && nat_lt (s.events + 1) (2 ^ 63)
+event_applies s event = fact_applies s event && is_within_limits (fact_of s event) && nat_lt (s.events + 1) (2 ^ 63)
 
 -- do the events apply, one after another
 abbrev pub events_apply : Durable → List Event → Bool

@@ -1,8 +1,9 @@
 -- The store of keys, and what each undecided transaction has set.
 use Rattle.std.specs.Prelude.{ℕ, ◌+◌, ◌==◌, ◌&&◌, ◌||◌, not, Bool, false, List, [], ◌∷◌, length, map, nat_lt, Option, Some, None, is_some, is_none, sum_by, count_by, if◌then◌else◌}
+use Rattle.std.specs.List.{list_all}
 use Rattle.ktm_base.specs.declared.id.Id.{Id}
 use Rattle.ktm_world.specs.declared.event.Keyed.{Keyed}
-use Rattle.ktm_world.specs.Keyed.{value_at, put, without}
+use Rattle.ktm_world.specs.Keyed.{value_at, put, without, is_rising}
 use Rattle.ktm_world.specs.Transactions.{same_id}
 
 -- a key has 1 to 64 bytes
@@ -84,3 +85,16 @@ store_seen keys (Some id) = stored_all keys.store (own_settings keys.own id)
 -- the keys of a store
 abbrev pub keys_of : Store → List (List ℕ)
 keys_of store = map (λ x. x.key) store
+
+-- what a key may be set to: nothing, or a value within the limit
+abbrev pub is_bad_set_to : Option (List ℕ) → Bool
+is_bad_set_to None = false
+is_bad_set_to (Some value) = is_bad_value value
+
+-- a key and what it is set to are within the limits
+abbrev pub is_good_setting : Keyed (Option (List ℕ)) → Bool
+is_good_setting setting = not (is_bad_key setting.key) && not (is_bad_set_to setting.value)
+
+-- settings that a transaction may record: one at least, by rising key, each within the limits
+abbrev pub are_good_settings : OwnSettings → Bool
+are_good_settings settings = not (length settings == 0) && is_rising settings && list_all is_good_setting settings

@@ -1,41 +1,69 @@
 -- Laws of the model.
-use Rattle.std.specs.Prelude.{◌≡◌, ℕ, ◌^◌, ◌<◌, ◌≤◌, List, length, Some, IsTrue}
+use Rattle.std.specs.Prelude.{◌≡◌, ◌↔◌, ℕ, ◌≤◌, Bool, true, false, List, [], ◌∷◌, length, Option, Some, All, Contains, if◌then◌else◌}
 use Rattle.ktm_base.specs.declared.id.Pid.{Pid}
 use Rattle.ktm_base.specs.declared.refusal.Refusal.{Refusal}
+use Rattle.ktm_base.specs.Names.{IsName, IsPath, IsPattern}
 use Rattle.ktm_world.specs.declared.command.Command.{Command}
-use Rattle.ktm_world.specs.Outcome.{Outcome}
-use Rattle.ktm_world.specs.Present.{Present}
-use Rattle.ktm_world.specs.Decide.{refusal_of}
-use Rattle.ktm_world.specs.Durable.{Durable, events_apply, log_applies, stand}
-use Rattle.ktm_world.specs.EventGrammar.{IsGroupOf}
-use Rattle.ktm_world.specs.Sizes.{group_size}
-use Rattle.ktm_world.specs.Values.{IsCommand}
-use Rattle.ktm_world.specs.World.{World, Group, present, after, extend, apply, step, opened, own_group, IsLawfulNow, IsLawful}
+use Rattle.ktm_world.specs.declared.command.Line.{Line}
+use Rattle.ktm_world.specs.declared.command.Line.TheVariants.{Restart}
+use Rattle.ktm_world.specs.Transcript.{Step, answered, found, full, Transcript}
+use Rattle.ktm_world.specs.Logs.{Group, is_up}
+use Rattle.ktm_world.specs.Decide.{decide, refusal_of}
+use Rattle.ktm_world.specs.Durable.{Durable}
+use Rattle.ktm_world.specs.Outcome.{Outcome, apply}
+use Rattle.ktm_world.specs.Paths.{is_name, path_of, pattern_of}
+use Rattle.ktm_world.specs.Scripts.{answer, answers}
+use Rattle.ktm_world.specs.World.{World, OpenedAfter, present, extend, after, decide_tick, is_full_to_open, opened, possible_logs, crashed}
 
--- appending to the history and recomputing is the same as changing what was computed, for every outcome and so for every command
+-- each first open was made after works that the world has
+pub record FirstOpensLieWithin (w : World) : Type 0 where
+  pub works : All (λ (o : OpenedAfter). o.works ≤ length w.works) w.first_opens
+
+-- appending to the history and recomputing is the same as changing what was computed, for every outcome, and so for every command and
+-- for the passing of time
 abbrev pub StepLaw : Type 0
-StepLaw = ((w : World) (o : Outcome) → present (extend w o) ≡ apply (present w) o)
-    × ((w : World) (process : Pid) (command : Command) → present (after w process command) ≡ step (present w) process command)
+StepLaw = ((w : World) (o : Outcome) → FirstOpensLieWithin w → present (extend w o) ≡ apply (present w) o)
+    × ((w : World) (process : Pid) (command : Command) → FirstOpensLieWithin w → present (after w process command) ≡ apply (present w) (decide (present w) process command))
+    × ((w : World) (ms : ℕ) → FirstOpensLieWithin w → present (extend w (decide_tick (present w) ms)) ≡ apply (present w) (decide_tick (present w) ms))
 
--- a command that is refused, but for a full log, leaves the world as it was
+-- the first opens lie within the works of every world of a run: of one that a restart opens, and after every outcome
+abbrev pub FirstOpensLaw : Type 0
+FirstOpensLaw = ((base : Durable) (room : ℕ) (log : List Group) → FirstOpensLieWithin (opened base room log))
+    × ((w : World) (o : Outcome) → FirstOpensLieWithin w → FirstOpensLieWithin (extend w o))
+
+-- a command that is refused, but for a full log, leaves the world as it was, and so does the passing of time on a machine that is down
 abbrev pub RefusalLaw : Type 0
-RefusalLaw = (w : World) (process : Pid) (command : Command) (refusal : Refusal)
-    → refusal_of (present w) process command ≡ Some refusal → after w process command ≡ w
+RefusalLaw = ((w : World) (process : Pid) (command : Command) (refusal : Refusal) → refusal_of (present w) process command ≡ Some refusal → after w process command ≡ w)
+    × ((w : World) (ms : ℕ) → is_up w.power ≡ false → extend w (decide_tick (present w) ms) ≡ w)
 
--- each command keeps what is lawful now
-abbrev pub LawfulNowLaw : Type 0
-LawfulNowLaw = (x : Present) (process : Pid) (command : Command) → IsCommand command → IsLawfulNow x → IsLawfulNow (step x process command)
+-- a text of any bytes is read as a name, a path or a pattern exactly where it is one, and as the one that it is
+abbrev pub PathLaw : Type 0
+PathLaw = ((name : List ℕ) → (is_name name ≡ true) ↔ IsName name)
+    × ((text : List ℕ) (names : List (List ℕ)) → (path_of text ≡ Some names) ↔ IsPath names text)
+    × ((text : List ℕ) (directory : List (List ℕ)) (last : List ℕ) → (pattern_of text ≡ Some (record { directory = directory; last = last })) ↔ IsPattern directory last text)
 
--- each command keeps what is lawful together, while there are fewer than 2^63 events
-abbrev pub LawfulLaw : Type 0
-LawfulLaw = (w : World) (process : Pid) (command : Command) → IsCommand command → (present (after w process command)).machine.events < 2 ^ 63
-    → IsLawful w → IsLawful (after w process command)
+-- the step by which a line comes to its answer: a restart of a machine that is down finds all that was recorded, with room or without
+abbrev pub step_of : World → Option Line → Step
+step_of w (Some (Restart pick)) = if is_up w.power then answered else (if is_full_to_open w w.log then full w.log else found w.log)
+step_of w _ = answered
 
--- a restart opens a lawful world, from a log that applies, where its own group applies too
-abbrev pub OpenedLaw : Type 0
-OpenedLaw = (base : Durable) (room : ℕ) (log : List Group) → IsTrue (log_applies base log) → IsTrue (events_apply (stand base log) (own_group (stand base log)))
-    → length base.keys ≤ base.units → IsLawful (opened base room log)
+abbrev pub steps_of : World → List (Option Line) → List Step
+steps_of w [] = []
+steps_of w (line ∷ lines) = step_of w line ∷ steps_of (answer w line).world lines
 
--- a group takes as many bytes as are counted for it
-abbrev pub SizeLaw : Type 0
-SizeLaw = (group : Group) (bytes : List ℕ) → IsGroupOf group bytes → length bytes ≡ group_size group
+-- where the machine is down, all that was recorded may be found
+abbrev pub MayFindAll : Bool → World → Type 0
+MayFindAll true w = Unit {0}
+MayFindAll false w = Contains (possible_logs w) w.log
+
+-- so it is at each restart
+abbrev pub RestartsMayFindAll : World → List (Option Line) → Type 0
+RestartsMayFindAll w [] = Unit {0}
+RestartsMayFindAll w (Some (Restart pick) ∷ lines) = MayFindAll (is_up w.power) w × RestartsMayFindAll (answer w (Some (Restart pick))).world lines
+RestartsMayFindAll w (line ∷ lines) = RestartsMayFindAll (answer w line).world lines
+
+-- the answers to a script are a transcript, where each of its restarts may find all that was recorded; after a crash of a machine that
+-- is up it may, where no more groups are kept than there are
+abbrev pub TranscriptLaw : Type 0
+TranscriptLaw = ((w : World) (lines : List (Option Line)) → RestartsMayFindAll w lines → (new : World) × Transcript w lines (steps_of w lines) (answers w lines) new)
+    × ((w : World) → is_up w.power ≡ true → w.kept ≤ length w.log → Contains (possible_logs (crashed w)) (crashed w).log)

@@ -1,21 +1,27 @@
--- What a command does, as data; a refusal is the first of a list of tests that holds.
-use Rattle.std.specs.Prelude.{ℕ, ◌+◌, Bool, true, false, List, [], ◌∷◌, nat_lt, Option, Some, None, if◌then◌else◌}
+-- What a command does, as data, and what it makes of what is so now.
+use Rattle.std.specs.Prelude.{ℕ, ◌+◌, ◌-◌, ◌&&◌, ◌||◌, not, Bool, true, false, List, [], ◌∷◌, ◌++◌, length, map, filter, drop, nat_lt, Option, Some, None, if◌then◌else◌}
+use Rattle.std.specs.List.{list_any}
 use Rattle.ktm_base.specs.declared.id.Id.{Id}
 use Rattle.ktm_base.specs.declared.refusal.Refusal.{Refusal}
 use Rattle.ktm_base.specs.declared.refusal.Refusal.TheVariants.{LogFull}
 use Rattle.ktm_world.specs.declared.event.Event.{Event}
+use Rattle.ktm_world.specs.declared.object.Handle.{Handle}
 use Rattle.ktm_world.specs.declared.reply.Reply.{Reply}
 use Rattle.ktm_world.specs.declared.reply.Reply.TheVariants.{Refused}
-use Rattle.ktm_world.specs.declared.object.Handle.{Handle}
-use Rattle.ktm_world.specs.Transactions.{Transactions}
-use Rattle.ktm_world.specs.Keys.{OwnSettings, Own}
-use Rattle.ktm_world.specs.Present.{Present}
-use Rattle.ktm_world.specs.Sizes.{frame_size}
+use Rattle.ktm_world.specs.Keys.{Own}
+use Rattle.ktm_world.specs.Sizes.{frame_size, log_size}
+use Rattle.ktm_world.specs.Transactions.{same_id}
+use Rattle.ktm_world.specs.Logs.{as_groups}
+use Rattle.ktm_world.specs.Committed.{Committed, Work, committed_with, version_of}
+use Rattle.ktm_world.specs.Enlistments.{Manager, Sent, notes_for, taken_count}
+use Rattle.ktm_world.specs.Files.{FilesNow, FileTable, FirstOpen}
+use Rattle.ktm_world.specs.Present.{Present, Transactions}
+use Rattle.ktm_world.specs.Tree.{bytes_of}
 
--- what is committed at once: the settings of a transaction, or of none
-pub record Work : Type 0 where
-  pub transaction : Option Id
-  pub settings : OwnSettings
+-- a first open that a command makes
+pub record Opening : Type 0 where
+  pub transaction : Id
+  pub file : ℕ
 
 pub record Outcome : Type 0 where
   pub reply : Reply
@@ -23,8 +29,18 @@ pub record Outcome : Type 0 where
   pub events : List Event
   -- committed, in order
   pub works : List Work
+  -- notifications, in the order in which they are sent
+  pub sent : List Sent
+  -- the resource manager whose first notification is taken
+  pub took : Option Id
+  -- resource managers that are made
+  pub made : List Manager
+  -- first opens that are made, of the versions before its works, and transactions whose first opens end
+  pub openings : List Opening
+  pub forgotten : List Id
   -- the parts that have no history, as they are then
   pub transactions : Transactions
+  pub table : FileTable
   pub own : List Own
   pub handles : List Handle
   -- the machine is down then
@@ -32,7 +48,80 @@ pub record Outcome : Type 0 where
 
 -- nothing changes
 abbrev pub only_reply : Present → Reply → Outcome
-only_reply x reply = record { reply = reply; events = []; works = []; transactions = x.transactions; own = x.keys.own; handles = x.handles; stops = false }
+only_reply x reply = record {
+  reply = reply;
+  events = [];
+  works = [];
+  sent = [];
+  took = None;
+  made = [];
+  openings = [];
+  forgotten = [];
+  transactions = x.transactions;
+  table = x.files.table;
+  own = x.keys.own;
+  handles = x.handles;
+  stops = false;
+}
+
+-- ---- what an outcome makes of what is so now
+
+abbrev pub committed_now : Present → Committed
+committed_now x = record { tree = x.files.tree; versions = x.files.versions; store = x.keys.store }
+
+-- a manager's notifications, without the one that is taken and with those that are sent
+abbrev pub served : Option Id → List Sent → Manager → Manager
+served took sent m = record m { queue = drop (taken_count m.id took) m.queue ++ notes_for m.id sent }
+
+abbrev pub is_forgotten : List Id → Id → Bool
+is_forgotten ids id = list_any (λ other. same_id id other) ids
+
+-- the version of the file now
+abbrev pub first_open : Committed → Opening → FirstOpen
+first_open c o = record { transaction = o.transaction; file = o.file; version = version_of c.versions o.file; bytes = bytes_of c.tree o.file }
+
+abbrev pub first_opens_after : Present → Outcome → List FirstOpen
+first_opens_after x o = filter (λ f. not (is_forgotten o.forgotten f.transaction)) (x.files.first_opens ++ map (first_open (committed_now x)) o.openings)
+
+abbrev pub files_with : Committed → List FirstOpen → FileTable → FilesNow
+files_with c first_opens table = record { tree = c.tree; versions = c.versions; first_opens = first_opens; table = table }
+
+abbrev pub apply : Present → Outcome → Present
+apply x o = record {
+  machine = record x.machine {
+    is_up = x.machine.is_up && not o.stops;
+    events = x.machine.events + length o.events;
+    left = x.machine.left - log_size (as_groups o.events);
+  };
+  transactions = o.transactions;
+  managers = map (served o.took o.sent) (x.managers ++ o.made);
+  files = files_with (committed_with (committed_now x) o.works) (first_opens_after x o) o.table;
+  keys = record { store = (committed_with (committed_now x) o.works).store; own = o.own };
+  handles = o.handles;
+}
+
+-- one outcome, and then that of a second command on what is so then; the first one answers
+abbrev pub joined : Outcome → Outcome → Outcome
+joined a b = record {
+  reply = a.reply;
+  events = a.events ++ b.events;
+  works = a.works ++ b.works;
+  sent = a.sent ++ b.sent;
+  took = a.took;
+  made = a.made ++ b.made;
+  openings = a.openings ++ b.openings;
+  forgotten = a.forgotten ++ b.forgotten;
+  transactions = b.transactions;
+  table = b.table;
+  own = b.own;
+  handles = b.handles;
+  stops = a.stops || b.stops;
+}
+
+abbrev pub and_then : Present → Outcome → (Present → Outcome) → Outcome
+and_then x o next = joined o (next (apply x o))
+
+-- ---- refusals
 
 -- the first test that holds
 abbrev pub first_refusal : List (Bool × Refusal) → Option Refusal

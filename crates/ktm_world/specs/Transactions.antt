@@ -1,17 +1,9 @@
--- The transactions of this boot.
-use Rattle.std.specs.Prelude.{ℕ, ◌+◌, ◌-◌, ◌^◌, ◌==◌, ◌&&◌, ◌||◌, Bool, true, false, List, [], ◌∷◌, nat_lt, count_by, Option, Some, None, if◌then◌else◌}
+-- Transactions by their Ids, and what each one is.
+use Rattle.std.specs.Prelude.{◌==◌, ◌&&◌, Bool, true, false, List, [], ◌∷◌, Option, Some, None, if◌then◌else◌}
 use Rattle.ktm_base.specs.declared.id.Id.{Id}
 use Rattle.ktm_world.specs.declared.object.Transaction.{Transaction}
 use Rattle.ktm_world.specs.declared.object.Phase.TheVariants.{Active, Ended}
 use Rattle.ktm_world.specs.declared.object.TransactionOutcome.TheVariants.{Undetermined, Committed, Aborted}
-
-pub record Transactions : Type 0 where
-  -- milliseconds since the boot
-  pub clock : ℕ
-  -- the number of the transaction that was made last, or 0
-  pub last : ℕ
-  -- in order of creation
-  pub items : List Transaction
 
 abbrev pub same_id : Id → Id → Bool
 same_id a b = (a.boot == b.boot) && (a.number == b.number)
@@ -27,11 +19,11 @@ change_at [] id f = []
 change_at (t ∷ ts) id f = if same_id t.id id then f t ∷ ts else t ∷ change_at ts id f
 
 abbrev pub is_active : Transaction → Bool
-is_active t = elim t.phase as (λ _. Bool) [ Active ↦ true | Ended ↦ false ]
+is_active t = elim t.phase as (λ _. Bool) [ Active ↦ true | _ ↦ false ]
 
 -- a transaction is live until it has ended
 abbrev pub is_live : Transaction → Bool
-is_live t = elim t.phase as (λ _. Bool) [ Active ↦ true | Ended ↦ false ]
+is_live t = elim t.phase as (λ _. Bool) [ Ended ↦ false | _ ↦ true ]
 
 -- has the transaction this outcome
 abbrev pub is_committed : Transaction → Bool
@@ -39,11 +31,3 @@ is_committed t = elim t.outcome as (λ _. Bool) [ Undetermined ↦ false | Commi
 
 abbrev pub is_aborted : Transaction → Bool
 is_aborted t = elim t.outcome as (λ _. Bool) [ Undetermined ↦ false | Committed ↦ false | Aborted ↦ true ]
-
--- would one transaction more pass the limit on live ones, or the greatest number
-abbrev pub no_transaction_left : Transactions → Bool
-no_transaction_left ts = nat_lt 64 (count_by is_live ts.items + 1) || nat_lt (2 ^ 32 - 1) (ts.last + 1)
-
--- a transaction that committed, and has told all
-abbrev pub ended_committed : Transaction → Transaction
-ended_committed t = record t { phase = Ended; outcome = Committed }

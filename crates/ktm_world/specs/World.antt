@@ -1,30 +1,43 @@
 -- The machine with its whole history, and how it relates to what is so now.
-use Rattle.std.specs.Prelude.{◌≡◌, ℕ, ◌+◌, ◌-◌, ◌^◌, ◌<◌, ◌≤◌, ◌&&◌, not, Bool, true, false, List, [], ◌∷◌, ◌++◌, length, map, drop, All, IsTrue}
-use Rattle.std.specs.List.{list_all}
+use Rattle.std.specs.Prelude.{ℕ, ◌+◌, ◌-◌, ◌==◌, ◌&&◌, ◌||◌, not, Bool, true, false, List, [], ◌∷◌, ◌++◌, length, map, filter, take, drop, Option, Some, None, if◌then◌else◌}
+use Rattle.std.specs.List.{flat_map, list_any}
+use Rattle.ktm_base.specs.declared.id.Id.{Id}
 use Rattle.ktm_base.specs.declared.id.Pid.{Pid}
+use Rattle.ktm_base.specs.declared.refusal.Refusal.TheVariants.{MachineDown}
 use Rattle.ktm_world.specs.declared.command.Command.{Command}
+use Rattle.ktm_world.specs.declared.event.DonePart.{DonePart}
 use Rattle.ktm_world.specs.declared.event.Event.{Event}
-use Rattle.ktm_world.specs.declared.event.Event.TheVariants.{Boot}
+use Rattle.ktm_world.specs.declared.event.Event.TheVariants.{Boot, Done}
+use Rattle.ktm_world.specs.declared.event.Part.{Part}
 use Rattle.ktm_world.specs.declared.object.Handle.{Handle}
+use Rattle.ktm_world.specs.declared.object.Phase.{Phase}
 use Rattle.ktm_world.specs.declared.object.Transaction.{Transaction}
-use Rattle.ktm_world.specs.Transactions.{Transactions}
-use Rattle.ktm_world.specs.Keyed.{is_rising}
-use Rattle.ktm_world.specs.Keys.{Store, Own, stored_all, keys_used, changes_pending}
-use Rattle.ktm_world.specs.Present.{Present}
-use Rattle.ktm_world.specs.Outcome.{Work, Outcome, is_full}
-use Rattle.ktm_world.specs.Decide.{decide}
-use Rattle.ktm_world.specs.Durable.{Durable, stand, is_good_setting, log_applies}
+use Rattle.ktm_world.specs.declared.object.TransactionOutcome.{TransactionOutcome}
+use Rattle.ktm_world.specs.declared.options.EnlistmentKind.{EnlistmentKind}
+use Rattle.ktm_world.specs.Keys.{Own}
+use Rattle.ktm_world.specs.Outcome.{is_full, first_refusal, Outcome, Opening, is_forgotten, first_open, files_with, refuse_or, within_log}
 use Rattle.ktm_world.specs.Sizes.{log_size}
-use Rattle.ktm_world.specs.Values.{IsText}
+use Rattle.ktm_world.specs.Logs.{Group, Power, up, down, is_up, count_events, as_groups, kept_after, prefixes_from, possible_by}
+use Rattle.ktm_world.specs.Committed.{Committed, Work, committed_with}
+use Rattle.ktm_world.specs.Decide.{decide}
+use Rattle.ktm_world.specs.Durable.{Durable, Recorded, RecordedPart, Superior, is_held, is_decided, has_undone, changes_of, settings_of, is_before, stand}
+use Rattle.ktm_world.specs.Enlistments.{Enlistment, Manager, Note, Sent, notes_for, taken_count}
+use Rattle.ktm_world.specs.Files.{FileTable, FirstOpen, OwnChanges}
+use Rattle.ktm_world.specs.Present.{Present, Transactions}
+use Rattle.ktm_world.specs.TransactionCalls.{tick}
 
--- the events of one command
-abbrev pub Group : Type 0
-Group = List Event
+-- a resource manager with all notifications that were ever sent to it: those that were taken, and those that wait
+pub record ManagerPast : Type 0 where
+  pub id : Id
+  pub is_durable : Bool
+  pub taken : List Note
+  pub queue : List Note
 
--- the machine is up, or it is down and one of these logs is on its disk
-pub data Power : Type 0 where
-  up : Power
-  down : List (List Group) → Power
+-- a transaction's first open of a file, and how many works were committed before it
+pub record OpenedAfter : Type 0 where
+  pub transaction : Id
+  pub file : ℕ
+  pub works : ℕ
 
 pub record World : Type 0 where
   -- the durable state of the image that the run began with, and how many bytes were left in its log
@@ -34,78 +47,65 @@ pub record World : Type 0 where
   pub log : List Group
   -- how many groups no loss of power takes
   pub kept : ℕ
-  -- the store at the last restart, and what was committed since
-  pub start : Store
+  -- what was committed at the last restart, and what was committed since
+  pub start : Committed
   pub works : List Work
   -- this boot
   pub boot : ℕ
+  pub managers : List ManagerPast
+  pub first_opens : List OpenedAfter
   pub transactions : Transactions
+  pub table : FileTable
   pub own : List Own
   pub handles : List Handle
   pub power : Power
 
--- the store after these works
-abbrev pub committed_with : Store → List Work → Store
-committed_with store [] = store
-committed_with store (work ∷ works) = committed_with (stored_all store work.settings) works
+-- what was committed once so many works were
+abbrev pub at_work : World → ℕ → Committed
+at_work w n = committed_with w.start (take n w.works)
 
-abbrev pub is_up : Power → Bool
-is_up up = true
-is_up (down may) = false
+abbrev pub committed : World → Committed
+committed w = committed_with w.start w.works
 
--- how many events there are in the groups
-abbrev pub count_events : List Group → ℕ
-count_events [] = 0
-count_events (group ∷ groups) = length group + count_events groups
+-- ---- what is so now
 
--- what is so now
+abbrev pub manager_now : ManagerPast → Manager
+manager_now m = record { id = m.id; is_durable = m.is_durable; queue = m.queue }
+
+abbrev pub first_open_now : World → OpenedAfter → FirstOpen
+first_open_now w o = first_open (at_work w o.works) (record { transaction = o.transaction; file = o.file })
+
 abbrev pub present : World → Present
 present w = record {
-  machine = record { units = w.base.units; image = w.base.image; boot = w.boot; is_up = is_up w.power; events = w.base.events + count_events w.log; left = w.room - log_size w.log };
+  machine = record {
+    units = w.base.units;
+    image = w.base.image;
+    boot = w.boot;
+    is_up = is_up w.power;
+    events = w.base.events + count_events w.log;
+    left = w.room - log_size w.log;
+  };
   transactions = w.transactions;
-  keys = record { store = committed_with w.start w.works; own = w.own };
+  managers = map manager_now w.managers;
+  files = files_with (committed w) (map (first_open_now w) w.first_opens) w.table;
+  keys = record { store = (committed w).store; own = w.own };
   handles = w.handles;
 }
 
--- the group of a command, which is none where nothing was recorded
-abbrev pub as_groups : List Event → List Group
-as_groups [] = []
-as_groups (event ∷ events) = (event ∷ events) ∷ []
+-- ---- what an outcome makes of the history
 
--- what an outcome makes of what is so now
-abbrev pub apply : Present → Outcome → Present
-apply x o = record {
-  machine = record x.machine {
-    is_up = x.machine.is_up && not o.stops;
-    events = x.machine.events + length o.events;
-    left = x.machine.left - log_size (as_groups o.events);
-  };
-  transactions = o.transactions;
-  keys = record { store = committed_with x.keys.store o.works; own = o.own };
-  handles = o.handles;
+-- a manager has taken one notification more, and others were sent
+abbrev pub served_past : Option Id → List Sent → ManagerPast → ManagerPast
+served_past took sent m = record m {
+  taken = m.taken ++ take (taken_count m.id took) m.queue;
+  queue = drop (taken_count m.id took) m.queue ++ notes_for m.id sent;
 }
 
-abbrev pub step : Present → Pid → Command → Present
-step x process command = apply x (decide x process command)
+abbrev pub made_past : Manager → ManagerPast
+made_past m = record { id = m.id; is_durable = m.is_durable; taken = []; queue = m.queue }
 
--- once a group is recorded and answered, all groups are kept
-abbrev pub kept_after : ℕ → List Group → List Event → ℕ
-kept_after kept log [] = kept
-kept_after kept log (event ∷ events) = length log + 1
-
--- the first groups of a log, for each number of them, from none to all
-abbrev pub prefixes : List Group → List (List Group)
-prefixes [] = [] ∷ []
-prefixes (group ∷ groups) = [] ∷ map (λ l. group ∷ l) (prefixes groups)
-
--- what a loss of power may leave of a log of which so many groups are kept
-abbrev pub prefixes_from : ℕ → List Group → List (List Group)
-prefixes_from kept log = drop kept (prefixes log)
-
--- the logs that may be found on the disk
-abbrev pub possible_by : Power → ℕ → List Group → List (List Group)
-possible_by up kept log = prefixes_from kept log
-possible_by (down may) kept log = may
+abbrev pub opened_after : World → Opening → OpenedAfter
+opened_after w o = record { transaction = o.transaction; file = o.file; works = length w.works }
 
 abbrev pub possible_logs : World → List (List Group)
 possible_logs w = possible_by w.power w.kept w.log
@@ -115,13 +115,15 @@ abbrev pub power_after : Bool → World → Power
 power_after false w = w.power
 power_after true w = down (possible_logs w)
 
--- what an outcome makes of the history
 abbrev pub extend : World → Outcome → World
 extend w o = record w {
   log = w.log ++ as_groups o.events;
   kept = kept_after w.kept w.log o.events;
   works = w.works ++ o.works;
+  managers = map (served_past o.took o.sent) (w.managers ++ map made_past o.made);
+  first_opens = filter (λ f. not (is_forgotten o.forgotten f.transaction)) (w.first_opens ++ map (opened_after w) o.openings);
   transactions = o.transactions;
+  table = o.table;
   own = o.own;
   handles = o.handles;
   power = power_after o.stops w;
@@ -130,17 +132,33 @@ extend w o = record w {
 abbrev pub after : World → Pid → Command → World
 after w process command = extend w (decide (present w) process command)
 
--- the power went during a command: its group may have been recorded
-abbrev pub interrupted_world : World → Pid → Command → World
-interrupted_world w process command = record w { power = down (prefixes_from w.kept (w.log ++ as_groups (decide (present w) process command).events)) }
+-- what the passing of time does
+abbrev pub decide_tick : Present → ℕ → Outcome
+decide_tick x ms = within_log x (refuse_or x (first_refusal ((not x.machine.is_up, MachineDown) ∷ [])) (tick x ms))
+
+-- ---- losses of power
+
+-- the power went during a call: its group may have been recorded
+abbrev pub interrupted_by : World → Outcome → World
+interrupted_by w o = record w { power = down (prefixes_from w.kept (w.log ++ as_groups o.events)) }
 
 -- the power went while nothing was recorded
 abbrev pub crashed : World → World
 crashed w = record w { power = down (possible_logs w) }
 
+-- ---- restarts
+
+abbrev pub done_if : Bool → Id → DonePart → List Event
+done_if true id done = Done id done ∷ []
+done_if false id done = []
+
+-- a transaction that commits has its files and its keys done
+abbrev pub own_events : Recorded → List Event
+own_events t = done_if (has_undone DonePart.Files t) t.id DonePart.Files ++ done_if (has_undone DonePart.Keys t) t.id DonePart.Keys
+
 -- what a restart records by itself
 abbrev pub own_group : Durable → Group
-own_group s = Boot (s.boots + 1) ∷ []
+own_group s = Boot (s.boots + 1) ∷ flat_map own_events s.transactions
 
 -- has the log that was found no room for what a restart records
 abbrev pub is_full_to_open : World → List Group → Bool
@@ -154,52 +172,123 @@ interrupted_restart w = record w { power = down (possible_logs w ++ map (λ l. l
 abbrev pub found_full : World → List Group → World
 found_full w log = record w { power = down (log ∷ []) }
 
--- the world that starts from a log, once the restart has recorded its own group
-abbrev pub opened : Durable → ℕ → List Group → World
-opened base room log = record {
+-- ---- the world that starts from a durable state
+
+-- a part of an enlistment, as it is brought back: prepared, and not recovered
+abbrev pub enlistment_back : Id → RecordedPart → List Enlistment
+enlistment_back id p = elim p.part as (λ _. List Enlistment) [
+  | Part.Enlistment enlistment manager information ↦
+      record {
+        id = enlistment;
+        manager = manager;
+        transaction = id;
+        kind = EnlistmentKind.Plain;
+        owes = None;
+        is_read_only = false;
+        is_prepared = true;
+        is_finished = false;
+        is_recovered = false;
+        information = information;
+      }
+      ∷ []
+  | _ ↦ []
+]
+
+abbrev pub superior_back : Id → Option Superior → List Enlistment
+superior_back id None = []
+superior_back id (Some s) =
+    record {
+      id = s.enlistment;
+      manager = s.manager;
+      transaction = id;
+      kind = EnlistmentKind.Superior;
+      owes = None;
+      is_read_only = false;
+      is_prepared = false;
+      is_finished = false;
+      is_recovered = false;
+      information = s.information;
+    }
+    ∷ []
+
+-- the enlistments of a transaction that are brought back
+abbrev pub enlistments_back : Recorded → List Enlistment
+enlistments_back t = superior_back t.id t.superior ++ flat_map (enlistment_back t.id) t.parts
+
+-- an enlistment at its place by rising Id
+abbrev pub with_enlistment : List Enlistment → Enlistment → List Enlistment
+with_enlistment [] e = e ∷ []
+with_enlistment (a ∷ es) e = if is_before e.id a.id then e ∷ a ∷ es else a ∷ with_enlistment es e
+
+abbrev pub by_rising_id : List Enlistment → List Enlistment
+by_rising_id [] = []
+by_rising_id (e ∷ es) = with_enlistment (by_rising_id es) e
+
+abbrev pub is_enlistment_part : RecordedPart → Bool
+is_enlistment_part p = elim p.part as (λ _. Bool) [ Part.Enlistment enlistment manager information ↦ true | _ ↦ false ]
+
+-- it waits for its superior, or it commits and has enlistments that have not finished
+abbrev pub is_brought_back : Recorded → Bool
+is_brought_back t = is_held t.stage || (is_decided t.stage && list_any is_enlistment_part t.parts)
+
+-- a transaction that waits is in doubt, and one that is decided commits
+abbrev pub transaction_back : Recorded → Transaction
+transaction_back t = record {
+  id = t.id;
+  timeout = 0;
+  created = 0;
+  phase = if is_held t.stage then Phase.InDoubt else Phase.Committing;
+  outcome = if is_held t.stage then TransactionOutcome.Undetermined else TransactionOutcome.Committed;
+  is_recorded = true;
+}
+
+abbrev pub back : Durable → List Recorded
+back s = filter is_brought_back s.transactions
+
+abbrev pub in_doubt : Durable → List Recorded
+in_doubt s = filter (λ t. is_held t.stage) s.transactions
+
+abbrev pub has_own_changes : OwnChanges → Bool
+has_own_changes o = not (length o.changes == 0)
+
+abbrev pub has_own_settings : Own → Bool
+has_own_settings o = not (length o.settings == 0)
+
+-- the world of a durable state, before the restart has recorded anything
+abbrev pub reboot : Durable → ℕ → List Group → World
+reboot base room log = let s = stand base log in record {
   base = base;
   room = room;
-  log = log ++ own_group (stand base log) ∷ [];
-  kept = length log + 1;
-  start = (stand base log).keys;
+  log = log;
+  kept = length log;
+  start = record { tree = s.tree; versions = []; store = s.keys };
   works = [];
-  boot = (stand base log).boots + 1;
-  transactions = record { clock = 0; last = 0; items = [] };
-  own = [];
+  boot = s.boots;
+  managers = map (λ id. record { id = id; is_durable = true; taken = []; queue = [] }) s.managers;
+  first_opens = [];
+  transactions = record {
+    clock = 0;
+    last_transaction = 0;
+    last_manager = 0;
+    last_enlistment = 0;
+    items = map transaction_back (back s);
+    enlistments = by_rising_id (flat_map enlistments_back (back s));
+  };
+  table = record {
+    own = filter has_own_changes (map (λ t. record { transaction = t.id; changes = changes_of t }) (in_doubt s));
+    opens = [];
+    last_open = 0;
+    next_node = s.next_node;
+  };
+  own = filter has_own_settings (map (λ t. record { transaction = t.id; settings = settings_of t }) (in_doubt s));
   handles = [];
   power = up;
 }
 
--- a transaction's own settings: it is of this boot, their keys rise, and each is within the limits
-pub record IsLawfulOwn (boot : ℕ) (own : Own) : Type 0 where
-  pub boot_is : own.transaction.boot ≡ boot
-  pub rising : IsTrue (is_rising own.settings)
-  pub good : IsTrue (list_all is_good_setting own.settings)
-  pub texts : All (λ s. IsText s.key) own.settings
-
--- an Id of a transaction of this boot
-pub record IsOfBoot (boot : ℕ) (t : Transaction) : Type 0 where
-  pub boot_is : t.id.boot ≡ boot
-  pub number_from : 1 ≤ t.id.number
-
--- what is so now in every world of a run
-pub record IsLawfulNow (x : Present) : Type 0 where
-  pub boot_from : 1 ≤ x.machine.boot
-  pub transactions : All (IsOfBoot x.machine.boot) x.transactions.items
-  pub own : All (IsLawfulOwn x.machine.boot) x.keys.own
-  -- the limits on keys and on changes that wait hold
-  pub keys : keys_used x.keys ≤ x.machine.units
-  pub changes : changes_pending x.keys ≤ x.machine.units
-
--- what every world of a run is
-pub record IsLawful (w : World) : Type 0 where
-  -- each event of the log applies, and the log stands for what is committed
-  pub applies : IsTrue (log_applies w.base w.log)
-  pub keys : (stand w.base w.log).keys ≡ committed_with w.start w.works
-  pub boots : (stand w.base w.log).boots ≡ w.boot
-  pub units : (stand w.base w.log).units ≡ w.base.units
-  pub events : (stand w.base w.log).events ≡ w.base.events + count_events w.log
-  pub few : (present w).machine.events < 2 ^ 63
-  pub now : IsLawfulNow (present w)
-  -- all groups are kept
-  pub kept : w.kept ≡ length w.log
+-- the world that starts from a log, once the restart has recorded its own group
+abbrev pub opened : Durable → ℕ → List Group → World
+opened base room log = record (reboot base room log) {
+  log = log ++ own_group (stand base log) ∷ [];
+  kept = length log + 1;
+  boot = (stand base log).boots + 1;
+}

@@ -1,10 +1,15 @@
-// Laws of the model, over every world and every command, each the contract of a function that does nothing.
-ghost use Rattle.ktm_world.specs.Rows.{FirstTransaction, Keys};
-ghost use Rattle.ktm_world.specs.Laws.{StepLaw, RefusalLaw, LawfulNowLaw, LawfulLaw, OpenedLaw, SizeLaw};
+// Laws of the model, over every world and every outcome, and of the sizes of events, each the contract of a function that does nothing.
+ghost use Rattle.ktm_world.specs.Laws.{StepLaw, FirstOpensLaw, RefusalLaw, PathLaw, TranscriptLaw};
+ghost use Rattle.ktm_world.specs.SizeLaw.{SizeLaw};
 
-/// What is so after a command is what the command makes of what was so.
+/// What is so after an outcome is what the outcome makes of what was so.
 pub fn law_of_step()
     ensures { StepLaw }
+{}
+
+/// No first open is of works that are still to come.
+pub fn law_of_first_opens()
+    ensures { FirstOpensLaw }
 {}
 
 /// A refusal, but for that of a full log, changes nothing.
@@ -12,32 +17,17 @@ pub fn law_of_refusals()
     ensures { RefusalLaw }
 {}
 
-/// A command leaves what is so now lawful.
-pub fn law_of_what_is_lawful_now()
-    ensures { LawfulNowLaw }
+/// Names, paths and patterns are read exactly where the text is one.
+pub fn law_of_paths()
+    ensures { PathLaw }
+{}
+
+/// What a script is answered is a transcript of its lines.
+pub fn law_of_transcripts()
+    ensures { TranscriptLaw }
 {}
 
 /// A group takes as many bytes as are counted for it.
 pub fn law_of_sizes()
     ensures { SizeLaw }
-{}
-
-/// A command leaves a lawful world lawful.
-pub fn law_of_lawful_worlds()
-    ensures { LawfulLaw }
-{}
-
-/// A restart opens a lawful world.
-pub fn law_of_opened_worlds()
-    ensures { OpenedLaw }
-{}
-
-/// The first transaction of a new image, as the model has it.
-pub fn row_of_the_first_transaction()
-    ensures { FirstTransaction }
-{}
-
-/// Two transactions that meet on a key, as the model has them.
-pub fn row_of_keys()
-    ensures { Keys }
 {}

@@ -2,8 +2,7 @@
 ghost use Rattle.std.specs.Prelude.{◌≡◌, ◌==◌, not};
 ghost use Rattle.std.specs.List.{list_all};
 ghost use Rattle.ktm_world.specs.Keyed.{comes_first, is_rising};
-ghost use Rattle.ktm_world.specs.Keys.{is_bad_key, is_bad_value};
-ghost use Rattle.ktm_world.specs.Durable.{is_bad_set_to, is_good_setting, are_good_settings};
+ghost use Rattle.ktm_world.specs.Keys.{is_bad_key, is_bad_value, is_bad_set_to, is_good_setting, are_good_settings};
 
 use crate::keyed::is_before;
 use crate::{Keyed, Setting};

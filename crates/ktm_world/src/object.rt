@@ -24,6 +24,24 @@ pub struct Handle {
 pub enum Phase {
     /// It takes changes.
     Active,
+    /// A commit was asked for, and its superior was told.
+    Requested,
+    /// Enlistments owe PrePrepareComplete.
+    PrePreparing,
+    /// All have pre-prepared, and its superior was told.
+    PrePrepared,
+    /// Enlistments owe PrepareComplete.
+    Preparing,
+    /// One enlistment was asked to commit in one phase.
+    SinglePhase,
+    /// All are prepared, and its superior was told.
+    Held,
+    /// The same, after a restart.
+    InDoubt,
+    /// It commits, and enlistments owe CommitComplete.
+    Committing,
+    /// It rolls back, and enlistments owe RollbackComplete.
+    Aborting,
     /// It has its outcome, and all who take part know it.
     Ended,
 }
@@ -46,4 +64,6 @@ pub struct Transaction {
     pub created: u64,
     pub phase: Phase,
     pub outcome: TransactionOutcome,
+    /// Whether the log has a Ready or a Held of it.
+    pub is_recorded: bool,
 }

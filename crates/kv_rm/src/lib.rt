@@ -12,7 +12,8 @@ pub use rm::KvRm;
 mod tests {
     use super::*;
     use ktm_base::{Bytes, Id, Text};
-    use ktm_world::{Durable, Event, Part, Settings};
+    use ktm_keys::Durable;
+    use ktm_world::{Event, Part, Settings};
     use std::alloc::Global;
     use std::process::Abort;
     use std::test::Fail;

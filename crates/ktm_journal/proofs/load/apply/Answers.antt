@@ -1,6 +1,6 @@
 use Rattle.std.proofs.Common.{sym, ◌∙◌, ap}
-use Rattle.ktm_world.specs.Durable.{events_apply}
-use Rattle.ktm_world.specs.World.{Group}
+use Rattle.ktm_keys.specs.Durable.{events_apply}
+use Rattle.ktm_world.specs.Logs.{Group}
 use Rattle.ktm_event.proofs.Events.{one_group}
 use Rattle.ktm_journal.proofs.load.apply.Goals as goal
 

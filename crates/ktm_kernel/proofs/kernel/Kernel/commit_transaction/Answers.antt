@@ -1,8 +1,8 @@
 use Rattle.std.proofs.Common.{◌-◌, true, refl, length, Some, Err, sym, ◌∙◌, ap}
 use Rattle.std.proofs.lemmas.Bool.{or_right}
 use Rattle.ktm_world.specs.Keys.{own_settings}
-use Rattle.ktm_world.specs.Decide.{commit_transaction}
-use Rattle.ktm_world.specs.World.{apply}
+use Rattle.ktm_keys.specs.Decide.{commit_transaction}
+use Rattle.ktm_keys.specs.World.{apply}
 use Rattle.ktm_kernel.specs.Done.{fallen}
 use Rattle.ktm_kernel.proofs.Commits.{spellable, named_from, left_is, fits_of_ok, fits_of_down, fits_left, full_of, commit_done, commit_cut, commit_full}
 use Rattle.ktm_kernel.proofs.kernel.Kernel.commit_transaction.Goals as goal

@@ -1,0 +1,71 @@
+-- How what is written at the end goes on.
+use Rattle.std.proofs.Common.{Bool, true, false, ◌⊎◌, inl, inr, ◌≡◌, ◌+◌, ◌<◌, ◌≤◌, ℕ, List, [], ◌∷◌, ◌++◌, length, take, get_or, sum_by, refl, sym, ◌∙◌, ap, subst, arith, append_assoc}
+use Rattle.std.proofs.lemmas.List.Sums.{sum_by_more, sum_by_more_le}
+use Rattle.ktm_base.specs.Grammar.{IsU8, IsBytesOf, Then, Tagged}
+use Rattle.ktm_codec.specs.Spans.{Adds}
+use Rattle.ktm_codec.proofs.Adding.{adds_then, adds_tagged}
+use Rattle.ktm_codec.proofs.SpansLemmas.{then_tagged}
+use Rattle.ktm_world.specs.declared.change.Contents.TheVariants.{Whole}
+use Rattle.ktm_world.specs.EventGrammar.{IsIdOf, IsPutOf, IsPartOf, IsSoleOf, IsEventOf}
+use Rattle.ktm_world.specs.declared.event.Part.{Part}
+use Rattle.ktm_world.specs.declared.event.Part.TheVariants.{Enlistment, Changes, Settings}
+use Rattle.ktm_event.specs.Spelling.{IsSpellablePart, IsSpellableSole, IsSpellableEvent}
+use Rattle.ktm_event.specs.Work.{work_event}
+use Rattle.ktm_base.specs.declared.id.Id.{Id}
+
+-- one thing and then another
+pub then : {P Q : List ℕ → Type 0} {a b c : List ℕ} → Adds P a b → Adds Q b c → Adds (Then P Q) a c
+then {P} {Q} {a} {b} {c} first second = adds_then P Q a b c first second
+
+-- a tag and what stands behind it
+pub tagged : {P : List ℕ → Type 0} {a b c : List ℕ} {tag : ℕ} → Adds (IsU8 tag) a b → Adds P b c → Adds (Tagged tag P) a c
+tagged {tag} first rest =
+    let both = then first rest in
+    record { more = both.more; is = both.is; form = then_tagged tag both.more both.form }
+
+-- contents that are put are not empty
+pub put : {a b : List ℕ} (contents : List ℕ) → 1 ≤ length contents → Adds (IsBytesOf contents) a b → Adds (IsPutOf (Whole contents)) a b
+put [] some adds = absurd (omega arith)
+put (c ∷ cs) some adds = adds
+
+-- how many bytes the items of a list take so far
+module _ {X : Type 0} (size : X → ℕ) (xs : List X) (i : ℕ) (x : X) (inside : i < length xs) (is : x ≡ get_or xs i x) where
+  pub size_more : sum_by size (take (i + 1) xs) ≡ sum_by size (take i xs) + size x
+  size_more = sum_by_more size xs i x inside ∙ ap (λ (y : X). sum_by size (take i xs) + size y) (sym is)
+
+  pub size_within : sum_by size (take i xs) + size x ≤ sum_by size xs
+  size_within = subst (λ (y : X). sum_by size (take i xs) + size y ≤ sum_by size xs) (sym is) (sum_by_more_le size xs i x inside)
+
+-- the same, where the tag was pushed
+pub pushed : {P : List ℕ → Type 0} {a b c : List ℕ} {tag : ℕ} → b ≡ a ++ tag ∷ [] → Adds P b c → Adds (Tagged tag P) a c
+pushed {P} {a} {b} {c} {tag} is rest = adds_tagged tag P a b c is rest
+
+-- a tag, an Id and what stands behind them
+pub headed : {P : List ℕ → Type 0} {a b c : List ℕ} {tag : ℕ} {id : Id} → Adds (Tagged tag (IsIdOf id)) a b → Adds P b c → Adds (Tagged tag (Then (IsIdOf id) P)) a c
+headed {P} {a} {b} {c} {tag} {id} head rest =
+    let (behind, is, spelled) = head.form in
+    record {
+      more = head.more ++ rest.more;
+      is = rest.is ∙ ap (λ (l : List ℕ). l ++ rest.more) head.is ∙ append_assoc a head.more rest.more;
+      form = (behind ++ rest.more, ap (λ (l : List ℕ). l ++ rest.more) is, (behind, rest.more, refl, spelled, rest.form));
+    }
+
+-- a part that may be the sole one is spelled the same as such
+pub sole : (part : Part) {a b : List ℕ} → IsSpellableSole part → Adds (IsPartOf part) a b → Adds (IsSoleOf part) a b
+sole (Enlistment enlistment manager information) spellable adds = absurd spellable
+sole (Changes changes) spellable adds = adds
+sole (Settings settings) spellable adds = adds
+
+pub sole_spellable : (part : Part) → IsSpellableSole part → IsSpellablePart part
+sole_spellable (Enlistment enlistment manager information) spellable = absurd spellable
+sole_spellable (Changes changes) spellable = spellable
+sole_spellable (Settings settings) spellable = spellable
+
+-- what a transaction has to record, behind its tag
+pub work : (single : Bool) (part : Part) {tag : ℕ} {transaction : Id} {a b c : List ℕ} → IsSpellableEvent (work_event single transaction part)
+    → ((single ≡ true) × (tag ≡ 5)) ⊎ ((single ≡ false) × (tag ≡ 4))
+    → Adds (Tagged tag (IsIdOf transaction)) a b → Adds (IsPartOf part) b c → Adds (IsEventOf (work_event single transaction part)) a c
+work true part spellable (inl (is, tag)) head rest = headed (rw tag at head) (sole part spellable.1 rest)
+work true part spellable (inr (is, tag)) head rest = absurd cc
+work false part spellable (inl (is, tag)) head rest = absurd cc
+work false part spellable (inr (is, tag)) head rest = headed (rw tag at head) rest

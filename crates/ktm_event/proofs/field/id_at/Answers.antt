@@ -1,0 +1,18 @@
+use Rattle.std.proofs.Common.{inl, inr}
+use Rattle.ktm_codec.proofs.Forms.{unambiguous_u32}
+use Rattle.ktm_event.proofs.Readings.{passes, no_first, after, no_id, id_zero, id_read}
+use Rattle.ktm_event.proofs.field.id_at.Goals as goal
+
+pub returns-in_err-boot : goal.returns-in_err-boot
+returns-in_err-boot c = passes _ _ c.from_residual.ensures.1 c.in_err-boot.ensures (λ none. no_id (no_first _ none))
+
+pub returns-in_err-number : goal.returns-in_err-number
+returns-in_err-number c =
+    passes _ _ c.from_residual-in_err-number.ensures.1 c.in_err-number.ensures (λ none. no_id (after unambiguous_u32 c.in_ok-boot.ensures none))
+
+pub returns-then-boot-lt-FIRST : goal.returns-then-boot-lt-FIRST
+returns-then-boot-lt-FIRST c =
+    id_zero c.in_ok-boot.ensures c.in_ok-number.ensures (elim c.then-boot-lt-FIRST.either [ inl boot ↦ inl boot | inr later ↦ inr later.1 ])
+
+pub returns : goal.returns
+returns c = id_read c.in_ok-boot.ensures c.in_ok-number.ensures c.if-boot-lt-FIRST.false c.if-number-lt-FIRST.false

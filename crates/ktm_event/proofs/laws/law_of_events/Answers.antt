@@ -1,0 +1,6 @@
+use Rattle.ktm_event.proofs.Events.{unambiguous_event, one_event}
+use Rattle.ktm_event.proofs.Spellable.{event_shows}
+use Rattle.ktm_event.proofs.laws.law_of_events.Goals as goal
+
+pub returns : goal.returns
+returns c = record { event = unambiguous_event; spelling = one_event; written = event_shows }

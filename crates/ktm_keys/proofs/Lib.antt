@@ -1,0 +1,9 @@
+pub mod Logs
+pub mod OwnLemmas
+pub mod NowLemmas
+pub mod Records
+pub mod Worlds
+pub mod SimulationLimits
+pub mod SimulationCommit
+pub mod Simulation
+pub mod KeysAlone

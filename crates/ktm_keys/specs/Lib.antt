@@ -1,0 +1,10 @@
+pub mod Transactions
+pub mod Present
+pub mod Outcome
+pub mod Decide
+pub mod Durable
+pub mod World
+pub mod Transcript
+pub mod Laws
+pub mod KeysAlone
+pub mod Simulation

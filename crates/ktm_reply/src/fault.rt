@@ -1,0 +1,23 @@
+// Why a reply was not read.
+ghost use Rattle.std.specs.Prelude.{◌≡◌};
+
+use ktm_base::NoMemory as OutOfMemory;
+
+/// Why a reply was not read.
+#[derive(Clone, Copy, Debug, PartialEq, Eq)]
+pub enum ReplyFault {
+    /// It is not the spelling of a reply.
+    NotAReply,
+    /// Memory was wanted and not to be had.
+    NoMemory,
+}
+
+impl From<OutOfMemory> for ReplyFault {
+    ghost use Rattle.ktm_reply.specs.declared.fault.ReplyFault.TheVariants.{NoMemory};
+
+    ghost from_gives = { λ _ fault. fault ≡ NoMemory };
+
+    fn from(_: OutOfMemory) -> Self {
+        ReplyFault::NoMemory
+    }
+}

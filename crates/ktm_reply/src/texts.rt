@@ -1,0 +1,42 @@
+// Texts between quotation marks, each behind a space.
+ghost use Rattle.std.specs.Prelude.{◌≡◌, ◌++◌, IfOk, OnOk, flat_map, option_map};
+ghost use Rattle.ktm_reply.specs.Reading.{spaced_at, texts_at};
+ghost use Rattle.ktm_reply.specs.Spelling.{spaced};
+
+use ktm_base::{NoMemory, Text, TextList};
+use ktm_codec::{put_quoted, read_quoted, strip_word};
+use std::alloc::Global;
+
+pub fn put_texts(out: &mut Vec<u8>, texts: &[Text]) -> Result<(), NoMemory>
+    ensures { OnOk result (out.new.items ≡ out.old.items ++ flat_map spaced texts.now) }
+{
+    for text in texts {
+        out.push(b' ')?;
+        put_quoted(out, text.as_slice())?;
+    }
+    Ok(())
+}
+
+// The text at the front, behind a space, and what follows it.
+#[tactic(auto, unfolding(crate::specs::Reading::spaced_at))]
+fn first_text(text: &[u8]) -> Option<(&[u8], &[u8])>
+    ensures { option_map (λ read. (read.0.now, read.1.now)) result ≡ spaced_at text.now }
+{
+    read_quoted(strip_word(text, b" ")?)
+}
+
+pub fn read_texts(alloc: Global, text: &[u8]) -> Result<Option<TextList>, NoMemory>
+    ensures { IfOk result (λ texts. texts ≡ texts_at text.now) }
+{
+    let mut texts = Vec::new(alloc);
+    let mut rest = text;
+    'texts: while let Some((text, after)) = first_text(rest) {
+        texts.push(Text::new(text.to_vec(alloc)?))?;
+        rest = after;
+    }
+    if rest.is_empty() {
+        Ok(Some(TextList::new(texts)))
+    } else {
+        Ok(None)
+    }
+}

@@ -1,0 +1,11 @@
+use Rattle.std.proofs.Common.{ℕ, List, [], ◌∷◌, ◌++◌, ◌∙◌, subst}
+use Rattle.std.specs.Prelude.{codes, decimal}
+use Rattle.std.specs.Io.KnownBytes.{Appends}
+use Rattle.ktm_run.proofs.Known.{Appends-trans}
+use Rattle.ktm_run.proofs.image.write_bad_image.Goals as goal
+
+pub returns-clause-ok : goal.returns-clause-ok
+returns-clause-ok g c =
+    Appends-trans _ _ _ (codes "bad image at ") (decimal c.args.offset ++ 10 ∷ []) c.in_default.ensures.ok
+    (subst (λ (l : List ℕ). Appends (g.K.Sink.taken c.write_all.new.sink) (g.K.Sink.taken c.write_line.new.sink) (l ++ 10 ∷ []))
+    (c.as_bytes.ensures.value ∙ c.format.ensures.text) c.in_default-write_line.ensures.ok)

@@ -1,6 +1,0 @@
-use Rattle.std.proofs.Common.{◌≡◌, [], take, drop}
-use Rattle.ktm_script.specs.Reading.{text_from}
-use Rattle.ktm_script.proofs.parts.to_quotation_mark.Given as goal
-
-abbrev pub invariant-loop-index : goal.invariant-loop-index
-invariant-loop-index l = text_from (take l.index l.text) (drop l.index l.text) ≡ text_from [] l.text

@@ -1,0 +1,98 @@
+-- Changes of the tree: what each makes of it, and when it applies.
+use Rattle.std.specs.Prelude.{ℕ, ◌+◌, ◌^◌, ◌==◌, ◌&&◌, not, Bool, true, false, List, [], ◌∷◌, nat_lt, nat_le, Option, Some, None, is_none, max, fold}
+use Rattle.ktm_world.specs.declared.change.Change.{Change}
+use Rattle.ktm_world.specs.declared.change.Change.TheVariants.{Make, Put, Cut, Move, Drop}
+use Rattle.ktm_world.specs.declared.change.Contents.{Contents}
+use Rattle.ktm_world.specs.declared.change.Contents.TheVariants.{Whole, Paged}
+use Rattle.ktm_world.specs.declared.change.NodeKind.{NodeKind}
+use Rattle.ktm_world.specs.declared.change.NodeKind.TheVariants.{File, Directory}
+use Rattle.ktm_world.specs.Paths.{is_name}
+use Rattle.ktm_world.specs.Tree.{Tree, root, is_there, is_file, is_directory, child_of, has_entries, is_at_or_below, with_node, with_changed, without_node, bytes_or_none, cut_to, put_over}
+
+-- a new file has no bytes
+abbrev pub new_content : NodeKind → Option (List ℕ)
+new_content File = Some []
+new_content Directory = None
+
+-- the bytes of contents; no image of the present layout has pages
+abbrev pub bytes_in : Contents → List ℕ
+bytes_in (Whole bytes) = bytes
+bytes_in (Paged pages) = []
+
+abbrev pub is_whole : Contents → Bool
+is_whole (Whole bytes) = true
+is_whole (Paged pages) = false
+
+abbrev pub is_empty_list : List ℕ → Bool
+is_empty_list [] = true
+is_empty_list (x ∷ xs) = false
+
+-- what a change makes of the tree
+abbrev pub changed : Tree → Change → Tree
+changed tree (Make node parent kind name) = with_node tree (record { number = node; parent = parent; name = name; content = new_content kind })
+changed tree (Put node offset contents) = with_changed tree node (λ n. record n { content = Some (put_over (bytes_or_none n.content) offset (bytes_in contents)) })
+changed tree (Cut node size pages) = with_changed tree node (λ n. record n { content = Some (cut_to (bytes_or_none n.content) size) })
+changed tree (Move node parent name) = with_changed tree node (λ n. record n { parent = parent; name = name })
+changed tree (Drop node) = without_node tree node
+
+-- changes in order
+abbrev pub changed_all : Tree → List Change → Tree
+changed_all tree changes = fold changed tree changes
+
+-- is the name free in the directory, but for the node itself
+abbrev pub is_free : Tree → ℕ → List ℕ → Bool
+is_free tree directory name = is_none (child_of tree directory name)
+
+abbrev pub is_node_number : ℕ → Bool
+is_node_number number = nat_le 2 number && nat_lt number (2 ^ 63)
+
+-- does a change apply to the tree
+abbrev pub applies : Tree → Change → Bool
+applies tree (Make node parent kind name) = is_node_number node && not (is_there tree node) && is_directory tree parent && is_name name && is_free tree parent name
+applies tree (Put node offset contents) = is_file tree node && is_whole contents
+applies tree (Cut node size pages) = is_file tree node && is_empty_list pages
+applies tree (Move node parent name) =
+    not (node == root) && is_there tree node && is_directory tree parent && not (is_at_or_below tree parent node) && is_name name && is_free tree parent name
+applies tree (Drop node) = not (node == root) && is_there tree node && not (has_entries tree node)
+
+-- do changes apply in order
+abbrev pub apply_all : Tree → List Change → Bool
+apply_all tree [] = true
+apply_all tree (change ∷ changes) = applies tree change && apply_all (changed tree change) changes
+
+-- the node that a change makes or changes
+abbrev pub node_of : Change → ℕ
+node_of (Make node parent kind name) = node
+node_of (Put node offset contents) = node
+node_of (Cut node size pages) = node
+node_of (Move node parent name) = node
+node_of (Drop node) = node
+
+-- does a change put or cut bytes of a file
+abbrev pub changes_bytes : Change → Bool
+changes_bytes (Make node parent kind name) = false
+changes_bytes (Put node offset contents) = true
+changes_bytes (Cut node size pages) = true
+changes_bytes (Move node parent name) = false
+changes_bytes (Drop node) = false
+
+abbrev pub is_make : Change → Bool
+is_make (Make node parent kind name) = true
+is_make _ = false
+
+abbrev pub is_make_of_file : Change → Bool
+is_make_of_file (Make node parent File name) = true
+is_make_of_file _ = false
+
+abbrev pub is_drop : Change → Bool
+is_drop (Drop node) = true
+is_drop _ = false
+
+abbrev pub is_move : Change → Bool
+is_move (Move node parent name) = true
+is_move _ = false
+
+-- the next node number, once a change has made a node
+abbrev pub next_after : ℕ → Change → ℕ
+next_after next (Make node parent kind name) = max next (node + 1)
+next_after next _ = next

@@ -1,0 +1,100 @@
+-- The files as they are now, and what a transaction sees of them.
+use Rattle.std.specs.Prelude.{ℕ, ◌==◌, ◌&&◌, not, Bool, List, [], ◌∷◌, ◌++◌, filter, find, Option, Some, None, if◌then◌else◌}
+use Rattle.std.specs.List.{list_any}
+use Rattle.ktm_base.specs.declared.id.Id.{Id}
+use Rattle.ktm_world.specs.declared.change.Change.{Change}
+use Rattle.ktm_world.specs.declared.options.Access.{Access}
+use Rattle.ktm_world.specs.declared.options.ShareMode.{ShareMode}
+use Rattle.ktm_world.specs.Transactions.{same_id}
+use Rattle.ktm_world.specs.Changes.{changed_all, node_of, changes_bytes, is_make}
+use Rattle.ktm_world.specs.Committed.{Version, version_of}
+use Rattle.ktm_world.specs.Tree.{Tree, is_file, bytes_of}
+
+-- the changes of an undecided transaction, in order
+pub record OwnChanges : Type 0 where
+  pub transaction : Id
+  pub changes : List Change
+
+-- a transaction's first open of a file, with the version that it fixed
+pub record FirstOpen : Type 0 where
+  pub transaction : Id
+  pub file : ℕ
+  pub version : ℕ
+  pub bytes : List ℕ
+
+-- an open file; a plain one has no transaction
+pub record OpenFile : Type 0 where
+  pub number : ℕ
+  pub node : ℕ
+  pub transaction : Option Id
+  pub access : Access
+  pub share : ShareMode
+
+-- what the undecided transactions changed, and the open files
+pub record FileTable : Type 0 where
+  pub own : List OwnChanges
+  pub opens : List OpenFile
+  -- the number of the file that was opened last, or 0
+  pub last_open : ℕ
+  -- the number of the next node
+  pub next_node : ℕ
+
+pub record FilesNow : Type 0 where
+  -- what is committed
+  pub tree : Tree
+  pub versions : List Version
+  -- of undecided transactions
+  pub first_opens : List FirstOpen
+  pub table : FileTable
+
+-- the changes of a transaction
+abbrev pub own_changes : List OwnChanges → Id → List Change
+own_changes [] id = []
+own_changes (o ∷ os) id = if same_id o.transaction id then o.changes else own_changes os id
+
+-- a transaction has one change more
+abbrev pub with_own_change : List OwnChanges → Id → Change → List OwnChanges
+with_own_change [] id change = record { transaction = id; changes = change ∷ [] } ∷ []
+with_own_change (o ∷ os) id change = if same_id o.transaction id then record o { changes = o.changes ++ change ∷ [] } ∷ os else o ∷ with_own_change os id change
+
+-- a transaction's changes are gone
+abbrev pub without_own_changes : List OwnChanges → Id → List OwnChanges
+without_own_changes os id = filter (λ o. not (same_id o.transaction id)) os
+
+-- did a transaction make the node
+abbrev pub has_made : List Change → ℕ → Bool
+has_made changes node = list_any (λ change. is_make change && node_of change == node) changes
+
+-- a transaction's first open of a file
+abbrev pub first_open_of : List FirstOpen → Id → ℕ → Option FirstOpen
+first_open_of opens id file = find (λ o. same_id o.transaction id && o.file == file) opens
+
+-- is the version of a first open the last one of its file
+abbrev pub is_last_version : FilesNow → FirstOpen → Bool
+is_last_version files o = is_file files.tree o.file && o.version == version_of files.versions o.file
+
+-- the names that a transaction sees: what is committed, with what it made, moved and dropped
+abbrev pub tree_of : FilesNow → Id → Tree
+tree_of files id = changed_all files.tree (filter (λ change. not (changes_bytes change)) (own_changes files.table.own id))
+
+abbrev pub tree_seen : FilesNow → Option Id → Tree
+tree_seen files None = files.tree
+tree_seen files (Some id) = tree_of files id
+
+abbrev pub fixed_bytes : FilesNow → ℕ → Option FirstOpen → List ℕ
+fixed_bytes files file None = bytes_of files.tree file
+fixed_bytes files file (Some o) = o.bytes
+
+-- the bytes from which a transaction's changes of a file start: none where it made it, those of its first open, or else the last committed ones
+abbrev pub first_bytes : FilesNow → Id → ℕ → List ℕ
+first_bytes files id file = if has_made (own_changes files.table.own id) file then [] else fixed_bytes files file (first_open_of files.first_opens id file)
+
+-- the bytes of a file with what these changes put and cut of it
+abbrev pub bytes_after : List ℕ → ℕ → List Change → List ℕ
+bytes_after bytes file changes =
+    bytes_of (changed_all (record { number = file; parent = 1; name = []; content = Some bytes } ∷ []) (filter (λ change. changes_bytes change && node_of change == file) changes)) file
+
+-- the bytes of a file that a transaction sees, or a plain handle
+abbrev pub bytes_seen : FilesNow → Option Id → ℕ → List ℕ
+bytes_seen files None file = bytes_of files.tree file
+bytes_seen files (Some id) file = bytes_after (first_bytes files id file) file (own_changes files.table.own id)

@@ -1,0 +1,162 @@
+-- What an undecided transaction holds, as a function of its changes and of its open files, and when a call meets it.
+use Rattle.std.specs.Prelude.{ℕ, ◌==◌, ◌&&◌, ◌||◌, Bool, true, false, List, [], ◌∷◌, ◌++◌, map, Option, Some, None, bytes_eq, if◌then◌else◌}
+use Rattle.std.specs.List.{list_any}
+use Rattle.ktm_base.specs.Names.{folded}
+use Rattle.ktm_world.specs.declared.change.Change.{Change}
+use Rattle.ktm_world.specs.declared.change.Change.TheVariants.{Make, Put, Cut, Move, Drop}
+use Rattle.ktm_world.specs.Changes.{changed, node_of, is_move, is_drop}
+use Rattle.ktm_world.specs.Tree.{Tree, Node, node_at, is_directory}
+
+-- a name in a directory, folded
+pub record Place : Type 0 where
+  pub directory : ℕ
+  pub name : List ℕ
+
+abbrev pub place : ℕ → List ℕ → Place
+place directory name = record { directory = directory; name = folded name }
+
+abbrev pub same_place : Place → Place → Bool
+same_place a b = a.directory == b.directory && bytes_eq a.name b.name
+
+abbrev pub place_of : Option Node → List Place
+place_of None = []
+place_of (Some node) = place node.parent node.name ∷ []
+
+-- the names that a change of this tree makes, drops, moves away or moves to
+abbrev pub places_of : Tree → Change → List Place
+places_of tree (Make node parent kind name) = place parent name ∷ []
+places_of tree (Put node offset contents) = []
+places_of tree (Cut node size pages) = []
+places_of tree (Move node parent name) = place_of (node_at tree node) ++ place parent name ∷ []
+places_of tree (Drop node) = place_of (node_at tree node)
+
+-- an undecided transaction with its changes of what is committed, and the nodes of its open files that may be written
+pub record Holder : Type 0 where
+  pub tree : Tree
+  pub changes : List Change
+  pub writes : List ℕ
+
+-- what is so of some change, on the tree that it finds
+abbrev pub each_change : {X : Type 0} → (Tree → Change → List X) → Tree → List Change → List X
+each_change f tree [] = []
+each_change f tree (change ∷ changes) = f tree change ++ each_change f (changed tree change) changes
+
+abbrev pub is_in : List ℕ → ℕ → Bool
+is_in ns n = list_any (λ m. m == n) ns
+
+abbrev pub meet_in : List ℕ → List ℕ → Bool
+meet_in ms ns = list_any (is_in ns) ms
+
+-- the files and directories: each that it made, changed, moved or dropped, and each file that it has open for writing
+abbrev pub nodes_held : Holder → List ℕ
+nodes_held h = map node_of h.changes ++ h.writes
+
+-- each name that it made, dropped, moved away or moved to
+abbrev pub places_held : Holder → List Place
+places_held h = each_change places_of h.tree h.changes
+
+-- the use of each directory in which it holds a name
+abbrev pub uses_held : Holder → List ℕ
+uses_held h = map (λ p. p.directory) (places_held h)
+
+abbrev pub dropped_directory : Tree → Change → List ℕ
+dropped_directory tree change = if is_drop change && is_directory tree (node_of change) then node_of change ∷ [] else []
+
+abbrev pub directories_dropped : Holder → List ℕ
+directories_dropped h = each_change dropped_directory h.tree h.changes
+
+abbrev pub moved_directory : Tree → Change → List ℕ
+moved_directory tree change = if is_move change && is_directory tree (node_of change) then node_of change ∷ [] else []
+
+-- the right to move directories, once it has moved one
+abbrev pub moves_directories : Holder → Bool
+moves_directories h = list_any (λ node. true) (each_change moved_directory h.tree h.changes)
+
+-- ---- what a call does
+
+-- opening a file, reading or changing it; and deleting, moving, making or removing what has a name
+pub data Act : Type 0 where
+  opens : (file : ℕ) → (changes : Bool) → Act
+  deletes : (file : ℕ) → Place → Act
+  moves_file : (file : ℕ) → Place → Place → Act
+  makes : Place → Act
+  drops_directory : (directory : ℕ) → Place → Act
+  moves_directory : (directory : ℕ) → Place → Place → Act
+
+-- the files and directories that it changes
+abbrev pub nodes_changed : Act → List ℕ
+nodes_changed (opens file true) = file ∷ []
+nodes_changed (opens file false) = []
+nodes_changed (deletes file at) = file ∷ []
+nodes_changed (moves_file file from to) = file ∷ []
+nodes_changed (makes at) = []
+nodes_changed (drops_directory directory at) = directory ∷ []
+nodes_changed (moves_directory directory from to) = directory ∷ []
+
+-- the names that it changes
+abbrev pub places_changed : Act → List Place
+places_changed (opens file changes) = []
+places_changed (deletes file at) = at ∷ []
+places_changed (moves_file file from to) = from ∷ to ∷ []
+places_changed (makes at) = at ∷ []
+places_changed (drops_directory directory at) = at ∷ []
+places_changed (moves_directory directory from to) = from ∷ to ∷ []
+
+-- the file that it changes or opens
+abbrev pub file_touched : Act → List ℕ
+file_touched (opens file changes) = file ∷ []
+file_touched (deletes file at) = file ∷ []
+file_touched (moves_file file from to) = file ∷ []
+file_touched (makes at) = []
+file_touched (drops_directory directory at) = []
+file_touched (moves_directory directory from to) = []
+
+-- the file that it changes
+abbrev pub file_changed : Act → List ℕ
+file_changed (opens file true) = file ∷ []
+file_changed (opens file false) = []
+file_changed (deletes file at) = file ∷ []
+file_changed (moves_file file from to) = file ∷ []
+file_changed (makes at) = []
+file_changed (drops_directory directory at) = []
+file_changed (moves_directory directory from to) = []
+
+-- the file whose bytes it writes, empties or deletes
+abbrev pub file_overwritten : Act → List ℕ
+file_overwritten (opens file true) = file ∷ []
+file_overwritten (opens file false) = []
+file_overwritten (deletes file at) = file ∷ []
+file_overwritten (moves_file file from to) = []
+file_overwritten (makes at) = []
+file_overwritten (drops_directory directory at) = []
+file_overwritten (moves_directory directory from to) = []
+
+abbrev pub is_drop_of_directory : Act → List ℕ
+is_drop_of_directory (drops_directory directory at) = directory ∷ []
+is_drop_of_directory _ = []
+
+abbrev pub is_move_of_directory : Act → Bool
+is_move_of_directory (moves_directory directory from to) = true
+is_move_of_directory _ = false
+
+-- ---- meeting what another holds
+
+-- it changes a file, a directory or a name that the other holds
+abbrev pub changes_held : Holder → Act → Bool
+changes_held h act = meet_in (nodes_changed act) (nodes_held h) || list_any (λ p. list_any (same_place p) (places_held h)) (places_changed act)
+
+-- it changes a name in a directory that the other has dropped
+abbrev pub enters_dropped : Holder → Act → Bool
+enters_dropped h act = meet_in (map (λ p. p.directory) (places_changed act)) (directories_dropped h)
+
+-- it drops a directory of which the other holds the use
+abbrev pub drops_used : Holder → Act → Bool
+drops_used h act = meet_in (is_drop_of_directory act) (uses_held h)
+
+-- it moves a directory while the other has the right to
+abbrev pub moves_too : Holder → Act → Bool
+moves_too h act = is_move_of_directory act && moves_directories h
+
+-- does a call meet what an undecided transaction holds
+unfoldable pub meets : Holder → Act → Bool
+meets h act = changes_held h act || enters_dropped h act || drops_used h act || moves_too h act
