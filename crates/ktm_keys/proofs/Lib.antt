@@ -7,3 +7,4 @@ pub mod SimulationLimits
 pub mod SimulationCommit
 pub mod Simulation
 pub mod KeysAlone
+pub mod Outcomes

@@ -1,6 +1,6 @@
 -- The machine as it is built so far: it has transactions and keys alone. What it does is what the whole model does where there are
 -- no files, no resource managers and no enlistments.
-use Rattle.std.specs.Prelude.{◌≡◌, ◌-◌, ◌^◌, ◌≤◌, Bool, true, false, List, [], length, map, count_by, Option, Some, None}
+use Rattle.std.specs.Prelude.{◌≡◌, ◌-◌, ◌^◌, ◌≤◌, not, Bool, true, false, List, [], length, map, count_by, Option, Some, None}
 use Rattle.std.specs.List.{list_all}
 use Rattle.ktm_world.specs.declared.command.Line.{Line}
 use Rattle.ktm_world.specs.declared.event.Event.{Event}
@@ -13,7 +13,7 @@ use Rattle.ktm_world.specs.Keys.{changes_pending}
 use Rattle.ktm_keys.specs.Outcome.{Outcome as KeyOutcome, Work as KeyWork}
 use Rattle.ktm_keys.specs.Present.{Present as KeyPresent}
 use Rattle.ktm_keys.specs.Transactions.{Transactions as KeyTransactions}
-use Rattle.ktm_world.specs.Transactions.{is_live}
+use Rattle.ktm_world.specs.Transactions.{is_live, is_aborted}
 use Rattle.ktm_world.specs.Transcript.{Step, Does, Transcript}
 use Rattle.ktm_keys.specs.Transcript.{Does as KeysDo, Transcript as KeyTranscript}
 use Rattle.ktm_keys.specs.World.{World as KeyWorld, present as keys_now, possible_logs as possible_key_logs}
@@ -21,6 +21,7 @@ use Rattle.ktm_world.specs.Logs.{Group}
 use Rattle.ktm_world.specs.Committed.{Work}
 use Rattle.ktm_world.specs.Durable.{Durable}
 use Rattle.ktm_world.specs.Files.{FilesNow, FileTable}
+use Rattle.ktm_world.specs.OneOutcome.{HasOneOutcome, tellings}
 use Rattle.ktm_world.specs.Outcome.{Outcome}
 use Rattle.ktm_world.specs.Present.{Present, Transactions}
 use Rattle.ktm_world.specs.World.{World}
@@ -124,3 +125,13 @@ abbrev pub KeysLaw : Type 0
 KeysLaw = (w : KeyWorld) (lines : List (Option Line)) (steps : List Step) (replies : List Reply) (new : KeyWorld)
     → IsOfKeys w → list_all is_built_line lines ≡ true → KeyTranscript w lines steps replies new
     → Transcript (whole_world w) lines steps replies (whole_world new) × IsOfKeys new
+
+-- no transaction was rolled back, since nothing rolls one back so far
+abbrev pub has_none_aborted : KeyWorld → Bool
+has_none_aborted w = list_all (λ t. not (is_aborted t)) w.transactions.items
+
+-- so no transcript of lines that are built tells two outcomes of a transaction
+abbrev pub OutcomeLaw : Type 0
+OutcomeLaw = (w : KeyWorld) (lines : List (Option Line)) (steps : List Step) (replies : List Reply) (new : KeyWorld)
+    → IsOfKeys w → has_none_aborted w ≡ true → list_all is_built_line lines ≡ true → KeyTranscript w lines steps replies new
+    → HasOneOutcome (tellings (whole_world w) lines steps replies)

@@ -14,6 +14,7 @@ use Rattle.ktm_kernel.proofs.Left.{left_law}
 use Rattle.ktm_world.specs.Durable.{Durable, empty_state, stand}
 use Rattle.ktm_keys.specs.KeysAlone.{whole_state, whole_world, is_key_event, is_key_group, is_key_log, IsOfKeys, is_built_line}
 use Rattle.ktm_world.specs.World.{World, opened}
+use Rattle.ktm_keys.proofs.Outcomes.{outcome_law}
 use Rattle.ktm_keys.proofs.KeysAlone.{stand_of, opened_is, contains_passes, line_law, keys_law}
 use Rattle.ktm_run.specs.declared.status.Status.{Status}
 use Rattle.ktm_run.specs.declared.status.Status.TheVariants.{Done, Usage, SourceFault, SinkFault, NoMemory, BadImage, DiskFault, ScriptTooLong, LogFull}
@@ -158,6 +159,7 @@ module _ (state : KeyState) (room : ℕ) (units : 1 ≤ state.units) where
         world = whole_world replied.world;
         mean = replied.mean;
         transcript = run.0;
+        one_outcome = outcome_law (opened_keys state room []) replied.meant replied.steps replied.replies replied.world opening_of refl (built_of (filter has_reply lines) replied.meant replied.mean) replied.transcript;
         wrote = replied.wrote;
         counts = replied.counts;
         images = leaves_of new.disk replied.world run.1 replied.images;
@@ -222,6 +224,7 @@ module _ (state : KeyState) (room : ℕ) (units : 1 ≤ state.units) where
         world = whole_world ran.world;
         mean = ran.mean;
         transcript = run.0;
+        one_outcome = outcome_law (opened_keys state room []) ran.meant ran.steps ran.replies ran.world opening_of refl (built_of (filter has_reply stopped.before) ran.meant ran.mean) ran.run;
         wrote = ran.wrote;
         counts = all_counts state room old.status ended.first stopped.at.scene _ _ _ ended.opening ran.counts;
         images = leaves_of stopped.at.scene.disk ran.world run.1 (left_law stopped.at.scene.machine stopped.at.scene.disk ran.world ran.stands);

@@ -9,6 +9,7 @@ use Rattle.ktm_base.specs.Disk.{DiskState, DiskStatus, MayLeave, IsSafe}
 use Rattle.ktm_base.specs.Told.{Tells}
 use Rattle.ktm_journal.specs.Image.{HoldsLog, left_after}
 use Rattle.ktm_world.specs.Durable.{Durable, empty_state, stand}
+use Rattle.ktm_world.specs.OneOutcome.{HasOneOutcome, tellings}
 use Rattle.ktm_world.specs.Transcript.{Does, Transcript, Step}
 use Rattle.ktm_world.specs.World.{World, opened, own_group, possible_logs}
 use Rattle.ktm_run.specs.Plan.{plan_of, plans, falls_of, falls, RoseBy, most_calls}
@@ -91,6 +92,8 @@ pub record Replied (base : Durable) (room : ℕ) (old new : Moment) (lines : Lis
   pub mean : MeanAll (filter has_reply lines) meant
   -- by explicit steps: answered, interrupted, or a restart that found a log
   pub transcript : Transcript (opened base room []) meant steps replies world
+  -- over all its restarts no transaction is told to have committed and to have rolled back
+  pub one_outcome : HasOneOutcome (tellings (opened base room []) meant steps replies)
   pub wrote : Appends old.taken new.taken (written_replies replies)
   -- the interrupted lines and the crashes that were answered are at most as many as the disk went down, the plan grew by that of
   -- the lines, and there were so few device calls
