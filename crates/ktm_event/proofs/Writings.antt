@@ -1,17 +1,17 @@
 -- How what is written at the end goes on.
 use Rattle.std.proofs.Common.{Bool, true, false, ◌⊎◌, inl, inr, ◌≡◌, ◌+◌, ◌<◌, ◌≤◌, ℕ, List, [], ◌∷◌, ◌++◌, length, take, get_or, sum_by, refl, sym, ◌∙◌, ap, subst, arith, append_assoc}
 use Rattle.std.proofs.lemmas.List.Sums.{sum_by_more, sum_by_more_le}
+use Rattle.ktm_base.specs.declared.id.Id.{Id}
 use Rattle.ktm_base.specs.Grammar.{IsU8, IsBytesOf, Then, Tagged}
 use Rattle.ktm_codec.specs.Spans.{Adds}
 use Rattle.ktm_codec.proofs.Adding.{adds_then, adds_tagged}
 use Rattle.ktm_codec.proofs.SpansLemmas.{then_tagged}
 use Rattle.ktm_world.specs.declared.change.Contents.TheVariants.{Whole}
-use Rattle.ktm_world.specs.EventGrammar.{IsIdOf, IsPutOf, IsPartOf, IsSoleOf, IsEventOf}
 use Rattle.ktm_world.specs.declared.event.Part.{Part}
 use Rattle.ktm_world.specs.declared.event.Part.TheVariants.{Enlistment, Changes, Settings}
+use Rattle.ktm_world.specs.EventGrammar.{IsIdOf, IsPutOf, IsPartOf, IsSoleOf, IsEventOf}
 use Rattle.ktm_event.specs.Spelling.{IsSpellablePart, IsSpellableSole, IsSpellableEvent}
 use Rattle.ktm_event.specs.Work.{work_event}
-use Rattle.ktm_base.specs.declared.id.Id.{Id}
 
 -- one thing and then another
 pub then : {P Q : List ℕ → Type 0} {a b c : List ℕ} → Adds P a b → Adds Q b c → Adds (Then P Q) a c
@@ -22,6 +22,10 @@ pub tagged : {P : List ℕ → Type 0} {a b c : List ℕ} {tag : ℕ} → Adds (
 tagged {tag} first rest =
     let both = then first rest in
     record { more = both.more; is = both.is; form = then_tagged tag both.more both.form }
+
+-- the same, where the tag was pushed
+pub pushed : {P : List ℕ → Type 0} {a b c : List ℕ} {tag : ℕ} → b ≡ a ++ tag ∷ [] → Adds P b c → Adds (Tagged tag P) a c
+pushed {P} {a} {b} {c} {tag} is rest = adds_tagged tag P a b c is rest
 
 -- contents that are put are not empty
 pub put : {a b : List ℕ} (contents : List ℕ) → 1 ≤ length contents → Adds (IsBytesOf contents) a b → Adds (IsPutOf (Whole contents)) a b
@@ -35,10 +39,6 @@ module _ {X : Type 0} (size : X → ℕ) (xs : List X) (i : ℕ) (x : X) (inside
 
   pub size_within : sum_by size (take i xs) + size x ≤ sum_by size xs
   size_within = subst (λ (y : X). sum_by size (take i xs) + size y ≤ sum_by size xs) (sym is) (sum_by_more_le size xs i x inside)
-
--- the same, where the tag was pushed
-pub pushed : {P : List ℕ → Type 0} {a b c : List ℕ} {tag : ℕ} → b ≡ a ++ tag ∷ [] → Adds P b c → Adds (Tagged tag P) a c
-pushed {P} {a} {b} {c} {tag} is rest = adds_tagged tag P a b c is rest
 
 -- a tag, an Id and what stands behind them
 pub headed : {P : List ℕ → Type 0} {a b c : List ℕ} {tag : ℕ} {id : Id} → Adds (Tagged tag (IsIdOf id)) a b → Adds P b c → Adds (Tagged tag (Then (IsIdOf id) P)) a c

@@ -1,4 +1,4 @@
--- Which groups have bytes.
+-- Which events and groups have bytes.
 use Rattle.std.specs.Prelude.{◌≡◌, ℕ, ◌<◌, ◌≤◌, ◌^◌, List, [], length, Option, All, IfSome}
 use Rattle.ktm_base.specs.declared.id.Id.{Id}
 use Rattle.ktm_world.specs.declared.change.Change.{Change}
@@ -54,6 +54,7 @@ pub record IsSpellableRecord (enlistment manager : Id) (information : List ℕ) 
   pub managed : IsSpellableId manager
   pub short : length information < 2 ^ 8
 
+-- a part that has bytes: an enlistment, or a list
 abbrev pub IsSpellablePart : Part → Type 0
 IsSpellablePart (Enlistment enlistment manager information) = IsSpellableRecord enlistment manager information
 IsSpellablePart (Changes changes) = AreSpellableChanges changes
@@ -65,6 +66,7 @@ IsSpellableSole (Enlistment enlistment manager information) = ⊥
 IsSpellableSole (Changes changes) = AreSpellableChanges changes
 IsSpellableSole (Settings settings) = AreSpellableSettings settings
 
+-- who is done has bytes where its Id has
 abbrev pub IsSpellableDone : DonePart → Type 0
 IsSpellableDone (DonePart.Enlistment enlistment) = IsSpellableId enlistment
 IsSpellableDone Files = Unit {0}

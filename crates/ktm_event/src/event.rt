@@ -1,5 +1,5 @@
 // Events, each a tag and its fields.
-ghost use Rattle.std.specs.Prelude.{◌≡◌, ◌+◌, ◌<◌, ◌≤◌, length, OnErr, OnOk, vec_len, vec_capacity};
+ghost use Rattle.std.specs.Prelude.{◌≡◌, ◌+◌, ◌<◌, ◌≤◌, OnErr, OnOk, vec_len, vec_capacity};
 ghost use Rattle.ktm_base.specs.Grammar.{Tagged};
 ghost use Rattle.ktm_codec.specs.Spans.{Adds};
 ghost use Rattle.ktm_world.specs.EventGrammar.{IsEventOf, IsIdOf};

@@ -1,5 +1,5 @@
 // Parts, each a tag and an enlistment or a list, and who is done.
-ghost use Rattle.std.specs.Prelude.{◌≡◌, ◌+◌, ◌<◌, ◌≤◌, ◌^◌, length, sum_by, OnErr, OnOk, vec_len, vec_capacity};
+ghost use Rattle.std.specs.Prelude.{◌≡◌, ◌+◌, ◌<◌, ◌≤◌, sum_by, OnErr, OnOk, vec_len, vec_capacity};
 ghost use Rattle.ktm_codec.specs.Spans.{Adds};
 ghost use Rattle.ktm_world.specs.EventGrammar.{IsDoneOf, IsPartOf, IsRecordOf, IsSoleOf};
 ghost use Rattle.ktm_world.specs.Sizes.{change_size, done_size, part_size, record_size, setting_size};

@@ -4,6 +4,10 @@ use Rattle.std.specs.List.{list_any, list_all, flat_map}
 use Rattle.ktm_base.specs.declared.id.Id.{Id}
 use Rattle.ktm_world.specs.declared.change.Change.{Change}
 use Rattle.ktm_world.specs.declared.change.Change.TheVariants.{Make, Put, Cut, Move, Drop}
+use Rattle.ktm_world.specs.declared.durable.Node.{Node}
+use Rattle.ktm_world.specs.declared.durable.RecordedPart.{RecordedPart}
+use Rattle.ktm_world.specs.declared.durable.Stage.{Stage}
+use Rattle.ktm_world.specs.declared.durable.Superior.{Superior}
 use Rattle.ktm_world.specs.declared.event.DonePart.{DonePart}
 use Rattle.ktm_world.specs.declared.event.Event.{Event}
 use Rattle.ktm_world.specs.declared.event.Event.TheVariants.{Boot, MadeRm, Plain, Ready, Single, Held, Decide, Undo, Done}
@@ -15,25 +19,9 @@ use Rattle.ktm_world.specs.Transactions.{same_id}
 use Rattle.ktm_world.specs.Changes.{changed, changed_all, apply_all, node_of, changes_bytes, is_make, next_after}
 use Rattle.ktm_world.specs.Committed.{written_files}
 use Rattle.ktm_world.specs.Holds.{Holder, Act, place, opens, deletes, moves_file, makes, drops_directory, moves_directory, meets}
-use Rattle.ktm_world.specs.Tree.{Tree, Node, node_at, bytes_or_none, bytes_of}
+use Rattle.ktm_world.specs.Tree.{Tree, node_at, bytes_or_none, bytes_of}
 use Rattle.ktm_world.specs.TransactionCalls.{most_information}
 use Rattle.ktm_world.specs.Uses.{units_of, nodes_made, most_live}
-
--- how far a recorded transaction is: some parts are ready, it waits for its superior, or it commits
-pub data Stage : Type 0 where
-  ready : Stage
-  held : Stage
-  decided : Stage
-
--- the superior of a transaction that waits for it
-pub record Superior : Type 0 where
-  pub enlistment : Id
-  pub manager : Id
-  pub information : List ℕ
-
-pub record RecordedPart : Type 0 where
-  pub is_done : Bool
-  pub part : Part
 
 -- a transaction that is not over
 pub record Recorded : Type 0 where
@@ -65,15 +53,15 @@ empty_state units image = record { units = units; image = image; events = 0; boo
 -- ---- transactions that are not over
 
 abbrev pub is_ready : Stage → Bool
-is_ready ready = true
+is_ready Stage.Ready = true
 is_ready _ = false
 
 abbrev pub is_held : Stage → Bool
-is_held held = true
+is_held Stage.Held = true
 is_held _ = false
 
 abbrev pub is_decided : Stage → Bool
-is_decided decided = true
+is_decided Stage.Decided = true
 is_decided _ = false
 
 abbrev pub changes_in : Part → List Change
@@ -124,7 +112,7 @@ without_recorded ts id = filter (λ t. not (same_id t.id id)) ts
 
 -- the transaction, or a new one that is ready
 abbrev pub recorded_or_new : List Recorded → Id → Recorded
-recorded_or_new [] id = record { id = id; stage = ready; superior = None; parts = [] }
+recorded_or_new [] id = record { id = id; stage = Stage.Ready; superior = None; parts = [] }
 recorded_or_new (t ∷ ts) id = if same_id t.id id then t else recorded_or_new ts id
 
 -- ---- what an event makes of the state
@@ -152,7 +140,7 @@ while_not_done ts t = if list_any (λ p. not p.is_done) t.parts then with_record
 abbrev pub decide_recorded : Durable → Option Recorded → Durable
 decide_recorded s None = s
 decide_recorded s (Some t) = record (committing s (changes_of t) (settings_of t)) {
-  transactions = while_not_done s.transactions (record t { stage = decided; parts = map emptied_part t.parts });
+  transactions = while_not_done s.transactions (record t { stage = Stage.Decided; parts = map emptied_part t.parts });
 }
 
 abbrev pub is_part_of : DonePart → Part → Bool
@@ -182,7 +170,7 @@ with_part s id part = record s {
 }
 
 abbrev pub hold_recorded : Durable → Id → Superior → Durable
-hold_recorded s id superior = record s { transactions = with_recorded s.transactions (let t = recorded_or_new s.transactions id in record t { stage = held; superior = Some superior }) }
+hold_recorded s id superior = record s { transactions = with_recorded s.transactions (let t = recorded_or_new s.transactions id in record t { stage = Stage.Held; superior = Some superior }) }
 
 -- what an event makes of the state, beside counting it
 abbrev pub fact_of : Durable → Event → Durable

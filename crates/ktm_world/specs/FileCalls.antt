@@ -10,6 +10,8 @@ use Rattle.ktm_world.specs.declared.change.Change.{Change}
 use Rattle.ktm_world.specs.declared.change.Change.TheVariants.{Make, Put, Cut, Move, Drop}
 use Rattle.ktm_world.specs.declared.change.Contents.TheVariants.{Whole}
 use Rattle.ktm_world.specs.declared.change.NodeKind.TheVariants.{File, Directory}
+use Rattle.ktm_world.specs.declared.durable.Node.{Node}
+use Rattle.ktm_world.specs.declared.durable.Node.{Node}
 use Rattle.ktm_world.specs.declared.event.Event.TheVariants.{Plain}
 use Rattle.ktm_world.specs.declared.object.Object.TheVariants.{File as FileObject}
 use Rattle.ktm_world.specs.declared.options.Access.{Access}
@@ -26,7 +28,7 @@ use Rattle.ktm_world.specs.Labels.{is_bound, holds_of, file_tests, binding}
 use Rattle.ktm_world.specs.Outcome.{Outcome, Opening, only_reply, apply}
 use Rattle.ktm_world.specs.Paths.{Search, path_of, pattern_of}
 use Rattle.ktm_world.specs.Present.{Present}
-use Rattle.ktm_world.specs.Tree.{Tree, Node, root, child_of, has_entries, is_at_or_below}
+use Rattle.ktm_world.specs.Tree.{Tree, root, child_of, has_entries, is_at_or_below}
 use Rattle.ktm_world.specs.Uses.{is_over_quota, is_over_disk}
 
 -- ---- where a text leads

@@ -3,21 +3,23 @@ use Rattle.std.specs.Prelude.{◌≡◌, ℕ, ◌==◌, ◌&&◌, ◌||◌, not,
 use Rattle.std.specs.List.{list_any, list_all, flat_map}
 use Rattle.ktm_base.specs.declared.id.Id.{Id}
 use Rattle.ktm_world.specs.declared.change.Change.{Change}
+use Rattle.ktm_world.specs.declared.durable.Stage.{Stage}
+use Rattle.ktm_world.specs.declared.durable.Superior.{Superior}
 use Rattle.ktm_world.specs.declared.object.Phase.{Phase}
 use Rattle.ktm_world.specs.declared.object.Transaction.{Transaction}
 use Rattle.ktm_world.specs.declared.options.EnlistmentKind.{EnlistmentKind}
 use Rattle.ktm_world.specs.Keyed.{value_at}
-use Rattle.ktm_world.specs.Keys.{OwnSettings, own_settings}
+use Rattle.ktm_world.specs.Keys.{Store, OwnSettings, own_settings}
 use Rattle.ktm_world.specs.Logs.{is_up}
 use Rattle.ktm_world.specs.Changes.{apply_all, node_of, changes_bytes, is_drop}
 use Rattle.ktm_world.specs.Committed.{Committed, Work, with_work, changes_to_commit}
 use Rattle.ktm_world.specs.Conflicts.{holder_of, is_of, others, writes}
-use Rattle.ktm_world.specs.Durable.{Stage, ready, held, decided, Superior, Recorded, changes_of, settings_of, log_applies, stand}
+use Rattle.ktm_world.specs.Durable.{Durable, Recorded, changes_of, settings_of, log_applies, stand}
 use Rattle.ktm_world.specs.Enlistments.{Enlistment, is_durable_at, superior_of, takes_part}
 use Rattle.ktm_world.specs.Files.{OpenFile, own_changes, bytes_seen}
 use Rattle.ktm_world.specs.Holds.{Holder, is_in, meet_in, nodes_held, places_held, same_place, uses_held, directories_dropped, moves_directories}
 use Rattle.ktm_world.specs.Present.{Present}
-use Rattle.ktm_world.specs.Tree.{IsWellFormed}
+use Rattle.ktm_world.specs.Tree.{Tree, IsWellFormed}
 use Rattle.ktm_world.specs.Uses.{is_over_quota, is_over_disk}
 use Rattle.ktm_world.specs.World.{World, OpenedAfter, committed, present, enlistment_back, by_rising_id}
 
@@ -93,12 +95,12 @@ summary_of t = record {
 
 -- how far a recorded transaction is in the log, if it stands there
 abbrev pub stage_in : Phase → Option Stage
-stage_in Phase.Held = Some held
-stage_in Phase.InDoubt = Some held
-stage_in Phase.Committing = Some decided
+stage_in Phase.Held = Some Stage.Held
+stage_in Phase.InDoubt = Some Stage.Held
+stage_in Phase.Committing = Some Stage.Decided
 stage_in Phase.Aborting = None
 stage_in Phase.Ended = None
-stage_in _ = Some ready
+stage_in _ = Some Stage.Ready
 
 -- an enlistment as a restart would bring it back
 abbrev pub brought_back : Enlistment → Enlistment
@@ -125,11 +127,11 @@ superior_now None = None
 superior_now (Some e) = Some (record { enlistment = e.id; manager = e.manager; information = e.information })
 
 abbrev pub is_ready_stage : Stage → Bool
-is_ready_stage ready = true
+is_ready_stage Stage.Ready = true
 is_ready_stage _ = false
 
 abbrev pub is_held_stage : Stage → Bool
-is_held_stage held = true
+is_held_stage Stage.Held = true
 is_held_stage _ = false
 
 abbrev pub summary_now : Present → Transaction → Stage → Summary
@@ -144,7 +146,7 @@ summary_now x t stage = record {
 
 -- a decided transaction stands in the log only while an enlistment of it has not finished
 abbrev pub stays : Summary → Bool
-stays s = elim s.stage as (λ _. Bool) [ decided ↦ not (length s.enlistments == 0) | _ ↦ true ]
+stays s = elim s.stage as (λ _. Bool) [ Stage.Decided ↦ not (length s.enlistments == 0) | _ ↦ true ]
 
 abbrev pub summary_in : Present → Transaction → Option Stage → List Summary
 summary_in x t None = []
@@ -157,13 +159,46 @@ summaries_now x = flat_map (λ t. if t.is_recorded then summary_in x t (stage_in
 abbrev pub durable_managers : Present → List Id
 durable_managers x = map (λ m. m.id) (filter (λ m. m.is_durable) x.managers)
 
--- the log applies, and comes to what is committed, to the durable resource managers, and to what is recorded of the transactions
+-- what of a durable state is in a present too: all but the order in which parts became ready, and the number of the next node
+pub record Lasting : Type 0 where
+  pub units : ℕ
+  pub image : ℕ
+  pub events : ℕ
+  pub boots : ℕ
+  pub tree : Tree
+  pub keys : Store
+  pub managers : List Id
+  pub transactions : List Summary
+
+abbrev pub lasting_in : Durable → Lasting
+lasting_in s = record {
+  units = s.units;
+  image = s.image;
+  events = s.events;
+  boots = s.boots;
+  tree = s.tree;
+  keys = s.keys;
+  managers = s.managers;
+  transactions = map summary_of s.transactions;
+}
+
+-- what of a present outlives a loss of power
+abbrev pub durable_of : Present → Lasting
+durable_of x = record {
+  units = x.machine.units;
+  image = x.machine.image;
+  events = x.machine.events;
+  boots = x.machine.boot;
+  tree = x.files.tree;
+  keys = x.keys.store;
+  managers = durable_managers x;
+  transactions = summaries_now x;
+}
+
+-- the log applies, and comes to what is so now
 pub record StandsForLog (w : World) : Type 0 where
   pub applies : log_applies w.base w.log ≡ true
-  pub tree : (stand w.base w.log).tree ≡ (committed w).tree
-  pub store : (stand w.base w.log).keys ≡ (committed w).store
-  pub managers : (stand w.base w.log).managers ≡ durable_managers (present w)
-  pub transactions : map summary_of (stand w.base w.log).transactions ≡ summaries_now (present w)
+  pub comes_to : lasting_in (stand w.base w.log) ≡ durable_of (present w)
 
 -- ---- all of it
 
@@ -180,5 +215,5 @@ pub record IsLawful (w : World) : Type 0 where
   pub writers : All (λ o. is_alone (present w) o ≡ true) w.table.opens
   -- the limits hold
   pub limits : (is_over_quota (present w) ≡ false) × (is_over_disk (present w) ≡ false)
-  -- while the machine is up, its log comes to what is committed and recorded
+  -- while the machine is up, its log comes to what outlives a loss of power now
   pub stands : is_up w.power ≡ true → StandsForLog w

@@ -2,13 +2,7 @@
 use Rattle.std.specs.Prelude.{◌≡◌, ℕ, zero, suc, ◌+◌, ◌-◌, ◌==◌, ◌≤◌, ◌&&◌, ◌||◌, not, Bool, true, List, [], ◌∷◌, ◌++◌, length, map, take, drop, replicate, nat_lt, Option, Some, None, is_some, find, filter, All, if◌then◌else◌, bytes_eq}
 use Rattle.std.specs.List.{list_any}
 use Rattle.ktm_base.specs.Names.{IsName, folded}
-
--- a node: its number, the number of the directory that it is in, its name there, and what a file has; a directory has no content
-pub record Node : Type 0 where
-  pub number : ℕ
-  pub parent : ℕ
-  pub name : List ℕ
-  pub content : Option (List ℕ)
+use Rattle.ktm_world.specs.declared.durable.Node.{Node}
 
 -- the nodes but the root, by rising number
 abbrev pub Tree : Type 0

@@ -5,6 +5,8 @@ use Rattle.ktm_base.specs.declared.id.Id.{Id}
 use Rattle.ktm_base.specs.declared.id.Pid.{Pid}
 use Rattle.ktm_base.specs.declared.refusal.Refusal.TheVariants.{MachineDown}
 use Rattle.ktm_world.specs.declared.command.Command.{Command}
+use Rattle.ktm_world.specs.declared.durable.RecordedPart.{RecordedPart}
+use Rattle.ktm_world.specs.declared.durable.Superior.{Superior}
 use Rattle.ktm_world.specs.declared.event.DonePart.{DonePart}
 use Rattle.ktm_world.specs.declared.event.Event.{Event}
 use Rattle.ktm_world.specs.declared.event.Event.TheVariants.{Boot, Done}
@@ -20,7 +22,7 @@ use Rattle.ktm_world.specs.Sizes.{log_size}
 use Rattle.ktm_world.specs.Logs.{Group, Power, up, down, is_up, count_events, as_groups, kept_after, prefixes_from, possible_by}
 use Rattle.ktm_world.specs.Committed.{Committed, Work, committed_with}
 use Rattle.ktm_world.specs.Decide.{decide}
-use Rattle.ktm_world.specs.Durable.{Durable, Recorded, RecordedPart, Superior, is_held, is_decided, has_undone, changes_of, settings_of, is_before, stand}
+use Rattle.ktm_world.specs.Durable.{Durable, Recorded, is_held, is_decided, has_undone, changes_of, settings_of, is_before, stand}
 use Rattle.ktm_world.specs.Enlistments.{Enlistment, Manager, Note, Sent, notes_for, taken_count}
 use Rattle.ktm_world.specs.Files.{FileTable, FirstOpen, OwnChanges}
 use Rattle.ktm_world.specs.Present.{Present, Transactions}

@@ -1,12 +1,13 @@
 //! The machine, in definitions: what each command does to files, keys, transactions, resource managers, enlistments and
 //! handles, what is recorded of it, what a restart makes of that, and what a transcript of a script is. The types of
-//! commands, replies, changes and events are here too, and lists of values under keys.
+//! commands, replies, changes, events and the durable state are here too, and lists of values under keys.
 #![tactic(auto)]
 
 mod built;
 mod change;
 mod command;
 mod completion;
+mod durable;
 mod event;
 pub mod keyed;
 mod laws;
@@ -21,6 +22,7 @@ pub use built::is_built;
 pub use change::{Change, Changes, Contents, NodeKind};
 pub use command::{Command, Line, View};
 pub use completion::Completion;
+pub use durable::{Durable, Node, Recorded, RecordedPart, Stage, Superior};
 pub use event::{DonePart, Entry, Event, Keyed, Part, Setting, Settings};
 pub use laws::{
     law_of_first_opens, law_of_paths, law_of_refusals, law_of_sizes, law_of_step,
