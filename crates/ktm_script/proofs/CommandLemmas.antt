@@ -7,6 +7,8 @@ use Rattle.ktm_world.specs.declared.options.Access.{Access}
 use Rattle.ktm_world.specs.declared.options.Disposition.{Disposition}
 use Rattle.ktm_world.specs.declared.options.ShareMode.{ShareMode}
 use Rattle.ktm_world.specs.Values.{IsCommand}
+use Rattle.ktm_codec.proofs.HexLemmas.{option_map_some}
+use Rattle.ktm_codec.proofs.Steps.{bind_some, at_end_is}
 use Rattle.ktm_script.specs.declared.form.Form.{Form}
 use Rattle.ktm_script.specs.declared.form.Form.TheVariants as form
 use Rattle.ktm_script.specs.Reading.{made, whole, form_name, form_at, arguments_at, command_at}
@@ -14,7 +16,6 @@ use Rattle.ktm_script.specs.Spelling.{space, ◌␣◌, label_spelling, access_s
 use Rattle.ktm_codec.specs.Quoted.{quoted}
 use Rattle.ktm_script.proofs.PartLemmas.{reads_number, reads_process, reads_label, reads_view, reads_size, reads_text, reads_guid, reads_bytes, reads_durability, reads_form, reads_kind_in_transaction, reads_modes}
 use Rattle.ktm_script.proofs.Readers.{Reads, ends_part, spaced, both, whole_is, whole_again}
-use Rattle.ktm_script.proofs.Steps.{bind_some, map_some, at_end_is}
 
 -- a command of the grammar, and its spelling by its name and what stands behind that
 record Read (name text : List ℕ) (c : Command) : Type 0 where
@@ -25,7 +26,7 @@ record Read (name text : List ℕ) (c : Command) : Type 0 where
 made_is : {X : Type 0} {Is : X → Type 0} {spell : X → List ℕ} {at : List ℕ → Option (X × List ℕ)} → Reads Is spell at → (form : Form) (make : X → Command)
     → ((x : X) → Is x → IsCommand (make x)) → ((x : X) → form_name form ++ spell x ≡ command_spelling (make x))
     → (text : List ℕ) (c : Command) → made make at text ≡ Some c → Read (form_name form) text c
-made_is {X} {Is} {spell} {at} reads form make valid spelled text c e = map_some make (whole at text) c e (λ x f same.
+made_is {X} {Is} {spell} {at} reads form make valid spelled text c e = option_map_some make (whole at text) c e (λ x f same.
     let read = whole_is reads text x f in
     subst (Read (form_name form) text) same (record { valid = valid x read.0; spelled = ap (λ (xs : List ℕ). form_name form ++ xs) read.1 ∙ spelled x }))
 

@@ -1,4 +1,3 @@
-pub mod Steps
 pub mod Readers
 pub mod WordLemmas
 pub mod PartLemmas

@@ -6,14 +6,16 @@ use Rattle.ktm_codec.proofs.WordLemmas.{after_word_is, after_word_again}
 use Rattle.ktm_codec.specs.Word.{after_word}
 use Rattle.ktm_world.specs.declared.command.Line.{Line}
 use Rattle.ktm_world.specs.declared.command.Line.TheVariants.{Tick, Cut, Crash, Restart, Process}
-use Rattle.ktm_script.specs.Reading.{Gives, at_end, last_count_at, process_at, command_at, process_line_at, line_at}
+use Rattle.ktm_codec.proofs.HexLemmas.{option_map_some}
+use Rattle.ktm_codec.proofs.Steps.{bind_some, at_end_is, on_some_is}
+use Rattle.ktm_codec.specs.Steps.{at_end}
+use Rattle.ktm_script.specs.Reading.{Gives, last_count_at, process_at, command_at, process_line_at, line_at}
 use Rattle.ktm_script.specs.Spelling.{space, process_spelling, command_spelling, IsInRange, IsLine, spelling, most_bytes}
 use Rattle.ktm_script.specs.declared.fault.LineFault.{LineFault}
 use Rattle.ktm_script.specs.declared.fault.LineFault.TheVariants.{BadLine, NoMemory}
 use Rattle.ktm_script.proofs.CommandLemmas.{command_is, command_again}
 use Rattle.ktm_script.proofs.PartLemmas.{reads_number, reads_process}
 use Rattle.ktm_script.proofs.Readers.{spaced, whole_is, whole_again}
-use Rattle.ktm_script.proofs.Steps.{bind_some, map_some, at_end_is, on_word_some}
 
 -- a line with its values in range, and its spelling
 abbrev Read : List ℕ → Line → Type 0
@@ -23,7 +25,7 @@ Read text x = IsInRange x × (text ≡ spelling x)
 count_is : (word : List ℕ) (most : ℕ) (make : ℕ → Line) → most < 2 ^ 64 → ((n : ℕ) → n ≤ most → IsInRange (make n)) → ((n : ℕ) → word ++ space ∷ decimal n ≡ spelling (make n))
     → (text : List ℕ) (x : Line) → option_map make (last_count_at most text) ≡ Some x → Read (word ++ text) x
 unfolding last_count_at
-count_is word most make fits range spelled text x e = map_some make (last_count_at most text) x e (λ n f same.
+count_is word most make fits range spelled text x e = option_map_some make (last_count_at most text) x e (λ n f same.
     let read = whole_is (spaced (reads_number most fits)) text n f in
     subst (Read (word ++ text)) same (range n read.0, ap (λ (xs : List ℕ). word ++ xs) read.1 ∙ spelled n))
 
@@ -51,12 +53,12 @@ behind_word word text rest x e read = (read.0, after_word_is word text rest e �
 line_is : (text : List ℕ) (x : Line) → line_at text ≡ Some x → Read text x
 unfolding line_at
 line_is text x e =
-    on_word_some (after_word (codes "tick") text) _ _ x e (λ rest f g.
+    on_some_is (after_word (codes "tick") text) _ _ x e (λ rest f g.
     behind_word (codes "tick") text rest x f (count_is (codes "tick") 0xFFFF_FFFF Tick (lit< tt) (λ n h. omega arith) (λ n. refl) rest x g)) (λ e₁.
-    on_word_some (after_word (codes "cut") text) _ _ x e₁ (λ rest f g.
+    on_some_is (after_word (codes "cut") text) _ _ x e₁ (λ rest f g.
     behind_word (codes "cut") text rest x f (count_is (codes "cut") 0xFFFF_FFFF_FFFF_FFFF Cut (lit< tt) (λ n h. omega arith) (λ n. refl) rest x g)) (λ e₂.
-    on_word_some (after_word (codes "crash") text) (at_end Crash) _ x e₂ (λ rest f g. behind_word (codes "crash") text rest x f (crash_is rest x g)) (λ e₃.
-    on_word_some (after_word (codes "restart") text) _ _ x e₃ (λ rest f g.
+    on_some_is (after_word (codes "crash") text) (at_end Crash) _ x e₂ (λ rest f g. behind_word (codes "crash") text rest x f (crash_is rest x g)) (λ e₃.
+    on_some_is (after_word (codes "restart") text) _ _ x e₃ (λ rest f g.
     behind_word (codes "restart") text rest x f (count_is (codes "restart") 0xFFFF_FFFF_FFFF_FFFF Restart (lit< tt) (λ n h. omega arith) (λ n. refl) rest x g)) (λ e₄.
     process_line_is text x e₄))))
 

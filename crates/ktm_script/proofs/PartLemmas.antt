@@ -30,12 +30,12 @@ use Rattle.ktm_world.specs.declared.options.Durability.TheVariants as durability
 use Rattle.ktm_world.specs.declared.options.EnlistmentKind.{EnlistmentKind}
 use Rattle.ktm_world.specs.declared.options.EnlistmentKind.TheVariants as kind
 use Rattle.ktm_world.specs.Values.{IsTextByte, IsText, IsPid, IsLabel, IsView, IsGuid}
+use Rattle.ktm_codec.proofs.Steps.{bind_some, on_some_is}
 use Rattle.ktm_script.specs.Reading.{behind_space, named_at, process_at, label_at, view_at, size_at, text_at, word_from, bytes_at, access_at, share_at, disposition_at, durability_at, kind_at, kind_in_transaction_at, modes_at, by_word, accesses, shares, dispositions, durabilities, kinds, form_name, forms, form_at}
 use Rattle.ktm_script.specs.Spelling.{space, ◌␣◌, process_spelling, label_spelling, view_spelling, access_spelling, share_spelling, disposition_spelling, durability_spelling, kind_spelling}
 use Rattle.ktm_script.specs.declared.form.Form.{Form}
 use Rattle.ktm_script.specs.declared.form.Form.TheVariants as form
 use Rattle.ktm_script.proofs.Readers.{Reads, ends_part, spaced, both}
-use Rattle.ktm_script.proofs.Steps.{bind_some, on_word_some}
 use Rattle.ktm_script.proofs.WordLemmas.{is_word, word_is, word_again, by_words}
 
 -- digits end where a part does
@@ -104,7 +104,7 @@ unfolding view_at
 reads_view = record {
   found = λ text v rest e.
       let P : View → Type 0 = λ w. IsView w × (text ≡ space ∷ view_spelling w ++ rest) in
-      on_word_some (after_word (codes " -") text) _ _ (v, rest) e
+      on_some_is (after_word (codes " -") text) _ _ (v, rest) e
       (λ more f g.
       let same = some_pair_parts Plain v more rest g in
       subst P same.0 (tt, after_word_is (codes " -") text more f ∙ ap (λ (xs : List ℕ). codes " -" ++ xs) same.1))

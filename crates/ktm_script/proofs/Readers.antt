@@ -4,9 +4,9 @@ use Rattle.std.proofs.lemmas.List.{append-nil}
 use Rattle.std.proofs.lemmas.Option.{some_pair_parts}
 use Rattle.ktm_codec.proofs.WordLemmas.{after_word_is, after_word_again}
 use Rattle.ktm_codec.specs.Word.{after_word}
+use Rattle.ktm_codec.proofs.Steps.{bind_some, at_end_is}
 use Rattle.ktm_script.specs.Reading.{behind_space, ◌&◌, whole}
 use Rattle.ktm_script.specs.Spelling.{space}
-use Rattle.ktm_script.proofs.Steps.{bind_some, at_end_is}
 
 -- a part ends where nothing follows it, or a space
 abbrev pub ends_part : List ℕ → Bool

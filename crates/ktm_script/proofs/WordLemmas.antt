@@ -7,10 +7,10 @@ use Rattle.std.proofs.lemmas.Option.{same_Some, some_pair_parts}
 use Rattle.std.proofs.lemmas.Slice.Eq.{bytes_eq-Decides}
 use Rattle.ktm_codec.proofs.WordLemmas.{after_word_is, after_word_again}
 use Rattle.ktm_codec.specs.Word.{after_word}
+use Rattle.ktm_codec.proofs.Steps.{bind_some}
 use Rattle.ktm_script.specs.Reading.{word_from, by_word, one_of}
 use Rattle.ktm_script.specs.Spelling.{space}
 use Rattle.ktm_script.proofs.Readers.{Reads, ends_part}
-use Rattle.ktm_script.proofs.Steps.{bind_some}
 
 -- no space is in it
 abbrev pub is_word : List ℕ → Bool

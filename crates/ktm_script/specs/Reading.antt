@@ -8,6 +8,7 @@ use Rattle.ktm_codec.specs.Guid.{guid_at}
 use Rattle.ktm_codec.specs.Hex.{unhex_or_dash}
 use Rattle.ktm_codec.specs.Number.{number_at}
 use Rattle.ktm_codec.specs.Quoted.{quoted_at}
+use Rattle.ktm_codec.specs.Steps.{◌>>=◌, at_end, on_some}
 use Rattle.ktm_codec.specs.Word.{after_word}
 use Rattle.ktm_script.specs.Spelling.{space, access_spelling, share_spelling, disposition_spelling, durability_spelling, kind_spelling}
 use Rattle.ktm_script.specs.declared.fault.LineFault.{LineFault}
@@ -31,12 +32,6 @@ use Rattle.ktm_world.specs.declared.options.Durability.TheVariants as durability
 use Rattle.ktm_world.specs.declared.options.EnlistmentKind.{EnlistmentKind}
 use Rattle.ktm_world.specs.declared.options.EnlistmentKind.TheVariants as kind
 
--- the next step, where the first one read something
-infixl 10 ◌>>=◌
-abbrev pub ◌>>=◌ : {A B : Type 0} → Option A → (A → Option B) → Option B
-None >>= f = None
-Some x >>= f = f x
-
 -- what a function returned is what is read, unless memory ran out
 abbrev pub Gives : {Y : Type 0} → Result Y LineFault → Option Y → Type 0
 Gives (Ok x) read = read ≡ Some x
@@ -48,16 +43,6 @@ abbrev pub GivesPart : {X : Type 0} → Result (X × Bor (List ℕ)) LineFault �
 GivesPart (Ok (x, rest)) read = read ≡ Some (x, rest.now)
 GivesPart (Err BadLine) read = read ≡ None
 GivesPart (Err NoMemory) read = Unit {0}
-
--- the value, where nothing follows it
-abbrev pub at_end : {X : Type 0} → X → List ℕ → Option X
-at_end x [] = Some x
-at_end x (c ∷ cs) = None
-
--- the first way of reading where its word is at the front, and else the other way
-abbrev pub on_word : {X : Type 0} → Option (List ℕ) → (List ℕ → Option X) → Option X → Option X
-on_word None read other = other
-on_word (Some rest) read other = read rest
 
 -- a part behind a space
 abbrev pub behind_space : {X : Type 0} → (List ℕ → Option (X × List ℕ)) → List ℕ → Option (X × List ℕ)
@@ -104,7 +89,7 @@ label_at text = do
 
 -- a view behind a space
 unfoldable pub view_at : List ℕ → Option (View × List ℕ)
-view_at text = on_word (after_word (codes " -") text) (λ rest. Some (view.Plain, rest)) (label_at text >>= λ label. Some (view.Transaction label.0, label.1))
+view_at text = on_some (after_word (codes " -") text) (λ rest. Some (view.Plain, rest)) (label_at text >>= λ label. Some (view.Transaction label.0, label.1))
 
 -- a number of at most 64 bits, behind a space
 unfoldable pub size_at : List ℕ → Option (ℕ × List ℕ)
@@ -307,7 +292,7 @@ last_count_at most text = whole (behind_space (number_at most)) text
 -- a line, however long
 unfoldable pub line_at : List ℕ → Option Line
 line_at text =
-    on_word (after_word (codes "tick") text) (λ rest. option_map Tick (last_count_at 0xFFFF_FFFF rest))
-    (on_word (after_word (codes "cut") text) (λ rest. option_map Cut (last_count_at 0xFFFF_FFFF_FFFF_FFFF rest))
-    (on_word (after_word (codes "crash") text) (at_end Crash)
-    (on_word (after_word (codes "restart") text) (λ rest. option_map Restart (last_count_at 0xFFFF_FFFF_FFFF_FFFF rest)) (process_line_at text))))
+    on_some (after_word (codes "tick") text) (λ rest. option_map Tick (last_count_at 0xFFFF_FFFF rest))
+    (on_some (after_word (codes "cut") text) (λ rest. option_map Cut (last_count_at 0xFFFF_FFFF_FFFF_FFFF rest))
+    (on_some (after_word (codes "crash") text) (at_end Crash)
+    (on_some (after_word (codes "restart") text) (λ rest. option_map Restart (last_count_at 0xFFFF_FFFF_FFFF_FFFF rest)) (process_line_at text))))

@@ -2,7 +2,8 @@
 ghost use Rattle.std.specs.Prelude.{◌≡◌, ◌≤◌, IfSome, option_map};
 ghost use Rattle.ktm_codec.specs.Guid.{guid_at};
 ghost use Rattle.ktm_codec.specs.Number.{number_at};
-ghost use Rattle.ktm_script.specs.Reading.{GivesPart, access_at, at_end, behind_space, bytes_at, disposition_at, durability_at, kind_at, kind_in_transaction_at, label_at, modes_at, named_at, process_at, share_at, size_at, text_at, view_at, whole};
+ghost use Rattle.ktm_codec.specs.Steps.{at_end};
+ghost use Rattle.ktm_script.specs.Reading.{GivesPart, access_at, behind_space, bytes_at, disposition_at, durability_at, kind_at, kind_in_transaction_at, label_at, modes_at, named_at, process_at, share_at, size_at, text_at, view_at, whole};
 
 use crate::LineFault::{self, BadLine};
 use crate::word::{one_of, split_word};

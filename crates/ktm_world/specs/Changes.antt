@@ -39,7 +39,7 @@ changed tree (Drop node) = without_node tree node
 abbrev pub changed_all : Tree → List Change → Tree
 changed_all tree changes = fold changed tree changes
 
--- is the name free in the directory, but for the node itself
+-- has no node of the directory the name
 abbrev pub is_free : Tree → ℕ → List ℕ → Bool
 is_free tree directory name = is_none (child_of tree directory name)
 

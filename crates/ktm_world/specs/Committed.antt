@@ -9,7 +9,7 @@ use Rattle.ktm_world.specs.Keys.{Store, OwnSettings, stored_all}
 use Rattle.ktm_world.specs.Changes.{changed, node_of, changes_bytes, is_make_of_file, is_drop}
 use Rattle.ktm_world.specs.Tree.{Tree}
 
--- how often the bytes of a file were changed since the restart
+-- how many Puts and Cuts of a file were committed since the restart
 pub record Version : Type 0 where
   pub file : ℕ
   pub count : ℕ

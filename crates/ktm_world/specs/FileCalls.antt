@@ -45,7 +45,7 @@ pub data Whereabouts : Type 0 where
   -- a node
   at_node : Node → Whereabouts
 
--- a node that a name led to, before any more names
+-- where the last name leads: to a node, or to a free name
 abbrev pub reached : Option Node → ℕ → List ℕ → Whereabouts
 reached None directory name = free directory name
 reached (Some node) directory name = at_node node
@@ -266,7 +266,7 @@ abbrev pub delete_act : Whereabouts → Option Act
 delete_act (at_node node) = Some (deletes node.number (place node.parent node.name))
 delete_act _ = None
 
--- is a file that is open in the group on the node
+-- is it a file that is open in the group
 abbrev pub is_open_at : Present → Option Id → Whereabouts → Bool
 is_open_at x who (at_node node) = is_some node.content && is_open_in x.files.table.opens who node.number
 is_open_at x who _ = false

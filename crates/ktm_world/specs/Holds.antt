@@ -132,9 +132,9 @@ file_overwritten (makes at) = []
 file_overwritten (drops_directory directory at) = []
 file_overwritten (moves_directory directory from to) = []
 
-abbrev pub is_drop_of_directory : Act → List ℕ
-is_drop_of_directory (drops_directory directory at) = directory ∷ []
-is_drop_of_directory _ = []
+abbrev pub directory_dropped : Act → List ℕ
+directory_dropped (drops_directory directory at) = directory ∷ []
+directory_dropped _ = []
 
 abbrev pub is_move_of_directory : Act → Bool
 is_move_of_directory (moves_directory directory from to) = true
@@ -152,7 +152,7 @@ enters_dropped h act = meet_in (map (λ p. p.directory) (places_changed act)) (d
 
 -- it drops a directory of which the other holds the use
 abbrev pub drops_used : Holder → Act → Bool
-drops_used h act = meet_in (is_drop_of_directory act) (uses_held h)
+drops_used h act = meet_in (directory_dropped act) (uses_held h)
 
 -- it moves a directory while the other has the right to
 abbrev pub moves_too : Holder → Act → Bool

@@ -159,7 +159,8 @@ summaries_now x = flat_map (λ t. if t.is_recorded then summary_in x t (stage_in
 abbrev pub durable_managers : Present → List Id
 durable_managers x = map (λ m. m.id) (filter (λ m. m.is_durable) x.managers)
 
--- what of a durable state is in a present too: all but the order in which parts became ready, and the number of the next node
+-- what of a durable state is in a present too: all but the order in which parts became ready, the parts that are done, and the number
+-- of the next node
 pub record Lasting : Type 0 where
   pub units : ℕ
   pub image : ℕ

@@ -112,7 +112,8 @@ abbrev pub event_if : Bool → Event → List Event
 event_if true event = event ∷ []
 event_if false event = []
 
--- it commits: the decision is recorded where it is, the files and the keys commit and are done, and the prepared enlistments are told
+-- it commits: the decision is recorded where the log has a Ready or a Held of it, the files and the keys commit and are done, and the
+-- prepared enlistments are told
 unfoldable pub committing : Course → Course
 committing c =
     let id = c.transaction.id in
@@ -127,7 +128,8 @@ committing c =
 abbrev pub is_caller : Course → Enlistment → Bool
 is_caller c e = elim c.caller as (λ _. Bool) [ Some id ↦ same_id e.id id | None ↦ false ]
 
--- it rolls back: that is recorded where it is, and its enlistments are told, the superior last unless it asked for it
+-- it rolls back: that is recorded where the log has a Ready or a Held of it, and its enlistments are told, the superior last unless it
+-- asked for it
 unfoldable pub aborting : Course → Course
 aborting c =
     let id = c.transaction.id in

@@ -330,8 +330,8 @@ abbrev pub is_voting : Phase → Bool
 is_voting phase = elim phase as (λ _. Bool) [ Active ↦ true | Requested ↦ true | PrePreparing ↦ true | PrePrepared ↦ true | Preparing ↦ true | SinglePhase ↦ true | _ ↦ false ]
 
 -- the phases in which a superior may roll back
-abbrev pub is_undecided_phase : Phase → Bool
-is_undecided_phase phase = elim phase as (λ _. Bool) [ Active ↦ true | Requested ↦ true | PrePreparing ↦ true | PrePrepared ↦ true | Preparing ↦ true | Held ↦ true | InDoubt ↦ true | _ ↦ false ]
+abbrev pub lets_superior_roll_back : Phase → Bool
+lets_superior_roll_back phase = elim phase as (λ _. Bool) [ Active ↦ true | Requested ↦ true | PrePreparing ↦ true | PrePrepared ↦ true | Preparing ↦ true | Held ↦ true | InDoubt ↦ true | _ ↦ false ]
 
 abbrev pub before_pre_prepare : Phase → Bool
 before_pre_prepare phase = elim phase as (λ _. Bool) [ Active ↦ true | Requested ↦ true | _ ↦ false ]
@@ -352,7 +352,7 @@ abbrev pub may_vote : Present → Enlistment → Bool
 may_vote x e = not (is_superior e) && is_open_for_votes e && phase_passes x is_voting e
 
 abbrev pub may_roll_back_by : Present → Enlistment → Bool
-may_roll_back_by x e = if is_superior e then phase_passes x is_undecided_phase e else may_vote x e
+may_roll_back_by x e = if is_superior e then phase_passes x lets_superior_roll_back e else may_vote x e
 
 abbrev pub may_reject_one_phase : Present → Enlistment → Bool
 may_reject_one_phase x e = phase_passes x is_one_phase e && owes_commit e

@@ -86,10 +86,17 @@ cut_to bytes size = take size bytes ++ replicate (size - length bytes) 0
 abbrev pub put_over : List ℕ → ℕ → List ℕ → List ℕ
 put_over old offset new = cut_to old offset ++ new ++ drop (offset + length new) old
 
+-- do the numbers rise
+abbrev pub numbers_rise : Tree → Bool
+numbers_rise [] = true
+numbers_rise (node ∷ []) = true
+numbers_rise (node ∷ next ∷ nodes) = nat_lt node.number next.number && numbers_rise (next ∷ nodes)
+
 -- every parent is a directory of the tree, every node reaches the root, numbers rise, and the folded names in one directory differ
 pub record IsWellFormed (tree : Tree) : Type 0 where
   pub parents : All (λ node. is_directory tree node.parent ≡ true) tree
   pub reach : All (λ node. is_at_or_below tree node.number root ≡ true) tree
   pub names : All (λ node. IsName node.name) tree
   pub one_each : All (λ node. child_of tree node.parent node.name ≡ Some node) tree
-  pub numbers : All (λ node. (2 ≤ node.number) × (node_at tree node.number ≡ Some node)) tree
+  pub numbers : All (λ node. 2 ≤ node.number) tree
+  pub rise : numbers_rise tree ≡ true

@@ -26,7 +26,8 @@ same_version a b = a.file == b.file && a.version == b.version
 abbrev pub older_versions : FilesNow → List FirstOpen → List FirstOpen
 older_versions files [] = []
 older_versions files (o ∷ os) =
-    filter (λ a. not (is_last_version files a) && not (list_any (same_version a) (older_versions files os))) (o ∷ []) ++ older_versions files os
+    let rest = older_versions files os in
+    filter (λ a. not (is_last_version files a) && not (list_any (same_version a) rest)) (o ∷ []) ++ rest
 
 -- the units in use: of committed files, of what undecided transactions wrote, and of the older versions that they first opened
 unfoldable pub units_used : FilesNow → ℕ

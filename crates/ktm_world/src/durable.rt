@@ -77,7 +77,7 @@ pub struct Durable {
     pub tree: Vec<Node>,
     /// The committed keys, by rising key.
     pub keys: Vec<Entry>,
-    /// The durable resource managers, in order of creation.
+    /// The durable resource managers, by rising Id.
     pub managers: Vec<Id>,
     /// The transactions that are not over, by rising Id.
     pub transactions: Vec<Recorded>,
