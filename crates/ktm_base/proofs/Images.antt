@@ -5,7 +5,7 @@ use Rattle.std.proofs.lemmas.Bool.{cases_lt}
 use Rattle.std.proofs.lemmas.Bool.Decides.{nat_tests}
 use Rattle.ktm_base.specs.Bytes.{written, covers, SameOutside}
 use Rattle.ktm_base.specs.Disk.{DiskState, MayLeave, Dirtied, Asked}
-use Rattle.ktm_base.specs.Laws.{LeaveTheSame, with_dirty, with_longest, WriteLaw, WriteRefusedLaw, SafeLaw, SyncLaw, GrowthLaw, GrowthRefusedLaw, TwoWritesLaw, PowerLaw, CallsLaw}
+use Rattle.ktm_base.specs.Laws.{SeenLaw, LeaveTheSame, with_dirty, with_longest, WriteLaw, WriteRefusedLaw, SafeLaw, SyncLaw, GrowthLaw, GrowthRefusedLaw, TwoWritesLaw, PowerLaw, CallsLaw}
 
 or_assoc : (a b c : Bool) → a || (b || c) ≡ a || b || c
 or_assoc true b c = refl
@@ -191,3 +191,6 @@ calls_law a b c first second refused one two = record {
 
     same : b.is_down ≡ a.is_down
     same = one.down ∙ or_false a.is_down
+
+pub seen_law : SeenLaw
+seen_law s lengths = record { no_shorter = lengths.no_shorter; no_longer = lengths.no_longer; others = λ place low clean. refl }

@@ -36,6 +36,11 @@ pub record MayLeave (s : DiskState) (image : List ℕ) : Type 0 where
   pub no_longer : length image ≤ s.longest
   pub others : (place : ℕ) → place < s.shortest → covers s.dirty place ≡ false → slice_index image place ≡ slice_index s.seen place
 
+-- what a read sees is as long as one of the images that a loss of power may leave
+pub record HasLengths (s : DiskState) : Type 0 where
+  pub no_shorter : s.shortest ≤ length s.seen
+  pub no_longer : length s.seen ≤ s.longest
+
 -- nothing is dirty: a loss of power leaves what a read sees
 pub record IsSafe (s : DiskState) : Type 0 where
   pub clean : s.dirty ≡ []

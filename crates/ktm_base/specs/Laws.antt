@@ -1,12 +1,16 @@
 -- What the calls of a disk do to the images that a loss of power may leave, as laws over every disk.
 use Rattle.std.specs.Prelude.{◌≡◌, ◌↔◌, ℕ, ◌+◌, ◌≤◌, max, false, List, [], ◌∷◌, ◌++◌, length, Bool}
 use Rattle.ktm_base.specs.Bytes.{written}
-use Rattle.ktm_base.specs.Disk.{DiskState, DiskStatus, MayLeave, IsSafe, Wrote, WriteRefused, Synced, Grew, GrowthRefused, DeviceCalls}
+use Rattle.ktm_base.specs.Disk.{DiskState, DiskStatus, HasLengths, MayLeave, IsSafe, Wrote, WriteRefused, Synced, Grew, GrowthRefused, DeviceCalls}
 use Rattle.ktm_base.specs.Power.{Restored, NotRestored}
 
 -- the same images may be left of both
 abbrev pub LeaveTheSame : DiskState → DiskState → Type 0
 LeaveTheSame s t = (image : List ℕ) → MayLeave s image ↔ MayLeave t image
+
+-- what a read sees is one of the images that a loss of power may leave
+abbrev pub SeenLaw : Type 0
+SeenLaw = (s : DiskState) → HasLengths s → MayLeave s s.seen
 
 -- the state with one range more that is dirty, and the same bytes
 abbrev pub with_dirty : DiskState → ℕ → ℕ → DiskState

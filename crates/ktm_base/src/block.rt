@@ -1,5 +1,5 @@
 // A device of bytes that keeps what is written, until it fails.
-ghost use Rattle.std.specs.Prelude.{◌≡◌, ℕ, ◌+◌, ◌≤◌, Option, List, [], ◌∷◌, length, slice_range, IfOk, OnOk, OnErr};
+ghost use Rattle.std.specs.Prelude.{◌≡◌, ℕ, ◌+◌, ◌≤◌, Bool, true, false, Option, List, [], ◌∷◌, length, slice_range, IfOk, OnOk, OnErr};
 ghost use Rattle.ktm_base.specs.Told.{IfTold, Goes};
 ghost use Rattle.ktm_base.specs.Bytes.{written, SameOutside, GrewTo, GrewTowards};
 ghost use Rattle.ktm_base.specs.Stream.{Faults};
@@ -14,9 +14,13 @@ pub trait Block {
     /// How often it failed.
     ghost faults: { Self → ℕ };
 
+    /// Does anything that was written or added wait to be flushed: until then the system may lose it.
+    ghost waits: { Self → Bool };
+
     fn len(&mut self) -> Result<u64, Failed>
         ensures value { IfOk result (λ n. IfTold (contents self.old) (λ bytes. n ≡ length bytes)) }
         ensures same { contents self.new ≡ contents self.old }
+        ensures waits { waits self.new ≡ waits self.old }
         ensures faults { Faults (faults self.old) (faults self.new) result };
 
     /// Fills the buffer. A block that does not tell its contents fails where the range passes its end.
@@ -24,6 +28,7 @@ pub trait Block {
         requires { IfTold (contents self.old) (λ bytes. at + length buf.old ≤ length bytes) }
         ensures value { OnOk result (IfTold (contents self.old) (λ bytes. buf.new ≡ slice_range bytes at (at + length buf.old))) }
         ensures same { contents self.new ≡ contents self.old }
+        ensures waits { waits self.new ≡ waits self.old }
         ensures faults { Faults (faults self.old) (faults self.new) result };
 
     /// Writes over what is there. After a failure the range may hold anything.
@@ -31,16 +36,20 @@ pub trait Block {
         requires { IfTold (contents self.old) (λ old. at + length bytes.now ≤ length old) }
         ensures ok { OnOk result (Goes (λ old new. new ≡ written old at bytes.now) (contents self.old) (contents self.new)) }
         ensures err { OnErr result (Goes (SameOutside ((at, length bytes.now) ∷ [])) (contents self.old) (contents self.new)) }
+        ensures waits { waits self.new ≡ true }
         ensures faults { Faults (faults self.old) (faults self.new) result };
 
-    /// Asks that what was written stays.
+    /// Asks the system to keep what was written and added. After a failure all of it may still wait.
     fn flush(&mut self) -> Result<(), Failed>
         ensures same { contents self.new ≡ contents self.old }
+        ensures ok { OnOk result (waits self.new ≡ false) }
+        ensures err { OnErr result (waits self.new ≡ waits self.old) }
         ensures faults { Faults (faults self.old) (faults self.new) result };
 
     /// Makes the length at least `len`. What is added may hold anything.
     fn ensure(&mut self, len: u64) -> Result<(), Failed>
         ensures ok { OnOk result (Goes (GrewTo len) (contents self.old) (contents self.new)) }
         ensures err { OnErr result (Goes (GrewTowards len) (contents self.old) (contents self.new)) }
+        ensures waits { waits self.new ≡ true }
         ensures faults { Faults (faults self.old) (faults self.new) result };
 }

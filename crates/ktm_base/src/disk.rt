@@ -1,7 +1,7 @@
 // A disk that loses power.
 ghost use Rattle.std.specs.Prelude.{◌≡◌, ℕ, ◌+◌, ◌<◌, ◌≤◌, Option, length, slice_range, IfOk, OnOk, OnErr, IsTrue, is_err, is_ok, if◌then◌else◌, false};
 ghost use Rattle.ktm_base.specs.Told.{IfTold, Goes};
-ghost use Rattle.ktm_base.specs.Disk.{DiskState, DiskStatus, Wrote, WriteRefused, Synced, Grew, GrowthRefused, DeviceCall};
+ghost use Rattle.ktm_base.specs.Disk.{DiskState, DiskStatus, HasLengths, Wrote, WriteRefused, Synced, Grew, GrowthRefused, DeviceCall};
 
 use crate::Down;
 
@@ -53,4 +53,7 @@ pub trait Disk {
         ensures frozen { IsTrue (status self.old).is_down → told self.new ≡ told self.old }
         ensures pending { (status self.new).pending ≡ (status self.old).pending }
         ensures call { DeviceCall (status self.old) (status self.new) (is_err result) };
+
+    /// What a read sees is no shorter, and no longer, than what a loss of power may leave.
+    ghost lengths: { (disk : Self) → IfTold (told disk) HasLengths };
 }

@@ -1,5 +1,10 @@
 // Laws over the definitions, each the contract of a function that does nothing.
-ghost use Rattle.ktm_base.specs.Laws.{WriteLaw, WriteRefusedLaw, SafeLaw, SyncLaw, GrowthLaw, GrowthRefusedLaw, TwoWritesLaw, PowerLaw, CallsLaw};
+ghost use Rattle.ktm_base.specs.Laws.{SeenLaw, WriteLaw, WriteRefusedLaw, SafeLaw, SyncLaw, GrowthLaw, GrowthRefusedLaw, TwoWritesLaw, PowerLaw, CallsLaw};
+
+/// What a read sees may be left.
+pub fn law_of_what_is_seen()
+    ensures { SeenLaw }
+{}
 
 /// What a write does to the images that may be left.
 pub fn law_of_write()

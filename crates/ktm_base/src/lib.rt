@@ -24,7 +24,8 @@ pub use guids::{guid, id_of};
 pub use id::{Id, Label, ObjectKind, Pid};
 pub use laws::{
     law_of_calls, law_of_ensure, law_of_ensure_refused, law_of_power, law_of_sync,
-    law_of_two_writes, law_of_what_is_safe, law_of_write, law_of_write_refused,
+    law_of_two_writes, law_of_what_is_safe, law_of_what_is_seen, law_of_write,
+    law_of_write_refused,
 };
 pub use lists::{Bytes, PageList, Text, TextList};
 pub use names::fold;
