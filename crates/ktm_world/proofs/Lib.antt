@@ -7,4 +7,3 @@ pub mod Worlds
 pub mod Texts
 pub mod Transcripts
 pub mod Computing
-pub mod Counts

@@ -1,5 +1,6 @@
 -- Changes of the tree: what each makes of it, and when it applies.
-use Rattle.std.specs.Prelude.{ℕ, ◌+◌, ◌^◌, ◌==◌, ◌&&◌, not, Bool, true, false, List, [], ◌∷◌, nat_lt, nat_le, Option, Some, None, is_none, max, fold}
+use Rattle.std.specs.Prelude.{ℕ, ◌+◌, ◌^◌, ◌==◌, ◌&&◌, not, Bool, true, false, List, [], ◌∷◌, nat_lt, nat_le, Option, Some, None, is_none, max, fold, count_by}
+use Rattle.std.specs.List.{list_any}
 use Rattle.ktm_world.specs.declared.change.Change.{Change}
 use Rattle.ktm_world.specs.declared.change.Change.TheVariants.{Make, Put, Cut, Move, Drop}
 use Rattle.ktm_world.specs.declared.change.Contents.{Contents}
@@ -96,3 +97,7 @@ is_move _ = false
 abbrev pub next_after : ℕ → Change → ℕ
 next_after next (Make node parent kind name) = max next (node + 1)
 next_after next _ = next
+
+-- the nodes that a transaction made and did not drop
+abbrev pub nodes_made : List Change → ℕ
+nodes_made changes = count_by (λ change. is_make change && not (list_any (λ other. is_drop other && node_of other == node_of change) changes)) changes

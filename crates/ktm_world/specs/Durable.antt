@@ -16,12 +16,11 @@ use Rattle.ktm_world.specs.declared.event.Part.TheVariants.{Enlistment, Changes,
 use Rattle.ktm_world.specs.Keys.{are_good_settings, Store, OwnSettings, stored_all}
 use Rattle.ktm_world.specs.Keyed.{value_at}
 use Rattle.ktm_world.specs.Transactions.{same_id}
-use Rattle.ktm_world.specs.Changes.{changed, changed_all, apply_all, node_of, changes_bytes, is_make, next_after}
+use Rattle.ktm_world.specs.Changes.{changed, changed_all, apply_all, node_of, changes_bytes, is_make, next_after, nodes_made}
 use Rattle.ktm_world.specs.Committed.{written_files}
 use Rattle.ktm_world.specs.Holds.{Holder, Act, place, opens, deletes, moves_file, makes, drops_directory, moves_directory, meets}
-use Rattle.ktm_world.specs.Tree.{Tree, node_at, bytes_or_none, bytes_of}
-use Rattle.ktm_world.specs.TransactionCalls.{most_information}
-use Rattle.ktm_world.specs.Uses.{units_of, nodes_made, most_live}
+use Rattle.ktm_world.specs.Tree.{Tree, node_at, bytes_or_none, bytes_of, units_of}
+use Rattle.ktm_world.specs.Limits.{most_information, most_live}
 
 -- a transaction that is not over
 pub record Recorded : Type 0 where

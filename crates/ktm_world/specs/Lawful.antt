@@ -1,5 +1,5 @@
 -- What every world of a run is.
-use Rattle.std.specs.Prelude.{◌≡◌, ℕ, ◌==◌, ◌&&◌, ◌||◌, not, Bool, true, false, List, [], ◌∷◌, length, map, filter, drop, Option, Some, None, is_some, is_none, All, if◌then◌else◌}
+use Rattle.std.specs.Prelude.{◌≡◌, ℕ, ◌≤◌, ◌==◌, ◌&&◌, ◌||◌, not, Bool, true, false, List, [], ◌∷◌, length, map, filter, drop, Option, Some, None, is_some, is_none, All, if◌then◌else◌}
 use Rattle.std.specs.List.{list_any, list_all, flat_map}
 use Rattle.ktm_base.specs.declared.id.Id.{Id}
 use Rattle.ktm_world.specs.declared.change.Change.{Change}
@@ -9,17 +9,17 @@ use Rattle.ktm_world.specs.declared.object.Phase.{Phase}
 use Rattle.ktm_world.specs.declared.object.Transaction.{Transaction}
 use Rattle.ktm_world.specs.declared.options.EnlistmentKind.{EnlistmentKind}
 use Rattle.ktm_world.specs.Keyed.{value_at}
-use Rattle.ktm_world.specs.Keys.{Store, OwnSettings, own_settings}
+use Rattle.ktm_world.specs.Keys.{OwnSettings, own_settings}
 use Rattle.ktm_world.specs.Logs.{is_up}
 use Rattle.ktm_world.specs.Changes.{apply_all, node_of, changes_bytes, is_drop}
 use Rattle.ktm_world.specs.Committed.{Committed, Work, with_work, changes_to_commit}
 use Rattle.ktm_world.specs.Conflicts.{holder_of, is_of, others, writes}
-use Rattle.ktm_world.specs.Durable.{Durable, Recorded, changes_of, settings_of, log_applies, stand}
+use Rattle.ktm_world.specs.Durable.{Recorded, changes_of, settings_of, log_applies, stand}
 use Rattle.ktm_world.specs.Enlistments.{Enlistment, is_durable_at, superior_of, takes_part}
 use Rattle.ktm_world.specs.Files.{OpenFile, own_changes, bytes_seen}
 use Rattle.ktm_world.specs.Holds.{Holder, is_in, meet_in, nodes_held, places_held, same_place, uses_held, directories_dropped, moves_directories}
 use Rattle.ktm_world.specs.Present.{Present}
-use Rattle.ktm_world.specs.Tree.{Tree, IsWellFormed}
+use Rattle.ktm_world.specs.Tree.{IsWellFormed}
 use Rattle.ktm_world.specs.Uses.{is_over_quota, is_over_disk}
 use Rattle.ktm_world.specs.World.{World, OpenedAfter, committed, present, enlistment_back, by_rising_id}
 
@@ -159,47 +159,22 @@ summaries_now x = flat_map (λ t. if t.is_recorded then summary_in x t (stage_in
 abbrev pub durable_managers : Present → List Id
 durable_managers x = map (λ m. m.id) (filter (λ m. m.is_durable) x.managers)
 
--- what of a durable state is in a present too: all but the order in which parts became ready, the parts that are done, and the number
--- of the next node
-pub record Lasting : Type 0 where
-  pub units : ℕ
-  pub image : ℕ
-  pub events : ℕ
-  pub boots : ℕ
-  pub tree : Tree
-  pub keys : Store
-  pub managers : List Id
-  pub transactions : List Summary
+-- what was recorded, beside the rest of what is so now
+pub record Agrees (x : Present) : Type 0 where
+  -- the committed files and keys, and the durable resource managers
+  pub tree : x.recorded.tree ≡ x.files.tree
+  pub keys : x.recorded.keys ≡ x.keys.store
+  pub managers : x.recorded.managers ≡ durable_managers x
+  -- of each transaction that is not over what the log has to have of it
+  pub transactions : map summary_of x.recorded.transactions ≡ summaries_now x
+  -- node numbers were drawn at least as far as they were recorded
+  pub next_node : x.recorded.next_node ≤ x.files.table.next_node
 
-abbrev pub lasting_in : Durable → Lasting
-lasting_in s = record {
-  units = s.units;
-  image = s.image;
-  events = s.events;
-  boots = s.boots;
-  tree = s.tree;
-  keys = s.keys;
-  managers = s.managers;
-  transactions = map summary_of s.transactions;
-}
-
--- what of a present outlives a loss of power
-abbrev pub durable_of : Present → Lasting
-durable_of x = record {
-  units = x.machine.units;
-  image = x.machine.image;
-  events = x.machine.events;
-  boots = x.machine.boot;
-  tree = x.files.tree;
-  keys = x.keys.store;
-  managers = durable_managers x;
-  transactions = summaries_now x;
-}
-
--- the log applies, and comes to what is so now
+-- the log applies, comes to what was recorded, and this agrees with what is so now
 pub record StandsForLog (w : World) : Type 0 where
   pub applies : log_applies w.base w.log ≡ true
-  pub comes_to : lasting_in (stand w.base w.log) ≡ durable_of (present w)
+  pub comes_to : stand w.base w.log ≡ w.recorded
+  pub agrees : Agrees (present w)
 
 -- ---- all of it
 
@@ -216,5 +191,5 @@ pub record IsLawful (w : World) : Type 0 where
   pub writers : All (λ o. is_alone (present w) o ≡ true) w.table.opens
   -- the limits hold
   pub limits : (is_over_quota (present w) ≡ false) × (is_over_disk (present w) ≡ false)
-  -- while the machine is up, its log comes to what outlives a loss of power now
+  -- while the machine is up, its log applies and comes to what was recorded, which agrees with what is so now
   pub stands : is_up w.power ≡ true → StandsForLog w

@@ -9,6 +9,7 @@ pub mod SizeLaw
 pub mod Handles
 pub mod Transactions
 pub mod Keys
+pub mod Limits
 pub mod Logs
 pub mod Tree
 pub mod Paths

@@ -13,6 +13,7 @@ use Rattle.ktm_world.specs.Sizes.{frame_size, log_size}
 use Rattle.ktm_world.specs.Transactions.{same_id}
 use Rattle.ktm_world.specs.Logs.{as_groups}
 use Rattle.ktm_world.specs.Committed.{Committed, Work, committed_with, version_of}
+use Rattle.ktm_world.specs.Durable.{after_events}
 use Rattle.ktm_world.specs.Enlistments.{Manager, Sent, notes_for, taken_count}
 use Rattle.ktm_world.specs.Files.{FilesNow, FileTable, FirstOpen}
 use Rattle.ktm_world.specs.Present.{Present, Transactions}
@@ -90,9 +91,9 @@ abbrev pub apply : Present → Outcome → Present
 apply x o = record {
   machine = record x.machine {
     is_up = x.machine.is_up && not o.stops;
-    events = x.machine.events + length o.events;
     left = x.machine.left - log_size (as_groups o.events);
   };
+  recorded = after_events x.recorded o.events;
   transactions = o.transactions;
   managers = map (served o.took o.sent) (x.managers ++ o.made);
   files = files_with (committed_with (committed_now x) o.works) (first_opens_after x o) o.table;

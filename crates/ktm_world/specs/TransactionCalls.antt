@@ -29,6 +29,7 @@ use Rattle.ktm_world.specs.Conflicts.{is_undecided}
 use Rattle.ktm_world.specs.Enlistments.{Enlistment, Manager, Note, Sent, is_superior, is_open_for_votes, owes_commit, is_live_in, is_ended, has_id, with_enlistments, superior_of}
 use Rattle.ktm_world.specs.Files.{own_changes, without_own_changes, bytes_seen}
 use Rattle.ktm_world.specs.Labels.{is_bound, holds_of, invalid_handle, outcome_tests, transaction_tests, binding}
+use Rattle.ktm_world.specs.Limits.{most_information}
 use Rattle.ktm_world.specs.Outcome.{Outcome, only_reply, apply, and_then}
 use Rattle.ktm_world.specs.Phases.{Course, aborting, committing, to_commit, to_pre_prepare, to_prepare, pre_prepare_answered, prepare_answered, read_only_answered, commit_answered, rollback_answered, single_phase_rejected, recovered}
 use Rattle.ktm_world.specs.Present.{Present}
@@ -72,10 +73,10 @@ arrived x c reply = released c (record (only_reply x reply) {
 -- ---- objects and their GUIDs
 
 abbrev pub guid_in : Present → ObjectKind → Id → List ℕ
-guid_in x kind id = guid_of kind x.machine.image id
+guid_in x kind id = guid_of kind x.recorded.image id
 
 abbrev pub new_id : Present → ℕ → Id
-new_id x last = record { boot = x.machine.boot; number = last + 1 }
+new_id x last = record { boot = x.recorded.boots; number = last + 1 }
 
 abbrev pub bound_test : Present → Pid → Label → Bool × Refusal
 bound_test x process label = (is_bound x process label, InvalidParameter)
@@ -418,9 +419,6 @@ commit_enlistment x e = answering x e (λ c e. committing c)
 
 unfoldable pub recover_enlistment : Present → Option Enlistment → Outcome
 recover_enlistment x e = answering x e recovered
-
-abbrev pub most_information : ℕ
-most_information = 128
 
 abbrev pub set_information_tests : Present → Option Enlistment → List ℕ → List (Bool × Refusal)
 set_information_tests x e information = enlistment_tests e (may_set_information x) ++ (nat_lt most_information (length information), InvalidParameter) ∷ []

@@ -1,5 +1,5 @@
 -- The tree of files and directories.
-use Rattle.std.specs.Prelude.{◌≡◌, ℕ, zero, suc, ◌+◌, ◌-◌, ◌==◌, ◌≤◌, ◌&&◌, ◌||◌, not, Bool, true, List, [], ◌∷◌, ◌++◌, length, map, take, drop, replicate, nat_lt, Option, Some, None, is_some, find, filter, All, if◌then◌else◌, bytes_eq}
+use Rattle.std.specs.Prelude.{◌≡◌, ℕ, zero, suc, ◌+◌, ◌-◌, ◌/◌, ◌==◌, ◌≤◌, ◌&&◌, ◌||◌, not, Bool, true, List, [], ◌∷◌, ◌++◌, length, map, take, drop, replicate, nat_lt, Option, Some, None, is_some, find, filter, All, if◌then◌else◌, bytes_eq}
 use Rattle.std.specs.List.{list_any}
 use Rattle.ktm_base.specs.Names.{IsName, folded}
 use Rattle.ktm_world.specs.declared.durable.Node.{Node}
@@ -36,6 +36,10 @@ is_directory tree number = is_there tree number && not (is_file tree number)
 abbrev pub bytes_or_none : Option (List ℕ) → List ℕ
 bytes_or_none None = []
 bytes_or_none (Some bytes) = bytes
+
+-- whole units of 4,096 bytes
+abbrev pub units_of : List ℕ → ℕ
+units_of bytes = (length bytes + 4095) / 4096
 
 -- the bytes of a file
 abbrev pub bytes_of : Tree → ℕ → List ℕ

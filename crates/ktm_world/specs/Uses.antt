@@ -1,19 +1,15 @@
 -- What is in use, and the limits on it.
-use Rattle.std.specs.Prelude.{ℕ, ◌+◌, ◌-◌, ◌/◌, ◌^◌, ◌==◌, ◌&&◌, ◌||◌, not, Bool, List, [], ◌∷◌, ◌++◌, length, filter, sum_by, count_by, nat_lt, Some}
+use Rattle.std.specs.Prelude.{ℕ, ◌+◌, ◌^◌, ◌==◌, ◌&&◌, ◌||◌, not, Bool, List, [], ◌∷◌, ◌++◌, length, filter, sum_by, count_by, nat_lt, Some}
 use Rattle.std.specs.List.{list_any}
-use Rattle.ktm_world.specs.declared.change.Change.{Change}
 use Rattle.ktm_world.specs.Keys.{keys_used, changes_pending as keys_unset}
 use Rattle.ktm_world.specs.Transactions.{is_live}
-use Rattle.ktm_world.specs.Changes.{node_of, changes_bytes, is_make, is_drop}
+use Rattle.ktm_world.specs.Changes.{changes_bytes, nodes_made}
 use Rattle.ktm_world.specs.Committed.{written_files}
 use Rattle.ktm_world.specs.Enlistments.{is_live_enlistment}
 use Rattle.ktm_world.specs.Files.{FilesNow, OwnChanges, FirstOpen, bytes_seen, is_last_version}
+use Rattle.ktm_world.specs.Limits.{most_handles, most_live, most_number}
 use Rattle.ktm_world.specs.Present.{Present}
-use Rattle.ktm_world.specs.Tree.{bytes_or_none}
-
--- whole units of 4,096 bytes
-abbrev pub units_of : List ℕ → ℕ
-units_of bytes = (length bytes + 4095) / 4096
+use Rattle.ktm_world.specs.Tree.{bytes_or_none, units_of}
 
 -- of the files that a transaction made or whose bytes it changed, as it sees them
 abbrev pub own_units : FilesNow → OwnChanges → ℕ
@@ -35,10 +31,6 @@ units_used files =
     sum_by (λ node. units_of (bytes_or_none node.content)) files.tree + sum_by (own_units files) files.table.own
     + sum_by (λ o. units_of o.bytes) (older_versions files files.first_opens)
 
--- the nodes that a transaction made and did not drop
-abbrev pub nodes_made : List Change → ℕ
-nodes_made changes = count_by (λ change. is_make change && not (list_any (λ other. is_drop other && node_of other == node_of change) changes)) changes
-
 -- the nodes in use: the root, the committed ones, and those that undecided transactions made
 unfoldable pub nodes_used : FilesNow → ℕ
 nodes_used files = 1 + length files.tree + sum_by (λ o. nodes_made o.changes) files.table.own
@@ -47,20 +39,10 @@ nodes_used files = 1 + length files.tree + sum_by (λ o. nodes_made o.changes) f
 unfoldable pub changes_waiting : Present → ℕ
 changes_waiting x = sum_by (λ o. count_by (λ change. not (changes_bytes change)) o.changes) x.files.table.own + keys_unset x.keys
 
-abbrev pub most_live : ℕ
-most_live = 64
-
-abbrev pub most_handles : ℕ
-most_handles = 4096
-
--- object numbers of a kind end here in each boot
-abbrev pub most_number : ℕ
-most_number = 2 ^ 32 - 1
-
 -- is a quota passed: pending changes; live transactions, live enlistments and resource managers; handles; the numbers of objects and nodes
 unfoldable pub is_over_quota : Present → Bool
 is_over_quota x =
-    nat_lt x.machine.units (changes_waiting x)
+    nat_lt x.recorded.units (changes_waiting x)
     || nat_lt most_live (count_by is_live x.transactions.items)
     || nat_lt most_live (count_by (is_live_enlistment x.transactions.items) x.transactions.enlistments)
     || nat_lt most_live (length x.managers)
@@ -73,4 +55,4 @@ is_over_quota x =
 
 -- is the disk too full: more units, nodes or keys than the image has units
 unfoldable pub is_over_disk : Present → Bool
-is_over_disk x = nat_lt x.machine.units (units_used x.files) || nat_lt x.machine.units (nodes_used x.files) || nat_lt x.machine.units (keys_used x.keys)
+is_over_disk x = nat_lt x.recorded.units (units_used x.files) || nat_lt x.recorded.units (nodes_used x.files) || nat_lt x.recorded.units (keys_used x.keys)

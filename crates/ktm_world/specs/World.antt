@@ -19,10 +19,10 @@ use Rattle.ktm_world.specs.declared.options.EnlistmentKind.{EnlistmentKind}
 use Rattle.ktm_world.specs.Keys.{Own}
 use Rattle.ktm_world.specs.Outcome.{is_full, first_refusal, Outcome, Opening, is_forgotten, first_open, files_with, refuse_or, within_log}
 use Rattle.ktm_world.specs.Sizes.{log_size}
-use Rattle.ktm_world.specs.Logs.{Group, Power, up, down, is_up, count_events, as_groups, kept_after, prefixes_from, possible_by}
+use Rattle.ktm_world.specs.Logs.{Group, Power, up, down, is_up, as_groups, kept_after, prefixes_from, possible_by}
 use Rattle.ktm_world.specs.Committed.{Committed, Work, committed_with}
 use Rattle.ktm_world.specs.Decide.{decide}
-use Rattle.ktm_world.specs.Durable.{Durable, Recorded, is_held, is_decided, has_undone, changes_of, settings_of, is_before, stand}
+use Rattle.ktm_world.specs.Durable.{Durable, Recorded, is_held, is_decided, has_undone, changes_of, settings_of, is_before, after_events, stand}
 use Rattle.ktm_world.specs.Enlistments.{Enlistment, Manager, Note, Sent, notes_for, taken_count}
 use Rattle.ktm_world.specs.Files.{FileTable, FirstOpen, OwnChanges}
 use Rattle.ktm_world.specs.Present.{Present, Transactions}
@@ -52,8 +52,8 @@ pub record World : Type 0 where
   -- what was committed at the last restart, and what was committed since
   pub start : Committed
   pub works : List Work
-  -- this boot
-  pub boot : ℕ
+  -- what was recorded so far comes to
+  pub recorded : Durable
   pub managers : List ManagerPast
   pub first_opens : List OpenedAfter
   pub transactions : Transactions
@@ -79,14 +79,8 @@ first_open_now w o = first_open (at_work w o.works) (record { transaction = o.tr
 
 abbrev pub present : World → Present
 present w = record {
-  machine = record {
-    units = w.base.units;
-    image = w.base.image;
-    boot = w.boot;
-    is_up = is_up w.power;
-    events = w.base.events + count_events w.log;
-    left = w.room - log_size w.log;
-  };
+  machine = record { is_up = is_up w.power; left = w.room - log_size w.log };
+  recorded = w.recorded;
   transactions = w.transactions;
   managers = map manager_now w.managers;
   files = files_with (committed w) (map (first_open_now w) w.first_opens) w.table;
@@ -121,6 +115,7 @@ abbrev pub extend : World → Outcome → World
 extend w o = record w {
   log = w.log ++ as_groups o.events;
   kept = kept_after w.kept w.log o.events;
+  recorded = after_events w.recorded o.events;
   works = w.works ++ o.works;
   managers = map (served_past o.took o.sent) (w.managers ++ map made_past o.made);
   first_opens = filter (λ f. not (is_forgotten o.forgotten f.transaction)) (w.first_opens ++ map (opened_after w) o.openings);
@@ -265,7 +260,7 @@ reboot base room log = let s = stand base log in record {
   kept = length log;
   start = record { tree = s.tree; versions = []; store = s.keys };
   works = [];
-  boot = s.boots;
+  recorded = s;
   managers = map (λ id. record { id = id; is_durable = true; taken = []; queue = [] }) s.managers;
   first_opens = [];
   transactions = record {
@@ -289,8 +284,8 @@ reboot base room log = let s = stand base log in record {
 
 -- the world that starts from a log, once the restart has recorded its own group
 abbrev pub opened : Durable → ℕ → List Group → World
-opened base room log = record (reboot base room log) {
-  log = log ++ own_group (stand base log) ∷ [];
+opened base room log = let own = own_group (stand base log) in record (reboot base room log) {
+  log = log ++ own ∷ [];
   kept = length log + 1;
-  boot = (stand base log).boots + 1;
+  recorded = after_events (stand base log) own;
 }
