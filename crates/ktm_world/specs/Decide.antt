@@ -7,13 +7,14 @@ use Rattle.ktm_base.specs.declared.refusal.Refusal.{Refusal}
 use Rattle.ktm_base.specs.declared.refusal.Refusal.TheVariants.{MachineDown}
 use Rattle.ktm_world.specs.declared.command.Command.{Command}
 use Rattle.ktm_world.specs.declared.command.Command.TheVariants.{CreateTransaction, OpenTransaction, CommitTransaction, RollbackTransaction, GetTransactionInformation, CreateResourceManager, OpenResourceManager, RecoverResourceManager, GetNotificationResourceManager, CreateEnlistment, OpenEnlistment, RecoverEnlistment, PrePrepareComplete, PrepareComplete, ReadOnlyEnlistment, CommitComplete, RollbackComplete, SinglePhaseReject, RollbackEnlistment, PrePrepareEnlistment, PrepareEnlistment, CommitEnlistment, SetEnlistmentRecoveryInformation, GetEnlistmentRecoveryInformation, CreateFile, CreateFileTransacted, ReadFile, WriteFile, SetEndOfFile, GetFileSizeEx, FlushFileBuffers, DeleteFile, CreateDirectory, RemoveDirectory, MoveFile, DeleteFileTransacted, CreateDirectoryTransacted, RemoveDirectoryTransacted, MoveFileTransacted, FindFiles, FindFilesTransacted, KvSet, KvUnset, KvGet, KvList, CloseHandle, DuplicateHandle, Exit}
-use Rattle.ktm_world.specs.Outcome.{first_refusal, Outcome, refuse_or, within_log}
+use Rattle.ktm_world.specs.Outcome.{first_refusal, Outcome, only_reply, refuse_or, within_log}
 use Rattle.ktm_world.specs.Enlistments.{owes_pre_prepare, owes_prepare, owes_commit, owes_rollback}
 use Rattle.ktm_world.specs.FileCalls.{create_file_tests, create_file, read_file_tests, read_file, write_file_tests, write_file, set_end_tests, set_end, get_size, flush_tests, flush_file, delete_file_tests, delete_file, create_directory_tests, create_directory, remove_directory_tests, remove_directory, move_file_tests, move_file, find_files_tests, find_files}
 use Rattle.ktm_world.specs.HandleCalls.{close_handle_tests, close_handle, exit, duplicate_handle_tests, duplicate_handle}
-use Rattle.ktm_world.specs.KeyCalls.{kv_set_tests, kv_set, kv_unset_tests, kv_unset, kv_get_tests, kv_get, kv_list}
-use Rattle.ktm_world.specs.Labels.{transaction_named, manager_named, enlistment_named, file_named, invalid_handle, transaction_tests, view_tests, file_tests, id_of_named}
+use Rattle.ktm_world.specs.KeyCalls.{KeyOutcome, kv_set_tests, kv_set, kv_unset_tests, kv_unset, kv_get_tests, kv_get, kv_list}
+use Rattle.ktm_world.specs.Labels.{transaction_named, manager_named, enlistment_named, file_named, invalid_handle, transaction_tests, view_tests, viewer, file_tests, id_of_named}
 use Rattle.ktm_world.specs.Present.{Present}
+use Rattle.ktm_world.specs.Uses.{key_room}
 use Rattle.ktm_world.specs.TransactionCalls.{create_transaction_tests, create_transaction, open_transaction_tests, open_transaction, commit_transaction, rollback_transaction_tests, rollback_transaction, get_transaction_information, create_resource_manager_tests, create_resource_manager, open_resource_manager_tests, open_resource_manager, recover_resource_manager, get_notification_tests, get_notification, create_enlistment_tests, create_enlistment, open_enlistment_tests, open_enlistment, enlistment_tests, superior_tests, may_recover, may_vote, may_reject_one_phase, may_roll_back_by, before_pre_prepare, before_prepare, waits_for_superior, is_live_now, recover_enlistment, pre_prepare_complete, prepare_complete, read_only_enlistment, commit_complete, rollback_complete, single_phase_reject, rollback_enlistment, pre_prepare_enlistment, prepare_enlistment, commit_enlistment, set_information_tests, set_information, get_information}
 
 -- the transaction in which a call is made
@@ -24,14 +25,18 @@ caller x process label = id_of_named (transaction_named x process label)
 abbrev pub transacted : Present → Pid → Label → List (Bool × Refusal) → List (Bool × Refusal)
 transacted x process label tests = transaction_tests (transaction_named x process label) ++ tests
 
+-- what a call on keys makes of the machine
+abbrev pub of_keys : Present → KeyOutcome → Outcome
+of_keys x o = record (only_reply x o.reply) { own = o.own }
+
 -- the tests of a command on a machine that is up
 abbrev pub command_tests : Present → Pid → Command → List (Bool × Refusal)
-command_tests x process (CreateTransaction label timeout) = create_transaction_tests x process label timeout
+command_tests x process (CreateTransaction label timeout) = create_transaction_tests x process label
 command_tests x process (OpenTransaction label guid) = open_transaction_tests x process label guid
 command_tests x process (CommitTransaction label) = transaction_tests (transaction_named x process label)
 command_tests x process (RollbackTransaction label) = rollback_transaction_tests (transaction_named x process label)
 command_tests x process (GetTransactionInformation label) = invalid_handle (transaction_named x process label) ∷ []
-command_tests x process (CreateResourceManager label durability) = create_resource_manager_tests x process label durability
+command_tests x process (CreateResourceManager label durability) = create_resource_manager_tests x process label
 command_tests x process (OpenResourceManager label guid) = open_resource_manager_tests x process label guid
 command_tests x process (RecoverResourceManager label) = invalid_handle (manager_named x process label) ∷ []
 command_tests x process (GetNotificationResourceManager label) = get_notification_tests (manager_named x process label)
@@ -67,9 +72,9 @@ command_tests x process (RemoveDirectoryTransacted path transaction) = transacte
 command_tests x process (MoveFileTransacted source target transaction) = transacted x process transaction (move_file_tests x (caller x process transaction) source target)
 command_tests x process (FindFiles searched) = find_files_tests x None searched
 command_tests x process (FindFilesTransacted searched transaction) = transacted x process transaction (find_files_tests x (caller x process transaction) searched)
-command_tests x process (KvSet transaction key value) = kv_set_tests x (transaction_named x process transaction) key value
-command_tests x process (KvUnset transaction key) = kv_unset_tests x (transaction_named x process transaction) key
-command_tests x process (KvGet view key) = kv_get_tests x process view key
+command_tests x process (KvSet transaction key value) = transacted x process transaction (kv_set_tests x.keys (key_room x) (caller x process transaction) key value)
+command_tests x process (KvUnset transaction key) = transacted x process transaction (kv_unset_tests x.keys (key_room x) (caller x process transaction) key)
+command_tests x process (KvGet view key) = view_tests x process view ++ kv_get_tests x.keys (viewer x process view) key
 command_tests x process (KvList view) = view_tests x process view
 command_tests x process (CloseHandle label) = close_handle_tests x process label
 command_tests x process (DuplicateHandle label from source) = duplicate_handle_tests x process label from source
@@ -118,10 +123,10 @@ command_effect x process (RemoveDirectoryTransacted path transaction) = remove_d
 command_effect x process (MoveFileTransacted source target transaction) = move_file x (caller x process transaction) source target
 command_effect x process (FindFiles searched) = find_files x None searched
 command_effect x process (FindFilesTransacted searched transaction) = find_files x (caller x process transaction) searched
-command_effect x process (KvSet transaction key value) = kv_set x (transaction_named x process transaction) key value
-command_effect x process (KvUnset transaction key) = kv_unset x (transaction_named x process transaction) key
-command_effect x process (KvGet view key) = kv_get x process view key
-command_effect x process (KvList view) = kv_list x process view
+command_effect x process (KvSet transaction key value) = of_keys x (kv_set x.keys (caller x process transaction) key value)
+command_effect x process (KvUnset transaction key) = of_keys x (kv_unset x.keys (caller x process transaction) key)
+command_effect x process (KvGet view key) = of_keys x (kv_get x.keys (viewer x process view) key)
+command_effect x process (KvList view) = of_keys x (kv_list x.keys (viewer x process view))
 command_effect x process (CloseHandle label) = close_handle x process label
 command_effect x process (DuplicateHandle label from source) = duplicate_handle x process label from source
 command_effect x process Exit = exit x process

@@ -16,7 +16,7 @@ use Rattle.ktm_world.specs.Files.{FileTable}
 use Rattle.ktm_world.specs.Labels.{holds_of, invalid_handle, file_named, is_dead, binding}
 use Rattle.ktm_world.specs.Outcome.{Outcome, only_reply, and_then}
 use Rattle.ktm_world.specs.Present.{Present}
-use Rattle.ktm_world.specs.TransactionCalls.{aborted_by, bound_test, quota_test}
+use Rattle.ktm_world.specs.TransactionCalls.{aborted_by, bound_test, handle_test}
 
 abbrev pub is_handle : Pid → Label → Handle → Bool
 is_handle process label h = (h.process.0 == process.0) && (h.label.0 == label.0)
@@ -101,5 +101,5 @@ duplicate_handle_tests x process label from source =
     invalid_handle (object_at x.handles from source)
     ∷ (holds_of (is_dead x) (file_named x from source), HandleNoLongerValid)
     ∷ bound_test x process label
-    ∷ quota_test x (duplicate_handle x process label from source)
+    ∷ handle_test x
     ∷ []

@@ -1,5 +1,5 @@
 -- The calls on transactions, resource managers and enlistments: for each the tests in their order, and what it does.
-use Rattle.std.specs.Prelude.{ℕ, ◌+◌, ◌-◌, ◌^◌, ◌==◌, ◌&&◌, ◌||◌, not, Bool, true, false, List, [], ◌∷◌, ◌++◌, length, map, filter, find, min, nat_lt, nat_le, Option, Some, None, is_some, is_none, option_map, if◌then◌else◌, bytes_eq}
+use Rattle.std.specs.Prelude.{ℕ, ◌+◌, ◌-◌, ◌^◌, ◌==◌, ◌&&◌, ◌||◌, not, Bool, true, false, List, [], ◌∷◌, ◌++◌, length, map, filter, find, min, count_by, nat_lt, nat_le, Option, Some, None, is_some, is_none, option_map, if◌then◌else◌, bytes_eq}
 use Rattle.std.specs.List.{list_any}
 use Rattle.ktm_base.specs.Guid.{guid_of}
 use Rattle.ktm_base.specs.declared.id.Id.{Id}
@@ -22,18 +22,18 @@ use Rattle.ktm_world.specs.declared.reply.Reply.{Reply}
 use Rattle.ktm_world.specs.declared.reply.Reply.TheVariants.{Done, Guid, Committed, Pending, Information, Notification, Contents}
 use Rattle.ktm_world.specs.declared.reply.TransactionState.{TransactionState}
 use Rattle.ktm_world.specs.declared.reply.TransactionState.TheVariants.{Normal, Indoubt, CommittedNotify}
+use Rattle.ktm_world.specs.Handles.{no_handle_left}
 use Rattle.ktm_world.specs.Keys.{own_settings, without_own}
 use Rattle.ktm_world.specs.Transactions.{same_id, transaction_at, change_at, is_live}
 use Rattle.ktm_world.specs.Committed.{changes_to_commit}
 use Rattle.ktm_world.specs.Conflicts.{is_undecided}
-use Rattle.ktm_world.specs.Enlistments.{Enlistment, Manager, Note, Sent, is_superior, is_open_for_votes, owes_commit, is_live_in, is_ended, has_id, with_enlistments, superior_of}
+use Rattle.ktm_world.specs.Enlistments.{Enlistment, Manager, Note, Sent, is_superior, is_open_for_votes, owes_commit, is_live_in, is_live_enlistment, is_ended, has_id, with_enlistments, superior_of}
 use Rattle.ktm_world.specs.Files.{own_changes, without_own_changes, bytes_seen}
 use Rattle.ktm_world.specs.Labels.{is_bound, holds_of, invalid_handle, outcome_tests, transaction_tests, binding}
-use Rattle.ktm_world.specs.Limits.{most_information}
-use Rattle.ktm_world.specs.Outcome.{Outcome, only_reply, apply, and_then}
+use Rattle.ktm_world.specs.Limits.{most_information, most_live, most_number}
+use Rattle.ktm_world.specs.Outcome.{Outcome, only_reply, and_then}
 use Rattle.ktm_world.specs.Phases.{Course, aborting, committing, to_commit, to_pre_prepare, to_prepare, pre_prepare_answered, prepare_answered, read_only_answered, commit_answered, rollback_answered, single_phase_rejected, recovered}
-use Rattle.ktm_world.specs.Present.{Present}
-use Rattle.ktm_world.specs.Uses.{is_over_quota}
+use Rattle.ktm_world.specs.Present.{Present, Transactions}
 
 -- ---- a transaction's course, and what it comes to
 
@@ -81,8 +81,12 @@ new_id x last = record { boot = x.recorded.boots; number = last + 1 }
 abbrev pub bound_test : Present → Pid → Label → Bool × Refusal
 bound_test x process label = (is_bound x process label, InvalidParameter)
 
-abbrev pub quota_test : Present → Outcome → Bool × Refusal
-quota_test x effect = (is_over_quota (apply x effect), NotEnoughQuota)
+-- a call that binds a label wants a handle, and one that makes an object has a limit on these too
+abbrev pub handle_test : Present → Bool × Refusal
+handle_test x = (no_handle_left x.handles, NotEnoughQuota)
+
+abbrev pub quota_test : Present → Bool → Bool × Refusal
+quota_test x none_left = (no_handle_left x.handles || none_left, NotEnoughQuota)
 
 -- a label bound to an object that is there
 abbrev pub opened_object : Present → Pid → Label → Object → Outcome
@@ -101,8 +105,12 @@ create_transaction x process label timeout =
       };
     })
 
-unfoldable pub create_transaction_tests : Present → Pid → Label → ℕ → List (Bool × Refusal)
-create_transaction_tests x process label timeout = bound_test x process label ∷ quota_test x (create_transaction x process label timeout) ∷ []
+-- would one transaction more pass the limit on live ones, or the greatest number
+abbrev pub no_transaction_left : Transactions → Bool
+no_transaction_left ts = nat_lt most_live (count_by is_live ts.items + 1) || nat_lt most_number (ts.last_transaction + 1)
+
+unfoldable pub create_transaction_tests : Present → Pid → Label → List (Bool × Refusal)
+create_transaction_tests x process label = bound_test x process label ∷ quota_test x (no_transaction_left x.transactions) ∷ []
 
 -- the live transaction with a GUID
 abbrev pub transaction_with : Present → List ℕ → Option Transaction
@@ -117,7 +125,7 @@ open_transaction x process label guid = open_to_transaction x process label (tra
 
 unfoldable pub open_transaction_tests : Present → Pid → Label → List ℕ → List (Bool × Refusal)
 open_transaction_tests x process label guid =
-    bound_test x process label ∷ (is_none (transaction_with x guid), TransactionNotFound) ∷ quota_test x (open_transaction x process label guid) ∷ []
+    bound_test x process label ∷ (is_none (transaction_with x guid), TransactionNotFound) ∷ handle_test x ∷ []
 
 -- committed where it has ended by this, and pending else
 abbrev pub commit_reply : Course → Reply
@@ -205,8 +213,12 @@ create_resource_manager x process label durability =
       transactions = record x.transactions { last_manager = x.transactions.last_manager + 1 };
     })
 
-unfoldable pub create_resource_manager_tests : Present → Pid → Label → Durability → List (Bool × Refusal)
-create_resource_manager_tests x process label durability = bound_test x process label ∷ quota_test x (create_resource_manager x process label durability) ∷ []
+-- would one resource manager more pass the limit on them, or the greatest number
+abbrev pub no_manager_left : List Manager → Transactions → Bool
+no_manager_left ms ts = nat_lt most_live (length ms + 1) || nat_lt most_number (ts.last_manager + 1)
+
+unfoldable pub create_resource_manager_tests : Present → Pid → Label → List (Bool × Refusal)
+create_resource_manager_tests x process label = bound_test x process label ∷ quota_test x (no_manager_left x.managers x.transactions) ∷ []
 
 abbrev pub manager_with : Present → List ℕ → Option Manager
 manager_with x guid = find (λ m. bytes_eq (guid_in x ObjectKind.Manager m.id) guid) x.managers
@@ -220,7 +232,7 @@ open_resource_manager x process label guid = open_to_manager x process label (ma
 
 unfoldable pub open_resource_manager_tests : Present → Pid → Label → List ℕ → List (Bool × Refusal)
 open_resource_manager_tests x process label guid =
-    bound_test x process label ∷ (is_none (manager_with x guid), ResourceManagerNotFound) ∷ quota_test x (open_resource_manager x process label guid) ∷ []
+    bound_test x process label ∷ (is_none (manager_with x guid), ResourceManagerNotFound) ∷ handle_test x ∷ []
 
 abbrev pub is_in_doubt : Transaction → Bool
 is_in_doubt t = elim t.phase as (λ _. Bool) [ InDoubt ↦ true | _ ↦ false ]
@@ -286,13 +298,17 @@ enlist x process label _ _ kind = only_reply x Done
 unfoldable pub create_enlistment : Present → Pid → Label → Option Manager → Option Transaction → EnlistmentKind → Outcome
 create_enlistment x process label m t kind = enlist x process label m t kind
 
+-- would one enlistment more pass the limit on live ones, or the greatest number
+abbrev pub no_enlistment_left : Transactions → Bool
+no_enlistment_left ts = nat_lt most_live (count_by (is_live_enlistment ts.items) ts.enlistments + 1) || nat_lt most_number (ts.last_enlistment + 1)
+
 -- a superior wants a durable resource manager, and a transaction without one
 unfoldable pub create_enlistment_tests : Present → Pid → Label → Option Manager → Option Transaction → EnlistmentKind → List (Bool × Refusal)
 create_enlistment_tests x process label m t kind =
     invalid_handle m ∷ transaction_tests t
     ++ ((is_bound x process label || (is_superior_kind kind && holds_of (λ m. not m.is_durable) m), InvalidParameter)
     ∷ (is_superior_kind kind && holds_of (has_superior x) t, TransactionSuperiorExists)
-    ∷ quota_test x (create_enlistment x process label m t kind)
+    ∷ quota_test x (no_enlistment_left x.transactions)
     ∷ [])
 
 abbrev pub is_live_now : Present → Enlistment → Bool
@@ -316,7 +332,7 @@ open_enlistment_tests x process label m guid =
     invalid_handle m
     ∷ bound_test x process label
     ∷ (is_none (enlistment_with x m guid), EnlistmentNotFound)
-    ∷ quota_test x (open_enlistment x process label m guid)
+    ∷ handle_test x
     ∷ []
 
 -- the transaction of an enlistment

@@ -1,6 +1,7 @@
 -- What is in use, and the limits on it.
-use Rattle.std.specs.Prelude.{ℕ, ◌+◌, ◌^◌, ◌==◌, ◌&&◌, ◌||◌, not, Bool, List, [], ◌∷◌, ◌++◌, length, filter, sum_by, count_by, nat_lt, Some}
+use Rattle.std.specs.Prelude.{ℕ, ◌+◌, ◌-◌, ◌^◌, ◌==◌, ◌&&◌, ◌||◌, not, Bool, List, [], ◌∷◌, ◌++◌, length, filter, sum_by, count_by, nat_lt, Some}
 use Rattle.std.specs.List.{list_any}
+use Rattle.ktm_world.specs.KeyCalls.{KeyRoom}
 use Rattle.ktm_world.specs.Keys.{keys_used, changes_pending as keys_unset}
 use Rattle.ktm_world.specs.Transactions.{is_live}
 use Rattle.ktm_world.specs.Changes.{changes_bytes, nodes_made}
@@ -35,9 +36,17 @@ units_used files =
 unfoldable pub nodes_used : FilesNow → ℕ
 nodes_used files = 1 + length files.tree + sum_by (λ o. nodes_made o.changes) files.table.own
 
--- the changes that wait: what undecided transactions made, moved and dropped, and the keys that they unset
+-- the changes of files that wait: what undecided transactions made, moved and dropped
+unfoldable pub file_changes_waiting : FilesNow → ℕ
+file_changes_waiting files = sum_by (λ o. count_by (λ change. not (changes_bytes change)) o.changes) files.table.own
+
+-- the changes that wait: those of files, and the keys that undecided transactions unset
 unfoldable pub changes_waiting : Present → ℕ
-changes_waiting x = sum_by (λ o. count_by (λ change. not (changes_bytes change)) o.changes) x.files.table.own + keys_unset x.keys
+changes_waiting x = file_changes_waiting x.files + keys_unset x.keys
+
+-- the room that the keys have: as many keys as the image has units, and as many changes less those of files
+unfoldable pub key_room : Present → KeyRoom
+key_room x = record { keys = x.recorded.units; changes = x.recorded.units - file_changes_waiting x.files }
 
 -- is a quota passed: pending changes; live transactions, live enlistments and resource managers; handles; the numbers of objects and nodes
 unfoldable pub is_over_quota : Present → Bool
