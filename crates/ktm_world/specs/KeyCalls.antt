@@ -35,6 +35,7 @@ keys_with keys who key value = record keys { own = with_setting keys.own who key
 abbrev pub kv_set : KeysNow → Option Id → List ℕ → List ℕ → KeyOutcome
 kv_set keys who key value = record { reply = Done; own = with_setting keys.own who key (Some value) }
 
+-- the tests of KvSet
 abbrev pub kv_set_tests : KeysNow → KeyRoom → Option Id → List ℕ → List ℕ → List (Bool × Refusal)
 kv_set_tests keys room who key value =
     (is_bad_key key || is_bad_value value, InvalidParameter)
@@ -46,6 +47,7 @@ kv_set_tests keys room who key value =
 abbrev pub kv_unset : KeysNow → Option Id → List ℕ → KeyOutcome
 kv_unset keys who key = record { reply = Done; own = with_setting keys.own who key None }
 
+-- the tests of KvUnset
 abbrev pub kv_unset_tests : KeysNow → KeyRoom → Option Id → List ℕ → List (Bool × Refusal)
 kv_unset_tests keys room who key =
     (is_bad_key key, InvalidParameter)
@@ -54,9 +56,11 @@ kv_unset_tests keys room who key =
     ∷ (nat_lt room.changes (changes_pending (keys_with keys who key None)), NotEnoughQuota)
     ∷ []
 
+-- the tests of KvGet
 abbrev pub kv_get_tests : KeysNow → Option Id → List ℕ → List (Bool × Refusal)
 kv_get_tests keys who key = (is_bad_key key, InvalidParameter) ∷ (is_none (value_seen keys who key), NotFound) ∷ []
 
+-- the reply that tells a value, or that there is none
 abbrev pub reply_of_value : Option (List ℕ) → Reply
 reply_of_value None = Refused NotFound
 reply_of_value (Some value) = Contents value

@@ -16,6 +16,7 @@ use Rattle.ktm_world.specs.Tree.{bytes_or_none, units_of}
 abbrev pub own_units : FilesNow → OwnChanges → ℕ
 own_units files o = sum_by (λ file. units_of (bytes_seen files (Some o.transaction) file)) (written_files o.changes)
 
+-- are they the same version of the same file
 abbrev pub same_version : FirstOpen → FirstOpen → Bool
 same_version a b = a.file == b.file && a.version == b.version
 
