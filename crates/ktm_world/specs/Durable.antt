@@ -364,17 +364,32 @@ waiting s = filter (λ t. not (is_decided t.stage)) s.transactions
 abbrev pub units_waiting : Durable → Recorded → ℕ
 units_waiting s t = sum_by (λ file. units_of (bytes_of (changed_all s.tree (changes_of t)) file)) (written_files (changes_of t))
 
+-- the units in use: of the committed files, and of those that waiting transactions write
+abbrev pub units_in_use : Durable → ℕ
+units_in_use s = sum_by (λ node. units_of (bytes_or_none node.content)) s.tree + sum_by (units_waiting s) (waiting s)
+
+-- the nodes in use: the root, the committed ones, and those that waiting transactions make
+abbrev pub nodes_in_use : Durable → ℕ
+nodes_in_use s = 1 + length s.tree + sum_by (λ t. nodes_made (changes_of t)) (waiting s)
+
+-- the keys in use: the committed ones, and those that waiting transactions set
+abbrev pub keys_in_use : Durable → ℕ
+keys_in_use s = length s.keys + sum_by (λ t. count_by (λ setting. is_some setting.value) (settings_of t)) (waiting s)
+
+-- the changes that wait: what waiting transactions make, move and drop, and the keys that they unset
+abbrev pub changes_in_wait : Durable → ℕ
+changes_in_wait s = sum_by (λ t. count_by (λ change. not (changes_bytes change)) (changes_of t) + count_by (λ setting. is_none setting.value) (settings_of t)) (waiting s)
+
+-- the enlistments of the transactions that are not over
+abbrev pub enlistments_in_use : Durable → ℕ
+enlistments_in_use s = sum_by (λ t. length (enlistments_of t)) s.transactions
+
 -- the units, nodes, keys and changes that wait are within the units of the image; and there are no more than 64 transactions,
 -- enlistments and resource managers
 unfoldable pub is_within_limits : Durable → Bool
 is_within_limits s =
-    nat_le (sum_by (λ node. units_of (bytes_or_none node.content)) s.tree + sum_by (units_waiting s) (waiting s)) s.units
-    && nat_le (1 + length s.tree + sum_by (λ t. nodes_made (changes_of t)) (waiting s)) s.units
-    && nat_le (length s.keys + sum_by (λ t. count_by (λ setting. is_some setting.value) (settings_of t)) (waiting s)) s.units
-    && nat_le (sum_by (λ t. count_by (λ change. not (changes_bytes change)) (changes_of t) + count_by (λ setting. is_none setting.value) (settings_of t)) (waiting s)) s.units
-    && nat_le (length s.transactions) most_live
-    && nat_le (sum_by (λ t. length (enlistments_of t)) s.transactions) most_live
-    && nat_le (length s.managers) most_live
+    nat_le (units_in_use s) s.units && nat_le (nodes_in_use s) s.units && nat_le (keys_in_use s) s.units && nat_le (changes_in_wait s) s.units
+    && nat_le (length s.transactions) most_live && nat_le (enlistments_in_use s) most_live && nat_le (length s.managers) most_live
 
 -- does an event apply: the limits hold then, and there are fewer than 2^63 events
 abbrev pub event_applies : Durable → Event → Bool
