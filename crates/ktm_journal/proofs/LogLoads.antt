@@ -9,9 +9,9 @@ use Rattle.ktm_log.proofs.Frames.{begins-split}
 use Rattle.ktm_log.proofs.GoodOrBad.{one_log}
 use Rattle.ktm_log.proofs.Steps.{IfTold-both}
 use Rattle.ktm_world.specs.Logs.{Group}
-use Rattle.ktm_keys.specs.Durable.{Durable, empty_state, stand}
+use Rattle.ktm_world.specs.Durable.{Durable, empty_state, stand}
 use Rattle.ktm_world.specs.Sizes.{frame_size, log_size}
-use Rattle.ktm_keys.proofs.Logs.{stand-units, stand-image, few_keys}
+use Rattle.ktm_world.proofs.Durables.{stand-units, stand-image, few_keys}
 use Rattle.ktm_world.proofs.SizeLemmas.{size_law}
 use Rattle.ktm_journal.specs.Image.{HoldGroups, HoldsLog, IsFormatted, JournalAt, JournalState, StandsFor, left_after, log_area}
 use Rattle.ktm_journal.specs.Bad.{IsBadAt, IsBadPayload}
@@ -47,6 +47,7 @@ module _ (units image : ℕ) (area : Area) (at : area ≡ log_area units) where
   stands payloads state bytes comes formatted log =
       let holds : HoldsLog units image comes.log bytes = record {
         is = record { formatted = formatted; payloads = payloads; groups = comes.groups; frames = subst (λ (a : Area). IsLog payloads (area_bytes a bytes)) at log };
+        built = comes.built;
         applies = comes.applies;
       } in
       let units_are = sym (comes_to_units units image payloads state comes) in
@@ -70,6 +71,7 @@ module _ (units image : ℕ) (area : Area) (at : area ≡ log_area units) where
           formatted = formatted;
           payloads = first.before;
           groups = first.good.groups;
+          built = first.good.built;
           applies = first.good.applies;
           frames = frames;
           bad = inr (first.payload, frame, subst (λ (s : Durable). IsBadPayload s first.payload) first.good.is first.bad);
@@ -88,6 +90,7 @@ module _ (units image : ℕ) (area : Area) (at : area ≡ log_area units) where
           formatted = formatted;
           payloads = payloads;
           groups = comes.groups;
+          built = comes.built;
           applies = comes.applies;
           frames = here.frames;
           bad = inl here.gate;

@@ -13,7 +13,7 @@ use crate::LoadFault;
 use crate::image::{lay, log_area, put_header};
 use crate::load::{Header, fold, read_form};
 use ktm_base::{Disk, Down};
-use ktm_keys::Durable;
+use crate::durable::Durable;
 use ktm_log::{AppendFault, Log, LogFault};
 use std::alloc::Global;
 use std::marker::Model;
