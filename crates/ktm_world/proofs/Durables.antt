@@ -1,8 +1,8 @@
 -- What the groups of a log make of a durable state, group after group.
-use Rattle.std.proofs.Common.{◌≡◌, ℕ, ◌+◌, ◌^◌, ◌≤◌, ◌&&◌, Bool, true, cond, List, [], ◌∷◌, ◌++◌, length, nat_lt, nat_le, IsTrue, Option, None, Some, refl, sym, ◌∙◌, ap, arith}
+use Rattle.std.proofs.Common.{◌≡◌, ℕ, ◌+◌, ◌-◌, ◌^◌, ◌≤◌, ◌==◌, ◌&&◌, Bool, true, cond, List, [], ◌∷◌, ◌++◌, length, nat_lt, nat_le, IsTrue, Option, None, Some, refl, sym, ◌∙◌, ap, arith}
 use Rattle.std.specs.List.{list_any}
 use Rattle.std.proofs.Math.Bool.{and_assoc, and-true}
-use Rattle.std.proofs.lemmas.Bool.{and_parts, leb-true, cases_Bool}
+use Rattle.std.proofs.lemmas.Bool.{and_parts, eqb-true, leb-true}
 use Rattle.std.proofs.lemmas.List.Sums.{fold-append}
 use Rattle.ktm_world.specs.declared.event.DonePart.{DonePart}
 use Rattle.ktm_world.specs.declared.event.Event.{Event}
@@ -129,3 +129,41 @@ few_keys base (group ∷ groups) applies within =
     let one = after_events-keys base group parts.0 within in
     let rest = few_keys (after_events base group) groups parts.1 (omega (arith, same, one)) in
     omega (arith, same, rest)
+
+-- ---- each boot is an event
+
+decided-boots : (s : Durable) (t : Option Recorded) → (decide_recorded s t).boots ≡ s.boots
+decided-boots s None = refl
+decided-boots s (Some t) = refl
+
+finished-boots : (s : Durable) (done : DonePart) (t : Option Recorded) → (finish_recorded s done t).boots ≡ s.boots
+finished-boots s done None = refl
+finished-boots s done (Some t) = refl
+
+after_event-boots : (s : Durable) (event : Event) → IsTrue (fact_applies s event) → s.boots ≤ s.events → (after_event s event).boots ≤ s.events + 1
+after_event-boots s (Boot boot) applies few =
+    let next = and_parts (boot == s.boots + 1) (nat_lt boot (2 ^ 32 - 1)) applies in
+    let is : boot ≡ s.boots + 1 = eqb-true boot (s.boots + 1) next.0 in
+    omega (arith, is, few)
+after_event-boots s (MadeRm manager) applies few = omega (arith, few)
+after_event-boots s (Plain change) applies few = omega (arith, few)
+after_event-boots s (Ready transaction part) applies few = omega (arith, few)
+after_event-boots s (Single transaction part) applies few = omega (arith, few)
+after_event-boots s (Held transaction enlistment manager information) applies few = omega (arith, few)
+after_event-boots s (Decide transaction) applies few = omega (arith, few, decided-boots s (recorded_at s.transactions transaction))
+after_event-boots s (Undo transaction) applies few = omega (arith, few)
+after_event-boots s (Done transaction done) applies few = omega (arith, few, finished-boots s done (recorded_at s.transactions transaction))
+
+after_events-boots : (s : Durable) (events : List Event) → IsTrue (events_apply s events) → s.boots ≤ s.events → (after_events s events).boots ≤ (after_events s events).events
+after_events-boots s [] applies few = few
+after_events-boots s (event ∷ events) applies few =
+    let parts = and_parts (event_applies s event) (events_apply (after_event s event) events) applies in
+    let one = and_parts (fact_applies s event && is_within_limits (fact_of s event)) (nat_lt (s.events + 1) (2 ^ 63)) parts.0 in
+    let fact = and_parts (fact_applies s event) (is_within_limits (fact_of s event)) one.0 in
+    after_events-boots (after_event s event) events parts.1 (after_event-boots s event fact.0 few)
+
+pub few_boots : (base : Durable) (log : List Group) → IsTrue (log_applies base log) → base.boots ≤ base.events → (stand base log).boots ≤ (stand base log).events
+few_boots base [] applies few = few
+few_boots base (group ∷ groups) applies few =
+    let parts = and_parts (events_apply base group) (log_applies (after_events base group) groups) applies in
+    few_boots (after_events base group) groups parts.1 (after_events-boots base group parts.0 few)
