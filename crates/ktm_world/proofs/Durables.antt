@@ -91,6 +91,15 @@ pub stand-image : (base : Durable) (log : List Group) → (stand base log).image
 stand-image base [] = refl
 stand-image base (group ∷ groups) = stand-image (after_events base group) groups ∙ after_events-image base group
 
+-- how many events there are in the groups
+abbrev pub count_events : List Group → ℕ
+count_events [] = 0
+count_events (group ∷ groups) = length group + count_events groups
+
+pub stand-events : (base : Durable) (log : List Group) → (stand base log).events ≡ base.events + count_events log
+stand-events base [] = omega arith
+stand-events base (group ∷ groups) = let more = after_events-events base group in stand-events (after_events base group) groups ∙ omega (arith, more)
+
 -- ---- the keys stay within the units
 
 third : (a b c d e f g : Bool) → (a && b && c && d && e && f && g) ≡ true → c ≡ true
