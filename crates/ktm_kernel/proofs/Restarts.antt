@@ -13,11 +13,11 @@ use Rattle.ktm_journal.specs.Image.{AreInLog, JournalState, JournalAt, IsImage, 
 use Rattle.ktm_journal.proofs.LogLoads.{journal_left}
 use Rattle.ktm_journal.proofs.OneImage.{one_image}
 use Rattle.ktm_world.specs.EventGrammar.{IsGroupOf}
-use Rattle.ktm_keys.specs.Durable.{Durable, empty_state, stand, events_apply, log_applies}
+use Rattle.ktm_world.specs.Durable.{Durable, empty_state, stand, events_apply, log_applies}
 use Rattle.ktm_world.specs.Sizes.{log_size}
 use Rattle.ktm_world.specs.Logs.{Group, count_events}
 use Rattle.ktm_keys.specs.World.{own_group, opened, present, IsLawfulNow, IsLawful}
-use Rattle.ktm_keys.proofs.Logs.{stand-append, stand-units, stand-image, stand-events, log_applies-append, few_keys}
+use Rattle.ktm_world.proofs.Durables.{stand-append, stand-units, stand-image, stand-events, log_applies-append, few_keys}
 use Rattle.ktm_world.proofs.Counts.{count_events-append}
 use Rattle.ktm_world.proofs.SizeLemmas.{size_law, log_size-append}
 use Rattle.ktm_keys.proofs.Worlds.{opened_law}
