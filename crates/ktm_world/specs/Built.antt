@@ -1,6 +1,6 @@
 -- Which lines the machine answers, and which events it records; every other line is a bad line to it, and an image with another event a
 -- bad image, until it is built.
-use Rattle.std.specs.Prelude.{Bool, true, false, List}
+use Rattle.std.specs.Prelude.{Bool, true, false, List, Option, Some, None}
 use Rattle.std.specs.List.{list_all}
 use Rattle.ktm_world.specs.declared.command.Command.{Command}
 use Rattle.ktm_world.specs.declared.command.Command.TheVariants.{CreateTransaction, CommitTransaction, KvSet, KvUnset, KvGet, KvList}
@@ -28,6 +28,11 @@ is_built (Cut calls) = true
 is_built Crash = true
 is_built (Restart pick) = true
 is_built (Process process command) = is_built_command command
+
+-- is the line built, or is there none that is in the grammar
+abbrev pub is_built_line : Option Line → Bool
+is_built_line None = true
+is_built_line (Some line) = is_built line
 
 -- is the event built: a start of the machine, or a transaction on keys alone that commits
 abbrev pub is_built_event : Event → Bool
