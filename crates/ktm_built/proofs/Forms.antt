@@ -23,6 +23,7 @@ use Rattle.ktm_world.specs.TransactionCalls.{course_of, arrived, commit_reply, c
 use Rattle.ktm_built.specs.Forms.{with_transaction, ended_committed, commit_events, commit_works, commit_outcome, with_commit}
 use Rattle.ktm_built.specs.Laws.{FormsLaw, NamedLaw}
 use Rattle.ktm_built.specs.Standing.{IsBuiltNow}
+use Rattle.ktm_built.proofs.Ids.{same_id-equal}
 use Rattle.ktm_built.proofs.Alone.{alone, alone_state, by_alone}
 
 -- ---- calls that record nothing
@@ -73,13 +74,6 @@ apply-unset x t key built =
     (apply-quiet x (kv_unset x.keys (Some t.id) key).reply (alone x).transactions (keys_with x.keys (Some t.id) key None).own x.handles)
 
 -- ---- the transaction that is named is the one with its Id
-
-same_id-equal : (a b : Id) → same_id a b ≡ true → a ≡ b
-same_id-equal a b same =
-    let parts = and_parts (a.boot == b.boot) (a.number == b.number) same in
-    let boot = eqb-true _ _ parts.0 in
-    let number = eqb-true _ _ parts.1 in
-    ap (λ (n : ℕ). record a { boot = n }) boot ∙ ap (λ (n : ℕ). record b { number = n }) number
 
 transaction_at-id : (ts : List Transaction) (id : Id) (t : Transaction) → transaction_at ts id ≡ Some t → t.id ≡ id
 transaction_at-id [] id t found = cc

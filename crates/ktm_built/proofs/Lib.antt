@@ -1,3 +1,8 @@
 mod Alone
+mod Ids
 mod Forms
 mod Decided
+mod Logs
+mod Own
+mod Limits
+mod Now
