@@ -2,7 +2,9 @@ mod Alone
 mod Ids
 mod Forms
 mod Decided
+mod Machine
 mod Logs
 mod Own
 mod Limits
+mod Outcomes
 mod Now

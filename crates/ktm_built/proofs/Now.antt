@@ -44,7 +44,9 @@ use Rattle.ktm_built.specs.Laws.{EventsLaw, NowLaw}
 use Rattle.ktm_built.specs.Spelling.{IsShortEvent, IsShortWork}
 use Rattle.ktm_built.specs.Standing.{IsBuiltState, IsBuiltNow, IsOnCourse, IsSoundTransaction, IsSoundOwn, IsSoundNow, IsStandingNow}
 use Rattle.ktm_built.proofs.Alone.{alone, alone_state, by_alone}
+use Rattle.ktm_built.proofs.Outcomes.{decided_built}
 use Rattle.ktm_built.proofs.Decided.{full_log}
+use Rattle.ktm_built.proofs.Machine.{with_machine, built_machine, apply-full}
 use Rattle.ktm_built.proofs.Forms.{forms_law, named_law, commit_is, apply-only_reply}
 use Rattle.ktm_built.proofs.Limits.{IsWithin, within_limits, limits_hold, room_for_keys, room_for_changes}
 use Rattle.ktm_built.proofs.Own.{IsSoundSetting, All-with_own, All-without_own, own_settings_sound, short_settings, once-with_own, once-without_own, apart-with_own, apart-without_own}
@@ -118,28 +120,24 @@ sound_at x t sound found = transaction_at-of (IsSoundTransaction x.recorded.boot
 
 -- ---- only the machine changes
 
-abbrev with_machine : Present → Bool → ℕ → Present
-with_machine x is_up left = record x { machine = record { is_up = is_up; left = left } }
+pub sound_machine : (x : Present) (is_up : Bool) (left : ℕ) → IsSoundNow x → IsSoundNow (with_machine x is_up left)
+sound_machine x is_up left sound = record {
+  boots_from = sound.boots_from;
+  units_from = sound.units_from;
+  transactions = sound.transactions;
+  own = sound.own;
+  once = sound.once;
+  apart = sound.apart;
+}
 
-machine_plain : (x : Present) (is_up : Bool) (left : ℕ) → IsPlain x → IsPlain (with_machine x is_up left)
+pub within_machine : (x : Present) (is_up : Bool) (left : ℕ) → IsWithin x → IsWithin (with_machine x is_up left)
+within_machine x is_up left within = record { keys = within.keys; changes = within.changes; live = within.live; handles = within.handles; last = within.last }
+
+pub machine_plain : (x : Present) (is_up : Bool) (left : ℕ) → IsPlain x → IsPlain (with_machine x is_up left)
 machine_plain x is_up left plain = record {
-  built = record {
-    managers = plain.built.managers;
-    enlistments = plain.built.enlistments;
-    last_manager = plain.built.last_manager;
-    last_enlistment = plain.built.last_enlistment;
-    files = plain.built.files;
-    recorded = plain.built.recorded;
-  };
-  sound = record {
-    boots_from = plain.sound.boots_from;
-    units_from = plain.sound.units_from;
-    transactions = plain.sound.transactions;
-    own = plain.sound.own;
-    once = plain.sound.once;
-    apart = plain.sound.apart;
-  };
-  within = record { keys = plain.within.keys; changes = plain.within.changes; live = plain.within.live; handles = plain.within.handles; last = plain.within.last };
+  built = built_machine x is_up left plain.built;
+  sound = sound_machine x is_up left plain.sound;
+  within = within_machine x is_up left plain.within;
   keys = plain.keys;
 }
 
@@ -340,16 +338,6 @@ refused_plain : (x : Present) (tested : Option Refusal) (effect : Outcome) → I
 refused_plain x None effect plain then = then refl
 refused_plain x (Some refusal) effect plain then = replied_plain x (Refused refusal) plain
 
--- a machine whose log is full is down
-apply-full : (x : Present) → IsBuiltNow x → apply x (full_log x) ≡ with_machine x false x.machine.left
-apply-full x built = by_alone (λ (y : Present). apply y (full_log y) ≡ with_machine y false y.machine.left) x built (full_alone x)
-  where
-    none_less : (n : ℕ) → n - 0 ≡ n
-    none_less n = omega arith
-
-    full_alone : (x : Present) → apply (alone x) (full_log (alone x)) ≡ with_machine (alone x) false x.machine.left
-    full_alone x i = with_machine (alone x) (and-false x.machine.is_up i) (none_less x.machine.left i)
-
 logged_plain : (x : Present) (b : Bool) (o : Outcome) → IsPlain x → IsPlain (apply x o) → IsPlain (apply x (cond b (full_log x) o))
 logged_plain x true o plain then = subst IsPlain (sym (apply-full x plain.built)) (machine_plain x false x.machine.left plain)
 logged_plain x false o plain then = then
@@ -363,14 +351,13 @@ decided_plain x process command is built plain =
 -- ---- what a command records
 
 pub record Records (x : Present) (events : List Event) (works : List Work) : Type 0 where
-  pub built : list_all is_built_event events ≡ true
   pub applies : x.recorded.events + length events < 2 ^ 63 → events_apply x.recorded events ≡ true
   pub short : All (IsShortEvent x.recorded.units) events
   -- it changes no file
   pub unchanged : AllByRecursion (λ (work : Work). work.changes ≡ []) works
 
 records-none : (x : Present) → Records x [] []
-records-none x = record { built = refl; applies = λ few. refl; short = All-nil _; unchanged = tt }
+records-none x = record { applies = λ few. refl; short = All-nil _; unchanged = tt }
 
 -- good settings of a transaction of this boot apply where there is room for them
 single_applies : (s : Durable) (id : Id) (settings : OwnSettings) → id.boot ≡ s.boots → are_good_settings settings ≡ true → 1 ≤ s.units → length (stored_all s.keys settings) ≤ s.units
@@ -387,7 +374,6 @@ records-commit : (x : Present) (id : Id) (settings : OwnSettings) → IsBuiltSta
     → length (stored_all x.recorded.keys settings) ≤ x.recorded.units → Records x (commit_events id settings) (commit_works id settings)
 records-commit x id [] state boots units number sound few room = records-none x
 records-commit x id (s ∷ ss) state boots units number sound few room = record {
-  built = refl;
   applies = λ least.
       let some : not (length (s ∷ ss) == 0) ≡ true = ap not (ne_eqb (length (s ∷ ss)) 0 (λ e. omega arith)) in
       let good = and_from _ _ (and_from _ _ some sound.rising) sound.good in
@@ -448,7 +434,7 @@ records-decided x process command built plain =
 
 pub events_law : EventsLaw
 events_law = (
-  λ x process command built standing. let records = records-decided x process command built (plain_of x standing) in (records.built, records.applies, records.short),
+  λ x process command built standing. let records = records-decided x process command built (plain_of x standing) in ((decided_built x process command built standing.built).events, records.applies, records.short),
   λ x t standing found. short_work x t (plain_of x standing) found,
 )
 
