@@ -8,3 +8,4 @@ mod Own
 mod Limits
 mod Outcomes
 mod Now
+mod Worlds
