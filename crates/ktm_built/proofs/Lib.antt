@@ -9,3 +9,4 @@ mod Limits
 mod Outcomes
 mod Now
 mod Worlds
+mod Tellings

@@ -170,10 +170,13 @@ lawful_law w process command is built few standing = elim (cases_Bool (is_up w.p
 
 -- ---- where a restart opens it
 
--- what the present is where a built state is opened
+-- what is so where a built state is opened
+opened_alone : (s : Durable) (room : ℕ) → IsBuiltNow (present (opened (alone_state s) room []))
+opened_alone s room = record { managers = refl; enlistments = refl; last_manager = refl; last_enlistment = refl; files = refl; recorded = refl }
+
 opened_plain : (s : Durable) (room : ℕ) → 1 ≤ s.units → length s.keys ≤ s.units → IsPlain (present (opened (alone_state s) room []))
 opened_plain s room some few = record {
-  built = record { managers = refl; enlistments = refl; last_manager = refl; last_enlistment = refl; files = refl; recorded = refl };
+  built = opened_alone s room;
   sound = record { boots_from = omega arith; units_from = some; transactions = All-nil _; own = All-nil _; once = tt; apart = λ a b other. refl };
   within = record { keys = omega (arith, few); changes = omega arith; live = omega arith; handles = omega arith; last = omega arith };
   keys = refl;
@@ -204,11 +207,21 @@ boot_fits s state applies =
 well_formed_none : IsWellFormed []
 well_formed_none = record { parents = All-nil _; reach = All-nil _; names = All-nil _; one_each = All-nil _; numbers = All-nil _; rise = refl }
 
--- what a restart of a built state leaves of a world
-opened_world : (base : Durable) (room : ℕ) (log : List Group) → IsBuiltState base → is_built_log log ≡ true → IsBuiltNow (present (opened base room log)) → IsBuiltWorld (opened base room log)
-opened_world base room log state built now =
+-- a restart opens a built world, without transactions
+pub opened_built : (base : Durable) (room : ℕ) (log : List Group) → IsBuiltState base → is_built_log log ≡ true → IsBuiltWorld (opened base room log) × ((opened base room log).transactions.items ≡ [])
+opened_built base room log state built =
+    let s = stand base log in
+    let stood = stand_built base log state built in
     let whole = log_with_own base log state built in
-    record { base = state; now = now; log = whole; logs = prefixes_built (length log + 1) (log ++ own_group (stand base log) ∷ []) whole }
+    let there : IsBuiltNow (present (opened s room [])) = subst (λ (t : Durable). IsBuiltNow (present (opened t room []))) (sym stood) (opened_alone s room) in (
+      record {
+        base = state;
+        now = built_machine (present (opened s room [])) true (present (opened base room log)).machine.left there;
+        log = whole;
+        logs = prefixes_built (length log + 1) (log ++ own_group s ∷ []) whole;
+      },
+      ap (λ (t : Durable). (opened t room []).transactions.items) stood,
+    )
 
 pub opened_law : OpenedLaw
 opened_law base room log state built applies own =
@@ -226,7 +239,7 @@ opened_law base room log state built applies own =
         comes_to = stand-append base log (own_group s ∷ []);
         agrees = (standing_of (present w) plain).agrees;
       });
-      built = opened_world base room log state built plain.built;
+      built = (opened_built base room log state built).0;
       sound = plain.sound;
       kept = λ on. sym (length-append log (own_group s ∷ []));
       few = omega (arith, count, fits.events);
