@@ -31,6 +31,7 @@ impl MemBlock {
         ensures contents { IfOk result (λ block. contents_of block ≡ bytes) }
         ensures room { IfOk result (λ block. block_room block ≡ room) }
         ensures schedule { IfOk result (λ block. block_schedule block ≡ record { fails = fails; calls = 0 }) }
+        ensures waits { IfOk result (λ block. block.waits ≡ false) }
     {
         let mut bytes = bytes.into_vec();
         bytes.reserve(room - bytes.len())?;
@@ -48,6 +49,13 @@ impl MemBlock {
         ensures { result.now ≡ contents_of self.now }
     {
         &self.bytes
+    }
+
+    /// Whether anything that was written or added waits to be flushed.
+    pub fn waits(&self) -> bool
+        ensures { result ≡ self.now.waits }
+    {
+        self.waits
     }
 }
 
