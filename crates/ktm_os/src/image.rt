@@ -1,5 +1,5 @@
 // What is known of the file of a block.
-ghost use Rattle.std.specs.Prelude.{◌≡◌, ◌≤◌, ◌+◌, true, false, [], ◌∷◌, length, slice_range, IfOk, OnOk, OnErr};
+ghost use Rattle.std.specs.Prelude.{◌≡◌, ◌≤◌, ◌+◌, true, false, [], ◌∷◌, length, slice_range, IfOk, OnOk, OnErr, IsSome};
 ghost use Rattle.ktm_base.specs.Bytes.{written, SameOutside, GrewTo, GrewTowards};
 ghost use Rattle.ktm_base.specs.Told.{IfTold, Goes};
 ghost use Rattle.ktm_os.specs.Count.{IsOneMore};
@@ -36,11 +36,14 @@ impl<F: ImageFile> Image<F> {
         }
     }
 
-    /// Its length, for which the file is asked once.
+    /// Its length, for which the file is called once.
     pub fn len(&mut self) -> io::Result<u64>
         ensures value { IfOk result (λ n. IfTold (F.contents self.old.file) (λ bytes. n ≡ length bytes)) }
+        ensures once { IsSome self.old.length → self.new ≡ self.old }
+        ensures known { OnOk result (IsSome self.new.length) }
         ensures same { F.contents self.new.file ≡ F.contents self.old.file }
         ensures waits { self.new.waits ≡ self.old.waits }
+        ensures name { self.new.is_name_synced ≡ self.old.is_name_synced }
         ensures answered { OnOk result (F.failures self.new.file ≡ F.failures self.old.file) }
         ensures failed { OnErr result (Goes IsOneMore (F.failures self.old.file) (F.failures self.new.file)) }
     {
@@ -54,9 +57,11 @@ impl<F: ImageFile> Image<F> {
 
     // A range that passes the end is refused.
     fn reach(&mut self, at: u64, len: usize) -> io::Result<()>
+        ensures known { OnOk result (IsSome self.new.length) }
         ensures within { OnOk result (IfTold (F.contents self.old.file) (λ bytes. at + len ≤ length bytes)) }
         ensures same { F.contents self.new.file ≡ F.contents self.old.file }
         ensures waits { self.new.waits ≡ self.old.waits }
+        ensures name { self.new.is_name_synced ≡ self.old.is_name_synced }
         ensures answered { OnOk result (F.failures self.new.file ≡ F.failures self.old.file) }
         ensures failed { OnErr result (IfTold (F.contents self.old.file) (λ bytes. at + len ≤ length bytes
             → Goes IsOneMore (F.failures self.old.file) (F.failures self.new.file))) }
@@ -73,6 +78,8 @@ impl<F: ImageFile> Image<F> {
         ensures value { OnOk result (IfTold (F.contents self.old.file) (λ bytes. buf.new ≡ slice_range bytes at (at + length buf.old))) }
         ensures same { F.contents self.new.file ≡ F.contents self.old.file }
         ensures waits { self.new.waits ≡ self.old.waits }
+        ensures name { self.new.is_name_synced ≡ self.old.is_name_synced }
+        ensures known { OnOk result (IsSome self.new.length) }
         ensures answered { OnOk result (F.failures self.new.file ≡ F.failures self.old.file) }
         ensures failed { OnErr result (IfTold (F.contents self.old.file) (λ _. Goes IsOneMore (F.failures self.old.file) (F.failures self.new.file))) }
     {
@@ -85,6 +92,8 @@ impl<F: ImageFile> Image<F> {
         ensures ok { OnOk result (Goes (λ old new. new ≡ written old at bytes.now) (F.contents self.old.file) (F.contents self.new.file)) }
         ensures err { OnErr result (Goes (SameOutside ((at, length bytes.now) ∷ [])) (F.contents self.old.file) (F.contents self.new.file)) }
         ensures waits { self.new.waits ≡ true }
+        ensures name { self.new.is_name_synced ≡ self.old.is_name_synced }
+        ensures known { OnOk result (IsSome self.new.length) }
         ensures answered { OnOk result (F.failures self.new.file ≡ F.failures self.old.file) }
         ensures failed { OnErr result (IfTold (F.contents self.old.file) (λ _. Goes IsOneMore (F.failures self.old.file) (F.failures self.new.file))) }
     {
@@ -119,6 +128,7 @@ impl<F: ImageFile> Image<F> {
         ensures ok { OnOk result (Goes (GrewTo len) (F.contents self.old.file) (F.contents self.new.file)) }
         ensures err { OnErr result (Goes (GrewTowards len) (F.contents self.old.file) (F.contents self.new.file)) }
         ensures waits { self.new.waits ≡ true }
+        ensures known { OnOk result (IsSome self.new.length) }
         ensures answered { OnOk result (F.failures self.new.file ≡ F.failures self.old.file) }
         ensures failed { OnErr result (Goes IsOneMore (F.failures self.old.file) (F.failures self.new.file)) }
     {
