@@ -76,6 +76,11 @@ pub record StandsFor (state : Durable) (bytes : List ℕ) : Type 0 where
 abbrev pub left_after : ℕ → List Group → ℕ
 left_after units log = area_len units - log_size log
 
+-- all events of the state are in a log that ends here: each takes five bytes of it at least, and each boot is one of them
+pub record AreInLog (state : Durable) (end : ℕ) : Type 0 where
+  pub boots : state.boots ≤ state.events
+  pub events : 5 * state.events ≤ end
+
 -- what is known of a journal: its image, and its log
 pub record JournalState : Type 0 where
   pub units : ℕ

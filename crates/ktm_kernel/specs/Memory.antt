@@ -3,6 +3,7 @@ use Rattle.std.specs.Prelude.{ℕ, ◌+◌, true, []}
 use Rattle.ktm_keys.specs.Durable.{Durable}
 use Rattle.ktm_keys.specs.Present.{Present}
 
+-- what is so now, and what a commit can do without memory
 pub record MemoryState : Type 0 where
   pub now : Present
   -- how many keys the store can take without memory

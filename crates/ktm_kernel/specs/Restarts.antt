@@ -6,6 +6,9 @@ use Rattle.ktm_keys.specs.Durable.{Durable, empty_state, stand}
 use Rattle.ktm_world.specs.Outcome.{is_full}
 use Rattle.ktm_world.specs.Sizes.{log_size}
 use Rattle.ktm_world.specs.Logs.{Group}
+use Rattle.ktm_world.specs.declared.reply.Reply.{Reply}
+use Rattle.ktm_world.specs.declared.reply.Reply.TheVariants.{BadImage, Refused}
+use Rattle.ktm_base.specs.declared.refusal.Refusal.TheVariants.{LogFull}
 use Rattle.ktm_keys.specs.World.{own_group, opened}
 use Rattle.ktm_kernel.specs.declared.restart.RestartFault.{RestartFault}
 use Rattle.ktm_kernel.specs.declared.restart.RestartFault.TheVariants.{Down, Bad, Full, NoMemory}
@@ -82,3 +85,9 @@ restart_went_down (Err Down) = true
 restart_went_down (Err (Bad offset)) = false
 restart_went_down (Err Full) = false
 restart_went_down (Err NoMemory) = false
+
+-- the fact, where the reply says that nothing was written: BAD_IMAGE or ERROR_LOG_FULL
+abbrev pub IfUnwrittenBy : Reply → Type 0 → Type 0
+IfUnwrittenBy (BadImage offset) P = P
+IfUnwrittenBy (Refused LogFull) P = P
+IfUnwrittenBy reply P = Unit {0}

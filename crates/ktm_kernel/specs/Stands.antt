@@ -43,6 +43,7 @@ pub record HasFallen (k : KernelState) (told : Option DiskState) (w : World) : T
   pub began : Began k.journal before w
   pub disk : Tells told (LeavesPossible k.journal before w)
 
+-- the same, by whether the world's machine is up
 abbrev pub StandsBy : Bool → KernelState → Option DiskState → World → Type 0
 StandsBy true k told w = Stands k told w
 StandsBy false k told w = HasFallen k told w
