@@ -4,7 +4,7 @@ use Rattle.ktm_codec.proofs.SpansLemmas.{row_push, list_no_count, list_cut, list
 use Rattle.ktm_world.specs.EventGrammar.{IsSettingOf}
 use Rattle.ktm_event.proofs.Parts.{unambiguous_setting}
 use Rattle.ktm_event.proofs.Readings.{passes}
-use Rattle.ktm_event.proofs.setting.settings_at.Goals as goal
+use Rattle.ktm_event.proofs.setting.list_at.Goals as goal
 
 pub returns-in_err-count : goal.returns-in_err-count
 returns-in_err-count c = passes _ _ c.from_residual.ensures.1 c.in_err-count.ensures (λ absent. record { none = list_no_count IsSettingOf _ _ absent.none })
