@@ -30,7 +30,7 @@ use Rattle.ktm_world.specs.Sizes.{log_size}
 use Rattle.ktm_world.specs.Logs.{Group, as_groups}
 use Rattle.ktm_keys.specs.World.{apply, IsLawfulNow, IsOfBoot}
 use Rattle.ktm_keys.proofs.NowLemmas.{named-of_boot}
-use Rattle.ktm_keys.proofs.OwnLemmas.{IsWithinLimits, own_settings_within_limits, few_own_settings}
+use Rattle.ktm_keys.proofs.OwnLemmas.{IsWithinLimits, own_settings_within_limits, own_settings_rise, few_own_settings}
 use Rattle.ktm_world.proofs.SizeLemmas.{size_law}
 use Rattle.ktm_kernel.specs.Done.{FewEvents, IsDone, IsCutOff, LeavesWithOr, TouchesNothing, fallen}
 
@@ -42,6 +42,7 @@ short_value-of (Some value) short = omega arith
 
 pub spellable : (x : Present) (id : Id) → IsLawfulNow x → x.machine.units ≤ 1024 → AreSpellableSettings (own_settings x.keys.own id)
 spellable x id now units = record {
+  rising = own_settings_rise x id now;
   few = let few = few_own_settings x id now in omega arith;
   each = All-weaker IsWithinLimits IsSpellableSetting
       (λ s within. record { text = within.text; short_key = omega (arith, within.short_key); short_value = short_value-of s.value within.short_value })

@@ -6,7 +6,7 @@ use Rattle.std.specs.List.{All, AllByRecursion, list_all}
 use Rattle.ktm_base.specs.declared.id.Id.{Id}
 use Rattle.ktm_world.specs.declared.event.Keyed.{Keyed}
 use Rattle.ktm_world.specs.Keys.{is_good_setting, is_bad_set_to, OwnSettings, Own, own_settings, with_own, without_own, is_bad_key}
-use Rattle.ktm_world.specs.Keyed.{put}
+use Rattle.ktm_world.specs.Keyed.{put, is_rising}
 use Rattle.ktm_keys.specs.Present.{Present}
 use Rattle.ktm_world.specs.Transactions.{same_id}
 use Rattle.ktm_world.specs.Values.{IsText}
@@ -69,7 +69,7 @@ own_settings_lawful boot id of_boot own all =
     own_settings-of Found (lawful_own-none boot id of_boot) own id (recursion_from_All _ _ (All-weaker (IsLawfulOwn boot) (λ o. Found o.settings)
     (λ o here. record { boot_is = of_boot; rising = here.rising; good = here.good; texts = here.texts }) own all))
 
--- ---- they have bytes: each is within the limits, and there are few
+-- ---- they have bytes: each is within the limits, they rise, and there are few
 
 -- a text of 1 to 64 bytes, and a value of at most 960
 pub record IsWithinLimits (setting : Keyed (Option (List ℕ))) : Type 0 where
@@ -99,6 +99,11 @@ pub own_settings_within_limits : (x : Present) (id : Id) → IsLawfulNow x → A
 own_settings_within_limits x id now =
     own_settings-of (All IsWithinLimits) (All-nil _) x.keys.own id (recursion_from_All _ _ (All-weaker (IsLawfulOwn x.machine.boot) (λ o. All IsWithinLimits o.settings)
     (λ o here. within_limits o.settings here.good here.texts) x.keys.own now.own))
+
+pub own_settings_rise : (x : Present) (id : Id) → IsLawfulNow x → is_rising (own_settings x.keys.own id) ≡ true
+own_settings_rise x id now =
+    own_settings-of (λ settings. is_rising settings ≡ true) refl x.keys.own id (recursion_from_All _ _ (All-weaker (IsLawfulOwn x.machine.boot) (λ o. is_rising o.settings ≡ true)
+    (λ o here. here.rising) x.keys.own now.own))
 
 pub few_own_settings : (x : Present) (id : Id) → IsLawfulNow x → length (own_settings x.keys.own id) ≤ x.machine.units + x.machine.units
 few_own_settings x id now = let less = length-own_settings-le x.keys id in omega (arith, less, now.keys, now.changes)
