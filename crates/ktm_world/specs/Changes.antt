@@ -19,10 +19,12 @@ abbrev pub bytes_in : Contents → List ℕ
 bytes_in (Whole bytes) = bytes
 bytes_in (Paged pages) = []
 
+-- do the contents stand as bytes, and not as pages
 abbrev pub is_whole : Contents → Bool
 is_whole (Whole bytes) = true
 is_whole (Paged pages) = false
 
+-- is the list empty
 abbrev pub is_empty_list : List ℕ → Bool
 is_empty_list [] = true
 is_empty_list (x ∷ xs) = false
@@ -43,6 +45,7 @@ changed_all tree changes = fold changed tree changes
 abbrev pub is_free : Tree → ℕ → List ℕ → Bool
 is_free tree directory name = is_none (child_of tree directory name)
 
+-- may a new node have this number: 1 is the root's, and numbers are below 2^63
 abbrev pub is_node_number : ℕ → Bool
 is_node_number number = nat_le 2 number && nat_lt number (2 ^ 63)
 
@@ -76,18 +79,22 @@ changes_bytes (Cut node size pages) = true
 changes_bytes (Move node parent name) = false
 changes_bytes (Drop node) = false
 
+-- does the change make a node
 abbrev pub is_make : Change → Bool
 is_make (Make node parent kind name) = true
 is_make _ = false
 
+-- does the change make a file
 abbrev pub is_make_of_file : Change → Bool
 is_make_of_file (Make node parent File name) = true
 is_make_of_file _ = false
 
+-- does the change drop a node
 abbrev pub is_drop : Change → Bool
 is_drop (Drop node) = true
 is_drop _ = false
 
+-- does the change move a node
 abbrev pub is_move : Change → Bool
 is_move (Move node parent name) = true
 is_move _ = false

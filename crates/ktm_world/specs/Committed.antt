@@ -36,6 +36,7 @@ abbrev pub raised_version : List Version → ℕ → List Version
 raised_version [] file = record { file = file; count = 1 } ∷ []
 raised_version (v ∷ vs) file = if v.file == file then record v { count = v.count + 1 } ∷ vs else v ∷ raised_version vs file
 
+-- the versions after a change: a Put or a Cut raises that of its file
 abbrev pub versions_after : List Version → Change → List Version
 versions_after versions change = if changes_bytes change then raised_version versions (node_of change) else versions
 
@@ -58,6 +59,7 @@ abbrev pub with_number : List ℕ → ℕ → List ℕ
 with_number [] n = n ∷ []
 with_number (m ∷ ms) n = if m == n then m ∷ ms else (if nat_lt n m then n ∷ m ∷ ms else m ∷ with_number ms n)
 
+-- the numbers but this one
 abbrev pub without_number : List ℕ → ℕ → List ℕ
 without_number ms n = filter (λ m. not (m == n)) ms
 

@@ -11,22 +11,26 @@ use Rattle.ktm_world.specs.Transactions.{same_id}
 use Rattle.ktm_world.specs.Files.{FilesNow, OpenFile, FirstOpen, own_changes, first_open_of, is_last_version}
 use Rattle.ktm_world.specs.Holds.{Holder, Act, meets, is_in, file_touched, file_changed, file_overwritten}
 
+-- does the access include reading
 abbrev pub reads : Access → Bool
 reads Read = true
 reads Write = false
 reads ReadWrite = true
 
+-- does the access include writing
 abbrev pub writes : Access → Bool
 writes Read = false
 writes Write = true
 writes ReadWrite = true
 
+-- does the share mode let others read
 abbrev pub lets_read : ShareMode → Bool
 lets_read ShareMode.Nothing = false
 lets_read ShareMode.Read = true
 lets_read ShareMode.Write = false
 lets_read ShareMode.ReadWrite = true
 
+-- does the share mode let others write
 abbrev pub lets_write : ShareMode → Bool
 lets_write ShareMode.Nothing = false
 lets_write ShareMode.Read = false
@@ -35,9 +39,11 @@ lets_write ShareMode.ReadWrite = true
 
 -- ---- undecided transactions
 
+-- has the transaction no outcome yet
 abbrev pub is_undecided : Transaction → Bool
 is_undecided t = elim t.outcome as (λ _. Bool) [ Undetermined ↦ true | Committed ↦ false | Aborted ↦ false ]
 
+-- does something belong to the transaction with this Id; what is plain belongs to none
 abbrev pub is_of : Id → Option Id → Bool
 is_of id None = false
 is_of id (Some other) = same_id id other
@@ -46,6 +52,7 @@ is_of id (Some other) = same_id id other
 abbrev pub written_by : List OpenFile → Id → List ℕ
 written_by opens id = map (λ o. o.node) (filter (λ o. is_of id o.transaction && writes o.access) opens)
 
+-- a transaction with its changes of what is committed, and the nodes of its open files that may be written
 abbrev pub holder_of : FilesNow → Id → Holder
 holder_of files id = record { tree = files.tree; changes = own_changes files.table.own id; writes = written_by files.table.opens id }
 
@@ -59,6 +66,7 @@ others ts who = filter (λ t. is_undecided t && not (is_of t.id who)) ts
 abbrev pub meets_other : FilesNow → List Transaction → Option Id → Act → Bool
 meets_other files ts who act = list_any (λ t. meets (holder_of files t.id) act) (others ts who)
 
+-- does a first open have a version that is not the last one of its file
 abbrev pub is_outdated : FilesNow → Option FirstOpen → Bool
 is_outdated files None = false
 is_outdated files (Some o) = not (is_last_version files o)
@@ -85,6 +93,7 @@ conflicts files ts who act =
 
 -- ---- sharing
 
+-- are both plain, or both of one transaction
 abbrev pub same_group : Option Id → Option Id → Bool
 same_group None None = true
 same_group None (Some b) = false

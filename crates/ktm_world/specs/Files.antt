@@ -39,6 +39,7 @@ pub record FileTable : Type 0 where
   -- the number of the next node
   pub next_node : ℕ
 
+-- the files now: what is committed, what undecided transactions opened and changed, and the open files
 pub record FilesNow : Type 0 where
   -- what is committed
   pub tree : Tree
@@ -77,10 +78,12 @@ is_last_version files o = is_file files.tree o.file && o.version == version_of f
 abbrev pub tree_of : FilesNow → Id → Tree
 tree_of files id = changed_all files.tree (filter (λ change. not (changes_bytes change)) (own_changes files.table.own id))
 
+-- the tree that a transaction sees, or a plain call
 abbrev pub tree_seen : FilesNow → Option Id → Tree
 tree_seen files None = files.tree
 tree_seen files (Some id) = tree_of files id
 
+-- the bytes of a first open, or else the last committed ones
 abbrev pub fixed_bytes : FilesNow → ℕ → Option FirstOpen → List ℕ
 fixed_bytes files file None = bytes_of files.tree file
 fixed_bytes files file (Some o) = o.bytes

@@ -23,9 +23,11 @@ abbrev pub setting_of : Present → Option Transaction → List ℕ → Option (
 setting_of x None key value = only_reply x Done
 setting_of x (Some t) key value = record (only_reply x Done) { own = with_own x.keys.own t.id key value }
 
+-- KvSet: the transaction sets the key to the value
 abbrev pub kv_set : Present → Option Transaction → List ℕ → List ℕ → Outcome
 kv_set x t key value = setting_of x t key (Some value)
 
+-- the tests of KvSet
 abbrev pub kv_set_tests : Present → Option Transaction → List ℕ → List ℕ → List (Bool × Refusal)
 kv_set_tests x t key value =
     transaction_tests t
@@ -34,9 +36,11 @@ kv_set_tests x t key value =
     ∷ (is_over_disk (apply x (kv_set x t key value)), DiskFull)
     ∷ [])
 
+-- KvUnset: the transaction unsets the key
 abbrev pub kv_unset : Present → Option Transaction → List ℕ → Outcome
 kv_unset x t key = setting_of x t key None
 
+-- the tests of KvUnset
 abbrev pub kv_unset_tests : Present → Option Transaction → List ℕ → List (Bool × Refusal)
 kv_unset_tests x t key =
     transaction_tests t
@@ -46,6 +50,7 @@ kv_unset_tests x t key =
     ∷ (is_over_quota (apply x (kv_unset x t key)), NotEnoughQuota)
     ∷ [])
 
+-- the tests of KvGet
 abbrev pub kv_get_tests : Present → Pid → View → List ℕ → List (Bool × Refusal)
 kv_get_tests x process view key =
     view_tests x process view
@@ -53,10 +58,12 @@ kv_get_tests x process view key =
     ∷ (is_none (value_seen x.keys (viewer x process view) key), NotFound)
     ∷ [])
 
+-- the reply that tells a value, or that there is none
 abbrev pub reply_of_value : Option (List ℕ) → Reply
 reply_of_value None = Refused NotFound
 reply_of_value (Some value) = Contents value
 
+-- KvGet tells the value that is seen
 abbrev pub kv_get : Present → Pid → View → List ℕ → Outcome
 kv_get x process view key = only_reply x (reply_of_value (value_seen x.keys (viewer x process view) key))
 

@@ -1,4 +1,4 @@
--- What every world of a run is.
+-- What a lawful world is.
 use Rattle.std.specs.Prelude.{◌≡◌, ℕ, ◌==◌, ◌&&◌, ◌||◌, not, Bool, true, false, List, [], ◌∷◌, length, map, filter, drop, Option, Some, None, is_some, is_none, All, if◌then◌else◌}
 use Rattle.std.specs.List.{list_any, list_all, flat_map}
 use Rattle.ktm_base.specs.declared.id.Id.{Id}
@@ -32,6 +32,7 @@ works_apply c (work ∷ works) = apply_all c.tree work.changes && works_apply (w
 
 -- ---- nobody holds what another holds
 
+-- is there a key that both set or unset
 abbrev pub set_both : OwnSettings → OwnSettings → Bool
 set_both a b = list_any (λ setting. is_some (value_at b setting.key)) a
 
@@ -45,14 +46,17 @@ are_apart a b =
 abbrev pub hold_apart : Present → Transaction → Transaction → Bool
 hold_apart x t u = are_apart (holder_of x.files t.id) (holder_of x.files u.id) && not (set_both (own_settings x.keys.own t.id) (own_settings x.keys.own u.id))
 
+-- the undecided transactions
 abbrev pub undecided : Present → List Transaction
 undecided x = others x.transactions.items None
 
+-- do no two undecided transactions hold the same
 abbrev pub all_apart : Present → Bool
 all_apart x = list_all (λ t. list_all (hold_apart x t) (others x.transactions.items (Some t.id))) (undecided x)
 
 -- ---- a version that a transaction writes over stays the last one
 
+-- does a work put or cut bytes of the file, or drop it
 abbrev pub ends_version : Work → ℕ → Bool
 ends_version work file = list_any (λ change. node_of change == file && (changes_bytes change || is_drop change)) work.changes
 
@@ -63,6 +67,7 @@ is_fixed_last w o =
 
 -- ---- plain writers are alone
 
+-- does the transaction hold the file, or have it open
 abbrev pub is_touched_by : Present → ℕ → Transaction → Bool
 is_touched_by x file t =
     is_in (nodes_held (holder_of x.files t.id)) file || list_any (λ o. is_of t.id o.transaction && o.node == file) x.files.table.opens
@@ -122,18 +127,23 @@ abbrev pub recorded_enlistments : Present → Id → List Enlistment
 recorded_enlistments x id =
     by_rising_id (map brought_back (filter (λ e. takes_part id e && is_durable_at x.managers e.manager && e.is_prepared && not e.is_finished) x.transactions.enlistments))
 
+-- a superior as it is recorded
 abbrev pub superior_now : Option Enlistment → Option Superior
 superior_now None = None
 superior_now (Some e) = Some (record { enlistment = e.id; manager = e.manager; information = e.information })
 
+-- is the stage Ready
 abbrev pub is_ready_stage : Stage → Bool
 is_ready_stage Stage.Ready = true
 is_ready_stage _ = false
 
+-- is the stage Held
 abbrev pub is_held_stage : Stage → Bool
 is_held_stage Stage.Held = true
 is_held_stage _ = false
 
+-- what the log has to have of a transaction at this stage: its recorded enlistments, its superior once it was held, and what it changes
+-- and sets while it is
 abbrev pub summary_now : Present → Transaction → Stage → Summary
 summary_now x t stage = record {
   id = t.id;
@@ -148,6 +158,7 @@ summary_now x t stage = record {
 abbrev pub stays : Summary → Bool
 stays s = elim s.stage as (λ _. Bool) [ Stage.Decided ↦ not (length s.enlistments == 0) | _ ↦ true ]
 
+-- the same, where the transaction stands in the log at all
 abbrev pub summary_in : Present → Transaction → Option Stage → List Summary
 summary_in x t None = []
 summary_in x t (Some stage) = filter stays (summary_now x t stage ∷ [])
@@ -156,6 +167,7 @@ summary_in x t (Some stage) = filter stays (summary_now x t stage ∷ [])
 abbrev pub summaries_now : Present → List Summary
 summaries_now x = flat_map (λ t. if t.is_recorded then summary_in x t (stage_in t.phase) else []) x.transactions.items
 
+-- the durable resource managers
 abbrev pub durable_managers : Present → List Id
 durable_managers x = map (λ m. m.id) (filter (λ m. m.is_durable) x.managers)
 
@@ -171,6 +183,7 @@ pub record Lasting : Type 0 where
   pub managers : List Id
   pub transactions : List Summary
 
+-- what of a durable state lasts so
 abbrev pub lasting_in : Durable → Lasting
 lasting_in s = record {
   units = s.units;
@@ -203,6 +216,8 @@ pub record StandsForLog (w : World) : Type 0 where
 
 -- ---- all of it
 
+-- the world is lawful: what was committed and changed applies, no two transactions hold the same, the limits hold, and the log stands
+-- for what is so now
 pub record IsLawful (w : World) : Type 0 where
   -- what was committed at the restart is well formed, and the works apply in order
   pub works : IsWellFormed w.start.tree × (works_apply w.start w.works ≡ true)

@@ -47,6 +47,7 @@ abbrev pub step_of : World → Option Line → Step
 step_of w (Some (Restart pick)) = if is_up w.power then answered else (if is_full_to_open w w.log then full w.log else found w.log)
 step_of w _ = answered
 
+-- the steps by which the lines of a script come to their answers
 abbrev pub steps_of : World → List (Option Line) → List Step
 steps_of w [] = []
 steps_of w (line ∷ lines) = step_of w line ∷ steps_of (answer w line).world lines

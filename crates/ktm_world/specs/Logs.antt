@@ -11,6 +11,7 @@ pub data Power : Type 0 where
   up : Power
   down : List (List Group) → Power
 
+-- is the machine up
 abbrev pub is_up : Power → Bool
 is_up up = true
 is_up (down may) = false

@@ -23,6 +23,7 @@ pub record Opening : Type 0 where
   pub transaction : Id
   pub file : ℕ
 
+-- what a command does
 pub record Outcome : Type 0 where
   pub reply : Reply
   -- recorded together, before the command is answered
@@ -66,6 +67,7 @@ only_reply x reply = record {
 
 -- ---- what an outcome makes of what is so now
 
+-- what is committed now
 abbrev pub committed_now : Present → Committed
 committed_now x = record { tree = x.files.tree; versions = x.files.versions; store = x.keys.store }
 
@@ -73,6 +75,7 @@ committed_now x = record { tree = x.files.tree; versions = x.files.versions; sto
 abbrev pub served : Option Id → List Sent → Manager → Manager
 served took sent m = record m { queue = drop (taken_count m.id took) m.queue ++ notes_for m.id sent }
 
+-- is the transaction one whose first opens end
 abbrev pub is_forgotten : List Id → Id → Bool
 is_forgotten ids id = list_any (λ other. same_id id other) ids
 
@@ -80,12 +83,15 @@ is_forgotten ids id = list_any (λ other. same_id id other) ids
 abbrev pub first_open : Committed → Opening → FirstOpen
 first_open c o = record { transaction = o.transaction; file = o.file; version = version_of c.versions o.file; bytes = bytes_of c.tree o.file }
 
+-- the first opens after an outcome: with those that it makes, and without those of transactions that it ends
 abbrev pub first_opens_after : Present → Outcome → List FirstOpen
 first_opens_after x o = filter (λ f. not (is_forgotten o.forgotten f.transaction)) (x.files.first_opens ++ map (first_open (committed_now x)) o.openings)
 
+-- the files now, put together
 abbrev pub files_with : Committed → List FirstOpen → FileTable → FilesNow
 files_with c first_opens table = record { tree = c.tree; versions = c.versions; first_opens = first_opens; table = table }
 
+-- what is so after an outcome
 abbrev pub apply : Present → Outcome → Present
 apply x o = record {
   machine = record x.machine {
@@ -118,6 +124,7 @@ joined a b = record {
   stops = a.stops || b.stops;
 }
 
+-- one outcome, and then what a second command does on what is so then; the first one answers
 abbrev pub and_then : Present → Outcome → (Present → Outcome) → Outcome
 and_then x o next = joined o (next (apply x o))
 

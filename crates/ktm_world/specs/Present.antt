@@ -6,6 +6,7 @@ use Rattle.ktm_world.specs.Keys.{KeysNow}
 use Rattle.ktm_world.specs.Enlistments.{Enlistment, Manager}
 use Rattle.ktm_world.specs.Files.{FilesNow}
 
+-- the machine: its image, its boot and the room of its log
 pub record Machine : Type 0 where
   -- how many units the image has, which bound what is kept
   pub units : ℕ
@@ -19,6 +20,7 @@ pub record Machine : Type 0 where
   -- how many bytes are left in the log
   pub left : ℕ
 
+-- the transactions and their enlistments, the clock, and the numbers of objects
 pub record Transactions : Type 0 where
   -- milliseconds since the boot
   pub clock : ℕ
@@ -31,6 +33,7 @@ pub record Transactions : Type 0 where
   -- their enlistments, in order of creation; those that the restart brought back by rising Id
   pub enlistments : List Enlistment
 
+-- what is so now, of all layers
 pub record Present : Type 0 where
   pub machine : Machine
   pub transactions : Transactions

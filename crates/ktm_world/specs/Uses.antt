@@ -19,6 +19,7 @@ units_of bytes = (length bytes + 4095) / 4096
 abbrev pub own_units : FilesNow → OwnChanges → ℕ
 own_units files o = sum_by (λ file. units_of (bytes_seen files (Some o.transaction) file)) (written_files o.changes)
 
+-- are they the same version of the same file
 abbrev pub same_version : FirstOpen → FirstOpen → Bool
 same_version a b = a.file == b.file && a.version == b.version
 
@@ -47,9 +48,11 @@ nodes_used files = 1 + length files.tree + sum_by (λ o. nodes_made o.changes) f
 unfoldable pub changes_waiting : Present → ℕ
 changes_waiting x = sum_by (λ o. count_by (λ change. not (changes_bytes change)) o.changes) x.files.table.own + keys_unset x.keys
 
+-- the most live transactions, the most live enlistments, and the most resource managers
 abbrev pub most_live : ℕ
 most_live = 64
 
+-- the most handles of all processes
 abbrev pub most_handles : ℕ
 most_handles = 4096
 

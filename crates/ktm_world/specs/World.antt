@@ -41,6 +41,7 @@ pub record OpenedAfter : Type 0 where
   pub file : ℕ
   pub works : ℕ
 
+-- the machine with its whole history: its log since the run began, and its works since the restart
 pub record World : Type 0 where
   -- the durable state of the image that the run began with, and how many bytes were left in its log
   pub base : Durable
@@ -52,31 +53,38 @@ pub record World : Type 0 where
   -- what was committed at the last restart, and what was committed since
   pub start : Committed
   pub works : List Work
-  -- this boot
+  -- this boot's number
   pub boot : ℕ
+  -- what has a past: the resource managers, and the first opens of files
   pub managers : List ManagerPast
   pub first_opens : List OpenedAfter
+  -- what has none: the transactions, what they changed and set, the open files and the handles
   pub transactions : Transactions
   pub table : FileTable
   pub own : List Own
   pub handles : List Handle
+  -- whether the machine is up, and else which logs may be on its disk
   pub power : Power
 
 -- what was committed once so many works were
 abbrev pub at_work : World → ℕ → Committed
 at_work w n = committed_with w.start (take n w.works)
 
+-- what is committed now
 abbrev pub committed : World → Committed
 committed w = committed_with w.start w.works
 
 -- ---- what is so now
 
+-- a resource manager as it is now, without what it has taken
 abbrev pub manager_now : ManagerPast → Manager
 manager_now m = record { id = m.id; is_durable = m.is_durable; queue = m.queue }
 
+-- a first open as it is now, with the version that it fixed
 abbrev pub first_open_now : World → OpenedAfter → FirstOpen
 first_open_now w o = first_open (at_work w o.works) (record { transaction = o.transaction; file = o.file })
 
+-- what is so now, which is computed from the history
 abbrev pub present : World → Present
 present w = record {
   machine = record {
@@ -103,12 +111,15 @@ served_past took sent m = record m {
   queue = drop (taken_count m.id took) m.queue ++ notes_for m.id sent;
 }
 
+-- a resource manager that was just made
 abbrev pub made_past : Manager → ManagerPast
 made_past m = record { id = m.id; is_durable = m.is_durable; taken = []; queue = m.queue }
 
+-- a first open, after the works so far
 abbrev pub opened_after : World → Opening → OpenedAfter
 opened_after w o = record { transaction = o.transaction; file = o.file; works = length w.works }
 
+-- the logs that may be found on the disk
 abbrev pub possible_logs : World → List (List Group)
 possible_logs w = possible_by w.power w.kept w.log
 
@@ -117,6 +128,7 @@ abbrev pub power_after : Bool → World → Power
 power_after false w = w.power
 power_after true w = down (possible_logs w)
 
+-- the world after an outcome, which goes into the history
 abbrev pub extend : World → Outcome → World
 extend w o = record w {
   log = w.log ++ as_groups o.events;
@@ -131,6 +143,7 @@ extend w o = record w {
   power = power_after o.stops w;
 }
 
+-- the world after a command
 abbrev pub after : World → Pid → Command → World
 after w process command = extend w (decide (present w) process command)
 
@@ -150,6 +163,7 @@ crashed w = record w { power = down (possible_logs w) }
 
 -- ---- restarts
 
+-- the event that this participant is done, where it is to be recorded
 abbrev pub done_if : Bool → Id → DonePart → List Event
 done_if true id done = Done id done ∷ []
 done_if false id done = []
@@ -196,6 +210,7 @@ enlistment_back id p = elim p.part as (λ _. List Enlistment) [
   | _ ↦ []
 ]
 
+-- a superior, as it is brought back: not recovered
 abbrev pub superior_back : Id → Option Superior → List Enlistment
 superior_back id None = []
 superior_back id (Some s) =
@@ -222,10 +237,12 @@ abbrev pub with_enlistment : List Enlistment → Enlistment → List Enlistment
 with_enlistment [] e = e ∷ []
 with_enlistment (a ∷ es) e = if is_before e.id a.id then e ∷ a ∷ es else a ∷ with_enlistment es e
 
+-- enlistments by rising Id
 abbrev pub by_rising_id : List Enlistment → List Enlistment
 by_rising_id [] = []
 by_rising_id (e ∷ es) = with_enlistment (by_rising_id es) e
 
+-- is the part an enlistment's
 abbrev pub is_enlistment_part : RecordedPart → Bool
 is_enlistment_part p = elim p.part as (λ _. Bool) [ Part.Enlistment enlistment manager information ↦ true | _ ↦ false ]
 
@@ -244,15 +261,19 @@ transaction_back t = record {
   is_recorded = true;
 }
 
+-- the transactions that are brought back
 abbrev pub back : Durable → List Recorded
 back s = filter is_brought_back s.transactions
 
+-- the transactions that wait for their superior
 abbrev pub in_doubt : Durable → List Recorded
 in_doubt s = filter (λ t. is_held t.stage) s.transactions
 
+-- has the transaction changed anything
 abbrev pub has_own_changes : OwnChanges → Bool
 has_own_changes o = not (length o.changes == 0)
 
+-- has the transaction set anything
 abbrev pub has_own_settings : Own → Bool
 has_own_settings o = not (length o.settings == 0)
 
