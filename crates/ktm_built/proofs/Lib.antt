@@ -4,6 +4,7 @@ mod Forms
 mod Decided
 mod Machine
 mod Logs
+mod States
 mod Own
 mod Limits
 mod Outcomes

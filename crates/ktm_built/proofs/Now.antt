@@ -24,7 +24,7 @@ use Rattle.ktm_world.specs.declared.reply.Reply.TheVariants.{Refused, Done}
 use Rattle.ktm_world.specs.Built.{is_built_command, is_built_event}
 use Rattle.ktm_world.specs.Committed.{Work}
 use Rattle.ktm_world.specs.Decide.{decide, caller, of_keys, command_tests, command_effect, refusal_of, with_room}
-use Rattle.ktm_world.specs.Durable.{Durable, events_apply, event_applies, is_within_limits}
+use Rattle.ktm_world.specs.Durable.{Durable, events_apply, event_applies}
 use Rattle.ktm_world.specs.Handles.{no_handle_left}
 use Rattle.ktm_world.specs.KeyCalls.{keys_with, kv_set, kv_unset, kv_get, kv_list, kv_set_tests, kv_unset_tests}
 use Rattle.ktm_world.specs.Keys.{OwnSettings, own_settings, without_own, with_own, stored_all, is_bad_key, is_bad_value, is_good_setting, keys_used, changes_pending, is_held_by_other, are_good_settings}
@@ -49,6 +49,7 @@ use Rattle.ktm_built.proofs.Decided.{full_log}
 use Rattle.ktm_built.proofs.Machine.{with_machine, built_machine, apply-full}
 use Rattle.ktm_built.proofs.Forms.{forms_law, named_law, commit_is, apply-only_reply}
 use Rattle.ktm_built.proofs.Limits.{IsWithin, within_limits, limits_hold, room_for_keys, room_for_changes}
+use Rattle.ktm_built.proofs.States.{state_law}
 use Rattle.ktm_built.proofs.Own.{IsSoundSetting, All-with_own, All-without_own, own_settings_sound, short_settings, once-with_own, once-without_own, apart-with_own, apart-without_own}
 
 -- ---- what is kept, in the parts that may change
@@ -360,14 +361,10 @@ records-none : (x : Present) → Records x [] []
 records-none x = record { applies = λ few. refl; short = All-nil _; unchanged = tt }
 
 -- good settings of a transaction of this boot apply where there is room for them
-single_applies : (s : Durable) (id : Id) (settings : OwnSettings) → id.boot ≡ s.boots → are_good_settings settings ≡ true → 1 ≤ s.units → length (stored_all s.keys settings) ≤ s.units
-    → s.events + 1 < 2 ^ 63 → event_applies (alone_state s) (Single id (Settings settings)) ≡ true
-unfolding is_within_limits
-single_applies s id settings of_boot good some room few =
-    let fact = and_from _ _ (and_from _ _ (and_from _ _ (eq-eqb _ _ of_boot) refl) refl) (and_from _ _ good refl) in
-    let limits = and_from _ _ (and_from _ _ (and_from _ _ (and_from _ _ (and_from _ _ (and_from _ _
-        (le-leb 0 s.units (omega arith)) (le-leb 1 s.units some)) (le-leb (length (stored_all s.keys settings) + 0) s.units (omega (arith, room)))) (le-leb 0 s.units (omega arith))) refl) refl) refl in
-    and_from _ _ (and_from _ _ fact limits) (lt-ltb _ _ few)
+single_applies : (s : Durable) (id : Id) (settings : OwnSettings) → IsBuiltState s → id.boot ≡ s.boots → are_good_settings settings ≡ true → 1 ≤ s.units → length (stored_all s.keys settings) ≤ s.units
+    → s.events + 1 < 2 ^ 63 → event_applies s (Single id (Settings settings)) ≡ true
+single_applies s id settings state of_boot good some room few =
+    state_law.1 s id settings state ∙ and_from _ _ (and_from _ _ (and_from _ _ (eq-eqb _ _ of_boot) good) (and_from _ _ (le-leb _ _ some) (le-leb _ _ room))) (lt-ltb _ _ few)
 
 records-commit : (x : Present) (id : Id) (settings : OwnSettings) → IsBuiltState x.recorded → 1 ≤ x.recorded.boots → 1 ≤ x.recorded.units → 1 ≤ id.number
     → IsSoundOwn x.recorded.boots (record { transaction = id; settings = settings }) → length settings ≤ x.recorded.units + x.recorded.units
@@ -377,7 +374,7 @@ records-commit x id (s ∷ ss) state boots units number sound few room = record 
   applies = λ least.
       let some : not (length (s ∷ ss) == 0) ≡ true = ap not (ne_eqb (length (s ∷ ss)) 0 (λ e. omega arith)) in
       let good = and_from _ _ (and_from _ _ some sound.rising) sound.good in
-      and_from _ _ (subst (λ (t : Durable). event_applies t (Single id (Settings (s ∷ ss))) ≡ true) (sym state) (single_applies x.recorded id (s ∷ ss) sound.boot_is good units room least)) refl;
+      and_from _ _ (single_applies x.recorded id (s ∷ ss) state sound.boot_is good units room least) refl;
   short = All-cons (IsShortEvent x.recorded.units) (Single id (Settings (s ∷ ss))) []
       (record { boot_from = omega (arith, boots, sound.boot_is); number_from = number; few = few; short = short_settings x.recorded.boots _ sound }) (All-nil _);
   unchanged = (refl, tt);

@@ -1,6 +1,6 @@
 -- What the machine keeps of a world: after a built command, where a restart opens it, and after a loss of power.
 use Rattle.std.specs.Prelude.{Contains}
-use Rattle.std.proofs.Common.{◌≡◌, ℕ, ◌+◌, ◌-◌, ◌^◌, ◌<◌, ◌≤◌, ◌&&◌, not, cond, Bool, true, false, List, [], ◌∷◌, ◌++◌, length, map, filter, nat_lt, Option, Some, None, refl, sym, ◌∙◌, ap, subst, arith, inl, inr, length-append}
+use Rattle.std.proofs.Common.{◌≡◌, ℕ, ◌+◌, ◌-◌, ◌^◌, ◌<◌, ◌≤◌, ◌&&◌, not, cond, Bool, true, false, List, [], ◌∷◌, ◌++◌, length, map, filter, nat_lt, nat_le, Option, Some, None, refl, sym, ◌∙◌, ap, subst, arith, inl, inr, length-append}
 use Rattle.std.proofs.Math.Bool.{and_assoc}
 use Rattle.std.proofs.lemmas.Bool.{cases_Bool, and_from, and_parts, ltb-true, leb-true, not-true, not_from_false}
 use Rattle.std.proofs.lemmas.List.{append-nil}
@@ -39,6 +39,7 @@ use Rattle.ktm_built.proofs.Limits.{IsWithin, within_limits, limits_hold}
 use Rattle.ktm_built.proofs.Logs.{stand-append, stand-as_groups, log_applies-append, log_applies-as_groups, stand_built, own_group_is, contains_passes, prefixes_built, groups_built, log_with_own, logs_with_own}
 use Rattle.ktm_built.proofs.Machine.{with_machine, built_machine}
 use Rattle.ktm_built.proofs.Now.{IsPlain, Records, plain_of, standing_of, sound_machine, within_machine, machine_plain, decided_plain, records-decided, now_law}
+use Rattle.ktm_built.proofs.States.{state_law}
 use Rattle.ktm_built.proofs.Outcomes.{IsBuiltOutcome, decided_built}
 
 -- ---- a built world has no first opens, and no open files
@@ -188,21 +189,13 @@ record BootFits (s : Durable) : Type 0 where
   keys : length s.keys ≤ s.units
   events : s.events + 1 < 2 ^ 63
 
-fits_alone : (s : Durable) → event_applies (alone_state s) (Boot (s.boots + 1)) ≡ true → BootFits s
-unfolding is_within_limits
-fits_alone s applies =
-    let parts = and_parts _ (nat_lt (s.events + 1) (2 ^ 63)) applies in
-    let limits = (and_parts _ (is_within_limits (fact_of (alone_state s) (Boot (s.boots + 1)))) parts.0).1 in
-    let first = and_parts _ _ (and_parts _ _ (and_parts _ _ (and_parts _ _ (and_parts _ _ limits).0).0).0).0 in
-    let keys = leb-true (length s.keys + 0) s.units first.1 in
-    let nodes = leb-true 1 s.units (and_parts _ _ first.0).1 in
-    record { units = nodes; keys = omega (arith, keys); events = ltb-true _ _ parts.1 }
-
 boot_fits : (s : Durable) → IsBuiltState s → events_apply s (own_group s) ≡ true → BootFits s
 boot_fits s state applies =
     let one : (event_applies s (Boot (s.boots + 1)) && true) ≡ true = ap (λ (group : Group). events_apply s group) (sym (own_group_is s state)) ∙ applies in
     let boot = (and_parts (event_applies s (Boot (s.boots + 1))) true one).0 in
-    fits_alone s (subst (λ (t : Durable). event_applies t (Boot (s.boots + 1)) ≡ true) state boot)
+    let parts = and_parts _ (nat_lt (s.events + 1) (2 ^ 63)) (sym (state_law.0 s (s.boots + 1) state) ∙ boot) in
+    let room = and_parts (nat_le 1 s.units) (nat_le (length s.keys) s.units) (and_parts _ _ parts.0).1 in
+    record { units = leb-true _ _ room.0; keys = leb-true _ _ room.1; events = ltb-true _ _ parts.1 }
 
 well_formed_none : IsWellFormed []
 well_formed_none = record { parents = All-nil _; reach = All-nil _; names = All-nil _; one_each = All-nil _; numbers = All-nil _; rise = refl }

@@ -1,20 +1,23 @@
 -- Laws of worlds that have only what built forms make.
-use Rattle.std.specs.Prelude.{◌≡◌, ℕ, ◌+◌, ◌^◌, ◌<◌, true, false, List, [], length, All, Contains, Option, Some, None}
+use Rattle.std.specs.Prelude.{◌≡◌, ℕ, ◌+◌, ◌-◌, ◌^◌, ◌==◌, ◌<◌, ◌&&◌, nat_lt, nat_le, true, false, List, [], length, All, Contains, Option, Some, None}
 use Rattle.std.specs.List.{list_all}
+use Rattle.ktm_base.specs.declared.id.Id.{Id}
 use Rattle.ktm_base.specs.declared.id.Label.{Label}
 use Rattle.ktm_base.specs.declared.id.Pid.{Pid}
 use Rattle.ktm_base.specs.declared.refusal.Refusal.{Refusal}
 use Rattle.ktm_base.specs.declared.refusal.Refusal.TheVariants.{MachineDown}
 use Rattle.ktm_world.specs.declared.command.Command.{Command}
 use Rattle.ktm_world.specs.declared.command.Line.{Line}
+use Rattle.ktm_world.specs.declared.event.Event.TheVariants.{Boot, Single}
+use Rattle.ktm_world.specs.declared.event.Part.TheVariants.{Settings}
 use Rattle.ktm_world.specs.declared.object.Transaction.{Transaction}
 use Rattle.ktm_world.specs.declared.reply.Reply.{Reply}
 use Rattle.ktm_world.specs.declared.reply.Reply.TheVariants.{Refused}
 use Rattle.ktm_world.specs.Built.{is_built_command, is_built_event, is_built_log, is_built_line}
 use Rattle.ktm_world.specs.Decide.{decide, with_room, command_effect, refusal_of, of_keys}
-use Rattle.ktm_world.specs.Durable.{Durable, stand, events_apply, log_applies}
+use Rattle.ktm_world.specs.Durable.{Durable, stand, after_event, event_applies, events_apply, log_applies}
 use Rattle.ktm_world.specs.KeyCalls.{keys_with, kv_set, kv_unset}
-use Rattle.ktm_world.specs.Keys.{own_settings}
+use Rattle.ktm_world.specs.Keys.{OwnSettings, own_settings, stored_all, are_good_settings}
 use Rattle.ktm_world.specs.Labels.{transaction_named}
 use Rattle.ktm_world.specs.Logs.{Group, is_up}
 use Rattle.ktm_world.specs.OneOutcome.{HasOneOutcome, tellings}
@@ -28,6 +31,22 @@ use Rattle.ktm_world.specs.World.{World, present, after, crashed, interrupted_by
 use Rattle.ktm_built.specs.Forms.{with_transaction, commit_outcome, with_commit}
 use Rattle.ktm_built.specs.Spelling.{IsShortEvent, IsShortWork}
 use Rattle.ktm_built.specs.Standing.{IsBuiltState, IsBuiltNow, IsBuiltWorld, IsSoundNow, IsStandingNow, IsStanding}
+
+-- ---- what a built state takes
+
+-- a built state takes the boot that is the next one, and good settings of a transaction of the present boot, where there is a unit, and
+-- there are no more keys than units and fewer than 2^63 events then; a boot changes the boots, and settings the keys; and a log of built
+-- events leaves a built state
+abbrev pub StateLaw : Type 0
+StateLaw = ((s : Durable) (boot : ℕ) → IsBuiltState s
+        → event_applies s (Boot boot) ≡ ((boot == s.boots + 1 && nat_lt boot (2 ^ 32 - 1)) && (nat_le 1 s.units && nat_le (length s.keys) s.units) && nat_lt (s.events + 1) (2 ^ 63)))
+    × ((s : Durable) (transaction : Id) (settings : OwnSettings) → IsBuiltState s
+        → event_applies s (Single transaction (Settings settings))
+        ≡ ((transaction.boot == s.boots && are_good_settings settings) && (nat_le 1 s.units && nat_le (length (stored_all s.keys settings)) s.units) && nat_lt (s.events + 1) (2 ^ 63)))
+    × ((s : Durable) (boot : ℕ) → IsBuiltState s → after_event s (Boot boot) ≡ record s { events = s.events + 1; boots = boot })
+    × ((s : Durable) (transaction : Id) (settings : OwnSettings) → IsBuiltState s
+        → after_event s (Single transaction (Settings settings)) ≡ record s { events = s.events + 1; keys = stored_all s.keys settings })
+    × ((base : Durable) (log : List Group) → IsBuiltState base → is_built_log log ≡ true → IsBuiltState (stand base log))
 
 -- ---- what the commands come to
 
