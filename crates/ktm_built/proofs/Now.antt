@@ -44,7 +44,7 @@ use Rattle.ktm_built.specs.Laws.{EventsLaw, NowLaw}
 use Rattle.ktm_built.specs.Spelling.{IsShortEvent, IsShortWork}
 use Rattle.ktm_built.specs.Standing.{IsBuiltState, IsBuiltNow, IsOnCourse, IsSoundTransaction, IsSoundOwn, IsSoundNow, IsStandingNow}
 use Rattle.ktm_built.proofs.Alone.{alone, alone_state, by_alone}
-use Rattle.ktm_built.proofs.Outcomes.{decided_built}
+use Rattle.ktm_built.proofs.Outcomes.{decided_built, with_transaction_built, with_commit_built, with_keys_built}
 use Rattle.ktm_built.proofs.Decided.{full_log}
 use Rattle.ktm_built.proofs.Machine.{with_machine, built_machine, apply-full}
 use Rattle.ktm_built.proofs.Forms.{forms_law, named_law, commit_is, apply-only_reply}
@@ -161,14 +161,7 @@ create_plain x process label timeout plain e =
     let fewer = ltb-false _ _ of_transactions.0 in
     let handles = ltb-false _ _ quotas.0 in
     record {
-      built = record {
-        managers = plain.built.managers;
-        enlistments = plain.built.enlistments;
-        last_manager = plain.built.last_manager;
-        last_enlistment = plain.built.last_enlistment;
-        files = plain.built.files;
-        recorded = plain.built.recorded;
-      };
+      built = with_transaction_built x process label timeout plain.built;
       sound = record {
         boots_from = plain.sound.boots_from;
         units_from = plain.sound.units_from;
@@ -229,14 +222,7 @@ commit_plain x t plain =
     let pending = counted-without_own (λ s. is_none s.value) t.id x.keys.own in
     let live = live-ended-le x.transactions.items t.id in
     record {
-      built = record {
-        managers = plain.built.managers;
-        enlistments = plain.built.enlistments;
-        last_manager = plain.built.last_manager;
-        last_enlistment = plain.built.last_enlistment;
-        files = plain.built.files;
-        recorded = ap (λ (s : Durable). record s { events = x.recorded.events + length (commit_events t.id settings); keys = stored_all x.recorded.keys settings }) plain.built.recorded;
-      };
+      built = with_commit_built x t plain.built;
       sound = record {
         boots_from = plain.sound.boots_from;
         units_from = plain.sound.units_from;
@@ -262,14 +248,7 @@ keys_plain : (x : Present) (t : Transaction) (key : List ℕ) (value : Option (L
     → is_held_by_other x.keys.own t.id key ≡ false → keys_used (keys_with x.keys (Some t.id) key value) ≤ x.recorded.units → changes_pending (keys_with x.keys (Some t.id) key value) ≤ x.recorded.units
     → IsPlain x → IsPlain (record x { keys = keys_with x.keys (Some t.id) key value })
 keys_plain x t key value setting of_boot free used pending plain = record {
-  built = record {
-    managers = plain.built.managers;
-    enlistments = plain.built.enlistments;
-    last_manager = plain.built.last_manager;
-    last_enlistment = plain.built.last_enlistment;
-    files = plain.built.files;
-    recorded = plain.built.recorded;
-  };
+  built = with_keys_built x (keys_with x.keys (Some t.id) key value) plain.built;
   sound = record {
     boots_from = plain.sound.boots_from;
     units_from = plain.sound.units_from;

@@ -44,6 +44,10 @@ use Rattle.ktm_built.proofs.Outcomes.{IsBuiltOutcome, decided_built}
 
 -- ---- a built world has no first opens, and no open files
 
+-- an empty list has no place
+no_place : {X : Type 0} (xs : List X) (k : ℕ) → xs ≡ [] → k < length xs → ⊥
+no_place xs k none within = let empty = ap length none in omega arith
+
 map-none : {A B : Type 0} (f : A → B) (xs : List A) → map f xs ≡ [] → xs ≡ []
 map-none f [] none = refl
 map-none f (x ∷ xs) none = cc
@@ -55,7 +59,7 @@ no_table : (w : World) → IsBuiltNow (present w) → w.table ≡ no_files.table
 no_table w built = ap (λ f. f.table) built.files
 
 lie_within : (w : World) → IsBuiltNow (present w) → FirstOpensLieWithin w
-lie_within w built = record { works = subst (λ (opens : List OpenedAfter). All (λ (o : OpenedAfter). o.works ≤ length w.works) opens) (sym (no_first_opens w built)) (All-nil _) }
+lie_within w built = record { works = λ k d within. absurd (no_place w.first_opens k (no_first_opens w built) within) }
 
 -- ---- no two transactions hold the same
 
@@ -80,10 +84,10 @@ lawful_of : (w : World) → IsBuiltNow (present w) → IsSoundNow (present w) �
     → (is_up w.power ≡ true → StandsForLog w) → IsLawful w
 lawful_of w built sound within works stands = record {
   works = works;
-  own = subst (λ (table : FileTable). All (λ o. apply_all (committed w).tree o.changes ≡ true) table.own) (sym (no_table w built)) (All-nil _);
+  own = λ k d within. absurd (no_place w.table.own k (ap (λ table. table.own) (no_table w built)) within);
   apart = apart_of (present w) built sound;
-  fixed = subst (λ (opens : List OpenedAfter). All (λ o. is_fixed_last w o ≡ true) opens) (sym (no_first_opens w built)) (All-nil _);
-  writers = subst (λ (table : FileTable). All (λ o. is_alone (present w) o ≡ true) table.opens) (sym (no_table w built)) (All-nil _);
+  fixed = λ k d within. absurd (no_place w.first_opens k (no_first_opens w built) within);
+  writers = λ k d within. absurd (no_place w.table.opens k (ap (λ table. table.opens) (no_table w built)) within);
   limits = limits_hold (present w) built sound.units_from within;
   stands = stands;
 }
