@@ -26,14 +26,16 @@ use Rattle.ktm_world.specs.Lawful.{IsLawful, StandsForLog, all_apart, hold_apart
 use Rattle.ktm_world.specs.Logs.{Group, Power, up, down, is_up, as_groups, kept_after, possible_by, prefixes_from}
 use Rattle.ktm_world.specs.Outcome.{Outcome, apply, first_refusal}
 use Rattle.ktm_world.specs.Present.{Present}
+use Rattle.ktm_world.specs.Sizes.{frame_size, log_size}
 use Rattle.ktm_world.specs.Tree.{Tree, IsWellFormed}
 use Rattle.ktm_world.specs.Uses.{is_over_quota, is_over_disk}
 use Rattle.ktm_world.specs.World.{World, OpenedAfter, committed, present, extend, after, power_after, possible_logs, crashed, interrupted_by, interrupted_restart, found_full, opened, own_group, first_open_now}
 use Rattle.ktm_world.specs.Values.{IsCommand}
+use Rattle.ktm_world.proofs.SizeLemmas.{log_size-append}
 use Rattle.ktm_world.proofs.Worlds.{present-extend, refusal_law}
-use Rattle.ktm_built.specs.Laws.{LawfulLaw, OpenedLaw, FallenLaw}
-use Rattle.ktm_built.specs.Standing.{IsBuiltState, IsBuiltNow, IsBuiltWorld, IsSoundNow, IsStandingNow, IsStanding, AreSetApart, no_files}
-use Rattle.ktm_built.proofs.Alone.{alone, alone_state, by_alone}
+use Rattle.ktm_built.specs.Laws.{LawfulLaw, OpenedLaw, FreshLaw, FallenLaw}
+use Rattle.ktm_built.specs.Standing.{IsBuiltState, IsBuiltNow, IsBuiltWorld, IsSoundNow, IsStandingNow, IsStanding, AreSetApart, fresh, no_files}
+use Rattle.ktm_built.proofs.Alone.{alone, by_alone, by_alone_state}
 use Rattle.ktm_built.proofs.Ids.{same_id-turned}
 use Rattle.ktm_built.proofs.Limits.{IsWithin, within_limits, limits_hold}
 use Rattle.ktm_built.proofs.Logs.{stand-append, stand-as_groups, log_applies-append, log_applies-as_groups, stand_built, own_group_is, contains_passes, prefixes_built, groups_built, log_with_own, logs_with_own}
@@ -175,18 +177,6 @@ lawful_law w process command is built few standing = elim (cases_Bool (is_up w.p
 
 -- ---- where a restart opens it
 
--- what is so where a built state is opened
-opened_alone : (s : Durable) (room : ℕ) → IsBuiltNow (present (opened (alone_state s) room []))
-opened_alone s room = record { managers = refl; enlistments = refl; last_manager = refl; last_enlistment = refl; files = refl; recorded = refl }
-
-opened_plain : (s : Durable) (room : ℕ) → 1 ≤ s.units → length s.keys ≤ s.units → IsPlain (present (opened (alone_state s) room []))
-opened_plain s room some few = record {
-  built = opened_alone s room;
-  sound = record { boots_from = omega arith; units_from = some; transactions = All-nil _; own = All-nil _; once = tt; apart = λ a b other. refl };
-  within = record { keys = omega (arith, few); changes = omega arith; live = omega arith; handles = omega arith; last = omega arith };
-  keys = refl;
-}
-
 -- where the boot applies there is a unit, no more keys than units, and room for one event more
 record BootFits (s : Durable) : Type 0 where
   units : 1 ≤ s.units
@@ -204,20 +194,52 @@ boot_fits s state applies =
 well_formed_none : IsWellFormed []
 well_formed_none = record { parents = All-nil _; reach = All-nil _; names = All-nil _; one_each = All-nil _; numbers = All-nil _; rise = refl }
 
+fresh_built : (s : Durable) (left : ℕ) → IsBuiltState s → IsBuiltNow (fresh s left)
+fresh_built s left state = record {
+  managers = refl;
+  enlistments = refl;
+  last_manager = refl;
+  last_enlistment = refl;
+  files = refl;
+  recorded = ap (λ (t : Durable). record t { events = s.events + 1; boots = s.boots + 1 }) state;
+}
+
+fresh_plain : (s : Durable) (left : ℕ) → IsBuiltState s → BootFits s → IsPlain (fresh s left)
+fresh_plain s left state fits = record {
+  built = fresh_built s left state;
+  sound = record { boots_from = omega arith; units_from = fits.units; transactions = All-nil _; own = All-nil _; once = tt; apart = λ a b other. refl };
+  within = record { keys = omega (arith, fits.keys); changes = omega arith; live = omega arith; handles = omega arith; last = omega arith };
+  keys = refl;
+}
+
+-- what is so in the world that is opened, but for the machine, is so where the state is
+opened_fresh : (s : Durable) (room left : ℕ) → IsBuiltState s → with_machine (present (opened s room [])) true left ≡ fresh s left
+opened_fresh s room left state = by_alone_state (λ (t : Durable). with_machine (present (opened t room [])) true left ≡ fresh t left) s state refl
+
+opened_is : (base : Durable) (room : ℕ) (log : List Group) → IsBuiltState base → is_built_log log ≡ true
+    → let s = stand base log in present (opened base room log) ≡ fresh s (room - log_size log - frame_size (own_group s))
+opened_is base room log state built =
+    let s = stand base log in
+    let size = log_size-append log (own_group s ∷ []) in
+    let left : room - log_size (log ++ own_group s ∷ []) ≡ room - log_size log - frame_size (own_group s) = omega arith in
+    opened_fresh s room (room - log_size (log ++ own_group s ∷ [])) (stand_built base log state built) ∙ ap (λ n. fresh s n) left
+
+pub fresh_law : FreshLaw
+fresh_law = (opened_is, λ s left state own. standing_of (fresh s left) (fresh_plain s left state (boot_fits s state own)))
+
 -- a restart opens a built world, without transactions
 pub opened_built : (base : Durable) (room : ℕ) (log : List Group) → IsBuiltState base → is_built_log log ≡ true → IsBuiltWorld (opened base room log) × ((opened base room log).transactions.items ≡ [])
 opened_built base room log state built =
     let s = stand base log in
-    let stood = stand_built base log state built in
     let whole = log_with_own base log state built in
-    let there : IsBuiltNow (present (opened s room [])) = subst (λ (t : Durable). IsBuiltNow (present (opened t room []))) (sym stood) (opened_alone s room) in (
+    let is = opened_is base room log state built in (
       record {
         base = state;
-        now = built_machine (present (opened s room [])) true (present (opened base room log)).machine.left there;
+        now = subst IsBuiltNow (sym is) (fresh_built s _ (stand_built base log state built));
         log = whole;
         logs = prefixes_built (length log + 1) (log ++ own_group s ∷ []) whole;
       },
-      ap (λ (t : Durable). (opened t room []).transactions.items) stood,
+      ap (λ x. x.transactions.items) is,
     )
 
 pub opened_law : OpenedLaw
@@ -225,11 +247,11 @@ opened_law base room log state built applies own =
     let s = stand base log in
     let stood = stand_built base log state built in
     let w = opened base room log in
+    let is = opened_is base room log state built in
     let fits = boot_fits s stood own in
-    let there : IsPlain (present (opened s room [])) = subst (λ (t : Durable). IsPlain (present (opened t room []))) (sym stood) (opened_plain s room fits.units fits.keys) in
-    let plain : IsPlain (present w) = machine_plain (present (opened s room [])) true (present w).machine.left there in
+    let plain : IsPlain (present w) = subst IsPlain (sym is) (fresh_plain s _ stood fits) in
     let form : IsWellFormed s.tree = subst IsWellFormed (sym (ap (λ t. t.tree) stood)) well_formed_none in
-    let count = ap (λ (group : Group). (after_events s group).events) (own_group_is s stood) in
+    let count = ap (λ x. x.recorded.events) is in
     record {
       lawful = lawful_of w plain.built plain.sound plain.within (form, refl) (λ on. record {
         applies = log_applies-append base log (own_group s ∷ []) ∙ and_from _ _ applies (and_from _ _ own refl);

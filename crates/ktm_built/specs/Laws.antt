@@ -23,6 +23,7 @@ use Rattle.ktm_world.specs.Logs.{Group, is_up}
 use Rattle.ktm_world.specs.OneOutcome.{HasOneOutcome, tellings}
 use Rattle.ktm_world.specs.Outcome.{apply, only_reply}
 use Rattle.ktm_world.specs.Present.{Present}
+use Rattle.ktm_world.specs.Sizes.{frame_size, log_size}
 use Rattle.ktm_world.specs.Transactions.{transaction_at}
 use Rattle.ktm_world.specs.TransactionCalls.{create_transaction, commit_transaction}
 use Rattle.ktm_world.specs.Transcript.{Step, Transcript}
@@ -30,7 +31,7 @@ use Rattle.ktm_world.specs.Values.{IsCommand}
 use Rattle.ktm_world.specs.World.{World, present, after, crashed, interrupted_by, interrupted_restart, found_full, opened, own_group, possible_logs}
 use Rattle.ktm_built.specs.Forms.{with_transaction, commit_outcome, with_commit}
 use Rattle.ktm_built.specs.Spelling.{IsShortEvent, IsShortWork}
-use Rattle.ktm_built.specs.Standing.{IsBuiltState, IsBuiltNow, IsBuiltWorld, IsSoundNow, IsStandingNow, IsStanding}
+use Rattle.ktm_built.specs.Standing.{IsBuiltState, IsBuiltNow, IsStandingNow, IsStanding, fresh}
 
 -- ---- what a built state takes
 
@@ -100,6 +101,12 @@ LawfulLaw = (w : World) (process : Pid) (command : Command) → IsCommand comman
 abbrev pub OpenedLaw : Type 0
 OpenedLaw = (base : Durable) (room : ℕ) (log : List Group) → IsBuiltState base → is_built_log log ≡ true → log_applies base log ≡ true
     → events_apply (stand base log) (own_group (stand base log)) ≡ true → IsStanding (opened base room log)
+
+-- what is so then is what a machine that starts from a built state has, which stands where the boot applies
+abbrev pub FreshLaw : Type 0
+FreshLaw = ((base : Durable) (room : ℕ) (log : List Group) → IsBuiltState base → is_built_log log ≡ true
+        → let s = stand base log in present (opened base room log) ≡ fresh s (room - log_size log - frame_size (own_group s)))
+    × ((s : Durable) (left : ℕ) → IsBuiltState s → events_apply s (own_group s) ≡ true → IsStandingNow (fresh s left))
 
 -- and a loss of power leaves one that stands: by itself, in a built command or in a restart; so does a restart that finds a full log
 abbrev pub FallenLaw : Type 0
