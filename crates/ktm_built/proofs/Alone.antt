@@ -1,5 +1,5 @@
 -- What is so now, with nothing but what built forms make written out.
-use Rattle.std.proofs.Common.{◌≡◌, ℕ, [], sym, subst}
+use Rattle.std.proofs.Common.{◌≡◌, [], sym, subst}
 use Rattle.ktm_world.specs.Durable.{Durable}
 use Rattle.ktm_world.specs.Present.{Present}
 use Rattle.ktm_built.specs.Standing.{IsBuiltState, IsBuiltNow, built_state, no_files}

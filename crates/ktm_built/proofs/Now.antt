@@ -1,16 +1,15 @@
 -- Each built command keeps what the machine keeps of what is so now, and what it records applies.
-use Rattle.std.proofs.Common.{◌≡◌, ℕ, ◌+◌, ◌-◌, ◌^◌, ◌<◌, ◌≤◌, ◌==◌, ◌&&◌, ◌||◌, not, Bool, true, false, cond, List, [], ◌∷◌, ◌++◌, length, map, filter, nat_lt, count_by, is_some, is_none, IfSome, Option, None, Some, option_and_then, refl, sym, ◌∙◌, ap, subst, arith, inl, inr, eq-eqb, ne_eqb, le-leb, lt-ltb, length-append}
-use Rattle.std.proofs.Math.Bool.{and-false}
-use Rattle.std.proofs.lemmas.Bool.{cases_Bool, and_from, and_parts, or_parts, ltb-false, not_from_false, not-true}
+use Rattle.std.proofs.Common.{◌≡◌, ℕ, ◌+◌, ◌^◌, ◌<◌, ◌≤◌, ◌==◌, not, Bool, true, false, cond, List, [], ◌∷◌, ◌++◌, length, map, filter, nat_lt, count_by, is_some, is_none, Option, None, Some, refl, sym, ◌∙◌, ap, subst, arith, inl, inr, eq-eqb, ne_eqb, le-leb, lt-ltb, length-append}
+use Rattle.std.proofs.lemmas.Bool.{cases_Bool, and_from, or_parts, ltb-false}
 use Rattle.std.proofs.lemmas.List.Elements.{All-from_recursion, recursion_from_All, All-nil, All-cons, All-push, All-weaker}
 use Rattle.std.proofs.lemmas.List.Sums.{sum_by-append}
-use Rattle.std.specs.List.{All, AllByRecursion, list_all, list_any, flat_map}
+use Rattle.std.specs.List.{All, AllByRecursion, flat_map}
 use Rattle.ktm_base.specs.Bytes.{AreBytes}
 use Rattle.ktm_base.specs.declared.id.Id.{Id}
 use Rattle.ktm_base.specs.declared.id.Label.{Label}
 use Rattle.ktm_base.specs.declared.id.Pid.{Pid}
 use Rattle.ktm_base.specs.declared.refusal.Refusal.{Refusal}
-use Rattle.ktm_base.specs.declared.refusal.Refusal.TheVariants.{MachineDown, LogFull}
+use Rattle.ktm_base.specs.declared.refusal.Refusal.TheVariants.{MachineDown}
 use Rattle.ktm_world.specs.declared.command.Command.{Command}
 use Rattle.ktm_world.specs.declared.command.Command.TheVariants.{CreateTransaction, CommitTransaction, KvSet, KvUnset, KvGet, KvList}
 use Rattle.ktm_world.specs.declared.event.Event.{Event}
@@ -21,16 +20,16 @@ use Rattle.ktm_world.specs.declared.object.Transaction.{Transaction}
 use Rattle.ktm_world.specs.declared.object.TransactionOutcome.{TransactionOutcome}
 use Rattle.ktm_world.specs.declared.reply.Reply.{Reply}
 use Rattle.ktm_world.specs.declared.reply.Reply.TheVariants.{Refused, Done}
-use Rattle.ktm_world.specs.Built.{is_built_command, is_built_event}
+use Rattle.ktm_world.specs.Built.{is_built_command}
 use Rattle.ktm_world.specs.Committed.{Work}
-use Rattle.ktm_world.specs.Decide.{decide, caller, of_keys, command_tests, command_effect, refusal_of, with_room}
+use Rattle.ktm_world.specs.Decide.{decide, of_keys, command_tests, command_effect, refusal_of, with_room}
 use Rattle.ktm_world.specs.Durable.{Durable, events_apply, event_applies}
 use Rattle.ktm_world.specs.Handles.{no_handle_left}
 use Rattle.ktm_world.specs.KeyCalls.{keys_with, kv_set, kv_unset, kv_get, kv_list, kv_set_tests, kv_unset_tests}
-use Rattle.ktm_world.specs.Keys.{OwnSettings, own_settings, without_own, with_own, stored_all, is_bad_key, is_bad_value, is_good_setting, keys_used, changes_pending, is_held_by_other, are_good_settings}
+use Rattle.ktm_world.specs.Keys.{OwnSettings, own_settings, stored_all, is_bad_key, is_bad_value, keys_used, changes_pending, is_held_by_other, are_good_settings}
 use Rattle.ktm_world.specs.Labels.{transaction_named, transaction_tests, id_of_named, viewer}
-use Rattle.ktm_world.specs.Lawful.{Agrees, Summary, durable_managers, summary_of, summaries_now, summary_in, stage_in}
-use Rattle.ktm_world.specs.Limits.{most_live, most_handles, most_number}
+use Rattle.ktm_world.specs.Lawful.{Agrees, summary_of, summary_in, stage_in}
+use Rattle.ktm_world.specs.Limits.{most_live, most_number}
 use Rattle.ktm_world.specs.Outcome.{Outcome, apply, only_reply, refuse_or, first_refusal, is_full}
 use Rattle.ktm_world.specs.Present.{Present}
 use Rattle.ktm_world.specs.Transactions.{same_id, transaction_at, change_at, is_live}
@@ -39,11 +38,10 @@ use Rattle.ktm_world.specs.Uses.{key_room}
 use Rattle.ktm_world.specs.Values.{IsCommand, IsText}
 use Rattle.ktm_world.proofs.KeyLemmas.{length-stored_all-le, counted-with_own-le, counted-without_own, length-own_settings-le}
 use Rattle.ktm_world.proofs.KeyedLemmas.{count_by-cons}
-use Rattle.ktm_built.specs.Forms.{with_transaction, with_commit, commit_outcome, commit_events, commit_works, ended_committed}
+use Rattle.ktm_built.specs.Forms.{with_transaction, with_commit, commit_events, commit_works, ended_committed}
 use Rattle.ktm_built.specs.Laws.{EventsLaw, NowLaw}
 use Rattle.ktm_built.specs.Spelling.{IsShortEvent, IsShortWork}
-use Rattle.ktm_built.specs.Standing.{IsBuiltState, IsBuiltNow, IsOnCourse, IsSoundTransaction, IsSoundOwn, IsSoundNow, IsStandingNow}
-use Rattle.ktm_built.proofs.Alone.{alone, alone_state, by_alone}
+use Rattle.ktm_built.specs.Standing.{IsBuiltState, IsBuiltNow, IsSoundTransaction, IsSoundOwn, IsSoundNow, IsStandingNow}
 use Rattle.ktm_built.proofs.Outcomes.{decided_built, with_transaction_built, with_commit_built, with_keys_built}
 use Rattle.ktm_built.proofs.Decided.{full_log}
 use Rattle.ktm_built.proofs.Machine.{with_machine, built_machine, apply-full}
@@ -202,7 +200,7 @@ sound-ended : (boot last : ℕ) (ts : List Transaction) (id : Id) → AllByRecur
 sound-ended boot last [] id all = tt
 sound-ended boot last (t ∷ ts) id all =
     let here : IsSoundTransaction boot last (ended_committed t) =
-        record { boot_is = all.0.boot_is; number_from = all.0.number_from; number_to = all.0.number_to; course = tt; unrecorded = all.0.unrecorded } in
+    record { boot_is = all.0.boot_is; number_from = all.0.number_from; number_to = all.0.number_to; course = tt; unrecorded = all.0.unrecorded } in
     let rest = sound-ended boot last ts id all.1 in
     elim (cases_Bool (same_id t.id id)) [ inl same ↦ rw same (here, all.1) | inr other ↦ rw other (all.0, rest) ]
 

@@ -7,7 +7,6 @@ use Rattle.ktm_world.specs.declared.event.Part.TheVariants.{Settings}
 use Rattle.ktm_world.specs.Durable.{Durable, event_applies, after_event, is_within_limits}
 use Rattle.ktm_world.specs.Keys.{OwnSettings, are_good_settings, stored_all}
 use Rattle.ktm_built.specs.Laws.{StateLaw}
-use Rattle.ktm_built.specs.Standing.{IsBuiltState}
 use Rattle.ktm_built.proofs.Alone.{alone_state, by_alone_state}
 use Rattle.ktm_built.proofs.Logs.{stand_built}
 

@@ -1,35 +1,32 @@
 -- What the machine keeps of a world: after a built command, where a restart opens it, and after a loss of power.
 use Rattle.std.specs.Prelude.{Contains}
-use Rattle.std.proofs.Common.{◌≡◌, ℕ, ◌+◌, ◌-◌, ◌^◌, ◌<◌, ◌≤◌, ◌&&◌, not, cond, Bool, true, false, List, [], ◌∷◌, ◌++◌, length, map, filter, nat_lt, nat_le, Option, Some, None, refl, sym, ◌∙◌, ap, subst, arith, inl, inr, length-append}
+use Rattle.std.proofs.Common.{◌≡◌, ℕ, ◌+◌, ◌-◌, ◌^◌, ◌<◌, ◌≤◌, ◌&&◌, not, cond, Bool, true, false, List, [], ◌∷◌, ◌++◌, length, map, filter, nat_lt, nat_le, Some, None, refl, sym, ◌∙◌, ap, subst, arith, inl, inr, length-append}
 use Rattle.std.proofs.Math.Bool.{and_assoc}
 use Rattle.std.proofs.lemmas.Bool.{cases_Bool, and_from, and_parts, ltb-true, leb-true, not-true, not_from_false}
 use Rattle.std.proofs.lemmas.List.{append-nil}
 use Rattle.std.proofs.lemmas.List.Elements.{All-nil}
 use Rattle.std.proofs.lemmas.List.Folds.{list_all-append}
-use Rattle.std.specs.List.{All, AllByRecursion, list_all}
+use Rattle.std.specs.List.{AllByRecursion, list_all}
 use Rattle.ktm_base.specs.declared.id.Pid.{Pid}
-use Rattle.ktm_base.specs.declared.refusal.Refusal.{Refusal}
 use Rattle.ktm_base.specs.declared.refusal.Refusal.TheVariants.{MachineDown}
 use Rattle.ktm_world.specs.declared.command.Command.{Command}
 use Rattle.ktm_world.specs.declared.event.Event.{Event}
 use Rattle.ktm_world.specs.declared.event.Event.TheVariants.{Boot}
 use Rattle.ktm_world.specs.declared.object.Transaction.{Transaction}
-use Rattle.ktm_world.specs.Built.{is_built_command, is_built_event, is_built_log}
+use Rattle.ktm_world.specs.Built.{is_built_command, is_built_log}
 use Rattle.ktm_world.specs.Changes.{apply_all}
 use Rattle.ktm_world.specs.Committed.{Committed, Work, with_work, committed_with}
 use Rattle.ktm_world.specs.Conflicts.{is_undecided, is_of}
 use Rattle.ktm_world.specs.Decide.{decide, command_tests, refusal_of}
-use Rattle.ktm_world.specs.Durable.{Durable, stand, after_event, after_events, event_applies, fact_applies, fact_of, events_apply, log_applies, is_within_limits}
-use Rattle.ktm_world.specs.Files.{FileTable}
+use Rattle.ktm_world.specs.Durable.{Durable, stand, after_event, after_events, event_applies, events_apply}
 use Rattle.ktm_world.specs.Laws.{FirstOpensLieWithin}
-use Rattle.ktm_world.specs.Lawful.{IsLawful, StandsForLog, all_apart, hold_apart, is_alone, is_fixed_last, undecided, works_apply}
+use Rattle.ktm_world.specs.Lawful.{IsLawful, StandsForLog, all_apart, hold_apart, works_apply}
 use Rattle.ktm_world.specs.Logs.{Group, Power, up, down, is_up, as_groups, kept_after, possible_by, prefixes_from}
-use Rattle.ktm_world.specs.Outcome.{Outcome, apply, first_refusal}
+use Rattle.ktm_world.specs.Outcome.{Outcome, first_refusal}
 use Rattle.ktm_world.specs.Present.{Present}
 use Rattle.ktm_world.specs.Sizes.{frame_size, log_size}
-use Rattle.ktm_world.specs.Tree.{Tree, IsWellFormed}
-use Rattle.ktm_world.specs.Uses.{is_over_quota, is_over_disk}
-use Rattle.ktm_world.specs.World.{World, OpenedAfter, committed, present, extend, after, power_after, possible_logs, crashed, interrupted_by, interrupted_restart, found_full, opened, own_group, first_open_now}
+use Rattle.ktm_world.specs.Tree.{IsWellFormed}
+use Rattle.ktm_world.specs.World.{World, committed, present, extend, after, power_after, possible_logs, opened, own_group, first_open_now}
 use Rattle.ktm_world.specs.Values.{IsCommand}
 use Rattle.ktm_world.proofs.SizeLemmas.{log_size-append}
 use Rattle.ktm_world.proofs.Worlds.{present-extend, refusal_law}
@@ -40,9 +37,9 @@ use Rattle.ktm_built.proofs.Ids.{same_id-turned}
 use Rattle.ktm_built.proofs.Limits.{IsWithin, within_limits, limits_hold}
 use Rattle.ktm_built.proofs.Logs.{stand-append, stand-as_groups, log_applies-append, log_applies-as_groups, stand_built, own_group_is, contains_passes, prefixes_built, groups_built, log_with_own, logs_with_own}
 use Rattle.ktm_built.proofs.Machine.{with_machine, built_machine}
-use Rattle.ktm_built.proofs.Now.{IsPlain, Records, plain_of, standing_of, sound_machine, within_machine, machine_plain, decided_plain, records-decided, now_law}
+use Rattle.ktm_built.proofs.Now.{IsPlain, plain_of, standing_of, sound_machine, within_machine, decided_plain, records-decided, now_law}
 use Rattle.ktm_built.proofs.States.{state_law}
-use Rattle.ktm_built.proofs.Outcomes.{IsBuiltOutcome, decided_built}
+use Rattle.ktm_built.proofs.Outcomes.{decided_built}
 
 -- ---- a built world has no first opens, and no open files
 
@@ -152,7 +149,7 @@ standing_up w process command is built few on standing =
     let o = decide (present w) process command in
     let before = plain_of (present w) (now_law.1 w standing on) in
     let plain : IsPlain (present (extend w o)) =
-        subst IsPlain (sym (present-extend w o (lie_within w standing.built.now))) (decided_plain (present w) process command is built before) in
+    subst IsPlain (sym (present-extend w o (lie_within w standing.built.now))) (decided_plain (present w) process command is built before) in
     let records = records-decided (present w) process command built before in
     let more = after_events-events w.recorded o.events in
     let applies = records.applies (omega (arith, more, few)) in
@@ -171,7 +168,7 @@ lawful_law w process command is built few standing = elim (cases_Bool (is_up w.p
   | inl on ↦ standing_up w process command is built few on standing
   | inr off ↦
       (let refused : refusal_of (present w) process command ≡ Some MachineDown =
-          ap (λ on. cond (not on) (Some MachineDown) (first_refusal (command_tests (present w) process command))) off in
+      ap (λ on. cond (not on) (Some MachineDown) (first_refusal (command_tests (present w) process command))) off in
       subst IsStanding (sym (refusal_law.0 w process command MachineDown refused)) standing)
 ]
 

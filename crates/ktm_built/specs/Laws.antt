@@ -40,13 +40,13 @@ use Rattle.ktm_built.specs.Standing.{IsBuiltState, IsBuiltNow, IsStandingNow, Is
 -- events leaves a built state
 abbrev pub StateLaw : Type 0
 StateLaw = ((s : Durable) (boot : ℕ) → IsBuiltState s
-        → event_applies s (Boot boot) ≡ ((boot == s.boots + 1 && nat_lt boot (2 ^ 32 - 1)) && (nat_le 1 s.units && nat_le (length s.keys) s.units) && nat_lt (s.events + 1) (2 ^ 63)))
+    → event_applies s (Boot boot) ≡ ((boot == s.boots + 1 && nat_lt boot (2 ^ 32 - 1)) && (nat_le 1 s.units && nat_le (length s.keys) s.units) && nat_lt (s.events + 1) (2 ^ 63)))
     × ((s : Durable) (transaction : Id) (settings : OwnSettings) → IsBuiltState s
-        → event_applies s (Single transaction (Settings settings))
-        ≡ ((transaction.boot == s.boots && are_good_settings settings) && (nat_le 1 s.units && nat_le (length (stored_all s.keys settings)) s.units) && nat_lt (s.events + 1) (2 ^ 63)))
+    → event_applies s (Single transaction (Settings settings))
+    ≡ ((transaction.boot == s.boots && are_good_settings settings) && (nat_le 1 s.units && nat_le (length (stored_all s.keys settings)) s.units) && nat_lt (s.events + 1) (2 ^ 63)))
     × ((s : Durable) (boot : ℕ) → IsBuiltState s → after_event s (Boot boot) ≡ record s { events = s.events + 1; boots = boot })
     × ((s : Durable) (transaction : Id) (settings : OwnSettings) → IsBuiltState s
-        → after_event s (Single transaction (Settings settings)) ≡ record s { events = s.events + 1; keys = stored_all s.keys settings })
+    → after_event s (Single transaction (Settings settings)) ≡ record s { events = s.events + 1; keys = stored_all s.keys settings })
     × ((base : Durable) (log : List Group) → IsBuiltState base → is_built_log log ≡ true → IsBuiltState (stand base log))
 
 -- ---- what the commands come to
@@ -58,9 +58,9 @@ FormsLaw = ((x : Present) (reply : Reply) → IsBuiltNow x → apply x (only_rep
     × ((x : Present) (t : Transaction) → IsBuiltNow x → transaction_at x.transactions.items t.id ≡ Some t → commit_transaction x (Some t) ≡ commit_outcome x t)
     × ((x : Present) (t : Transaction) → IsBuiltNow x → transaction_at x.transactions.items t.id ≡ Some t → apply x (commit_transaction x (Some t)) ≡ with_commit x t)
     × ((x : Present) (t : Transaction) (key value : List ℕ) → IsBuiltNow x
-        → apply x (of_keys x (kv_set x.keys (Some t.id) key value)) ≡ record x { keys = keys_with x.keys (Some t.id) key (Some value) })
+    → apply x (of_keys x (kv_set x.keys (Some t.id) key value)) ≡ record x { keys = keys_with x.keys (Some t.id) key (Some value) })
     × ((x : Present) (t : Transaction) (key : List ℕ) → IsBuiltNow x
-        → apply x (of_keys x (kv_unset x.keys (Some t.id) key)) ≡ record x { keys = keys_with x.keys (Some t.id) key None })
+    → apply x (of_keys x (kv_unset x.keys (Some t.id) key)) ≡ record x { keys = keys_with x.keys (Some t.id) key None })
 
 -- the transaction that a label names is the one with its Id
 abbrev pub NamedLaw : Type 0
@@ -81,8 +81,8 @@ DecidedLaw = ((x : Present) (process : Pid) (command : Command) (refusal : Refus
 -- transaction's own settings
 abbrev pub EventsLaw : Type 0
 EventsLaw = ((x : Present) (process : Pid) (command : Command) → is_built_command command ≡ true → IsStandingNow x
-        → let events = (decide x process command).events in
-        (list_all is_built_event events ≡ true) × (x.recorded.events + length events < 2 ^ 63 → events_apply x.recorded events ≡ true) × All (IsShortEvent x.recorded.units) events)
+    → let events = (decide x process command).events in
+    (list_all is_built_event events ≡ true) × (x.recorded.events + length events < 2 ^ 63 → events_apply x.recorded events ≡ true) × All (IsShortEvent x.recorded.units) events)
     × ((x : Present) (t : Transaction) → IsStandingNow x → transaction_at x.transactions.items t.id ≡ Some t → IsShortWork x.recorded.units t.id (own_settings x.keys.own t.id))
 
 -- ---- what they keep
@@ -105,7 +105,7 @@ OpenedLaw = (base : Durable) (room : ℕ) (log : List Group) → IsBuiltState ba
 -- what is so then is what a machine that starts from a built state has, which stands where the boot applies
 abbrev pub FreshLaw : Type 0
 FreshLaw = ((base : Durable) (room : ℕ) (log : List Group) → IsBuiltState base → is_built_log log ≡ true
-        → let s = stand base log in present (opened base room log) ≡ fresh s (room - log_size log - frame_size (own_group s)))
+    → let s = stand base log in present (opened base room log) ≡ fresh s (room - log_size log - frame_size (own_group s)))
     × ((s : Durable) (left : ℕ) → IsBuiltState s → events_apply s (own_group s) ≡ true → IsStandingNow (fresh s left))
 
 -- and a loss of power leaves one that stands: by itself, in a built command or in a restart; so does a restart that finds a full log
