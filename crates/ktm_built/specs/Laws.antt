@@ -108,7 +108,7 @@ FreshLaw = ((base : Durable) (room : ℕ) (log : List Group) → IsBuiltState ba
     → let s = stand base log in present (opened base room log) ≡ fresh s (room - log_size log - frame_size (own_group s)))
     × ((s : Durable) (left : ℕ) → IsBuiltState s → events_apply s (own_group s) ≡ true → IsStandingNow (fresh s left))
 
--- and a loss of power leaves one that stands: by itself, in a built command or in a restart; so does a restart that finds a full log
+-- a loss of power leaves a world that stands: by itself, in a built command or in a restart; and so does a restart that finds a full log
 abbrev pub FallenLaw : Type 0
 FallenLaw = ((w : World) → IsStanding w → IsStanding (crashed w))
     × ((w : World) (process : Pid) (command : Command) → is_built_command command ≡ true → IsStanding w → IsStanding (interrupted_by w (decide (present w) process command)))
