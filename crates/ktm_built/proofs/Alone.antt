@@ -1,15 +1,19 @@
 -- What is so now, with nothing but what built forms make written out.
-use Rattle.std.proofs.Common.{◌≡◌, ℕ, [], sym, subst}
+use Rattle.std.proofs.Common.{◌≡◌, [], sym, subst}
+use Rattle.ktm_world.specs.Built.{IsBuiltState, built_state}
 use Rattle.ktm_world.specs.Durable.{Durable}
 use Rattle.ktm_world.specs.Present.{Present}
 use Rattle.ktm_built.specs.Standing.{IsBuiltNow, no_files}
-use Rattle.ktm_world.specs.Built.{built_state}
 
 -- a durable state, with the parts that are not built written out
 abbrev pub alone_state : Durable → Durable
 alone_state s = built_state s.units s.image s.events s.boots s.keys
 
--- the same, with the parts that are not built written out
+-- what holds where these parts are written out holds of a built state
+pub by_alone_state : (P : Durable → Type 0) (s : Durable) → IsBuiltState s → P (alone_state s) → P s
+by_alone_state P s state there = subst P (sym state) there
+
+-- what is so now, with the parts that are not built written out
 abbrev pub alone : Present → Present
 alone x = record x {
   recorded = alone_state x.recorded;

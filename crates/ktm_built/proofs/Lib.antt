@@ -1,12 +1,13 @@
-mod Alone
-mod Ids
-mod Forms
-mod Decided
-mod Machine
-mod Logs
-mod Own
-mod Limits
-mod Outcomes
-mod Now
-mod Worlds
-mod Tellings
+pub mod Alone
+pub mod Ids
+pub mod Forms
+pub mod Decided
+pub mod Machine
+pub mod Logs
+pub mod States
+pub mod Own
+pub mod Limits
+pub mod Outcomes
+pub mod Now
+pub mod Worlds
+pub mod Tellings

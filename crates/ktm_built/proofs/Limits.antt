@@ -1,5 +1,5 @@
 -- The limits, where there are transactions and keys alone.
-use Rattle.std.proofs.Common.{◌≡◌, ℕ, ◌+◌, ◌-◌, ◌^◌, ◌≤◌, ◌||◌, Bool, true, false, nat_lt, length, count_by, refl, sym, ◌∙◌, arith, zero-add}
+use Rattle.std.proofs.Common.{◌≡◌, ◌≤◌, ◌||◌, Bool, false, nat_lt, length, count_by, refl, sym, ◌∙◌, arith, zero-add}
 use Rattle.std.proofs.Math.Bool.{or-false, false-or}
 use Rattle.std.proofs.lemmas.Bool.{le-ltb, ltb-false, or_from, or_parts}
 use Rattle.ktm_world.specs.Keys.{keys_used, changes_pending}

@@ -1,6 +1,6 @@
 -- What the groups of a log make of a state, and which logs and states are built.
 use Rattle.std.specs.Prelude.{Contains}
-use Rattle.std.proofs.Common.{◌≡◌, ℕ, ◌+◌, ◌-◌, ◌≤◌, ◌&&◌, true, false, Bool, List, [], ◌∷◌, ◌++◌, length, map, drop, zero, suc, refl, sym, ◌∙◌, ap, subst, arith}
+use Rattle.std.proofs.Common.{◌≡◌, ℕ, ◌+◌, ◌&&◌, true, Bool, List, [], ◌∷◌, ◌++◌, map, drop, zero, suc, refl, sym, ◌∙◌, ap, subst, arith}
 use Rattle.std.proofs.Math.Bool.{and_assoc, and-true}
 use Rattle.std.proofs.lemmas.Bool.{and_from, and_parts}
 use Rattle.std.proofs.lemmas.List.Folds.{list_all-append}

@@ -1,5 +1,5 @@
 -- What is so now, where only the machine changes.
-use Rattle.std.proofs.Common.{◌≡◌, ℕ, ◌-◌, Bool, true, false, arith}
+use Rattle.std.proofs.Common.{◌≡◌, ℕ, ◌-◌, Bool, false, arith}
 use Rattle.std.proofs.Math.Bool.{and-false}
 use Rattle.ktm_world.specs.Outcome.{apply}
 use Rattle.ktm_world.specs.Present.{Present}

@@ -1,16 +1,15 @@
 -- Each built command keeps what the machine keeps of what is so now, and what it records applies.
-use Rattle.std.proofs.Common.{◌≡◌, ℕ, ◌+◌, ◌-◌, ◌^◌, ◌<◌, ◌≤◌, ◌==◌, ◌&&◌, ◌||◌, not, Bool, true, false, cond, List, [], ◌∷◌, ◌++◌, length, map, filter, nat_lt, count_by, is_some, is_none, IfSome, Option, None, Some, option_and_then, refl, sym, ◌∙◌, ap, subst, arith, inl, inr, eq-eqb, ne_eqb, le-leb, lt-ltb, length-append}
-use Rattle.std.proofs.Math.Bool.{and-false}
-use Rattle.std.proofs.lemmas.Bool.{cases_Bool, and_from, and_parts, or_parts, ltb-false, not_from_false, not-true}
+use Rattle.std.proofs.Common.{◌≡◌, ℕ, ◌+◌, ◌^◌, ◌<◌, ◌≤◌, ◌==◌, not, Bool, true, false, cond, List, [], ◌∷◌, ◌++◌, length, map, filter, nat_lt, count_by, is_some, is_none, Option, None, Some, refl, sym, ◌∙◌, ap, subst, arith, inl, inr, eq-eqb, ne_eqb, le-leb, lt-ltb, length-append}
+use Rattle.std.proofs.lemmas.Bool.{cases_Bool, and_from, or_parts, ltb-false}
 use Rattle.std.proofs.lemmas.List.Elements.{All-from_recursion, recursion_from_All, All-nil, All-cons, All-push, All-weaker}
 use Rattle.std.proofs.lemmas.List.Sums.{sum_by-append}
-use Rattle.std.specs.List.{All, AllByRecursion, list_all, list_any, flat_map}
+use Rattle.std.specs.List.{All, AllByRecursion, flat_map}
 use Rattle.ktm_base.specs.Bytes.{AreBytes}
 use Rattle.ktm_base.specs.declared.id.Id.{Id}
 use Rattle.ktm_base.specs.declared.id.Label.{Label}
 use Rattle.ktm_base.specs.declared.id.Pid.{Pid}
 use Rattle.ktm_base.specs.declared.refusal.Refusal.{Refusal}
-use Rattle.ktm_base.specs.declared.refusal.Refusal.TheVariants.{MachineDown, LogFull}
+use Rattle.ktm_base.specs.declared.refusal.Refusal.TheVariants.{MachineDown}
 use Rattle.ktm_world.specs.declared.command.Command.{Command}
 use Rattle.ktm_world.specs.declared.command.Command.TheVariants.{CreateTransaction, CommitTransaction, KvSet, KvUnset, KvGet, KvList}
 use Rattle.ktm_world.specs.declared.event.Event.{Event}
@@ -21,16 +20,16 @@ use Rattle.ktm_world.specs.declared.object.Transaction.{Transaction}
 use Rattle.ktm_world.specs.declared.object.TransactionOutcome.{TransactionOutcome}
 use Rattle.ktm_world.specs.declared.reply.Reply.{Reply}
 use Rattle.ktm_world.specs.declared.reply.Reply.TheVariants.{Refused, Done}
-use Rattle.ktm_world.specs.Built.{is_built_command, is_built_event, IsBuiltState}
+use Rattle.ktm_world.specs.Built.{is_built_command, IsBuiltState}
 use Rattle.ktm_world.specs.Committed.{Work}
-use Rattle.ktm_world.specs.Decide.{decide, caller, of_keys, command_tests, command_effect, refusal_of, with_room}
-use Rattle.ktm_world.specs.Durable.{Durable, events_apply, event_applies, is_within_limits}
+use Rattle.ktm_world.specs.Decide.{decide, of_keys, command_tests, command_effect, refusal_of, with_room}
+use Rattle.ktm_world.specs.Durable.{Durable, events_apply, event_applies}
 use Rattle.ktm_world.specs.Handles.{no_handle_left}
 use Rattle.ktm_world.specs.KeyCalls.{keys_with, kv_set, kv_unset, kv_get, kv_list, kv_set_tests, kv_unset_tests}
-use Rattle.ktm_world.specs.Keys.{OwnSettings, own_settings, without_own, with_own, stored_all, is_bad_key, is_bad_value, is_good_setting, keys_used, changes_pending, is_held_by_other, are_good_settings}
+use Rattle.ktm_world.specs.Keys.{OwnSettings, own_settings, stored_all, is_bad_key, is_bad_value, keys_used, changes_pending, is_held_by_other, are_good_settings}
 use Rattle.ktm_world.specs.Labels.{transaction_named, transaction_tests, id_of_named, viewer}
-use Rattle.ktm_world.specs.Lawful.{Agrees, Summary, durable_managers, summary_of, summaries_now, summary_in, stage_in}
-use Rattle.ktm_world.specs.Limits.{most_live, most_handles, most_number}
+use Rattle.ktm_world.specs.Lawful.{Agrees, summary_of, summary_in, stage_in}
+use Rattle.ktm_world.specs.Limits.{most_live, most_number}
 use Rattle.ktm_world.specs.Outcome.{Outcome, apply, only_reply, refuse_or, first_refusal, is_full}
 use Rattle.ktm_world.specs.Present.{Present}
 use Rattle.ktm_world.specs.Transactions.{same_id, transaction_at, change_at, is_live}
@@ -39,16 +38,16 @@ use Rattle.ktm_world.specs.Uses.{key_room}
 use Rattle.ktm_world.specs.Values.{IsCommand, IsText}
 use Rattle.ktm_world.proofs.KeyLemmas.{length-stored_all-le, counted-with_own-le, counted-without_own, length-own_settings-le}
 use Rattle.ktm_world.proofs.KeyedLemmas.{count_by-cons}
-use Rattle.ktm_built.specs.Forms.{with_transaction, with_commit, commit_outcome, commit_events, commit_works, ended_committed}
+use Rattle.ktm_built.specs.Forms.{with_transaction, with_commit, commit_events, commit_works, ended_committed}
 use Rattle.ktm_built.specs.Laws.{EventsLaw, NowLaw}
 use Rattle.ktm_built.specs.Spelling.{IsShortEvent, IsShortWork}
-use Rattle.ktm_built.specs.Standing.{IsBuiltNow, IsOnCourse, IsSoundTransaction, IsSoundOwn, IsSoundNow, IsStandingNow}
-use Rattle.ktm_built.proofs.Alone.{alone, alone_state, by_alone}
-use Rattle.ktm_built.proofs.Outcomes.{decided_built}
+use Rattle.ktm_built.specs.Standing.{IsBuiltNow, IsSoundTransaction, IsSoundOwn, IsSoundNow, IsStandingNow}
+use Rattle.ktm_built.proofs.Outcomes.{decided_built, with_transaction_built, with_commit_built, with_keys_built}
 use Rattle.ktm_built.proofs.Decided.{full_log}
 use Rattle.ktm_built.proofs.Machine.{with_machine, built_machine, apply-full}
 use Rattle.ktm_built.proofs.Forms.{forms_law, named_law, commit_is, apply-only_reply}
 use Rattle.ktm_built.proofs.Limits.{IsWithin, within_limits, limits_hold, room_for_keys, room_for_changes}
+use Rattle.ktm_built.proofs.States.{state_law}
 use Rattle.ktm_built.proofs.Own.{IsSoundSetting, All-with_own, All-without_own, own_settings_sound, short_settings, once-with_own, once-without_own, apart-with_own, apart-without_own}
 
 -- ---- what is kept, in the parts that may change
@@ -160,14 +159,7 @@ create_plain x process label timeout plain e =
     let fewer = ltb-false _ _ of_transactions.0 in
     let handles = ltb-false _ _ quotas.0 in
     record {
-      built = record {
-        managers = plain.built.managers;
-        enlistments = plain.built.enlistments;
-        last_manager = plain.built.last_manager;
-        last_enlistment = plain.built.last_enlistment;
-        files = plain.built.files;
-        recorded = plain.built.recorded;
-      };
+      built = with_transaction_built x process label timeout plain.built;
       sound = record {
         boots_from = plain.sound.boots_from;
         units_from = plain.sound.units_from;
@@ -208,7 +200,7 @@ sound-ended : (boot last : ℕ) (ts : List Transaction) (id : Id) → AllByRecur
 sound-ended boot last [] id all = tt
 sound-ended boot last (t ∷ ts) id all =
     let here : IsSoundTransaction boot last (ended_committed t) =
-        record { boot_is = all.0.boot_is; number_from = all.0.number_from; number_to = all.0.number_to; course = tt; unrecorded = all.0.unrecorded } in
+    record { boot_is = all.0.boot_is; number_from = all.0.number_from; number_to = all.0.number_to; course = tt; unrecorded = all.0.unrecorded } in
     let rest = sound-ended boot last ts id all.1 in
     elim (cases_Bool (same_id t.id id)) [ inl same ↦ rw same (here, all.1) | inr other ↦ rw other (all.0, rest) ]
 
@@ -228,14 +220,7 @@ commit_plain x t plain =
     let pending = counted-without_own (λ s. is_none s.value) t.id x.keys.own in
     let live = live-ended-le x.transactions.items t.id in
     record {
-      built = record {
-        managers = plain.built.managers;
-        enlistments = plain.built.enlistments;
-        last_manager = plain.built.last_manager;
-        last_enlistment = plain.built.last_enlistment;
-        files = plain.built.files;
-        recorded = ap (λ (s : Durable). record s { events = x.recorded.events + length (commit_events t.id settings); keys = stored_all x.recorded.keys settings }) plain.built.recorded;
-      };
+      built = with_commit_built x t plain.built;
       sound = record {
         boots_from = plain.sound.boots_from;
         units_from = plain.sound.units_from;
@@ -261,14 +246,7 @@ keys_plain : (x : Present) (t : Transaction) (key : List ℕ) (value : Option (L
     → is_held_by_other x.keys.own t.id key ≡ false → keys_used (keys_with x.keys (Some t.id) key value) ≤ x.recorded.units → changes_pending (keys_with x.keys (Some t.id) key value) ≤ x.recorded.units
     → IsPlain x → IsPlain (record x { keys = keys_with x.keys (Some t.id) key value })
 keys_plain x t key value setting of_boot free used pending plain = record {
-  built = record {
-    managers = plain.built.managers;
-    enlistments = plain.built.enlistments;
-    last_manager = plain.built.last_manager;
-    last_enlistment = plain.built.last_enlistment;
-    files = plain.built.files;
-    recorded = plain.built.recorded;
-  };
+  built = with_keys_built x (keys_with x.keys (Some t.id) key value) plain.built;
   sound = record {
     boots_from = plain.sound.boots_from;
     units_from = plain.sound.units_from;
@@ -360,14 +338,10 @@ records-none : (x : Present) → Records x [] []
 records-none x = record { applies = λ few. refl; short = All-nil _; unchanged = tt }
 
 -- good settings of a transaction of this boot apply where there is room for them
-single_applies : (s : Durable) (id : Id) (settings : OwnSettings) → id.boot ≡ s.boots → are_good_settings settings ≡ true → 1 ≤ s.units → length (stored_all s.keys settings) ≤ s.units
-    → s.events + 1 < 2 ^ 63 → event_applies (alone_state s) (Single id (Settings settings)) ≡ true
-unfolding is_within_limits
-single_applies s id settings of_boot good some room few =
-    let fact = and_from _ _ (and_from _ _ (and_from _ _ (eq-eqb _ _ of_boot) refl) refl) (and_from _ _ good refl) in
-    let limits = and_from _ _ (and_from _ _ (and_from _ _ (and_from _ _ (and_from _ _ (and_from _ _
-        (le-leb 0 s.units (omega arith)) (le-leb 1 s.units some)) (le-leb (length (stored_all s.keys settings) + 0) s.units (omega (arith, room)))) (le-leb 0 s.units (omega arith))) refl) refl) refl in
-    and_from _ _ (and_from _ _ fact limits) (lt-ltb _ _ few)
+single_applies : (s : Durable) (id : Id) (settings : OwnSettings) → IsBuiltState s → id.boot ≡ s.boots → are_good_settings settings ≡ true → 1 ≤ s.units → length (stored_all s.keys settings) ≤ s.units
+    → s.events + 1 < 2 ^ 63 → event_applies s (Single id (Settings settings)) ≡ true
+single_applies s id settings state of_boot good some room few =
+    state_law.1 s id settings state ∙ and_from _ _ (and_from _ _ (and_from _ _ (eq-eqb _ _ of_boot) good) (and_from _ _ (le-leb _ _ some) (le-leb _ _ room))) (lt-ltb _ _ few)
 
 records-commit : (x : Present) (id : Id) (settings : OwnSettings) → IsBuiltState x.recorded → 1 ≤ x.recorded.boots → 1 ≤ x.recorded.units → 1 ≤ id.number
     → IsSoundOwn x.recorded.boots (record { transaction = id; settings = settings }) → length settings ≤ x.recorded.units + x.recorded.units
@@ -377,7 +351,7 @@ records-commit x id (s ∷ ss) state boots units number sound few room = record 
   applies = λ least.
       let some : not (length (s ∷ ss) == 0) ≡ true = ap not (ne_eqb (length (s ∷ ss)) 0 (λ e. omega arith)) in
       let good = and_from _ _ (and_from _ _ some sound.rising) sound.good in
-      and_from _ _ (subst (λ (t : Durable). event_applies t (Single id (Settings (s ∷ ss))) ≡ true) (sym state) (single_applies x.recorded id (s ∷ ss) sound.boot_is good units room least)) refl;
+      and_from _ _ (single_applies x.recorded id (s ∷ ss) state sound.boot_is good units room least) refl;
   short = All-cons (IsShortEvent x.recorded.units) (Single id (Settings (s ∷ ss))) []
       (record { boot_from = omega (arith, boots, sound.boot_is); number_from = number; rising = sound.rising; few = few; short = short_settings x.recorded.boots _ sound }) (All-nil _);
   unchanged = (refl, tt);

@@ -1,6 +1,5 @@
 -- What a built command comes to has only what built forms make.
-use Rattle.std.proofs.Common.{◌≡◌, ℕ, ◌+◌, ◌-◌, Bool, true, false, cond, List, [], ◌∷◌, length, Option, None, Some, refl, sym, ap, subst, arith}
-use Rattle.std.proofs.Math.Bool.{and-false}
+use Rattle.std.proofs.Common.{◌≡◌, ℕ, ◌+◌, Bool, true, false, cond, List, [], ◌∷◌, length, Option, None, Some, refl, sym, ap, subst}
 use Rattle.std.specs.List.{list_all}
 use Rattle.ktm_base.specs.declared.id.Id.{Id}
 use Rattle.ktm_base.specs.declared.id.Label.{Label}
@@ -15,7 +14,7 @@ use Rattle.ktm_world.specs.Built.{is_built_command, is_built_event}
 use Rattle.ktm_world.specs.Decide.{decide, of_keys, command_effect, refusal_of, with_room}
 use Rattle.ktm_world.specs.Durable.{Durable}
 use Rattle.ktm_world.specs.KeyCalls.{kv_set, kv_unset, kv_get, kv_list}
-use Rattle.ktm_world.specs.Keys.{OwnSettings, own_settings, stored_all}
+use Rattle.ktm_world.specs.Keys.{KeysNow, OwnSettings, own_settings, stored_all}
 use Rattle.ktm_world.specs.Labels.{transaction_named, id_of_named, viewer}
 use Rattle.ktm_world.specs.Outcome.{Outcome, apply, only_reply, refuse_or, is_full}
 use Rattle.ktm_world.specs.Present.{Present}
@@ -35,17 +34,20 @@ pub record IsBuiltOutcome (x : Present) (o : Outcome) : Type 0 where
 replied_built : (x : Present) (reply : Reply) → IsBuiltNow x → IsBuiltOutcome x (only_reply x reply)
 replied_built x reply built = record { now = subst IsBuiltNow (sym (apply-only_reply x reply built)) built; events = refl }
 
+pub with_transaction_built : (x : Present) (process : Pid) (label : Label) (timeout : ℕ) → IsBuiltNow x → IsBuiltNow (with_transaction x process label timeout)
+with_transaction_built x process label timeout built = record {
+  managers = built.managers;
+  enlistments = built.enlistments;
+  last_manager = built.last_manager;
+  last_enlistment = built.last_enlistment;
+  files = built.files;
+  recorded = built.recorded;
+}
+
 create_built : (x : Present) (process : Pid) (label : Label) (timeout : ℕ) → IsBuiltNow x → IsBuiltOutcome x (create_transaction x process label timeout)
 unfolding create_transaction
 create_built x process label timeout built = record {
-  now = subst IsBuiltNow (sym (forms_law.1 x process label timeout built)) (record {
-    managers = built.managers;
-    enlistments = built.enlistments;
-    last_manager = built.last_manager;
-    last_enlistment = built.last_enlistment;
-    files = built.files;
-    recorded = built.recorded;
-  });
+  now = subst IsBuiltNow (sym (forms_law.1 x process label timeout built)) (with_transaction_built x process label timeout built);
   events = refl;
 }
 
@@ -53,7 +55,7 @@ commit_events_built : (id : Id) (settings : OwnSettings) → list_all is_built_e
 commit_events_built id [] = refl
 commit_events_built id (s ∷ ss) = refl
 
-with_commit_built : (x : Present) (t : Transaction) → IsBuiltNow x → IsBuiltNow (with_commit x t)
+pub with_commit_built : (x : Present) (t : Transaction) → IsBuiltNow x → IsBuiltNow (with_commit x t)
 with_commit_built x t built = let settings = own_settings x.keys.own t.id in record {
   managers = built.managers;
   enlistments = built.enlistments;
@@ -71,24 +73,23 @@ commit_built x (Some t) at built = record {
   events = subst (λ (o : Outcome). list_all is_built_event o.events ≡ true) (sym (commit_is x t built (at t refl))) (commit_events_built t.id (own_settings x.keys.own t.id));
 }
 
--- the keys are no part of what is not built
-keys_built : (x y : Present) → y ≡ record x { keys = y.keys } → IsBuiltNow x → IsBuiltNow y
-keys_built x y same built = subst IsBuiltNow (sym same) (record {
+pub with_keys_built : (x : Present) (keys : KeysNow) → IsBuiltNow x → IsBuiltNow (record x { keys = keys })
+with_keys_built x keys built = record {
   managers = built.managers;
   enlistments = built.enlistments;
   last_manager = built.last_manager;
   last_enlistment = built.last_enlistment;
   files = built.files;
   recorded = built.recorded;
-})
+}
 
 set_built : (x : Present) (named : Option Transaction) (key value : List ℕ) → IsBuiltNow x → IsBuiltOutcome x (of_keys x (kv_set x.keys (id_of_named named) key value))
 set_built x None key value built = replied_built x Done built
-set_built x (Some t) key value built = record { now = keys_built x _ (forms_law.4 x t key value built) built; events = refl }
+set_built x (Some t) key value built = record { now = subst IsBuiltNow (sym (forms_law.4 x t key value built)) (with_keys_built x _ built); events = refl }
 
 unset_built : (x : Present) (named : Option Transaction) (key : List ℕ) → IsBuiltNow x → IsBuiltOutcome x (of_keys x (kv_unset x.keys (id_of_named named) key))
 unset_built x None key built = replied_built x Done built
-unset_built x (Some t) key built = record { now = keys_built x _ (forms_law.5 x t key built) built; events = refl }
+unset_built x (Some t) key built = record { now = subst IsBuiltNow (sym (forms_law.5 x t key built)) (with_keys_built x _ built); events = refl }
 
 effect_built : (x : Present) (process : Pid) (command : Command) → is_built_command command ≡ true → IsBuiltNow x → IsBuiltOutcome x (command_effect x process command)
 effect_built x process (CreateTransaction label timeout) is built = create_built x process label timeout built

@@ -1,8 +1,8 @@
 -- What each undecided transaction has set stays sound, stands once, and stays apart from what others have set.
-use Rattle.std.proofs.Common.{◌≡◌, ℕ, ◌+◌, ◌≤◌, ◌==◌, ◌&&◌, ◌||◌, not, cond, true, false, Bool, nat_lt, List, [], ◌∷◌, length, IfSome, is_some, Option, None, Some, refl, sym, ◌∙◌, ap, subst, inl, inr, arith, bytes_eq}
+use Rattle.std.proofs.Common.{◌≡◌, ℕ, ◌≤◌, ◌==◌, ◌&&◌, not, true, false, Bool, nat_lt, List, [], ◌∷◌, length, IfSome, is_some, Option, None, Some, refl, sym, ◌∙◌, ap, subst, inl, inr, arith, bytes_eq}
 use Rattle.std.proofs.lemmas.Bool.{cases_Bool, and_parts, or_from, or_parts, not-true, ltb-false}
 use Rattle.std.proofs.lemmas.Cmp.{nat_list_eq_equiv}
-use Rattle.std.proofs.lemmas.List.Elements.{All-from_recursion, recursion_from_All, All-nil, All-cons, All-head, All-tail, All-weaker}
+use Rattle.std.proofs.lemmas.List.Elements.{All-from_recursion, recursion_from_All, All-nil, All-weaker}
 use Rattle.std.proofs.lemmas.Slice.Eq.{bytes_eq-Decides}
 use Rattle.std.specs.List.{All, AllByRecursion, list_all, list_any}
 use Rattle.ktm_base.specs.Bytes.{AreBytes}
@@ -244,7 +244,7 @@ not_held (o ∷ os) id a key free apart =
     let rest = not_held os id a key parts.1 apart in
     elim (cases_Bool (same_id o.transaction a)) [
       | inl is ↦ (let other : same_id o.transaction id ≡ false = subst (λ (z : Id). same_id z id ≡ false) (sym (same_id-equal o.transaction a is)) apart in
-        rw is (rw other at parts.0))
+          rw is (rw other at parts.0))
       | inr not_is ↦ rw not_is rest
     ]
 

@@ -8,7 +8,7 @@ use Rattle.ktm_base.specs.declared.id.Id.{Id}
 use Rattle.ktm_base.specs.declared.id.Label.{Label}
 use Rattle.ktm_base.specs.declared.id.Pid.{Pid}
 use Rattle.ktm_base.specs.declared.refusal.Refusal.{Refusal}
-use Rattle.ktm_base.specs.declared.refusal.Refusal.TheVariants.{BadLine, MachineDown, MachineUp, TransactionAlreadyAborted, LogFull}
+use Rattle.ktm_base.specs.declared.refusal.Refusal.TheVariants.{BadLine, MachineDown, TransactionAlreadyAborted}
 use Rattle.ktm_world.specs.declared.command.Command.{Command}
 use Rattle.ktm_world.specs.declared.command.Command.TheVariants.{CreateTransaction, CommitTransaction, KvSet, KvUnset, KvGet, KvList}
 use Rattle.ktm_world.specs.declared.command.Line.{Line}
@@ -23,21 +23,20 @@ use Rattle.ktm_world.specs.declared.reply.Reply.{Reply}
 use Rattle.ktm_world.specs.declared.reply.Reply.TheVariants.{Refused, Done, Committed, Information, Notification}
 use Rattle.ktm_world.specs.Built.{is_built_command, is_built_line}
 use Rattle.ktm_world.specs.Decide.{decide, command_tests, command_effect, refusal_of, with_room}
-use Rattle.ktm_world.specs.Durable.{Durable}
 use Rattle.ktm_world.specs.Handles.{object_at, transaction_id}
 use Rattle.ktm_world.specs.KeyCalls.{reply_of_value}
 use Rattle.ktm_world.specs.Labels.{transaction_named, holds_of}
-use Rattle.ktm_world.specs.Logs.{is_up, Group}
+use Rattle.ktm_world.specs.Logs.{is_up}
 use Rattle.ktm_world.specs.OneOutcome.{Telling, telling, told_of_named, tells, line_tells, goes, tellings, crash_goes, restart_goes, named_by, transaction_label}
-use Rattle.ktm_world.specs.Outcome.{Outcome, only_reply, refuse_or, first_refusal, is_full}
+use Rattle.ktm_world.specs.Outcome.{Outcome, refuse_or, first_refusal, is_full}
 use Rattle.ktm_world.specs.Present.{Present}
 use Rattle.ktm_world.specs.Transactions.{same_id, transaction_at, change_at, is_aborted}
 use Rattle.ktm_world.specs.TransactionCalls.{create_transaction, create_transaction_tests, commit_transaction}
-use Rattle.ktm_world.specs.Transcript.{Step, answered, interrupted, found, full, Does, CallDoes, IsAnswered, CrashDoes, StartDoes, RestartDoes, Finds, Transcript}
-use Rattle.ktm_world.specs.World.{World, present, opened, possible_logs}
+use Rattle.ktm_world.specs.Transcript.{Step, answered, interrupted, found, full, Does, CallDoes, IsAnswered, CrashDoes, StartDoes, RestartDoes, Transcript}
+use Rattle.ktm_world.specs.World.{World, present, possible_logs}
 use Rattle.ktm_built.specs.Forms.{commit_outcome, ended_committed}
 use Rattle.ktm_built.specs.Laws.{OutcomeLaw}
-use Rattle.ktm_built.specs.Standing.{IsBuiltNow, IsBuiltWorld, IsOnCourse, IsSoundTransaction, IsStanding}
+use Rattle.ktm_built.specs.Standing.{IsBuiltNow, IsBuiltWorld, IsOnCourse, IsSoundTransaction}
 use Rattle.ktm_built.proofs.Decided.{full_log}
 use Rattle.ktm_built.proofs.Forms.{named_law, commit_is}
 use Rattle.ktm_built.proofs.Logs.{contains_passes}

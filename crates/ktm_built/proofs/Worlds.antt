@@ -1,47 +1,51 @@
 -- What the machine keeps of a world: after a built command, where a restart opens it, and after a loss of power.
 use Rattle.std.specs.Prelude.{Contains}
-use Rattle.std.proofs.Common.{◌≡◌, ℕ, ◌+◌, ◌-◌, ◌^◌, ◌<◌, ◌≤◌, ◌&&◌, not, cond, Bool, true, false, List, [], ◌∷◌, ◌++◌, length, map, filter, nat_lt, Option, Some, None, refl, sym, ◌∙◌, ap, subst, arith, inl, inr, length-append}
+use Rattle.std.proofs.Common.{◌≡◌, ℕ, ◌+◌, ◌-◌, ◌^◌, ◌<◌, ◌≤◌, ◌&&◌, not, cond, Bool, true, false, List, [], ◌∷◌, ◌++◌, length, map, filter, nat_lt, nat_le, Some, None, refl, sym, ◌∙◌, ap, subst, arith, inl, inr, length-append}
 use Rattle.std.proofs.Math.Bool.{and_assoc}
 use Rattle.std.proofs.lemmas.Bool.{cases_Bool, and_from, and_parts, ltb-true, leb-true, not-true, not_from_false}
 use Rattle.std.proofs.lemmas.List.{append-nil}
 use Rattle.std.proofs.lemmas.List.Elements.{All-nil}
 use Rattle.std.proofs.lemmas.List.Folds.{list_all-append}
-use Rattle.std.specs.List.{All, AllByRecursion, list_all}
+use Rattle.std.specs.List.{AllByRecursion, list_all}
 use Rattle.ktm_base.specs.declared.id.Pid.{Pid}
-use Rattle.ktm_base.specs.declared.refusal.Refusal.{Refusal}
 use Rattle.ktm_base.specs.declared.refusal.Refusal.TheVariants.{MachineDown}
 use Rattle.ktm_world.specs.declared.command.Command.{Command}
 use Rattle.ktm_world.specs.declared.event.Event.{Event}
 use Rattle.ktm_world.specs.declared.event.Event.TheVariants.{Boot}
 use Rattle.ktm_world.specs.declared.object.Transaction.{Transaction}
-use Rattle.ktm_world.specs.Built.{is_built_command, is_built_event, is_built_log, IsBuiltState}
+use Rattle.ktm_world.specs.Built.{is_built_command, is_built_log, IsBuiltState}
 use Rattle.ktm_world.specs.Changes.{apply_all}
 use Rattle.ktm_world.specs.Committed.{Committed, Work, with_work, committed_with}
 use Rattle.ktm_world.specs.Conflicts.{is_undecided, is_of}
 use Rattle.ktm_world.specs.Decide.{decide, command_tests, refusal_of}
-use Rattle.ktm_world.specs.Durable.{Durable, stand, after_event, after_events, event_applies, fact_applies, fact_of, events_apply, log_applies, is_within_limits}
-use Rattle.ktm_world.specs.Files.{FileTable}
+use Rattle.ktm_world.specs.Durable.{Durable, stand, after_event, after_events, event_applies, events_apply}
 use Rattle.ktm_world.specs.Laws.{FirstOpensLieWithin}
-use Rattle.ktm_world.specs.Lawful.{IsLawful, StandsForLog, all_apart, hold_apart, is_alone, is_fixed_last, undecided, works_apply}
+use Rattle.ktm_world.specs.Lawful.{IsLawful, StandsForLog, all_apart, hold_apart, works_apply}
 use Rattle.ktm_world.specs.Logs.{Group, Power, up, down, is_up, as_groups, kept_after, possible_by, prefixes_from}
-use Rattle.ktm_world.specs.Outcome.{Outcome, apply, first_refusal}
+use Rattle.ktm_world.specs.Outcome.{Outcome, first_refusal}
 use Rattle.ktm_world.specs.Present.{Present}
-use Rattle.ktm_world.specs.Tree.{Tree, IsWellFormed}
-use Rattle.ktm_world.specs.Uses.{is_over_quota, is_over_disk}
-use Rattle.ktm_world.specs.World.{World, OpenedAfter, committed, present, extend, after, power_after, possible_logs, crashed, interrupted_by, interrupted_restart, found_full, opened, own_group, first_open_now}
+use Rattle.ktm_world.specs.Sizes.{frame_size, log_size}
+use Rattle.ktm_world.specs.Tree.{IsWellFormed}
+use Rattle.ktm_world.specs.World.{World, committed, present, extend, after, power_after, possible_logs, opened, own_group, first_open_now}
 use Rattle.ktm_world.specs.Values.{IsCommand}
+use Rattle.ktm_world.proofs.SizeLemmas.{log_size-append}
 use Rattle.ktm_world.proofs.Worlds.{present-extend, refusal_law}
-use Rattle.ktm_built.specs.Laws.{LawfulLaw, OpenedLaw, FallenLaw}
-use Rattle.ktm_built.specs.Standing.{IsBuiltNow, IsBuiltWorld, IsSoundNow, IsStandingNow, IsStanding, AreSetApart, no_files}
-use Rattle.ktm_built.proofs.Alone.{alone, alone_state, by_alone}
+use Rattle.ktm_built.specs.Laws.{LawfulLaw, OpenedLaw, FreshLaw, FallenLaw}
+use Rattle.ktm_built.specs.Standing.{IsBuiltNow, IsBuiltWorld, IsSoundNow, IsStandingNow, IsStanding, AreSetApart, fresh, no_files}
+use Rattle.ktm_built.proofs.Alone.{alone, by_alone, by_alone_state}
 use Rattle.ktm_built.proofs.Ids.{same_id-turned}
 use Rattle.ktm_built.proofs.Limits.{IsWithin, within_limits, limits_hold}
 use Rattle.ktm_built.proofs.Logs.{stand-append, stand-as_groups, log_applies-append, log_applies-as_groups, stand_built, own_group_is, contains_passes, prefixes_built, groups_built, log_with_own, logs_with_own}
 use Rattle.ktm_built.proofs.Machine.{with_machine, built_machine}
-use Rattle.ktm_built.proofs.Now.{IsPlain, Records, plain_of, standing_of, sound_machine, within_machine, machine_plain, decided_plain, records-decided, now_law}
-use Rattle.ktm_built.proofs.Outcomes.{IsBuiltOutcome, decided_built}
+use Rattle.ktm_built.proofs.Now.{IsPlain, plain_of, standing_of, sound_machine, within_machine, decided_plain, records-decided, now_law}
+use Rattle.ktm_built.proofs.States.{state_law}
+use Rattle.ktm_built.proofs.Outcomes.{decided_built}
 
 -- ---- a built world has no first opens, and no open files
+
+-- an empty list has no place
+no_place : {X : Type 0} (xs : List X) (k : ℕ) → xs ≡ [] → k < length xs → ⊥
+no_place xs k none within = let empty = ap length none in omega arith
 
 map-none : {A B : Type 0} (f : A → B) (xs : List A) → map f xs ≡ [] → xs ≡ []
 map-none f [] none = refl
@@ -54,7 +58,7 @@ no_table : (w : World) → IsBuiltNow (present w) → w.table ≡ no_files.table
 no_table w built = ap (λ f. f.table) built.files
 
 lie_within : (w : World) → IsBuiltNow (present w) → FirstOpensLieWithin w
-lie_within w built = record { works = subst (λ (opens : List OpenedAfter). All (λ (o : OpenedAfter). o.works ≤ length w.works) opens) (sym (no_first_opens w built)) (All-nil _) }
+lie_within w built = record { works = λ k d within. absurd (no_place w.first_opens k (no_first_opens w built) within) }
 
 -- ---- no two transactions hold the same
 
@@ -79,10 +83,10 @@ lawful_of : (w : World) → IsBuiltNow (present w) → IsSoundNow (present w) �
     → (is_up w.power ≡ true → StandsForLog w) → IsLawful w
 lawful_of w built sound within works stands = record {
   works = works;
-  own = subst (λ (table : FileTable). All (λ o. apply_all (committed w).tree o.changes ≡ true) table.own) (sym (no_table w built)) (All-nil _);
+  own = λ k d within. absurd (no_place w.table.own k (ap (λ table. table.own) (no_table w built)) within);
   apart = apart_of (present w) built sound;
-  fixed = subst (λ (opens : List OpenedAfter). All (λ o. is_fixed_last w o ≡ true) opens) (sym (no_first_opens w built)) (All-nil _);
-  writers = subst (λ (table : FileTable). All (λ o. is_alone (present w) o ≡ true) table.opens) (sym (no_table w built)) (All-nil _);
+  fixed = λ k d within. absurd (no_place w.first_opens k (no_first_opens w built) within);
+  writers = λ k d within. absurd (no_place w.table.opens k (ap (λ table. table.opens) (no_table w built)) within);
   limits = limits_hold (present w) built sound.units_from within;
   stands = stands;
 }
@@ -145,7 +149,7 @@ standing_up w process command is built few on standing =
     let o = decide (present w) process command in
     let before = plain_of (present w) (now_law.1 w standing on) in
     let plain : IsPlain (present (extend w o)) =
-        subst IsPlain (sym (present-extend w o (lie_within w standing.built.now))) (decided_plain (present w) process command is built before) in
+    subst IsPlain (sym (present-extend w o (lie_within w standing.built.now))) (decided_plain (present w) process command is built before) in
     let records = records-decided (present w) process command built before in
     let more = after_events-events w.recorded o.events in
     let applies = records.applies (omega (arith, more, few)) in
@@ -164,23 +168,11 @@ lawful_law w process command is built few standing = elim (cases_Bool (is_up w.p
   | inl on ↦ standing_up w process command is built few on standing
   | inr off ↦
       (let refused : refusal_of (present w) process command ≡ Some MachineDown =
-          ap (λ on. cond (not on) (Some MachineDown) (first_refusal (command_tests (present w) process command))) off in
+      ap (λ on. cond (not on) (Some MachineDown) (first_refusal (command_tests (present w) process command))) off in
       subst IsStanding (sym (refusal_law.0 w process command MachineDown refused)) standing)
 ]
 
 -- ---- where a restart opens it
-
--- what is so where a built state is opened
-opened_alone : (s : Durable) (room : ℕ) → IsBuiltNow (present (opened (alone_state s) room []))
-opened_alone s room = record { managers = refl; enlistments = refl; last_manager = refl; last_enlistment = refl; files = refl; recorded = refl }
-
-opened_plain : (s : Durable) (room : ℕ) → 1 ≤ s.units → length s.keys ≤ s.units → IsPlain (present (opened (alone_state s) room []))
-opened_plain s room some few = record {
-  built = opened_alone s room;
-  sound = record { boots_from = omega arith; units_from = some; transactions = All-nil _; own = All-nil _; once = tt; apart = λ a b other. refl };
-  within = record { keys = omega (arith, few); changes = omega arith; live = omega arith; handles = omega arith; last = omega arith };
-  keys = refl;
-}
 
 -- where the boot applies there is a unit, no more keys than units, and room for one event more
 record BootFits (s : Durable) : Type 0 where
@@ -188,39 +180,63 @@ record BootFits (s : Durable) : Type 0 where
   keys : length s.keys ≤ s.units
   events : s.events + 1 < 2 ^ 63
 
-fits_alone : (s : Durable) → event_applies (alone_state s) (Boot (s.boots + 1)) ≡ true → BootFits s
-unfolding is_within_limits
-fits_alone s applies =
-    let parts = and_parts _ (nat_lt (s.events + 1) (2 ^ 63)) applies in
-    let limits = (and_parts _ (is_within_limits (fact_of (alone_state s) (Boot (s.boots + 1)))) parts.0).1 in
-    let first = and_parts _ _ (and_parts _ _ (and_parts _ _ (and_parts _ _ (and_parts _ _ limits).0).0).0).0 in
-    let keys = leb-true (length s.keys + 0) s.units first.1 in
-    let nodes = leb-true 1 s.units (and_parts _ _ first.0).1 in
-    record { units = nodes; keys = omega (arith, keys); events = ltb-true _ _ parts.1 }
-
 boot_fits : (s : Durable) → IsBuiltState s → events_apply s (own_group s) ≡ true → BootFits s
 boot_fits s state applies =
     let one : (event_applies s (Boot (s.boots + 1)) && true) ≡ true = ap (λ (group : Group). events_apply s group) (sym (own_group_is s state)) ∙ applies in
     let boot = (and_parts (event_applies s (Boot (s.boots + 1))) true one).0 in
-    fits_alone s (subst (λ (t : Durable). event_applies t (Boot (s.boots + 1)) ≡ true) state boot)
+    let parts = and_parts _ (nat_lt (s.events + 1) (2 ^ 63)) (sym (state_law.0 s (s.boots + 1) state) ∙ boot) in
+    let room = and_parts (nat_le 1 s.units) (nat_le (length s.keys) s.units) (and_parts _ _ parts.0).1 in
+    record { units = leb-true _ _ room.0; keys = leb-true _ _ room.1; events = ltb-true _ _ parts.1 }
 
 well_formed_none : IsWellFormed []
 well_formed_none = record { parents = All-nil _; reach = All-nil _; names = All-nil _; one_each = All-nil _; numbers = All-nil _; rise = refl }
+
+fresh_built : (s : Durable) (left : ℕ) → IsBuiltState s → IsBuiltNow (fresh s left)
+fresh_built s left state = record {
+  managers = refl;
+  enlistments = refl;
+  last_manager = refl;
+  last_enlistment = refl;
+  files = refl;
+  recorded = ap (λ (t : Durable). record t { events = s.events + 1; boots = s.boots + 1 }) state;
+}
+
+fresh_plain : (s : Durable) (left : ℕ) → IsBuiltState s → BootFits s → IsPlain (fresh s left)
+fresh_plain s left state fits = record {
+  built = fresh_built s left state;
+  sound = record { boots_from = omega arith; units_from = fits.units; transactions = All-nil _; own = All-nil _; once = tt; apart = λ a b other. refl };
+  within = record { keys = omega (arith, fits.keys); changes = omega arith; live = omega arith; handles = omega arith; last = omega arith };
+  keys = refl;
+}
+
+-- what is so in the world that is opened, but for the machine, is so where the state is
+opened_fresh : (s : Durable) (room left : ℕ) → IsBuiltState s → with_machine (present (opened s room [])) true left ≡ fresh s left
+opened_fresh s room left state = by_alone_state (λ (t : Durable). with_machine (present (opened t room [])) true left ≡ fresh t left) s state refl
+
+opened_is : (base : Durable) (room : ℕ) (log : List Group) → IsBuiltState base → is_built_log log ≡ true
+    → let s = stand base log in present (opened base room log) ≡ fresh s (room - log_size log - frame_size (own_group s))
+opened_is base room log state built =
+    let s = stand base log in
+    let size = log_size-append log (own_group s ∷ []) in
+    let left : room - log_size (log ++ own_group s ∷ []) ≡ room - log_size log - frame_size (own_group s) = omega arith in
+    opened_fresh s room (room - log_size (log ++ own_group s ∷ [])) (stand_built base log state built) ∙ ap (λ n. fresh s n) left
+
+pub fresh_law : FreshLaw
+fresh_law = (opened_is, λ s left state own. standing_of (fresh s left) (fresh_plain s left state (boot_fits s state own)))
 
 -- a restart opens a built world, without transactions
 pub opened_built : (base : Durable) (room : ℕ) (log : List Group) → IsBuiltState base → is_built_log log ≡ true → IsBuiltWorld (opened base room log) × ((opened base room log).transactions.items ≡ [])
 opened_built base room log state built =
     let s = stand base log in
-    let stood = stand_built base log state built in
     let whole = log_with_own base log state built in
-    let there : IsBuiltNow (present (opened s room [])) = subst (λ (t : Durable). IsBuiltNow (present (opened t room []))) (sym stood) (opened_alone s room) in (
+    let is = opened_is base room log state built in (
       record {
         base = state;
-        now = built_machine (present (opened s room [])) true (present (opened base room log)).machine.left there;
+        now = subst IsBuiltNow (sym is) (fresh_built s _ (stand_built base log state built));
         log = whole;
         logs = prefixes_built (length log + 1) (log ++ own_group s ∷ []) whole;
       },
-      ap (λ (t : Durable). (opened t room []).transactions.items) stood,
+      ap (λ x. x.transactions.items) is,
     )
 
 pub opened_law : OpenedLaw
@@ -228,11 +244,11 @@ opened_law base room log state built applies own =
     let s = stand base log in
     let stood = stand_built base log state built in
     let w = opened base room log in
+    let is = opened_is base room log state built in
     let fits = boot_fits s stood own in
-    let there : IsPlain (present (opened s room [])) = subst (λ (t : Durable). IsPlain (present (opened t room []))) (sym stood) (opened_plain s room fits.units fits.keys) in
-    let plain : IsPlain (present w) = machine_plain (present (opened s room [])) true (present w).machine.left there in
+    let plain : IsPlain (present w) = subst IsPlain (sym is) (fresh_plain s _ stood fits) in
     let form : IsWellFormed s.tree = subst IsWellFormed (sym (ap (λ t. t.tree) stood)) well_formed_none in
-    let count = ap (λ (group : Group). (after_events s group).events) (own_group_is s stood) in
+    let count = ap (λ x. x.recorded.events) is in
     record {
       lawful = lawful_of w plain.built plain.sound plain.within (form, refl) (λ on. record {
         applies = log_applies-append base log (own_group s ∷ []) ∙ and_from _ _ applies (and_from _ _ own refl);

@@ -1,25 +1,29 @@
 -- Laws of worlds that have only what built forms make.
-use Rattle.std.specs.Prelude.{◌≡◌, ℕ, ◌+◌, ◌^◌, ◌<◌, true, false, List, [], length, All, Contains, Option, Some, None}
+use Rattle.std.specs.Prelude.{◌≡◌, ℕ, ◌+◌, ◌-◌, ◌^◌, ◌==◌, ◌<◌, ◌&&◌, nat_lt, nat_le, true, false, List, [], length, All, Contains, Option, Some, None}
 use Rattle.std.specs.List.{list_all}
+use Rattle.ktm_base.specs.declared.id.Id.{Id}
 use Rattle.ktm_base.specs.declared.id.Label.{Label}
 use Rattle.ktm_base.specs.declared.id.Pid.{Pid}
 use Rattle.ktm_base.specs.declared.refusal.Refusal.{Refusal}
 use Rattle.ktm_base.specs.declared.refusal.Refusal.TheVariants.{MachineDown}
 use Rattle.ktm_world.specs.declared.command.Command.{Command}
 use Rattle.ktm_world.specs.declared.command.Line.{Line}
+use Rattle.ktm_world.specs.declared.event.Event.TheVariants.{Boot, Single}
+use Rattle.ktm_world.specs.declared.event.Part.TheVariants.{Settings}
 use Rattle.ktm_world.specs.declared.object.Transaction.{Transaction}
 use Rattle.ktm_world.specs.declared.reply.Reply.{Reply}
 use Rattle.ktm_world.specs.declared.reply.Reply.TheVariants.{Refused}
 use Rattle.ktm_world.specs.Built.{is_built_command, is_built_event, is_built_log, is_built_line, IsBuiltState}
 use Rattle.ktm_world.specs.Decide.{decide, with_room, command_effect, refusal_of, of_keys}
-use Rattle.ktm_world.specs.Durable.{Durable, stand, events_apply, log_applies}
+use Rattle.ktm_world.specs.Durable.{Durable, stand, after_event, event_applies, events_apply, log_applies}
 use Rattle.ktm_world.specs.KeyCalls.{keys_with, kv_set, kv_unset}
-use Rattle.ktm_world.specs.Keys.{own_settings}
+use Rattle.ktm_world.specs.Keys.{OwnSettings, own_settings, stored_all, are_good_settings}
 use Rattle.ktm_world.specs.Labels.{transaction_named}
 use Rattle.ktm_world.specs.Logs.{Group, is_up}
 use Rattle.ktm_world.specs.OneOutcome.{HasOneOutcome, tellings}
 use Rattle.ktm_world.specs.Outcome.{apply, only_reply}
 use Rattle.ktm_world.specs.Present.{Present}
+use Rattle.ktm_world.specs.Sizes.{frame_size, log_size}
 use Rattle.ktm_world.specs.Transactions.{transaction_at}
 use Rattle.ktm_world.specs.TransactionCalls.{create_transaction, commit_transaction}
 use Rattle.ktm_world.specs.Transcript.{Step, Transcript}
@@ -27,7 +31,23 @@ use Rattle.ktm_world.specs.Values.{IsCommand}
 use Rattle.ktm_world.specs.World.{World, present, after, crashed, interrupted_by, interrupted_restart, found_full, opened, own_group, possible_logs}
 use Rattle.ktm_built.specs.Forms.{with_transaction, commit_outcome, with_commit}
 use Rattle.ktm_built.specs.Spelling.{IsShortEvent, IsShortWork}
-use Rattle.ktm_built.specs.Standing.{IsBuiltNow, IsBuiltWorld, IsSoundNow, IsStandingNow, IsStanding}
+use Rattle.ktm_built.specs.Standing.{IsBuiltNow, IsStandingNow, IsStanding, fresh}
+
+-- ---- what a built state takes
+
+-- a built state takes the boot that is the next one, and good settings of a transaction of the present boot, where there is a unit, and
+-- there are no more keys than units and fewer than 2^63 events then; a boot changes the boots, and settings the keys; and a log of built
+-- events leaves a built state
+abbrev pub StateLaw : Type 0
+StateLaw = ((s : Durable) (boot : ℕ) → IsBuiltState s
+    → event_applies s (Boot boot) ≡ ((boot == s.boots + 1 && nat_lt boot (2 ^ 32 - 1)) && (nat_le 1 s.units && nat_le (length s.keys) s.units) && nat_lt (s.events + 1) (2 ^ 63)))
+    × ((s : Durable) (transaction : Id) (settings : OwnSettings) → IsBuiltState s
+    → event_applies s (Single transaction (Settings settings))
+    ≡ ((transaction.boot == s.boots && are_good_settings settings) && (nat_le 1 s.units && nat_le (length (stored_all s.keys settings)) s.units) && nat_lt (s.events + 1) (2 ^ 63)))
+    × ((s : Durable) (boot : ℕ) → IsBuiltState s → after_event s (Boot boot) ≡ record s { events = s.events + 1; boots = boot })
+    × ((s : Durable) (transaction : Id) (settings : OwnSettings) → IsBuiltState s
+    → after_event s (Single transaction (Settings settings)) ≡ record s { events = s.events + 1; keys = stored_all s.keys settings })
+    × ((base : Durable) (log : List Group) → IsBuiltState base → is_built_log log ≡ true → IsBuiltState (stand base log))
 
 -- ---- what the commands come to
 
@@ -38,9 +58,9 @@ FormsLaw = ((x : Present) (reply : Reply) → IsBuiltNow x → apply x (only_rep
     × ((x : Present) (t : Transaction) → IsBuiltNow x → transaction_at x.transactions.items t.id ≡ Some t → commit_transaction x (Some t) ≡ commit_outcome x t)
     × ((x : Present) (t : Transaction) → IsBuiltNow x → transaction_at x.transactions.items t.id ≡ Some t → apply x (commit_transaction x (Some t)) ≡ with_commit x t)
     × ((x : Present) (t : Transaction) (key value : List ℕ) → IsBuiltNow x
-        → apply x (of_keys x (kv_set x.keys (Some t.id) key value)) ≡ record x { keys = keys_with x.keys (Some t.id) key (Some value) })
+    → apply x (of_keys x (kv_set x.keys (Some t.id) key value)) ≡ record x { keys = keys_with x.keys (Some t.id) key (Some value) })
     × ((x : Present) (t : Transaction) (key : List ℕ) → IsBuiltNow x
-        → apply x (of_keys x (kv_unset x.keys (Some t.id) key)) ≡ record x { keys = keys_with x.keys (Some t.id) key None })
+    → apply x (of_keys x (kv_unset x.keys (Some t.id) key)) ≡ record x { keys = keys_with x.keys (Some t.id) key None })
 
 -- the transaction that a label names is the one with its Id
 abbrev pub NamedLaw : Type 0
@@ -61,8 +81,8 @@ DecidedLaw = ((x : Present) (process : Pid) (command : Command) (refusal : Refus
 -- transaction's own settings
 abbrev pub EventsLaw : Type 0
 EventsLaw = ((x : Present) (process : Pid) (command : Command) → is_built_command command ≡ true → IsStandingNow x
-        → let events = (decide x process command).events in
-        (list_all is_built_event events ≡ true) × (x.recorded.events + length events < 2 ^ 63 → events_apply x.recorded events ≡ true) × All (IsShortEvent x.recorded.units) events)
+    → let events = (decide x process command).events in
+    (list_all is_built_event events ≡ true) × (x.recorded.events + length events < 2 ^ 63 → events_apply x.recorded events ≡ true) × All (IsShortEvent x.recorded.units) events)
     × ((x : Present) (t : Transaction) → IsStandingNow x → transaction_at x.transactions.items t.id ≡ Some t → IsShortWork x.recorded.units t.id (own_settings x.keys.own t.id))
 
 -- ---- what they keep
@@ -82,7 +102,13 @@ abbrev pub OpenedLaw : Type 0
 OpenedLaw = (base : Durable) (room : ℕ) (log : List Group) → IsBuiltState base → is_built_log log ≡ true → log_applies base log ≡ true
     → events_apply (stand base log) (own_group (stand base log)) ≡ true → IsStanding (opened base room log)
 
--- and a loss of power leaves one that stands: by itself, in a built command or in a restart; so does a restart that finds a full log
+-- what is so then is what a machine that starts from a built state has, which stands where the boot applies
+abbrev pub FreshLaw : Type 0
+FreshLaw = ((base : Durable) (room : ℕ) (log : List Group) → IsBuiltState base → is_built_log log ≡ true
+    → let s = stand base log in present (opened base room log) ≡ fresh s (room - log_size log - frame_size (own_group s)))
+    × ((s : Durable) (left : ℕ) → IsBuiltState s → events_apply s (own_group s) ≡ true → IsStandingNow (fresh s left))
+
+-- a loss of power leaves a world that stands: by itself, in a built command or in a restart; and so does a restart that finds a full log
 abbrev pub FallenLaw : Type 0
 FallenLaw = ((w : World) → IsStanding w → IsStanding (crashed w))
     × ((w : World) (process : Pid) (command : Command) → is_built_command command ≡ true → IsStanding w → IsStanding (interrupted_by w (decide (present w) process command)))

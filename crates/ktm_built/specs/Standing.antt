@@ -1,5 +1,5 @@
 -- Worlds that have only what built forms make: transactions and keys.
-use Rattle.std.specs.Prelude.{◌≡◌, ℕ, ◌^◌, ◌<◌, ◌≤◌, true, false, List, [], ◌∷◌, length, All, IfSome}
+use Rattle.std.specs.Prelude.{◌≡◌, ℕ, ◌+◌, ◌^◌, ◌<◌, ◌≤◌, true, false, List, [], ◌∷◌, length, All, IfSome}
 use Rattle.std.specs.List.{list_any, list_all}
 use Rattle.ktm_base.specs.declared.id.Id.{Id}
 use Rattle.ktm_base.specs.Bytes.{AreBytes}
@@ -9,6 +9,7 @@ use Rattle.ktm_world.specs.declared.object.Transaction.{Transaction}
 use Rattle.ktm_world.specs.declared.object.TransactionOutcome.{TransactionOutcome}
 use Rattle.ktm_world.specs.declared.object.TransactionOutcome.TheVariants.{Undetermined, Committed}
 use Rattle.ktm_world.specs.Built.{IsBuiltState, is_built_log}
+use Rattle.ktm_world.specs.Durable.{Durable}
 use Rattle.ktm_world.specs.Files.{FilesNow}
 use Rattle.ktm_world.specs.Keyed.{is_rising}
 use Rattle.ktm_world.specs.Keys.{Own, own_settings, is_good_setting}
@@ -41,6 +42,18 @@ pub record IsBuiltWorld (w : World) : Type 0 where
   pub now : IsBuiltNow (present w)
   pub log : is_built_log w.log ≡ true
   pub logs : list_all is_built_log (possible_logs w) ≡ true
+
+-- what is so once a machine started from this state and recorded that, with so many bytes left in the log
+abbrev pub fresh : Durable → ℕ → Present
+fresh s left = record {
+  machine = record { is_up = true; left = left };
+  recorded = record s { events = s.events + 1; boots = s.boots + 1 };
+  transactions = record { clock = 0; last_transaction = 0; last_manager = 0; last_enlistment = 0; items = []; enlistments = [] };
+  managers = [];
+  files = no_files;
+  keys = record { store = s.keys; own = [] };
+  handles = [];
+}
 
 -- ---- what the limits and the log do not say of it
 

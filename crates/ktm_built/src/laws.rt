@@ -1,5 +1,10 @@
 // Laws of worlds that have only what built forms make, each the contract of a function that does nothing.
-ghost use Rattle.ktm_built.specs.Laws.{FormsLaw, NamedLaw, DecidedLaw, EventsLaw, NowLaw, LawfulLaw, OpenedLaw, FallenLaw, OutcomeLaw};
+ghost use Rattle.ktm_built.specs.Laws.{StateLaw, FormsLaw, NamedLaw, DecidedLaw, EventsLaw, NowLaw, LawfulLaw, OpenedLaw, FreshLaw, FallenLaw, OutcomeLaw};
+
+/// What a built state takes, and what built events make of it.
+pub fn law_of_states()
+    ensures { StateLaw }
+{}
 
 /// Each call changes its own part of what is so now.
 pub fn law_of_forms()
@@ -34,6 +39,11 @@ pub fn law_of_lawful()
 /// A restart opens a world that stands.
 pub fn law_of_opened()
     ensures { OpenedLaw }
+{}
+
+/// What is so in the world that a restart opens.
+pub fn law_of_fresh()
+    ensures { FreshLaw }
 {}
 
 /// A loss of power leaves a world that stands.

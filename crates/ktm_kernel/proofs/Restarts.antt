@@ -19,7 +19,7 @@ use Rattle.ktm_world.specs.declared.event.Event.{Event}
 use Rattle.ktm_world.specs.declared.event.Event.TheVariants.{Boot}
 use Rattle.ktm_world.specs.Built.{is_built_event, is_built_log, IsBuiltState}
 use Rattle.ktm_world.specs.Durable.{Durable, empty_state, stand, fact_applies, fact_of, is_within_limits, events_apply, log_applies}
-use Rattle.ktm_world.specs.Sizes.{group_size, log_size}
+use Rattle.ktm_world.specs.Sizes.{frame_size, group_size, log_size}
 use Rattle.ktm_world.specs.Logs.{Group}
 use Rattle.ktm_world.specs.Outcome.{is_full as is_full_in}
 use Rattle.ktm_world.specs.Uses.{changes_waiting, file_changes_waiting, is_over_disk, is_over_quota, nodes_used, units_used}
@@ -28,8 +28,8 @@ use Rattle.ktm_world.proofs.BuiltStates.{built_log, built_stand, own_is, within_
 use Rattle.ktm_world.proofs.Durables.{stand-append, log_applies-append}
 use Rattle.ktm_world.proofs.SizeLemmas.{size_law, log_size-append}
 use Rattle.ktm_built.specs.Standing.{IsStanding, IsStandingNow}
-use Rattle.ktm_built.proofs.Worlds.{opened_law}
-use Rattle.ktm_kernel.specs.Memory.{fresh}
+use Rattle.ktm_built.proofs.Worlds.{fresh_law, opened_law}
+use Rattle.ktm_built.specs.Standing.{fresh}
 use Rattle.ktm_kernel.specs.Restarts.{HoldsBoth, base_of, is_full_for_own, Started, LeavesOwnOrNot}
 use Rattle.ktm_kernel.specs.Stands.{KernelState, IsReady}
 
@@ -148,17 +148,14 @@ module _ (units image : ℕ) (before log : List Group) (state : Durable) (is : I
   standing may = opened_law base (left_after units before) log built_base made.1 applied.1 (own_applies may)
 
   -- what is so then is that of the world that was opened
-  fresh_opened : fresh (stand base log) (left_after units before - log_size (log ++ own_group (stand base log) ∷ [])) ≡ present (opened base (left_after units before) log)
-  fresh_opened = rw built_found refl
-
   fresh_is : (left : ℕ) → left ≡ left_after units before - log_size log - 14 → fresh state left ≡ present (opened base (left_after units before) log)
-  fresh_is left left_is = ap (λ (s : Durable). fresh s left) is.is ∙ ap (λ n. fresh (stand base log) n) less ∙ fresh_opened
+  fresh_is left left_is = ap (λ (s : Durable). fresh s left) is.is ∙ ap (λ n. fresh (stand base log) n) less ∙ sym (fresh_law.0 base (left_after units before) log built_base made.1)
     where
-      own : log_size (own_group (stand base log) ∷ []) ≡ 14
-      own = ap (λ (g : Group). log_size (g ∷ [])) (own_is (stand base log) built_found) ∙ omega arith
+      own : frame_size (own_group (stand base log)) ≡ 14
+      own = ap (λ (g : Group). frame_size g) (own_is (stand base log) built_found) ∙ omega arith
 
-      less : left ≡ left_after units before - log_size (log ++ own_group (stand base log) ∷ [])
-      less = let size = log_size-append log (own_group (stand base log) ∷ []) in omega (arith, size, own)
+      less : left ≡ left_after units before - log_size log - frame_size (own_group (stand base log))
+      less = omega (arith, own)
 
   -- of the journal that the group of the restart was added to
   module _ (may : events_apply state (own_group state) ≡ true) (j k : JournalState) (units_are : j.units ≡ state.units) (image_is : j.image ≡ state.image) (old new : Option DiskState)
@@ -205,30 +202,13 @@ module _ (units image : ℕ) (before log : List Group) (state : Durable) (is : I
             log_applies-append (empty_state units image) before (log ++ own_group (stand base log) ∷ [])
             ∙ and_from _ _ applied.0 (log_applies-append base log (own_group (stand base log) ∷ []) ∙ and_from _ _ applied.1 (and_from _ _ (own_applies may) refl))
 
-quota : (state : Durable) (left : ℕ) → is_over_quota (fresh state left) ≡ false
-unfolding is_over_quota changes_waiting file_changes_waiting
-quota state left = rw (le-ltb state.units 0 (omega arith)) refl
-
-disk : (state : Durable) (left : ℕ) → length state.keys ≤ state.units → 16 ≤ state.units → is_over_disk (fresh state left) ≡ false
-unfolding is_over_disk units_used nodes_used
-disk state left few least = rw (le-ltb state.units 0 (omega arith), le-ltb state.units 1 (omega arith), le-ltb state.units (length state.keys + 0) (omega arith)) refl
-
--- what a machine that started keeps
-fresh_standing : (state : Durable) (left : ℕ) → length state.keys ≤ state.units → 16 ≤ state.units → IsStandingNow (fresh state left)
-fresh_standing state left few least = record {
-  built = record { managers = refl; enlistments = refl; last_manager = refl; last_enlistment = refl; files = refl; recorded = refl };
-  sound = record { boots_from = omega arith; units_from = omega arith; transactions = All-nil _; own = All-nil _; apart = λ a b other. refl };
-  limits = (quota state left, disk state left few least);
-  agrees = record { tree = refl; keys = refl; managers = refl; transactions = refl; next_node = omega arith };
-}
-
 -- a machine that started is ready for calls
-pub fresh_ready : (kernel : KernelState) (state : Durable) (left : ℕ) (told : Option DiskState) (status : DiskStatus) → kernel.now ≡ fresh state left → length state.keys ≤ state.units → 16 ≤ state.units
+pub fresh_ready : (kernel : KernelState) (state : Durable) (left : ℕ) (told : Option DiskState) (status : DiskStatus) → kernel.now ≡ fresh state left → IsBuiltState state → events_apply state (own_group state) ≡ true
     → status.is_down ≡ false → status.pending ≡ 0 → IfTold told (λ s. IsFormatted kernel.journal.units kernel.journal.image s.seen) → IsReady kernel told status × (kernel.now.machine.is_up ≡ true)
-fresh_ready kernel state left told status now few least up settled formatted = (
+fresh_ready kernel state left told status now built may up settled formatted = (
   record {
     powered = record { power = λ on. up; settled = λ on. settled; image = λ on. formatted };
-    standing = λ on. subst IsStandingNow (sym now) (fresh_standing state left few least);
+    standing = λ on. subst IsStandingNow (sym now) (fresh_law.1 state left built may);
   },
   ap (λ x. x.machine.is_up) now,
 )

@@ -9,7 +9,8 @@ ghost use Rattle.ktm_world.specs.TransactionCalls.{no_transaction_left};
 ghost use Rattle.ktm_built.specs.Forms.{commit_events, with_commit};
 ghost use Rattle.ktm_world.specs.Sizes.{log_size};
 ghost use Rattle.ktm_world.specs.Logs.{as_groups};
-ghost use Rattle.ktm_kernel.specs.Memory.{fresh};
+ghost use Rattle.ktm_built.specs.Standing.{fresh};
+ghost use Rattle.ktm_world.specs.Built.{IsBuiltState};
 ghost use Rattle.ktm_kernel.specs.Answered.{Answered, get_through};
 ghost use Rattle.ktm_kernel.specs.Done.{fallen};
 
@@ -70,6 +71,7 @@ impl Model for State {
     } };
 }
 
+#[tactic(auto, unfolding(ktm_world::specs::TransactionCalls::create_transaction, ktm_world::specs::TransactionCalls::create_transaction_tests))]
 impl State {
     // The transaction that a label of a process names.
     fn named(&self, process: Pid, label: Label) -> Option<Transaction>
@@ -152,6 +154,7 @@ fn refusal_of(t: &Transaction) -> Option<Refusal>
     None
 }
 
+#[tactic(auto, unfolding(ktm_world::specs::Uses::key_room, ktm_world::specs::Uses::file_changes_waiting))]
 impl State {
     /// Gives a key a value, in a transaction.
     pub fn kv_set(
@@ -342,6 +345,7 @@ impl State {
 
     /// What the machine holds once it started from this state, and recorded that.
     pub fn start(alloc: Global, state: Durable, left: u64) -> Self
+        requires built { IsBuiltState state }
         requires boots { state.boots + 1 < 2 ^ 32 }
         requires events { state.events + 1 < 2 ^ 63 }
         ensures { result.now ≡ fresh state left }

@@ -36,4 +36,4 @@ returns-clause-starts g c = λ units image before log holds.
 pub returns-clause-ready : goal.returns-clause-ready
 returns-clause-ready g c =
     fresh_ready (record { now = c.start.result.now; journal = c.append.new.self }) c.in-Ok.loaded.state c.left-left.result (g.D.Disk.told c.append.new.disk) (g.D.Disk.status c.append.new.disk)
-    c.start.ensures c.in-Ok.ensures.keys c.in-Ok.ensures.units.1 c.in-Ok-append.ensures.up c.in-Ok-append.ensures.pending c.in-Ok-append.ensures.formatted
+    c.start.ensures c.in-Ok.ensures.built (next_applies c.in-Ok.loaded.state c.in-Ok.loaded.journal.log c.in-Ok.ensures.built c.in-Ok.ensures.keys c.in-Ok.ensures.units.1 c.in-Ok.ensures.events c.in-Ok.ensures.inside c.in-Ok.ensures.area c.in-Ok.ensures.units.2) c.in-Ok-append.ensures.up c.in-Ok-append.ensures.pending c.in-Ok-append.ensures.formatted
