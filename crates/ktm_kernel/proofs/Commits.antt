@@ -1,7 +1,7 @@
 -- A commit, recorded, cut off, or refused by a full log.
 use Rattle.std.proofs.Common.{◌≡◌, ℕ, ◌+◌, ◌-◌, ◌^◌, ◌<◌, ◌≤◌, Bool, true, false, cond, not, eqb, List, [], ◌∷◌, ◌++◌, length, nat_lt, ◌&&◌, IfSome, Option, Some, None, Result, Ok, Err, refl, sym, ◌∙◌, ap, subst, arith, inl, inr}
 use Rattle.std.proofs.Math.Bool.{and-false}
-use Rattle.std.proofs.lemmas.Bool.{cases_lt, lt-ltb, le-ltb}
+use Rattle.std.proofs.lemmas.Bool.{cases_lt, eqb-true, lt-ltb, le-ltb}
 use Rattle.std.proofs.lemmas.List.{append-nil}
 use Rattle.std.proofs.lemmas.List.Elements.{All-weaker}
 use Rattle.ktm_base.specs.declared.id.Id.{Id}
@@ -24,11 +24,12 @@ use Rattle.ktm_world.specs.EventGrammar.{IsGroupOf}
 use Rattle.ktm_world.specs.Keys.{OwnSettings, own_settings}
 use Rattle.ktm_world.specs.Present.{Present}
 use Rattle.ktm_world.specs.Outcome.{Outcome, apply, first_refusal, is_full, only_reply, refuse_or, within_log}
-use Rattle.ktm_world.specs.Decide.{decide, with_room}
+use Rattle.ktm_kernel.specs.Answered.{Answered}
+use Rattle.ktm_world.specs.Decide.{command_effect, decide, with_room}
 use Rattle.ktm_world.specs.Labels.{transaction_named, transaction_tests}
 use Rattle.ktm_world.specs.TransactionCalls.{commit_transaction}
 use Rattle.ktm_world.specs.Transactions.{transaction_at}
-use Rattle.ktm_built.specs.Forms.{commit_events, with_commit}
+use Rattle.ktm_built.specs.Forms.{commit_events, commit_outcome, with_commit}
 use Rattle.ktm_built.specs.Spelling.{IsShortSetting}
 use Rattle.ktm_built.specs.Standing.{IsBuiltNow, IsStandingNow}
 use Rattle.ktm_built.proofs.Forms.{forms_law, named_law}
@@ -118,15 +119,45 @@ counted_after x id settings payload own some is fits counted =
 pub full_of : (x : Present) (len end long : ℕ) → x.machine.left ≡ len - end → len < end + long + 6 → x.machine.left < long + 6
 full_of x len end long before full = omega arith
 
+-- a machine that is up has an active transaction to commit
+room_of : (x : Present) (process : Pid) (label : Label) (t : Transaction) → x.machine.is_up ≡ true → transaction_named x process label ≡ Some t → first_refusal (transaction_tests (Some t)) ≡ None
+    → with_room x process (CommitTransaction label) ≡ commit_transaction x (Some t)
+room_of x process label t up is passed =
+    ap (λ u. refuse_or x (cond (not u) (Some MachineDown) (first_refusal (transaction_tests (transaction_named x process label)))) (commit_transaction x (transaction_named x process label))) up
+    ∙ ap (λ (n : Option Transaction). refuse_or x (first_refusal (transaction_tests n)) (commit_transaction x n)) is
+    ∙ ap (λ r. refuse_or x r (commit_transaction x (Some t))) passed
+
+-- where it set nothing, nothing is recorded
+pub commit_quiet : (x : Present) (process : Pid) (label : Label) (t : Transaction) → x.machine.is_up ≡ true → IsBuiltNow x → transaction_named x process label ≡ Some t → first_refusal (transaction_tests (Some t)) ≡ None
+    → (settings : OwnSettings) → settings ≡ own_settings x.keys.own t.id → eqb (length settings) 0 ≡ true → (new : Present) → new ≡ with_commit x t
+    → ((command_effect x process (CommitTransaction label)).events ≡ []) × Answered x process (CommitTransaction label) Committed new
+commit_quiet x process label t up built is passed settings own none new state = (
+  ap (λ (n : Option Transaction). (commit_transaction x n).events) is ∙ ap (λ (o : Outcome). o.events) outcome ∙ ap (λ (ss : OwnSettings). commit_events t.id ss) (sym own) ∙ nothing settings none,
+  record {
+    says = sym (ap (λ (o : Outcome). o.reply) (room ∙ outcome));
+    state = state ∙ sym (forms_law.3 x t built there) ∙ ap (λ o. apply x o) (sym room);
+  },
+)
+  where
+    there : transaction_at x.transactions.items t.id ≡ Some t
+    there = named_law x process label t is
+
+    outcome : commit_transaction x (Some t) ≡ commit_outcome x t
+    outcome = forms_law.2 x t built there
+
+    room : with_room x process (CommitTransaction label) ≡ commit_transaction x (Some t)
+    room = room_of x process label t up is passed
+
+    nothing : (ss : OwnSettings) → eqb (length ss) 0 ≡ true → commit_events t.id ss ≡ []
+    nothing [] zero = refl
+    nothing (s ∷ ss) zero = absurd (omega (arith, eqb-true (length (s ∷ ss)) 0 zero))
+
 -- a machine that is up has a transaction to commit, which set something
 module _ (x : Present) (process : Pid) (label : Label) (t : Transaction) (up : x.machine.is_up ≡ true) (built : IsBuiltNow x) (is : transaction_named x process label ≡ Some t) (passed : first_refusal (transaction_tests (Some t)) ≡ None)
     (settings : OwnSettings) (own : settings ≡ own_settings x.keys.own t.id) (some : eqb (length settings) 0 ≡ false)
     (payload : List ℕ) (group : IsGroupOf (Single t.id (Settings settings) ∷ []) payload) where
   room : with_room x process (CommitTransaction label) ≡ commit_transaction x (Some t)
-  room =
-      ap (λ u. refuse_or x (cond (not u) (Some MachineDown) (first_refusal (transaction_tests (transaction_named x process label)))) (commit_transaction x (transaction_named x process label))) up
-      ∙ ap (λ (n : Option Transaction). refuse_or x (first_refusal (transaction_tests n)) (commit_transaction x n)) is
-      ∙ ap (λ r. refuse_or x r (commit_transaction x (Some t))) passed
+  room = room_of x process label t up is passed
 
   events : (commit_transaction x (Some t)).events ≡ Single t.id (Settings settings) ∷ []
   events = ap (λ (o : Outcome). o.events) (forms_law.2 x t built (named_law x process label t is)) ∙ ap (λ (ss : OwnSettings). commit_events t.id ss) (sym own) ∙ recorded t.id settings some

@@ -138,6 +138,24 @@ impl State {
     }
 }
 
+// What is told of a key, through a transaction or the plain view.
+fn get_through(
+    alloc: Global,
+    keys: &KvRm,
+    who: Option<Id>,
+    key: &Text,
+) -> Result<Reply, NoMemory>
+    ensures { IfOk result (λ reply. reply ≡ get_through keys.now.keys who key.now) }
+{
+    if is_bad_key(key) {
+        return Ok(Reply::Refused(Refusal::InvalidParameter));
+    }
+    match keys.value_seen(who, key.as_slice()) {
+        Some(value) => Ok(Reply::Contents(value.copy(alloc)?)),
+        None => Ok(Reply::Refused(Refusal::NotFound)),
+    }
+}
+
 // Why a call that wants an active transaction is refused, if it is.
 fn refusal_of(t: &Transaction) -> Option<Refusal>
     ensures { result ≡ first_refusal (transaction_tests (Some t.now)) }
@@ -220,19 +238,6 @@ impl State {
         Ok(Reply::Done)
     }
 
-    // What is told of a key, through a transaction or the plain view.
-    fn get_through(&self, alloc: Global, who: Option<Id>, key: &Text) -> Result<Reply, NoMemory>
-        ensures { IfOk result (λ reply. reply ≡ get_through self.now.now.keys who key.now) }
-    {
-        if is_bad_key(key) {
-            return Ok(Reply::Refused(Refusal::InvalidParameter));
-        }
-        match self.keys.value_seen(who, key.as_slice()) {
-            Some(value) => Ok(Reply::Contents(value.copy(alloc)?)),
-            None => Ok(Reply::Refused(Refusal::NotFound)),
-        }
-    }
-
     // Through which transaction a view looks, or why it cannot.
     fn viewer(&self, process: Pid, view: View) -> Result<Option<Id>, Refusal>
         ensures ok { IfOk result (λ who. (first_refusal (view_tests self.now.now process view) ≡ None) × (viewer self.now.now process view ≡ who)) }
@@ -258,8 +263,9 @@ impl State {
         requires { self.now.now.machine.is_up ≡ true }
         ensures { IfOk result (λ reply. Answered self.now.now process (KvGet view key.now) reply self.now.now) }
     {
+        let keys = &self.keys;
         match self.viewer(process, view) {
-            Ok(who) => self.get_through(alloc, who, key),
+            Ok(who) => get_through(alloc, keys, who, key),
             Err(refusal) => Ok(Reply::Refused(refusal)),
         }
     }

@@ -19,6 +19,16 @@ returns-in-KvUnset-clause-ends g c = rw (c.in-KvUnset.is, ← c.self-in-KvUnset.
     (λ reply done. quiet_ends _ c.self-in-KvUnset.inside.state.now c.kv_unset.new.self.now c.self-in-KvUnset.inside.journal c.args.process _ reply _ (c.requires.ready.powered.power c.requires.up) refl done)
     c.kv_unset.ensures.answered)
 
+pub returns-in-KvGet-clause-ends : goal.returns-in-KvGet-clause-ends
+returns-in-KvGet-clause-ends g c = rw (c.in-KvGet.is, ← c.self-in-KvGet.view_is) (IfOk-map c.kv_get.result _ _
+    (λ reply done. quiet_ends _ c.self-in-KvGet.inside.state.now c.self-in-KvGet.inside.state.now c.self-in-KvGet.inside.journal c.args.process _ reply _ (c.requires.ready.powered.power c.requires.up) refl done)
+    c.kv_get.ensures)
+
+pub returns-in-KvList-clause-ends : goal.returns-in-KvList-clause-ends
+returns-in-KvList-clause-ends g c = rw (c.in-KvList.is, ← c.self-in-KvList.view_is) (IfOk-map c.kv_list.result _ _
+    (λ reply done. quiet_ends _ c.self-in-KvList.inside.state.now c.self-in-KvList.inside.state.now c.self-in-KvList.inside.journal c.args.process _ reply _ (c.requires.ready.powered.power c.requires.up) refl done)
+    c.kv_list.ensures)
+
 pub returns-in-CreateTransaction-clause-untouched : goal.returns-in-CreateTransaction-clause-untouched
 returns-in-CreateTransaction-clause-untouched g c = IfOk-each c.create_transaction.result _ (λ reply touches. (refl, refl))
 

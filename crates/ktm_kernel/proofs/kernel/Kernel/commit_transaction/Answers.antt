@@ -4,8 +4,9 @@ use Rattle.ktm_world.specs.Keys.{own_settings}
 use Rattle.ktm_built.specs.Forms.{with_commit}
 use Rattle.ktm_built.proofs.Forms.{named_law}
 use Rattle.ktm_built.proofs.Now.{events_law}
+use Rattle.ktm_kernel.proofs.Ready.{quiet_ends}
 use Rattle.ktm_kernel.specs.Done.{fallen}
-use Rattle.ktm_kernel.proofs.Commits.{spellable, left_is, fits_of_ok, fits_of_down, fits_left, full_of, few_of, counted_after, commit_done, commit_cut, commit_full, done_touches, cut_touches}
+use Rattle.ktm_kernel.proofs.Commits.{commit_quiet, spellable, left_is, fits_of_ok, fits_of_down, fits_left, full_of, few_of, counted_after, commit_done, commit_cut, commit_full, done_touches, cut_touches}
 use Rattle.ktm_kernel.proofs.kernel.Kernel.commit_transaction.Goals as goal
 
 pub write_single-requires-clause-settings : goal.write_single-requires-clause-settings
@@ -114,3 +115,12 @@ returns-clause-ends g c =
     c.as_slice.result.now (rw c.as_slice.ensures c.in_ok-group.ensures)
     (full_of now c.self.inside.journal.log.area.len c.self.inside.journal.log.end (length c.as_slice.result.now) c.self.invariant.0 (c.in-Err-Full.ensures.full.0 (ap Err c.in-Err-Full.field-0-is)))
     c.self.inside.journal c.append.new.self _ _ _ (c.fall-in-Err-Full.ensures ∙ ap fallen c.reserve.ensures.same) c.in-Err-Full.ensures.refused unchanged.0)
+
+pub returns-then-is_empty-clause-ends : goal.returns-then-is_empty-clause-ends
+returns-then-is_empty-clause-ends g c =
+    let now = c.self.inside.state.now in
+    let standing = rw (← c.self.view_is) at (c.requires.ready.standing c.requires.up) in
+    let own = c.own_settings-settings.ensures ∙ ap (λ n. own_settings n.keys.own c.in-Ok.t.id) c.reserve.ensures.same in
+    let quiet = commit_quiet now c.args.process c.args.label c.in-Ok.t (rw (← c.self.view_is) at c.requires.up) standing.built c.in-Ok.ensures.ok.0 c.in-Ok.ensures.ok.1 c.own_settings-settings.result.now own (sym c.is_empty.ensures ∙ c.if-is_empty.true)
+        _ (c.commit.ensures ∙ ap (λ n. with_commit n c.in-Ok.t) c.reserve.ensures.same) in
+    rw (← c.self.view_is) (quiet_ends _ now _ c.self.inside.journal c.args.process _ _ _ (c.requires.ready.powered.power c.requires.up) quiet.0 quiet.1)
