@@ -1,12 +1,12 @@
 -- What is so from before a write of no bytes, where it is so from behind it.
-use Rattle.std.proofs.Common.{◌≡◌, ◌⊎◌, inl, inr, ℕ, List, [], ◌++◌, take, Option, None, Some, refl, sym, ◌∙◌, ap, subst, length-take, arith}
+use Rattle.std.proofs.Common.{◌≡◌, inl, inr, ℕ, List, [], ◌++◌, take, Option, None, Some, refl, sym, ◌∙◌, ap, arith}
 use Rattle.std.proofs.KnownBytes.{Keeps-trans}
 use Rattle.std.proofs.lemmas.List.{append-nil, take_all}
 use Rattle.std.specs.Io.KnownBytes.{Appends, Keeps}
 use Rattle.ktm_base.specs.Disk.{DiskState, DiskStatus}
-use Rattle.ktm_run.specs.Early.{Outside, Untouched, NotRun, FoundBad, FoundFull, FoundDown, FoundNoMemory, Ends, NoRun}
+use Rattle.ktm_run.specs.Early.{Outside, NotRun, FoundBad, Ends}
 use Rattle.ktm_run.specs.Script.{AppendsPart}
-use Rattle.ktm_run.specs.Theorem.{Moment, moment_of, Replied, RunTheorem, EndedBetween, EndedWithin, NotOpened, EndedEarly}
+use Rattle.ktm_run.specs.Theorem.{Moment, moment_of, Replied, EndedBetween, EndedWithin, EndedEarly}
 use Rattle.ktm_run.specs.declared.status.Status.{Status}
 use Rattle.ktm_run.specs.declared.status.Status.TheVariants.{Done, Usage, SourceFault, SinkFault, NoMemory, BadImage, DiskFault, ScriptTooLong, LogFull}
 use Rattle.ktm_world.specs.Durable.{Durable}

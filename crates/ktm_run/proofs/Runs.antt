@@ -1,5 +1,5 @@
 -- Runs of lines go one after another, and end early at one line.
-use Rattle.std.proofs.Common.{◌≡◌, ◌⊎◌, inl, inr, ℕ, ◌+◌, ◌*◌, ◌≤◌, true, false, cond, List, [], ◌∷◌, ◌++◌, length, Option, None, Some, refl, sym, ◌∙◌, ap, subst, arith, append_assoc, length-append}
+use Rattle.std.proofs.Common.{◌≡◌, ℕ, ◌+◌, ◌*◌, ◌≤◌, true, false, cond, List, [], ◌∷◌, ◌++◌, length, Option, refl, sym, ◌∙◌, ap, subst, arith, append_assoc, length-append}
 use Rattle.std.proofs.lemmas.List.{append-nil}
 use Rattle.std.proofs.lemmas.List.Elements.{filter-append}
 use Rattle.std.proofs.lemmas.Grind.{flat_map-append}
@@ -12,7 +12,7 @@ use Rattle.ktm_kernel.specs.Stands.{KernelAt}
 use Rattle.ktm_run.proofs.Known.{Appends-none, Appends-trans}
 use Rattle.ktm_run.proofs.Counting.{Counts-none, Counts-then, keeps_base, Transcript-append, plans-append, falls-append}
 use Rattle.ktm_run.specs.Plan.{plan_of, plans, falls_of, falls}
-use Rattle.ktm_run.specs.Progress.{Scene, Now, Counts, Did, Answers, Ran, Progress, Broke, Stopped, Stops}
+use Rattle.ktm_run.specs.Progress.{Scene, Now, Counts, Answers, Ran, Progress, Broke, Stops}
 use Rattle.ktm_run.specs.Script.{has_reply, Means, MeanAll, reply_line}
 use Rattle.ktm_world.specs.declared.command.Line.{Line}
 use Rattle.ktm_world.specs.declared.reply.Reply.{Reply}

@@ -1,38 +1,35 @@
 -- From the run of the machine as it is built so far to the run of the whole model.
-use Rattle.std.proofs.Common.{◌≡◌, ◌⊎◌, inl, inr, ℕ, ◌+◌, ◌-◌, ◌*◌, ◌<◌, ◌≤◌, ◌&&◌, ◌==◌, not, Bool, true, false, List, [], ◌∷◌, ◌++◌, length, take, nat_le, nat_lt, Option, Some, None, IsTrue, refl, sym, ◌∙◌, ap, ap₂, subst, arith}
+use Rattle.std.proofs.Common.{◌≡◌, ◌⊎◌, inl, inr, ℕ, ◌-◌, ◌≤◌, ◌&&◌, ◌==◌, true, false, List, [], ◌∷◌, take, Option, Some, None, IsTrue, refl, sym, ◌∙◌, ap, ap₂, subst, arith}
 use Rattle.std.proofs.lemmas.Bool.{and_from, and_parts}
 use Rattle.std.specs.List.{list_all, filter}
-use Rattle.std.specs.Prelude.{Contains}
 use Rattle.ktm_base.specs.declared.power.PowerCall.{PowerCall}
 use Rattle.ktm_base.specs.declared.power.PowerCall.TheVariants.{Power}
-use Rattle.ktm_base.specs.Disk.{DiskState, DiskStatus, HasLengths, MayLeave, IsSafe}
+use Rattle.ktm_base.specs.Disk.{DiskState, DiskStatus, HasLengths}
 use Rattle.ktm_base.proofs.Images.{seen_law}
 use Rattle.ktm_base.specs.Told.{IfTold, Tells}
 use Rattle.ktm_base.proofs.ToldSteps.{IfTold-map, Tells-map}
 use Rattle.ktm_journal.specs.Image.{HoldsLog, left_after, StandsFor as KeyStandsFor}
-use Rattle.ktm_kernel.specs.Stands.{KernelState, KernelAt, LeavesStates as KeysLeave}
+use Rattle.ktm_kernel.specs.Stands.{LeavesStates as KeysLeave}
 use Rattle.ktm_kernel.proofs.Left.{left_law}
 use Rattle.ktm_world.specs.Durable.{Durable, empty_state, stand}
 use Rattle.ktm_keys.specs.KeysAlone.{whole_state, whole_world, is_key_event, is_key_group, is_key_log, IsOfKeys, is_built_line}
-use Rattle.ktm_world.specs.World.{World, opened}
+use Rattle.ktm_world.specs.World.{World}
 use Rattle.ktm_keys.proofs.Outcomes.{outcome_law}
 use Rattle.ktm_keys.proofs.KeysAlone.{stand_of, opened_is, contains_passes, line_law, keys_law}
 use Rattle.ktm_run.specs.declared.status.Status.{Status}
 use Rattle.ktm_run.specs.declared.status.Status.TheVariants.{Done, Usage, SourceFault, SinkFault, NoMemory, BadImage, DiskFault, ScriptTooLong, LogFull}
 use Rattle.ktm_run.specs.KeyTheorem as keys
-use Rattle.ktm_run.specs.Progress.{Scene, Now, Counts, Did, Ran, Stopped, Broke}
+use Rattle.ktm_run.specs.Progress.{Now, Counts, Broke}
 use Rattle.ktm_run.specs.Early.{Outside, Ends}
 use Rattle.ktm_run.specs.Script.{has_reply, Means, MeanAll, cut_lines, most_script}
-use Rattle.ktm_run.specs.Theorem.{BeginsWith, BeginsAs, Begins, StandsFor, LeavesStates, HoldsStates, LeavesOpening, CutOpening, Moment, moment_of, RunCounts, LineCounts, Replied, RunTheorem, EndedBetween, Unanswered, HalfWritten, EndedWithin, NotOpened, EndedEarly}
+use Rattle.ktm_run.specs.Theorem.{BeginsWith, BeginsAs, Begins, StandsFor, LeavesStates, HoldsStates, LeavesOpening, CutOpening, Moment, moment_of, LineCounts, Replied, RunTheorem, EndedBetween, Unanswered, HalfWritten, EndedWithin, NotOpened, EndedEarly}
 use Rattle.ktm_run.proofs.Theorems.{all_counts}
 use Rattle.ktm_world.specs.declared.command.Line.{Line}
 use Rattle.ktm_world.specs.declared.command.Line.TheVariants.{Restart}
 use Rattle.ktm_world.specs.declared.event.Event.{Event}
 use Rattle.ktm_world.specs.declared.event.Event.TheVariants.{Boot, MadeRm, Plain, Ready, Single, Held, Decide, Undo}
 use Rattle.ktm_world.specs.declared.event.Part.{Part}
-use Rattle.ktm_keys.specs.Durable.{Durable as KeyState, empty_state as empty_keys, stand as stand_keys, fact_applies, event_applies, events_apply, log_applies, after_event, after_events, settings_of}
-use Rattle.ktm_world.specs.Keys.{are_good_settings}
-use Rattle.ktm_world.specs.Outcome.{is_full}
+use Rattle.ktm_keys.specs.Durable.{Durable as KeyState, empty_state as empty_keys, stand as stand_keys, fact_applies, event_applies, events_apply, log_applies, after_event, after_events}
 use Rattle.ktm_world.specs.Sizes.{log_size}
 use Rattle.ktm_keys.specs.World.{World as KeyWorld, own_group, opened as opened_keys, possible_logs as possible_key_logs}
 use Rattle.ktm_world.specs.Logs.{Group, is_up}

@@ -1,15 +1,13 @@
 -- What a run of a script comes to, for the machine as it is built so far.
-use Rattle.std.specs.Prelude.{◌≡◌, ◌⊎◌, ℕ, ◌+◌, ◌-◌, ◌*◌, ◌≤◌, IsTrue, true, false, List, [], ◌∷◌, ◌++◌, length, take, Option}
+use Rattle.std.specs.Prelude.{◌≡◌, ◌⊎◌, ℕ, ◌+◌, ◌-◌, ◌≤◌, true, false, List, [], ◌∷◌, length, take, Option}
 use Rattle.std.specs.List.{filter}
 use Rattle.std.specs.Io.KnownBytes.{Appends, Consumes, IsAtEnd, Keeps}
-use Rattle.ktm_base.specs.declared.power.PowerCall.{PowerCall}
-use Rattle.ktm_base.specs.Count.{Rose}
-use Rattle.ktm_base.specs.Disk.{DiskState, DiskStatus, MayLeave, IsSafe}
+use Rattle.ktm_base.specs.Disk.{DiskState, MayLeave, IsSafe}
 use Rattle.ktm_base.specs.Told.{Tells}
 use Rattle.ktm_journal.specs.Image.{HoldsLog, left_after}
 use Rattle.ktm_kernel.specs.Stands.{LeavesStates}
-use Rattle.ktm_run.specs.Plan.{plans, falls, RoseBy, most_calls}
-use Rattle.ktm_run.specs.Progress.{Now, Scene, Ran, Stopped}
+use Rattle.ktm_run.specs.Plan.{plans, falls}
+use Rattle.ktm_run.specs.Progress.{Scene, Stopped}
 use Rattle.ktm_run.specs.Early.{Outside}
 use Rattle.ktm_run.specs.Theorem.{RunCounts}
 use Rattle.ktm_run.specs.Script.{has_reply, cut_lines, lines_from, MeanAll, written_replies, most_script}

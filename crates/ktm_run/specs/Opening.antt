@@ -1,5 +1,5 @@
 -- What the opening of an image makes of a disk.
-use Rattle.std.specs.Prelude.{◌≡◌, ◌⊎◌, ℕ, ◌<◌, List, [], length, Result, Ok, Err}
+use Rattle.std.specs.Prelude.{◌≡◌, ◌⊎◌, ℕ, ◌<◌, [], length, Result, Ok, Err}
 use Rattle.ktm_base.specs.Disk.{DiskState, IsSafe}
 use Rattle.ktm_journal.specs.Image.{HoldsLog}
 use Rattle.ktm_run.specs.declared.fault.OpenFault.{OpenFault}
