@@ -50,6 +50,7 @@ pub fn run_image<S: Source, K: Sink, D: PowerDisk>(
     // what each end leaves, over every disk
     ensures ends { Ends result (IfTold (D.told disk.old) (λ s. (base : Durable) × (room : ℕ) × BeginsAs base room s.seen))
         (record { left = S.left source.old; taken = K.taken sink.old; disk = D.told disk.old; status = D.status disk.old }) (record { left = S.left source.new; taken = K.taken sink.new; disk = D.told disk.new; status = D.status disk.new }) }
+    ensures not_usage { result ≡ Status.Usage → ⊥ }
     ensures too_long { result ≡ Status.ScriptTooLong → IfTold (S.left source.old) (λ bytes. most_script < length bytes) }
 {
     let Ok(mut kept) = Vec::with_capacity(alloc, MOST_KEPT) else {

@@ -33,6 +33,8 @@ pub fn ktm<S: Source, K: Sink, D: PowerDisk>(
     // the transcript theorem, and what stands where a run ended early
     ensures run { is_run (map string_bytes words.now) ≡ true → (base : Durable) (room : ℕ) → Tells (D.told disk.old) (Begins base room)
         → EndedEarly result base room (record { left = S.left source.old; taken = K.taken sink.old; disk = D.told disk.old; status = D.status disk.old }) (record { left = S.left source.new; taken = K.taken sink.new; disk = D.told disk.new; status = D.status disk.new }) }
+    ensures form { (is_run (map string_bytes words.now) ≡ true) ⊎ (result ≡ Status.Usage) ⊎ (result ≡ Status.SinkFault) }
+    ensures usage { result ≡ Status.Usage → is_run (map string_bytes words.now) ≡ false }
     // words that are no run
     ensures no_run { is_run (map string_bytes words.now) ≡ false → NoRun result
         (record { left = S.left source.old; taken = K.taken sink.old; disk = D.told disk.old; status = D.status disk.old }) (record { left = S.left source.new; taken = K.taken sink.new; disk = D.told disk.new; status = D.status disk.new }) }
