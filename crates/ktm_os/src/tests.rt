@@ -3,9 +3,7 @@ ghost use Rattle.ktm_base.specs.Count.{raised};
 
 use crate::{FileBlock, FileSource, ImageFile};
 use ktm_base::{Block, Failed, Source};
-use os::FromRawFd;
 use std::alloc::Global;
-use std::os::fd::OwnedFd;
 use std::test::Fail;
 use std::{fs, io};
 
@@ -172,19 +170,5 @@ fn keeps_what_is_written_and_counts_what_fails(rt: HostRuntime) -> Result<(), Fa
     assert_eq!(rt; source.read(&mut buf), Ok(0));
     assert_eq!(rt; source.faults(), 0);
     fs::remove_file(&rt, PATH)?;
-    Ok(())
-}
-
-#[test]
-fn no_file_takes_the_number_of_a_standard_stream(rt: HostRuntime) -> Result<(), Fail> {
-    let path = "ktm_os_test_apart";
-    let _ = fs::remove_file(&rt, path);
-    let standard_input = unsafe { OwnedFd::from_raw_fd(0) };
-    drop(standard_input);
-    let mut block = FileBlock::new(rt, String::from_str(rt.alloc(), path)?);
-    block.ensure(3)?;
-    let mut line = String::new(rt.alloc());
-    assert!(rt; rt.read_line(&mut line).is_err());
-    fs::remove_file(&rt, path)?;
     Ok(())
 }

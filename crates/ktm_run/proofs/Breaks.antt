@@ -1,5 +1,5 @@
 -- Where a run ends early at a line, and a plan that got room.
-use Rattle.std.proofs.Common.{◌≡◌, inl, inr, ℕ, ◌+◌, ◌*◌, ◌≤◌, List, [], ◌∷◌, ◌++◌, Option, None, Some, Result, Ok, Err, OnErr, IfOk, refl, sym, ◌∙◌, ap, subst, arith, append_assoc, take, drop}
+use Rattle.std.proofs.Common.{◌≡◌, inl, inr, ℕ, List, [], ◌++◌, Option, Some, refl, sym, ◌∙◌, ap, subst, arith, append_assoc, take, drop}
 use Rattle.std.proofs.lemmas.List.{append-nil, take-append-drop}
 use Rattle.std.specs.Io.KnownBytes.{Appends}
 use Rattle.ktm_base.specs.declared.power.PowerCall.{PowerCall}
@@ -9,7 +9,7 @@ use Rattle.ktm_kernel.proofs.Left.{left_law}
 use Rattle.ktm_run.proofs.Known.{Appends-none, Appends-trans}
 use Rattle.ktm_run.proofs.Counting.{RoseBy-none}
 use Rattle.ktm_run.proofs.Lines.{Means-kept}
-use Rattle.ktm_run.specs.Progress.{Scene, Now, Counts, Did, Answers, Unanswered, HalfWritten}
+use Rattle.ktm_run.specs.Progress.{Scene, Counts, Did, Answers, Unanswered, HalfWritten}
 use Rattle.ktm_run.specs.Script.{AppendsPart, Means, kept_of, reply_line}
 use Rattle.ktm_world.specs.declared.command.Line.{Line}
 use Rattle.ktm_world.specs.declared.command.Line.TheVariants.{Restart}

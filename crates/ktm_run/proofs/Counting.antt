@@ -1,8 +1,8 @@
 -- Counts over lines, one after another.
-use Rattle.std.proofs.Common.{◌≡◌, ℕ, ◌+◌, ◌*◌, ◌-◌, ◌^◌, ◌≤◌, min, Bool, true, false, List, [], ◌∷◌, ◌++◌, length, Option, Some, None, refl, sym, ◌∙◌, ap, subst, arith, append_assoc, add-mul}
+use Rattle.std.proofs.Common.{◌≡◌, ℕ, ◌+◌, ◌*◌, ◌≤◌, Bool, true, false, List, [], ◌∷◌, ◌++◌, Option, Some, None, refl, sym, ◌∙◌, ap, subst, arith, append_assoc, add-mul}
 use Rattle.std.proofs.lemmas.List.{append-nil}
 use Rattle.ktm_base.specs.declared.power.PowerCall.{PowerCall}
-use Rattle.ktm_run.specs.Plan.{plan_of, plans, falls_of, falls, RoseBy, most_calls}
+use Rattle.ktm_run.specs.Plan.{plan_of, plans, falls, RoseBy, most_calls}
 use Rattle.ktm_run.specs.Progress.{Scene, Counts}
 use Rattle.ktm_world.specs.declared.command.Line.{Line}
 use Rattle.ktm_world.specs.declared.command.Line.TheVariants.{Tick, Cut, Crash, Restart, Process}

@@ -7,3 +7,4 @@ pub mod Answering
 pub mod Openings
 pub mod Theorems
 pub mod Whole
+pub mod Probed

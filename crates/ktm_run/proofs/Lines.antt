@@ -1,8 +1,6 @@
 -- What is kept of a line stands for the whole line, and lines that are cut out of pieces.
-use Rattle.std.proofs.Common.{◌≡◌, ℕ, ◌+◌, ◌<◌, ◌≤◌, true, false, List, [], ◌∷◌, ◌++◌, length, get_or, take, drop, cond, eqb, min, inl, inr, Option, None, Some, refl, sym, ◌∙◌, ap, subst, arith, length-take, length-append}
-use Rattle.std.proofs.lemmas.List.{at_drop_more, take_all, take-append-le, take-take}
-use Rattle.std.proofs.Math.Seq.{take-append-add}
-use Rattle.std.proofs.lemmas.Bool.{cases_lt}
+use Rattle.std.proofs.Common.{◌≡◌, ℕ, ◌+◌, ◌<◌, ◌≤◌, true, false, List, [], ◌∷◌, ◌++◌, length, get_or, take, drop, cond, eqb, Option, None, Some, refl, sym, ◌∙◌, ap, subst, arith, length-take, length-append}
+use Rattle.std.proofs.lemmas.List.{at_drop_more, take_all, take-append-le}
 use Rattle.std.proofs.Math.Dec.{eqb-suc-zero}
 use Rattle.std.proofs.lemmas.Grind.{common_steps}
 use Rattle.ktm_run.specs.Script.{lines_from, part_from, last_line, has_reply, Means, kept_of}
@@ -75,13 +73,6 @@ pub last_some : (part kept : List ℕ) → kept ≡ kept_of part → false ≡ e
 last_some [] kept is some = let wrong : false ≡ true = subst (λ (l : List ℕ). false ≡ eqb (length l) 0) is some in cc
 last_some (b ∷ bs) kept is some = refl
 
-take-both : (m n : ℕ) (l : List ℕ) → take m (take n l) ≡ take (min n m) l
-take-both m n l = elim (cases_lt n m) [
-  | inr h ↦ let least : min n m ≡ m = omega arith in take-take m n l h ∙ ap (λ k. take k l) (sym least)
-  | inl h ↦ let least : min n m ≡ n = omega arith in take_all m (take n l) (omega (arith, length-take {A = ℕ})) ∙ ap (λ k. take k l) (sym least)
-]
-
--- of what was read, no more is looked at than there is room for
-pub within_most : (n left count : ℕ) (script buffer : List ℕ) → length script + left ≡ n → take n (script ++ take count buffer) ≡ script ++ take (min count left) buffer
-within_most n left count script buffer room =
-    ap (λ m. take m (script ++ take count buffer)) (sym room) ∙ take-append-add script (take count buffer) left ∙ ap (λ (l : List ℕ). script ++ l) (take-both left count buffer)
+-- the first bytes of two parts, of which the first has so many
+pub take_front : (n : ℕ) (xs ys : List ℕ) → length xs ≡ n → take n (xs ++ ys) ≡ xs
+take_front n xs ys same = take-append-le n xs ys (omega (arith, same)) ∙ take_all n xs (omega (arith, same))

@@ -8,12 +8,14 @@ use Rattle.ktm_base.proofs.ToldSteps.{Tells-map, Tells-step}
 use Rattle.ktm_journal.specs.Bad.{IsBadAt}
 use Rattle.ktm_journal.specs.Image.{HoldsLog, IsHeaded, StandsFor, left_after}
 use Rattle.ktm_journal.proofs.OneImage.{not_bad}
-use Rattle.ktm_kernel.specs.Restarts.{HoldsBoth, Started, base_of, is_full_for_own}
+use Rattle.ktm_kernel.specs.Restarts.{HoldsBoth, LeavesOwnOrNot, Started, base_of, is_full_for_own}
 use Rattle.ktm_kernel.specs.Stands.{KernelState, KernelAt}
 use Rattle.ktm_run.specs.Opening.{Prepared}
-use Rattle.ktm_run.specs.KeyTheorem.{Begins, BeginsAs, BeginsWith}
+use Rattle.ktm_run.specs.KeyTheorem.{Begins, BeginsAs, BeginsWith, LeavesOpening}
 use Rattle.ktm_run.specs.Theorem.{RunCounts}
-use Rattle.ktm_keys.specs.Durable.{Durable, empty_state}
+use Rattle.ktm_keys.specs.Durable.{Durable, empty_state, stand}
+use Rattle.ktm_keys.proofs.Logs.{stand-append}
+use Rattle.ktm_world.proofs.SizeLemmas.{log_size-append}
 use Rattle.ktm_world.specs.Outcome.{is_full}
 use Rattle.ktm_world.specs.Sizes.{log_size}
 use Rattle.ktm_world.specs.Logs.{Group}
@@ -155,3 +157,65 @@ bad_was_there (Some old) (Some new) offset goes bad = elim goes [
   | inl (none, all, holds) ↦ absurd (not_bad (empty_state 1024 1) new.seen offset (record { log = []; holds = holds; comes_to = refl }) bad)
   | inr (some, same) ↦ (some, subst (λ (s : DiskState). IsBadAt s.seen offset) same bad)
 ]
+
+-- of a disk that was prepared a bad image is as it was
+pub bad_kept : (old new : Option DiskState) (offset : ℕ) → Goes Prepared old new → IfTold new (λ s. IsBadAt s.seen offset) → new ≡ old
+bad_kept None None offset goes bad = refl
+bad_kept None (Some new) offset goes bad = absurd goes
+bad_kept (Some old) None offset goes bad = absurd goes
+bad_kept (Some old) (Some new) offset goes bad = elim goes [
+  | inl (none, all, holds) ↦ absurd (not_bad (empty_state 1024 1) new.seen offset (record { log = []; holds = holds; comes_to = refl }) bad)
+  | inr (some, same) ↦ ap (λ (s : DiskState). Some s) same
+]
+
+-- a new image has room for the group of a restart, so a full one was there
+pub full_kept : (old new : Option DiskState) → Goes Prepared old new → ((units image : ℕ) (before log : List Group) → Tells new (HoldsBoth units image before log) → is_full_for_own units image before log ≡ true)
+    → (new ≡ old) × IfTold old (λ s. 0 < length s.seen)
+full_kept None None goes full = (refl, tt)
+full_kept None (Some new) goes full = absurd goes
+full_kept (Some old) None goes full = absurd goes
+full_kept (Some old) (Some new) goes full = elim goes [
+  | inl (none, all, holds) ↦ let wrong : false ≡ true = full 1024 1 [] [] (all, holds) in absurd (cc)
+  | inr (some, same) ↦ (ap (λ (s : DiskState). Some s) same, some)
+]
+
+-- ---- an opening in which the disk went down
+
+any_bytes : (bytes : List ℕ) → (bytes ≡ []) ⊎ (0 < length bytes)
+any_bytes [] = inl refl
+any_bytes (byte ∷ bytes) = inr (omega arith)
+
+module _ (base : Durable) (room : ℕ) where
+  -- in the preparation
+  pub cut_before : (old new : Option DiskState) → Tells old (Begins base room) → Goes (λ old new. (old.seen ≡ []) ⊎ (new ≡ old)) old new
+      → Tells old (λ s. s.seen ≡ []) ⊎ Tells new (LeavesOpening base room)
+  cut_before None new tells goes = absurd tells
+  cut_before (Some old) None tells goes = absurd goes
+  cut_before (Some old) (Some new) tells goes = elim goes [
+    | inl none ↦ inl none
+    | inr same ↦ elim (any_bytes old.seen) [
+      | inl none ↦ inl none
+      | inr some ↦ inr (subst (λ (s : DiskState). LeavesOpening base room s) (sym same) (λ image left.
+          inl (subst (λ (l : List ℕ). BeginsWith base room l) (sym ((safe_law old image tells.0).0 left)) (begins_there base room old.seen some tells.1))))
+    ]
+  ]
+
+  recorded : (before : List Group) (image : List ℕ) → base ≡ base_of base.units base.image before → room ≡ left_after base.units before
+      → HoldsLog base.units base.image (before ++ own_group base ∷ []) image → BeginsWith (stand base (own_group base ∷ [])) (room - log_size (own_group base ∷ [])) image
+  recorded before image is left holds = record {
+    log = before ++ own_group base ∷ [];
+    holds = holds;
+    comes_to = ap (λ (d : Durable). stand d (own_group base ∷ [])) is ∙ sym (stand-append (empty_state base.units base.image) before (own_group base ∷ []));
+    room_is = let size = log_size-append before (own_group base ∷ []) in omega (arith, left, size);
+  }
+
+  -- in the restart
+  pub cut_within : (told new : Option DiskState) → Tells told (IsBase base room)
+      → ((units image : ℕ) (before log : List Group) → Tells told (HoldsBoth units image before log) → Tells new (LeavesOwnOrNot units image before log))
+      → Tells new (LeavesOpening base room)
+  cut_within None new is cut = absurd is
+  cut_within (Some s) new is cut = Tells-map new _ (LeavesOpening base room) (cut base.units base.image is.before [] is.holds) (λ t leaves image left. elim (leaves image left) [
+    | inl holds ↦ inl (record { log = is.before; holds = subst (λ (l : List Group). HoldsLog base.units base.image l image) (append-nil is.before) holds; comes_to = is.comes_to; room_is = is.room_is })
+    | inr holds ↦ inr (recorded is.before image is.comes_to is.room_is
+        (subst (λ (d : Durable). HoldsLog base.units base.image (is.before ++ own_group d ∷ []) image) (sym is.comes_to) holds))
+  ])

@@ -1,16 +1,18 @@
 -- Runs of lines go one after another, and end early at one line.
-use Rattle.std.proofs.Common.{◌≡◌, ◌⊎◌, inl, inr, ℕ, ◌+◌, ◌*◌, ◌≤◌, true, false, cond, List, [], ◌∷◌, ◌++◌, length, Option, None, Some, refl, sym, ◌∙◌, ap, subst, arith, append_assoc, length-append}
+use Rattle.std.proofs.Common.{◌≡◌, ℕ, ◌+◌, ◌*◌, ◌≤◌, true, false, cond, List, [], ◌∷◌, ◌++◌, length, Option, refl, sym, ◌∙◌, ap, subst, arith, append_assoc, length-append}
 use Rattle.std.proofs.lemmas.List.{append-nil}
 use Rattle.std.proofs.lemmas.List.Elements.{filter-append}
 use Rattle.std.proofs.lemmas.Grind.{flat_map-append}
 use Rattle.std.specs.Io.KnownBytes.{Appends}
 use Rattle.std.specs.List.{filter}
 use Rattle.ktm_base.specs.declared.power.PowerCall.{PowerCall}
+use Rattle.ktm_base.specs.Disk.{HasLengths}
+use Rattle.ktm_base.specs.Told.{IfTold}
 use Rattle.ktm_kernel.specs.Stands.{KernelAt}
 use Rattle.ktm_run.proofs.Known.{Appends-none, Appends-trans}
 use Rattle.ktm_run.proofs.Counting.{Counts-none, Counts-then, keeps_base, Transcript-append, plans-append, falls-append}
 use Rattle.ktm_run.specs.Plan.{plan_of, plans, falls_of, falls}
-use Rattle.ktm_run.specs.Progress.{Scene, Now, Counts, Did, Answers, Ran, Progress, Broke, Stopped, Stops}
+use Rattle.ktm_run.specs.Progress.{Scene, Now, Counts, Answers, Ran, Progress, Broke, Stops}
 use Rattle.ktm_run.specs.Script.{has_reply, Means, MeanAll, reply_line}
 use Rattle.ktm_world.specs.declared.command.Line.{Line}
 use Rattle.ktm_world.specs.declared.reply.Reply.{Reply}
@@ -89,9 +91,9 @@ Progress-line a b line meant reply has means answers wrote = λ w stands.
 
 -- ---- a run that ends early
 
-pub Stops-line : (a b : Now) (line : List ℕ) → ((w : World) → KernelAt a.scene.machine a.scene.disk w → Broke w a b line) → Stops a b (line ∷ [])
+pub Stops-line : (a b : Now) (line : List ℕ) → IfTold a.scene.disk HasLengths → ((w : World) → KernelAt a.scene.machine a.scene.disk w → Broke w a b line) → Stops a b (line ∷ [])
 unfolding Progress-none
-Stops-line a b line broke = λ w stands. record { before = []; line = line; behind = []; split = refl; at = a; ran = Progress-none a w stands; broke = broke w stands }
+Stops-line a b line lengths broke = λ w stands. record { before = []; line = line; behind = []; split = refl; at = a; lengths = lengths; ran = Progress-none a w stands; broke = broke w stands }
 
 pub Stops-after : (a b c : Now) (xs ys : List (List ℕ)) → Progress a b xs → Stops b c ys → Stops a c (xs ++ ys)
 unfolding Ran-then
@@ -103,6 +105,7 @@ Stops-after a b c xs ys p q = λ w stands.
       behind = last.behind;
       split = ap (λ (l : List (List ℕ)). xs ++ l) last.split ∙ sym (append_assoc xs last.before (last.line ∷ last.behind));
       at = last.at;
+      lengths = last.lengths;
       ran = Ran-then w a b last.at xs last.before first last.ran;
       broke = last.broke;
     }
@@ -115,6 +118,7 @@ Stops-within a b xs ys p = λ w stands.
       behind = first.behind ++ ys;
       split = ap (λ (l : List (List ℕ)). l ++ ys) first.split ∙ append_assoc first.before (first.line ∷ first.behind) ys;
       at = first.at;
+      lengths = first.lengths;
       ran = first.ran;
       broke = first.broke;
     }

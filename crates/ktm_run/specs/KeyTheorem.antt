@@ -1,16 +1,15 @@
 -- What a run of a script comes to, for the machine as it is built so far.
-use Rattle.std.specs.Prelude.{◌≡◌, ◌⊎◌, ℕ, ◌+◌, ◌*◌, ◌≤◌, IsTrue, true, false, List, [], ◌∷◌, ◌++◌, length, take, Option}
+use Rattle.std.specs.Prelude.{◌≡◌, ◌⊎◌, ℕ, ◌+◌, ◌-◌, ◌≤◌, true, false, List, [], ◌∷◌, length, take, Option}
 use Rattle.std.specs.List.{filter}
 use Rattle.std.specs.Io.KnownBytes.{Appends, Consumes, IsAtEnd, Keeps}
-use Rattle.ktm_base.specs.declared.power.PowerCall.{PowerCall}
-use Rattle.ktm_base.specs.Count.{Rose}
-use Rattle.ktm_base.specs.Disk.{DiskState, DiskStatus, MayLeave, IsSafe}
+use Rattle.ktm_base.specs.Disk.{DiskState, MayLeave, IsSafe}
 use Rattle.ktm_base.specs.Told.{Tells}
 use Rattle.ktm_journal.specs.Image.{HoldsLog, left_after}
 use Rattle.ktm_kernel.specs.Stands.{LeavesStates}
-use Rattle.ktm_run.specs.Plan.{plans, falls, RoseBy, most_calls}
-use Rattle.ktm_run.specs.Progress.{Now, Scene, Ran, Stopped}
-use Rattle.ktm_run.specs.Theorem.{Outside, RunCounts}
+use Rattle.ktm_run.specs.Plan.{plans, falls}
+use Rattle.ktm_run.specs.Progress.{Scene, Stopped}
+use Rattle.ktm_run.specs.Early.{Outside}
+use Rattle.ktm_run.specs.Theorem.{RunCounts}
 use Rattle.ktm_run.specs.Script.{has_reply, cut_lines, lines_from, MeanAll, written_replies, most_script}
 use Rattle.ktm_run.specs.declared.status.Status.{Status}
 use Rattle.ktm_run.specs.declared.status.Status.TheVariants.{Done, Usage, SourceFault, SinkFault, NoMemory, BadImage, DiskFault, ScriptTooLong, LogFull}
@@ -18,6 +17,7 @@ use Rattle.ktm_world.specs.declared.command.Line.{Line}
 use Rattle.ktm_world.specs.declared.reply.Reply.{Reply}
 use Rattle.ktm_keys.specs.Durable.{Durable, empty_state, stand}
 use Rattle.ktm_world.specs.Outcome.{is_full}
+use Rattle.ktm_world.specs.Sizes.{log_size}
 use Rattle.ktm_world.specs.Transcript.{Step}
 use Rattle.ktm_keys.specs.Transcript.{Transcript}
 use Rattle.ktm_keys.specs.World.{World, opened, own_group}
@@ -77,14 +77,14 @@ pub record EndedBetween (base : Durable) (room : ℕ) (old new : Outside) (scrip
 pub record EndedWithin (base : Durable) (room : ℕ) (old new : Outside) : Type 0 where
   pub script : List ℕ
   pub was_read : Consumes old.left new.left script
-  pub not_longer : length script ≤ most_script + 1
+  pub within : length script ≤ most_script
   pub room_left : is_full room (own_group base) ≡ false
   pub first : Scene
   pub last : Scene
   pub disk_is : last.disk ≡ new.disk
   pub status_is : last.status ≡ new.status
   pub opening : RunCounts base.units old.status first.status 0 [] 0
-  pub stopped : Stopped (opened base room []) (record { scene = first; taken = old.taken }) (record { scene = last; taken = new.taken }) (cut_lines (take most_script script))
+  pub stopped : Stopped (opened base room []) (record { scene = first; taken = old.taken }) (record { scene = last; taken = new.taken }) (cut_lines script)
 
 -- the machine was not started, no line was read, and what the disk holds may begin the same run
 pub record NotOpened (base : Durable) (room : ℕ) (old new : Outside) : Type 0 where
@@ -92,6 +92,16 @@ pub record NotOpened (base : Durable) (room : ℕ) (old new : Outside) : Type 0 
   pub not_written : Keeps old.taken new.taken
   pub plan_is : new.status.plan ≡ old.status.plan
   pub image : Tells new.disk (λ s. (image : List ℕ) → MayLeave s image → BeginsAs base room image)
+
+-- each image that a loss of power may leave stands for the state that the run began with, with the same room, or for that with the
+-- group of the opening recorded
+abbrev pub LeavesOpening : Durable → ℕ → DiskState → Type 0
+LeavesOpening base room s = (image : List ℕ) → MayLeave s image
+    → BeginsWith base room image ⊎ BeginsWith (stand base (own_group base ∷ [])) (room - log_size (own_group base ∷ [])) image
+
+-- the disk went down in the opening: where it had no byte, it may hold a new image that is not whole
+abbrev pub CutOpening : Durable → ℕ → Outside → Outside → Type 0
+CutOpening base room old new = Tells old.disk (λ s. s.seen ≡ []) ⊎ Tells new.disk (LeavesOpening base room)
 
 -- what stands after a run that ended early
 abbrev pub EndedEarly : Status → Durable → ℕ → Outside → Outside → Type 0
@@ -102,5 +112,5 @@ EndedEarly NoMemory base room old new = NotOpened base room old new ⊎ EndedWit
 EndedEarly LogFull base room old new = is_full room (own_group base) ≡ true
 EndedEarly BadImage base room old new = ⊥
 EndedEarly Usage base room old new = ⊥
-EndedEarly DiskFault base room old new = Unit {0}
+EndedEarly DiskFault base room old new = CutOpening base room old new
 EndedEarly Done base room old new = RunTheorem base room old new

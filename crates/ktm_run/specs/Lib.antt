@@ -3,6 +3,7 @@ pub mod Form
 pub mod Status
 pub mod Plan
 pub mod Progress
+pub mod Opening
+pub mod Early
 pub mod Theorem
 pub mod KeyTheorem
-pub mod Opening

@@ -1,11 +1,9 @@
 -- What the opening of an image makes of a disk.
-use Rattle.std.specs.Prelude.{◌≡◌, ◌⊎◌, ℕ, ◌<◌, List, [], length, Result, Ok, Err}
+use Rattle.std.specs.Prelude.{◌≡◌, ◌⊎◌, ℕ, ◌<◌, [], length, Result, Ok, Err}
 use Rattle.ktm_base.specs.Disk.{DiskState, IsSafe}
 use Rattle.ktm_journal.specs.Image.{HoldsLog}
 use Rattle.ktm_run.specs.declared.fault.OpenFault.{OpenFault}
 use Rattle.ktm_run.specs.declared.fault.OpenFault.TheVariants.{BadImage, Down, Full, NoMemory}
-use Rattle.ktm_run.specs.declared.status.Status.{Status}
-use Rattle.ktm_run.specs.declared.status.Status.TheVariants.{Done, Usage, SourceFault, SinkFault, NoMemory as NoMemoryStatus, BadImage as BadImageStatus, DiskFault, ScriptTooLong, LogFull}
 
 -- a disk without a byte became a new image, and another one is as it was
 abbrev pub Prepared : DiskState → DiskState → Type 0
@@ -26,15 +24,3 @@ IfOpened (Err (BadImage offset)) P = Unit {0}
 IfOpened (Err Down) P = Unit {0}
 IfOpened (Err Full) P = P
 IfOpened (Err NoMemory) P = Unit {0}
-
--- the fact, where the status says that the image could be opened
-abbrev pub IfOpenedBy : Status → Type 0 → Type 0
-IfOpenedBy Done P = P
-IfOpenedBy SourceFault P = P
-IfOpenedBy ScriptTooLong P = P
-IfOpenedBy LogFull P = P
-IfOpenedBy Usage P = Unit {0}
-IfOpenedBy SinkFault P = Unit {0}
-IfOpenedBy NoMemoryStatus P = Unit {0}
-IfOpenedBy BadImageStatus P = Unit {0}
-IfOpenedBy DiskFault P = Unit {0}

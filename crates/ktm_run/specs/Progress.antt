@@ -4,8 +4,8 @@ use Rattle.std.specs.List.{filter}
 use Rattle.std.specs.Io.KnownBytes.{Appends}
 use Rattle.ktm_base.specs.declared.power.PowerCall.{PowerCall}
 use Rattle.ktm_base.specs.declared.power.PowerCall.TheVariants.{Power}
-use Rattle.ktm_base.specs.Disk.{DiskState, DiskStatus}
-use Rattle.ktm_base.specs.Told.{Tells}
+use Rattle.ktm_base.specs.Disk.{DiskState, DiskStatus, HasLengths}
+use Rattle.ktm_base.specs.Told.{IfTold, Tells}
 use Rattle.ktm_kernel.specs.Stands.{KernelState, KernelAt, LeavesStates}
 use Rattle.ktm_run.specs.Plan.{plan_of, plans, falls_of, falls, RoseBy, most_calls}
 use Rattle.ktm_run.specs.Script.{has_reply, Means, MeanAll, AppendsPart, reply_line, written_replies}
@@ -63,6 +63,7 @@ pub record Ran (w : World) (old new : Now) (lines : List (List ℕ)) : Type 0 wh
   pub stands : KernelAt new.scene.machine new.scene.disk world
   pub counts : Counts w old.scene new.scene (length meant) (plans meant replies) (falls meant steps replies)
 
+-- so many lines went on from one moment to the next, for every world that the machine stands for
 abbrev pub Progress : Now → Now → List (List ℕ) → Type 0
 Progress old new lines = (w : World) → KernelAt old.scene.machine old.scene.disk w → Ran w old new lines
 
@@ -86,8 +87,11 @@ pub record Stopped (w : World) (old new : Now) (lines : List (List ℕ)) : Type 
   pub behind : List (List ℕ)
   pub split : lines ≡ before ++ line ∷ behind
   pub at : Now
+  -- what the disk reads there is as long as an image that may be left
+  pub lengths : IfTold at.scene.disk HasLengths
   pub ran : Ran w old at before
   pub broke : Broke ran.world at new line
 
+-- among these lines the run ended early, for every world that the machine stands for
 abbrev pub Stops : Now → Now → List (List ℕ) → Type 0
 Stops old new lines = (w : World) → KernelAt old.scene.machine old.scene.disk w → Stopped w old new lines

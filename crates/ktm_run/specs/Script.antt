@@ -1,6 +1,6 @@
 -- The lines of a script, what they mean, and how replies are written.
 use Rattle.std.specs.Prelude.{◌≡◌, ℕ, ◌+◌, ◌==◌, Bool, true, false, not, List, [], ◌∷◌, ◌++◌, Option, Some, None, take, if◌then◌else◌}
-use Rattle.std.specs.List.{filter, flat_map}
+use Rattle.std.specs.List.{flat_map}
 use Rattle.std.specs.Io.KnownBytes.{Appends}
 use Rattle.ktm_reply.specs.Spelling.{reply_spelling}
 use Rattle.ktm_script.specs.Spelling.{IsLine, most_bytes, spelling}

@@ -3,6 +3,7 @@ use Rattle.std.specs.Prelude.{ℕ}
 use Rattle.ktm_run.specs.declared.status.Status.{Status}
 use Rattle.ktm_run.specs.declared.status.Status.TheVariants.{Done, Usage, SourceFault, SinkFault, NoMemory, BadImage, DiskFault, ScriptTooLong, LogFull}
 
+-- a run that ended well has 0, and each other end a code of its own
 abbrev pub exit_code_of : Status → ℕ
 exit_code_of Done = 0
 exit_code_of Usage = 1

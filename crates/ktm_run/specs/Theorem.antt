@@ -1,10 +1,9 @@
 -- What a run of a script comes to, and what stands where one ended early.
-use Rattle.std.specs.Prelude.{◌≡◌, ◌⊎◌, ℕ, ◌+◌, ◌*◌, ◌≤◌, IsTrue, true, false, List, [], ◌∷◌, ◌++◌, length, take, Option, Some, Contains}
+use Rattle.std.specs.Prelude.{◌≡◌, ◌⊎◌, ℕ, ◌+◌, ◌-◌, ◌*◌, ◌≤◌, true, false, List, [], ◌∷◌, ◌++◌, length, take, Option, Some, Contains}
 use Rattle.std.specs.List.{filter}
 use Rattle.std.specs.Io.KnownBytes.{Appends, Consumes, IsAtEnd, Keeps}
 use Rattle.ktm_base.specs.declared.power.PowerCall.{PowerCall}
 use Rattle.ktm_base.specs.declared.power.PowerCall.TheVariants.{Power}
-use Rattle.ktm_base.specs.Count.{Rose}
 use Rattle.ktm_base.specs.Disk.{DiskState, DiskStatus, MayLeave, IsSafe}
 use Rattle.ktm_base.specs.Told.{Tells}
 use Rattle.ktm_journal.specs.Image.{HoldsLog, left_after}
@@ -12,6 +11,7 @@ use Rattle.ktm_world.specs.Durable.{Durable, empty_state, stand}
 use Rattle.ktm_world.specs.OneOutcome.{HasOneOutcome, tellings}
 use Rattle.ktm_world.specs.Transcript.{Does, Transcript, Step}
 use Rattle.ktm_world.specs.World.{World, opened, own_group, possible_logs}
+use Rattle.ktm_run.specs.Early.{Outside, Untouched}
 use Rattle.ktm_run.specs.Plan.{plan_of, plans, falls_of, falls, RoseBy, most_calls}
 use Rattle.ktm_run.specs.Script.{has_reply, cut_lines, lines_from, Means, MeanAll, AppendsPart, reply_line, written_replies, most_script}
 use Rattle.ktm_run.specs.declared.status.Status.{Status}
@@ -20,6 +20,7 @@ use Rattle.ktm_world.specs.declared.command.Line.{Line}
 use Rattle.ktm_world.specs.declared.command.Line.TheVariants.{Restart}
 use Rattle.ktm_world.specs.declared.reply.Reply.{Reply}
 use Rattle.ktm_world.specs.Outcome.{is_full}
+use Rattle.ktm_world.specs.Sizes.{log_size}
 use Rattle.ktm_world.specs.Logs.{Group, is_up}
 
 -- ---- what a run begins from
@@ -52,6 +53,11 @@ pub record StandsFor (state : Durable) (image : List ℕ) : Type 0 where
 abbrev pub LeavesStates : World → DiskState → Type 0
 LeavesStates w s = (image : List ℕ) → MayLeave s image → (log : List Group) × Contains (possible_logs w) log × StandsFor (stand w.base log) image
 
+-- what the disk reads, and each image that a loss of power may leave, stands for the state of a possible log
+pub record HoldsStates (w : World) (s : DiskState) : Type 0 where
+  pub seen : (log : List Group) × Contains (possible_logs w) log × StandsFor (stand w.base log) s.seen
+  pub left : LeavesStates w s
+
 -- ---- the run
 
 -- what the sink took, and what the disk tells and counts
@@ -60,13 +66,7 @@ pub record Moment : Type 0 where
   pub disk : Option DiskState
   pub status : DiskStatus
 
--- the outside: that, and what the source has left
-pub record Outside : Type 0 where
-  pub left : Option (List ℕ)
-  pub taken : Option (List ℕ)
-  pub disk : Option DiskState
-  pub status : DiskStatus
-
+-- all of it but what the source has left
 abbrev pub moment_of : Outside → Moment
 moment_of o = record { taken = o.taken; disk = o.disk; status = o.status }
 
@@ -98,8 +98,8 @@ pub record Replied (base : Durable) (room : ℕ) (old new : Moment) (lines : Lis
   -- the interrupted lines and the crashes that were answered are at most as many as the disk went down, the plan grew by that of
   -- the lines, and there were so few device calls
   pub counts : RunCounts base.units old.status new.status (length meant) (plans meant replies) (falls meant steps replies)
-  -- each image that a loss of power may leave stands for the state of a possible log of the world
-  pub images : Tells new.disk (LeavesStates world)
+  -- the disk holds the state of a possible log of the world
+  pub holds : Tells new.disk (HoldsStates world)
 
 -- the run of a whole script
 pub record RunTheorem (base : Durable) (room : ℕ) (old new : Outside) : Type 0 where
@@ -120,11 +120,11 @@ pub record EndedBetween (base : Durable) (room : ℕ) (old new : Outside) (scrip
   pub room_left : is_full room (own_group base) ≡ false
   pub replied : Replied base room (moment_of old) (moment_of new) (lines_from [] lines)
 
--- a line was not executed, or it was a restart that found no memory: nothing of a reply was written, and what may be left is of the
--- same world
+-- a line was not executed, or it was a restart that found no memory: nothing of a reply was written, and the disk holds a state of
+-- the same world
 pub record Unanswered (w : World) (old new : Moment) (line : List ℕ) : Type 0 where
   pub wrote : Appends old.taken new.taken []
-  pub leaves : Tells new.disk (LeavesStates w)
+  pub holds : Tells new.disk (HoldsStates w)
   pub counts : LineCounts w.base.units old.status new.status 1 [] 0
       ⊎ ((pick : ℕ) × Means line (Some (Restart pick)) × (is_up w.power ≡ false) × LineCounts w.base.units old.status new.status 1 (Power pick ∷ []) 0)
 
@@ -138,18 +138,18 @@ pub record HalfWritten (w : World) (old new : Moment) (line : List ℕ) : Type 0
   pub does : Does w meant step reply world
   pub wrote : AppendsPart old.taken new.taken (reply_line reply)
   pub counts : LineCounts w.base.units old.status new.status 1 (plan_of meant reply) (falls_of meant step reply)
-  pub leaves : Tells new.disk (LeavesStates world)
+  pub holds : Tells new.disk (HoldsStates world)
 
 -- the script so far: its first lines were answered, and at the next one the run ended
 pub record EndedWithin (base : Durable) (room : ℕ) (old new : Outside) : Type 0 where
   pub script : List ℕ
   pub was_read : Consumes old.left new.left script
-  pub not_longer : length script ≤ most_script + 1
+  pub within : length script ≤ most_script
   pub room_left : is_full room (own_group base) ≡ false
   pub before : List (List ℕ)
   pub line : List ℕ
   pub behind : List (List ℕ)
-  pub split : cut_lines (take most_script script) ≡ before ++ line ∷ behind
+  pub split : cut_lines script ≡ before ++ line ∷ behind
   -- the moment before that line
   pub at : Moment
   pub replied : Replied base room (moment_of old) at before
@@ -162,18 +162,24 @@ pub record NotOpened (base : Durable) (room : ℕ) (old new : Outside) : Type 0 
   pub plan_is : new.status.plan ≡ old.status.plan
   pub image : Tells new.disk (λ s. (image : List ℕ) → MayLeave s image → BeginsAs base room image)
 
+-- each image that a loss of power may leave stands for the state that the run began with, with the same room, or for that with the
+-- group of the opening recorded
+abbrev pub LeavesOpening : Durable → ℕ → DiskState → Type 0
+LeavesOpening base room s = (image : List ℕ) → MayLeave s image
+    → BeginsWith base room image ⊎ BeginsWith (stand base (own_group base ∷ [])) (room - log_size (own_group base ∷ [])) image
+
+-- the disk went down in the opening: where it had no byte, it may hold a new image that is not whole
+abbrev pub CutOpening : Durable → ℕ → Outside → Outside → Type 0
+CutOpening base room old new = Tells old.disk (λ s. s.seen ≡ []) ⊎ Tells new.disk (LeavesOpening base room)
+
 -- what stands after a run that ended early
 abbrev pub EndedEarly : Status → Durable → ℕ → Outside → Outside → Type 0
 EndedEarly SourceFault base room old new = (script : List ℕ) × (length script ≤ most_script) × EndedBetween base room old new script script
 EndedEarly ScriptTooLong base room old new = (script : List ℕ) × (length script ≡ most_script + 1) × EndedBetween base room old new script (take most_script script)
-EndedEarly SinkFault base room old new = EndedWithin base room old new
+EndedEarly SinkFault base room old new = Untouched old new ⊎ EndedWithin base room old new
 EndedEarly NoMemory base room old new = NotOpened base room old new ⊎ EndedWithin base room old new
 EndedEarly LogFull base room old new = is_full room (own_group base) ≡ true
 EndedEarly BadImage base room old new = ⊥
 EndedEarly Usage base room old new = ⊥
-EndedEarly DiskFault base room old new = Unit {0}
+EndedEarly DiskFault base room old new = CutOpening base room old new
 EndedEarly Done base room old new = RunTheorem base room old new
-
--- the disk was down before, or it went down
-abbrev pub WentDown : DiskStatus → DiskStatus → Type 0
-WentDown before now = IsTrue before.is_down ⊎ Rose before.downs now.downs

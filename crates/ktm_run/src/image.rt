@@ -1,15 +1,13 @@
 // The run of a script on an image.
-ghost use Rattle.std.specs.Prelude.{◌≡◌, ◌<◌, ℕ, length, OnOk};
+ghost use Rattle.std.specs.Prelude.{◌≡◌, ◌<◌, ℕ, length, OnOk, OnErr};
 ghost use Rattle.std.specs.Io.KnownBytes.{Appends};
 ghost use Rattle.ktm_base.specs.Count.{Rose};
 ghost use Rattle.ktm_base.specs.Stream.{Faults};
 ghost use Rattle.ktm_base.specs.Told.{IfTold, Tells};
-ghost use Rattle.ktm_journal.specs.Bad.{IsBadAt};
 ghost use Rattle.ktm_run.specs.Form.{bad_image_line};
 ghost use Rattle.ktm_run.specs.KeyTheorem.{Begins, BeginsAs, EndedEarly};
-ghost use Rattle.ktm_run.specs.Opening.{IfOpenedBy};
-ghost use Rattle.ktm_run.specs.Script.{most_script};
-ghost use Rattle.ktm_run.specs.Theorem.{WentDown};
+ghost use Rattle.ktm_run.specs.Early.{Ends};
+ghost use Rattle.ktm_run.specs.Script.{AppendsPart, most_script};
 ghost use Rattle.ktm_keys.specs.Durable.{Durable};
 
 use crate::fault::OpenFault;
@@ -24,6 +22,7 @@ use std::alloc::Global;
 // Says at which offset the image is bad.
 fn write_bad_image<K: Sink>(sink: &mut K, offset: u64) -> Result<(), Failed>
     ensures ok { OnOk result (Appends (K.taken sink.old) (K.taken sink.new) (bad_image_line offset)) }
+    ensures err { OnErr result (AppendsPart (K.taken sink.old) (K.taken sink.new) (bad_image_line offset)) }
     ensures faults { Faults (K.faults sink.old) (K.faults sink.new) result }
 {
     if let Err(Failed) = write_all(sink, b"bad image at ") {
@@ -48,12 +47,11 @@ pub fn run_image<S: Source, K: Sink, D: PowerDisk>(
         → EndedEarly result base room (record { left = S.left source.old; taken = K.taken sink.old; disk = D.told disk.old; status = D.status disk.old }) (record { left = S.left source.new; taken = K.taken sink.new; disk = D.told disk.new; status = D.status disk.new }) }
     ensures source { result ≡ Status.SourceFault → Rose (S.faults source.old) (S.faults source.new) }
     ensures sink { result ≡ Status.SinkFault → Rose (K.faults sink.old) (K.faults sink.new) }
-    ensures bad_image { result ≡ Status.BadImage → (offset : ℕ) × Appends (K.taken sink.old) (K.taken sink.new) (bad_image_line offset)
-        × IfTold (D.told disk.old) (λ s. (0 < length s.seen) × IsBadAt s.seen offset) }
-    ensures opens { IfOpenedBy result (IfTold (D.told disk.old) (λ s. (base : Durable) × (room : ℕ) × BeginsAs base room s.seen)) }
-    ensures disk { result ≡ Status.DiskFault → WentDown (D.status disk.old) (D.status disk.new) × ((D.status disk.new).plan ≡ (D.status disk.old).plan) }
-    ensures too_long { result ≡ Status.ScriptTooLong → IfTold (S.left source.old) (λ bytes. most_script < length bytes) }
+    // what each end leaves, over every disk
+    ensures ends { Ends result (IfTold (D.told disk.old) (λ s. (base : Durable) × (room : ℕ) × BeginsAs base room s.seen))
+        (record { left = S.left source.old; taken = K.taken sink.old; disk = D.told disk.old; status = D.status disk.old }) (record { left = S.left source.new; taken = K.taken sink.new; disk = D.told disk.new; status = D.status disk.new }) }
     ensures not_usage { result ≡ Status.Usage → ⊥ }
+    ensures too_long { result ≡ Status.ScriptTooLong → IfTold (S.left source.old) (λ bytes. most_script < length bytes) }
 {
     let Ok(mut kept) = Vec::with_capacity(alloc, MOST_KEPT) else {
         return Status::NoMemory;

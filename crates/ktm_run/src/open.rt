@@ -1,12 +1,13 @@
 // The machine of an image.
-ghost use Rattle.std.specs.Prelude.{◌≡◌, ◌+◌, ◌*◌, ◌<◌, ◌≤◌, [], ℕ, List, length, false, true, is_err, IfOk, OnOk, IsErrOf};
+ghost use Rattle.std.specs.Prelude.{◌≡◌, ◌⊎◌, ◌+◌, ◌*◌, ◌<◌, ◌≤◌, [], ℕ, List, length, false, true, is_err, IfOk, OnOk, OnErr, IsErrOf};
 ghost use Rattle.ktm_base.specs.Disk.{DeviceCalls, MayLeave};
 ghost use Rattle.ktm_base.specs.Told.{IfTold, Tells, Goes};
 ghost use Rattle.ktm_journal.specs.Bad.{IsBadAt};
 ghost use Rattle.ktm_kernel.specs.Stands.{KernelAt, IsReady};
 ghost use Rattle.ktm_run.specs.Opening.{Prepared, IfBadImage, IfOpened};
-ghost use Rattle.ktm_run.specs.KeyTheorem.{Begins, BeginsAs};
-ghost use Rattle.ktm_run.specs.Theorem.{RunCounts, WentDown};
+ghost use Rattle.ktm_run.specs.KeyTheorem.{Begins, BeginsAs, LeavesOpening};
+ghost use Rattle.ktm_run.specs.Early.{WentDown};
+ghost use Rattle.ktm_run.specs.Theorem.{RunCounts};
 ghost use Rattle.ktm_keys.specs.Durable.{Durable};
 ghost use Rattle.ktm_world.specs.Outcome.{is_full};
 ghost use Rattle.ktm_keys.specs.World.{opened, own_group};
@@ -27,6 +28,7 @@ const IMAGE: u16 = 1;
 fn prepare<D: Disk>(disk: &mut D) -> Result<(), Down>
     requires { (D.status disk.old).pending ≡ 0 }
     ensures ok { OnOk result (Goes Prepared (D.told disk.old) (D.told disk.new)) }
+    ensures err { OnErr result (Goes (λ old new. (old.seen ≡ []) ⊎ (new ≡ old)) (D.told disk.old) (D.told disk.new)) }
     ensures pending { OnOk result ((D.status disk.new).pending ≡ 0) }
     ensures up { OnOk result ((D.status disk.new).is_down ≡ false) }
     ensures calls { DeviceCalls (8 * 1024 + 65) (D.status disk.old) (D.status disk.new) (is_err result) }
@@ -52,8 +54,12 @@ pub fn open_kernel<D: Disk>(alloc: Global, disk: &mut D) -> Result<Kernel, OpenF
     ensures ready { IfOk result (λ kernel. IsReady kernel (D.told disk.new) (D.status disk.new)) }
     ensures full { IsErrOf result OpenFault.Full → (base : Durable) (room : ℕ) → Tells (D.told disk.old) (Begins base room) → is_full room (own_group base) ≡ true }
     ensures opens { IfOpened result (IfTold (D.told disk.old) (λ s. (base : Durable) × (room : ℕ) × BeginsAs base room s.seen)) }
-    ensures bad { IfBadImage result (λ offset. IfTold (D.told disk.old) (λ s. (0 < length s.seen) × IsBadAt s.seen offset)) }
+    ensures bad { IfBadImage result (λ offset. (D.told disk.new ≡ D.told disk.old) × IfTold (D.told disk.old) (λ s. (0 < length s.seen) × IsBadAt s.seen offset)) }
+    ensures found_full { IsErrOf result OpenFault.Full → (D.told disk.new ≡ D.told disk.old) × IfTold (D.told disk.old) (λ s. 0 < length s.seen) }
     ensures down { IsErrOf result OpenFault.Down → WentDown (D.status disk.old) (D.status disk.new) }
+    ensures cut { IsErrOf result OpenFault.Down → (base : Durable) (room : ℕ) → Tells (D.told disk.old) (Begins base room)
+        → Tells (D.told disk.old) (λ s. s.seen ≡ []) ⊎ Tells (D.told disk.new) (LeavesOpening base room) }
+    ensures not_recorded { IsErrOf result OpenFault.NoMemory → Goes Prepared (D.told disk.old) (D.told disk.new) }
     ensures no_memory { IsErrOf result OpenFault.NoMemory → (base : Durable) (room : ℕ) → Tells (D.told disk.old) (Begins base room)
         → Tells (D.told disk.new) (λ s. (image : List ℕ) → MayLeave s image → BeginsAs base room image) }
     ensures plan { (D.status disk.new).plan ≡ (D.status disk.old).plan }

@@ -1,14 +1,12 @@
 // The program.
-ghost use Rattle.std.specs.Prelude.{◌≡◌, ◌⊎◌, ◌<◌, ◌≤◌, ℕ, [], length, map, true, false};
-ghost use Rattle.std.specs.Io.KnownBytes.{Appends};
+ghost use Rattle.std.specs.Prelude.{◌≡◌, ◌⊎◌, ◌<◌, ◌≤◌, ℕ, length, map, true, false};
 ghost use Rattle.std.specs.String.{string_bytes};
 ghost use Rattle.ktm_base.specs.Count.{Rose};
 ghost use Rattle.ktm_base.specs.Told.{IfTold, Tells};
-ghost use Rattle.ktm_journal.specs.Bad.{IsBadAt};
-ghost use Rattle.ktm_run.specs.Form.{is_run, usage_line, bad_image_line};
-ghost use Rattle.ktm_run.specs.Opening.{IfOpenedBy};
+ghost use Rattle.ktm_run.specs.Early.{Ends, FoundDown, NoRun};
+ghost use Rattle.ktm_run.specs.Form.{is_run};
 ghost use Rattle.ktm_run.specs.Script.{most_script};
-ghost use Rattle.ktm_run.specs.Theorem.{Begins, BeginsAs, EndedEarly, WentDown};
+ghost use Rattle.ktm_run.specs.Theorem.{Begins, BeginsAs, EndedEarly};
 ghost use Rattle.ktm_world.specs.Durable.{Durable};
 
 use crate::form::is_run_form;
@@ -20,6 +18,8 @@ use std::alloc::Global;
 
 /// The program: its words are those behind its name, the source is the script, the sink is where the replies go, and the
 /// disk is the image. So far the words are `run IMAGE SCRIPT`. A disk without a byte becomes a new image.
+///
+/// A sink that fails at a write of no bytes ends it before anything is touched.
 ///
 /// It may end early with want of memory at any time, and with each other status only for its cause.
 pub fn ktm<S: Source, K: Sink, D: PowerDisk>(
@@ -35,20 +35,25 @@ pub fn ktm<S: Source, K: Sink, D: PowerDisk>(
         → EndedEarly result base room (record { left = S.left source.old; taken = K.taken sink.old; disk = D.told disk.old; status = D.status disk.old }) (record { left = S.left source.new; taken = K.taken sink.new; disk = D.told disk.new; status = D.status disk.new }) }
     ensures form { (is_run (map string_bytes words.now) ≡ true) ⊎ (result ≡ Status.Usage) ⊎ (result ≡ Status.SinkFault) }
     ensures usage { result ≡ Status.Usage → is_run (map string_bytes words.now) ≡ false }
-    ensures says_usage { result ≡ Status.Usage → Appends (K.taken sink.old) (K.taken sink.new) usage_line }
+    // words that are no run
+    ensures no_run { is_run (map string_bytes words.now) ≡ false → NoRun result
+        (record { left = S.left source.old; taken = K.taken sink.old; disk = D.told disk.old; status = D.status disk.old }) (record { left = S.left source.new; taken = K.taken sink.new; disk = D.told disk.new; status = D.status disk.new }) }
+    // what each end of a run leaves, over every disk
+    ensures ends { is_run (map string_bytes words.now) ≡ true → Ends result (IfTold (D.told disk.old) (λ s. (base : Durable) × (room : ℕ) × BeginsAs base room s.seen))
+        (record { left = S.left source.old; taken = K.taken sink.old; disk = D.told disk.old; status = D.status disk.old }) (record { left = S.left source.new; taken = K.taken sink.new; disk = D.told disk.new; status = D.status disk.new }) }
     ensures source { result ≡ Status.SourceFault → Rose (S.faults source.old) (S.faults source.new) }
     ensures sink { result ≡ Status.SinkFault → Rose (K.faults sink.old) (K.faults sink.new) }
-    ensures bad_image { result ≡ Status.BadImage → (offset : ℕ) × Appends (K.taken sink.old) (K.taken sink.new) (bad_image_line offset)
-        × IfTold (D.told disk.old) (λ s. (0 < length s.seen) × IsBadAt s.seen offset) }
-    ensures opens { IfOpenedBy result (IfTold (D.told disk.old) (λ s. (base : Durable) × (room : ℕ) × BeginsAs base room s.seen)) }
-    ensures disk { result ≡ Status.DiskFault → WentDown (D.status disk.old) (D.status disk.new) × ((D.status disk.new).plan ≡ (D.status disk.old).plan) }
     ensures too_long { result ≡ Status.ScriptTooLong → IfTold (S.left source.old) (λ bytes. most_script < length bytes) }
     // where neither the source nor the sink fails and the script is not too long, a run ends early only for want of memory, for a
-    // full log, or without power
+    // full log, or where the disk was down in the opening or went down in it
     ensures complete { is_run (map string_bytes words.now) ≡ true → (base : Durable) (room : ℕ) → Tells (D.told disk.old) (Begins base room)
         → ¬ Rose (S.faults source.old) (S.faults source.new) → ¬ Rose (K.faults sink.old) (K.faults sink.new) → Tells (S.left source.old) (λ bytes. length bytes ≤ most_script)
-        → (result ≡ Status.Done) ⊎ (result ≡ Status.NoMemory) ⊎ (result ≡ Status.LogFull) ⊎ (result ≡ Status.DiskFault) }
+        → (result ≡ Status.Done) ⊎ (result ≡ Status.NoMemory) ⊎ (result ≡ Status.LogFull)
+        ⊎ ((result ≡ Status.DiskFault) × FoundDown (record { left = S.left source.old; taken = K.taken sink.old; disk = D.told disk.old; status = D.status disk.old }) (record { left = S.left source.new; taken = K.taken sink.new; disk = D.told disk.new; status = D.status disk.new })) }
 {
+    if let Err(Failed) = sink.write(&[]) {
+        return Status::SinkFault;
+    }
     if !is_run_form(words) {
         if let Err(Failed) = write_line(
             sink,

@@ -92,10 +92,10 @@ fn run_pieces<S: Source, K: Sink, D: PowerDisk>(
         (record { scene = record { machine = kernel.old; disk = D.told disk.old; status = D.status disk.old }; taken = K.taken sink.old })
         (record { scene = record { machine = kernel.new; disk = D.told disk.new; status = D.status disk.new }; taken = K.taken sink.new })
         (lines_from [] (take most_script script)) }
-    ensures within { (result ≡ Status.SinkFault) ⊎ (result ≡ Status.NoMemory) → (script : List ℕ) × Consumes (S.left source.old) (S.left source.new) script × (length script ≤ most_script + 1) × Stops
+    ensures within { (result ≡ Status.SinkFault) ⊎ (result ≡ Status.NoMemory) → (script : List ℕ) × Consumes (S.left source.old) (S.left source.new) script × (length script ≤ most_script) × Stops
         (record { scene = record { machine = kernel.old; disk = D.told disk.old; status = D.status disk.old }; taken = K.taken sink.old })
         (record { scene = record { machine = kernel.new; disk = D.told disk.new; status = D.status disk.new }; taken = K.taken sink.new })
-        (cut_lines (take most_script script)) }
+        (cut_lines script) }
     ensures source { result ≡ Status.SourceFault → Rose (S.faults source.old) (S.faults source.new) }
     ensures sink { result ≡ Status.SinkFault → Rose (K.faults sink.old) (K.faults sink.new) }
     ensures too_long { result ≡ Status.ScriptTooLong → IfTold (S.left source.old) (λ bytes. most_script < length bytes) }
@@ -105,8 +105,9 @@ fn run_pieces<S: Source, K: Sink, D: PowerDisk>(
     ensures not_full { result ≡ Status.LogFull → ⊥ }
 {
     let mut left = MOST_SCRIPT;
+    // once nothing is left, one byte alone is asked for: is there more
     'pieces: loop {
-        let Ok(count) = read_some(source, buffer, left + 1) else {
+        let Ok(count) = read_some(source, buffer, left.max(1)) else {
             return Status::SourceFault;
         };
         if count == 0 {
@@ -116,14 +117,13 @@ fn run_pieces<S: Source, K: Sink, D: PowerDisk>(
                 Err(RunFault::NoMemory) => return Status::NoMemory,
             }
         }
-        let within = (count as u64).min(left) as usize;
-        match feed(alloc, kernel, disk, sink, kept, &buffer[..within]) {
+        if left == 0 {
+            return Status::ScriptTooLong;
+        }
+        match feed(alloc, kernel, disk, sink, kept, &buffer[..count]) {
             Ok(()) => {}
             Err(RunFault::SinkFault) => return Status::SinkFault,
             Err(RunFault::NoMemory) => return Status::NoMemory,
-        }
-        if within < count {
-            return Status::ScriptTooLong;
         }
         left -= count as u64;
     }
@@ -152,10 +152,10 @@ pub fn run_script<S: Source, K: Sink, D: PowerDisk>(
         (record { scene = record { machine = kernel.old; disk = D.told disk.old; status = D.status disk.old }; taken = K.taken sink.old })
         (record { scene = record { machine = kernel.new; disk = D.told disk.new; status = D.status disk.new }; taken = K.taken sink.new })
         (lines_from [] (take most_script script)) }
-    ensures within { (result ≡ Status.SinkFault) ⊎ (result ≡ Status.NoMemory) → (script : List ℕ) × Consumes (S.left source.old) (S.left source.new) script × (length script ≤ most_script + 1) × Stops
+    ensures within { (result ≡ Status.SinkFault) ⊎ (result ≡ Status.NoMemory) → (script : List ℕ) × Consumes (S.left source.old) (S.left source.new) script × (length script ≤ most_script) × Stops
         (record { scene = record { machine = kernel.old; disk = D.told disk.old; status = D.status disk.old }; taken = K.taken sink.old })
         (record { scene = record { machine = kernel.new; disk = D.told disk.new; status = D.status disk.new }; taken = K.taken sink.new })
-        (cut_lines (take most_script script)) }
+        (cut_lines script) }
     ensures source { result ≡ Status.SourceFault → Rose (S.faults source.old) (S.faults source.new) }
     ensures sink { result ≡ Status.SinkFault → Rose (K.faults sink.old) (K.faults sink.new) }
     ensures too_long { result ≡ Status.ScriptTooLong → IfTold (S.left source.old) (λ bytes. most_script < length bytes) }

@@ -11,7 +11,7 @@ pub enum Status {
     Usage,
     /// The script could not be read.
     SourceFault,
-    /// A line could not be written.
+    /// The sink failed: at the start, or at a line.
     SinkFault,
     /// Memory was wanted and not to be had.
     NoMemory,

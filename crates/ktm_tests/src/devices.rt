@@ -74,6 +74,21 @@ fn failing_streams(rt: HostRuntime) -> Result<(), Fail> {
     Ok(())
 }
 
+// A sink that fails at once is found before anything else: no image is made, whatever the words are.
+#[test]
+fn sink_that_is_not_there(rt: HostRuntime) -> Result<(), Fail> {
+    let alloc = rt.alloc();
+    let fails = Fails { source: 1, sink: 1 };
+    for text in ["run image script", "run image", ""] {
+        let words = words_of(alloc, text)?;
+        let script = Bytes::new(b"p1 KvList -".to_vec(alloc)?);
+        let outcome = run_words(alloc, &words, script, blank(alloc)?, fails)?;
+        expect(&rt, &outcome, b"", Status::SinkFault);
+        assert!(rt; outcome.block.bytes().is_empty());
+    }
+    Ok(())
+}
+
 // From the first reply that is not the usual one, each is MACHINE_DOWN.
 fn goes_down_once(rt: &impl Abort, replies: &str, usual: &str) {
     assert_eq!(rt; replies.lines().count(), usual.lines().count());

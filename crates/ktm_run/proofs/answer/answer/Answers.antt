@@ -1,4 +1,4 @@
-use Rattle.std.proofs.Common.{Some, refl}
+use Rattle.std.proofs.Common.{refl}
 use Rattle.ktm_run.proofs.Answering.{meant, answers_so, OnErr-map, not_executed}
 use Rattle.ktm_run.proofs.answer.answer.Goals as goal
 

@@ -1,9 +1,9 @@
-use Rattle.std.proofs.Common.{◌≡◌, inl, inr, List, ℕ, ◌++◌, [], ◌∷◌, sym, ◌∙◌, ap, subst}
+use Rattle.std.proofs.Common.{inl, inr, sym, ◌∙◌, ap}
 use Rattle.ktm_run.proofs.Breaks.{unanswered_here, unanswered_kept, did_planned, unanswered_planned, half_written, AppendsPart-none}
 use Rattle.ktm_run.proofs.Known.{Appends-none}
 use Rattle.ktm_run.proofs.Lines.{has_reply-kept, Means-kept}
 use Rattle.ktm_run.proofs.Runs.{Progress-silent, Progress-line}
-use Rattle.ktm_run.specs.Script.{has_reply, AppendsPart}
+use Rattle.ktm_run.specs.Script.{has_reply}
 use Rattle.ktm_run.proofs.line.do_line.Goals as goal
 
 pub returns-then-not-is_answered-clause-done : goal.returns-then-not-is_answered-clause-done

@@ -67,4 +67,4 @@ returns-in-Err-clause-stopped g c = λ part is.
     let bytes = c.args.bytes.now in
     let i = c.loop-byte.byte-index in
     Stops-as _ _ _ _ (append_assoc lines (now ∷ []) _ ∙ ap (λ (l : List (List ℕ)). lines ++ l) (sym (lines_end now bytes i c.loop-byte-test.true c.if-byte-ne10.false)) ∙ all)
-    (Stops-within _ _ (lines ++ now ∷ []) _ (Stops-after _ _ _ lines (now ∷ []) went (Stops-line _ _ now (c.in-Err.ensures.broke now (c.deref.ensures.value ∙ kept)))))
+    (Stops-within _ _ (lines ++ now ∷ []) _ (Stops-after _ _ _ lines (now ∷ []) went (Stops-line _ _ now (g.met.D.Disk.lengths c.loop-byte.disk) (c.in-Err.ensures.broke now (c.deref.ensures.value ∙ kept)))))

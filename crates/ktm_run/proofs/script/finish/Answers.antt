@@ -10,4 +10,4 @@ pub returns-clause-done : goal.returns-clause-done
 returns-clause-done g c = λ part is. Progress-as _ _ _ _ (sym (last_some part c.args.kept.now is c.if-is_empty.ensures)) (c.in_default.ensures.done part is)
 
 pub returns-in-Err-clause-stopped : goal.returns-in-Err-clause-stopped
-returns-in-Err-clause-stopped g c = λ part is. Stops-as _ _ _ _ (sym (last_some part c.args.kept.now is c.if-is_empty.ensures)) (Stops-line _ _ part (c.in-Err.ensures.broke part is))
+returns-in-Err-clause-stopped g c = λ part is. Stops-as _ _ _ _ (sym (last_some part c.args.kept.now is c.if-is_empty.ensures)) (Stops-line _ _ part (g.met.D.Disk.lengths c.args.disk.now) (c.in-Err.ensures.broke part is))

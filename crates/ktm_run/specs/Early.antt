@@ -1,0 +1,88 @@
+-- What each early end of the program leaves, over every disk.
+use Rattle.std.specs.Prelude.{◌≡◌, ◌⊎◌, ℕ, ◌<◌, List, length, Option, IsTrue}
+use Rattle.std.specs.Io.KnownBytes.{Appends, Keeps}
+use Rattle.ktm_base.specs.Count.{Rose}
+use Rattle.ktm_base.specs.Disk.{DiskState, DiskStatus}
+use Rattle.ktm_base.specs.Told.{IfTold, Goes}
+use Rattle.ktm_journal.specs.Bad.{IsBadAt}
+use Rattle.ktm_run.specs.Form.{usage_line, bad_image_line}
+use Rattle.ktm_run.specs.Opening.{Prepared}
+use Rattle.ktm_run.specs.Script.{AppendsPart}
+use Rattle.ktm_run.specs.declared.status.Status.{Status}
+use Rattle.ktm_run.specs.declared.status.Status.TheVariants.{Done, Usage, SourceFault, SinkFault, NoMemory, BadImage, DiskFault, ScriptTooLong, LogFull}
+
+-- the outside: what the source has left, what the sink took, and what the disk tells and counts
+pub record Outside : Type 0 where
+  pub left : Option (List ℕ)
+  pub taken : Option (List ℕ)
+  pub disk : Option DiskState
+  pub status : DiskStatus
+
+-- the source and all of the disk are as they were
+pub record LeftAlone (old new : Outside) : Type 0 where
+  pub source : new.left ≡ old.left
+  pub disk : new.disk ≡ old.disk
+  pub status : new.status ≡ old.status
+
+-- nothing at all was touched
+pub record Untouched (old new : Outside) : Type 0 where
+  pub alone : LeftAlone old new
+  pub not_written : Keeps old.taken new.taken
+
+-- nothing was taken from the source, and the plan of the disk has not grown
+pub record NotRun (old new : Outside) : Type 0 where
+  pub not_read : new.left ≡ old.left
+  pub plan_is : new.status.plan ≡ old.status.plan
+
+-- the disk was down before, or it went down
+abbrev pub WentDown : DiskStatus → DiskStatus → Type 0
+WentDown before now = IsTrue before.is_down ⊎ Rose before.downs now.downs
+
+-- the image is bad at this offset, and the disk tells what it told; a disk without a byte is never bad
+pub record FoundBad (offset : ℕ) (old new : Outside) : Type 0 where
+  pub not_run : NotRun old new
+  pub same : new.disk ≡ old.disk
+  pub bad : IfTold old.disk (λ s. (0 < length s.seen) × IsBadAt s.seen offset)
+
+-- the log has no room for the opening, and the disk tells what it told; a disk without a byte always has the room
+pub record FoundFull (old new : Outside) : Type 0 where
+  pub not_run : NotRun old new
+  pub not_written : Keeps old.taken new.taken
+  pub same : new.disk ≡ old.disk
+  pub there : IfTold old.disk (λ s. 0 < length s.seen)
+
+-- the disk was down in the opening, or went down in it
+pub record FoundDown (old new : Outside) : Type 0 where
+  pub not_run : NotRun old new
+  pub not_written : Keeps old.taken new.taken
+  pub went_down : WentDown old.status new.status
+
+-- there was no memory for the opening: the disk tells what it told, or is a new image where it had no byte
+pub record FoundNoMemory (old new : Outside) : Type 0 where
+  pub not_run : NotRun old new
+  pub not_written : Keeps old.taken new.taken
+  pub disk : (new.disk ≡ old.disk) ⊎ Goes Prepared old.disk new.disk
+
+-- words that are no run: their usage was said, or a part of it where the sink failed, and nothing else was touched
+abbrev pub NoRun : Status → Outside → Outside → Type 0
+NoRun Usage old new = LeftAlone old new × Appends old.taken new.taken usage_line
+NoRun SinkFault old new = LeftAlone old new × AppendsPart old.taken new.taken usage_line
+NoRun Done old new = ⊥
+NoRun SourceFault old new = ⊥
+NoRun NoMemory old new = ⊥
+NoRun BadImage old new = ⊥
+NoRun DiskFault old new = ⊥
+NoRun ScriptTooLong old new = ⊥
+NoRun LogFull old new = ⊥
+
+-- how a run may end, where Opened says that the disk held what a run begins from
+abbrev pub Ends : Status → Type 0 → Outside → Outside → Type 0
+Ends Done Opened old new = Opened
+Ends SourceFault Opened old new = Opened
+Ends ScriptTooLong Opened old new = Opened
+Ends SinkFault Opened old new = Untouched old new ⊎ ((offset : ℕ) × FoundBad offset old new × AppendsPart old.taken new.taken (bad_image_line offset)) ⊎ Opened
+Ends NoMemory Opened old new = FoundNoMemory old new ⊎ Opened
+Ends BadImage Opened old new = (offset : ℕ) × FoundBad offset old new × Appends old.taken new.taken (bad_image_line offset)
+Ends LogFull Opened old new = FoundFull old new × Opened
+Ends DiskFault Opened old new = FoundDown old new
+Ends Usage Opened old new = ⊥
