@@ -1,5 +1,4 @@
-use Rattle.std.proofs.Common.{◌∙◌, ap}
-use Rattle.ktm_script.specs.Reading.{by_word, form_name, forms}
+use Rattle.ktm_script.specs.Reading.{form_name, forms}
 use Rattle.ktm_script.proofs.FormLemmas.{by_word-as_long}
 use Rattle.ktm_script.proofs.form.form_named.Goals as goal
 
