@@ -1,5 +1,5 @@
 // Bytes in hexadecimal digits.
-ghost use Rattle.std.specs.Prelude.{◌≡◌, ◌<◌, ◌++◌, List, ℕ, IfOk, IfSome, OnOk, Some, length, option_map, take};
+ghost use Rattle.std.specs.Prelude.{◌≡◌, ◌+◌, ◌<◌, ◌++◌, List, ℕ, IfOk, IfSome, OnOk, Some, length, option_map, take};
 ghost use Rattle.ktm_base.specs.Bytes.{AreBytes};
 ghost use Rattle.ktm_codec.specs.Hex.{digit_value, first_pair, hex_digit, hex_of, hex_or_dash, pair_value, unhex, unhex_or_dash};
 
@@ -23,8 +23,13 @@ pub fn put_hex(out: &mut Vec<u8>, bytes: &[u8]) -> Result<(), NoMemory>
     ensures ok { OnOk result (out.new.items ≡ out.old.items ++ hex_of bytes.now) }
     ensures front { take (length out.old.items) out.new.items ≡ out.old.items }
 {
+    let Some(len) = bytes.len().checked_mul(2) else {
+        return Err(NoMemory);
+    };
+    out.reserve(len)?;
     for byte in bytes {
-        out.extend_from_slice(&[digit(*byte / 16), digit(*byte % 16)])?;
+        out.push_reserved(digit(*byte / 16));
+        out.push_reserved(digit(*byte % 16));
     }
     Ok(())
 }
@@ -56,7 +61,7 @@ fn digit_value(digit: u8) -> Option<u8>
 // The byte that two digits at the front stand for, and what follows them.
 fn first_pair(text: &[u8]) -> Option<(u8, &[u8])>
     ensures value { option_map (λ pair. (pair.0, pair.1.now)) result ≡ first_pair text.now }
-    ensures shorter { IfSome result (λ pair. length pair.1.now < length text.now) }
+    ensures shorter { IfSome result (λ pair. length pair.1.now + 2 ≡ length text.now) }
 {
     let [high, low, rest @ ..] = text else {
         return None;
@@ -70,10 +75,10 @@ fn first_pair(text: &[u8]) -> Option<(u8, &[u8])>
 fn read_hex(alloc: Global, text: &[u8]) -> Result<Option<Bytes>, NoMemory>
     ensures { IfOk result (λ bytes. bytes ≡ unhex text.now) }
 {
-    let mut bytes = Vec::new(alloc);
+    let mut bytes = Vec::with_capacity(alloc, text.len() / 2)?;
     let mut rest = text;
     'pairs: while let Some((byte, after)) = first_pair(rest) {
-        bytes.push(byte)?;
+        bytes.push_reserved(byte);
         rest = after;
     }
     if rest.is_empty() {

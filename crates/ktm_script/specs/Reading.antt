@@ -122,23 +122,23 @@ bytes_at text = do
   bytes ← unhex_or_dash (word_from [] rest).0
   Some (bytes, (word_from [] rest).1)
 
--- the kinds of access
+-- what a file may be used for
 abbrev pub accesses : List Access
 accesses = access.Read ∷ access.Write ∷ access.ReadWrite ∷ []
 
--- the share modes
+-- what others may use a file for
 abbrev pub shares : List ShareMode
 shares = share.Nothing ∷ share.Read ∷ share.Write ∷ share.ReadWrite ∷ []
 
--- the dispositions
+-- what is done where the file is there, and where it is not
 abbrev pub dispositions : List Disposition
 dispositions = disposition.CreateNew ∷ disposition.CreateAlways ∷ disposition.OpenExisting ∷ disposition.OpenAlways ∷ disposition.TruncateExisting ∷ []
 
--- the durabilities
+-- whether a resource manager outlives a restart
 abbrev pub durabilities : List Durability
 durabilities = durability.Volatile ∷ durability.Durable ∷ []
 
--- the kinds of enlistment
+-- the kinds of enlistments
 abbrev pub kinds : List EnlistmentKind
 kinds = kind.Plain ∷ kind.PrePrepare ∷ kind.SinglePhase ∷ kind.Both ∷ kind.Superior ∷ []
 

@@ -1,8 +1,10 @@
 // The forms of commands, and their names.
 ghost use Rattle.std.specs.Prelude.{◌≡◌, option_map};
-ghost use Rattle.ktm_script.specs.Reading.{form_at, form_name};
+ghost use Rattle.ktm_script.specs.Reading.{by_word, form_at, form_name, forms};
+ghost use Rattle.ktm_script.specs.Lengths.{forms_of_length};
 
-use crate::word::{Word, one_of};
+use crate::word::{Word, by_word, split_word};
+use ktm_codec::strip_word;
 
 // What a command is without its values.
 #[derive(Clone, Copy)]
@@ -56,57 +58,6 @@ pub enum Form {
     DuplicateHandle,
     Exit,
 }
-
-const FORMS: [Form; 48] = [
-    Form::CreateTransaction,
-    Form::OpenTransaction,
-    Form::CommitTransaction,
-    Form::RollbackTransaction,
-    Form::GetTransactionInformation,
-    Form::CreateResourceManager,
-    Form::OpenResourceManager,
-    Form::RecoverResourceManager,
-    Form::GetNotificationResourceManager,
-    Form::CreateEnlistment,
-    Form::OpenEnlistment,
-    Form::RecoverEnlistment,
-    Form::PrePrepareComplete,
-    Form::PrepareComplete,
-    Form::ReadOnlyEnlistment,
-    Form::CommitComplete,
-    Form::RollbackComplete,
-    Form::SinglePhaseReject,
-    Form::RollbackEnlistment,
-    Form::PrePrepareEnlistment,
-    Form::PrepareEnlistment,
-    Form::CommitEnlistment,
-    Form::SetEnlistmentRecoveryInformation,
-    Form::GetEnlistmentRecoveryInformation,
-    Form::CreateFile,
-    Form::CreateFileTransacted,
-    Form::ReadFile,
-    Form::WriteFile,
-    Form::SetEndOfFile,
-    Form::GetFileSizeEx,
-    Form::FlushFileBuffers,
-    Form::DeleteFile,
-    Form::CreateDirectory,
-    Form::RemoveDirectory,
-    Form::MoveFile,
-    Form::DeleteFileTransacted,
-    Form::CreateDirectoryTransacted,
-    Form::RemoveDirectoryTransacted,
-    Form::MoveFileTransacted,
-    Form::FindFiles,
-    Form::FindFilesTransacted,
-    Form::KvSet,
-    Form::KvUnset,
-    Form::KvGet,
-    Form::KvList,
-    Form::CloseHandle,
-    Form::DuplicateHandle,
-    Form::Exit,
-];
 
 impl Word for Form {
     ghost spelled = { form_name };
@@ -165,10 +116,87 @@ impl Word for Form {
     }
 }
 
+// The forms whose names have so many characters.
+fn forms_of_length(length: usize) -> &'static [Form]
+    ensures { result.now ≡ forms_of_length length }
+{
+    match length {
+        4 => &[Form::Exit],
+        5 => &[Form::KvSet, Form::KvGet],
+        6 => &[Form::KvList],
+        7 => &[Form::KvUnset],
+        8 => &[Form::ReadFile, Form::MoveFile],
+        9 => &[Form::WriteFile, Form::FindFiles],
+        10 => &[Form::CreateFile, Form::DeleteFile],
+        11 => &[Form::CloseHandle],
+        12 => &[Form::SetEndOfFile],
+        13 => &[Form::GetFileSizeEx],
+        14 => &[Form::OpenEnlistment, Form::CommitComplete],
+        15 => &[
+            Form::OpenTransaction,
+            Form::PrepareComplete,
+            Form::CreateDirectory,
+            Form::RemoveDirectory,
+            Form::DuplicateHandle,
+        ],
+        16 => &[
+            Form::CreateEnlistment,
+            Form::RollbackComplete,
+            Form::CommitEnlistment,
+            Form::FlushFileBuffers,
+        ],
+        17 => &[
+            Form::CreateTransaction,
+            Form::CommitTransaction,
+            Form::RecoverEnlistment,
+            Form::SinglePhaseReject,
+            Form::PrepareEnlistment,
+        ],
+        18 => &[
+            Form::PrePrepareComplete,
+            Form::ReadOnlyEnlistment,
+            Form::RollbackEnlistment,
+            Form::MoveFileTransacted,
+        ],
+        19 => &[
+            Form::RollbackTransaction,
+            Form::OpenResourceManager,
+            Form::FindFilesTransacted,
+        ],
+        20 => &[
+            Form::PrePrepareEnlistment,
+            Form::CreateFileTransacted,
+            Form::DeleteFileTransacted,
+        ],
+        21 => &[Form::CreateResourceManager],
+        22 => &[Form::RecoverResourceManager],
+        25 => &[
+            Form::GetTransactionInformation,
+            Form::CreateDirectoryTransacted,
+            Form::RemoveDirectoryTransacted,
+        ],
+        30 => &[Form::GetNotificationResourceManager],
+        32 => &[
+            Form::SetEnlistmentRecoveryInformation,
+            Form::GetEnlistmentRecoveryInformation,
+        ],
+        _ => &[],
+    }
+}
+
+// The form with this name.
+#[tactic(auto, unfolding(crate::specs::Reading::by_word))]
+fn form_named(name: &[u8]) -> Option<Form>
+    ensures { result ≡ by_word form_name forms name.now }
+{
+    by_word(forms_of_length(name.len()), name)
+}
+
 // A form by its name behind a space, and what follows it.
-#[tactic(auto, unfolding(crate::specs::Reading::form_at))]
+#[tactic(auto, unfolding(crate::specs::Reading::form_at, crate::specs::Reading::one_of))]
 pub fn read_form(text: &[u8]) -> Option<(Form, &[u8])>
     ensures { option_map (λ read. (read.0, read.1.now)) result ≡ form_at text.now }
 {
-    one_of(&FORMS, text)
+    let (name, rest) = split_word(strip_word(text, b" ")?);
+    Some((form_named(name)?, rest))
 }

@@ -96,7 +96,7 @@ pub fn split_word(text: &[u8]) -> (&[u8], &[u8])
 
 // The value that has this word.
 #[tactic(auto, unfolding(crate::specs::Reading::by_word))]
-fn by_word<W: Word>(values: &[W], word: &[u8]) -> Option<W>
+pub fn by_word<W: Word>(values: &[W], word: &[u8]) -> Option<W>
     ensures { result ≡ by_word W.spelled values.now word.now }
 {
     values.iter().copied().find(|value| value.word() == word)
