@@ -21,6 +21,7 @@ pub mod Enlistments
 pub mod Present
 pub mod Uses
 pub mod Outcome
+pub mod FilesOutcome
 pub mod Labels
 pub mod FileCalls
 pub mod KeyCalls

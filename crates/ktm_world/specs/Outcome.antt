@@ -8,7 +8,7 @@ use Rattle.ktm_world.specs.declared.event.Event.{Event}
 use Rattle.ktm_world.specs.declared.object.Handle.{Handle}
 use Rattle.ktm_world.specs.declared.reply.Reply.{Reply}
 use Rattle.ktm_world.specs.declared.reply.Reply.TheVariants.{Refused}
-use Rattle.ktm_world.specs.Keys.{Own}
+use Rattle.ktm_world.specs.Keys.{Own, Store}
 use Rattle.ktm_world.specs.Sizes.{frame_size, log_size}
 use Rattle.ktm_world.specs.Transactions.{same_id}
 use Rattle.ktm_world.specs.Logs.{as_groups}
@@ -66,8 +66,12 @@ only_reply x reply = record {
 
 -- ---- what an outcome makes of what is so now
 
+-- what is committed of the files, with a store of keys
+abbrev pub committed_files : FilesNow → Store → Committed
+committed_files files store = record { tree = files.tree; versions = files.versions; store = store }
+
 abbrev pub committed_now : Present → Committed
-committed_now x = record { tree = x.files.tree; versions = x.files.versions; store = x.keys.store }
+committed_now x = committed_files x.files x.keys.store
 
 -- a manager's notifications, without the one that is taken and with those that are sent
 abbrev pub served : Option Id → List Sent → Manager → Manager

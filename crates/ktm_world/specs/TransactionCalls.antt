@@ -23,11 +23,9 @@ use Rattle.ktm_world.specs.declared.reply.Reply.TheVariants.{Done, Guid, Committ
 use Rattle.ktm_world.specs.declared.reply.TransactionState.{TransactionState}
 use Rattle.ktm_world.specs.declared.reply.TransactionState.TheVariants.{Normal, Indoubt, CommittedNotify}
 use Rattle.ktm_world.specs.Keys.{own_settings, without_own}
-use Rattle.ktm_world.specs.Transactions.{same_id, transaction_at, change_at, is_live}
-use Rattle.ktm_world.specs.Committed.{changes_to_commit}
-use Rattle.ktm_world.specs.Conflicts.{is_undecided}
+use Rattle.ktm_world.specs.Transactions.{same_id, transaction_at, change_at, is_live, is_undecided}
 use Rattle.ktm_world.specs.Enlistments.{Enlistment, Manager, Note, Sent, is_superior, is_open_for_votes, owes_commit, is_live_in, is_ended, has_id, with_enlistments, superior_of}
-use Rattle.ktm_world.specs.Files.{own_changes, without_own_changes, bytes_seen}
+use Rattle.ktm_world.specs.Files.{own_changes, without_transaction}
 use Rattle.ktm_world.specs.Labels.{is_bound, holds_of, invalid_handle, outcome_tests, transaction_tests, binding}
 use Rattle.ktm_world.specs.Outcome.{Outcome, only_reply, apply, and_then}
 use Rattle.ktm_world.specs.Phases.{Course, aborting, committing, to_commit, to_pre_prepare, to_prepare, pre_prepare_answered, prepare_answered, read_only_answered, commit_answered, rollback_answered, single_phase_rejected, recovered}
@@ -42,7 +40,7 @@ course_of x t caller = record {
   transaction = t;
   enlistments = x.transactions.enlistments;
   managers = x.managers;
-  changes = changes_to_commit (own_changes x.files.table.own t.id) (bytes_seen x.files (Some t.id));
+  changes = own_changes x.files.table.own t.id;
   settings = own_settings x.keys.own t.id;
   caller = caller;
   sent = [];
@@ -56,7 +54,7 @@ released c o =
     if is_undecided c.transaction then o else
     record o {
       forgotten = c.transaction.id ∷ [];
-      table = record o.table { own = without_own_changes o.table.own c.transaction.id };
+      table = without_transaction o.table c.transaction.id;
       own = without_own o.own c.transaction.id;
     }
 

@@ -8,6 +8,10 @@ use Rattle.ktm_world.specs.declared.object.TransactionOutcome.TheVariants.{Undet
 abbrev pub same_id : Id → Id → Bool
 same_id a b = (a.boot == b.boot) && (a.number == b.number)
 
+abbrev pub is_of : Id → Option Id → Bool
+is_of id None = false
+is_of id (Some other) = same_id id other
+
 -- the transaction with this Id
 abbrev pub transaction_at : List Transaction → Id → Option Transaction
 transaction_at [] id = None
@@ -31,3 +35,7 @@ is_committed t = elim t.outcome as (λ _. Bool) [ Undetermined ↦ false | Commi
 
 abbrev pub is_aborted : Transaction → Bool
 is_aborted t = elim t.outcome as (λ _. Bool) [ Undetermined ↦ false | Committed ↦ false | Aborted ↦ true ]
+
+-- is the outcome of the transaction not known
+abbrev pub is_undecided : Transaction → Bool
+is_undecided t = elim t.outcome as (λ _. Bool) [ Undetermined ↦ true | Committed ↦ false | Aborted ↦ false ]

@@ -1,5 +1,5 @@
 -- What is in use, and the limits on it.
-use Rattle.std.specs.Prelude.{ℕ, ◌+◌, ◌-◌, ◌/◌, ◌^◌, ◌==◌, ◌&&◌, ◌||◌, not, Bool, List, [], ◌∷◌, ◌++◌, length, filter, sum_by, count_by, nat_lt, Some}
+use Rattle.std.specs.Prelude.{ℕ, ◌+◌, ◌-◌, ◌/◌, ◌^◌, ◌==◌, ◌&&◌, ◌||◌, not, Bool, List, [], ◌∷◌, ◌++◌, length, filter, sum_by, count_by, nat_lt, Some, if◌then◌else◌}
 use Rattle.std.specs.List.{list_any}
 use Rattle.ktm_world.specs.declared.change.Change.{Change}
 use Rattle.ktm_world.specs.Keys.{keys_used, changes_pending as keys_unset}
@@ -35,17 +35,23 @@ units_used files =
     sum_by (λ node. units_of (bytes_or_none node.content)) files.tree + sum_by (own_units files) files.table.own
     + sum_by (λ o. units_of o.bytes) (older_versions files files.first_opens)
 
--- the nodes that a transaction made and did not drop
+-- the nodes that changes make and leave: each time that one is made, and not dropped behind that
 abbrev pub nodes_made : List Change → ℕ
-nodes_made changes = count_by (λ change. is_make change && not (list_any (λ other. is_drop other && node_of other == node_of change) changes)) changes
+nodes_made [] = 0
+nodes_made (change ∷ changes) =
+    (if is_make change && not (list_any (λ later. is_drop later && node_of later == node_of change) changes) then 1 else 0) + nodes_made changes
 
 -- the nodes in use: the root, the committed ones, and those that undecided transactions made
 unfoldable pub nodes_used : FilesNow → ℕ
 nodes_used files = 1 + length files.tree + sum_by (λ o. nodes_made o.changes) files.table.own
 
--- the changes that wait: what undecided transactions made, moved and dropped, and the keys that they unset
+-- what undecided transactions made, moved and dropped
+abbrev pub changes_kept : FilesNow → ℕ
+changes_kept files = sum_by (λ o. count_by (λ change. not (changes_bytes change)) o.changes) files.table.own
+
+-- the changes that wait: those, and the keys that undecided transactions unset
 unfoldable pub changes_waiting : Present → ℕ
-changes_waiting x = sum_by (λ o. count_by (λ change. not (changes_bytes change)) o.changes) x.files.table.own + keys_unset x.keys
+changes_waiting x = changes_kept x.files + keys_unset x.keys
 
 abbrev pub most_live : ℕ
 most_live = 64
@@ -56,6 +62,10 @@ most_handles = 4096
 -- object numbers of a kind end here in each boot
 abbrev pub most_number : ℕ
 most_number = 2 ^ 32 - 1
+
+-- node numbers end below this
+abbrev pub end_of_nodes : ℕ
+end_of_nodes = 2 ^ 63
 
 -- is a quota passed: pending changes; live transactions, live enlistments and resource managers; handles; the numbers of objects and nodes
 unfoldable pub is_over_quota : Present → Bool
@@ -69,8 +79,30 @@ is_over_quota x =
     || nat_lt most_number x.transactions.last_manager
     || nat_lt most_number x.transactions.last_enlistment
     || nat_lt most_number x.files.table.last_open
-    || nat_lt (2 ^ 63) x.files.table.next_node
+    || nat_lt end_of_nodes x.files.table.next_node
 
 -- is the disk too full: more units, nodes or keys than the image has units
 unfoldable pub is_over_disk : Present → Bool
 is_over_disk x = nat_lt x.machine.units (units_used x.files) || nat_lt x.machine.units (nodes_used x.files) || nat_lt x.machine.units (keys_used x.keys)
+
+-- ---- room
+
+-- how many of each are free
+pub record Room : Type 0 where
+  pub handles : ℕ
+  -- changes that wait
+  pub changes : ℕ
+  pub units : ℕ
+  pub nodes : ℕ
+
+abbrev pub room_of : Present → Room
+room_of x = record {
+  handles = most_handles - length x.handles;
+  changes = x.machine.units - changes_waiting x;
+  units = x.machine.units - units_used x.files;
+  nodes = x.machine.units - nodes_used x.files;
+}
+
+-- does a count rise by more than is free
+abbrev pub outgrows : ℕ → ℕ → ℕ → Bool
+outgrows free before after = nat_lt free (after - before)
