@@ -49,7 +49,7 @@ map_filter f p q kept (x ∷ xs) = elim (cases_Bool (p x)) [
 ]
 
 -- a test that each element passes
-filter_all : {A : Type 0} (p : A → Bool) → ((x : A) → p x ≡ true) → (xs : List A) → filter p xs ≡ xs
+pub filter_all : {A : Type 0} (p : A → Bool) → ((x : A) → p x ≡ true) → (xs : List A) → filter p xs ≡ xs
 filter_all p pass [] = refl
 filter_all p pass (x ∷ xs) = rw (pass x) (ap (λ ys. x ∷ ys) (filter_all p pass xs))
 

@@ -1,5 +1,5 @@
 -- What a call on files does, as data, and what it makes of the files and of all that is so now.
-use Rattle.std.specs.Prelude.{ℕ, ◌+◌, ◌==◌, ◌&&◌, ◌||◌, Bool, List, [], ◌∷◌, ◌++◌, map, nat_lt, Option, Some, None, is_some}
+use Rattle.std.specs.Prelude.{ℕ, ◌==◌, ◌&&◌, ◌||◌, Bool, List, [], ◌∷◌, ◌++◌, map, nat_lt, Option, Some, None, is_some}
 use Rattle.ktm_base.specs.declared.id.Id.{Id}
 use Rattle.ktm_world.specs.declared.change.Change.{Change}
 use Rattle.ktm_world.specs.declared.event.Event.{Event}
@@ -79,11 +79,11 @@ by_files x who o = record (only_reply x o.reply) {
 
 -- ---- the limits on it
 
--- it wants more handles, changes that wait, or numbers of open files or nodes, than there are
+-- it wants more changes that wait, handles, or numbers of open files or nodes, than there are
 unfoldable pub lacks_quota : FilesNow → Option Id → Room → FilesOutcome → Bool
 lacks_quota files who room o =
     let after = files_after files who o in
-    (is_some o.opened && room.handles == 0) || outgrows room.changes (changes_kept files) (changes_kept after)
+    outgrows room.changes (changes_kept files) (changes_kept after) || (is_some o.opened && room.handles == 0)
     || nat_lt most_number after.table.last_open || nat_lt end_of_nodes after.table.next_node
 
 -- it wants more units or nodes than are free

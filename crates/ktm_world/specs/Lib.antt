@@ -39,6 +39,7 @@ pub mod Laws
 pub mod RowsOfViews
 pub mod RowsOfConflicts
 pub mod RowsOfFiles
+pub mod RowsOfLimits
 pub mod RowsOfTransactions
 pub mod RowsOfRestarts
 pub mod RowsOfHandles
