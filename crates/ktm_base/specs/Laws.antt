@@ -20,10 +20,11 @@ with_dirty s at len = record s { dirty = s.dirty ++ (at, len) ∷ [] }
 abbrev pub with_longest : DiskState → ℕ → DiskState
 with_longest s len = record s { longest = max s.longest len }
 
--- after a write, done or refused, an image may be left exactly where it could be with the range dirty and its old bytes
+-- after a write an image may be left exactly where it could be with the range dirty and its old bytes
 abbrev pub WriteLaw : Type 0
 WriteLaw = (s t : DiskState) (at : ℕ) (bytes : List ℕ) → at + length bytes ≤ length s.seen → Wrote at bytes s t → LeaveTheSame (with_dirty s at (length bytes)) t
 
+-- the same after a write that was refused
 abbrev pub WriteRefusedLaw : Type 0
 WriteRefusedLaw = (s t : DiskState) (at len : ℕ) → WriteRefused at len s t → LeaveTheSame (with_dirty s at len) t
 
@@ -35,10 +36,11 @@ SafeLaw = (s : DiskState) (image : List ℕ) → IsSafe s → MayLeave s image �
 abbrev pub SyncLaw : Type 0
 SyncLaw = (s t : DiskState) (image : List ℕ) → Synced s t → MayLeave t image ↔ (image ≡ s.seen)
 
--- after a growth, done or refused, an image may be left exactly where it could be with the length asked for and the old bytes
+-- after a growth an image may be left exactly where it could be with the length asked for and the old bytes
 abbrev pub GrowthLaw : Type 0
 GrowthLaw = (s t : DiskState) (len : ℕ) → s.shortest ≤ length s.seen → Grew len s t → LeaveTheSame (with_longest s len) t
 
+-- the same after a growth that was refused
 abbrev pub GrowthRefusedLaw : Type 0
 GrowthRefusedLaw = (s t : DiskState) (len : ℕ) → s.shortest ≤ length s.seen → GrowthRefused len s t → LeaveTheSame (with_longest s len) t
 

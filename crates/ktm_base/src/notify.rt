@@ -7,9 +7,9 @@ pub enum Notify {
     PrePrepare,
     /// Make sure that it can commit and can roll back.
     Prepare,
-    /// The transaction commits.
+    /// The transaction commits. No superior is told this.
     Commit,
-    /// The transaction rolls back.
+    /// The transaction rolls back. A superior that asked for it is not told this.
     Rollback,
     /// To a superior: all have pre-prepared.
     PrePrepareComplete,

@@ -119,6 +119,7 @@ holds_none units image bytes laid formatted =
         groups = tt;
         frames = record { frames = tt; gate = closed_at (area_bytes (log_area units) bytes) 0 (omega (arith, length-area (log_area units) bytes within)) (λ e. absurd (omega (arith, shut, e))) };
       };
+      built = refl;
       applies = refl;
     }
 

@@ -5,3 +5,4 @@ pub mod Loads
 pub mod Folds
 pub mod LogLoads
 pub mod OneImage
+pub mod Limits

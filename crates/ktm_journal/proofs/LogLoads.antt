@@ -1,5 +1,5 @@
 -- What a log that was read says of the image.
-use Rattle.std.proofs.Common.{◌≡◌, inl, inr, ℕ, ◌+◌, ◌-◌, ◌≤◌, length, Option, None, Some, List, [], ◌∷◌, sym, ◌∙◌, ap, subst, arith}
+use Rattle.std.proofs.Common.{◌≡◌, inl, inr, ℕ, ◌+◌, ◌-◌, ◌*◌, ◌≤◌, length, sum_by, Option, None, Some, List, [], ◌∷◌, sym, ◌∙◌, ap, subst, arith}
 use Rattle.std.proofs.lemmas.List.Sums.{sum_by-cons}
 use Rattle.ktm_base.specs.Disk.{DiskState, IsSafe}
 use Rattle.ktm_base.specs.Told.{IfTold, Tells}
@@ -8,12 +8,16 @@ use Rattle.ktm_log.specs.Log.{LogState, BeginsWith, IsLog, IsBadLog, Rests, area
 use Rattle.ktm_log.proofs.Frames.{begins-split}
 use Rattle.ktm_log.proofs.GoodOrBad.{one_log}
 use Rattle.ktm_log.proofs.Steps.{IfTold-both}
+use Rattle.ktm_world.specs.declared.event.Event.{Event}
+use Rattle.ktm_world.specs.declared.event.Event.TheVariants.{Boot, MadeRm, Plain, Ready, Single, Held, Decide, Undo, Done}
+use Rattle.ktm_world.specs.declared.change.Change.{Change}
+use Rattle.ktm_world.specs.declared.change.Change.TheVariants.{Make, Put, Cut, Move, Drop}
 use Rattle.ktm_world.specs.Logs.{Group}
-use Rattle.ktm_keys.specs.Durable.{Durable, empty_state, stand}
-use Rattle.ktm_world.specs.Sizes.{frame_size, log_size}
-use Rattle.ktm_keys.proofs.Logs.{stand-units, stand-image, few_keys}
+use Rattle.ktm_world.specs.Durable.{Durable, empty_state, stand}
+use Rattle.ktm_world.specs.Sizes.{change_size, event_size, frame_size, log_size}
+use Rattle.ktm_world.proofs.Durables.{count_events, stand-units, stand-image, stand-events, few_keys, few_boots}
 use Rattle.ktm_world.proofs.SizeLemmas.{size_law}
-use Rattle.ktm_journal.specs.Image.{HoldGroups, HoldsLog, IsFormatted, JournalAt, JournalState, StandsFor, left_after, log_area}
+use Rattle.ktm_journal.specs.Image.{AreInLog, HoldGroups, HoldsLog, IsFormatted, JournalAt, JournalState, StandsFor, left_after, log_area}
 use Rattle.ktm_journal.specs.Bad.{IsBadAt, IsBadPayload}
 use Rattle.ktm_journal.specs.Load.{ComesTo, IsFirstBad}
 
@@ -23,6 +27,33 @@ groups_size [] [] hold = omega arith
 groups_size [] (p ∷ ps) hold = absurd hold
 groups_size (group ∷ log) [] hold = absurd hold
 groups_size (group ∷ log) (p ∷ ps) hold = omega (arith, size_law group p hold.0, groups_size log ps hold.1, sum_by-cons frame_size group log)
+
+-- an event takes five bytes at least
+event_size-least : (event : Event) → 5 ≤ event_size event
+event_size-least (Boot boot) = omega arith
+event_size-least (MadeRm manager) = omega arith
+event_size-least (Plain change) = let least = change_size-least change in omega arith
+  where
+    change_size-least : (change : Change) → 4 ≤ change_size change
+    change_size-least (Make node parent kind name) = omega arith
+    change_size-least (Put node offset contents) = omega arith
+    change_size-least (Cut node size pages) = omega arith
+    change_size-least (Move node parent name) = omega arith
+    change_size-least (Drop node) = omega arith
+event_size-least (Ready transaction part) = omega arith
+event_size-least (Single transaction part) = omega arith
+event_size-least (Held transaction enlistment manager information) = omega arith
+event_size-least (Decide transaction) = omega arith
+event_size-least (Undo transaction) = omega arith
+event_size-least (Done transaction done) = omega arith
+
+events_size-least : (events : Group) → 5 * length events ≤ sum_by event_size events
+events_size-least [] = omega arith
+events_size-least (event ∷ events) = omega (arith, event_size-least event, events_size-least events, sum_by-cons event_size event events)
+
+log_size-least : (log : List Group) → 5 * count_events log ≤ log_size log
+log_size-least [] = omega arith
+log_size-least (group ∷ log) = omega (arith, events_size-least group, log_size-least log, sum_by-cons frame_size group log)
 
 -- what a journal knows to be free is what its groups leave
 pub journal_left : (j : JournalState) (log : List Group) (s : DiskState) → JournalAt j log s → j.log.area.len - j.log.end ≡ left_after j.units log
@@ -39,6 +70,12 @@ module _ (units image : ℕ) (payloads : List (List ℕ)) (state : Durable) (com
       let same = ap (λ (s : Durable). s.units) comes.is ∙ stand-units (empty_state units image) comes.log in
       omega (arith, few, keys, same)
 
+  pub comes_to_events : (end : ℕ) → end ≡ end_of payloads → AreInLog state end
+  comes_to_events end is = record {
+    boots = subst (λ (s : Durable). s.boots ≤ s.events) (sym comes.is) (few_boots (empty_state units image) comes.log comes.applies (omega arith));
+    events = omega (arith, is, ap (λ (s : Durable). s.events) comes.is, stand-events (empty_state units image) comes.log, groups_size comes.log payloads comes.groups, log_size-least comes.log);
+  }
+
   pub comes_to_image : state.image ≡ image
   comes_to_image = ap (λ (s : Durable). s.image) comes.is ∙ stand-image (empty_state units image) comes.log
 
@@ -47,6 +84,7 @@ module _ (units image : ℕ) (area : Area) (at : area ≡ log_area units) where
   stands payloads state bytes comes formatted log =
       let holds : HoldsLog units image comes.log bytes = record {
         is = record { formatted = formatted; payloads = payloads; groups = comes.groups; frames = subst (λ (a : Area). IsLog payloads (area_bytes a bytes)) at log };
+        built = comes.built;
         applies = comes.applies;
       } in
       let units_are = sym (comes_to_units units image payloads state comes) in
@@ -70,6 +108,7 @@ module _ (units image : ℕ) (area : Area) (at : area ≡ log_area units) where
           formatted = formatted;
           payloads = first.before;
           groups = first.good.groups;
+          built = first.good.built;
           applies = first.good.applies;
           frames = frames;
           bad = inr (first.payload, frame, subst (λ (s : Durable). IsBadPayload s first.payload) first.good.is first.bad);
@@ -88,6 +127,7 @@ module _ (units image : ℕ) (area : Area) (at : area ≡ log_area units) where
           formatted = formatted;
           payloads = payloads;
           groups = comes.groups;
+          built = comes.built;
           applies = comes.applies;
           frames = here.frames;
           bad = inl here.gate;

@@ -4,9 +4,10 @@ use Rattle.std.specs.Int.{from_le_bytes, w16, w32}
 use Rattle.ktm_base.specs.Disk.{DiskState, MayLeave}
 use Rattle.ktm_log.specs.declared.area.Area.{Area}
 use Rattle.ktm_log.specs.Log.{LogState, IsLog, Rests, area_bytes}
+use Rattle.ktm_world.specs.Built.{is_built_log}
 use Rattle.ktm_world.specs.Logs.{Group}
 use Rattle.ktm_world.specs.EventGrammar.{IsGroupOf}
-use Rattle.ktm_keys.specs.Durable.{Durable, empty_state, stand, log_applies}
+use Rattle.ktm_world.specs.Durable.{Durable, empty_state, stand, log_applies}
 use Rattle.ktm_world.specs.Sizes.{log_size}
 
 -- how many bytes an area has
@@ -61,9 +62,10 @@ pub record IsImage (units image : ℕ) (log : List Group) (bytes : List ℕ) : T
   pub groups : HoldGroups log payloads
   pub frames : IsLog payloads (area_bytes (log_area units) bytes)
 
--- the bytes are this image, its groups are these, and their events apply one after another
+-- the bytes are this image, its groups are these, and their events are built and apply one after another
 pub record HoldsLog (units image : ℕ) (log : List Group) (bytes : List ℕ) : Type 0 where
   pub is : IsImage units image log bytes
+  pub built : IsTrue (is_built_log log)
   pub applies : IsTrue (log_applies (empty_state units image) log)
 
 -- the bytes stand for this durable state: it is what the groups of the image come to
@@ -75,6 +77,11 @@ pub record StandsFor (state : Durable) (bytes : List ℕ) : Type 0 where
 -- how many bytes of the log's area the groups leave
 abbrev pub left_after : ℕ → List Group → ℕ
 left_after units log = area_len units - log_size log
+
+-- all events of the state are in a log that ends here: each takes five bytes of it at least, and each boot is one of them
+pub record AreInLog (state : Durable) (end : ℕ) : Type 0 where
+  pub boots : state.boots ≤ state.events
+  pub events : 5 * state.events ≤ end
 
 -- what is known of a journal: its image, and its log
 pub record JournalState : Type 0 where

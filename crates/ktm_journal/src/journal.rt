@@ -5,7 +5,7 @@ ghost use Rattle.ktm_base.specs.Disk.{DeviceCalls, IsSafe};
 ghost use Rattle.ktm_log.specs.Fault.{IfAppendDown, append_went_down};
 ghost use Rattle.ktm_world.specs.Logs.{Group};
 ghost use Rattle.ktm_world.specs.EventGrammar.{IsGroupOf};
-ghost use Rattle.ktm_journal.specs.Image.{HoldsLog, IsFormatted, IsHeaded, JournalAt, LeavesGroupOrNot, StandsFor, log_area};
+ghost use Rattle.ktm_journal.specs.Image.{AreInLog, HoldsLog, IsFormatted, IsHeaded, JournalAt, LeavesGroupOrNot, StandsFor, log_area};
 ghost use Rattle.ktm_journal.specs.Bad.{IfBad, IsBadAt, load_went_down};
 ghost use Rattle.ktm_journal.specs.Format.{Anything};
 
@@ -13,7 +13,7 @@ use crate::LoadFault;
 use crate::image::{lay, log_area, put_header};
 use crate::load::{Header, fold, read_form};
 use ktm_base::{Disk, Down};
-use ktm_keys::Durable;
+use crate::durable::Durable;
 use ktm_log::{AppendFault, Log, LogFault};
 use std::alloc::Global;
 use std::marker::Model;
@@ -73,6 +73,8 @@ impl Journal {
         ensures image { IfOk result (λ loaded. loaded.journal.image ≡ loaded.state.image) }
         ensures area { IfOk result (λ loaded. loaded.journal.log.area ≡ log_area loaded.state.units) }
         ensures keys { IfOk result (λ loaded. length loaded.state.keys ≤ loaded.state.units) }
+        ensures events { IfOk result (λ loaded. AreInLog loaded.state loaded.journal.log.end) }
+        ensures inside { IfOk result (λ loaded. loaded.journal.log.end < loaded.journal.log.area.len) }
         ensures stands { IfOk result (λ loaded. IfTold (D.told disk.old) (λ s. StandsFor loaded.state s.seen)) }
         ensures formatted { IfOk result (λ loaded. IfTold (D.told disk.new) (λ s. IsFormatted loaded.journal.units loaded.journal.image s.seen)) }
         ensures journal { IfOk result (λ loaded. (log : List Group) → Tells (D.told disk.old) (λ s. IsSafe s × HoldsLog loaded.state.units loaded.state.image log s.seen)
@@ -100,6 +102,8 @@ impl Journal {
         ensures image { IfOk result (λ loaded. (loaded.journal.image ≡ header.image) × (loaded.state.image ≡ header.image)) }
         ensures area { IfOk result (λ loaded. loaded.journal.log.area ≡ log_area header.units) }
         ensures keys { IfOk result (λ loaded. length loaded.state.keys ≤ loaded.state.units) }
+        ensures events { IfOk result (λ loaded. AreInLog loaded.state loaded.journal.log.end) }
+        ensures inside { IfOk result (λ loaded. loaded.journal.log.end < loaded.journal.log.area.len) }
         ensures stands { IfOk result (λ loaded. IfTold (D.told disk.old) (λ s. StandsFor loaded.state s.seen)) }
         ensures journal { IfOk result (λ loaded. (log : List Group) → Tells (D.told disk.old) (λ s. IsSafe s × HoldsLog header.units header.image log s.seen)
             → Tells (D.told disk.new) (JournalAt loaded.journal log)) }

@@ -2,7 +2,7 @@
 ghost use Rattle.std.specs.Prelude.{◌≡◌, ℕ, ◌-◌, List};
 ghost use Rattle.ktm_base.specs.Disk.{DiskState, MayLeave};
 ghost use Rattle.ktm_world.specs.Logs.{Group};
-ghost use Rattle.ktm_keys.specs.Durable.{Durable};
+ghost use Rattle.ktm_world.specs.Durable.{Durable};
 ghost use Rattle.ktm_journal.specs.Image.{HoldsLog, IsImage, JournalAt, JournalState, StandsFor, left_after};
 ghost use Rattle.ktm_journal.specs.Bad.{IsBadAt};
 

@@ -2,12 +2,14 @@
 //! a loss of power leaves each group that was answered, and the one that was being added or not.
 #![tactic(auto)]
 
+mod durable;
 mod fault;
 mod image;
 mod journal;
 mod laws;
 mod load;
 
+pub use durable::Durable;
 pub use fault::LoadFault;
 pub use journal::{Journal, Loaded};
 pub use ktm_log::AppendFault;

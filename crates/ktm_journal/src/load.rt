@@ -1,10 +1,12 @@
 // Reading an image.
-ghost use Rattle.std.specs.Prelude.{◌≡◌, ◌↔◌, ℕ, ◌+◌, ◌^◌, ◌<◌, ◌≤◌, List, length, take, drop, None, Ok, IfOk, IfSome, OnOk, IsTrue, is_err, false, true};
+ghost use Rattle.std.specs.Prelude.{◌≡◌, ◌↔◌, ◌&&◌, ℕ, ◌+◌, ◌^◌, ◌<◌, ◌≤◌, List, length, take, drop, None, Ok, IfOk, IfSome, OnOk, IsTrue, is_err, false, true};
 ghost use Rattle.std.specs.Int.{from_le_bytes, w16, w32};
 ghost use Rattle.ktm_base.specs.Told.{IfTold};
 ghost use Rattle.ktm_base.specs.Disk.{DeviceCalls};
 ghost use Rattle.ktm_log.specs.Log.{end_of};
-ghost use Rattle.ktm_keys.specs.Durable.{after_events, events_apply};
+ghost use Rattle.ktm_world.specs.Durable.{after_events, events_apply};
+ghost use Rattle.std.specs.List.{list_all};
+ghost use Rattle.ktm_world.specs.Built.{is_built_event};
 ghost use Rattle.ktm_world.specs.Logs.{Group};
 ghost use Rattle.ktm_world.specs.EventGrammar.{IsGroupOf};
 ghost use Rattle.ktm_journal.specs.Image.{IsFormatted, IsHeaded, area_len, empty_snapshot, snapshot_of};
@@ -16,7 +18,7 @@ use crate::LoadFault;
 use crate::image::{SELECTOR_AT, SNAPSHOT_AT, empty_snapshot, image_len, log_area};
 use ktm_base::{Bytes, Disk, Down, NoMemory};
 use ktm_event::{EventFault, read_group};
-use ktm_keys::Durable;
+use crate::durable::Durable;
 use std::alloc::Global;
 
 /// What the header of an image says.
@@ -138,9 +140,9 @@ pub(crate) fn read_form<D: Disk>(disk: &mut D) -> Result<Header, LoadFault>
     }
 }
 
-// Makes of the state what a payload says, if it is a group of events that apply.
+// Makes of the state what a payload says, if it is a group of built events that apply.
 fn apply(alloc: Global, state: &mut Durable, payload: &[u8]) -> Result<bool, NoMemory>
-    ensures good { result ≡ Ok true → (events : Group) × IsGroupOf events payload.now × IsTrue (events_apply state.old events) × (state.new ≡ after_events state.old events) }
+    ensures good { result ≡ Ok true → (events : Group) × IsGroupOf events payload.now × IsTrue (list_all is_built_event events && events_apply state.old events) × (state.new ≡ after_events state.old events) }
     ensures bad { result ≡ Ok false → IsBadPayload state.old payload.now }
 {
     match read_group(alloc, payload) {

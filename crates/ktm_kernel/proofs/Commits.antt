@@ -12,7 +12,7 @@ use Rattle.ktm_base.specs.Disk.{DiskState}
 use Rattle.ktm_base.specs.Told.{Tells}
 use Rattle.ktm_log.specs.declared.fault.AppendFault.{AppendFault}
 use Rattle.ktm_log.specs.declared.fault.AppendFault.TheVariants.{Down, Full}
-use Rattle.ktm_journal.specs.Image.{JournalState, JournalAt, LeavesGroupOrNot}
+use Rattle.ktm_journal.specs.Image.{JournalState, JournalAt, LeavesGroupOrNot, area_len}
 use Rattle.ktm_event.specs.Spelling.{IsSpellableSetting, AreSpellableSettings}
 use Rattle.ktm_world.specs.declared.command.Command.TheVariants.{CommitTransaction}
 use Rattle.ktm_world.specs.declared.event.Event.{Event}
@@ -32,7 +32,7 @@ use Rattle.ktm_keys.specs.World.{apply, IsLawfulNow, IsOfBoot}
 use Rattle.ktm_keys.proofs.NowLemmas.{named-of_boot}
 use Rattle.ktm_keys.proofs.OwnLemmas.{IsWithinLimits, own_settings_within_limits, few_own_settings}
 use Rattle.ktm_world.proofs.SizeLemmas.{size_law}
-use Rattle.ktm_kernel.specs.Done.{FewEvents, IsDone, IsCutOff, LeavesWithOr, fallen}
+use Rattle.ktm_kernel.specs.Done.{FewEvents, IsDone, IsCutOff, LeavesWithOr, TouchesNothing, fallen}
 
 -- ---- what is committed has bytes
 
@@ -100,6 +100,20 @@ fits_of_down e len end long down full = elim (cases_lt len (end + long + 6)) [
 pub fits_left : (x : Present) (len end long : ℕ) → x.machine.left ≡ len - end → end + long + 6 ≤ len → long + 6 ≤ x.machine.left
 fits_left x len end long before fits = omega arith
 
+-- there is a number for one event more
+pub few_of : (x : Present) → x.machine.units ≤ 1024 → x.machine.events + x.machine.left ≤ area_len x.machine.units → x.machine.events + 1 < 2 ^ 63
+few_of x most fits = omega arith
+
+-- and after it those that are left are as many as the bytes that are left
+pub counted_after : (x : Present) (id : Id) (settings : OwnSettings) (payload : List ℕ) → settings ≡ own_settings x.keys.own id → eqb (length settings) 0 ≡ false
+    → IsGroupOf (Single id (Settings settings) ∷ []) payload → length payload + 6 ≤ x.machine.left → x.machine.events + x.machine.left ≤ area_len x.machine.units
+    → x.machine.events + length (commit_events id (own_settings x.keys.own id)) + (x.machine.left - log_size (as_groups (commit_events id (own_settings x.keys.own id)))) ≤ area_len x.machine.units
+counted_after x id settings payload own some is fits counted =
+    let size = size_is id settings payload some is in
+    let same = ap (λ (ss : OwnSettings). log_size (as_groups (commit_events id ss))) own in
+    let one = ap (λ (ss : OwnSettings). length (commit_events id ss)) (sym own) ∙ ap (λ (es : List Event). length es) (recorded id settings some) in
+    omega arith
+
 pub full_of : (x : Present) (len end long : ℕ) → x.machine.left ≡ len - end → len < end + long + 6 → x.machine.left < long + 6
 full_of x len end long before full = omega arith
 
@@ -133,6 +147,22 @@ module _ (x : Present) (process : Pid) (label : Label) (t : Transaction) (up : x
 
     few : x.machine.events + 1 < 2 ^ 63 → FewEvents x process (CommitTransaction label)
     few count = inr (let one = ap (λ (es : List Event). length es) decided_events in omega (arith, one, count))
+
+    records : (decide x process (CommitTransaction label)).events ≡ [] → ⊥
+    records none = let some : Single t.id (Settings settings) ∷ [] ≡ [] = sym decided_events ∙ none in cc
+
+    -- so neither answer is one that touches nothing
+    pub done_touches : TouchesNothing x process (CommitTransaction label) Committed → ⊥
+    done_touches touches = elim touches [
+      | inl (refusal, is, other) ↦ cc
+      | inr none ↦ records none
+    ]
+
+    pub cut_touches : TouchesNothing x process (CommitTransaction label) (Refused MachineDown) → ⊥
+    cut_touches touches = elim touches [
+      | inl (refusal, is, other) ↦ (let same : refusal ≡ MachineDown = cc in other same)
+      | inr none ↦ records none
+    ]
 
     pub commit_done : (j k : JournalState) (new : Present) (before now : Option DiskState)
         → x.machine.events + 1 < 2 ^ 63

@@ -1,13 +1,15 @@
 -- What a restart finds on a disk, and what it makes of it.
-use Rattle.std.proofs.Common.{◌≡◌, ℕ, ◌+◌, ◌-◌, ◌≤◌, ◌<◌, true, false, List, [], ◌∷◌, ◌++◌, length, Option, None, Some, refl, sym, ◌∙◌, ap, subst, arith, inl, inr, append_assoc}
-use Rattle.std.proofs.lemmas.Bool.{and_from, and_parts, lt-ltb, le-ltb}
+use Rattle.std.proofs.Common.{◌≡◌, ℕ, ◌+◌, ◌-◌, ◌^◌, ◌≤◌, ◌<◌, true, false, List, [], ◌∷◌, ◌++◌, length, Option, None, Some, refl, sym, ◌∙◌, ap, subst, arith, inl, inr, append_assoc}
+use Rattle.std.proofs.lemmas.Bool.{and_from, and_parts, eq-eqb, lt-ltb, le-ltb}
 use Rattle.std.proofs.lemmas.List.Elements.{All-nil}
 use Rattle.std.specs.Prelude.{IsTrue}
 use Rattle.ktm_base.specs.Disk.{DiskState, DiskStatus, IsSafe}
 use Rattle.ktm_base.specs.Told.{IfTold, Tells}
 use Rattle.ktm_base.proofs.Images.{safe_law}
 use Rattle.ktm_base.proofs.ToldSteps.{Tells-map}
-use Rattle.ktm_journal.specs.Image.{JournalState, JournalAt, IsImage, HoldsLog, IsFormatted, StandsFor, LeavesGroupOrNot, left_after}
+use Rattle.ktm_log.specs.declared.area.Area.{Area}
+use Rattle.ktm_log.specs.Log.{LogState}
+use Rattle.ktm_journal.specs.Image.{AreInLog, JournalState, JournalAt, IsImage, HoldsLog, IsFormatted, StandsFor, LeavesGroupOrNot, left_after, log_area}
 use Rattle.ktm_journal.proofs.LogLoads.{journal_left}
 use Rattle.ktm_journal.proofs.OneImage.{one_image}
 use Rattle.ktm_world.specs.EventGrammar.{IsGroupOf}
@@ -44,6 +46,13 @@ found_in units image before log state bytes stands holds =
 pub found : (units image : ℕ) (before log : List Group) (state : Durable) (told : Option DiskState) → IfTold told (λ s. StandsFor state s.seen) → Tells told (HoldsBoth units image before log) → IsFound units image before log state
 found units image before log state None stands holds = absurd holds
 found units image before log state (Some s) stands holds = found_in units image before log state s.seen stands holds.1
+
+-- there are numbers for one boot and one event more
+pub next_applies : (state : Durable) (log : LogState) → AreInLog state log.end → log.end < log.area.len → log.area ≡ log_area state.units → state.units ≤ 1024 → events_apply state (own_group state) ≡ true
+next_applies state log counted inside area most =
+    let len = ap (λ (a : Area). a.len) area in
+    and_from _ _ (and_from _ _ (and_from _ _ (eq-eqb (state.boots + 1) (state.boots + 1) refl) (lt-ltb (state.boots + 1) (2 ^ 32 - 1) (omega (arith, counted.boots, counted.events, inside, len, most))))
+    (lt-ltb (state.events + 1) (2 ^ 63) (omega (arith, counted.events, inside, len, most)))) refl
 
 -- how many bytes the group of a restart has
 pub own_size : (state : Durable) (payload : List ℕ) → IsGroupOf (own_group state) payload → length payload ≡ 9

@@ -33,6 +33,10 @@ pub IfOk-map : {T E : Type 0} (r : Result T E) (P Q : T → Type 0) → ((x : T)
 IfOk-map (Ok x) P Q f p = f x p
 IfOk-map (Err e) P Q f p = p
 
+pub IfOk-each : {T E : Type 0} (r : Result T E) (P : T → Type 0) → ((x : T) → P x) → IfOk r P
+IfOk-each (Ok x) P f = f x
+IfOk-each (Err e) P f = tt
+
 -- what is so is that of the world, on or off
 pub now_is : (power : Power) (k : KernelState) (told : Option DiskState) (w : World) → StandsBy (is_up power) k told w → k.now ≡ present w
 now_is up k told w stands = stands.now

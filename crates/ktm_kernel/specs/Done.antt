@@ -1,6 +1,7 @@
 -- What a call did to the machine and to the groups on its disk, for whatever world it stands for.
-use Rattle.std.specs.Prelude.{◌≡◌, ◌⊎◌, ℕ, ◌+◌, ◌^◌, ◌<◌, Bool, true, false, List, [], ◌++◌, length, Option}
+use Rattle.std.specs.Prelude.{◌≡◌, ◌≢◌, ◌⊎◌, ℕ, ◌+◌, ◌^◌, ◌<◌, Bool, true, false, List, [], ◌++◌, length, Option}
 use Rattle.ktm_base.specs.declared.id.Pid.{Pid}
+use Rattle.ktm_base.specs.declared.refusal.Refusal.{Refusal}
 use Rattle.ktm_base.specs.declared.refusal.Refusal.TheVariants.{MachineDown}
 use Rattle.ktm_base.specs.Disk.{DiskState, MayLeave}
 use Rattle.ktm_base.specs.Told.{Tells}
@@ -47,3 +48,7 @@ pub record IsCutOff (old : KernelState) (process : Pid) (command : Command) (rep
 abbrev pub Ends : Bool → KernelState → Pid → Command → Reply → KernelState → Option DiskState → Option DiskState → Type 0
 Ends false old process command reply new before now = IsDone old process command reply new before now
 Ends true old process command reply new before now = IsCutOff old process command reply new before now
+
+-- the call was refused, but not for a machine that is down, or its command records nothing
+abbrev pub TouchesNothing : Present → Pid → Command → Reply → Type 0
+TouchesNothing x process command reply = ((refusal : Refusal) × (reply ≡ Refused refusal) × (refusal ≢ MachineDown)) ⊎ ((decide x process command).events ≡ [])

@@ -9,7 +9,7 @@ ghost use Rattle.ktm_world.specs.declared.reply.Reply.TheVariants.{Refused, Done
 ghost use Rattle.ktm_world.specs.Built.{is_built_command};
 ghost use Rattle.ktm_world.specs.Values.{IsCommand};
 ghost use Rattle.ktm_keys.specs.World.{World};
-ghost use Rattle.ktm_kernel.specs.Done.{Ends, fallen};
+ghost use Rattle.ktm_kernel.specs.Done.{Ends, TouchesNothing, fallen};
 ghost use Rattle.ktm_kernel.specs.Stands.{KernelAt, DoesLine, IsPowered, IsReady};
 
 use crate::state::State;
@@ -29,14 +29,15 @@ pub struct Kernel {
 }
 
 impl Model for Kernel {
-    ghost use Rattle.std.specs.Prelude.{◌≡◌, ◌-◌, ◌≤◌};
+    ghost use Rattle.std.specs.Prelude.{◌≡◌, ◌+◌, ◌-◌, ◌≤◌};
+    ghost use Rattle.ktm_journal.specs.Image.{area_len};
     ghost use Rattle.ktm_kernel.specs.Stands.{KernelState};
 
     ghost Value = { KernelState };
 
     ghost view = { λ k. record { now = k.state.now; journal = k.journal } };
 
-    ghost invariant = { λ k. (k.state.now.machine.left ≡ k.journal.log.area.len - k.journal.log.end) × (k.state.now.machine.units ≤ 1024) };
+    ghost invariant = { λ k. (k.state.now.machine.left ≡ k.journal.log.area.len - k.journal.log.end) × (k.state.now.machine.units ≤ 1024) × (k.state.now.machine.events + k.state.now.machine.left ≤ area_len k.state.now.machine.units) };
 }
 
 impl Kernel {
@@ -73,6 +74,7 @@ impl Kernel {
             → (self.old.now.machine.is_up ≡ false) ⊎ Rose (D.status disk.old).downs (D.status disk.new).downs) }
         ensures ready { OnOk result (IsReady self.new (D.told disk.new) (D.status disk.new)) }
         ensures calls { OnOk result (DeviceCalls 4 (D.status disk.old) (D.status disk.new) (D.status disk.new).is_down) }
+        ensures untouched { IfOk result (λ reply. TouchesNothing self.old.now process command reply → (D.told disk.new ≡ D.told disk.old) × (D.status disk.new ≡ D.status disk.old)) }
         ensures no_memory { OnErr result ((D.told disk.new ≡ D.told disk.old) × (D.status disk.new ≡ D.status disk.old)) }
     {
         if !self.state.is_up() {
@@ -95,6 +97,7 @@ impl Kernel {
         ensures ends { IfOk result (λ reply. Ends (D.status disk.new).is_down self.old process command reply self.new (D.told disk.old) (D.told disk.new)) }
         ensures powered { OnOk result (IsPowered self.new (D.told disk.new) (D.status disk.new)) }
         ensures calls { OnOk result (DeviceCalls 4 (D.status disk.old) (D.status disk.new) (D.status disk.new).is_down) }
+        ensures untouched { IfOk result (λ reply. TouchesNothing self.old.now process command reply → (D.told disk.new ≡ D.told disk.old) × (D.status disk.new ≡ D.status disk.old)) }
         ensures no_memory { OnErr result ((D.told disk.new ≡ D.told disk.old) × (D.status disk.new ≡ D.status disk.old)) }
     {
         match command {
@@ -128,6 +131,7 @@ impl Kernel {
         ensures ends { IfOk result (λ reply. Ends (D.status disk.new).is_down self.old process (CommitTransaction label) reply self.new (D.told disk.old) (D.told disk.new)) }
         ensures powered { OnOk result (IsPowered self.new (D.told disk.new) (D.status disk.new)) }
         ensures calls { OnOk result (DeviceCalls 4 (D.status disk.old) (D.status disk.new) (D.status disk.new).is_down) }
+        ensures untouched { IfOk result (λ reply. TouchesNothing self.old.now process (CommitTransaction label) reply → (D.told disk.new ≡ D.told disk.old) × (D.status disk.new ≡ D.status disk.old)) }
         ensures no_memory { OnErr result ((D.told disk.new ≡ D.told disk.old) × (D.status disk.new ≡ D.status disk.old)) }
     {
         let t = match self.state.committing(process, label) {

@@ -8,10 +8,10 @@ ghost use Rattle.ktm_base.specs.Told.{IfTold, Tells};
 ghost use Rattle.ktm_base.specs.Disk.{DeviceCalls};
 ghost use Rattle.ktm_journal.specs.Bad.{IsBadAt};
 ghost use Rattle.ktm_journal.specs.Image.{IsHeaded, StandsFor};
-ghost use Rattle.ktm_keys.specs.Durable.{Durable, events_apply};
-ghost use Rattle.ktm_keys.specs.World.{World, own_group};
+ghost use Rattle.ktm_keys.specs.Durable.{Durable};
+ghost use Rattle.ktm_keys.specs.World.{World};
 ghost use Rattle.ktm_world.specs.Logs.{Group};
-ghost use Rattle.ktm_kernel.specs.Restarts.{HoldsBoth, Started, LeavesOwnOrNot, is_full_for_own, IfDown, IfFull, IfLoaded, IfBad, IfUnwritten, restart_went_down};
+ghost use Rattle.ktm_kernel.specs.Restarts.{HoldsBoth, Started, LeavesOwnOrNot, is_full_for_own, IfDown, IfFull, IfLoaded, IfBad, IfUnwritten, IfStaysDown, restart_went_down};
 ghost use Rattle.ktm_kernel.specs.Stands.{IsReady, FoundAt, DoesLine};
 
 use crate::kernel::Kernel;
@@ -19,7 +19,6 @@ use crate::state::State;
 use ktm_base::{Disk, NoMemory, Refusal};
 use ktm_event::write_boot;
 use ktm_journal::{AppendFault, Journal, LoadFault, Loaded};
-use ktm_keys::Durable;
 use ktm_world::Reply;
 use std::alloc::Global;
 
@@ -59,7 +58,7 @@ impl Kernel {
             → is_full_for_own units image before log ≡ true) }
         ensures found { IfLoaded result (IfTold (D.told disk.old) (λ s. (state : Durable) × StandsFor state s.seen)) }
         ensures bad { IfBad result (λ offset. IfTold (D.told disk.old) (λ s. IsBadAt s.seen offset)) }
-        ensures unwritten { IfUnwritten result (D.told disk.new ≡ D.told disk.old) }
+        ensures unwritten { IfUnwritten result ((D.told disk.new ≡ D.told disk.old) × ((D.status disk.new).pending ≡ (D.status disk.old).pending)) }
         ensures calls { DeviceCalls (8 * 1024 + 68) (D.status disk.old) (D.status disk.new) (restart_went_down result) }
         ensures few { (units image : ℕ) → Tells (D.told disk.old) (λ s. IsHeaded units image s.seen) → (D.status disk.new).calls ≤ (D.status disk.old).calls + (8 * units + 68) }
     {
@@ -69,9 +68,6 @@ impl Kernel {
             Err(LoadFault::Bad(offset)) => return Err(RestartFault::Bad(offset)),
             Err(LoadFault::NoMemory) => return Err(RestartFault::NoMemory),
         };
-        if !may_boot(&state) {
-            return Err(RestartFault::NoMemory);
-        }
         let Ok(group) = write_boot(alloc, state.boots() + 1) else {
             return Err(RestartFault::NoMemory);
         };
@@ -110,6 +106,7 @@ impl Kernel {
         ensures ready { OnOk result (IsReady self.new (D.told disk.new) (D.status disk.new)) }
         ensures calls { DeviceCalls (8 * 1024 + 68) (D.status disk.old) (D.status disk.new) (D.status disk.new).is_down }
         ensures few { (w : World) → FoundAt self.old (D.told disk.old) w → (D.status disk.new).calls ≤ (D.status disk.old).calls + (8 * w.base.units + 68) }
+        ensures unwritten { IfStaysDown result ((D.told disk.new ≡ D.told disk.old) × ((D.status disk.new).pending ≡ (D.status disk.old).pending) × ((D.status disk.new).is_down ≡ false) × (self.new ≡ self.old)) }
         ensures no_memory { OnErr result ((D.told disk.new ≡ D.told disk.old) × ((D.status disk.new).is_down ≡ false)) }
     {
         match Kernel::restart(self.alloc, disk) {
@@ -129,17 +126,4 @@ impl Kernel {
             Err(RestartFault::NoMemory) => Err(NoMemory),
         }
     }
-}
-
-/// The most boots that an image ever has.
-const MOST_BOOTS: u32 = u32::MAX - 2;
-
-/// The most events that an image ever records.
-const MOST_EVENTS: u64 = (1 << 63) - 2;
-
-/// Are there numbers left for one boot and one event more. A log has no room for so many that there are none.
-fn may_boot(state: &Durable) -> bool
-    ensures { result ≡ events_apply state.now (own_group state.now) }
-{
-    state.boots() <= MOST_BOOTS && state.events() <= MOST_EVENTS
 }

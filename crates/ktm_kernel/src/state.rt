@@ -1,5 +1,5 @@
 // What the machine holds in memory.
-ghost use Rattle.std.specs.Prelude.{◌≡◌, ◌||◌, ◌+◌, ◌-◌, ◌^◌, ◌<◌, ◌≤◌, true, Some, None, [], IfOk, IfErr, OnOk, is_some, length};
+ghost use Rattle.std.specs.Prelude.{◌≡◌, ◌||◌, ◌+◌, ◌-◌, ◌^◌, ◌<◌, ◌≤◌, true, Some, None, [], IfOk, IfErr, OnOk, IsOk, is_some, length};
 ghost use Rattle.ktm_world.specs.declared.command.Command.TheVariants.{CreateTransaction, KvSet, KvUnset, KvGet, KvList};
 ghost use Rattle.ktm_world.specs.Handles.{no_handle_left};
 ghost use Rattle.ktm_keys.specs.Transactions.{no_transaction_left};
@@ -32,9 +32,6 @@ const MOST_TRANSACTIONS: usize = 64;
 
 /// The most handles over all processes.
 const MOST_HANDLES: usize = 4096;
-
-/// The most events that an image ever records.
-const MOST_EVENTS: u64 = (1 << 63) - 1;
 
 #[derive(Drop)]
 pub struct State {
@@ -289,15 +286,12 @@ impl State {
         self.keys.own_settings(transaction)
     }
 
-    /// Takes the memory that a commit needs, and counts one event more.
+    /// Takes the memory that a commit of this transaction needs, and none where it has it.
     pub fn reserve(&mut self, transaction: Id) -> Result<(), NoMemory>
         ensures same { self.new.now ≡ self.old.now }
         ensures room { OnOk result (length (own_settings self.old.now.keys.own transaction) ≤ self.new.room) }
-        ensures count { OnOk result (self.new.now.machine.events + 1 < 2 ^ 63) }
+        ensures succeeds { length (own_settings self.old.now.keys.own transaction) ≤ self.old.room → IsOk result }
     {
-        if self.events >= MOST_EVENTS {
-            return Err(NoMemory);
-        }
         self.keys.reserve(transaction)
     }
 

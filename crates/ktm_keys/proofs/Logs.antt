@@ -1,7 +1,7 @@
 -- What the groups of a log make of a state, group after group.
-use Rattle.std.proofs.Common.{◌≡◌, ◌+◌, ◌^◌, ◌≤◌, ◌&&◌, List, [], ◌∷◌, ◌++◌, length, nat_lt, nat_le, IsTrue, refl, sym, ◌∙◌, ap, arith}
+use Rattle.std.proofs.Common.{◌≡◌, ◌+◌, ◌-◌, ◌^◌, ◌≤◌, ◌==◌, ◌&&◌, List, [], ◌∷◌, ◌++◌, length, nat_lt, nat_le, IsTrue, refl, sym, ◌∙◌, ap, arith}
 use Rattle.std.proofs.Math.Bool.{and_assoc, and-true}
-use Rattle.std.proofs.lemmas.Bool.{and_parts, leb-true}
+use Rattle.std.proofs.lemmas.Bool.{and_parts, eqb-true, leb-true}
 use Rattle.ktm_world.specs.declared.event.Event.{Event}
 use Rattle.ktm_world.specs.declared.event.Event.TheVariants.{Boot, Single}
 use Rattle.ktm_keys.specs.Durable.{Durable, stand, settings_of, fact_applies, event_applies, after_event, after_events, events_apply, log_applies}
@@ -88,3 +88,26 @@ few_keys base (group ∷ groups) applies within =
     let one = after_events-keys base group parts.0 within in
     let rest = few_keys (after_events base group) groups parts.1 (omega (arith, same, one)) in
     omega (arith, same, rest)
+
+-- ---- each boot is an event
+
+after_event-boots : (s : Durable) (event : Event) → IsTrue (event_applies s event) → s.boots ≤ s.events → (after_event s event).boots ≤ s.events + 1
+after_event-boots s (Boot boot) applies few =
+    let fact = and_parts (fact_applies s (Boot boot)) (nat_lt (s.events + 1) (2 ^ 63)) applies in
+    let next = and_parts (boot == s.boots + 1) (nat_lt boot (2 ^ 32 - 1)) fact.0 in
+    let is : boot ≡ s.boots + 1 = eqb-true boot (s.boots + 1) next.0 in
+    omega (arith, is, few)
+after_event-boots s (Single transaction part) applies few = omega (arith, few)
+after_event-boots s _ applies few = omega (arith, few)
+
+after_events-boots : (s : Durable) (events : List Event) → IsTrue (events_apply s events) → s.boots ≤ s.events → (after_events s events).boots ≤ (after_events s events).events
+after_events-boots s [] applies few = few
+after_events-boots s (event ∷ events) applies few =
+    let parts = and_parts (event_applies s event) (events_apply (after_event s event) events) applies in
+    after_events-boots (after_event s event) events parts.1 (after_event-boots s event parts.0 few)
+
+pub few_boots : (base : Durable) (log : List Group) → IsTrue (log_applies base log) → base.boots ≤ base.events → (stand base log).boots ≤ (stand base log).events
+few_boots base [] applies few = few
+few_boots base (group ∷ groups) applies few =
+    let parts = and_parts (events_apply base group) (log_applies (after_events base group) groups) applies in
+    few_boots (after_events base group) groups parts.1 (after_events-boots base group parts.0 few)

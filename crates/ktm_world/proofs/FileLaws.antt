@@ -12,14 +12,17 @@ use Rattle.ktm_world.specs.declared.object.Handle.{Handle}
 use Rattle.ktm_world.specs.declared.object.Object.{Object}
 use Rattle.ktm_world.specs.Keys.{Store, keys_used, changes_pending as keys_unset}
 use Rattle.ktm_world.specs.Committed.{committed_with}
-use Rattle.ktm_world.specs.Decide.{bound_file}
+use Rattle.ktm_world.specs.Decide.{bound_file, events_of, of_files}
+use Rattle.ktm_world.specs.Durable.{after_events}
 use Rattle.ktm_world.specs.Enlistments.{Manager, is_live_enlistment}
-use Rattle.ktm_world.specs.Files.{FilesNow, FirstOpen, OpenFile}
-use Rattle.ktm_world.specs.FilesOutcome.{FilesOutcome, by_files, files_after, table_after, works_of, openings_of, lacks_quota, lacks_disk}
-use Rattle.ktm_world.specs.Outcome.{apply, committed_files, first_open, served}
+use Rattle.ktm_world.specs.Files.{FilesNow, FirstOpen, OpenFile, committed_files, first_open}
+use Rattle.ktm_world.specs.FileOutcome.{FileOutcome, files_after, table_after, works_of, openings_of, lacks_quota, lacks_disk}
+use Rattle.ktm_world.specs.Outcome.{apply, served}
 use Rattle.ktm_world.specs.Present.{Present}
 use Rattle.ktm_world.specs.Transactions.{is_live}
-use Rattle.ktm_world.specs.Uses.{outgrows, room_of, changes_waiting, changes_kept, units_used, nodes_used, most_live, most_handles, most_number, end_of_nodes, is_over_quota, is_over_disk}
+use Rattle.ktm_world.specs.FileUses.{file_changes_waiting, nodes_used, units_used}
+use Rattle.ktm_world.specs.Limits.{end_of_nodes, most_handles, most_live, most_number}
+use Rattle.ktm_world.specs.Uses.{changes_waiting, file_room, is_over_disk, is_over_quota}
 use Rattle.ktm_world.specs.Laws.{FilesLaw}
 use Rattle.ktm_world.proofs.Worlds.{filter_all}
 
@@ -44,7 +47,7 @@ store_same files store None None = refl
 store_same files store None (Some change) = refl
 store_same files store (Some id) change = refl
 
-files_same : (x : Present) (who : Option Id) (o : FilesOutcome) → (apply x (by_files x who o)).files ≡ files_after x.files who o
+files_same : (x : Present) (who : Option Id) (o : FileOutcome) → (apply x (of_files x who o)).files ≡ files_after x.files who o
 files_same x who o i = record {
   tree = tree_same x.files x.keys.store who o.change i;
   versions = versions_same x.files x.keys.store who o.change i;
@@ -54,31 +57,32 @@ files_same x who o i = record {
 
 -- ---- the limits
 
--- where a limit is not passed, it would be exactly where a count among those used rises by more than is free
-outgrows_exact : (limit used before after then : ℕ) → then + before ≡ after + used → nat_lt limit used ≡ false → outgrows (limit - used) before after ≡ nat_lt limit then
-outgrows_exact limit used before after then same within =
-    let some : used ≤ limit = ltb-false limit used within in
-    elim (cases_Bool (nat_lt limit then)) [
-      | inl over ↦ let more : limit < then = ltb-true limit then over in lt-ltb (limit - used) (after - before) (omega (arith, same)) ∙ sym over
-      | inr not_over ↦ let few : then ≤ limit = ltb-false limit then not_over in le-ltb (limit - used) (after - before) (omega (arith, same)) ∙ sym not_over
+-- no call on files changes how many units there are
+units_same : (x : Present) (who : Option Id) (change : Option Change) → (after_events x.recorded (events_of who change)).units ≡ x.recorded.units
+units_same x None None = refl
+units_same x None (Some change) = refl
+units_same x (Some id) change = refl
+
+-- where the keys alone do not pass a limit, the files and the keys would together exactly where the files would pass what the keys leave
+beside_exact : (limit files keys : ℕ) → nat_lt limit keys ≡ false → nat_lt (limit - keys) files ≡ nat_lt limit (files + keys)
+beside_exact limit files keys within =
+    let some : keys ≤ limit = ltb-false limit keys within in
+    elim (cases_Bool (nat_lt limit (files + keys))) [
+      | inl over ↦ let more : limit < files + keys = ltb-true limit (files + keys) over in lt-ltb (limit - keys) files (omega arith) ∙ sym over
+      | inr not_over ↦ let few : files + keys ≤ limit = ltb-false limit (files + keys) not_over in le-ltb (limit - keys) files (omega arith) ∙ sym not_over
     ]
 
-outgrows_alone : (limit before after : ℕ) → nat_lt limit before ≡ false → outgrows (limit - before) before after ≡ nat_lt limit after
-outgrows_alone limit before after = outgrows_exact limit before before after after refl
-
-disk_exact : (x : Present) (who : Option Id) (o : FilesOutcome) → is_over_disk x ≡ false → lacks_disk x.files who (room_of x) o ≡ is_over_disk (apply x (by_files x who o))
-unfolding lacks_disk is_over_disk
+disk_exact : (x : Present) (who : Option Id) (o : FileOutcome) → is_over_disk x ≡ false → lacks_disk x.files (file_room x) who o ≡ is_over_disk (apply x (of_files x who o))
+unfolding lacks_disk file_room is_over_disk
 disk_exact x who o within =
-    let units = x.machine.units in
-    let both = or_parts (nat_lt units (units_used x.files) || nat_lt units (nodes_used x.files)) (nat_lt units (keys_used x.keys)) within in
-    let each = or_parts (nat_lt units (units_used x.files)) (nat_lt units (nodes_used x.files)) both.0 in
-    ap₂ ◌||◌ (outgrows_alone units (units_used x.files) (units_used (files_after x.files who o)) each.0)
-    (outgrows_alone units (nodes_used x.files) (nodes_used (files_after x.files who o)) each.1)
-    ∙ sym (or-false (nat_lt units (units_used (files_after x.files who o)) || nat_lt units (nodes_used (files_after x.files who o))))
-    ∙ ap (λ keys. nat_lt units (units_used (files_after x.files who o)) || nat_lt units (nodes_used (files_after x.files who o)) || keys) (sym both.1)
+    let units = x.recorded.units in
+    let few_keys = (or_parts (nat_lt units (units_used x.files) || nat_lt units (nodes_used x.files)) (nat_lt units (keys_used x.keys)) within).1 in
+    sym (or-false (nat_lt units (units_used (files_after x.files who o)) || nat_lt units (nodes_used (files_after x.files who o))))
+    ∙ ap (λ keys. nat_lt units (units_used (files_after x.files who o)) || nat_lt units (nodes_used (files_after x.files who o)) || keys) (sym few_keys)
     ∙ (λ i. let files = sym (files_same x who o) i in
-    nat_lt units (units_used files) || nat_lt units (nodes_used files)
-    || nat_lt units (keys_used (record { store = sym (store_same x.files x.keys.store who o.change) i; own = x.keys.own })))
+    let all = sym (units_same x who o.change) i in
+    nat_lt all (units_used files) || nat_lt all (nodes_used files)
+    || nat_lt all (keys_used (record { store = sym (store_same x.files x.keys.store who o.change) i; own = x.keys.own })))
 
 -- the number of managers
 managers_same : (ms : List Manager) → length (map (served None []) (ms ++ [])) ≡ length ms
@@ -116,9 +120,9 @@ handles_exact n within =
     ]
 
 -- with so many handles then, of which one may be new
-quota_with : (x : Present) (who : Option Id) (o : FilesOutcome) (handles : ℕ) (lacks : Bool) → is_over_quota x ≡ false
+quota_with : (x : Present) (who : Option Id) (o : FileOutcome) (handles : ℕ) (lacks : Bool) → is_over_quota x ≡ false
     → (nat_lt most_handles (length x.handles) ≡ false → lacks ≡ nat_lt most_handles handles)
-    → (nat_lt x.machine.units (changes_kept (files_after x.files who o) + keys_unset x.keys)
+    → (nat_lt (after_events x.recorded (events_of who o.change)).units (file_changes_waiting (files_after x.files who o) + keys_unset x.keys)
     || nat_lt most_live (count_by is_live x.transactions.items)
     || nat_lt most_live (count_by (is_live_enlistment x.transactions.items) x.transactions.enlistments)
     || nat_lt most_live (length (map (served None []) (x.managers ++ [])))
@@ -128,12 +132,12 @@ quota_with : (x : Present) (who : Option Id) (o : FilesOutcome) (handles : ℕ) 
     || nat_lt most_number x.transactions.last_enlistment
     || nat_lt most_number (table_after x.files who o).last_open
     || nat_lt end_of_nodes (table_after x.files who o).next_node)
-    ≡ (outgrows (room_of x).changes (changes_kept x.files) (changes_kept (files_after x.files who o)) || lacks
+    ≡ (nat_lt (x.recorded.units - keys_unset x.keys) (file_changes_waiting (files_after x.files who o)) || lacks
     || nat_lt most_number (table_after x.files who o).last_open || nat_lt end_of_nodes (table_after x.files who o).next_node)
 unfolding is_over_quota changes_waiting
 quota_with x who o handles lacks within exact =
     let parts = none_of_ten
-    (nat_lt x.machine.units (changes_waiting x))
+    (nat_lt x.recorded.units (file_changes_waiting x.files + keys_unset x.keys))
     (nat_lt most_live (count_by is_live x.transactions.items))
     (nat_lt most_live (count_by (is_live_enlistment x.transactions.items) x.transactions.enlistments))
     (nat_lt most_live (length x.managers))
@@ -144,9 +148,10 @@ quota_with x who o handles lacks within exact =
     (nat_lt most_number x.files.table.last_open)
     (nat_lt end_of_nodes x.files.table.next_node)
     within in
-    let kept = changes_kept (files_after x.files who o) in
+    let some : file_changes_waiting x.files + keys_unset x.keys ≤ x.recorded.units = ltb-false x.recorded.units (file_changes_waiting x.files + keys_unset x.keys) parts.0 in
+    let kept = file_changes_waiting (files_after x.files who o) in
     some_of_ten
-    (nat_lt x.machine.units (kept + keys_unset x.keys))
+    (nat_lt (after_events x.recorded (events_of who o.change)).units (kept + keys_unset x.keys))
     (nat_lt most_live (count_by is_live x.transactions.items))
     (nat_lt most_live (count_by (is_live_enlistment x.transactions.items) x.transactions.enlistments))
     (nat_lt most_live (length (map (served None []) (x.managers ++ []))))
@@ -157,15 +162,16 @@ quota_with x who o handles lacks within exact =
     (nat_lt most_number (table_after x.files who o).last_open)
     (nat_lt end_of_nodes (table_after x.files who o).next_node)
     parts.1 parts.2 (ap (nat_lt most_live) (managers_same x.managers) ∙ parts.3) parts.5 parts.6 parts.7
-    ∙ (λ i.
-    sym (outgrows_exact x.machine.units (changes_waiting x) (changes_kept x.files) kept (kept + keys_unset x.keys) (omega arith) parts.0) i
-    || sym (exact parts.4) i || nat_lt most_number (table_after x.files who o).last_open || nat_lt end_of_nodes (table_after x.files who o).next_node)
+    ∙ (λ i. nat_lt (units_same x who o.change i) (kept + keys_unset x.keys) || sym (exact parts.4) i || nat_lt most_number (table_after x.files who o).last_open
+    || nat_lt end_of_nodes (table_after x.files who o).next_node)
+    ∙ ap (λ changes. changes || lacks || nat_lt most_number (table_after x.files who o).last_open || nat_lt end_of_nodes (table_after x.files who o).next_node)
+    (sym (beside_exact x.recorded.units kept (keys_unset x.keys) (le-ltb x.recorded.units (keys_unset x.keys) (omega arith))))
 
-quota_exact : (x : Present) (process : Pid) (label : Label) (who : Option Id) (o : FilesOutcome) (opened : Option OpenFile) → is_over_quota x ≡ false
-    → is_over_quota (apply x (bound_file process label opened (by_files x who o)))
-    ≡ (outgrows (room_of x).changes (changes_kept x.files) (changes_kept (files_after x.files who o)) || (is_some opened && (room_of x).handles == 0)
+quota_exact : (x : Present) (process : Pid) (label : Label) (who : Option Id) (o : FileOutcome) (opened : Option OpenFile) → is_over_quota x ≡ false
+    → is_over_quota (apply x (bound_file process label opened (of_files x who o)))
+    ≡ (nat_lt (x.recorded.units - keys_unset x.keys) (file_changes_waiting (files_after x.files who o)) || (is_some opened && most_handles - length x.handles == 0)
     || nat_lt most_number (table_after x.files who o).last_open || nat_lt end_of_nodes (table_after x.files who o).next_node)
-unfolding is_over_quota changes_waiting
+unfolding is_over_quota changes_waiting file_changes_waiting
 quota_exact x process label who o None within = quota_with x who o (length x.handles) false within sym
 quota_exact x process label who o (Some file) within =
     let handle : Handle = record { process = process; label = label; object = Object.File file.number } in
@@ -173,5 +179,5 @@ quota_exact x process label who o (Some file) within =
     (λ few. handles_exact (length x.handles) few ∙ ap (nat_lt most_handles) (sym (length-append x.handles (handle ∷ []))))
 
 pub files_law : FilesLaw
-unfolding lacks_quota
+unfolding lacks_quota file_room
 files_law = (files_same, λ x process label who o within. sym (quota_exact x process label who o o.opened within), disk_exact)

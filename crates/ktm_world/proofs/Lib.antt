@@ -1,5 +1,6 @@
 pub mod SizeLemmas
 pub mod KeyedLemmas
+pub mod Durables
 pub mod KeyLemmas
 pub mod Slots
 pub mod Stores
@@ -8,4 +9,3 @@ mod FileLaws
 pub mod Texts
 pub mod Transcripts
 pub mod Computing
-pub mod Counts

@@ -11,15 +11,15 @@ use Rattle.ktm_base.specs.declared.refusal.Refusal.TheVariants.{MachineDown}
 use Rattle.ktm_world.specs.declared.event.Event.{Event}
 use Rattle.ktm_world.specs.declared.reply.Reply.{Reply}
 use Rattle.ktm_world.specs.declared.reply.Reply.TheVariants.{Refused}
-use Rattle.ktm_world.specs.Outcome.{first_refusal, Outcome, apply, first_open, first_opens_after, is_forgotten, only_reply, refuse_or, served, within_log}
+use Rattle.ktm_world.specs.Outcome.{first_refusal, Outcome, apply, first_opens_after, is_forgotten, only_reply, refuse_or, served, within_log}
 use Rattle.ktm_world.specs.Sizes.{log_size}
-use Rattle.ktm_world.specs.Logs.{as_groups, count_events, is_up}
-use Rattle.ktm_world.proofs.Counts.{count_events-append}
+use Rattle.ktm_world.specs.Logs.{as_groups, is_up}
 use Rattle.ktm_world.proofs.SizeLemmas.{log_size-append}
 use Rattle.ktm_world.specs.Committed.{committed_with, with_work}
 use Rattle.ktm_world.specs.Decide.{decide, command_effect}
+use Rattle.ktm_world.specs.Durable.{after_events}
 use Rattle.ktm_world.specs.Enlistments.{Manager}
-use Rattle.ktm_world.specs.Files.{FirstOpen}
+use Rattle.ktm_world.specs.Files.{FirstOpen, first_open}
 use Rattle.ktm_world.specs.TransactionCalls.{tick}
 use Rattle.ktm_world.specs.World.{World, ManagerPast, OpenedAfter, committed, decide_tick, extend, first_open_now, made_past, manager_now, opened_after, power_after, present, served_past}
 use Rattle.ktm_world.specs.Laws.{FirstOpensLaw, FirstOpensLieWithin, RefusalLaw, StepLaw}
@@ -58,9 +58,6 @@ filter_all p pass (x ∷ xs) = rw (pass x) (ap (λ ys. x ∷ ys) (filter_all p p
 up_after : (w : World) (stops : Bool) → is_up (power_after stops w) ≡ (is_up w.power && not stops)
 up_after w false = sym (and-true (is_up w.power))
 up_after w true = sym (and-false (is_up w.power))
-
-events_after : (w : World) (events : List Event) → w.base.events + count_events (w.log ++ as_groups events) ≡ w.base.events + count_events w.log + length events
-events_after w events = omega (arith, count_events-append w.log events)
 
 left_after : (w : World) (events : List Event) → w.room - log_size (w.log ++ as_groups events) ≡ w.room - log_size w.log - log_size (as_groups events)
 left_after w events = let size = log_size-append w.log (as_groups events) in omega arith
@@ -104,7 +101,8 @@ first_opens_now_after w o within =
 
 pub present-extend : (w : World) (o : Outcome) → FirstOpensLieWithin w → present (extend w o) ≡ apply (present w) o
 present-extend w o within i = record {
-  machine = record (present w).machine { is_up = up_after w o.stops i; events = events_after w o.events i; left = left_after w o.events i };
+  machine = record { is_up = up_after w o.stops i; left = left_after w o.events i };
+  recorded = after_events w.recorded o.events;
   transactions = o.transactions;
   managers = managers_after w o i;
   files = record { tree = (committed_after w o i).tree; versions = (committed_after w o i).versions; first_opens = first_opens_now_after w o within i; table = o.table };

@@ -1,9 +1,17 @@
--- Which lines the machine answers; every other line is a bad line to it until it is built.
-use Rattle.std.specs.Prelude.{Bool, true, false}
+-- Which lines the machine answers, and which events it records; every other line is a bad line to it, and an image with another event a
+-- bad image, until it is built.
+use Rattle.std.specs.Prelude.{ℕ, Bool, true, false, List, []}
+use Rattle.std.specs.List.{list_all}
 use Rattle.ktm_world.specs.declared.command.Command.{Command}
 use Rattle.ktm_world.specs.declared.command.Command.TheVariants.{CreateTransaction, CommitTransaction, KvSet, KvUnset, KvGet, KvList}
 use Rattle.ktm_world.specs.declared.command.Line.{Line}
 use Rattle.ktm_world.specs.declared.command.Line.TheVariants.{Tick, Cut, Crash, Restart, Process}
+use Rattle.ktm_world.specs.declared.event.Event.{Event}
+use Rattle.ktm_world.specs.declared.event.Event.TheVariants.{Boot, Single}
+use Rattle.ktm_world.specs.declared.event.Part.TheVariants.{Settings}
+use Rattle.ktm_world.specs.Durable.{Durable}
+use Rattle.ktm_world.specs.Keys.{Store}
+use Rattle.ktm_world.specs.Logs.{Group}
 
 -- is the call built
 abbrev pub is_built_command : Command → Bool
@@ -22,3 +30,17 @@ is_built (Cut calls) = true
 is_built Crash = true
 is_built (Restart pick) = true
 is_built (Process process command) = is_built_command command
+
+-- is the event built: a start of the machine, or a transaction on keys alone that commits
+abbrev pub is_built_event : Event → Bool
+is_built_event (Boot boot) = true
+is_built_event (Single transaction (Settings settings)) = true
+is_built_event _ = false
+
+-- has a log built events alone
+abbrev pub is_built_log : List Group → Bool
+is_built_log log = list_all (λ group. list_all is_built_event group) log
+
+-- the state that built events come to: committed keys, and no files, resource managers or waiting transactions
+abbrev pub built_state : ℕ → ℕ → ℕ → ℕ → Store → Durable
+built_state units image events boots keys = record { units = units; image = image; events = events; boots = boots; next_node = 2; tree = []; keys = keys; managers = []; transactions = [] }

@@ -1,5 +1,6 @@
 -- Changes of the tree: what each makes of it, and when it applies.
-use Rattle.std.specs.Prelude.{ℕ, ◌+◌, ◌^◌, ◌==◌, ◌&&◌, not, Bool, true, false, List, [], ◌∷◌, nat_lt, nat_le, Option, Some, None, is_none, max, fold}
+use Rattle.std.specs.Prelude.{ℕ, ◌+◌, ◌^◌, ◌==◌, ◌&&◌, not, Bool, true, false, List, [], ◌∷◌, nat_lt, nat_le, Option, Some, None, is_none, max, fold, if◌then◌else◌}
+use Rattle.std.specs.List.{list_any}
 use Rattle.ktm_world.specs.declared.change.Change.{Change}
 use Rattle.ktm_world.specs.declared.change.Change.TheVariants.{Make, Put, Cut, Move, Drop}
 use Rattle.ktm_world.specs.declared.change.Contents.{Contents}
@@ -19,10 +20,12 @@ abbrev pub bytes_in : Contents → List ℕ
 bytes_in (Whole bytes) = bytes
 bytes_in (Paged pages) = []
 
+-- do the contents stand as bytes, and not as pages
 abbrev pub is_whole : Contents → Bool
 is_whole (Whole bytes) = true
 is_whole (Paged pages) = false
 
+-- is the list empty
 abbrev pub is_empty_list : List ℕ → Bool
 is_empty_list [] = true
 is_empty_list (x ∷ xs) = false
@@ -43,6 +46,7 @@ changed_all tree changes = fold changed tree changes
 abbrev pub is_free : Tree → ℕ → List ℕ → Bool
 is_free tree directory name = is_none (child_of tree directory name)
 
+-- may a new node have this number: 1 is the root's, and numbers are below 2^63
 abbrev pub is_node_number : ℕ → Bool
 is_node_number number = nat_le 2 number && nat_lt number (2 ^ 63)
 
@@ -76,18 +80,22 @@ changes_bytes (Cut node size pages) = true
 changes_bytes (Move node parent name) = false
 changes_bytes (Drop node) = false
 
+-- does the change make a node
 abbrev pub is_make : Change → Bool
 is_make (Make node parent kind name) = true
 is_make _ = false
 
+-- does the change make a file
 abbrev pub is_make_of_file : Change → Bool
 is_make_of_file (Make node parent File name) = true
 is_make_of_file _ = false
 
+-- does the change drop a node
 abbrev pub is_drop : Change → Bool
 is_drop (Drop node) = true
 is_drop _ = false
 
+-- does the change move a node
 abbrev pub is_move : Change → Bool
 is_move (Move node parent name) = true
 is_move _ = false
@@ -96,3 +104,8 @@ is_move _ = false
 abbrev pub next_after : ℕ → Change → ℕ
 next_after next (Make node parent kind name) = max next (node + 1)
 next_after next _ = next
+
+-- the nodes that changes make and leave: each time that one is made, and not dropped behind that
+abbrev pub nodes_made : List Change → ℕ
+nodes_made [] = 0
+nodes_made (change ∷ changes) = (if is_make change && not (list_any (λ later. is_drop later && node_of later == node_of change) changes) then 1 else 0) + nodes_made changes

@@ -38,10 +38,11 @@ raised_version (v ∷ vs) file =
     if v.file == file then record v { count = v.count + 1 } ∷ vs else
     (if nat_lt file v.file then record { file = file; count = 1 } ∷ v ∷ vs else v ∷ raised_version vs file)
 
+-- the versions but that of this file
 abbrev pub without_version : List Version → ℕ → List Version
 without_version versions file = filter (λ v. not (v.file == file)) versions
 
--- a change of its bytes gives a file one version more, and a file that is dropped has none
+-- the versions after a change: a Put or a Cut raises that of its file, and a file that is dropped has none
 abbrev pub versions_after : List Version → Change → List Version
 versions_after versions change =
     if changes_bytes change then raised_version versions (node_of change) else
@@ -66,6 +67,7 @@ abbrev pub with_number : List ℕ → ℕ → List ℕ
 with_number [] n = n ∷ []
 with_number (m ∷ ms) n = if m == n then m ∷ ms else (if nat_lt n m then n ∷ m ∷ ms else m ∷ with_number ms n)
 
+-- the numbers but this one
 abbrev pub without_number : List ℕ → ℕ → List ℕ
 without_number ms n = filter (λ m. not (m == n)) ms
 

@@ -9,22 +9,26 @@ use Rattle.ktm_world.specs.Transactions.{same_id, is_of}
 use Rattle.ktm_world.specs.Files.{FilesNow, FileTable, OpenFile, FirstOpen, own_changes, first_open_of, is_last_version}
 use Rattle.ktm_world.specs.Holds.{Holds, Act, holds_by, meets, is_in, file_touched, file_changed, file_overwritten}
 
+-- does the access include reading
 abbrev pub reads : Access → Bool
 reads Read = true
 reads Write = false
 reads ReadWrite = true
 
+-- does the access include writing
 abbrev pub writes : Access → Bool
 writes Read = false
 writes Write = true
 writes ReadWrite = true
 
+-- does the share mode let others read
 abbrev pub lets_read : ShareMode → Bool
 lets_read ShareMode.Nothing = false
 lets_read ShareMode.Read = true
 lets_read ShareMode.Write = false
 lets_read ShareMode.ReadWrite = true
 
+-- does the share mode let others write
 abbrev pub lets_write : ShareMode → Bool
 lets_write ShareMode.Nothing = false
 lets_write ShareMode.Read = false
@@ -55,6 +59,7 @@ users table = map (λ o. o.transaction) table.own ++ flat_map opener table.opens
 abbrev pub meets_other : FilesNow → Option Id → Act → Bool
 meets_other files who act = list_any (λ id. not (is_of id who) && meets (holds_now files id) act) (users files.table)
 
+-- does a first open have a version that is not the last one of its file
 abbrev pub is_outdated : FilesNow → Option FirstOpen → Bool
 is_outdated files None = false
 is_outdated files (Some o) = not (is_last_version files o)
@@ -80,6 +85,7 @@ conflicts files who act = meets_other files who act || changes_outdated files wh
 
 -- ---- sharing
 
+-- are both plain, or both of one transaction
 abbrev pub same_group : Option Id → Option Id → Bool
 same_group None None = true
 same_group None (Some b) = false

@@ -16,12 +16,11 @@ use Rattle.ktm_world.specs.declared.event.Part.TheVariants.{Enlistment, Changes,
 use Rattle.ktm_world.specs.Keys.{are_good_settings, Store, OwnSettings, stored_all}
 use Rattle.ktm_world.specs.Keyed.{value_at}
 use Rattle.ktm_world.specs.Transactions.{same_id}
-use Rattle.ktm_world.specs.Changes.{changed, changed_all, apply_all, node_of, changes_bytes, is_make, next_after}
+use Rattle.ktm_world.specs.Changes.{changed, changed_all, apply_all, node_of, changes_bytes, is_make, next_after, nodes_made}
 use Rattle.ktm_world.specs.Committed.{written_files}
 use Rattle.ktm_world.specs.Holds.{Holds, holds_by, Act, place, opens, deletes, moves_file, makes, drops_directory, moves_directory, meets}
-use Rattle.ktm_world.specs.Tree.{Tree, node_at, bytes_or_none, bytes_of}
-use Rattle.ktm_world.specs.TransactionCalls.{most_information}
-use Rattle.ktm_world.specs.Uses.{units_of, nodes_made, most_live}
+use Rattle.ktm_world.specs.Tree.{Tree, node_at, bytes_or_none, bytes_of, units_of}
+use Rattle.ktm_world.specs.Limits.{most_information, most_live}
 
 -- a transaction that is not over
 pub record Recorded : Type 0 where
@@ -30,6 +29,7 @@ pub record Recorded : Type 0 where
   pub superior : Option Superior
   pub parts : List RecordedPart
 
+-- the durable state: what the events of an image's log come to, and all that outlives a loss of power
 pub record Durable : Type 0 where
   -- of the image's header; no event changes them
   pub units : ℕ
@@ -52,37 +52,45 @@ empty_state units image = record { units = units; image = image; events = 0; boo
 
 -- ---- transactions that are not over
 
+-- are parts of it ready, and is it neither held nor decided
 abbrev pub is_ready : Stage → Bool
 is_ready Stage.Ready = true
 is_ready _ = false
 
+-- does it wait for its superior
 abbrev pub is_held : Stage → Bool
 is_held Stage.Held = true
 is_held _ = false
 
+-- is it decided that it commits
 abbrev pub is_decided : Stage → Bool
 is_decided Stage.Decided = true
 is_decided _ = false
 
+-- the changes of a part, which only the files' has
 abbrev pub changes_in : Part → List Change
 changes_in (Changes changes) = changes
 changes_in _ = []
 
+-- the settings of a part, which only the keys' has
 abbrev pub settings_in : Part → OwnSettings
 settings_in (Settings settings) = settings
 settings_in _ = []
 
+-- the enlistment of a part, which only an enlistment's has
 abbrev pub enlistments_in : Part → List Id
 enlistments_in (Enlistment enlistment manager information) = enlistment ∷ []
 enlistments_in _ = []
 
--- what a transaction changes and sets by its parts; none is left once it is decided
+-- what a transaction changes by its parts; none is left once it is decided
 abbrev pub changes_of : Recorded → List Change
 changes_of t = flat_map (λ p. changes_in p.part) t.parts
 
+-- what a transaction sets by its parts; none is left once it is decided
 abbrev pub settings_of : Recorded → OwnSettings
 settings_of t = flat_map (λ p. settings_in p.part) t.parts
 
+-- the enlistment of a superior, if there is one
 abbrev pub superior_ids : Option Superior → List Id
 superior_ids None = []
 superior_ids (Some s) = s.enlistment ∷ []
@@ -91,9 +99,11 @@ superior_ids (Some s) = s.enlistment ∷ []
 abbrev pub enlistments_of : Recorded → List Id
 enlistments_of t = superior_ids t.superior ++ flat_map (λ p. enlistments_in p.part) t.parts
 
+-- the transaction with this Id
 abbrev pub recorded_at : List Recorded → Id → Option Recorded
 recorded_at ts id = find (λ t. same_id t.id id) ts
 
+-- does the first Id come before the second: by its boot, and then by its number
 abbrev pub is_before : Id → Id → Bool
 is_before a b = nat_lt a.boot b.boot || (a.boot == b.boot && nat_lt a.number b.number)
 
@@ -107,6 +117,7 @@ abbrev pub with_recorded : List Recorded → Recorded → List Recorded
 with_recorded [] t = t ∷ []
 with_recorded (a ∷ ts) t = if same_id a.id t.id then t ∷ ts else (if is_before t.id a.id then t ∷ a ∷ ts else a ∷ with_recorded ts t)
 
+-- the transactions but the one with this Id
 abbrev pub without_recorded : List Recorded → Id → List Recorded
 without_recorded ts id = filter (λ t. not (same_id t.id id)) ts
 
@@ -117,6 +128,7 @@ recorded_or_new (t ∷ ts) id = if same_id t.id id then t else recorded_or_new t
 
 -- ---- what an event makes of the state
 
+-- the next node number, once changes have made their nodes
 abbrev pub next_after_all : ℕ → List Change → ℕ
 next_after_all next changes = fold next_after next changes
 
@@ -130,6 +142,7 @@ emptied (Enlistment enlistment manager information) = Enlistment enlistment mana
 emptied (Changes changes) = Changes []
 emptied (Settings settings) = Settings []
 
+-- the same of a recorded part
 abbrev pub emptied_part : RecordedPart → RecordedPart
 emptied_part p = record p { part = emptied p.part }
 
@@ -137,18 +150,21 @@ emptied_part p = record p { part = emptied p.part }
 abbrev pub while_not_done : List Recorded → Recorded → List Recorded
 while_not_done ts t = if list_any (λ p. not p.is_done) t.parts then with_recorded ts t else without_recorded ts t.id
 
+-- a transaction commits what it changes and sets, and stays as a decided one while a part of it is not done
 abbrev pub decide_recorded : Durable → Option Recorded → Durable
 decide_recorded s None = s
 decide_recorded s (Some t) = record (committing s (changes_of t) (settings_of t)) {
   transactions = while_not_done s.transactions (record t { stage = Stage.Decided; parts = map emptied_part t.parts });
 }
 
+-- is the part that of this participant
 abbrev pub is_part_of : DonePart → Part → Bool
 is_part_of (DonePart.Enlistment id) (Enlistment enlistment manager information) = same_id id enlistment
 is_part_of DonePart.Files (Changes changes) = true
 is_part_of DonePart.Keys (Settings settings) = true
 is_part_of _ _ = false
 
+-- is the participant an enlistment
 abbrev pub is_of_enlistment : DonePart → Bool
 is_of_enlistment (DonePart.Enlistment id) = true
 is_of_enlistment _ = false
@@ -158,6 +174,7 @@ abbrev pub parts_done : DonePart → List RecordedPart → List RecordedPart
 parts_done done parts =
     if is_of_enlistment done then filter (λ p. not (is_part_of done p.part)) parts else map (λ (p : RecordedPart). record p { is_done = p.is_done || is_part_of done p.part }) parts
 
+-- a participant of a transaction is done, and the transaction stays while a part of it is not done
 abbrev pub finish_recorded : Durable → DonePart → Option Recorded → Durable
 finish_recorded s done None = s
 finish_recorded s done (Some t) = record s { transactions = while_not_done s.transactions (record t { parts = parts_done done t.parts }) }
@@ -169,6 +186,7 @@ with_part s id part = record s {
   next_node = next_after_all s.next_node (changes_in part);
 }
 
+-- a transaction waits for this superior from now on
 abbrev pub hold_recorded : Durable → Id → Superior → Durable
 hold_recorded s id superior = record s { transactions = with_recorded s.transactions (let t = recorded_or_new s.transactions id in record t { stage = Stage.Held; superior = Some superior }) }
 
@@ -184,9 +202,11 @@ fact_of s (Decide transaction) = decide_recorded s (recorded_at s.transactions t
 fact_of s (Undo transaction) = record s { transactions = without_recorded s.transactions transaction }
 fact_of s (Done transaction done) = finish_recorded s done (recorded_at s.transactions transaction)
 
+-- the state after an event, which is counted too
 abbrev pub after_event : Durable → Event → Durable
 after_event s event = record (fact_of s event) { events = s.events + 1 }
 
+-- the state after events, one after another
 abbrev pub after_events : Durable → List Event → Durable
 after_events s events = fold after_event s events
 
@@ -207,6 +227,7 @@ act_of_node tree (Some node) (Drop number) =
     (if is_some node.content then deletes number (place node.parent node.name) else drops_directory number (place node.parent node.name)) ∷ []
 act_of_node tree (Some node) (Make number parent kind name) = []
 
+-- what a change of the tree does, as calls: nothing, where its node is not there
 abbrev pub acts_of : Tree → Change → List Act
 acts_of tree (Make number parent kind name) = makes (place parent name) ∷ []
 acts_of tree change = act_of_node tree (node_at tree (node_of change)) change
@@ -225,6 +246,7 @@ abbrev pub others : Durable → Option Id → List Recorded
 others s None = filter (λ t. not (is_decided t.stage)) s.transactions
 others s (Some id) = filter (λ t. not (is_decided t.stage) && not (same_id t.id id)) s.transactions
 
+-- do the changes make this node
 abbrev pub is_made_in : List Change → ℕ → Bool
 is_made_in changes node = list_any (λ change. is_make change && node_of change == node) changes
 
@@ -239,6 +261,7 @@ abbrev pub settings_apply : Durable → Option Id → OwnSettings → Bool
 settings_apply s who settings =
     list_all (λ t. not (list_any (λ setting. is_some (value_at (settings_of t) setting.key)) settings)) (others s who)
 
+-- is the file the one that was just cut
 abbrev pub was_cut : Option ℕ → ℕ → Bool
 was_cut None node = false
 was_cut (Some cut) node = cut == node
@@ -255,6 +278,7 @@ abbrev pub ends_in_bytes : List Change → Bool
 ends_in_bytes [] = true
 ends_in_bytes (change ∷ changes) = if changes_bytes change then are_final_bytes 0 None (change ∷ changes) else ends_in_bytes changes
 
+-- do the changes put or cut bytes of the file
 abbrev pub gives_bytes : List Change → ℕ → Bool
 gives_bytes changes file = list_any (λ change. changes_bytes change && node_of change == file) changes
 
@@ -262,6 +286,7 @@ gives_bytes changes file = list_any (λ change. changes_bytes change && node_of 
 abbrev pub made_files : List Change → List ℕ
 made_files changes = written_files (filter (λ change. not (changes_bytes change)) changes)
 
+-- is there a change at all
 abbrev pub is_some_change : List Change → Bool
 is_some_change [] = false
 is_some_change (change ∷ changes) = true
@@ -270,6 +295,7 @@ is_some_change (change ∷ changes) = true
 abbrev pub are_recorded_changes : List Change → Bool
 are_recorded_changes changes = is_some_change changes && ends_in_bytes changes && list_all (gives_bytes changes) (made_files changes)
 
+-- is there a durable resource manager with this Id
 abbrev pub is_manager : Durable → Id → Bool
 is_manager s id = list_any (λ other. same_id other id) s.managers
 
@@ -279,12 +305,16 @@ is_new_enlistment s enlistment manager information =
     enlistment.boot == s.boots && not (list_any (λ t. list_any (λ other. same_id other enlistment) (enlistments_of t)) s.transactions)
     && is_manager s manager && nat_le (length information) most_information
 
+-- has the transaction the files' part
 abbrev pub has_changes_part : Recorded → Bool
 has_changes_part t = list_any (λ p. is_part_of DonePart.Files p.part) t.parts
 
+-- has the transaction the keys' part
 abbrev pub has_settings_part : Recorded → Bool
 has_settings_part t = list_any (λ p. is_part_of DonePart.Keys p.part) t.parts
 
+-- does a part apply: an enlistment is new; changes and settings are the transaction's first ones, have the form in which they are
+-- recorded, apply, and meet no hold of another transaction
 abbrev pub part_applies : Durable → Id → Part → Bool
 part_applies s id (Enlistment enlistment manager information) = is_new_enlistment s enlistment manager information
 part_applies s id (Changes changes) = not (has_changes_part (recorded_or_new s.transactions id)) && are_recorded_changes changes && changes_apply s (Some id) changes
@@ -295,9 +325,11 @@ abbrev pub is_sole : Part → Bool
 is_sole (Enlistment enlistment manager information) = false
 is_sole _ = true
 
+-- is there a transaction with this Id that passes the test
 abbrev pub stage_passes : Durable → Id → (Recorded → Bool) → Bool
 stage_passes s id test = list_any (λ t. same_id t.id id && test t) s.transactions
 
+-- has the transaction a part
 abbrev pub has_part : Recorded → Bool
 has_part t = list_any (λ p. true) t.parts
 
@@ -305,6 +337,7 @@ has_part t = list_any (λ p. true) t.parts
 abbrev pub may_get_ready : Durable → Id → Bool
 may_get_ready s id = id.boot == s.boots && is_ready (recorded_or_new s.transactions id).stage
 
+-- is the transaction decided, and the part of this participant not done
 abbrev pub has_undone : DonePart → Recorded → Bool
 has_undone done t = is_decided t.stage && list_any (λ p. is_part_of done p.part && not p.is_done) t.parts
 
@@ -323,23 +356,40 @@ fact_applies s (Done transaction done) = stage_passes s transaction (has_undone 
 
 -- ---- the limits
 
+-- the transactions that are not decided
 abbrev pub waiting : Durable → List Recorded
 waiting s = filter (λ t. not (is_decided t.stage)) s.transactions
 
+-- the units that the files with a transaction's bytes would have once it committed
 abbrev pub units_waiting : Durable → Recorded → ℕ
 units_waiting s t = sum_by (λ file. units_of (bytes_of (changed_all s.tree (changes_of t)) file)) (written_files (changes_of t))
+
+-- the units in use: of the committed files, and of those that waiting transactions write
+abbrev pub units_in_use : Durable → ℕ
+units_in_use s = sum_by (λ node. units_of (bytes_or_none node.content)) s.tree + sum_by (units_waiting s) (waiting s)
+
+-- the nodes in use: the root, the committed ones, and those that waiting transactions make
+abbrev pub nodes_in_use : Durable → ℕ
+nodes_in_use s = 1 + length s.tree + sum_by (λ t. nodes_made (changes_of t)) (waiting s)
+
+-- the keys in use: the committed ones, and those that waiting transactions set
+abbrev pub keys_in_use : Durable → ℕ
+keys_in_use s = length s.keys + sum_by (λ t. count_by (λ setting. is_some setting.value) (settings_of t)) (waiting s)
+
+-- the changes that wait: what waiting transactions make, move and drop, and the keys that they unset
+abbrev pub changes_in_wait : Durable → ℕ
+changes_in_wait s = sum_by (λ t. count_by (λ change. not (changes_bytes change)) (changes_of t) + count_by (λ setting. is_none setting.value) (settings_of t)) (waiting s)
+
+-- the enlistments of the transactions that are not over
+abbrev pub enlistments_in_use : Durable → ℕ
+enlistments_in_use s = sum_by (λ t. length (enlistments_of t)) s.transactions
 
 -- the units, nodes, keys and changes that wait are within the units of the image; and there are no more than 64 transactions,
 -- enlistments and resource managers
 unfoldable pub is_within_limits : Durable → Bool
 is_within_limits s =
-    nat_le (sum_by (λ node. units_of (bytes_or_none node.content)) s.tree + sum_by (units_waiting s) (waiting s)) s.units
-    && nat_le (1 + length s.tree + sum_by (λ t. nodes_made (changes_of t)) (waiting s)) s.units
-    && nat_le (length s.keys + sum_by (λ t. count_by (λ setting. is_some setting.value) (settings_of t)) (waiting s)) s.units
-    && nat_le (sum_by (λ t. count_by (λ change. not (changes_bytes change)) (changes_of t) + count_by (λ setting. is_none setting.value) (settings_of t)) (waiting s)) s.units
-    && nat_le (length s.transactions) most_live
-    && nat_le (sum_by (λ t. length (enlistments_of t)) s.transactions) most_live
-    && nat_le (length s.managers) most_live
+    nat_le (units_in_use s) s.units && nat_le (nodes_in_use s) s.units && nat_le (keys_in_use s) s.units && nat_le (changes_in_wait s) s.units
+    && nat_le (length s.transactions) most_live && nat_le (enlistments_in_use s) most_live && nat_le (length s.managers) most_live
 
 -- does an event apply: the limits hold then, and there are fewer than 2^63 events
 abbrev pub event_applies : Durable → Event → Bool

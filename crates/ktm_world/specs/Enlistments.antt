@@ -16,18 +16,23 @@ pub data Owed : Type 0 where
   commit : Owed
   rollback : Owed
 
+-- what a resource manager has to do with a transaction
 pub record Enlistment : Type 0 where
   pub id : Id
   pub manager : Id
   pub transaction : Id
   pub kind : EnlistmentKind
+  -- the answer that it owes, if it owes one
   pub owes : Option Owed
+  -- it takes no part in the outcome
   pub is_read_only : Bool
+  -- it can commit and can roll back
   pub is_prepared : Bool
   -- it has answered CommitComplete or RollbackComplete
   pub is_finished : Bool
   -- false where a restart brought it back, until RecoverEnlistment
   pub is_recovered : Bool
+  -- the recovery information
   pub information : List ℕ
 
 -- a notification, with its enlistment; the last one of a recovery has none
@@ -47,6 +52,7 @@ pub record Manager : Type 0 where
   -- the notifications that wait, in order
   pub queue : List Note
 
+-- is it the superior of its transaction
 abbrev pub is_superior : Enlistment → Bool
 is_superior e = elim e.kind as (λ _. Bool) [ EnlistmentKind.Superior ↦ true | _ ↦ false ]
 
@@ -58,15 +64,19 @@ asks_pre_prepare e = elim e.kind as (λ _. Bool) [ EnlistmentKind.PrePrepare ↦
 abbrev pub allows_one_phase : Enlistment → Bool
 allows_one_phase e = elim e.kind as (λ _. Bool) [ EnlistmentKind.SinglePhase ↦ true | EnlistmentKind.Both ↦ true | _ ↦ false ]
 
+-- does it owe an answer to PREPREPARE
 abbrev pub owes_pre_prepare : Enlistment → Bool
 owes_pre_prepare e = elim e.owes as (λ _. Bool) [ Some pre_prepare ↦ true | _ ↦ false ]
 
+-- does it owe an answer to PREPARE
 abbrev pub owes_prepare : Enlistment → Bool
 owes_prepare e = elim e.owes as (λ _. Bool) [ Some prepare ↦ true | _ ↦ false ]
 
+-- does it owe an answer to COMMIT, or to SINGLE_PHASE_COMMIT
 abbrev pub owes_commit : Enlistment → Bool
 owes_commit e = elim e.owes as (λ _. Bool) [ Some commit ↦ true | _ ↦ false ]
 
+-- does it owe an answer to ROLLBACK
 abbrev pub owes_rollback : Enlistment → Bool
 owes_rollback e = elim e.owes as (λ _. Bool) [ Some rollback ↦ true | _ ↦ false ]
 
@@ -90,9 +100,11 @@ is_unfinished id e = takes_part id e && not e.is_finished
 abbrev pub superior_of : List Enlistment → Id → Option Enlistment
 superior_of es id = find (λ e. same_id e.transaction id && is_superior e) es
 
+-- is it the enlistment with this Id
 abbrev pub has_id : Id → Enlistment → Bool
 has_id id e = same_id e.id id
 
+-- the enlistment with this Id
 abbrev pub enlistment_at : List Enlistment → Id → Option Enlistment
 enlistment_at es id = find (has_id id) es
 
@@ -100,6 +112,7 @@ enlistment_at es id = find (has_id id) es
 abbrev pub with_enlistments : (Enlistment → Bool) → (Enlistment → Enlistment) → List Enlistment → List Enlistment
 with_enlistments test f es = map (λ e. if test e then f e else e) es
 
+-- has a transaction of this phase ended
 abbrev pub is_ended : Phase → Bool
 is_ended phase = elim phase as (λ _. Bool) [ Ended ↦ true | _ ↦ false ]
 
@@ -113,6 +126,7 @@ is_live_enlistment ts e = list_any (λ t. is_live_in t e) ts
 
 -- ---- resource managers
 
+-- the resource manager with this Id
 abbrev pub manager_at : List Manager → Id → Option Manager
 manager_at ms id = find (λ m. same_id m.id id) ms
 
@@ -124,6 +138,7 @@ is_durable_at ms id = list_any (λ m. same_id m.id id && m.is_durable) ms
 abbrev pub notes_for : Id → List Sent → List Note
 notes_for id sent = map (λ s. s.note) (filter (λ s. same_id s.manager id) sent)
 
+-- is this the resource manager that takes a notification
 abbrev pub is_taker : Id → Option Id → Bool
 is_taker id None = false
 is_taker id (Some other) = same_id id other

@@ -7,7 +7,8 @@ use Rattle.ktm_world.specs.declared.options.Access.{Access}
 use Rattle.ktm_world.specs.declared.options.ShareMode.{ShareMode}
 use Rattle.ktm_world.specs.Transactions.{same_id, is_of}
 use Rattle.ktm_world.specs.Changes.{changed_all, node_of, changes_bytes, is_make}
-use Rattle.ktm_world.specs.Committed.{Version, version_of, changes_to_commit}
+use Rattle.ktm_world.specs.Keys.{Store}
+use Rattle.ktm_world.specs.Committed.{Committed, Version, version_of, changes_to_commit}
 use Rattle.ktm_world.specs.Tree.{Tree, is_file, bytes_of}
 
 -- the changes of an undecided transaction, in the form in which they are committed
@@ -39,6 +40,7 @@ pub record FileTable : Type 0 where
   -- the number of the next node
   pub next_node : ℕ
 
+-- the files now: what is committed, what undecided transactions opened and changed, and the open files
 pub record FilesNow : Type 0 where
   -- what is committed
   pub tree : Tree
@@ -46,6 +48,27 @@ pub record FilesNow : Type 0 where
   -- of undecided transactions
   pub first_opens : List FirstOpen
   pub table : FileTable
+
+-- ---- what is committed, and first opens
+
+-- what is committed of the files, with a store of keys
+abbrev pub committed_files : FilesNow → Store → Committed
+committed_files files store = record { tree = files.tree; versions = files.versions; store = store }
+
+-- the files now, put together
+abbrev pub files_with : Committed → List FirstOpen → FileTable → FilesNow
+files_with c first_opens table = record { tree = c.tree; versions = c.versions; first_opens = first_opens; table = table }
+
+-- a first open that a command makes
+pub record Opening : Type 0 where
+  pub transaction : Id
+  pub file : ℕ
+
+-- the version of the file now
+abbrev pub first_open : Committed → Opening → FirstOpen
+first_open c o = record { transaction = o.transaction; file = o.file; version = version_of c.versions o.file; bytes = bytes_of c.tree o.file }
+
+-- ---- what undecided transactions changed and see
 
 -- the changes of a transaction
 abbrev pub own_changes : List OwnChanges → Id → List Change
@@ -80,10 +103,12 @@ is_last_version files o = is_file files.tree o.file && o.version == version_of f
 abbrev pub tree_of : FilesNow → Id → Tree
 tree_of files id = changed_all files.tree (filter (λ change. not (changes_bytes change)) (own_changes files.table.own id))
 
+-- the tree that a transaction sees, or a plain call
 abbrev pub tree_seen : FilesNow → Option Id → Tree
 tree_seen files None = files.tree
 tree_seen files (Some id) = tree_of files id
 
+-- the bytes of a first open, or else the last committed ones
 abbrev pub fixed_bytes : FilesNow → ℕ → Option FirstOpen → List ℕ
 fixed_bytes files file None = bytes_of files.tree file
 fixed_bytes files file (Some o) = o.bytes

@@ -13,12 +13,15 @@ pub record Place : Type 0 where
   pub directory : ℕ
   pub name : List ℕ
 
+-- the place of a name in a directory
 abbrev pub place : ℕ → List ℕ → Place
 place directory name = record { directory = directory; name = folded name }
 
+-- are they the same name in the same directory
 abbrev pub same_place : Place → Place → Bool
 same_place a b = a.directory == b.directory && bytes_eq a.name b.name
 
+-- the place of a node
 abbrev pub place_of : Option Node → List Place
 place_of None = []
 place_of (Some node) = place node.parent node.name ∷ []
@@ -49,9 +52,11 @@ abbrev pub each_change : {X : Type 0} → (Tree → Change → List X) → Tree 
 each_change f tree [] = []
 each_change f tree (change ∷ changes) = f tree change ++ each_change f (changed tree change) changes
 
+-- the directory that a change of this tree drops, if it drops one
 abbrev pub dropped_directory : Tree → Change → List ℕ
 dropped_directory tree change = if is_drop change && is_directory tree (node_of change) then node_of change ∷ [] else []
 
+-- the directory that a change of this tree moves, if it moves one
 abbrev pub moved_directory : Tree → Change → List ℕ
 moved_directory tree change = if is_move change && is_directory tree (node_of change) then node_of change ∷ [] else []
 
@@ -69,12 +74,15 @@ holds_by tree changes writes = record {
   moves = list_any (λ node. true) (each_change moved_directory tree changes);
 }
 
+-- is the number in the list
 abbrev pub is_in : List ℕ → ℕ → Bool
 is_in ns n = list_any (λ m. m == n) ns
 
+-- have the lists a number in common
 abbrev pub meet_in : List ℕ → List ℕ → Bool
 meet_in ms ns = list_any (is_in ns) ms
 
+-- is the name in the list
 abbrev pub is_place_in : List Place → Place → Bool
 is_place_in places p = list_any (same_place p) places
 
@@ -137,10 +145,12 @@ file_overwritten (makes at) = []
 file_overwritten (drops_directory directory at) = []
 file_overwritten (moves_directory directory from to) = []
 
+-- the directory that it drops
 abbrev pub directory_dropped : Act → List ℕ
 directory_dropped (drops_directory directory at) = directory ∷ []
 directory_dropped _ = []
 
+-- does it move a directory
 abbrev pub is_move_of_directory : Act → Bool
 is_move_of_directory (moves_directory directory from to) = true
 is_move_of_directory _ = false

@@ -22,10 +22,12 @@ Store = List (Keyed (List ℕ))
 abbrev pub OwnSettings : Type 0
 OwnSettings = List (Keyed (Option (List ℕ)))
 
+-- a transaction with its own settings
 pub record Own : Type 0 where
   pub transaction : Id
   pub settings : OwnSettings
 
+-- the keys now: what is committed, and what undecided transactions have set
 pub record KeysNow : Type 0 where
   pub store : Store
   -- of the undecided transactions that have set or unset a key
@@ -51,6 +53,7 @@ abbrev pub seen_through : Option (Option (List ℕ)) → Option (List ℕ) → O
 seen_through (Some setting) committed = setting
 seen_through None committed = committed
 
+-- the value of a key that a transaction sees, or a plain call
 abbrev pub value_seen : KeysNow → Option Id → List ℕ → Option (List ℕ)
 value_seen keys None key = value_at keys.store key
 value_seen keys (Some id) key = seen_through (value_at (own_settings keys.own id) key) (value_at keys.store key)

@@ -19,34 +19,42 @@ use Rattle.ktm_world.specs.Outcome.{Outcome}
 use Rattle.ktm_world.specs.Present.{Present}
 use Rattle.ktm_world.specs.Tree.{Tree, is_file}
 
+-- the resource manager that a handle names, if it names one
 abbrev pub manager_id : Option Object → Option Id
 manager_id (Some (ManagerObject id)) = Some id
 manager_id _ = None
 
+-- the enlistment that a handle names, if it names one
 abbrev pub enlistment_id : Option Object → Option Id
 enlistment_id (Some (EnlistmentObject id)) = Some id
 enlistment_id _ = None
 
+-- the open file that a handle names, if it names one
 abbrev pub file_number : Option Object → Option ℕ
 file_number (Some (FileObject number)) = Some number
 file_number _ = None
 
--- what a label of the process names
+-- the transaction that a label of the process names
 abbrev pub transaction_named : Present → Pid → Label → Option Transaction
 transaction_named x process label = option_and_then (transaction_at x.transactions.items) (transaction_id (object_at x.handles process label))
 
+-- the resource manager that a label of the process names
 abbrev pub manager_named : Present → Pid → Label → Option Manager
 manager_named x process label = option_and_then (manager_at x.managers) (manager_id (object_at x.handles process label))
 
+-- the enlistment that a label of the process names
 abbrev pub enlistment_named : Present → Pid → Label → Option Enlistment
 enlistment_named x process label = option_and_then (enlistment_at x.transactions.enlistments) (enlistment_id (object_at x.handles process label))
 
+-- the open file with this number
 abbrev pub open_file_at : List OpenFile → ℕ → Option OpenFile
 open_file_at opens number = find (λ o. o.number == number) opens
 
+-- the open file that a label of the process names
 abbrev pub file_named : Present → Pid → Label → Option OpenFile
 file_named x process label = option_and_then (open_file_at x.files.table.opens) (file_number (object_at x.handles process label))
 
+-- is the label of the process bound
 abbrev pub is_bound : Present → Pid → Label → Bool
 is_bound x process label = is_some (object_at x.handles process label)
 
@@ -67,6 +75,7 @@ outcome_tests t = (holds_of is_committed t, TransactionAlreadyCommitted) ∷ (ho
 abbrev pub active_tests : Option Transaction → List (Bool × Refusal)
 active_tests t = outcome_tests t ++ (holds_of (λ t. not (is_active t)) t, TransactionNotActive) ∷ []
 
+-- the tests on the label of a transaction that is to be active
 abbrev pub transaction_tests : Option Transaction → List (Bool × Refusal)
 transaction_tests t = invalid_handle t ∷ active_tests t
 
@@ -75,10 +84,12 @@ abbrev pub id_of_named : Option Transaction → Option Id
 id_of_named None = None
 id_of_named (Some t) = Some t.id
 
+-- the tests on a view: those of its transaction, and none where it is plain
 abbrev pub view_tests : Present → Pid → View → List (Bool × Refusal)
 view_tests x process Plain = []
 view_tests x process (Through label) = transaction_tests (transaction_named x process label)
 
+-- the transaction that a view is through, if it is through one
 abbrev pub viewer : Present → Pid → View → Option Id
 viewer x process Plain = None
 viewer x process (Through label) = id_of_named (transaction_named x process label)
@@ -94,6 +105,7 @@ is_dead_file tree (Some o) = is_none o.transaction && not (is_file tree o.node)
 abbrev pub is_dead : FilesNow → ℕ → Bool
 is_dead files number = is_dead_file files.tree (open_file_at files.table.opens number)
 
+-- the transaction of an open file, if it has one
 abbrev pub transaction_of : Present → OpenFile → Option Transaction
 transaction_of x o = option_and_then (transaction_at x.transactions.items) o.transaction
 
@@ -116,5 +128,6 @@ file_tests x process label =
 abbrev pub with_handle : List Handle → Pid → Label → Object → List Handle
 with_handle handles process label object = handles ++ record { process = process; label = label; object = object } ∷ []
 
+-- an outcome by which the label is bound to an object too
 abbrev pub binding : Pid → Label → Object → Outcome → Outcome
 binding process label object o = record o { handles = with_handle o.handles process label object }

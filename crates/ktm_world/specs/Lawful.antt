@@ -1,5 +1,5 @@
 -- What every world of a run is.
-use Rattle.std.specs.Prelude.{◌≡◌, ℕ, ◌==◌, ◌&&◌, ◌||◌, not, Bool, true, false, List, [], ◌∷◌, length, map, filter, drop, Option, Some, None, is_some, is_none, All, if◌then◌else◌}
+use Rattle.std.specs.Prelude.{◌≡◌, ℕ, ◌≤◌, ◌==◌, ◌&&◌, ◌||◌, not, Bool, true, false, List, [], ◌∷◌, length, map, filter, drop, Option, Some, None, is_some, is_none, All, if◌then◌else◌}
 use Rattle.std.specs.List.{list_any, list_all, flat_map}
 use Rattle.ktm_base.specs.declared.id.Id.{Id}
 use Rattle.ktm_world.specs.declared.change.Change.{Change}
@@ -9,18 +9,18 @@ use Rattle.ktm_world.specs.declared.object.Phase.{Phase}
 use Rattle.ktm_world.specs.declared.object.Transaction.{Transaction}
 use Rattle.ktm_world.specs.declared.options.EnlistmentKind.{EnlistmentKind}
 use Rattle.ktm_world.specs.Keyed.{value_at}
-use Rattle.ktm_world.specs.Keys.{Store, OwnSettings, own_settings}
+use Rattle.ktm_world.specs.Keys.{OwnSettings, own_settings}
 use Rattle.ktm_world.specs.Logs.{is_up}
 use Rattle.ktm_world.specs.Changes.{apply_all, node_of, changes_bytes, is_drop}
 use Rattle.ktm_world.specs.Committed.{Committed, Work, with_work}
 use Rattle.ktm_world.specs.Conflicts.{holds_now, writes}
-use Rattle.ktm_world.specs.Durable.{Durable, Recorded, changes_of, settings_of, log_applies, stand}
+use Rattle.ktm_world.specs.Durable.{Recorded, changes_of, settings_of, log_applies, stand}
 use Rattle.ktm_world.specs.Enlistments.{Enlistment, is_durable_at, superior_of, takes_part}
 use Rattle.ktm_world.specs.Files.{OpenFile, own_changes}
 use Rattle.ktm_world.specs.Holds.{Holds, is_in, meet_in, is_place_in}
 use Rattle.ktm_world.specs.Present.{Present}
 use Rattle.ktm_world.specs.Transactions.{same_id, is_of, is_undecided}
-use Rattle.ktm_world.specs.Tree.{Tree, IsWellFormed}
+use Rattle.ktm_world.specs.Tree.{IsWellFormed}
 use Rattle.ktm_world.specs.Uses.{is_over_quota, is_over_disk}
 use Rattle.ktm_world.specs.World.{World, OpenedAfter, committed, present, enlistment_back, by_rising_id}
 
@@ -33,6 +33,7 @@ works_apply c (work ∷ works) = apply_all c.tree work.changes && works_apply (w
 
 -- ---- nobody holds what another holds
 
+-- is there a key that both set or unset
 abbrev pub set_both : OwnSettings → OwnSettings → Bool
 set_both a b = list_any (λ setting. is_some (value_at b setting.key)) a
 
@@ -44,14 +45,17 @@ are_apart a b = not (meet_in a.nodes b.nodes) && not (list_any (is_place_in b.pl
 abbrev pub hold_apart : Present → Transaction → Transaction → Bool
 hold_apart x t u = are_apart (holds_now x.files t.id) (holds_now x.files u.id) && not (set_both (own_settings x.keys.own t.id) (own_settings x.keys.own u.id))
 
+-- the undecided transactions
 abbrev pub undecided : Present → List Transaction
 undecided x = filter is_undecided x.transactions.items
 
+-- do no two undecided transactions hold the same
 abbrev pub all_apart : Present → Bool
 all_apart x = list_all (λ t. list_all (hold_apart x t) (filter (λ u. not (same_id u.id t.id)) (undecided x))) (undecided x)
 
 -- ---- a version that a transaction writes over stays the last one
 
+-- does a work put or cut bytes of the file, or drop it
 abbrev pub ends_version : Work → ℕ → Bool
 ends_version work file = list_any (λ change. node_of change == file && (changes_bytes change || is_drop change)) work.changes
 
@@ -62,6 +66,7 @@ is_fixed_last w o =
 
 -- ---- plain writers are alone
 
+-- does the transaction hold the file, or have it open
 abbrev pub is_touched_by : Present → ℕ → Transaction → Bool
 is_touched_by x file t =
     is_in (holds_now x.files t.id).nodes file || list_any (λ o. is_of t.id o.transaction && o.node == file) x.files.table.opens
@@ -121,18 +126,23 @@ abbrev pub recorded_enlistments : Present → Id → List Enlistment
 recorded_enlistments x id =
     by_rising_id (map brought_back (filter (λ e. takes_part id e && is_durable_at x.managers e.manager && e.is_prepared && not e.is_finished) x.transactions.enlistments))
 
+-- a superior as it is recorded
 abbrev pub superior_now : Option Enlistment → Option Superior
 superior_now None = None
 superior_now (Some e) = Some (record { enlistment = e.id; manager = e.manager; information = e.information })
 
+-- is the stage Ready
 abbrev pub is_ready_stage : Stage → Bool
 is_ready_stage Stage.Ready = true
 is_ready_stage _ = false
 
+-- is the stage Held
 abbrev pub is_held_stage : Stage → Bool
 is_held_stage Stage.Held = true
 is_held_stage _ = false
 
+-- what the log has to have of a transaction at this stage: its recorded enlistments, its superior once it was held, and what it changes
+-- and sets while it is
 abbrev pub summary_now : Present → Transaction → Stage → Summary
 summary_now x t stage = record {
   id = t.id;
@@ -147,6 +157,7 @@ summary_now x t stage = record {
 abbrev pub stays : Summary → Bool
 stays s = elim s.stage as (λ _. Bool) [ Stage.Decided ↦ not (length s.enlistments == 0) | _ ↦ true ]
 
+-- the same, where the transaction stands in the log at all
 abbrev pub summary_in : Present → Transaction → Option Stage → List Summary
 summary_in x t None = []
 summary_in x t (Some stage) = filter stays (summary_now x t stage ∷ [])
@@ -155,53 +166,31 @@ summary_in x t (Some stage) = filter stays (summary_now x t stage ∷ [])
 abbrev pub summaries_now : Present → List Summary
 summaries_now x = flat_map (λ t. if t.is_recorded then summary_in x t (stage_in t.phase) else []) x.transactions.items
 
+-- the durable resource managers
 abbrev pub durable_managers : Present → List Id
 durable_managers x = map (λ m. m.id) (filter (λ m. m.is_durable) x.managers)
 
--- what of a durable state is in a present too: all but the order in which parts became ready, the parts that are done, and the number
--- of the next node
-pub record Lasting : Type 0 where
-  pub units : ℕ
-  pub image : ℕ
-  pub events : ℕ
-  pub boots : ℕ
-  pub tree : Tree
-  pub keys : Store
-  pub managers : List Id
-  pub transactions : List Summary
+-- what was recorded, beside the rest of what is so now
+pub record Agrees (x : Present) : Type 0 where
+  -- the committed files and keys, and the durable resource managers
+  pub tree : x.recorded.tree ≡ x.files.tree
+  pub keys : x.recorded.keys ≡ x.keys.store
+  pub managers : x.recorded.managers ≡ durable_managers x
+  -- of each transaction that is not over what the log has to have of it
+  pub transactions : map summary_of x.recorded.transactions ≡ summaries_now x
+  -- node numbers were drawn at least as far as they were recorded
+  pub next_node : x.recorded.next_node ≤ x.files.table.next_node
 
-abbrev pub lasting_in : Durable → Lasting
-lasting_in s = record {
-  units = s.units;
-  image = s.image;
-  events = s.events;
-  boots = s.boots;
-  tree = s.tree;
-  keys = s.keys;
-  managers = s.managers;
-  transactions = map summary_of s.transactions;
-}
-
--- what of a present outlives a loss of power
-abbrev pub durable_of : Present → Lasting
-durable_of x = record {
-  units = x.machine.units;
-  image = x.machine.image;
-  events = x.machine.events;
-  boots = x.machine.boot;
-  tree = x.files.tree;
-  keys = x.keys.store;
-  managers = durable_managers x;
-  transactions = summaries_now x;
-}
-
--- the log applies, and comes to what is so now
+-- the log applies, comes to what was recorded, and this agrees with what is so now
 pub record StandsForLog (w : World) : Type 0 where
   pub applies : log_applies w.base w.log ≡ true
-  pub comes_to : lasting_in (stand w.base w.log) ≡ durable_of (present w)
+  pub comes_to : stand w.base w.log ≡ w.recorded
+  pub agrees : Agrees (present w)
 
 -- ---- all of it
 
+-- the world is lawful: what was committed and changed applies, no two transactions hold the same, the limits hold, and the log stands
+-- for what is so now
 pub record IsLawful (w : World) : Type 0 where
   -- what was committed at the restart is well formed, and the works apply in order
   pub works : IsWellFormed w.start.tree × (works_apply w.start w.works ≡ true)
@@ -215,5 +204,5 @@ pub record IsLawful (w : World) : Type 0 where
   pub writers : All (λ o. is_alone (present w) o ≡ true) w.table.opens
   -- the limits hold
   pub limits : (is_over_quota (present w) ≡ false) × (is_over_disk (present w) ≡ false)
-  -- while the machine is up, its log comes to what outlives a loss of power now
+  -- while the machine is up, its log applies and comes to what was recorded, which agrees with what is so now
   pub stands : is_up w.power ≡ true → StandsForLog w

@@ -9,6 +9,7 @@ pub mod SizeLaw
 pub mod Handles
 pub mod Transactions
 pub mod Keys
+pub mod Limits
 pub mod Logs
 pub mod Tree
 pub mod Paths
@@ -21,7 +22,8 @@ pub mod Enlistments
 pub mod Present
 pub mod Uses
 pub mod Outcome
-pub mod FilesOutcome
+pub mod FileUses
+pub mod FileOutcome
 pub mod Labels
 pub mod FileCalls
 pub mod KeyCalls

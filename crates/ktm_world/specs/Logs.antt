@@ -11,14 +11,10 @@ pub data Power : Type 0 where
   up : Power
   down : List (List Group) → Power
 
+-- is the machine up
 abbrev pub is_up : Power → Bool
 is_up up = true
 is_up (down may) = false
-
--- how many events there are in the groups
-abbrev pub count_events : List Group → ℕ
-count_events [] = 0
-count_events (group ∷ groups) = length group + count_events groups
 
 -- the group of a command, which is none where nothing was recorded
 abbrev pub as_groups : List Event → List Group

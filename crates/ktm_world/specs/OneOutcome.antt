@@ -28,6 +28,7 @@ pub record Telling : Type 0 where
   pub transaction : Id
   pub has_committed : Bool
 
+-- the label that a view is through, if it is through one
 abbrev pub view_label : View → Option Label
 view_label Plain = None
 view_label (Through label) = Some label
@@ -58,6 +59,7 @@ told_by Notify.Rollback = Some false
 told_by Notify.RollbackComplete = Some false
 told_by _ = None
 
+-- what an outcome says: that the transaction has committed, that it has rolled back, or nothing
 abbrev pub told_outcome : TransactionOutcome → Option Bool
 told_outcome TransactionOutcome.Committed = Some true
 told_outcome TransactionOutcome.Aborted = Some false
@@ -71,6 +73,7 @@ told_of_named (Refused TransactionAlreadyAborted) = Some false
 told_of_named (Information transaction state outcome) = told_outcome outcome
 told_of_named _ = None
 
+-- what is said of a transaction, where one is meant and something is said of it
 abbrev pub telling : Option Id → Option Bool → List Telling
 telling (Some id) (Some committed) = record { transaction = id; has_committed = committed } ∷ []
 telling _ _ = []
@@ -80,6 +83,7 @@ abbrev pub transaction_of_enlistment : World → List ℕ → Option Id
 transaction_of_enlistment w guid =
     option_and_then (λ e. Some e.transaction) (find (λ e. bytes_eq (guid_of ObjectKind.Enlistment w.base.image e.id) guid) w.transactions.enlistments)
 
+-- the transaction that a label of the process names, if there is a label
 abbrev pub named_by : World → Pid → Option Label → Option Id
 named_by w process None = None
 named_by w process (Some label) = transaction_id (object_at w.handles process label)
@@ -89,21 +93,25 @@ abbrev pub tells : World → Pid → Command → Reply → List Telling
 tells w process command (Notification kind (Some guid)) = telling (transaction_of_enlistment w guid) (told_by kind)
 tells w process command reply = telling (named_by w process (transaction_label command)) (told_of_named reply)
 
+-- what a line and its reply tell; only a call tells anything
 abbrev pub line_tells : World → Option Line → Reply → List Telling
 line_tells w (Some (Process process command)) reply = tells w process command reply
 line_tells w _ reply = []
 
 -- ---- the worlds of a transcript
 
+-- the world after a call with this outcome that came by this step
 abbrev pub call_goes : World → Outcome → Step → World
 call_goes w o answered = extend w o
 call_goes w o interrupted = interrupted_by w o
 call_goes w o _ = w
 
+-- the world after a crash, which takes the power of a machine that is up
 abbrev pub crash_goes : Bool → World → World
 crash_goes true w = crashed w
 crash_goes false w = w
 
+-- the world after a restart that came by this step
 abbrev pub restart_goes : World → Step → World
 restart_goes w answered = w
 restart_goes w interrupted = interrupted_restart w

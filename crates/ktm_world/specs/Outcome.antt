@@ -8,21 +8,17 @@ use Rattle.ktm_world.specs.declared.event.Event.{Event}
 use Rattle.ktm_world.specs.declared.object.Handle.{Handle}
 use Rattle.ktm_world.specs.declared.reply.Reply.{Reply}
 use Rattle.ktm_world.specs.declared.reply.Reply.TheVariants.{Refused}
-use Rattle.ktm_world.specs.Keys.{Own, Store}
+use Rattle.ktm_world.specs.Keys.{Own}
 use Rattle.ktm_world.specs.Sizes.{frame_size, log_size}
 use Rattle.ktm_world.specs.Transactions.{same_id}
 use Rattle.ktm_world.specs.Logs.{as_groups}
-use Rattle.ktm_world.specs.Committed.{Committed, Work, committed_with, version_of}
+use Rattle.ktm_world.specs.Committed.{Committed, Work, committed_with}
+use Rattle.ktm_world.specs.Durable.{after_events}
 use Rattle.ktm_world.specs.Enlistments.{Manager, Sent, notes_for, taken_count}
-use Rattle.ktm_world.specs.Files.{FilesNow, FileTable, FirstOpen}
+use Rattle.ktm_world.specs.Files.{FileTable, FirstOpen, Opening, committed_files, first_open, files_with}
 use Rattle.ktm_world.specs.Present.{Present, Transactions}
-use Rattle.ktm_world.specs.Tree.{bytes_of}
 
--- a first open that a command makes
-pub record Opening : Type 0 where
-  pub transaction : Id
-  pub file : ℕ
-
+-- what a command does
 pub record Outcome : Type 0 where
   pub reply : Reply
   -- recorded together, before the command is answered
@@ -66,10 +62,7 @@ only_reply x reply = record {
 
 -- ---- what an outcome makes of what is so now
 
--- what is committed of the files, with a store of keys
-abbrev pub committed_files : FilesNow → Store → Committed
-committed_files files store = record { tree = files.tree; versions = files.versions; store = store }
-
+-- what is committed now
 abbrev pub committed_now : Present → Committed
 committed_now x = committed_files x.files x.keys.store
 
@@ -77,26 +70,22 @@ committed_now x = committed_files x.files x.keys.store
 abbrev pub served : Option Id → List Sent → Manager → Manager
 served took sent m = record m { queue = drop (taken_count m.id took) m.queue ++ notes_for m.id sent }
 
+-- is the transaction one whose first opens end
 abbrev pub is_forgotten : List Id → Id → Bool
 is_forgotten ids id = list_any (λ other. same_id id other) ids
 
--- the version of the file now
-abbrev pub first_open : Committed → Opening → FirstOpen
-first_open c o = record { transaction = o.transaction; file = o.file; version = version_of c.versions o.file; bytes = bytes_of c.tree o.file }
-
+-- the first opens after an outcome: with those that it makes, and without those of transactions that it ends
 abbrev pub first_opens_after : Present → Outcome → List FirstOpen
 first_opens_after x o = filter (λ f. not (is_forgotten o.forgotten f.transaction)) (x.files.first_opens ++ map (first_open (committed_now x)) o.openings)
 
-abbrev pub files_with : Committed → List FirstOpen → FileTable → FilesNow
-files_with c first_opens table = record { tree = c.tree; versions = c.versions; first_opens = first_opens; table = table }
-
+-- what is so after an outcome
 abbrev pub apply : Present → Outcome → Present
 apply x o = record {
   machine = record x.machine {
     is_up = x.machine.is_up && not o.stops;
-    events = x.machine.events + length o.events;
     left = x.machine.left - log_size (as_groups o.events);
   };
+  recorded = after_events x.recorded o.events;
   transactions = o.transactions;
   managers = map (served o.took o.sent) (x.managers ++ o.made);
   files = files_with (committed_with (committed_now x) o.works) (first_opens_after x o) o.table;
@@ -122,6 +111,7 @@ joined a b = record {
   stops = a.stops || b.stops;
 }
 
+-- one outcome, and then what a second command does on what is so then; the first one answers
 abbrev pub and_then : Present → Outcome → (Present → Outcome) → Outcome
 and_then x o next = joined o (next (apply x o))
 

@@ -22,6 +22,7 @@ parts_of [] = None
 parts_of (c ∷ []) = if c == backslash then Some [] else None
 parts_of (c ∷ d ∷ cs) = if c == backslash then Some (parts_from [] (d ∷ cs)) else None
 
+-- parts as the names of a path: 32 at most, and each a name
 abbrev pub names_in : Option (List (List ℕ)) → Option (List (List ℕ))
 names_in None = None
 names_in (Some parts) = if nat_le (length parts) 32 && list_all is_name parts then Some parts else None
@@ -35,15 +36,18 @@ pub record Search : Type 0 where
   pub directory : List (List ℕ)
   pub last : List ℕ
 
+-- a pattern with one more name in front, if the part is a name
 abbrev pub with_part : List ℕ → Option Search → Option Search
 with_part part None = None
 with_part part (Some search_for) = if is_name part then Some (record search_for { directory = part ∷ search_for.directory }) else None
 
+-- parts as a pattern: names, and a last part behind them
 abbrev pub search_in : List (List ℕ) → Option Search
 search_in [] = None
 search_in (last ∷ []) = if is_last_part last then Some (record { directory = []; last = last }) else None
 search_in (part ∷ next ∷ parts) = with_part part (search_in (next ∷ parts))
 
+-- the same of 32 parts at most
 abbrev pub few_parts : Option (List (List ℕ)) → Option Search
 few_parts None = None
 few_parts (Some parts) = if nat_le (length parts) 32 then search_in parts else None

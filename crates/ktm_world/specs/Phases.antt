@@ -32,6 +32,7 @@ pub record Course : Type 0 where
   pub events : List Event
   pub works : List Work
 
+-- it is in this phase from now on
 abbrev pub in_phase : Course → Phase → Course
 in_phase c phase = record c { transaction = record c.transaction { phase = phase } }
 
@@ -39,6 +40,7 @@ in_phase c phase = record c { transaction = record c.transaction { phase = phase
 abbrev pub decided : Course → TransactionOutcome → Course
 decided c outcome = record c { transaction = record c.transaction { outcome = outcome } }
 
+-- it records these events too
 abbrev pub recording : Course → List Event → Course
 recording c events = record c { events = c.events ++ events }
 
@@ -53,15 +55,19 @@ telling c test kind f = record c {
   enlistments = with_enlistments test f c.enlistments;
 }
 
+-- an enlistment that owes this from now on
 abbrev pub owing : Owed → Enlistment → Enlistment
 owing what e = record e { owes = Some what }
 
+-- an enlistment as it was
 abbrev pub unchanged : Enlistment → Enlistment
 unchanged e = e
 
+-- its superior, if it has one
 abbrev pub superior : Course → Option Enlistment
 superior c = superior_of c.enlistments c.transaction.id
 
+-- is the enlistment its superior
 abbrev pub is_its_superior : Course → Enlistment → Bool
 is_its_superior c e = same_id e.transaction c.transaction.id && is_superior e
 
@@ -69,15 +75,17 @@ is_its_superior c e = same_id e.transaction c.transaction.id && is_superior e
 abbrev pub some_enlistment : Course → (Enlistment → Bool) → Bool
 some_enlistment c test = list_any (λ e. takes_part c.transaction.id e && test e) c.enlistments
 
--- do the files and the keys take part
+-- do the files take part
 abbrev pub has_changes : List Change → Bool
 has_changes [] = false
 has_changes (c ∷ cs) = true
 
+-- do the keys take part
 abbrev pub has_settings : OwnSettings → Bool
 has_settings [] = false
 has_settings (s ∷ ss) = true
 
+-- one where this is so, and else none
 abbrev pub one_if : Bool → ℕ
 one_if true = 1
 one_if false = 0
@@ -92,6 +100,7 @@ participants c = length (taking_part c) + one_if (has_changes c.changes) + one_i
 
 -- ---- the end
 
+-- the notification by which a superior is told of this outcome
 abbrev pub end_notice : TransactionOutcome → Notify
 end_notice Aborted = Notify.RollbackComplete
 end_notice _ = Notify.CommitComplete
@@ -108,6 +117,7 @@ ended_if_finished c outcome = if list_any (is_unfinished c.transaction.id) c.enl
 abbrev pub work_of : Course → List Work
 work_of c = if has_changes c.changes || has_settings c.settings then record { transaction = Some c.transaction.id; changes = c.changes; settings = c.settings } ∷ [] else []
 
+-- the event where this is so, and else none
 abbrev pub event_if : Bool → Event → List Event
 event_if true event = event ∷ []
 event_if false event = []
@@ -125,6 +135,7 @@ committing c =
     (λ e. takes_part id e && e.is_prepared && e.is_recovered) Notify.Commit (owing commit) in
     ended_if_finished (in_phase (decided told Committed) Committing) Committed
 
+-- is the enlistment the superior that made the call
 abbrev pub is_caller : Course → Enlistment → Bool
 is_caller c e = elim c.caller as (λ _. Bool) [ Some id ↦ same_id e.id id | None ↦ false ]
 
@@ -146,6 +157,7 @@ ready_parts c =
     event_if (has_changes c.changes) (Event.Ready c.transaction.id (Part.Changes c.changes))
     ++ event_if (has_settings c.settings) (Event.Ready c.transaction.id (Part.Settings c.settings))
 
+-- the files and the keys are prepared, which is recorded of those that take part
 abbrev pub readied : Course → Course
 readied c = record (recording c (ready_parts c)) { transaction = record c.transaction { is_recorded = c.transaction.is_recorded || has_changes c.changes || has_settings c.settings } }
 
@@ -155,6 +167,7 @@ held_or_committing c (Some e) =
     in_phase (telling (recorded (recording c (Event.Held c.transaction.id e.id e.manager e.information ∷ []))) (is_its_superior c) Notify.PrepareComplete unchanged) Held
 held_or_committing c None = if participants c == 0 then ended c Committed else committing c
 
+-- all enlistments are prepared: the files and the keys prepare too, and it waits for its superior, or commits
 unfoldable pub all_ready : Course → Course
 all_ready c = held_or_committing (readied c) (superior c)
 
@@ -183,11 +196,13 @@ one_participant c =
     if has_changes c.changes then single c (Part.Changes c.changes) else
     (if has_settings c.settings then single c (Part.Settings c.settings) else one_phase c)
 
+-- without a superior: it has ended where nobody takes part, may commit in one step where one does, and is prepared where more do
 abbrev pub prepare_alone : Course → ℕ → Course
 prepare_alone c zero = ended c Committed
 prepare_alone c (suc zero) = one_participant c
 prepare_alone c (suc (suc more)) = preparing c
 
+-- it is to be prepared; with a superior all are asked, however many take part
 unfoldable pub to_prepare : Course → Course
 to_prepare c = if is_some (superior c) then preparing c else prepare_alone c (participants c)
 
@@ -197,6 +212,7 @@ to_prepare c = if is_some (superior c) then preparing c else prepare_alone c (pa
 unfoldable pub pre_prepared : Course → Course
 pre_prepared c = if is_some (superior c) then in_phase (telling c (is_its_superior c) Notify.PrePrepareComplete unchanged) PrePrepared else to_prepare c
 
+-- those that ask for it are to pre-prepare; where nobody does, all have
 unfoldable pub to_pre_prepare : Course → Course
 to_pre_prepare c =
     if some_enlistment c asks_pre_prepare
@@ -213,6 +229,7 @@ to_commit c = if is_some (superior c) then in_phase (telling c (is_its_superior 
 abbrev pub someone_owes : Course → Bool
 someone_owes c = some_enlistment c (λ e. is_some e.owes)
 
+-- the enlistment with this Id is changed
 abbrev pub changing_one : Course → Id → (Enlistment → Enlistment) → Course
 changing_one c id f = record c { enlistments = with_enlistments (has_id id) f c.enlistments }
 
@@ -220,9 +237,11 @@ changing_one c id f = record c { enlistments = with_enlistments (has_id id) f c.
 abbrev pub when_none_owes : Course → (Course → Course) → Course
 when_none_owes c next = if someone_owes c then c else next c
 
+-- an enlistment has pre-prepared, and the transaction goes on where it was the last to
 unfoldable pub pre_prepare_answered : Course → Enlistment → Course
 pre_prepare_answered c e = when_none_owes (changing_one c e.id (λ e. record e { owes = None })) pre_prepared
 
+-- the part that an enlistment records
 abbrev pub enlistment_part : Enlistment → Part
 enlistment_part e = Part.Enlistment e.id e.manager e.information
 
@@ -231,6 +250,7 @@ abbrev pub ready_of_enlistment : Course → Enlistment → Course
 ready_of_enlistment c e =
     if is_durable_at c.managers e.manager then recorded (recording c (Event.Ready c.transaction.id (enlistment_part e) ∷ [])) else c
 
+-- an enlistment is prepared, and the transaction goes on where it was the last to be
 unfoldable pub prepare_answered : Course → Enlistment → Course
 prepare_answered c e = when_none_owes (ready_of_enlistment (changing_one c e.id (λ e. record e { owes = None; is_prepared = true })) e) all_ready
 
@@ -241,6 +261,7 @@ without_its_answer Preparing c = all_ready c
 without_its_answer SinglePhase c = ended c Committed
 without_its_answer _ c = c
 
+-- an enlistment takes part in the outcome no more; the transaction goes on where it was the last to owe an answer
 unfoldable pub read_only_answered : Course → Enlistment → Course
 read_only_answered c e =
     let left = changing_one c e.id (λ e. record e { owes = None; is_read_only = true }) in
@@ -250,9 +271,11 @@ read_only_answered c e =
 unfoldable pub single_phase_rejected : Course → Enlistment → Course
 single_phase_rejected c e = in_phase (telling c (has_id e.id) Notify.Prepare (owing prepare)) Preparing
 
+-- an enlistment has finished, and owes nothing
 abbrev pub finished : Course → Enlistment → Course
 finished c e = changing_one c e.id (λ e. record e { owes = None; is_finished = true })
 
+-- does one enlistment commit in one phase
 abbrev pub is_single_phase : Phase → Bool
 is_single_phase SinglePhase = true
 is_single_phase _ = false
@@ -263,20 +286,24 @@ commit_answered c e =
     if is_single_phase c.transaction.phase then ended (finished c e) Committed else
     ended_if_finished (recording (finished c e) (event_if (is_durable_at c.managers e.manager) (Event.Done c.transaction.id (DonePart.Enlistment e.id)))) Committed
 
+-- an enlistment has rolled back, and the transaction has ended where it was the last to
 unfoldable pub rollback_answered : Course → Enlistment → Course
 rollback_answered c e = ended_if_finished (finished c e) Aborted
 
 -- ---- recovering an enlistment that a restart brought back
 
+-- the enlistment is recovered from now on
 abbrev pub brought_back : Course → Enlistment → Course
 brought_back c e = changing_one c e.id (λ e. record e { is_recovered = true })
 
+-- the enlistment is told how its transaction stands in this phase
 abbrev pub recovered_in : Phase → Course → Enlistment → Course
 recovered_in InDoubt c e = telling c (has_id e.id) Notify.Indoubt unchanged
 recovered_in Committing c e = telling c (has_id e.id) Notify.Commit (owing commit)
 recovered_in Aborting c e = telling c (has_id e.id) Notify.Rollback (owing rollback)
 recovered_in _ c e = c
 
+-- an enlistment recovers: a superior is asked to decide, and another one is told how its transaction stands
 unfoldable pub recovered : Course → Enlistment → Course
 recovered c e =
     if is_superior e then telling (brought_back c e) (has_id e.id) Notify.RecoverQuery unchanged else recovered_in c.transaction.phase (brought_back c e) e

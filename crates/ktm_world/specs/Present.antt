@@ -2,23 +2,18 @@
 use Rattle.std.specs.Prelude.{ℕ, Bool, List}
 use Rattle.ktm_world.specs.declared.object.Handle.{Handle}
 use Rattle.ktm_world.specs.declared.object.Transaction.{Transaction}
+use Rattle.ktm_world.specs.Durable.{Durable}
 use Rattle.ktm_world.specs.Keys.{KeysNow}
 use Rattle.ktm_world.specs.Enlistments.{Enlistment, Manager}
 use Rattle.ktm_world.specs.Files.{FilesNow}
 
+-- the machine itself, and the room in its log
 pub record Machine : Type 0 where
-  -- how many units the image has, which bound what is kept
-  pub units : ℕ
-  -- the image's number, which its GUIDs have
-  pub image : ℕ
-  -- this boot's number
-  pub boot : ℕ
   pub is_up : Bool
-  -- how many events were ever recorded
-  pub events : ℕ
   -- how many bytes are left in the log
   pub left : ℕ
 
+-- the clock, and the transactions with their enlistments
 pub record Transactions : Type 0 where
   -- milliseconds since the boot
   pub clock : ℕ
@@ -31,8 +26,11 @@ pub record Transactions : Type 0 where
   -- their enlistments, in order of creation; those that the restart brought back by rising Id
   pub enlistments : List Enlistment
 
+-- all that is so now
 pub record Present : Type 0 where
   pub machine : Machine
+  -- what the image's log comes to: its header, this boot, how many events were ever recorded, and what was recorded of the rest
+  pub recorded : Durable
   pub transactions : Transactions
   pub managers : List Manager
   pub files : FilesNow

@@ -76,57 +76,69 @@ blank = new_image 1024
 abbrev pub p : ℕ → Pid
 p number = record { 0 = number }
 
--- a call by the first process, and by the second one
+-- a call by the first process
 abbrev pub p1 : Command → Option Line
 p1 command = Some (Process (p 1) command)
 
+-- a call by the second process
 abbrev pub p2 : Command → Option Line
 p2 command = Some (Process (p 2) command)
 
--- the other lines, and one that is not in the grammar
+-- so many milliseconds pass
 abbrev pub tick : ℕ → Option Line
 tick ms = Some (Tick ms)
 
+-- the power goes
 abbrev pub crash : Option Line
 crash = Some Crash
 
+-- the machine is started, with this number for what the loss of power left
 abbrev pub restart : ℕ → Option Line
 restart pick = Some (Restart pick)
 
+-- a line that is not in the grammar
 abbrev pub bad_line : Option Line
 bad_line = None
 
--- labels
+-- the label 1
 abbrev pub h1 : Label
 h1 = record { 0 = 1 }
 
+-- the label 2
 abbrev pub h2 : Label
 h2 = record { 0 = 2 }
 
+-- the label 3
 abbrev pub h3 : Label
 h3 = record { 0 = 3 }
 
+-- the label 4
 abbrev pub h4 : Label
 h4 = record { 0 = 4 }
 
+-- the label 5
 abbrev pub h5 : Label
 h5 = record { 0 = 5 }
 
+-- the label 6
 abbrev pub h6 : Label
 h6 = record { 0 = 6 }
 
+-- the label 9
 abbrev pub h9 : Label
 h9 = record { 0 = 9 }
 
 -- ---- replies
 
--- the GUIDs of objects of the first boot
+-- the GUID of the transaction with this number in the first boot
 abbrev pub transaction_guid : ℕ → List ℕ
 transaction_guid number = guid_of ObjectKind.Transaction 1 (record { boot = 1; number = number })
 
+-- the GUID of the resource manager with this number in the first boot
 abbrev pub manager_guid : ℕ → List ℕ
 manager_guid number = guid_of ObjectKind.Manager 1 (record { boot = 1; number = number })
 
+-- the GUID of the enlistment with this number in the first boot
 abbrev pub enlistment_guid : ℕ → List ℕ
 enlistment_guid number = guid_of ObjectKind.Enlistment 1 (record { boot = 1; number = number })
 

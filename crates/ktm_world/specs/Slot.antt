@@ -16,6 +16,7 @@ pub record IsFree {V : Type 0} (items : List (Keyed V)) (key : List ℕ) (i : �
   pub within : i ≤ length items
   pub adds : (value : V) → put items key value ≡ insert items i (record { key = key; value = value })
 
+-- where a value goes under a key: in place of what is at an index, or before it
 abbrev pub IsSlot : {V : Type 0} → List (Keyed V) → List ℕ → Slot → Type 0
 IsSlot items key (Here i) = IsHere items key i
 IsSlot items key (Free i) = IsFree items key i

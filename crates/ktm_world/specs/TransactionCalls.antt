@@ -1,5 +1,5 @@
 -- The calls on transactions, resource managers and enlistments: for each the tests in their order, and what it does.
-use Rattle.std.specs.Prelude.{ℕ, ◌+◌, ◌-◌, ◌^◌, ◌==◌, ◌&&◌, ◌||◌, not, Bool, true, false, List, [], ◌∷◌, ◌++◌, length, map, filter, find, min, nat_lt, nat_le, Option, Some, None, is_some, is_none, option_map, if◌then◌else◌, bytes_eq}
+use Rattle.std.specs.Prelude.{ℕ, ◌+◌, ◌-◌, ◌^◌, ◌==◌, ◌&&◌, ◌||◌, not, Bool, true, false, List, [], ◌∷◌, ◌++◌, length, map, filter, find, min, count_by, nat_lt, nat_le, Option, Some, None, is_some, is_none, option_map, if◌then◌else◌, bytes_eq}
 use Rattle.std.specs.List.{list_any}
 use Rattle.ktm_base.specs.Guid.{guid_of}
 use Rattle.ktm_base.specs.declared.id.Id.{Id}
@@ -22,15 +22,16 @@ use Rattle.ktm_world.specs.declared.reply.Reply.{Reply}
 use Rattle.ktm_world.specs.declared.reply.Reply.TheVariants.{Done, Guid, Committed, Pending, Information, Notification, Contents}
 use Rattle.ktm_world.specs.declared.reply.TransactionState.{TransactionState}
 use Rattle.ktm_world.specs.declared.reply.TransactionState.TheVariants.{Normal, Indoubt, CommittedNotify}
+use Rattle.ktm_world.specs.Handles.{no_handle_left}
 use Rattle.ktm_world.specs.Keys.{own_settings, without_own}
 use Rattle.ktm_world.specs.Transactions.{same_id, transaction_at, change_at, is_live, is_undecided}
-use Rattle.ktm_world.specs.Enlistments.{Enlistment, Manager, Note, Sent, is_superior, is_open_for_votes, owes_commit, is_live_in, is_ended, has_id, with_enlistments, superior_of}
+use Rattle.ktm_world.specs.Enlistments.{Enlistment, Manager, Note, Sent, is_superior, is_open_for_votes, owes_commit, is_live_in, is_live_enlistment, is_ended, has_id, with_enlistments, superior_of}
 use Rattle.ktm_world.specs.Files.{own_changes, without_transaction}
 use Rattle.ktm_world.specs.Labels.{is_bound, holds_of, invalid_handle, outcome_tests, transaction_tests, binding}
-use Rattle.ktm_world.specs.Outcome.{Outcome, only_reply, apply, and_then}
+use Rattle.ktm_world.specs.Limits.{most_information, most_live, most_number}
+use Rattle.ktm_world.specs.Outcome.{Outcome, only_reply, and_then}
 use Rattle.ktm_world.specs.Phases.{Course, aborting, committing, to_commit, to_pre_prepare, to_prepare, pre_prepare_answered, prepare_answered, read_only_answered, commit_answered, rollback_answered, single_phase_rejected, recovered}
-use Rattle.ktm_world.specs.Present.{Present}
-use Rattle.ktm_world.specs.Uses.{is_over_quota}
+use Rattle.ktm_world.specs.Present.{Present, Transactions}
 
 -- ---- a transaction's course, and what it comes to
 
@@ -69,17 +70,25 @@ arrived x c reply = released c (record (only_reply x reply) {
 
 -- ---- objects and their GUIDs
 
+-- the GUID of an object of this image
 abbrev pub guid_in : Present → ObjectKind → Id → List ℕ
-guid_in x kind id = guid_of kind x.machine.image id
+guid_in x kind id = guid_of kind x.recorded.image id
 
+-- the Id of the object of this boot that follows the last one of its kind
 abbrev pub new_id : Present → ℕ → Id
-new_id x last = record { boot = x.machine.boot; number = last + 1 }
+new_id x last = record { boot = x.recorded.boots; number = last + 1 }
 
+-- the test that the label is bound
 abbrev pub bound_test : Present → Pid → Label → Bool × Refusal
 bound_test x process label = (is_bound x process label, InvalidParameter)
 
-abbrev pub quota_test : Present → Outcome → Bool × Refusal
-quota_test x effect = (is_over_quota (apply x effect), NotEnoughQuota)
+-- the test that no handle is left
+abbrev pub handle_test : Present → Bool × Refusal
+handle_test x = (no_handle_left x.handles, NotEnoughQuota)
+
+-- the test that no handle is left, or no object of a kind
+abbrev pub quota_test : Present → Bool → Bool × Refusal
+quota_test x none_left = (no_handle_left x.handles || none_left, NotEnoughQuota)
 
 -- a label bound to an object that is there
 abbrev pub opened_object : Present → Pid → Label → Object → Outcome
@@ -98,32 +107,42 @@ create_transaction x process label timeout =
       };
     })
 
-unfoldable pub create_transaction_tests : Present → Pid → Label → ℕ → List (Bool × Refusal)
-create_transaction_tests x process label timeout = bound_test x process label ∷ quota_test x (create_transaction x process label timeout) ∷ []
+-- would one transaction more pass the limit on live ones, or the greatest number
+abbrev pub no_transaction_left : Transactions → Bool
+no_transaction_left ts = nat_lt most_live (count_by is_live ts.items + 1) || nat_lt most_number (ts.last_transaction + 1)
+
+-- the tests of CreateTransaction
+unfoldable pub create_transaction_tests : Present → Pid → Label → List (Bool × Refusal)
+create_transaction_tests x process label = bound_test x process label ∷ quota_test x (no_transaction_left x.transactions) ∷ []
 
 -- the live transaction with a GUID
 abbrev pub transaction_with : Present → List ℕ → Option Transaction
 transaction_with x guid = find (λ t. is_live t && bytes_eq (guid_in x ObjectKind.Transaction t.id) guid) x.transactions.items
 
+-- the label is bound to the transaction
 abbrev pub open_to_transaction : Present → Pid → Label → Option Transaction → Outcome
 open_to_transaction x process label None = only_reply x Done
 open_to_transaction x process label (Some t) = opened_object x process label (Object.Transaction t.id)
 
+-- OpenTransaction binds the label to the live transaction with the GUID
 unfoldable pub open_transaction : Present → Pid → Label → List ℕ → Outcome
 open_transaction x process label guid = open_to_transaction x process label (transaction_with x guid)
 
+-- the tests of OpenTransaction
 unfoldable pub open_transaction_tests : Present → Pid → Label → List ℕ → List (Bool × Refusal)
 open_transaction_tests x process label guid =
-    bound_test x process label ∷ (is_none (transaction_with x guid), TransactionNotFound) ∷ quota_test x (open_transaction x process label guid) ∷ []
+    bound_test x process label ∷ (is_none (transaction_with x guid), TransactionNotFound) ∷ handle_test x ∷ []
 
 -- committed where it has ended by this, and pending else
 abbrev pub commit_reply : Course → Reply
 commit_reply c = if is_ended c.transaction.phase then Committed else Pending
 
+-- a transaction is asked to commit, and goes as far as it can
 abbrev pub commit_of : Present → Option Transaction → Outcome
 commit_of x None = only_reply x Done
 commit_of x (Some t) = let c = to_commit (course_of x t None) in arrived x c (commit_reply c)
 
+-- CommitTransaction asks the transaction to commit
 unfoldable pub commit_transaction : Present → Option Transaction → Outcome
 commit_transaction x t = commit_of x t
 
@@ -135,25 +154,31 @@ may_roll_back t = elim t.phase as (λ _. Bool) [ Active ↦ true | Requested ↦
 abbrev pub aborted_by : Present → Transaction → Option Id → Reply → Outcome
 aborted_by x t caller reply = arrived x (aborting (course_of x t caller)) reply
 
+-- a transaction rolls back, with no superior as the caller
 abbrev pub rollback_of : Present → Option Transaction → Outcome
 rollback_of x None = only_reply x Done
 rollback_of x (Some t) = aborted_by x t None Done
 
+-- RollbackTransaction rolls the transaction back
 unfoldable pub rollback_transaction : Present → Option Transaction → Outcome
 rollback_transaction x t = rollback_of x t
 
+-- the tests of RollbackTransaction
 abbrev pub rollback_transaction_tests : Option Transaction → List (Bool × Refusal)
 rollback_transaction_tests t = invalid_handle t ∷ outcome_tests t ++ (holds_of (λ t. not (may_roll_back t)) t, TransactionRequestNotValid) ∷ []
 
+-- the state that is told of a phase
 abbrev pub state_in : Phase → TransactionState
 state_in InDoubt = Indoubt
 state_in Committing = CommittedNotify
 state_in _ = Normal
 
+-- the reply that tells a transaction's GUID, state and outcome
 abbrev pub information_of : Present → Option Transaction → Reply
 information_of x None = Done
 information_of x (Some t) = Information (guid_in x ObjectKind.Transaction t.id) (state_in t.phase) t.outcome
 
+-- GetTransactionInformation tells a transaction's GUID, state and outcome
 unfoldable pub get_transaction_information : Present → Option Transaction → Outcome
 get_transaction_information x t = only_reply x (information_of x t)
 
@@ -171,6 +196,7 @@ never_times_out timeout = timeout == 0 || timeout == 2 ^ 32 - 1
 abbrev pub is_due : ℕ → Transaction → Bool
 is_due clock t = not (never_times_out t.timeout) && nat_le (t.created + t.timeout) clock && may_roll_back t
 
+-- a transaction rolls back, if it is due
 abbrev pub aborted_if_due : Present → Option Transaction → Outcome
 aborted_if_due x None = only_reply x Done
 aborted_if_due x (Some t) = if is_due x.transactions.clock t then aborted_by x t None Done else only_reply x Done
@@ -180,6 +206,7 @@ abbrev pub aborted_in_turn : Present → List Transaction → Outcome
 aborted_in_turn x [] = only_reply x Done
 aborted_in_turn x (t ∷ ts) = and_then x (aborted_if_due x (transaction_at x.transactions.items t.id)) (λ next. aborted_in_turn next ts)
 
+-- the clock is so many milliseconds later
 abbrev pub with_clock : Present → ℕ → Present
 with_clock x ms = record x { transactions = record x.transactions { clock = later x.transactions.clock ms } }
 
@@ -189,10 +216,12 @@ tick x ms = aborted_in_turn (with_clock x ms) x.transactions.items
 
 -- ---- resource managers
 
+-- does a resource manager of this durability outlive a restart
 abbrev pub is_durable : Durability → Bool
 is_durable Volatile = false
 is_durable Durable = true
 
+-- CreateResourceManager makes one with the next number, recorded where it is durable, and binds the label to it
 unfoldable pub create_resource_manager : Present → Pid → Label → Durability → Outcome
 create_resource_manager x process label durability =
     let id = new_id x x.transactions.last_manager in
@@ -202,23 +231,33 @@ create_resource_manager x process label durability =
       transactions = record x.transactions { last_manager = x.transactions.last_manager + 1 };
     })
 
-unfoldable pub create_resource_manager_tests : Present → Pid → Label → Durability → List (Bool × Refusal)
-create_resource_manager_tests x process label durability = bound_test x process label ∷ quota_test x (create_resource_manager x process label durability) ∷ []
+-- would one resource manager more pass the limit on them, or the greatest number
+abbrev pub no_manager_left : List Manager → Transactions → Bool
+no_manager_left ms ts = nat_lt most_live (length ms + 1) || nat_lt most_number (ts.last_manager + 1)
 
+-- the tests of CreateResourceManager
+unfoldable pub create_resource_manager_tests : Present → Pid → Label → List (Bool × Refusal)
+create_resource_manager_tests x process label = bound_test x process label ∷ quota_test x (no_manager_left x.managers x.transactions) ∷ []
+
+-- the resource manager with a GUID
 abbrev pub manager_with : Present → List ℕ → Option Manager
 manager_with x guid = find (λ m. bytes_eq (guid_in x ObjectKind.Manager m.id) guid) x.managers
 
+-- the label is bound to the resource manager
 abbrev pub open_to_manager : Present → Pid → Label → Option Manager → Outcome
 open_to_manager x process label None = only_reply x Done
 open_to_manager x process label (Some m) = opened_object x process label (Object.Manager m.id)
 
+-- OpenResourceManager binds the label to the resource manager with the GUID
 unfoldable pub open_resource_manager : Present → Pid → Label → List ℕ → Outcome
 open_resource_manager x process label guid = open_to_manager x process label (manager_with x guid)
 
+-- the tests of OpenResourceManager
 unfoldable pub open_resource_manager_tests : Present → Pid → Label → List ℕ → List (Bool × Refusal)
 open_resource_manager_tests x process label guid =
-    bound_test x process label ∷ (is_none (manager_with x guid), ResourceManagerNotFound) ∷ quota_test x (open_resource_manager x process label guid) ∷ []
+    bound_test x process label ∷ (is_none (manager_with x guid), ResourceManagerNotFound) ∷ handle_test x ∷ []
 
+-- does the transaction wait for its superior after a restart
 abbrev pub is_in_doubt : Transaction → Bool
 is_in_doubt t = elim t.phase as (λ _. Bool) [ InDoubt ↦ true | _ ↦ false ]
 
@@ -227,11 +266,13 @@ abbrev pub is_to_recover : Present → Id → Enlistment → Bool
 is_to_recover x manager e =
     same_id e.manager manager && not e.is_recovered && (not (is_superior e) || holds_of is_in_doubt (transaction_at x.transactions.items e.transaction))
 
+-- a RECOVER for each enlistment of the resource manager that is to be recovered, and a LAST_RECOVER
 abbrev pub recover_notes : Present → Id → List Sent
 recover_notes x manager =
     map (λ e. record { manager = manager; note = record { kind = Notify.Recover; enlistment = Some e.id } }) (filter (is_to_recover x manager) x.transactions.enlistments)
     ++ record { manager = manager; note = record { kind = Notify.LastRecover; enlistment = None } } ∷ []
 
+-- the resource manager is sent these
 abbrev pub recover_all : Present → Option Manager → Outcome
 recover_all x None = only_reply x Done
 recover_all x (Some m) = record (only_reply x Done) { sent = recover_notes x m.id }
@@ -240,16 +281,20 @@ recover_all x (Some m) = record (only_reply x Done) { sent = recover_notes x m.i
 unfoldable pub recover_resource_manager : Present → Option Manager → Outcome
 recover_resource_manager x m = recover_all x m
 
+-- does no notification wait for the resource manager
 abbrev pub has_empty_queue : Manager → Bool
 has_empty_queue m = length m.queue == 0
 
+-- the tests of GetNotificationResourceManager
 abbrev pub get_notification_tests : Option Manager → List (Bool × Refusal)
 get_notification_tests m = invalid_handle m ∷ (holds_of has_empty_queue m, WaitTimeout) ∷ []
 
+-- the reply that tells the first notification
 abbrev pub note_reply : Present → List Note → Reply
 note_reply x [] = Done
 note_reply x (note ∷ notes) = Notification note.kind (option_map (guid_in x ObjectKind.Enlistment) note.enlistment)
 
+-- the resource manager takes its first notification
 abbrev pub take_first : Present → Option Manager → Outcome
 take_first x None = only_reply x Done
 take_first x (Some m) = record (only_reply x (note_reply x m.queue)) { took = Some m.id }
@@ -260,13 +305,16 @@ get_notification x m = take_first x m
 
 -- ---- enlistments
 
+-- is it the kind of a superior
 abbrev pub is_superior_kind : EnlistmentKind → Bool
 is_superior_kind EnlistmentKind.Superior = true
 is_superior_kind _ = false
 
+-- has the transaction a superior
 abbrev pub has_superior : Present → Transaction → Bool
 has_superior x t = is_some (superior_of x.transactions.enlistments t.id)
 
+-- an enlistment with the next number is made, and the label is bound to it
 abbrev pub enlist : Present → Pid → Label → Option Manager → Option Transaction → EnlistmentKind → Outcome
 enlist x process label (Some m) (Some t) kind =
     let id = new_id x x.transactions.last_enlistment in
@@ -280,8 +328,13 @@ enlist x process label (Some m) (Some t) kind =
     })
 enlist x process label _ _ kind = only_reply x Done
 
+-- CreateEnlistment makes an enlistment of the resource manager in the transaction
 unfoldable pub create_enlistment : Present → Pid → Label → Option Manager → Option Transaction → EnlistmentKind → Outcome
 create_enlistment x process label m t kind = enlist x process label m t kind
+
+-- would one enlistment more pass the limit on live ones, or the greatest number
+abbrev pub no_enlistment_left : Transactions → Bool
+no_enlistment_left ts = nat_lt most_live (count_by (is_live_enlistment ts.items) ts.enlistments + 1) || nat_lt most_number (ts.last_enlistment + 1)
 
 -- a superior wants a durable resource manager, and a transaction without one
 unfoldable pub create_enlistment_tests : Present → Pid → Label → Option Manager → Option Transaction → EnlistmentKind → List (Bool × Refusal)
@@ -289,9 +342,10 @@ create_enlistment_tests x process label m t kind =
     invalid_handle m ∷ transaction_tests t
     ++ ((is_bound x process label || (is_superior_kind kind && holds_of (λ m. not m.is_durable) m), InvalidParameter)
     ∷ (is_superior_kind kind && holds_of (has_superior x) t, TransactionSuperiorExists)
-    ∷ quota_test x (create_enlistment x process label m t kind)
+    ∷ quota_test x (no_enlistment_left x.transactions)
     ∷ [])
 
+-- is the enlistment live in its transaction
 abbrev pub is_live_now : Present → Enlistment → Bool
 is_live_now x e = list_any (λ t. is_live_in t e) x.transactions.items
 
@@ -301,25 +355,29 @@ enlistment_with x None guid = None
 enlistment_with x (Some m) guid =
     find (λ e. same_id e.manager m.id && is_live_now x e && bytes_eq (guid_in x ObjectKind.Enlistment e.id) guid) x.transactions.enlistments
 
+-- the label is bound to the enlistment
 abbrev pub open_to_enlistment : Present → Pid → Label → Option Enlistment → Outcome
 open_to_enlistment x process label None = only_reply x Done
 open_to_enlistment x process label (Some e) = opened_object x process label (Object.Enlistment e.id)
 
+-- OpenEnlistment binds the label to the resource manager's live enlistment with the GUID
 unfoldable pub open_enlistment : Present → Pid → Label → Option Manager → List ℕ → Outcome
 open_enlistment x process label m guid = open_to_enlistment x process label (enlistment_with x m guid)
 
+-- the tests of OpenEnlistment
 unfoldable pub open_enlistment_tests : Present → Pid → Label → Option Manager → List ℕ → List (Bool × Refusal)
 open_enlistment_tests x process label m guid =
     invalid_handle m
     ∷ bound_test x process label
     ∷ (is_none (enlistment_with x m guid), EnlistmentNotFound)
-    ∷ quota_test x (open_enlistment x process label m guid)
+    ∷ handle_test x
     ∷ []
 
 -- the transaction of an enlistment
 abbrev pub transaction_in : Present → Enlistment → Option Transaction
 transaction_in x e = transaction_at x.transactions.items e.transaction
 
+-- does the phase of its transaction pass the test
 abbrev pub phase_passes : Present → (Phase → Bool) → Enlistment → Bool
 phase_passes x test e = holds_of (λ t. test t.phase) (transaction_in x e)
 
@@ -331,15 +389,19 @@ is_voting phase = elim phase as (λ _. Bool) [ Active ↦ true | Requested ↦ t
 abbrev pub lets_superior_roll_back : Phase → Bool
 lets_superior_roll_back phase = elim phase as (λ _. Bool) [ Active ↦ true | Requested ↦ true | PrePreparing ↦ true | PrePrepared ↦ true | Preparing ↦ true | Held ↦ true | InDoubt ↦ true | _ ↦ false ]
 
+-- the phases in which a superior may ask that its transaction pre-prepares
 abbrev pub before_pre_prepare : Phase → Bool
 before_pre_prepare phase = elim phase as (λ _. Bool) [ Active ↦ true | Requested ↦ true | _ ↦ false ]
 
+-- the phases in which a superior may ask that its transaction prepares
 abbrev pub before_prepare : Phase → Bool
 before_prepare phase = elim phase as (λ _. Bool) [ Active ↦ true | Requested ↦ true | PrePrepared ↦ true | _ ↦ false ]
 
+-- the phases in which a transaction waits for its superior to decide
 abbrev pub waits_for_superior : Phase → Bool
 waits_for_superior phase = elim phase as (λ _. Bool) [ Held ↦ true | InDoubt ↦ true | _ ↦ false ]
 
+-- the phase in which an enlistment commits in one phase
 abbrev pub is_one_phase : Phase → Bool
 is_one_phase phase = elim phase as (λ _. Bool) [ SinglePhase ↦ true | _ ↦ false ]
 
@@ -349,9 +411,11 @@ is_one_phase phase = elim phase as (λ _. Bool) [ SinglePhase ↦ true | _ ↦ f
 abbrev pub may_vote : Present → Enlistment → Bool
 may_vote x e = not (is_superior e) && is_open_for_votes e && phase_passes x is_voting e
 
+-- may it roll its transaction back: a superior until it has decided, another one while it may vote
 abbrev pub may_roll_back_by : Present → Enlistment → Bool
 may_roll_back_by x e = if is_superior e then phase_passes x lets_superior_roll_back e else may_vote x e
 
+-- is it asked to commit in one phase, and has it not answered
 abbrev pub may_reject_one_phase : Present → Enlistment → Bool
 may_reject_one_phase x e = phase_passes x is_one_phase e && owes_commit e
 
@@ -375,6 +439,7 @@ superior_tests x e allowed =
 
 -- ---- what a call of an enlistment does
 
+-- a transaction goes on by this step of an enlistment
 abbrev pub goes_on : Present → Enlistment → Option Transaction → Option Id → (Course → Enlistment → Course) → Outcome
 goes_on x e None caller step = only_reply x Done
 goes_on x e (Some t) caller step = arrived x (step (course_of x t caller) e) Done
@@ -384,57 +449,70 @@ abbrev pub answering : Present → Option Enlistment → (Course → Enlistment 
 answering x None step = only_reply x Done
 answering x (Some e) step = goes_on x e (transaction_in x e) (if is_superior e then Some e.id else None) step
 
+-- PrePrepareComplete: the enlistment has pre-prepared
 unfoldable pub pre_prepare_complete : Present → Option Enlistment → Outcome
 pre_prepare_complete x e = answering x e pre_prepare_answered
 
+-- PrepareComplete: the enlistment is prepared
 unfoldable pub prepare_complete : Present → Option Enlistment → Outcome
 prepare_complete x e = answering x e prepare_answered
 
+-- ReadOnlyEnlistment: the enlistment takes no part in the outcome
 unfoldable pub read_only_enlistment : Present → Option Enlistment → Outcome
 read_only_enlistment x e = answering x e read_only_answered
 
+-- CommitComplete: the enlistment has committed
 unfoldable pub commit_complete : Present → Option Enlistment → Outcome
 commit_complete x e = answering x e commit_answered
 
+-- RollbackComplete: the enlistment has rolled back
 unfoldable pub rollback_complete : Present → Option Enlistment → Outcome
 rollback_complete x e = answering x e rollback_answered
 
+-- SinglePhaseReject: the enlistment wants two phases
 unfoldable pub single_phase_reject : Present → Option Enlistment → Outcome
 single_phase_reject x e = answering x e single_phase_rejected
 
+-- RollbackEnlistment rolls the enlistment's transaction back
 unfoldable pub rollback_enlistment : Present → Option Enlistment → Outcome
 rollback_enlistment x e = answering x e (λ c e. aborting c)
 
+-- PrePrepareEnlistment: the superior asks that its transaction pre-prepares
 unfoldable pub pre_prepare_enlistment : Present → Option Enlistment → Outcome
 pre_prepare_enlistment x e = answering x e (λ c e. to_pre_prepare c)
 
+-- PrepareEnlistment: the superior asks that its transaction prepares
 unfoldable pub prepare_enlistment : Present → Option Enlistment → Outcome
 prepare_enlistment x e = answering x e (λ c e. to_prepare c)
 
+-- CommitEnlistment: the superior decides that its transaction commits
 unfoldable pub commit_enlistment : Present → Option Enlistment → Outcome
 commit_enlistment x e = answering x e (λ c e. committing c)
 
+-- RecoverEnlistment: the enlistment is recovered, and told how its transaction stands
 unfoldable pub recover_enlistment : Present → Option Enlistment → Outcome
 recover_enlistment x e = answering x e recovered
 
-abbrev pub most_information : ℕ
-most_information = 128
-
+-- the tests of SetEnlistmentRecoveryInformation
 abbrev pub set_information_tests : Present → Option Enlistment → List ℕ → List (Bool × Refusal)
 set_information_tests x e information = enlistment_tests e (may_set_information x) ++ (nat_lt most_information (length information), InvalidParameter) ∷ []
 
+-- the enlistment has this recovery information from now on
 abbrev pub keep_information : Present → Option Enlistment → List ℕ → Outcome
 keep_information x None information = only_reply x Done
 keep_information x (Some e) information = record (only_reply x Done) {
   transactions = record x.transactions { enlistments = with_enlistments (has_id e.id) (λ e. record e { information = information }) x.transactions.enlistments };
 }
 
+-- SetEnlistmentRecoveryInformation keeps the bytes with the enlistment
 unfoldable pub set_information : Present → Option Enlistment → List ℕ → Outcome
 set_information x e information = keep_information x e information
 
+-- the reply that tells an enlistment's recovery information
 abbrev pub information_in : Option Enlistment → Reply
 information_in None = Done
 information_in (Some e) = Contents e.information
 
+-- GetEnlistmentRecoveryInformation tells the bytes
 unfoldable pub get_information : Present → Option Enlistment → Outcome
 get_information x e = only_reply x (information_in e)

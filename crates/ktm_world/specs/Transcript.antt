@@ -54,6 +54,7 @@ StartDoes w (found log) reply new =
     Finds w log false × (reply ≡ Restarted (stand w.base log).events (length (in_doubt (stand w.base log)))) × (new ≡ opened w.base w.room log)
 StartDoes w (full log) reply new = Finds w log true × (reply ≡ Refused LogFull) × (new ≡ found_full w log)
 
+-- a restart of a machine that is up or down
 abbrev pub RestartDoes : Bool → World → Step → Reply → World → Type 0
 RestartDoes true w step reply new = IsAnswered w (Refused MachineUp) step reply new
 RestartDoes false w step reply new = StartDoes w step reply new

@@ -1,5 +1,5 @@
 -- The tree of files and directories.
-use Rattle.std.specs.Prelude.{◌≡◌, ℕ, zero, suc, ◌+◌, ◌-◌, ◌==◌, ◌≤◌, ◌&&◌, ◌||◌, not, Bool, true, List, [], ◌∷◌, ◌++◌, length, map, take, drop, replicate, nat_lt, Option, Some, None, is_some, find, filter, All, if◌then◌else◌, bytes_eq}
+use Rattle.std.specs.Prelude.{◌≡◌, ℕ, zero, suc, ◌+◌, ◌-◌, ◌/◌, ◌==◌, ◌≤◌, ◌&&◌, ◌||◌, not, Bool, true, List, [], ◌∷◌, ◌++◌, length, map, take, drop, replicate, nat_lt, Option, Some, None, is_some, find, filter, All, if◌then◌else◌, bytes_eq}
 use Rattle.std.specs.List.{list_any}
 use Rattle.ktm_base.specs.Names.{IsName, folded}
 use Rattle.ktm_world.specs.declared.durable.Node.{Node}
@@ -12,6 +12,7 @@ Tree = List Node
 abbrev pub root : ℕ
 root = 1
 
+-- has the node this number
 abbrev pub has_number : ℕ → Node → Bool
 has_number number node = node.number == number
 
@@ -19,6 +20,7 @@ has_number number node = node.number == number
 abbrev pub node_at : Tree → ℕ → Option Node
 node_at tree number = find (has_number number) tree
 
+-- is there a node with this number; the root always is
 abbrev pub is_there : Tree → ℕ → Bool
 is_there tree number = number == root || is_some (node_at tree number)
 
@@ -27,15 +29,22 @@ abbrev pub content_of : Option Node → Option (List ℕ)
 content_of None = None
 content_of (Some node) = node.content
 
+-- is there a file with this number
 abbrev pub is_file : Tree → ℕ → Bool
 is_file tree number = is_some (content_of (node_at tree number))
 
+-- is there a directory with this number
 abbrev pub is_directory : Tree → ℕ → Bool
 is_directory tree number = is_there tree number && not (is_file tree number)
 
+-- the bytes of a file's content; a directory has none
 abbrev pub bytes_or_none : Option (List ℕ) → List ℕ
 bytes_or_none None = []
 bytes_or_none (Some bytes) = bytes
+
+-- whole units of 4,096 bytes
+abbrev pub units_of : List ℕ → ℕ
+units_of bytes = (length bytes + 4095) / 4096
 
 -- the bytes of a file
 abbrev pub bytes_of : Tree → ℕ → List ℕ
@@ -49,9 +58,11 @@ same_name a b = bytes_eq (folded a) (folded b)
 abbrev pub child_of : Tree → ℕ → List ℕ → Option Node
 child_of tree directory name = find (λ node. node.parent == directory && same_name node.name name) tree
 
+-- is anything in the directory
 abbrev pub has_entries : Tree → ℕ → Bool
 has_entries tree directory = list_any (λ node. node.parent == directory) tree
 
+-- the number of the directory that a node is in, and the root's where there is no node
 abbrev pub parent_of : Option Node → ℕ
 parent_of None = root
 parent_of (Some node) = node.parent

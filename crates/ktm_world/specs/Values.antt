@@ -19,6 +19,7 @@ pub record IsTextByte (c : ℕ) : Type 0 where
   pub to : c ≤ 0x7E
   pub other : c ≢ quotation_mark
 
+-- a text has only such characters
 abbrev pub IsText : List ℕ → Type 0
 IsText text = AllByRecursion IsTextByte text
 
@@ -32,6 +33,7 @@ pub record IsLabel (label : Label) : Type 0 where
   pub from : 1 ≤ label.0
   pub to : label.0 ≤ 65535
 
+-- a view is plain, or through a label
 abbrev pub IsView : View → Type 0
 IsView Plain = Unit {0}
 IsView (Transaction label) = IsLabel label

@@ -17,14 +17,14 @@ use Rattle.ktm_world.specs.declared.object.Transaction.{Transaction}
 use Rattle.ktm_world.specs.declared.object.TransactionOutcome.{TransactionOutcome}
 use Rattle.ktm_world.specs.declared.options.EnlistmentKind.{EnlistmentKind}
 use Rattle.ktm_world.specs.Keys.{Own}
-use Rattle.ktm_world.specs.Outcome.{is_full, first_refusal, Outcome, Opening, is_forgotten, first_open, files_with, refuse_or, within_log}
+use Rattle.ktm_world.specs.Outcome.{is_full, first_refusal, Outcome, is_forgotten, refuse_or, within_log}
 use Rattle.ktm_world.specs.Sizes.{log_size}
-use Rattle.ktm_world.specs.Logs.{Group, Power, up, down, is_up, count_events, as_groups, kept_after, prefixes_from, possible_by}
+use Rattle.ktm_world.specs.Logs.{Group, Power, up, down, is_up, as_groups, kept_after, prefixes_from, possible_by}
 use Rattle.ktm_world.specs.Committed.{Committed, Work, committed_with}
 use Rattle.ktm_world.specs.Decide.{decide}
-use Rattle.ktm_world.specs.Durable.{Durable, Recorded, is_held, is_decided, has_undone, changes_of, settings_of, is_before, stand}
+use Rattle.ktm_world.specs.Durable.{Durable, Recorded, is_held, is_decided, has_undone, changes_of, settings_of, is_before, after_events, stand}
 use Rattle.ktm_world.specs.Enlistments.{Enlistment, Manager, Note, Sent, notes_for, taken_count}
-use Rattle.ktm_world.specs.Files.{FileTable, FirstOpen, OwnChanges}
+use Rattle.ktm_world.specs.Files.{FileTable, FirstOpen, OwnChanges, Opening, first_open, files_with}
 use Rattle.ktm_world.specs.Present.{Present, Transactions}
 use Rattle.ktm_world.specs.TransactionCalls.{tick}
 
@@ -41,6 +41,7 @@ pub record OpenedAfter : Type 0 where
   pub file : ℕ
   pub works : ℕ
 
+-- the machine with its whole history: its log since the run began, and its works since the restart
 pub record World : Type 0 where
   -- the durable state of the image that the run began with, and how many bytes were left in its log
   pub base : Durable
@@ -52,41 +53,41 @@ pub record World : Type 0 where
   -- what was committed at the last restart, and what was committed since
   pub start : Committed
   pub works : List Work
-  -- this boot
-  pub boot : ℕ
+  -- what was recorded so far comes to
+  pub recorded : Durable
   pub managers : List ManagerPast
   pub first_opens : List OpenedAfter
+  -- what has none: the transactions, what they changed and set, the open files and the handles
   pub transactions : Transactions
   pub table : FileTable
   pub own : List Own
   pub handles : List Handle
+  -- whether the machine is up, and else which logs may be on its disk
   pub power : Power
 
 -- what was committed once so many works were
 abbrev pub at_work : World → ℕ → Committed
 at_work w n = committed_with w.start (take n w.works)
 
+-- what is committed now
 abbrev pub committed : World → Committed
 committed w = committed_with w.start w.works
 
 -- ---- what is so now
 
+-- a resource manager as it is now, without what it has taken
 abbrev pub manager_now : ManagerPast → Manager
 manager_now m = record { id = m.id; is_durable = m.is_durable; queue = m.queue }
 
+-- a first open as it is now, with the version that it fixed
 abbrev pub first_open_now : World → OpenedAfter → FirstOpen
 first_open_now w o = first_open (at_work w o.works) (record { transaction = o.transaction; file = o.file })
 
+-- what is so now, which is computed from the history
 abbrev pub present : World → Present
 present w = record {
-  machine = record {
-    units = w.base.units;
-    image = w.base.image;
-    boot = w.boot;
-    is_up = is_up w.power;
-    events = w.base.events + count_events w.log;
-    left = w.room - log_size w.log;
-  };
+  machine = record { is_up = is_up w.power; left = w.room - log_size w.log };
+  recorded = w.recorded;
   transactions = w.transactions;
   managers = map manager_now w.managers;
   files = files_with (committed w) (map (first_open_now w) w.first_opens) w.table;
@@ -103,12 +104,15 @@ served_past took sent m = record m {
   queue = drop (taken_count m.id took) m.queue ++ notes_for m.id sent;
 }
 
+-- a resource manager that was just made
 abbrev pub made_past : Manager → ManagerPast
 made_past m = record { id = m.id; is_durable = m.is_durable; taken = []; queue = m.queue }
 
+-- a first open, after the works so far
 abbrev pub opened_after : World → Opening → OpenedAfter
 opened_after w o = record { transaction = o.transaction; file = o.file; works = length w.works }
 
+-- the logs that may be found on the disk
 abbrev pub possible_logs : World → List (List Group)
 possible_logs w = possible_by w.power w.kept w.log
 
@@ -117,10 +121,12 @@ abbrev pub power_after : Bool → World → Power
 power_after false w = w.power
 power_after true w = down (possible_logs w)
 
+-- the world after an outcome, which goes into the history
 abbrev pub extend : World → Outcome → World
 extend w o = record w {
   log = w.log ++ as_groups o.events;
   kept = kept_after w.kept w.log o.events;
+  recorded = after_events w.recorded o.events;
   works = w.works ++ o.works;
   managers = map (served_past o.took o.sent) (w.managers ++ map made_past o.made);
   first_opens = filter (λ f. not (is_forgotten o.forgotten f.transaction)) (w.first_opens ++ map (opened_after w) o.openings);
@@ -131,6 +137,7 @@ extend w o = record w {
   power = power_after o.stops w;
 }
 
+-- the world after a command
 abbrev pub after : World → Pid → Command → World
 after w process command = extend w (decide (present w) process command)
 
@@ -150,6 +157,7 @@ crashed w = record w { power = down (possible_logs w) }
 
 -- ---- restarts
 
+-- the event that this participant is done, where it is to be recorded
 abbrev pub done_if : Bool → Id → DonePart → List Event
 done_if true id done = Done id done ∷ []
 done_if false id done = []
@@ -196,6 +204,7 @@ enlistment_back id p = elim p.part as (λ _. List Enlistment) [
   | _ ↦ []
 ]
 
+-- a superior, as it is brought back: not recovered
 abbrev pub superior_back : Id → Option Superior → List Enlistment
 superior_back id None = []
 superior_back id (Some s) =
@@ -222,10 +231,12 @@ abbrev pub with_enlistment : List Enlistment → Enlistment → List Enlistment
 with_enlistment [] e = e ∷ []
 with_enlistment (a ∷ es) e = if is_before e.id a.id then e ∷ a ∷ es else a ∷ with_enlistment es e
 
+-- enlistments by rising Id
 abbrev pub by_rising_id : List Enlistment → List Enlistment
 by_rising_id [] = []
 by_rising_id (e ∷ es) = with_enlistment (by_rising_id es) e
 
+-- is the part an enlistment's
 abbrev pub is_enlistment_part : RecordedPart → Bool
 is_enlistment_part p = elim p.part as (λ _. Bool) [ Part.Enlistment enlistment manager information ↦ true | _ ↦ false ]
 
@@ -244,15 +255,19 @@ transaction_back t = record {
   is_recorded = true;
 }
 
+-- the transactions that are brought back
 abbrev pub back : Durable → List Recorded
 back s = filter is_brought_back s.transactions
 
+-- the transactions that wait for their superior
 abbrev pub in_doubt : Durable → List Recorded
 in_doubt s = filter (λ t. is_held t.stage) s.transactions
 
+-- has the transaction changed anything
 abbrev pub has_own_changes : OwnChanges → Bool
 has_own_changes o = not (length o.changes == 0)
 
+-- has the transaction set anything
 abbrev pub has_own_settings : Own → Bool
 has_own_settings o = not (length o.settings == 0)
 
@@ -265,7 +280,7 @@ reboot base room log = let s = stand base log in record {
   kept = length log;
   start = record { tree = s.tree; versions = []; store = s.keys };
   works = [];
-  boot = s.boots;
+  recorded = s;
   managers = map (λ id. record { id = id; is_durable = true; taken = []; queue = [] }) s.managers;
   first_opens = [];
   transactions = record {
@@ -289,8 +304,8 @@ reboot base room log = let s = stand base log in record {
 
 -- the world that starts from a log, once the restart has recorded its own group
 abbrev pub opened : Durable → ℕ → List Group → World
-opened base room log = record (reboot base room log) {
-  log = log ++ own_group (stand base log) ∷ [];
+opened base room log = let own = own_group (stand base log) in record (reboot base room log) {
+  log = log ++ own ∷ [];
   kept = length log + 1;
-  boot = (stand base log).boots + 1;
+  recorded = after_events (stand base log) own;
 }

@@ -18,7 +18,8 @@ pub enum Contents {
     Paged(PageList),
 }
 
-/// A change of the tree. A node is named by its number, which is never used again.
+/// A change of the tree. A node is named by its number: one that was recorded is never used again, and one that was drawn and not
+/// recorded comes again in the next boot.
 #[derive(Debug, Drop)]
 pub enum Change {
     /// A new file without bytes, or a new directory, in a directory.

@@ -7,7 +7,7 @@ use std::marker::Model;
 /// A file or a directory. The root is not among them: it is a directory with the number 1.
 #[derive(Debug, Drop)]
 pub struct Node {
-    /// At least 2, and never used again.
+    /// At least 2; no later node has the same.
     pub number: u64,
     /// The number of the directory that it is in.
     pub parent: u64,

@@ -54,13 +54,13 @@ pub enum TransactionOutcome {
     Aborted,
 }
 
-/// A transaction of this boot.
+/// A transaction of this boot, or one that the restart brought back.
 #[derive(Clone, Copy, Debug, PartialEq, Eq)]
 pub struct Transaction {
     pub id: Id,
     /// In milliseconds; 0 and 4,294,967,295 mean none.
     pub timeout: u32,
-    /// The clock when it was made, in milliseconds since the boot.
+    /// The clock when it was made, in milliseconds since the boot; 0 where it was brought back.
     pub created: u64,
     pub phase: Phase,
     pub outcome: TransactionOutcome,

@@ -23,7 +23,7 @@ pub enum Reply {
     Guid(Uuid),
     /// The transaction has committed.
     Committed,
-    /// The transaction waits for votes, or for its enlistments to finish.
+    /// The transaction waits for its superior, for votes, or for its enlistments to finish.
     Pending,
     /// A transaction: its GUID, and how it stands.
     Information {

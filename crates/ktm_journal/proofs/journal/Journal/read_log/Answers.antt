@@ -4,7 +4,7 @@ use Rattle.ktm_base.proofs.ToldSteps.{IfTold-map}
 use Rattle.ktm_log.specs.Log.{BeginsWith, IsLog, IsBadLog, area_bytes}
 use Rattle.ktm_journal.specs.Load.{IsFirstBad}
 use Rattle.ktm_journal.proofs.Known.{IfBad-map}
-use Rattle.ktm_journal.proofs.LogLoads.{comes_to_units, comes_to_image, stands_told, bad_payload_told, torn_told, journal_told}
+use Rattle.ktm_journal.proofs.LogLoads.{comes_to_units, comes_to_image, comes_to_events, stands_told, bad_payload_told, torn_told, journal_told}
 use Rattle.ktm_journal.proofs.journal.Journal.read_log.Goals as goal
 
 pub returns-in-Ok-fold-clause-units : goal.returns-in-Ok-fold-clause-units
@@ -12,6 +12,10 @@ returns-in-Ok-fold-clause-units g c = (refl, comes_to_units _ _ _ _ c.in-Ok-fold
 
 pub returns-in-Ok-fold-clause-image : goal.returns-in-Ok-fold-clause-image
 returns-in-Ok-fold-clause-image g c = (refl, comes_to_image _ _ _ _ c.in-Ok-fold.ensures.good)
+
+pub returns-in-Ok-fold-clause-events : goal.returns-in-Ok-fold-clause-events
+returns-in-Ok-fold-clause-events g c =
+    comes_to_events c.args.header.units c.args.header.image c.in-Ok.scanned.payloads c.in-Ok-fold.state (rw c.as_slice.ensures at c.in-Ok-fold.ensures.good) _ c.in-Ok.ensures.end
 
 pub returns-in-Ok-fold-clause-stands : goal.returns-in-Ok-fold-clause-stands
 returns-in-Ok-fold-clause-stands g c =

@@ -4,7 +4,7 @@ use Rattle.ktm_world.specs.Keys.{own_settings}
 use Rattle.ktm_keys.specs.Decide.{commit_transaction}
 use Rattle.ktm_keys.specs.World.{apply}
 use Rattle.ktm_kernel.specs.Done.{fallen}
-use Rattle.ktm_kernel.proofs.Commits.{spellable, named_from, left_is, fits_of_ok, fits_of_down, fits_left, full_of, commit_done, commit_cut, commit_full}
+use Rattle.ktm_kernel.proofs.Commits.{spellable, named_from, left_is, fits_of_ok, fits_of_down, fits_left, full_of, few_of, counted_after, commit_done, commit_cut, commit_full, done_touches, cut_touches}
 use Rattle.ktm_kernel.proofs.kernel.Kernel.commit_transaction.Goals as goal
 
 pub write_single-requires-clause-settings : goal.write_single-requires-clause-settings
@@ -32,7 +32,43 @@ invariant_of-self-in-Ok-append g c =
     c.self.inside.journal.log.area.len c.self.inside.journal.log.end c.append.new.self.log.end c.left-left-in-Ok-append.result
     (c.own_settings-settings.ensures ∙ ap (λ n. own_settings n.keys.own c.in-Ok.t.id) c.reserve.ensures.same) (sym c.is_empty.ensures ∙ c.if-is_empty.false) (rw c.as_slice.ensures c.in_ok-group.ensures)
     c.self.invariant.0 c.in-Ok-append.ensures.end (c.left-left-in-Ok-append.ensures ∙ ap (λ a. a.len - c.append.new.self.log.end) c.in-Ok-append.ensures.area) in
-    rw (c.commit-in-Ok-append.ensures, c.reserve.ensures.same) (sym left ∙ c.left-left-in-Ok-append.ensures, c.self.invariant.1)
+    let now = c.self.inside.state.now in
+    let own = c.own_settings-settings.ensures ∙ ap (λ n. own_settings n.keys.own c.in-Ok.t.id) c.reserve.ensures.same in
+    let fits = fits_left now c.self.inside.journal.log.area.len c.self.inside.journal.log.end (length c.as_slice.result.now) c.self.invariant.0 (fits_of_ok c.in-Ok-append.field-0 _ _ _ c.in-Ok-append.ensures.full.1) in
+    rw (c.commit-in-Ok-append.ensures, c.reserve.ensures.same) (
+      sym left ∙ c.left-left-in-Ok-append.ensures,
+      c.self.invariant.1,
+      counted_after now c.in-Ok.t.id c.own_settings-settings.result.now c.as_slice.result.now own (sym c.is_empty.ensures ∙ c.if-is_empty.false) (rw c.as_slice.ensures c.in_ok-group.ensures) fits c.self.invariant.2,
+    )
+
+pub commit-requires-clause-count : goal.commit-requires-clause-count
+commit-requires-clause-count g c = rw c.reserve.ensures.same (few_of c.self.inside.state.now c.self.invariant.1 c.self.invariant.2)
+
+pub commit-requires-in-Ok-append-clause-count : goal.commit-requires-in-Ok-append-clause-count
+commit-requires-in-Ok-append-clause-count g c = rw c.reserve.ensures.same (few_of c.self.inside.state.now c.self.invariant.1 c.self.invariant.2)
+
+pub returns-in-Ok-append-clause-untouched : goal.returns-in-Ok-append-clause-untouched
+returns-in-Ok-append-clause-untouched g c =
+    let now = c.self.inside.state.now in
+    let own = c.own_settings-settings.ensures ∙ ap (λ n. own_settings n.keys.own c.in-Ok.t.id) c.reserve.ensures.same in
+    rw (← c.self.view_is)
+    (λ touches. absurd (done_touches now c.args.process c.args.label c.in-Ok.t (rw (← c.self.view_is) at c.requires.up) c.in-Ok.ensures.ok.0 c.in-Ok.ensures.ok.1 c.own_settings-settings.result.now own (sym c.is_empty.ensures ∙ c.if-is_empty.false)
+    c.as_slice.result.now (rw c.as_slice.ensures c.in_ok-group.ensures)
+    (fits_left now c.self.inside.journal.log.area.len c.self.inside.journal.log.end (length c.as_slice.result.now) c.self.invariant.0 (fits_of_ok c.in-Ok-append.field-0 _ _ _ c.in-Ok-append.ensures.full.1))
+    touches))
+
+pub returns-in-Err-Down-clause-untouched : goal.returns-in-Err-Down-clause-untouched
+returns-in-Err-Down-clause-untouched g c =
+    let now = c.self.inside.state.now in
+    let own = c.own_settings-settings.ensures ∙ ap (λ n. own_settings n.keys.own c.in-Ok.t.id) c.reserve.ensures.same in
+    rw (← c.self.view_is)
+    (λ touches. absurd (cut_touches now c.args.process c.args.label c.in-Ok.t (rw (← c.self.view_is) at c.requires.up) c.in-Ok.ensures.ok.0 c.in-Ok.ensures.ok.1 c.own_settings-settings.result.now own (sym c.is_empty.ensures ∙ c.if-is_empty.false)
+    c.as_slice.result.now (rw c.as_slice.ensures c.in_ok-group.ensures)
+    (fits_left now c.self.inside.journal.log.area.len c.self.inside.journal.log.end (length c.as_slice.result.now) c.self.invariant.0 (fits_of_down _ _ _ _ (ap Err c.in-Err-Down.field-0-is) c.in-Err-Down.ensures.full.1))
+    touches))
+
+pub returns-clause-untouched : goal.returns-clause-untouched
+returns-clause-untouched g c = λ touches. c.in-Err-Full.ensures.unchanged (ap Err c.in-Err-Full.field-0-is)
 
 pub returns-in-Ok-append-clause-ends : goal.returns-in-Ok-append-clause-ends
 returns-in-Ok-append-clause-ends g c =
@@ -44,7 +80,7 @@ returns-in-Ok-append-clause-ends g c =
     (commit_done now c.args.process c.args.label c.in-Ok.t up c.in-Ok.ensures.ok.0 c.in-Ok.ensures.ok.1 settings own (sym c.is_empty.ensures ∙ c.if-is_empty.false)
     c.as_slice.result.now (rw c.as_slice.ensures c.in_ok-group.ensures)
     (fits_left now c.self.inside.journal.log.area.len c.self.inside.journal.log.end (length c.as_slice.result.now) c.self.invariant.0 (fits_of_ok c.in-Ok-append.field-0 _ _ _ c.in-Ok-append.ensures.full.1))
-    c.self.inside.journal c.append.new.self _ _ _ (rw c.reserve.ensures.same at c.in_ok-reserve.ensures.count)
+    c.self.inside.journal c.append.new.self _ _ _ (few_of now c.self.invariant.1 c.self.invariant.2)
     (c.commit-in-Ok-append.ensures ∙ ap (λ n. apply n (commit_transaction n (Some c.in-Ok.t))) c.reserve.ensures.same)
     c.in-Ok-append.ensures.units c.in-Ok-append.ensures.image c.in-Ok-append.ensures.ok)
 
@@ -58,7 +94,7 @@ returns-in-Err-Down-clause-ends g c =
     (commit_cut now c.args.process c.args.label c.in-Ok.t up c.in-Ok.ensures.ok.0 c.in-Ok.ensures.ok.1 settings own (sym c.is_empty.ensures ∙ c.if-is_empty.false)
     c.as_slice.result.now (rw c.as_slice.ensures c.in_ok-group.ensures)
     (fits_left now c.self.inside.journal.log.area.len c.self.inside.journal.log.end (length c.as_slice.result.now) c.self.invariant.0 (fits_of_down _ _ _ _ (ap Err c.in-Err-Down.field-0-is) c.in-Err-Down.ensures.full.1))
-    c.self.inside.journal c.append.new.self _ _ _ (rw c.reserve.ensures.same at c.in_ok-reserve.ensures.count)
+    c.self.inside.journal c.append.new.self _ _ _ (few_of now c.self.invariant.1 c.self.invariant.2)
     (c.fall.ensures ∙ ap fallen c.reserve.ensures.same)
     c.in-Err-Down.ensures.refused (rw c.in-Err-Down.field-0-is at c.in-Err-Down.ensures.down))
 

@@ -1,6 +1,6 @@
 use Rattle.std.proofs.Common.{Err, length, refl, sym, ◌∙◌, ap}
 use Rattle.ktm_kernel.proofs.Commits.{fits_of_ok}
-use Rattle.ktm_kernel.proofs.Restarts.{found, unwritten_leaves, journal_at, is_full, started, cut_off, fresh_ready}
+use Rattle.ktm_kernel.proofs.Restarts.{found, next_applies, unwritten_leaves, journal_at, is_full, started, cut_off, fresh_ready}
 use Rattle.ktm_kernel.proofs.kernel.Kernel.restart.Goals as goal
 
 pub returns-in-Err-Down-clause-down : goal.returns-in-Err-Down-clause-down
@@ -10,7 +10,7 @@ pub returns-in-Err-Down-append-clause-down : goal.returns-in-Err-Down-append-cla
 returns-in-Err-Down-append-clause-down g c = λ units image before log holds.
     let is = found units image before log c.in-Ok.loaded.state (g.D.Disk.told c.args.disk.now) c.in-Ok.ensures.stands holds in
     let at = journal_at units image before log c.in-Ok.loaded.state is c.in-Ok.loaded.journal (g.D.Disk.told c.args.disk.now) (g.D.Disk.told c.load.new.disk) c.in-Ok.ensures.journal holds in
-    cut_off units image before log c.in-Ok.loaded.state is (sym c.may_boot.ensures ∙ c.if-not-may_boot.false) c.in-Ok.loaded.journal c.append.new.self c.in-Ok.ensures.units.0 c.in-Ok.ensures.image
+    cut_off units image before log c.in-Ok.loaded.state is (next_applies c.in-Ok.loaded.state c.in-Ok.loaded.journal.log c.in-Ok.ensures.events c.in-Ok.ensures.inside c.in-Ok.ensures.area c.in-Ok.ensures.units.2) c.in-Ok.loaded.journal c.append.new.self c.in-Ok.ensures.units.0 c.in-Ok.ensures.image
     (g.D.Disk.told c.load.new.disk) (g.D.Disk.told c.append.new.disk) at
     c.as_slice.result.now (rw c.as_slice.ensures (rw c.boots.ensures at c.in-Ok-write_boot.ensures)) (rw c.in-Err-Down-append.field-0-is at c.in-Err-Down-append.ensures.down)
 
@@ -25,7 +25,7 @@ pub returns-clause-starts : goal.returns-clause-starts
 returns-clause-starts g c = λ units image before log holds.
     let is = found units image before log c.in-Ok.loaded.state (g.D.Disk.told c.args.disk.now) c.in-Ok.ensures.stands holds in
     let at = journal_at units image before log c.in-Ok.loaded.state is c.in-Ok.loaded.journal (g.D.Disk.told c.args.disk.now) (g.D.Disk.told c.load.new.disk) c.in-Ok.ensures.journal holds in
-    started units image before log c.in-Ok.loaded.state is (sym c.may_boot.ensures ∙ c.if-not-may_boot.false) c.in-Ok.loaded.journal c.append.new.self c.in-Ok.ensures.units.0 c.in-Ok.ensures.image
+    started units image before log c.in-Ok.loaded.state is (next_applies c.in-Ok.loaded.state c.in-Ok.loaded.journal.log c.in-Ok.ensures.events c.in-Ok.ensures.inside c.in-Ok.ensures.area c.in-Ok.ensures.units.2) c.in-Ok.loaded.journal c.append.new.self c.in-Ok.ensures.units.0 c.in-Ok.ensures.image
     (g.D.Disk.told c.load.new.disk) (g.D.Disk.told c.append.new.disk) at
     c.as_slice.result.now (rw c.as_slice.ensures (rw c.boots.ensures at c.in-Ok-write_boot.ensures))
     (record { now = c.start.result.now; journal = c.append.new.self }) c.left-left.result c.events-events.result refl c.start.ensures c.left-left.ensures c.events-events.ensures
