@@ -5,4 +5,3 @@ pub mod Loads
 pub mod Folds
 pub mod LogLoads
 pub mod OneImage
-pub mod Limits

@@ -12,6 +12,8 @@ use Rattle.ktm_world.specs.declared.event.Event.{Event}
 use Rattle.ktm_world.specs.declared.event.Event.TheVariants.{Boot, MadeRm, Plain, Ready, Single, Held, Decide, Undo, Done}
 use Rattle.ktm_world.specs.declared.change.Change.{Change}
 use Rattle.ktm_world.specs.declared.change.Change.TheVariants.{Make, Put, Cut, Move, Drop}
+use Rattle.ktm_world.specs.Built.{IsBuiltState}
+use Rattle.ktm_world.proofs.BuiltStates.{built_log}
 use Rattle.ktm_world.specs.Logs.{Group}
 use Rattle.ktm_world.specs.Durable.{Durable, empty_state, stand}
 use Rattle.ktm_world.specs.Sizes.{change_size, event_size, frame_size, log_size}
@@ -60,6 +62,9 @@ pub journal_left : (j : JournalState) (log : List Group) (s : DiskState) → Jou
 journal_left j log s at = omega (arith, ap (λ (a : Area). a.len) at.area, at.rests.gate_at, groups_size log at.payloads at.groups)
 
 module _ (units image : ℕ) (payloads : List (List ℕ)) (state : Durable) (comes : ComesTo units image payloads state) where
+  pub comes_to_built : IsBuiltState state
+  comes_to_built = subst IsBuiltState (sym comes.is) (built_log units image comes.log comes.built)
+
   pub comes_to_units : state.units ≡ units
   comes_to_units = ap (λ (s : Durable). s.units) comes.is ∙ stand-units (empty_state units image) comes.log
 

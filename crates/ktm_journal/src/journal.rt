@@ -3,6 +3,7 @@ ghost use Rattle.std.specs.Prelude.{◌≡◌, ◌↔◌, ℕ, ◌+◌, ◌-◌,
 ghost use Rattle.ktm_base.specs.Told.{IfTold, Tells, Goes};
 ghost use Rattle.ktm_base.specs.Disk.{DeviceCalls, IsSafe};
 ghost use Rattle.ktm_log.specs.Fault.{IfAppendDown, append_went_down};
+ghost use Rattle.ktm_world.specs.Built.{IsBuiltState};
 ghost use Rattle.ktm_world.specs.Logs.{Group};
 ghost use Rattle.ktm_world.specs.EventGrammar.{IsGroupOf};
 ghost use Rattle.ktm_journal.specs.Image.{AreInLog, HoldsLog, IsFormatted, IsHeaded, JournalAt, LeavesGroupOrNot, StandsFor, log_area};
@@ -73,6 +74,7 @@ impl Journal {
         ensures image { IfOk result (λ loaded. loaded.journal.image ≡ loaded.state.image) }
         ensures area { IfOk result (λ loaded. loaded.journal.log.area ≡ log_area loaded.state.units) }
         ensures keys { IfOk result (λ loaded. length loaded.state.keys ≤ loaded.state.units) }
+        ensures built { IfOk result (λ loaded. IsBuiltState loaded.state) }
         ensures events { IfOk result (λ loaded. AreInLog loaded.state loaded.journal.log.end) }
         ensures inside { IfOk result (λ loaded. loaded.journal.log.end < loaded.journal.log.area.len) }
         ensures stands { IfOk result (λ loaded. IfTold (D.told disk.old) (λ s. StandsFor loaded.state s.seen)) }
@@ -102,6 +104,7 @@ impl Journal {
         ensures image { IfOk result (λ loaded. (loaded.journal.image ≡ header.image) × (loaded.state.image ≡ header.image)) }
         ensures area { IfOk result (λ loaded. loaded.journal.log.area ≡ log_area header.units) }
         ensures keys { IfOk result (λ loaded. length loaded.state.keys ≤ loaded.state.units) }
+        ensures built { IfOk result (λ loaded. IsBuiltState loaded.state) }
         ensures events { IfOk result (λ loaded. AreInLog loaded.state loaded.journal.log.end) }
         ensures inside { IfOk result (λ loaded. loaded.journal.log.end < loaded.journal.log.area.len) }
         ensures stands { IfOk result (λ loaded. IfTold (D.told disk.old) (λ s. StandsFor loaded.state s.seen)) }

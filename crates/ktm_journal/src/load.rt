@@ -6,7 +6,7 @@ ghost use Rattle.ktm_base.specs.Disk.{DeviceCalls};
 ghost use Rattle.ktm_log.specs.Log.{end_of};
 ghost use Rattle.ktm_world.specs.Durable.{after_events, events_apply};
 ghost use Rattle.std.specs.List.{list_all};
-ghost use Rattle.ktm_world.specs.Built.{is_built_event};
+ghost use Rattle.ktm_world.specs.Built.{is_built_event, IsBuiltState};
 ghost use Rattle.ktm_world.specs.Logs.{Group};
 ghost use Rattle.ktm_world.specs.EventGrammar.{IsGroupOf};
 ghost use Rattle.ktm_journal.specs.Image.{IsFormatted, IsHeaded, area_len, empty_snapshot, snapshot_of};
@@ -158,6 +158,7 @@ pub(crate) fn fold(alloc: Global, header: Header, payloads: &[Bytes]) -> Result<
     requires small { end_of payloads.now ≤ area_len header.units }
     ensures good { IfOk result (λ state. ComesTo header.units header.image payloads.now state) }
     ensures keys { IfOk result (λ state. length state.keys ≤ state.units) }
+    ensures built { IfOk result IsBuiltState }
     ensures bad { IfBad result (λ offset. IsFirstBad header.units header.image payloads.now offset) }
     ensures up { load_went_down result ≡ false }
 {

@@ -22,15 +22,18 @@ use Rattle.ktm_world.specs.declared.object.Transaction.{Transaction}
 use Rattle.ktm_world.specs.declared.reply.Reply.TheVariants.{Committed, Refused}
 use Rattle.ktm_world.specs.EventGrammar.{IsGroupOf}
 use Rattle.ktm_world.specs.Keys.{OwnSettings, own_settings}
-use Rattle.ktm_keys.specs.Present.{Present}
-use Rattle.ktm_keys.specs.Outcome.{only_reply, refuse_or, within_log}
-use Rattle.ktm_world.specs.Outcome.{first_refusal, is_full}
-use Rattle.ktm_keys.specs.Decide.{decide, with_room, named, transaction_tests, commit_transaction, commit_events}
+use Rattle.ktm_world.specs.Present.{Present}
+use Rattle.ktm_world.specs.Outcome.{Outcome, apply, first_refusal, is_full, only_reply, refuse_or, within_log}
+use Rattle.ktm_world.specs.Decide.{decide, with_room}
+use Rattle.ktm_world.specs.Labels.{transaction_named, transaction_tests}
+use Rattle.ktm_world.specs.TransactionCalls.{commit_transaction}
+use Rattle.ktm_world.specs.Transactions.{transaction_at}
+use Rattle.ktm_built.specs.Forms.{commit_events, with_commit}
+use Rattle.ktm_built.specs.Spelling.{IsShortSetting}
+use Rattle.ktm_built.specs.Standing.{IsBuiltNow, IsStandingNow}
+use Rattle.ktm_kernel.proofs.Assumed.{forms_law, named_law, events_law}
 use Rattle.ktm_world.specs.Sizes.{log_size}
 use Rattle.ktm_world.specs.Logs.{Group, as_groups}
-use Rattle.ktm_keys.specs.World.{apply, IsLawfulNow, IsOfBoot}
-use Rattle.ktm_keys.proofs.NowLemmas.{named-of_boot}
-use Rattle.ktm_keys.proofs.OwnLemmas.{IsWithinLimits, own_settings_within_limits, few_own_settings}
 use Rattle.ktm_world.proofs.SizeLemmas.{size_law}
 use Rattle.ktm_kernel.specs.Done.{FewEvents, IsDone, IsCutOff, LeavesWithOr, TouchesNothing, fallen}
 
@@ -40,19 +43,15 @@ short_value-of : (value : Option (List ℕ)) → IfSome value (λ bytes. length 
 short_value-of None short = tt
 short_value-of (Some value) short = omega arith
 
-pub spellable : (x : Present) (id : Id) → IsLawfulNow x → x.machine.units ≤ 1024 → AreSpellableSettings (own_settings x.keys.own id)
-spellable x id now units = record {
-  few = let few = few_own_settings x id now in omega arith;
-  each = All-weaker IsWithinLimits IsSpellableSetting
-      (λ s within. record { text = within.text; short_key = omega (arith, within.short_key); short_value = short_value-of s.value within.short_value })
-      (own_settings x.keys.own id) (own_settings_within_limits x id now);
-}
-
--- the Id of a transaction that is named
-pub named_from : (x : Present) (process : Pid) (label : Label) (t : Transaction) → IsLawfulNow x → named x process label ≡ Some t → (1 ≤ t.id.boot) × (1 ≤ t.id.number)
-named_from x process label t now is =
-    let of_boot : IsOfBoot x.machine.boot t = subst (λ (n : Option Transaction). IfSome n (IsOfBoot x.machine.boot)) is (named-of_boot x process label now) in
-    (omega (arith, of_boot.boot_is, now.boot_from), of_boot.number_from)
+pub spellable : (x : Present) (t : Transaction) → IsStandingNow x → transaction_at x.transactions.items t.id ≡ Some t → x.recorded.units ≤ 1024 → AreSpellableSettings (own_settings x.keys.own t.id)
+spellable x t standing there units =
+    let short = events_law.1 x t standing there in
+    record {
+      few = omega (arith, short.few);
+      each = All-weaker IsShortSetting IsSpellableSetting
+          (λ s within. record { text = within.text; short_key = omega (arith, within.short_key); short_value = short_value-of s.value within.short_value })
+          (own_settings x.keys.own t.id) short.short;
+    }
 
 -- ---- the group of a transaction that set something
 
@@ -101,13 +100,13 @@ pub fits_left : (x : Present) (len end long : ℕ) → x.machine.left ≡ len - 
 fits_left x len end long before fits = omega arith
 
 -- there is a number for one event more
-pub few_of : (x : Present) → x.machine.units ≤ 1024 → x.machine.events + x.machine.left ≤ area_len x.machine.units → x.machine.events + 1 < 2 ^ 63
+pub few_of : (x : Present) → x.recorded.units ≤ 1024 → x.recorded.events + x.machine.left ≤ area_len x.recorded.units → x.recorded.events + 1 < 2 ^ 63
 few_of x most fits = omega arith
 
 -- and after it those that are left are as many as the bytes that are left
 pub counted_after : (x : Present) (id : Id) (settings : OwnSettings) (payload : List ℕ) → settings ≡ own_settings x.keys.own id → eqb (length settings) 0 ≡ false
-    → IsGroupOf (Single id (Settings settings) ∷ []) payload → length payload + 6 ≤ x.machine.left → x.machine.events + x.machine.left ≤ area_len x.machine.units
-    → x.machine.events + length (commit_events id (own_settings x.keys.own id)) + (x.machine.left - log_size (as_groups (commit_events id (own_settings x.keys.own id)))) ≤ area_len x.machine.units
+    → IsGroupOf (Single id (Settings settings) ∷ []) payload → length payload + 6 ≤ x.machine.left → x.recorded.events + x.machine.left ≤ area_len x.recorded.units
+    → x.recorded.events + length (commit_events id (own_settings x.keys.own id)) + (x.machine.left - log_size (as_groups (commit_events id (own_settings x.keys.own id)))) ≤ area_len x.recorded.units
 counted_after x id settings payload own some is fits counted =
     let size = size_is id settings payload some is in
     let same = ap (λ (ss : OwnSettings). log_size (as_groups (commit_events id ss))) own in
@@ -118,17 +117,17 @@ pub full_of : (x : Present) (len end long : ℕ) → x.machine.left ≡ len - en
 full_of x len end long before full = omega arith
 
 -- a machine that is up has a transaction to commit, which set something
-module _ (x : Present) (process : Pid) (label : Label) (t : Transaction) (up : x.machine.is_up ≡ true) (is : named x process label ≡ Some t) (passed : first_refusal (transaction_tests (Some t)) ≡ None)
+module _ (x : Present) (process : Pid) (label : Label) (t : Transaction) (up : x.machine.is_up ≡ true) (built : IsBuiltNow x) (is : transaction_named x process label ≡ Some t) (passed : first_refusal (transaction_tests (Some t)) ≡ None)
     (settings : OwnSettings) (own : settings ≡ own_settings x.keys.own t.id) (some : eqb (length settings) 0 ≡ false)
     (payload : List ℕ) (group : IsGroupOf (Single t.id (Settings settings) ∷ []) payload) where
   room : with_room x process (CommitTransaction label) ≡ commit_transaction x (Some t)
   room =
-      ap (λ u. refuse_or x (cond (not u) (Some MachineDown) (first_refusal (transaction_tests (named x process label)))) (commit_transaction x (named x process label))) up
+      ap (λ u. refuse_or x (cond (not u) (Some MachineDown) (first_refusal (transaction_tests (transaction_named x process label)))) (commit_transaction x (transaction_named x process label))) up
       ∙ ap (λ (n : Option Transaction). refuse_or x (first_refusal (transaction_tests n)) (commit_transaction x n)) is
       ∙ ap (λ r. refuse_or x r (commit_transaction x (Some t))) passed
 
   events : (commit_transaction x (Some t)).events ≡ Single t.id (Settings settings) ∷ []
-  events = ap (λ (ss : OwnSettings). commit_events t.id ss) (sym own) ∙ recorded t.id settings some
+  events = ap (λ (o : Outcome). o.events) (forms_law.1.1.0 x t built (named_law x process label t is)) ∙ ap (λ (ss : OwnSettings). commit_events t.id ss) (sym own) ∙ recorded t.id settings some
 
   full_is : is_full x.machine.left (commit_transaction x (Some t)).events ≡ nat_lt x.machine.left (length payload + 6)
   full_is = ap (λ (es : List Event). is_full x.machine.left es) events ∙ ap (λ n. nat_lt x.machine.left n) (let long = size_law (Single t.id (Settings settings) ∷ []) payload group in omega (arith, long))
@@ -145,7 +144,7 @@ module _ (x : Present) (process : Pid) (label : Label) (t : Transaction) (up : x
     decided_events : (decide x process (CommitTransaction label)).events ≡ Single t.id (Settings settings) ∷ []
     decided_events = ap (λ o. o.events) decided ∙ events
 
-    few : x.machine.events + 1 < 2 ^ 63 → FewEvents x process (CommitTransaction label)
+    few : x.recorded.events + 1 < 2 ^ 63 → FewEvents x process (CommitTransaction label)
     few count = inr (let one = ap (λ (es : List Event). length es) decided_events in omega (arith, one, count))
 
     records : (decide x process (CommitTransaction label)).events ≡ [] → ⊥
@@ -165,14 +164,14 @@ module _ (x : Present) (process : Pid) (label : Label) (t : Transaction) (up : x
     ]
 
     pub commit_done : (j k : JournalState) (new : Present) (before now : Option DiskState)
-        → x.machine.events + 1 < 2 ^ 63
-        → new ≡ apply x (commit_transaction x (Some t))
+        → x.recorded.events + 1 < 2 ^ 63
+        → new ≡ with_commit x t
         → k.units ≡ j.units → k.image ≡ j.image
         → ((log : List Group) (events : Group) → IsGroupOf events payload → Tells before (JournalAt j log) → Tells now (JournalAt k (log ++ events ∷ [])))
         → IsDone (record { now = x; journal = j }) process (CommitTransaction label) Committed (record { now = new; journal = k }) before now
     commit_done j k new before now count state units image added = record {
-      says = ap (λ o. o.reply) (sym decided);
-      state = state ∙ ap (λ o. apply x o) (sym decided);
+      says = sym (ap (λ (o : Outcome). o.reply) (decided ∙ forms_law.1.1.0 x t built (named_law x process label t is)));
+      state = state ∙ sym (forms_law.1.1.1.0 x t built (named_law x process label t is)) ∙ ap (λ o. apply x o) (sym decided);
       few = few count;
       units = units;
       image = image;
@@ -180,7 +179,7 @@ module _ (x : Present) (process : Pid) (label : Label) (t : Transaction) (up : x
     }
 
     pub commit_cut : (j k : JournalState) (new : Present) (before now : Option DiskState)
-        → x.machine.events + 1 < 2 ^ 63
+        → x.recorded.events + 1 < 2 ^ 63
         → new ≡ fallen x
         → k ≡ j
         → ((log : List Group) (events : Group) → IsGroupOf events payload → Tells before (JournalAt j log) → Tells now (LeavesGroupOrNot j log events))
@@ -213,13 +212,6 @@ module _ (x : Present) (process : Pid) (label : Label) (t : Transaction) (up : x
     }
       where
         fallen_is : fallen x ≡ apply x (record (only_reply x (Refused LogFull)) { stops = true })
-        fallen_is i = record (fallen x) { machine = record (fallen x).machine { is_up = off i; events = none_more i; left = none_less i } }
-          where
-            off : false ≡ (x.machine.is_up && false)
-            off = sym (and-false x.machine.is_up)
-
-            none_more : x.machine.events ≡ x.machine.events + 0
-            none_more = omega arith
-
-            none_less : x.machine.left ≡ x.machine.left - 0
-            none_less = omega arith
+        fallen_is =
+            sym (ap (λ b. record x { machine = record x.machine { is_up = b } }) (and-false x.machine.is_up))
+            ∙ sym (ap (λ (y : Present). record y { machine = record y.machine { is_up = x.machine.is_up && false } }) (forms_law.0 x (Refused LogFull) built))

@@ -1,16 +1,20 @@
 -- What a loss of power leaves of a machine.
 use Rattle.std.proofs.Common.{◌≡◌, ℕ, ◌&&◌, List, [], ◌++◌, length, Option, refl, sym, ◌∙◌, ap, subst}
+use Rattle.std.proofs.lemmas.Bool.{and_from}
 use Rattle.std.proofs.lemmas.List.{append-nil}
+use Rattle.std.proofs.lemmas.List.Folds.{list_all-append}
+use Rattle.std.specs.List.{list_all}
 use Rattle.std.specs.Prelude.{Contains, IsTrue}
 use Rattle.ktm_base.specs.Disk.{DiskState}
 use Rattle.ktm_base.specs.Told.{Tells}
 use Rattle.ktm_base.proofs.ToldSteps.{Tells-map}
 use Rattle.ktm_journal.specs.Image.{JournalState, JournalAt, HoldsLog, StandsFor}
 use Rattle.ktm_journal.proofs.Images.{what_is_left}
-use Rattle.ktm_keys.specs.Durable.{Durable, empty_state, stand, log_applies}
-use Rattle.ktm_keys.specs.World.{World, possible_logs}
+use Rattle.ktm_world.specs.Durable.{Durable, empty_state, stand, log_applies}
+use Rattle.ktm_world.specs.World.{World, possible_logs}
+use Rattle.ktm_world.specs.Built.{is_built_event, is_built_log}
 use Rattle.ktm_world.specs.Logs.{Group, Power, up, down, is_up, prefixes_from, possible_by}
-use Rattle.ktm_keys.proofs.Logs.{stand-append, stand-units, stand-image, log_applies-append}
+use Rattle.ktm_world.proofs.Durables.{stand-append, stand-units, stand-image, log_applies-append}
 use Rattle.ktm_kernel.specs.Stands.{KernelState, Began, Stands, StandsBy, LeavesPossible, LeavesStates, LeftLaw}
 use Rattle.ktm_kernel.proofs.Possible.{log_possible}
 
@@ -34,6 +38,9 @@ module _ (j : JournalState) (before : List Group) (w : World) (began : Began j b
       subst (λ b. IsTrue b) (sym (log_applies-append (empty_state j.units j.image) before log))
       (both_true (log_applies (empty_state j.units j.image) before) (log_applies (stand (empty_state j.units j.image) before) log) began.applies (subst (λ (s : Durable). IsTrue (log_applies s log)) began.base applies))
 
+  pub both_built : (log : List Group) → IsTrue (is_built_log log) → IsTrue (is_built_log (before ++ log))
+  both_built log built = list_all-append (list_all is_built_event) before log ∙ and_from (is_built_log before) (is_built_log log) began.built built
+
   pub stands_for : (log : List Group) (image : List ℕ) → HoldsLog j.units j.image (before ++ log) image → StandsFor (stand w.base log) image
   stands_for log image holds = record {
     log = before ++ log;
@@ -54,8 +61,8 @@ pub left_up : (k : KernelState) (told : Option DiskState) (w : World) → w.powe
 left_up k told w on stands = Tells-map told (JournalAt k.journal (stands.before ++ w.log)) (LeavesPossible k.journal stands.before w) stands.disk
     (λ s at image left. (
       w.log,
-      log_is_possible w on stands.lawful.kept,
-      record { is = what_is_left k.journal (stands.before ++ w.log) s image at left; applies = both_apply k.journal stands.before w stands.began w.log stands.lawful.applies },
+      log_is_possible w on (stands.standing.kept (ap is_up on)),
+      record { is = what_is_left k.journal (stands.before ++ w.log) s image at left; built = both_built k.journal stands.before w stands.began w.log stands.standing.built.log; applies = both_apply k.journal stands.before w stands.began w.log (stands.standing.lawful.stands (ap is_up on)).applies },
     ))
 
 left_by : (power : Power) (k : KernelState) (told : Option DiskState) (w : World) → w.power ≡ power → StandsBy (is_up power) k told w → Tells told (LeavesStates w)

@@ -1,8 +1,9 @@
 -- What a call leaves of what is so now.
-use Rattle.std.proofs.Common.{◌≡◌, ◌⊎◌, Bool, true, false, List, [], ◌++◌, Option, Result, Ok, Err, OnOk, IfOk, refl, sym, ◌∙◌, ap, subst, inl, inr}
+use Rattle.std.proofs.Common.{◌≡◌, ◌⊎◌, Bool, true, false, List, [], ◌++◌, Option, None, Some, Result, Ok, Err, OnOk, IfOk, refl, sym, ◌∙◌, ap, subst, inl, inr}
 use Rattle.std.proofs.lemmas.List.{append-nil}
 use Rattle.ktm_base.specs.declared.id.Pid.{Pid}
 use Rattle.ktm_base.specs.declared.fault.NoMemory.{NoMemory}
+use Rattle.ktm_base.specs.declared.refusal.Refusal.{Refusal}
 use Rattle.ktm_base.specs.declared.refusal.Refusal.TheVariants.{MachineDown}
 use Rattle.ktm_base.specs.Count.{Rose}
 use Rattle.ktm_base.specs.Disk.{DiskState, DiskStatus, DeviceCalls}
@@ -12,22 +13,23 @@ use Rattle.ktm_world.specs.declared.command.Command.{Command}
 use Rattle.ktm_world.specs.declared.event.Event.{Event}
 use Rattle.ktm_world.specs.declared.reply.Reply.{Reply}
 use Rattle.ktm_world.specs.declared.reply.Reply.TheVariants.{Refused}
-use Rattle.ktm_keys.specs.Decide.{decide, with_room, command_effect}
-use Rattle.ktm_keys.specs.Present.{Present}
+use Rattle.ktm_world.specs.Decide.{decide, with_room, refusal_of, command_effect}
+use Rattle.ktm_world.specs.Present.{Present}
 use Rattle.ktm_world.specs.Values.{IsCommand}
 use Rattle.ktm_world.specs.Logs.{Group, as_groups}
-use Rattle.ktm_keys.specs.World.{apply, IsLawfulNow}
-use Rattle.ktm_keys.proofs.NowLemmas.{lawful_now_law}
+use Rattle.ktm_world.specs.Outcome.{apply, refuse_or}
+use Rattle.ktm_world.specs.Built.{is_built_command}
+use Rattle.ktm_built.specs.Standing.{IsStandingNow}
 use Rattle.ktm_kernel.specs.Answered.{Answered}
 use Rattle.ktm_kernel.specs.Done.{Ends}
 use Rattle.ktm_kernel.specs.Stands.{KernelState, IsPowered, IsReady}
-use Rattle.ktm_kernel.proofs.Decided.{quiet, quiet_decide, up_not_down}
+use Rattle.ktm_kernel.proofs.Assumed.{decided_law, now_law}
 
--- what is so then is lawful, where the machine is up then
-pub ends_lawful : (is_down : Bool) (old new : KernelState) (process : Pid) (command : Command) (reply : Reply) (before now : Option DiskState)
-    → IsCommand command → IsLawfulNow old.now → Ends is_down old process command reply new before now → new.now.machine.is_up ≡ true → IsLawfulNow new.now
-ends_lawful false old new process command reply before now is lawful done on = subst (λ x. IsLawfulNow x) (sym done.state) (lawful_now_law old.now process command is lawful)
-ends_lawful true old new process command reply before now is lawful cut on = let off = sym on ∙ ap (λ x. x.machine.is_up) cut.state in absurd (cc)
+-- what is so then is as it is to be, where the machine is up then
+pub ends_standing : (is_down : Bool) (old new : KernelState) (process : Pid) (command : Command) (reply : Reply) (before now : Option DiskState)
+    → IsCommand command → is_built_command command ≡ true → IsStandingNow old.now → Ends is_down old process command reply new before now → new.now.machine.is_up ≡ true → IsStandingNow new.now
+ends_standing false old new process command reply before now is built standing done on = subst IsStandingNow (sym done.state) (now_law.0 old.now process command is built standing)
+ends_standing true old new process command reply before now is built standing cut on = let off = sym on ∙ ap (λ x. x.machine.is_up) cut.state in absurd (cc)
 
 -- a command that records nothing was done in memory alone
 pub quiet_ends : (is_down : Bool) (x y : Present) (j : JournalState) (process : Pid) (command : Command) (reply : Reply) (told : Option DiskState)
@@ -43,33 +45,37 @@ quiet_ends false x y j process command reply told on none done = record {
   log = λ log at. subst (λ (gs : List Group). Tells told (JournalAt j gs)) (sym (ap (λ (es : List Event). log ++ as_groups es) nothing ∙ append-nil log)) at;
 }
   where
-    room : (with_room x process command).events ≡ []
-    room = quiet x process command none
-
     same : decide x process command ≡ with_room x process command
-    same = quiet_decide x process command room
+    same = decided_law.1.0 x process command none
+
+    room : (with_room x process command).events ≡ []
+    room = refuse_or_nothing (refusal_of x process command)
+      where
+        refuse_or_nothing : (tested : Option Refusal) → (refuse_or x tested (command_effect x process command)).events ≡ []
+        refuse_or_nothing None = none
+        refuse_or_nothing (Some refusal) = refl
 
     nothing : (decide x process command).events ≡ []
     nothing = ap (λ o. o.events) same ∙ room
 
 -- what a call leaves is ready for the next one
 pub ready_after : (r : Result Reply NoMemory) (is_down : DiskStatus) (old new : KernelState) (process : Pid) (command : Command) (before now : Option DiskState)
-    → IsCommand command → IsLawfulNow old.now → IfOk r (λ reply. Ends is_down.is_down old process command reply new before now) → OnOk r (IsPowered new now is_down) → OnOk r (IsReady new now is_down)
-ready_after (Ok reply) status old new process command before now is lawful ends powered = record { powered = powered; lawful = ends_lawful status.is_down old new process command reply before now is lawful ends }
-ready_after (Err fault) status old new process command before now is lawful ends powered = tt
+    → IsCommand command → is_built_command command ≡ true → IsStandingNow old.now → IfOk r (λ reply. Ends is_down.is_down old process command reply new before now) → OnOk r (IsPowered new now is_down) → OnOk r (IsReady new now is_down)
+ready_after (Ok reply) status old new process command before now is built standing ends powered = record { powered = powered; standing = ends_standing status.is_down old new process command reply before now is built standing ends }
+ready_after (Err fault) status old new process command before now is built standing ends powered = tt
 
 -- a reply that says that the machine is down has a cause
 down_cause : (is_down : Bool) (old new : KernelState) (process : Pid) (command : Command) (reply : Reply) (before now : Option DiskState) (a b : DiskStatus)
-    → old.now.machine.is_up ≡ true → a.is_down ≡ false → Ends is_down old process command reply new before now → DeviceCalls 4 a b is_down
+    → is_built_command command ≡ true → old.now.machine.is_up ≡ true → a.is_down ≡ false → Ends is_down old process command reply new before now → DeviceCalls 4 a b is_down
     → reply ≡ Refused MachineDown → (old.now.machine.is_up ≡ false) ⊎ Rose a.downs b.downs
-down_cause false old new process command reply before now a b up on done calls is = absurd (up_not_down old.now process command up (sym done.says ∙ is))
-down_cause true old new process command reply before now a b up on cut calls is = elim (calls.cause refl) [
+down_cause false old new process command reply before now a b built up on done calls is = absurd (decided_law.1.1.1.1 old.now process command built up (sym done.says ∙ is))
+down_cause true old new process command reply before now a b built up on cut calls is = elim (calls.cause refl) [
   | inl off ↦ absurd (cc)
   | inr rose ↦ inr rose
 ]
 
 pub down_causes : (r : Result Reply NoMemory) (old new : KernelState) (process : Pid) (command : Command) (before now : Option DiskState) (a b : DiskStatus)
-    → old.now.machine.is_up ≡ true → a.is_down ≡ false → IfOk r (λ reply. Ends b.is_down old process command reply new before now) → OnOk r (DeviceCalls 4 a b b.is_down)
+    → is_built_command command ≡ true → old.now.machine.is_up ≡ true → a.is_down ≡ false → IfOk r (λ reply. Ends b.is_down old process command reply new before now) → OnOk r (DeviceCalls 4 a b b.is_down)
     → IfOk r (λ reply. reply ≡ Refused MachineDown → (old.now.machine.is_up ≡ false) ⊎ Rose a.downs b.downs)
-down_causes (Ok reply) old new process command before now a b up on ends calls = down_cause b.is_down old new process command reply before now a b up on ends calls
-down_causes (Err fault) old new process command before now a b up on ends calls = tt
+down_causes (Ok reply) old new process command before now a b built up on ends calls = down_cause b.is_down old new process command reply before now a b built up on ends calls
+down_causes (Err fault) old new process command before now a b built up on ends calls = tt

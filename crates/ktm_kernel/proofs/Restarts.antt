@@ -1,6 +1,8 @@
 -- What a restart finds on a disk, and what it makes of it.
-use Rattle.std.proofs.Common.{◌≡◌, ℕ, ◌+◌, ◌-◌, ◌^◌, ◌≤◌, ◌<◌, true, false, List, [], ◌∷◌, ◌++◌, length, Option, None, Some, refl, sym, ◌∙◌, ap, subst, arith, inl, inr, append_assoc}
-use Rattle.std.proofs.lemmas.Bool.{and_from, and_parts, eq-eqb, lt-ltb, le-ltb}
+use Rattle.std.proofs.Common.{◌≡◌, ℕ, ◌+◌, ◌-◌, ◌^◌, ◌≤◌, ◌<◌, ◌&&◌, nat_le, nat_lt, true, false, List, [], ◌∷◌, ◌++◌, length, Option, None, Some, refl, sym, ◌∙◌, ap, subst, arith, inl, inr, append_assoc}
+use Rattle.std.proofs.lemmas.Bool.{and_from, and_parts, eq-eqb, le-leb, lt-ltb, le-ltb}
+use Rattle.std.proofs.lemmas.List.Folds.{list_all-append}
+use Rattle.std.specs.List.{list_all}
 use Rattle.std.proofs.lemmas.List.Elements.{All-nil}
 use Rattle.std.specs.Prelude.{IsTrue}
 use Rattle.ktm_base.specs.Disk.{DiskState, DiskStatus, IsSafe}
@@ -13,14 +15,20 @@ use Rattle.ktm_journal.specs.Image.{AreInLog, JournalState, JournalAt, IsImage, 
 use Rattle.ktm_journal.proofs.LogLoads.{journal_left}
 use Rattle.ktm_journal.proofs.OneImage.{one_image}
 use Rattle.ktm_world.specs.EventGrammar.{IsGroupOf}
-use Rattle.ktm_keys.specs.Durable.{Durable, empty_state, stand, events_apply, log_applies}
-use Rattle.ktm_world.specs.Sizes.{log_size}
-use Rattle.ktm_world.specs.Logs.{Group, count_events}
-use Rattle.ktm_keys.specs.World.{own_group, opened, present, IsLawfulNow, IsLawful}
-use Rattle.ktm_keys.proofs.Logs.{stand-append, stand-units, stand-image, stand-events, log_applies-append, few_keys}
-use Rattle.ktm_world.proofs.Counts.{count_events-append}
+use Rattle.ktm_world.specs.declared.event.Event.{Event}
+use Rattle.ktm_world.specs.declared.event.Event.TheVariants.{Boot}
+use Rattle.ktm_world.specs.Built.{is_built_event, is_built_log, IsBuiltState}
+use Rattle.ktm_world.specs.Durable.{Durable, empty_state, stand, fact_applies, fact_of, is_within_limits, events_apply, log_applies}
+use Rattle.ktm_world.specs.Sizes.{group_size, log_size}
+use Rattle.ktm_world.specs.Logs.{Group}
+use Rattle.ktm_world.specs.Outcome.{is_full as is_full_in}
+use Rattle.ktm_world.specs.Uses.{changes_waiting, file_changes_waiting, is_over_disk, is_over_quota, nodes_used, units_used}
+use Rattle.ktm_world.specs.World.{own_group, opened, present}
+use Rattle.ktm_world.proofs.BuiltStates.{built_log, built_stand, own_is, within_built}
+use Rattle.ktm_world.proofs.Durables.{stand-append, log_applies-append}
 use Rattle.ktm_world.proofs.SizeLemmas.{size_law, log_size-append}
-use Rattle.ktm_keys.proofs.Worlds.{opened_law}
+use Rattle.ktm_built.specs.Standing.{IsStanding, IsStandingNow}
+use Rattle.ktm_kernel.proofs.Assumed.{opened_law}
 use Rattle.ktm_kernel.specs.Memory.{fresh}
 use Rattle.ktm_kernel.specs.Restarts.{HoldsBoth, base_of, is_full_for_own, Started, LeavesOwnOrNot}
 use Rattle.ktm_kernel.specs.Stands.{KernelState, IsReady}
@@ -30,6 +38,7 @@ pub record IsFound (units image : ℕ) (before log : List Group) (state : Durabl
   pub units_are : state.units ≡ units
   pub image_is : state.image ≡ image
   pub is : state ≡ stand (base_of units image before) log
+  pub built : IsTrue (is_built_log (before ++ log))
   pub applies : IsTrue (log_applies (empty_state units image) (before ++ log))
 
 found_in : (units image : ℕ) (before log : List Group) (state : Durable) (bytes : List ℕ) → StandsFor state bytes → HoldsLog units image (before ++ log) bytes → IsFound units image before log state
@@ -40,6 +49,7 @@ found_in units image before log state bytes stands holds =
       image_is = i;
       is = stands.comes_to ∙ ap (λ n. stand (empty_state n state.image) stands.log) u ∙ ap (λ n. stand (empty_state units n) stands.log) i
           ∙ ap (λ (gs : List Group). stand (empty_state units image) gs) l ∙ stand-append (empty_state units image) before log;
+      built = holds.built;
       applies = holds.applies;
     }
 
@@ -47,16 +57,25 @@ pub found : (units image : ℕ) (before log : List Group) (state : Durable) (tol
 found units image before log state None stands holds = absurd holds
 found units image before log state (Some s) stands holds = found_in units image before log state s.seen stands holds.1
 
--- there are numbers for one boot and one event more
-pub next_applies : (state : Durable) (log : LogState) → AreInLog state log.end → log.end < log.area.len → log.area ≡ log_area state.units → state.units ≤ 1024 → events_apply state (own_group state) ≡ true
-next_applies state log counted inside area most =
+-- there are numbers for one boot and one event more, and the limits hold
+pub next_applies : (state : Durable) (log : LogState) → IsBuiltState state → length state.keys ≤ state.units → 16 ≤ state.units → AreInLog state log.end → log.end < log.area.len → log.area ≡ log_area state.units → state.units ≤ 1024
+    → events_apply state (own_group state) ≡ true
+next_applies state log built few least counted inside area most =
     let len = ap (λ (a : Area). a.len) area in
-    and_from _ _ (and_from _ _ (and_from _ _ (eq-eqb (state.boots + 1) (state.boots + 1) refl) (lt-ltb (state.boots + 1) (2 ^ 32 - 1) (omega (arith, counted.boots, counted.events, inside, len, most))))
-    (lt-ltb (state.events + 1) (2 ^ 63) (omega (arith, counted.events, inside, len, most)))) refl
+    let boot : fact_applies state (Boot (state.boots + 1)) ≡ true = and_from _ _ (eq-eqb (state.boots + 1) (state.boots + 1) refl) (lt-ltb (state.boots + 1) (2 ^ 32 - 1) (omega (arith, counted.boots, counted.events, inside, len, most))) in
+    let limits : is_within_limits (fact_of state (Boot (state.boots + 1))) ≡ true = within in
+    ap (λ (es : List Event). events_apply state es) (own_is state built)
+    ∙ and_from _ _ (and_from _ _ (and_from _ _ boot limits) (lt-ltb (state.events + 1) (2 ^ 63) (omega (arith, counted.events, inside, len, most)))) refl
+  where
+    within : is_within_limits (fact_of state (Boot (state.boots + 1))) ≡ true
+    within =
+        ap (λ (s : Durable). is_within_limits (fact_of s (Boot (state.boots + 1)))) built
+        ∙ within_built state.units state.image state.events (state.boots + 1) state.keys
+        ∙ and_from (nat_le 1 state.units) (nat_le (length state.keys) state.units) (le-leb 1 state.units (omega arith)) (le-leb (length state.keys) state.units few)
 
 -- how many bytes the group of a restart has
-pub own_size : (state : Durable) (payload : List ℕ) → IsGroupOf (own_group state) payload → length payload ≡ 9
-own_size state payload is = size_law (own_group state) payload is ∙ omega arith
+pub own_size : (state : Durable) (payload : List ℕ) → IsBuiltState state → IsGroupOf (own_group state) payload → length payload ≡ 9
+own_size state payload built is = size_law (own_group state) payload is ∙ ap (λ (es : List Event). group_size es) (own_is state built) ∙ omega arith
 
 -- what a disk that nothing was written to may leave
 pub unwritten_leaves : (units image : ℕ) (before log : List Group) (told : Option DiskState) → Tells told (HoldsBoth units image before log) → Tells told (LeavesOwnOrNot units image before log)
@@ -66,6 +85,19 @@ unwritten_leaves units image before log told holds = Tells-map told (HoldsBoth u
 module _ (units image : ℕ) (before log : List Group) (state : Durable) (is : IsFound units image before log state) where
   abbrev base : Durable
   base = base_of units image before
+
+  -- it is of built events, and so is what the run began with
+  made : IsTrue (is_built_log before) × IsTrue (is_built_log log)
+  made = and_parts _ _ (sym (list_all-append (list_all is_built_event) before log) ∙ is.built)
+
+  built_base : IsBuiltState base
+  built_base = built_log units image before made.0
+
+  built_found : IsBuiltState (stand base log)
+  built_found = built_stand base log built_base made.1
+
+  built_state_is : IsBuiltState state
+  built_state_is = subst IsBuiltState (sym is.is) built_found
 
   applied : IsTrue (log_applies (empty_state units image) before) × IsTrue (log_applies base log)
   applied = and_parts _ _ (sym (log_applies-append (empty_state units image) before log) ∙ is.applies)
@@ -89,45 +121,40 @@ module _ (units image : ℕ) (before log : List Group) (state : Durable) (is : I
       omega arith
 
   module _ (j : JournalState) (told : Option DiskState) (units_are : j.units ≡ state.units) (at : Tells told (JournalAt j (before ++ log))) (payload : List ℕ) (group : IsGroupOf (own_group state) payload) where
+    own_full : is_full_for_own units image before log ≡ nat_lt (left_after units before - log_size log) 15
+    own_full = ap (λ (es : List Event). is_full_in (left_after units before - log_size log) es) (own_is (stand base log) built_found)
+
     -- the log is full exactly where the group of the restart does not fit
     pub is_full : j.log.area.len < j.log.end + length payload + 6 → is_full_for_own units image before log ≡ true
     is_full less =
         let left = left_found j told units_are at in
-        let long = own_size state payload group in
-        lt-ltb (left_after units before - log_size log) 15 (omega arith)
+        let long = own_size state payload built_state_is group in
+        own_full ∙ lt-ltb (left_after units before - log_size log) 15 (omega arith)
 
     is_not_full : j.log.end + length payload + 6 ≤ j.log.area.len → is_full_for_own units image before log ≡ false
     is_not_full fits =
         let left = left_found j told units_are at in
-        let long = own_size state payload group in
-        le-ltb (left_after units before - log_size log) 15 (omega arith)
+        let long = own_size state payload built_state_is group in
+        own_full ∙ le-ltb (left_after units before - log_size log) 15 (omega arith)
 
   own_applies : events_apply state (own_group state) ≡ true → IsTrue (events_apply (stand base log) (own_group (stand base log)))
   own_applies may = subst (λ (s : Durable). IsTrue (events_apply s (own_group s))) is.is may
 
-  within : length base.keys ≤ base.units
-  within =
-      let few = few_keys (empty_state units image) before applied.0 (omega arith) in
-      let same = stand-units (empty_state units image) before in
-      omega arith
-
-  lawful : events_apply state (own_group state) ≡ true → IsLawful (opened base (left_after units before) log)
-  lawful may = opened_law base (left_after units before) log applied.1 (own_applies may) within
+  standing : events_apply state (own_group state) ≡ true → IsStanding (opened base (left_after units before) log)
+  standing may = opened_law base (left_after units before) log built_base made.1 applied.1 (own_applies may)
 
   -- what is so then is that of the world that was opened
+  fresh_opened : fresh (stand base log) (left_after units before - log_size (log ++ own_group (stand base log) ∷ [])) ≡ present (opened base (left_after units before) log)
+  fresh_opened = rw built_found refl
+
   fresh_is : (left : ℕ) → left ≡ left_after units before - log_size log - 14 → fresh state left ≡ present (opened base (left_after units before) log)
-  fresh_is left left_is = ap (λ (s : Durable). fresh s left) is.is ∙ (λ i. record {
-    machine = record { units = stand-units base log i; image = stand-image base log i; boot = (stand base log).boots + 1; is_up = true; events = one_more i; left = less i };
-    transactions = record { clock = 0; last = 0; items = [] };
-    keys = record { store = (stand base log).keys; own = [] };
-    handles = [];
-  })
+  fresh_is left left_is = ap (λ (s : Durable). fresh s left) is.is ∙ ap (λ n. fresh (stand base log) n) less ∙ fresh_opened
     where
-      one_more : (stand base log).events + 1 ≡ base.events + count_events (log ++ own_group (stand base log) ∷ [])
-      one_more = let events = stand-events base log in let more = count_events-append log (own_group (stand base log)) in omega arith
+      own : log_size (own_group (stand base log) ∷ []) ≡ 14
+      own = ap (λ (g : Group). log_size (g ∷ [])) (own_is (stand base log) built_found) ∙ omega arith
 
       less : left ≡ left_after units before - log_size (log ++ own_group (stand base log) ∷ [])
-      less = let size = log_size-append log (own_group (stand base log) ∷ []) in omega arith
+      less = let size = log_size-append log (own_group (stand base log) ∷ []) in omega (arith, size, own)
 
   -- of the journal that the group of the restart was added to
   module _ (may : events_apply state (own_group state) ≡ true) (j k : JournalState) (units_are : j.units ≡ state.units) (image_is : j.image ≡ state.image) (old new : Option DiskState)
@@ -139,10 +166,10 @@ module _ (units image : ℕ) (before log : List Group) (state : Durable) (is : I
     started kernel left events journal now left_is events_are k_units k_image area end fits added = record {
       room = is_not_full j old units_are at payload group fits;
       stands = record {
-        now = now ∙ fresh_is left (omega (arith, left_is, ap (λ a. a.len) area, end, left_found j old units_are at, own_size state payload group));
-        lawful = lawful may;
+        now = now ∙ fresh_is left (omega (arith, left_is, ap (λ a. a.len) area, end, left_found j old units_are at, own_size state payload built_state_is group));
+        standing = standing may;
         before = before;
-        began = rw (journal, k_units ∙ units_are ∙ is.units_are, k_image ∙ image_is ∙ is.image_is) (record { applies = applied.0; base = refl; room = refl });
+        began = rw (journal, k_units ∙ units_are ∙ is.units_are, k_image ∙ image_is ∙ is.image_is) (record { built = made.0; applies = applied.0; base = refl; room = refl });
         disk = subst (λ i. Tells new (JournalAt i (before ++ (log ++ own_group (stand base log) ∷ [])))) (sym journal)
             (subst (λ (gs : List Group). Tells new (JournalAt k gs)) (append_assoc before log (own_group (stand base log) ∷ []))
             (subst (λ (s : Durable). Tells new (JournalAt k ((before ++ log) ++ own_group s ∷ []))) is.is (added (before ++ log) (own_group state) group at)));
@@ -153,8 +180,8 @@ module _ (units image : ℕ) (before log : List Group) (state : Durable) (is : I
 
     pub cut_off : ((gs : List Group) (group : Group) → IsGroupOf group payload → Tells old (JournalAt j gs) → Tells new (LeavesGroupOrNot j gs group)) → Tells new (LeavesOwnOrNot units image before log)
     cut_off left = Tells-map new _ (LeavesOwnOrNot units image before log) (left (before ++ log) (own_group state) group at) (λ s either bytes may_be. elim (either bytes may_be) [
-      | inl without ↦ inl (record { is = same (before ++ log) bytes without; applies = is.applies })
-      | inr with_it ↦ inr (record { is = same _ bytes (subst (λ (gs : List Group). IsImage j.units j.image gs bytes) both with_it); applies = both_apply })
+      | inl without ↦ inl (record { is = same (before ++ log) bytes without; built = is.built; applies = is.applies })
+      | inr with_it ↦ inr (record { is = same _ bytes (subst (λ (gs : List Group). IsImage j.units j.image gs bytes) both with_it); built = both_built; applies = both_apply })
     ])
       where
         same : (gs : List Group) (bytes : List ℕ) → IsImage j.units j.image gs bytes → IsImage units image gs bytes
@@ -163,18 +190,41 @@ module _ (units image : ℕ) (before log : List Group) (state : Durable) (is : I
         both : (before ++ log) ++ own_group state ∷ [] ≡ before ++ (log ++ own_group (stand base log) ∷ [])
         both = append_assoc before log (own_group state ∷ []) ∙ ap (λ (s : Durable). before ++ (log ++ own_group s ∷ [])) is.is
 
+        both_built : IsTrue (is_built_log (before ++ (log ++ own_group (stand base log) ∷ [])))
+        both_built =
+            list_all-append (list_all is_built_event) before (log ++ own_group (stand base log) ∷ [])
+            ∙ and_from _ _ made.0 (list_all-append (list_all is_built_event) log (own_group (stand base log) ∷ [])
+            ∙ and_from _ _ made.1 (ap (λ (g : Group). is_built_log (g ∷ [])) (own_is (stand base log) built_found)))
+
         both_apply : IsTrue (log_applies (empty_state units image) (before ++ (log ++ own_group (stand base log) ∷ [])))
         both_apply =
             log_applies-append (empty_state units image) before (log ++ own_group (stand base log) ∷ [])
             ∙ and_from _ _ applied.0 (log_applies-append base log (own_group (stand base log) ∷ []) ∙ and_from _ _ applied.1 (and_from _ _ (own_applies may) refl))
 
+-- what a machine that started keeps
+fresh_standing : (state : Durable) (left : ℕ) → length state.keys ≤ state.units → 16 ≤ state.units → IsStandingNow (fresh state left)
+fresh_standing state left few least = record {
+  built = record { managers = refl; enlistments = refl; last_manager = refl; last_enlistment = refl; files = refl; recorded = refl };
+  sound = record { boots_from = omega arith; units_from = omega arith; transactions = All-nil _; own = All-nil _; apart = λ a b other. refl };
+  limits = (quota, disk);
+  agrees = record { tree = refl; keys = refl; managers = refl; transactions = refl; next_node = omega arith };
+}
+  where
+    quota : is_over_quota (fresh state left) ≡ false
+    unfolding is_over_quota changes_waiting file_changes_waiting
+    quota = rw (le-ltb state.units 0 (omega arith)) refl
+
+    disk : is_over_disk (fresh state left) ≡ false
+    unfolding is_over_disk units_used nodes_used
+    disk = rw (le-ltb state.units 0 (omega arith), le-ltb state.units 1 (omega arith), le-ltb state.units (length state.keys + 0) (omega arith)) refl
+
 -- a machine that started is ready for calls
-pub fresh_ready : (kernel : KernelState) (state : Durable) (left : ℕ) (told : Option DiskState) (status : DiskStatus) → kernel.now ≡ fresh state left → length state.keys ≤ state.units
+pub fresh_ready : (kernel : KernelState) (state : Durable) (left : ℕ) (told : Option DiskState) (status : DiskStatus) → kernel.now ≡ fresh state left → length state.keys ≤ state.units → 16 ≤ state.units
     → status.is_down ≡ false → status.pending ≡ 0 → IfTold told (λ s. IsFormatted kernel.journal.units kernel.journal.image s.seen) → IsReady kernel told status × (kernel.now.machine.is_up ≡ true)
-fresh_ready kernel state left told status now few up settled formatted = (
+fresh_ready kernel state left told status now few least up settled formatted = (
   record {
     powered = record { power = λ on. up; settled = λ on. settled; image = λ on. formatted };
-    lawful = λ on. subst (λ x. IsLawfulNow x) (sym now) (record { boot_from = omega arith; transactions = All-nil _; own = All-nil _; keys = omega arith; changes = omega arith });
+    standing = λ on. subst IsStandingNow (sym now) (fresh_standing state left few least);
   },
   ap (λ x. x.machine.is_up) now,
 )

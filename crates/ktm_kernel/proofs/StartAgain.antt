@@ -11,13 +11,13 @@ use Rattle.ktm_journal.specs.Image.{IsHeaded, HoldsLog}
 use Rattle.ktm_journal.proofs.OneImage.{not_bad}
 use Rattle.ktm_world.specs.declared.command.Line.TheVariants.{Restart}
 use Rattle.ktm_world.specs.declared.reply.Reply.TheVariants.{Refused, Restarted}
-use Rattle.ktm_keys.specs.Durable.{Durable, empty_state, stand}
+use Rattle.ktm_world.specs.Durable.{Durable, empty_state, stand}
 use Rattle.ktm_world.specs.Outcome.{is_full}
 use Rattle.ktm_world.specs.Sizes.{log_size}
 use Rattle.ktm_keys.specs.World.{World, present, own_group, opened, possible_logs, interrupted_restart, found_full, is_full_to_open}
 use Rattle.ktm_world.specs.Logs.{Group, down, is_up}
 use Rattle.ktm_world.specs.Transcript.{interrupted, found, full}
-use Rattle.ktm_keys.proofs.Logs.{stand-units}
+use Rattle.ktm_world.proofs.Durables.{stand-units}
 use Rattle.ktm_kernel.specs.Restarts.{HoldsBoth, base_of, is_full_for_own, Started, LeavesOwnOrNot}
 use Rattle.ktm_kernel.specs.Stands.{KernelState, HasFallen, StandsBy, KernelAt, LeavesPossible, DoesLine, FoundAt, PowerLaw, FoundLaw}
 use Rattle.ktm_kernel.proofs.Left.{stands_for}

@@ -9,15 +9,15 @@ use Rattle.ktm_journal.specs.Image.{JournalState, JournalAt, IsImage}
 use Rattle.ktm_world.specs.declared.command.Command.{Command}
 use Rattle.ktm_world.specs.declared.reply.Reply.{Reply}
 use Rattle.ktm_world.specs.declared.reply.Reply.TheVariants.{Refused}
-use Rattle.ktm_keys.specs.Present.{Present}
-use Rattle.ktm_keys.specs.Decide.{decide}
+use Rattle.ktm_world.specs.Present.{Present}
+use Rattle.ktm_world.specs.Decide.{decide}
 use Rattle.ktm_world.specs.Logs.{Group, as_groups}
-use Rattle.ktm_keys.specs.World.{apply}
+use Rattle.ktm_world.specs.Outcome.{apply}
 use Rattle.ktm_kernel.specs.Stands.{KernelState}
 
 -- there are fewer than 2^63 events, where it recorded any
 abbrev pub FewEvents : Present → Pid → Command → Type 0
-FewEvents x process command = (decide x process command).events ≡ [] ⊎ x.machine.events + length (decide x process command).events < 2 ^ 63
+FewEvents x process command = (decide x process command).events ≡ [] ⊎ x.recorded.events + length (decide x process command).events < 2 ^ 63
 
 -- the command was answered, and its group was recorded, where it has one
 pub record IsDone (old : KernelState) (process : Pid) (command : Command) (reply : Reply) (new : KernelState) (before now : Option DiskState) : Type 0 where

@@ -2,15 +2,14 @@
 use Rattle.std.specs.Prelude.{◌≡◌, ◌⊎◌, ℕ, ◌-◌, Bool, true, false, List, [], ◌∷◌, ◌++◌, Option, Result, Ok, Err}
 use Rattle.ktm_base.specs.Disk.{DiskState, MayLeave, IsSafe}
 use Rattle.ktm_journal.specs.Image.{HoldsLog, left_after}
-use Rattle.ktm_keys.specs.Durable.{Durable, empty_state, stand}
+use Rattle.ktm_world.specs.Durable.{Durable, empty_state, stand}
 use Rattle.ktm_world.specs.Outcome.{is_full}
 use Rattle.ktm_world.specs.Sizes.{log_size}
 use Rattle.ktm_world.specs.Logs.{Group}
 use Rattle.ktm_world.specs.declared.reply.Reply.{Reply}
 use Rattle.ktm_world.specs.declared.reply.Reply.TheVariants.{BadImage, Refused}
-use Rattle.ktm_base.specs.declared.fault.NoMemory.{NoMemory as OutOfMemory}
 use Rattle.ktm_base.specs.declared.refusal.Refusal.TheVariants.{LogFull}
-use Rattle.ktm_keys.specs.World.{own_group, opened}
+use Rattle.ktm_world.specs.World.{own_group, opened}
 use Rattle.ktm_kernel.specs.declared.restart.RestartFault.{RestartFault}
 use Rattle.ktm_kernel.specs.declared.restart.RestartFault.TheVariants.{Down, Bad, Full, NoMemory}
 use Rattle.ktm_kernel.specs.Stands.{KernelState, KernelAt}
@@ -87,9 +86,8 @@ restart_went_down (Err (Bad offset)) = false
 restart_went_down (Err Full) = false
 restart_went_down (Err NoMemory) = false
 
--- the fact, where a machine that is down was not started, though its disk is up: BAD_IMAGE, ERROR_LOG_FULL, or no memory
-abbrev pub IfStaysDown : Result Reply OutOfMemory → Type 0 → Type 0
-IfStaysDown (Ok (BadImage offset)) P = P
-IfStaysDown (Ok (Refused LogFull)) P = P
-IfStaysDown (Ok reply) P = Unit {0}
-IfStaysDown (Err fault) P = P
+-- the fact, where the reply says that nothing was written: BAD_IMAGE or ERROR_LOG_FULL
+abbrev pub IfUnwrittenBy : Reply → Type 0 → Type 0
+IfUnwrittenBy (BadImage offset) P = P
+IfUnwrittenBy (Refused LogFull) P = P
+IfUnwrittenBy reply P = Unit {0}

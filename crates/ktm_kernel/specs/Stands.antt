@@ -6,12 +6,13 @@ use Rattle.ktm_base.specs.Told.{Tells, IfTold, Goes}
 use Rattle.ktm_journal.specs.Image.{JournalState, JournalAt, HoldsLog, IsFormatted, StandsFor, left_after}
 use Rattle.ktm_world.specs.declared.command.Line.{Line}
 use Rattle.ktm_world.specs.declared.reply.Reply.{Reply}
-use Rattle.ktm_keys.specs.Present.{Present}
-use Rattle.ktm_keys.specs.Durable.{empty_state, stand, log_applies}
-use Rattle.ktm_keys.specs.World.{World, present, possible_logs, interrupted_restart, IsLawfulNow, IsLawful}
+use Rattle.ktm_world.specs.Present.{Present}
+use Rattle.ktm_world.specs.Durable.{empty_state, stand, log_applies}
+use Rattle.ktm_world.specs.World.{World, present, possible_logs, interrupted_restart}
+use Rattle.ktm_world.specs.Built.{is_built_log}
 use Rattle.ktm_world.specs.Logs.{Group, is_up}
-use Rattle.ktm_world.specs.Transcript.{Step}
-use Rattle.ktm_keys.specs.Transcript.{Does}
+use Rattle.ktm_built.specs.Standing.{IsStanding, IsStandingNow}
+use Rattle.ktm_world.specs.Transcript.{Does, Step}
 
 -- what a machine is: what is so now, and its journal
 pub record KernelState : Type 0 where
@@ -20,6 +21,7 @@ pub record KernelState : Type 0 where
 
 -- the world's run began with an image of this journal that held these groups
 pub record Began (j : JournalState) (before : List Group) (w : World) : Type 0 where
+  pub built : IsTrue (is_built_log before)
   pub applies : IsTrue (log_applies (empty_state j.units j.image) before)
   pub base : w.base ≡ stand (empty_state j.units j.image) before
   pub room : w.room ≡ left_after j.units before
@@ -27,7 +29,7 @@ pub record Began (j : JournalState) (before : List Group) (w : World) : Type 0 w
 -- a machine that is up stands for the world, and its journal holds what the run began with and the world's log
 pub record Stands (k : KernelState) (told : Option DiskState) (w : World) : Type 0 where
   pub now : k.now ≡ present w
-  pub lawful : IsLawful w
+  pub standing : IsStanding w
   pub before : List Group
   pub began : Began k.journal before w
   pub disk : Tells told (JournalAt k.journal (before ++ w.log))
@@ -39,10 +41,12 @@ LeavesPossible j before w s = (image : List ℕ) → MayLeave s image → (log :
 -- a machine that is down stands for the world
 pub record HasFallen (k : KernelState) (told : Option DiskState) (w : World) : Type 0 where
   pub now : k.now ≡ present w
+  pub standing : IsStanding w
   pub before : List Group
   pub began : Began k.journal before w
   pub disk : Tells told (LeavesPossible k.journal before w)
 
+-- the same, by whether the world's machine is up
 abbrev pub StandsBy : Bool → KernelState → Option DiskState → World → Type 0
 StandsBy true k told w = Stands k told w
 StandsBy false k told w = HasFallen k told w
@@ -61,15 +65,16 @@ pub record IsPowered (k : KernelState) (told : Option DiskState) (status : DiskS
   pub settled : k.now.machine.is_up ≡ true → status.pending ≡ 0
   pub image : k.now.machine.is_up ≡ true → IfTold told (λ s. IsFormatted k.journal.units k.journal.image s.seen)
 
--- and what is so now is lawful
+-- and it keeps what it is to keep of what is so now
 pub record IsReady (k : KernelState) (told : Option DiskState) (status : DiskStatus) : Type 0 where
   pub powered : IsPowered k told status
-  pub lawful : k.now.machine.is_up ≡ true → IsLawfulNow k.now
+  pub standing : k.now.machine.is_up ≡ true → IsStandingNow k.now
 
 -- a machine that is down, whose disk has the power again and holds one of the possible logs, all of it safe
 pub record FoundAt (k : KernelState) (told : Option DiskState) (w : World) : Type 0 where
   pub off : is_up w.power ≡ false
   pub now : k.now ≡ present w
+  pub standing : IsStanding w
   pub before : List Group
   pub began : Began k.journal before w
   pub disk : Tells told (λ s. IsSafe s × ((log : List Group) × Contains (possible_logs w) log × HoldsLog k.journal.units k.journal.image (before ++ log) s.seen))

@@ -8,7 +8,7 @@ ghost use Rattle.ktm_world.specs.declared.command.Line.TheVariants.{Crash, Proce
 ghost use Rattle.ktm_world.specs.declared.reply.Reply.TheVariants.{Refused, Done};
 ghost use Rattle.ktm_world.specs.Built.{is_built_command};
 ghost use Rattle.ktm_world.specs.Values.{IsCommand};
-ghost use Rattle.ktm_keys.specs.World.{World};
+ghost use Rattle.ktm_world.specs.World.{World};
 ghost use Rattle.ktm_kernel.specs.Done.{Ends, TouchesNothing, fallen};
 ghost use Rattle.ktm_kernel.specs.Stands.{KernelAt, DoesLine, IsPowered, IsReady};
 
@@ -37,7 +37,7 @@ impl Model for Kernel {
 
     ghost view = { λ k. record { now = k.state.now; journal = k.journal } };
 
-    ghost invariant = { λ k. (k.state.now.machine.left ≡ k.journal.log.area.len - k.journal.log.end) × (k.state.now.machine.units ≤ 1024) × (k.state.now.machine.events + k.state.now.machine.left ≤ area_len k.state.now.machine.units) };
+    ghost invariant = { λ k. (k.state.now.machine.left ≡ k.journal.log.area.len - k.journal.log.end) × (k.state.now.recorded.units ≤ 1024) × (k.state.now.recorded.events + k.state.now.machine.left ≤ area_len k.state.now.recorded.units) };
 }
 
 impl Kernel {

@@ -8,10 +8,10 @@ ghost use Rattle.ktm_base.specs.Told.{IfTold, Tells};
 ghost use Rattle.ktm_base.specs.Disk.{DeviceCalls};
 ghost use Rattle.ktm_journal.specs.Bad.{IsBadAt};
 ghost use Rattle.ktm_journal.specs.Image.{IsHeaded, StandsFor};
-ghost use Rattle.ktm_keys.specs.Durable.{Durable};
-ghost use Rattle.ktm_keys.specs.World.{World};
+ghost use Rattle.ktm_world.specs.Durable.{Durable};
+ghost use Rattle.ktm_world.specs.World.{World};
 ghost use Rattle.ktm_world.specs.Logs.{Group};
-ghost use Rattle.ktm_kernel.specs.Restarts.{HoldsBoth, Started, LeavesOwnOrNot, is_full_for_own, IfDown, IfFull, IfLoaded, IfBad, IfUnwritten, IfStaysDown, restart_went_down};
+ghost use Rattle.ktm_kernel.specs.Restarts.{HoldsBoth, Started, LeavesOwnOrNot, is_full_for_own, IfDown, IfFull, IfLoaded, IfBad, IfUnwritten, IfUnwrittenBy, restart_went_down};
 ghost use Rattle.ktm_kernel.specs.Stands.{IsReady, FoundAt, DoesLine};
 
 use crate::kernel::Kernel;
@@ -58,7 +58,8 @@ impl Kernel {
             → is_full_for_own units image before log ≡ true) }
         ensures found { IfLoaded result (IfTold (D.told disk.old) (λ s. (state : Durable) × StandsFor state s.seen)) }
         ensures bad { IfBad result (λ offset. IfTold (D.told disk.old) (λ s. IsBadAt s.seen offset)) }
-        ensures unwritten { IfUnwritten result ((D.told disk.new ≡ D.told disk.old) × ((D.status disk.new).pending ≡ (D.status disk.old).pending)) }
+        ensures unwritten { IfUnwritten result (D.told disk.new ≡ D.told disk.old) }
+        ensures pending { IfUnwritten result ((D.status disk.new).pending ≡ (D.status disk.old).pending) }
         ensures calls { DeviceCalls (8 * 1024 + 68) (D.status disk.old) (D.status disk.new) (restart_went_down result) }
         ensures few { (units image : ℕ) → Tells (D.told disk.old) (λ s. IsHeaded units image s.seen) → (D.status disk.new).calls ≤ (D.status disk.old).calls + (8 * units + 68) }
     {
@@ -106,8 +107,8 @@ impl Kernel {
         ensures ready { OnOk result (IsReady self.new (D.told disk.new) (D.status disk.new)) }
         ensures calls { DeviceCalls (8 * 1024 + 68) (D.status disk.old) (D.status disk.new) (D.status disk.new).is_down }
         ensures few { (w : World) → FoundAt self.old (D.told disk.old) w → (D.status disk.new).calls ≤ (D.status disk.old).calls + (8 * w.base.units + 68) }
-        ensures unwritten { IfStaysDown result ((D.told disk.new ≡ D.told disk.old) × ((D.status disk.new).pending ≡ (D.status disk.old).pending) × ((D.status disk.new).is_down ≡ false) × (self.new ≡ self.old)) }
-        ensures no_memory { OnErr result ((D.told disk.new ≡ D.told disk.old) × ((D.status disk.new).is_down ≡ false)) }
+        ensures unwritten { IfOk result (λ reply. IfUnwrittenBy reply ((D.told disk.new ≡ D.told disk.old) × ((D.status disk.new).is_down ≡ false) × ((D.status disk.new).pending ≡ 0) × (self.new ≡ self.old))) }
+        ensures no_memory { OnErr result ((D.told disk.new ≡ D.told disk.old) × ((D.status disk.new).is_down ≡ false) × ((D.status disk.new).pending ≡ 0) × (self.new ≡ self.old)) }
     {
         match Kernel::restart(self.alloc, disk) {
             Ok(

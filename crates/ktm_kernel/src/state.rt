@@ -2,12 +2,12 @@
 ghost use Rattle.std.specs.Prelude.{◌≡◌, ◌||◌, ◌+◌, ◌-◌, ◌^◌, ◌<◌, ◌≤◌, true, Some, None, [], IfOk, IfErr, OnOk, IsOk, is_some, length};
 ghost use Rattle.ktm_world.specs.declared.command.Command.TheVariants.{CreateTransaction, KvSet, KvUnset, KvGet, KvList};
 ghost use Rattle.ktm_world.specs.Handles.{no_handle_left};
-ghost use Rattle.ktm_keys.specs.Transactions.{no_transaction_left};
 ghost use Rattle.ktm_world.specs.Outcome.{first_refusal};
 ghost use Rattle.ktm_world.specs.Keys.{own_settings};
-ghost use Rattle.ktm_keys.specs.Decide.{named, transaction_tests, view_tests, viewer, commit_events, commit_transaction};
+ghost use Rattle.ktm_world.specs.Labels.{transaction_named, transaction_tests, view_tests, viewer};
+ghost use Rattle.ktm_world.specs.TransactionCalls.{no_transaction_left};
+ghost use Rattle.ktm_built.specs.Forms.{commit_events, with_commit};
 ghost use Rattle.ktm_world.specs.Sizes.{log_size};
-ghost use Rattle.ktm_keys.specs.World.{apply};
 ghost use Rattle.ktm_world.specs.Logs.{as_groups};
 ghost use Rattle.ktm_kernel.specs.Memory.{fresh};
 ghost use Rattle.ktm_kernel.specs.Answered.{Answered, get_through};
@@ -18,7 +18,7 @@ use crate::transactions::{
     end_committed, is_aborted, is_active, is_committed, live_count, transaction_of,
 };
 use ktm_base::{Bytes, Id, Label, NoMemory, ObjectKind, Pid, Refusal, Text, guid};
-use ktm_keys::Durable;
+use ktm_journal::Durable;
 use ktm_world::{
     Handle, Object, Phase, Reply, Setting, Transaction, TransactionOutcome, View, is_bad_key,
     is_bad_value,
@@ -49,15 +49,21 @@ pub struct State {
 }
 
 impl Model for State {
+    ghost use Rattle.std.specs.Prelude.{[]};
+    ghost use Rattle.ktm_built.specs.Standing.{no_files};
     ghost use Rattle.ktm_kernel.specs.Memory.{MemoryState};
+    ghost use Rattle.ktm_world.specs.Built.{built_state};
 
     ghost Value = { MemoryState };
 
     ghost view = { λ s. record {
       room = s.keys.room;
       now = record {
-        machine = record { units = s.units; image = s.image; boot = s.boot; is_up = s.is_up; events = s.events; left = s.left };
-        transactions = record { clock = s.clock; last = s.last_transaction; items = s.transactions.items };
+        machine = record { is_up = s.is_up; left = s.left };
+        recorded = built_state s.units s.image s.events s.boot s.keys.keys.store;
+        transactions = record { clock = s.clock; last_transaction = s.last_transaction; last_manager = 0; last_enlistment = 0; items = s.transactions.items; enlistments = [] };
+        managers = [];
+        files = no_files;
         keys = s.keys.keys;
         handles = s.handles.items;
       };
@@ -67,7 +73,7 @@ impl Model for State {
 impl State {
     // The transaction that a label of a process names.
     fn named(&self, process: Pid, label: Label) -> Option<Transaction>
-        ensures { result ≡ named self.now.now process label }
+        ensures { result ≡ transaction_named self.now.now process label }
     {
         let id = transaction_named(object_of(&self.handles, process, label))?;
         transaction_of(&self.transactions, id)
@@ -210,7 +216,7 @@ impl State {
 
     // What is told of a key, through a transaction or the plain view.
     fn get_through(&self, alloc: Global, who: Option<Id>, key: &Text) -> Result<Reply, NoMemory>
-        ensures { IfOk result (λ reply. reply ≡ (get_through self.now.now who key.now).reply) }
+        ensures { IfOk result (λ reply. reply ≡ get_through self.now.now.keys who key.now) }
     {
         if is_bad_key(key) {
             return Ok(Reply::Refused(Refusal::InvalidParameter));
@@ -267,8 +273,8 @@ impl State {
 impl State {
     /// The transaction that a commit is for, or why there is none.
     pub fn committing(&self, process: Pid, label: Label) -> Result<Transaction, Refusal>
-        ensures ok { IfOk result (λ t. (named self.now.now process label ≡ Some t) × (first_refusal (transaction_tests (Some t)) ≡ None)) }
-        ensures err { IfErr result (λ refusal. first_refusal (transaction_tests (named self.now.now process label)) ≡ Some refusal) }
+        ensures ok { IfOk result (λ t. (transaction_named self.now.now process label ≡ Some t) × (first_refusal (transaction_tests (Some t)) ≡ None)) }
+        ensures err { IfErr result (λ refusal. first_refusal (transaction_tests (transaction_named self.now.now process label)) ≡ Some refusal) }
     {
         let Some(t) = self.named(process, label) else {
             return Err(Refusal::InvalidHandle);
@@ -299,9 +305,9 @@ impl State {
     /// memory.
     pub fn commit(&mut self, t: Transaction, left: u64)
         requires room { length (own_settings self.old.now.keys.own t.id) ≤ self.old.room }
-        requires count { self.old.now.machine.events + 1 < 2 ^ 63 }
+        requires count { self.old.now.recorded.events + 1 < 2 ^ 63 }
         requires left { left ≡ self.old.now.machine.left - log_size (as_groups (commit_events t.id (own_settings self.old.now.keys.own t.id))) }
-        ensures { self.new.now ≡ apply self.old.now (commit_transaction self.old.now (Some t)) }
+        ensures { self.new.now ≡ with_commit self.old.now t }
     {
         if !self.keys.own_settings(t.id).is_empty() {
             self.events += 1;

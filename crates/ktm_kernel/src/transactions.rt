@@ -1,7 +1,7 @@
 // The transactions of this boot.
 ghost use Rattle.std.specs.Prelude.{◌≡◌, not, count_by};
 ghost use Rattle.ktm_world.specs.Transactions.{transaction_at, change_at, is_live, is_active, is_committed, is_aborted};
-ghost use Rattle.ktm_keys.specs.Transactions.{ended_committed};
+ghost use Rattle.ktm_built.specs.Forms.{ended_committed};
 
 use ktm_base::Id;
 use ktm_world::{Phase, Transaction, TransactionOutcome};

@@ -1,5 +1,6 @@
 pub mod SizeLemmas
 pub mod KeyedLemmas
+pub mod BuiltStates
 pub mod Durables
 pub mod KeyLemmas
 pub mod Slots

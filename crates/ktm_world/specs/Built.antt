@@ -1,6 +1,6 @@
 -- Which lines the machine answers, and which events it records; every other line is a bad line to it, and an image with another event a
 -- bad image, until it is built.
-use Rattle.std.specs.Prelude.{ℕ, Bool, true, false, List, []}
+use Rattle.std.specs.Prelude.{◌≡◌, ℕ, Bool, true, false, List, [], Option, Some, None}
 use Rattle.std.specs.List.{list_all}
 use Rattle.ktm_world.specs.declared.command.Command.{Command}
 use Rattle.ktm_world.specs.declared.command.Command.TheVariants.{CreateTransaction, CommitTransaction, KvSet, KvUnset, KvGet, KvList}
@@ -31,6 +31,11 @@ is_built Crash = true
 is_built (Restart pick) = true
 is_built (Process process command) = is_built_command command
 
+-- is the line built, or is there none that is in the grammar
+abbrev pub is_built_line : Option Line → Bool
+is_built_line None = true
+is_built_line (Some line) = is_built line
+
 -- is the event built: a start of the machine, or a transaction on keys alone that commits
 abbrev pub is_built_event : Event → Bool
 is_built_event (Boot boot) = true
@@ -44,3 +49,7 @@ is_built_log log = list_all (λ group. list_all is_built_event group) log
 -- the state that built events come to: committed keys, and no files, resource managers or waiting transactions
 abbrev pub built_state : ℕ → ℕ → ℕ → ℕ → Store → Durable
 built_state units image events boots keys = record { units = units; image = image; events = events; boots = boots; next_node = 2; tree = []; keys = keys; managers = []; transactions = [] }
+
+-- the state has keys alone
+abbrev pub IsBuiltState : Durable → Type 0
+IsBuiltState s = s ≡ built_state s.units s.image s.events s.boots s.keys

@@ -1,6 +1,6 @@
 use Rattle.std.proofs.Common.{Ok, arith, ap}
 use Rattle.ktm_journal.proofs.Folds.{comes_to_more, first_bad, fits, next_at}
-use Rattle.ktm_journal.proofs.LogLoads.{comes_to_keys}
+use Rattle.ktm_journal.proofs.LogLoads.{comes_to_built, comes_to_keys}
 use Rattle.ktm_journal.proofs.load.fold.Goals as goal
 
 pub loop-payload-preserved : goal.loop-payload-preserved
@@ -25,3 +25,6 @@ returns-in-Ok-false-clause-bad c =
 
 pub returns-clause-keys : goal.returns-clause-keys
 returns-clause-keys c = comes_to_keys c.args.header.units c.args.header.image _ c.loop-payload.state c.loop-payload.invariant.good
+
+pub returns-clause-built : goal.returns-clause-built
+returns-clause-built c = comes_to_built c.args.header.units c.args.header.image _ c.loop-payload.state c.loop-payload.invariant.good

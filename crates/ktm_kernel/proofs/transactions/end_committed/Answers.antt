@@ -1,6 +1,6 @@
 use Rattle.std.proofs.Common.{sym, ◌∙◌, ap, arith}
 use Rattle.ktm_world.specs.Transactions.{change_at}
-use Rattle.ktm_keys.specs.Transactions.{ended_committed}
+use Rattle.ktm_built.specs.Forms.{ended_committed}
 use Rattle.ktm_kernel.proofs.Changes.{changed_here}
 use Rattle.ktm_kernel.proofs.transactions.end_committed.Goals as goal
 

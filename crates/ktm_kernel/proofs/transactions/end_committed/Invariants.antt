@@ -1,6 +1,6 @@
 use Rattle.std.proofs.Common.{◌≡◌, ◌++◌, drop, take}
 use Rattle.ktm_world.specs.Transactions.{change_at}
-use Rattle.ktm_keys.specs.Transactions.{ended_committed}
+use Rattle.ktm_built.specs.Forms.{ended_committed}
 use Rattle.ktm_kernel.proofs.transactions.end_committed.Given as goal
 
 -- nothing changed so far, and what is to change is in the rest

@@ -1,6 +1,6 @@
 use Rattle.std.proofs.Common.{◌&&◌, length, nat_le, refl, sym, ◌∙◌, ap}
 use Rattle.std.proofs.lemmas.Bool.{le-leb, lt-leb}
-use Rattle.ktm_journal.proofs.Limits.{within_built}
+use Rattle.ktm_world.proofs.BuiltStates.{within_built}
 use Rattle.ktm_journal.proofs.durable.Durable.is_within_limits.Goals as goal
 
 pub returns-then-self-ge1 : goal.returns-then-self-ge1

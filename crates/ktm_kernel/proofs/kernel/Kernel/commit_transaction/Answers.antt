@@ -1,7 +1,7 @@
 use Rattle.std.proofs.Common.{◌-◌, true, refl, length, Some, Err, sym, ◌∙◌, ap}
 use Rattle.std.proofs.lemmas.Bool.{or_right}
 use Rattle.ktm_world.specs.Keys.{own_settings}
-use Rattle.ktm_keys.specs.Decide.{commit_transaction}
+use Rattle.ktm_world.specs.Decide.{commit_transaction}
 use Rattle.ktm_keys.specs.World.{apply}
 use Rattle.ktm_kernel.specs.Done.{fallen}
 use Rattle.ktm_kernel.proofs.Commits.{spellable, named_from, left_is, fits_of_ok, fits_of_down, fits_left, full_of, few_of, counted_after, commit_done, commit_cut, commit_full, done_touches, cut_touches}

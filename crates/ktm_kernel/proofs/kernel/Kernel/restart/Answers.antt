@@ -1,4 +1,4 @@
-use Rattle.std.proofs.Common.{Err, length, refl, sym, ◌∙◌, ap}
+use Rattle.std.proofs.Common.{Err, length, refl, ap}
 use Rattle.ktm_kernel.proofs.Commits.{fits_of_ok}
 use Rattle.ktm_kernel.proofs.Restarts.{found, next_applies, unwritten_leaves, journal_at, is_full, started, cut_off, fresh_ready}
 use Rattle.ktm_kernel.proofs.kernel.Kernel.restart.Goals as goal

@@ -1,7 +1,7 @@
 use Rattle.std.proofs.Common.{cond, not, Some, ◌∙◌, ap}
 use Rattle.ktm_base.specs.declared.refusal.Refusal.TheVariants.{MachineDown}
 use Rattle.ktm_world.specs.Outcome.{first_refusal}
-use Rattle.ktm_keys.specs.Decide.{view_tests, kv_get_tests}
+use Rattle.ktm_world.specs.Decide.{view_tests, kv_get_tests}
 use Rattle.ktm_kernel.proofs.Decided.{refused_answer, first_of-append}
 use Rattle.ktm_kernel.proofs.state.State.kv_get.Goals as goal
 

@@ -1,0 +1,4 @@
+pub mod Standing
+pub mod Forms
+pub mod Spelling
+pub mod Laws

@@ -1,0 +1,99 @@
+-- Worlds that have only what built forms make: transactions and keys.
+use Rattle.std.specs.Prelude.{◌≡◌, ℕ, ◌^◌, ◌<◌, ◌≤◌, Bool, true, false, List, [], length, All, Option, Some, None, IfSome}
+use Rattle.std.specs.List.{list_all}
+use Rattle.ktm_base.specs.declared.id.Id.{Id}
+use Rattle.ktm_base.specs.Bytes.{AreBytes}
+use Rattle.ktm_world.specs.declared.object.Phase.{Phase}
+use Rattle.ktm_world.specs.declared.object.Phase.TheVariants.{Active, Ended}
+use Rattle.ktm_world.specs.declared.object.Transaction.{Transaction}
+use Rattle.ktm_world.specs.declared.object.TransactionOutcome.{TransactionOutcome}
+use Rattle.ktm_world.specs.declared.object.TransactionOutcome.TheVariants.{Undetermined, Committed}
+use Rattle.ktm_world.specs.Built.{IsBuiltState, is_built_log}
+use Rattle.ktm_world.specs.Durable.{Durable}
+use Rattle.ktm_world.specs.Files.{FilesNow}
+use Rattle.ktm_world.specs.Keyed.{is_rising}
+use Rattle.ktm_world.specs.Keys.{Own, Store, own_settings, is_good_setting}
+use Rattle.ktm_world.specs.Lawful.{Agrees, IsLawful, set_both}
+use Rattle.ktm_world.specs.Logs.{is_up}
+use Rattle.ktm_world.specs.Present.{Present}
+use Rattle.ktm_world.specs.Transactions.{same_id}
+use Rattle.ktm_world.specs.Uses.{is_over_quota, is_over_disk}
+use Rattle.ktm_world.specs.Values.{IsText}
+use Rattle.ktm_world.specs.World.{World, present, possible_logs}
+
+-- ---- what has only what built forms make
+
+-- there are no files, nobody opened or changed any, and none is open
+abbrev pub no_files : FilesNow
+no_files = record { tree = []; versions = []; first_opens = []; table = record { own = []; opens = []; last_open = 0; next_node = 2 } }
+
+-- there are no resource managers, enlistments or files, and what was recorded has keys alone
+pub record IsBuiltNow (x : Present) : Type 0 where
+  pub managers : x.managers ≡ []
+  pub enlistments : x.transactions.enlistments ≡ []
+  pub last_manager : x.transactions.last_manager ≡ 0
+  pub last_enlistment : x.transactions.last_enlistment ≡ 0
+  pub files : x.files ≡ no_files
+  pub recorded : IsBuiltState x.recorded
+
+-- the world began with keys alone, has them alone now, and all logs that are or may be on its disk have built events
+pub record IsBuiltWorld (w : World) : Type 0 where
+  pub base : IsBuiltState w.base
+  pub now : IsBuiltNow (present w)
+  pub log : is_built_log w.log ≡ true
+  pub logs : list_all is_built_log (possible_logs w) ≡ true
+
+-- ---- what the limits and the log do not say of it
+
+-- a transaction is active and undetermined, or it has committed and ended
+abbrev pub IsOnCourse : Phase → TransactionOutcome → Type 0
+IsOnCourse Active Undetermined = Unit {0}
+IsOnCourse Ended Committed = Unit {0}
+IsOnCourse _ _ = ⊥
+
+-- a transaction was made in this boot, is on its course, and nothing of it is in the log before it commits
+pub record IsSoundTransaction (boot last : ℕ) (t : Transaction) : Type 0 where
+  pub boot_is : t.id.boot ≡ boot
+  pub number_from : 1 ≤ t.id.number
+  pub number_to : t.id.number ≤ last
+  pub course : IsOnCourse t.phase t.outcome
+  pub unrecorded : t.is_recorded ≡ false
+
+-- a transaction's own settings: it is of this boot, their keys rise and are texts, their values have bytes, and each is within the limits
+pub record IsSoundOwn (boot : ℕ) (own : Own) : Type 0 where
+  pub boot_is : own.transaction.boot ≡ boot
+  pub rising : is_rising own.settings ≡ true
+  pub good : list_all is_good_setting own.settings ≡ true
+  pub texts : All (λ s. IsText s.key) own.settings
+  pub values : All (λ s. IfSome s.value AreBytes) own.settings
+
+-- no two transactions have set or unset the same key
+abbrev pub AreSetApart : List Own → Type 0
+AreSetApart own = (a b : Id) → same_id a b ≡ false → set_both (own_settings own a) (own_settings own b) ≡ false
+
+-- there was a boot, the image has a unit, each transaction and its own settings are sound, and no two set the same key
+pub record IsSoundNow (x : Present) : Type 0 where
+  pub boots_from : 1 ≤ x.recorded.boots
+  pub units_from : 1 ≤ x.recorded.units
+  pub transactions : All (IsSoundTransaction x.recorded.boots x.transactions.last_transaction) x.transactions.items
+  pub own : All (IsSoundOwn x.recorded.boots) x.keys.own
+  pub apart : AreSetApart x.keys.own
+
+-- ---- all that the machine keeps
+
+-- what a machine that is up keeps of what is so now
+pub record IsStandingNow (x : Present) : Type 0 where
+  pub built : IsBuiltNow x
+  pub sound : IsSoundNow x
+  -- the limits hold
+  pub limits : (is_over_quota x ≡ false) × (is_over_disk x ≡ false)
+  -- what was recorded agrees with the rest
+  pub agrees : Agrees x
+
+-- what the machine keeps of a world: it is lawful, built and sound, a machine that is up loses no group, and there are fewer than 2^63 events
+pub record IsStanding (w : World) : Type 0 where
+  pub lawful : IsLawful w
+  pub built : IsBuiltWorld w
+  pub sound : IsSoundNow (present w)
+  pub kept : is_up w.power ≡ true → w.kept ≡ length w.log
+  pub few : w.recorded.events < 2 ^ 63
