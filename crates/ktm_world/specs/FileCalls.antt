@@ -122,7 +122,7 @@ empties OpenExisting = false
 empties OpenAlways = false
 empties TruncateExisting = true
 
--- is the name to be there, and is it to be free
+-- is the name to be there
 abbrev pub wants_existing : Disposition → Bool
 wants_existing OpenExisting = true
 wants_existing TruncateExisting = true
