@@ -1,5 +1,5 @@
 -- What a call on files makes of all that is so now, and the limits on it.
-use Rattle.std.proofs.Common.{◌≡◌, ℕ, ◌+◌, ◌-◌, ◌≤◌, ◌<◌, ◌==◌, ◌&&◌, ◌||◌, Bool, true, false, List, [], ◌∷◌, ◌++◌, length, map, count_by, Option, None, Some, is_some, nat_lt, refl, sym, ◌∙◌, ap, ap₂, arith, inl, inr, length-append}
+use Rattle.std.proofs.Common.{◌≡◌, ℕ, ◌+◌, ◌-◌, ◌≤◌, ◌<◌, ◌==◌, ◌&&◌, ◌||◌, Bool, true, false, List, [], ◌∷◌, ◌++◌, length, map, count_by, Option, None, Some, is_some, nat_lt, refl, sym, ◌∙◌, ap, arith, inl, inr, length-append}
 use Rattle.std.proofs.Math.Bool.{or-false}
 use Rattle.std.proofs.lemmas.Bool.{cases_Bool, lt-ltb, ltb-true, le-ltb, ltb-false, or_parts}
 use Rattle.std.proofs.lemmas.Bool.Decides.{eqb_tells}
