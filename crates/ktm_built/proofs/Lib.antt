@@ -1,0 +1,12 @@
+mod Alone
+mod Ids
+mod Forms
+mod Decided
+mod Machine
+mod Logs
+mod Own
+mod Limits
+mod Outcomes
+mod Now
+mod Worlds
+mod Tellings

@@ -1,6 +1,6 @@
 -- Worlds that have only what built forms make: transactions and keys.
-use Rattle.std.specs.Prelude.{◌≡◌, ℕ, ◌^◌, ◌<◌, ◌≤◌, Bool, true, false, List, [], length, All, Option, Some, None, IfSome}
-use Rattle.std.specs.List.{list_all}
+use Rattle.std.specs.Prelude.{◌≡◌, ℕ, ◌^◌, ◌<◌, ◌≤◌, true, false, List, [], ◌∷◌, length, All, IfSome}
+use Rattle.std.specs.List.{list_any, list_all}
 use Rattle.ktm_base.specs.declared.id.Id.{Id}
 use Rattle.ktm_base.specs.Bytes.{AreBytes}
 use Rattle.ktm_world.specs.declared.object.Phase.{Phase}
@@ -9,10 +9,9 @@ use Rattle.ktm_world.specs.declared.object.Transaction.{Transaction}
 use Rattle.ktm_world.specs.declared.object.TransactionOutcome.{TransactionOutcome}
 use Rattle.ktm_world.specs.declared.object.TransactionOutcome.TheVariants.{Undetermined, Committed}
 use Rattle.ktm_world.specs.Built.{IsBuiltState, is_built_log}
-use Rattle.ktm_world.specs.Durable.{Durable}
 use Rattle.ktm_world.specs.Files.{FilesNow}
 use Rattle.ktm_world.specs.Keyed.{is_rising}
-use Rattle.ktm_world.specs.Keys.{Own, Store, own_settings, is_good_setting}
+use Rattle.ktm_world.specs.Keys.{Own, own_settings, is_good_setting}
 use Rattle.ktm_world.specs.Lawful.{Agrees, IsLawful, set_both}
 use Rattle.ktm_world.specs.Logs.{is_up}
 use Rattle.ktm_world.specs.Present.{Present}
@@ -67,16 +66,22 @@ pub record IsSoundOwn (boot : ℕ) (own : Own) : Type 0 where
   pub texts : All (λ s. IsText s.key) own.settings
   pub values : All (λ s. IfSome s.value AreBytes) own.settings
 
+-- no transaction stands twice
+abbrev pub StandOnce : List Own → Type 0
+StandOnce [] = Unit {0}
+StandOnce (o ∷ os) = (list_any (λ p. same_id p.transaction o.transaction) os ≡ false) × StandOnce os
+
 -- no two transactions have set or unset the same key
 abbrev pub AreSetApart : List Own → Type 0
 AreSetApart own = (a b : Id) → same_id a b ≡ false → set_both (own_settings own a) (own_settings own b) ≡ false
 
--- there was a boot, the image has a unit, each transaction and its own settings are sound, and no two set the same key
+-- there was a boot, the image has a unit, each transaction and its own settings are sound, each stands once, and no two set the same key
 pub record IsSoundNow (x : Present) : Type 0 where
   pub boots_from : 1 ≤ x.recorded.boots
   pub units_from : 1 ≤ x.recorded.units
   pub transactions : All (IsSoundTransaction x.recorded.boots x.transactions.last_transaction) x.transactions.items
   pub own : All (IsSoundOwn x.recorded.boots) x.keys.own
+  pub once : StandOnce x.keys.own
   pub apart : AreSetApart x.keys.own
 
 -- ---- all that the machine keeps

@@ -127,7 +127,7 @@ module _ (x : Present) (process : Pid) (label : Label) (t : Transaction) (up : x
       ∙ ap (λ r. refuse_or x r (commit_transaction x (Some t))) passed
 
   events : (commit_transaction x (Some t)).events ≡ Single t.id (Settings settings) ∷ []
-  events = ap (λ (o : Outcome). o.events) (forms_law.1.1.0 x t built (named_law x process label t is)) ∙ ap (λ (ss : OwnSettings). commit_events t.id ss) (sym own) ∙ recorded t.id settings some
+  events = ap (λ (o : Outcome). o.events) (forms_law.2 x t built (named_law x process label t is)) ∙ ap (λ (ss : OwnSettings). commit_events t.id ss) (sym own) ∙ recorded t.id settings some
 
   full_is : is_full x.machine.left (commit_transaction x (Some t)).events ≡ nat_lt x.machine.left (length payload + 6)
   full_is = ap (λ (es : List Event). is_full x.machine.left es) events ∙ ap (λ n. nat_lt x.machine.left n) (let long = size_law (Single t.id (Settings settings) ∷ []) payload group in omega (arith, long))
@@ -170,8 +170,8 @@ module _ (x : Present) (process : Pid) (label : Label) (t : Transaction) (up : x
         → ((log : List Group) (events : Group) → IsGroupOf events payload → Tells before (JournalAt j log) → Tells now (JournalAt k (log ++ events ∷ [])))
         → IsDone (record { now = x; journal = j }) process (CommitTransaction label) Committed (record { now = new; journal = k }) before now
     commit_done j k new before now count state units image added = record {
-      says = sym (ap (λ (o : Outcome). o.reply) (decided ∙ forms_law.1.1.0 x t built (named_law x process label t is)));
-      state = state ∙ sym (forms_law.1.1.1.0 x t built (named_law x process label t is)) ∙ ap (λ o. apply x o) (sym decided);
+      says = sym (ap (λ (o : Outcome). o.reply) (decided ∙ forms_law.2 x t built (named_law x process label t is)));
+      state = state ∙ sym (forms_law.3 x t built (named_law x process label t is)) ∙ ap (λ o. apply x o) (sym decided);
       few = few count;
       units = units;
       image = image;

@@ -1,6 +1,7 @@
 -- A command that is refused in memory.
-use Rattle.std.proofs.Common.{◌≡◌, true, cond, List, [], ◌∷◌, ◌++◌, Bool, Option, Some, sym, ◌∙◌, ap, inl, inr}
+use Rattle.std.proofs.Common.{◌≡◌, ℕ, true, cond, refl, List, [], ◌∷◌, ◌++◌, Bool, Option, Some, sym, ◌∙◌, ap, inl, inr}
 use Rattle.std.proofs.lemmas.Bool.{cases_Bool}
+use Rattle.ktm_base.specs.declared.id.Label.{Label}
 use Rattle.ktm_base.specs.declared.id.Pid.{Pid}
 use Rattle.ktm_base.specs.declared.refusal.Refusal.{Refusal}
 use Rattle.ktm_built.specs.Standing.{IsBuiltNow}
@@ -11,6 +12,7 @@ use Rattle.ktm_world.specs.declared.reply.Reply.TheVariants.{Refused}
 use Rattle.ktm_world.specs.Decide.{with_room, refusal_of, command_effect}
 use Rattle.ktm_world.specs.Outcome.{apply, first_refusal, only_reply, refuse_or}
 use Rattle.ktm_world.specs.Present.{Present}
+use Rattle.ktm_world.specs.TransactionCalls.{create_transaction}
 
 pub refused_answer : (x : Present) (process : Pid) (command : Command) (refusal : Refusal) → IsBuiltNow x → refusal_of x process command ≡ Some refusal → Answered x process command (Refused refusal) x
 refused_answer x process command refusal built tested = record {
@@ -28,3 +30,8 @@ first_of-append (test ∷ tests) more refusal e = elim (cases_Bool test.0) [
   | inl holds ↦ rw holds (rw holds at e)
   | inr fails ↦ rw fails (first_of-append tests more refusal (rw fails at e))
 ]
+
+-- making a transaction records nothing
+pub create_records_nothing : (x : Present) (process : Pid) (label : Label) (timeout : ℕ) → (create_transaction x process label timeout).events ≡ []
+unfolding create_transaction
+create_records_nothing x process label timeout = refl

@@ -7,3 +7,4 @@ pub mod Ready
 pub mod Commits
 pub mod Restarts
 pub mod StartAgain
+pub mod Assumed

@@ -46,7 +46,7 @@ quiet_ends false x y j process command reply told on none done = record {
 }
   where
     same : decide x process command ≡ with_room x process command
-    same = decided_law.1.0 x process command none
+    same = decided_law.1 x process command none
 
     room : (with_room x process command).events ≡ []
     room = refuse_or_nothing (refusal_of x process command)
@@ -68,7 +68,7 @@ ready_after (Err fault) status old new process command before now is built stand
 down_cause : (is_down : Bool) (old new : KernelState) (process : Pid) (command : Command) (reply : Reply) (before now : Option DiskState) (a b : DiskStatus)
     → is_built_command command ≡ true → old.now.machine.is_up ≡ true → a.is_down ≡ false → Ends is_down old process command reply new before now → DeviceCalls 4 a b is_down
     → reply ≡ Refused MachineDown → (old.now.machine.is_up ≡ false) ⊎ Rose a.downs b.downs
-down_cause false old new process command reply before now a b built up on done calls is = absurd (decided_law.1.1.1.1 old.now process command built up (sym done.says ∙ is))
+down_cause false old new process command reply before now a b built up on done calls is = absurd (decided_law.4 old.now process command built up (sym done.says ∙ is))
 down_cause true old new process command reply before now a b built up on cut calls is = elim (calls.cause refl) [
   | inl off ↦ absurd (cc)
   | inr rose ↦ inr rose

@@ -77,6 +77,10 @@ next_applies state log built few least counted inside area most =
 pub own_size : (state : Durable) (payload : List ℕ) → IsBuiltState state → IsGroupOf (own_group state) payload → length payload ≡ 9
 own_size state payload built is = size_law (own_group state) payload is ∙ ap (λ (es : List Event). group_size es) (own_is state built) ∙ omega arith
 
+-- the payload of a boot is that of the group of a restart
+pub own_payload : (state : Durable) (payload : List ℕ) → IsBuiltState state → IsGroupOf (Boot (state.boots + 1) ∷ []) payload → IsGroupOf (own_group state) payload
+own_payload state payload built group = subst (λ (es : List Event). IsGroupOf es payload) (sym (own_is state built)) group
+
 -- what a disk that nothing was written to may leave
 pub unwritten_leaves : (units image : ℕ) (before log : List Group) (told : Option DiskState) → Tells told (HoldsBoth units image before log) → Tells told (LeavesOwnOrNot units image before log)
 unwritten_leaves units image before log told holds = Tells-map told (HoldsBoth units image before log) (LeavesOwnOrNot units image before log) holds
@@ -201,22 +205,22 @@ module _ (units image : ℕ) (before log : List Group) (state : Durable) (is : I
             log_applies-append (empty_state units image) before (log ++ own_group (stand base log) ∷ [])
             ∙ and_from _ _ applied.0 (log_applies-append base log (own_group (stand base log) ∷ []) ∙ and_from _ _ applied.1 (and_from _ _ (own_applies may) refl))
 
+quota : (state : Durable) (left : ℕ) → is_over_quota (fresh state left) ≡ false
+unfolding is_over_quota changes_waiting file_changes_waiting
+quota state left = rw (le-ltb state.units 0 (omega arith)) refl
+
+disk : (state : Durable) (left : ℕ) → length state.keys ≤ state.units → 16 ≤ state.units → is_over_disk (fresh state left) ≡ false
+unfolding is_over_disk units_used nodes_used
+disk state left few least = rw (le-ltb state.units 0 (omega arith), le-ltb state.units 1 (omega arith), le-ltb state.units (length state.keys + 0) (omega arith)) refl
+
 -- what a machine that started keeps
 fresh_standing : (state : Durable) (left : ℕ) → length state.keys ≤ state.units → 16 ≤ state.units → IsStandingNow (fresh state left)
 fresh_standing state left few least = record {
   built = record { managers = refl; enlistments = refl; last_manager = refl; last_enlistment = refl; files = refl; recorded = refl };
   sound = record { boots_from = omega arith; units_from = omega arith; transactions = All-nil _; own = All-nil _; apart = λ a b other. refl };
-  limits = (quota, disk);
+  limits = (quota state left, disk state left few least);
   agrees = record { tree = refl; keys = refl; managers = refl; transactions = refl; next_node = omega arith };
 }
-  where
-    quota : is_over_quota (fresh state left) ≡ false
-    unfolding is_over_quota changes_waiting file_changes_waiting
-    quota = rw (le-ltb state.units 0 (omega arith)) refl
-
-    disk : is_over_disk (fresh state left) ≡ false
-    unfolding is_over_disk units_used nodes_used
-    disk = rw (le-ltb state.units 0 (omega arith), le-ltb state.units 1 (omega arith), le-ltb state.units (length state.keys + 0) (omega arith)) refl
 
 -- a machine that started is ready for calls
 pub fresh_ready : (kernel : KernelState) (state : Durable) (left : ℕ) (told : Option DiskState) (status : DiskStatus) → kernel.now ≡ fresh state left → length state.keys ≤ state.units → 16 ≤ state.units

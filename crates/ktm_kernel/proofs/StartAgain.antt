@@ -1,5 +1,5 @@
 -- A machine that is down, whose disk has the power back, and is started again.
-use Rattle.std.proofs.Common.{◌≡◌, ℕ, ◌+◌, ◌-◌, ◌*◌, ◌≤◌, Bool, true, false, List, [], ◌∷◌, ◌++◌, Option, None, Some, refl, sym, ◌∙◌, ap, subst, arith, inl, inr}
+use Rattle.std.proofs.Common.{◌≡◌, ℕ, ◌+◌, ◌-◌, ◌*◌, ◌≤◌, Bool, true, false, List, [], ◌∷◌, ◌++◌, length, Option, None, Some, refl, sym, ◌∙◌, ap, subst, arith, inl, inr}
 use Rattle.std.specs.Prelude.{Contains}
 use Rattle.ktm_base.specs.declared.refusal.Refusal.TheVariants.{MachineDown, LogFull}
 use Rattle.ktm_base.specs.Disk.{DiskState}
@@ -10,18 +10,22 @@ use Rattle.ktm_journal.specs.Bad.{IsBadAt}
 use Rattle.ktm_journal.specs.Image.{IsHeaded, HoldsLog}
 use Rattle.ktm_journal.proofs.OneImage.{not_bad}
 use Rattle.ktm_world.specs.declared.command.Line.TheVariants.{Restart}
+use Rattle.ktm_world.specs.declared.reply.Reply.{Reply}
 use Rattle.ktm_world.specs.declared.reply.Reply.TheVariants.{Refused, Restarted}
 use Rattle.ktm_world.specs.Durable.{Durable, empty_state, stand}
 use Rattle.ktm_world.specs.Outcome.{is_full}
 use Rattle.ktm_world.specs.Sizes.{log_size}
-use Rattle.ktm_keys.specs.World.{World, present, own_group, opened, possible_logs, interrupted_restart, found_full, is_full_to_open}
+use Rattle.ktm_world.specs.World.{World, present, own_group, opened, in_doubt, possible_logs, interrupted_restart, found_full, is_full_to_open}
+use Rattle.ktm_world.specs.Built.{is_built_log}
+use Rattle.ktm_world.proofs.BuiltStates.{built_stand}
+use Rattle.ktm_kernel.proofs.Assumed.{fallen_law}
 use Rattle.ktm_world.specs.Logs.{Group, down, is_up}
-use Rattle.ktm_world.specs.Transcript.{interrupted, found, full}
+use Rattle.ktm_world.specs.Transcript.{Step, interrupted, found, full, RestartDoes, StartDoes}
 use Rattle.ktm_world.proofs.Durables.{stand-units}
 use Rattle.ktm_kernel.specs.Restarts.{HoldsBoth, base_of, is_full_for_own, Started, LeavesOwnOrNot}
 use Rattle.ktm_kernel.specs.Stands.{KernelState, HasFallen, StandsBy, KernelAt, LeavesPossible, DoesLine, FoundAt, PowerLaw, FoundLaw}
 use Rattle.ktm_kernel.proofs.Left.{stands_for}
-use Rattle.ktm_kernel.proofs.Possible.{first_is, Contains-map, in_first, in_second}
+use Rattle.ktm_kernel.proofs.Possible.{first_is, Contains-map, in_first, in_second, passes}
 use Rattle.ktm_kernel.proofs.Worlds.{began_on}
 
 -- what is so now of a machine that is down is the same, whatever is possible on its disk
@@ -33,12 +37,14 @@ power_law k old new w off at = (
   λ restored. record {
     off = off;
     now = fallen.now;
+    standing = fallen.standing;
     before = fallen.before;
     began = fallen.began;
     disk = Tells-step old new (LeavesPossible k.journal fallen.before w) _ fallen.disk restored (λ a b leaves back. (back.safe, leaves b.seen back.left));
   },
   λ failed. record {
     now = fallen.now ∙ off_present w off (possible_logs (interrupted_restart w));
+    standing = fallen_law.2 w fallen.standing;
     before = fallen.before;
     began = began_on k.journal k.journal fallen.before w (interrupted_restart w) refl refl refl refl fallen.began;
     disk = Tells-step old new (LeavesPossible k.journal fallen.before w) (LeavesPossible k.journal fallen.before (interrupted_restart w)) fallen.disk failed (λ a b leaves again image may.
@@ -58,14 +64,22 @@ module _ (k : KernelState) (told now : Option DiskState) (w : World) (pick : ℕ
   full_is : (log : List Group) (b : Bool) → is_full_for_own k.journal.units k.journal.image at.before log ≡ b → is_full_to_open w log ≡ b
   full_is log b is = ap (λ (s : Durable). is_full (w.room - log_size log) (own_group (stand s log))) at.began.base ∙ ap (λ n. is_full (n - log_size log) (own_group (stand base log))) at.began.room ∙ is
 
+  -- the machine is down, so a restart starts it
+  off_does : (step : Step) (reply : Reply) (new : World) → StartDoes w step reply new → RestartDoes (is_up w.power) w step reply new
+  off_does step reply new does = subst (λ b. RestartDoes b w step reply new) (sym at.off) does
+
+  -- nothing that is built is in doubt after a restart
+  none_back : (log : List Group) → Contains (possible_logs w) log → length (in_doubt (stand w.base log)) ≡ 0
+  none_back log possible = ap (λ (s : Durable). length (in_doubt s)) (built_stand w.base log at.standing.built.base (passes is_built_log (possible_logs w) log at.standing.built.logs possible))
+
   started : (new : KernelState) (events in_doubt : ℕ) (log : List Group) → Contains (possible_logs w) log → Started k.journal.units k.journal.image at.before log new events in_doubt now
       → DoesLine w (Some (Restart pick)) (Restarted events in_doubt) new now
-  started new events in_doubt log possible starts = (
+  started new events doubts log possible starts = (
     found log,
     opened w.base w.room log,
-    (
-      record { down = at.off; possible = possible; room = full_is log false starts.room },
-      ap (λ n. Restarted n in_doubt) (starts.events_are ∙ ap (λ (s : Durable). (stand s log).events) (sym at.began.base)) ∙ ap (λ n. Restarted (stand w.base log).events n) starts.none_in_doubt,
+    off_does (found log) (Restarted events doubts) (opened w.base w.room log) (
+      record { possible = possible; room = full_is log false starts.room },
+      ap (λ n. Restarted n doubts) (starts.events_are ∙ ap (λ (s : Durable). (stand s log).events) (sym at.began.base)) ∙ ap (λ n. Restarted (stand w.base log).events n) (starts.none_in_doubt ∙ sym (none_back log possible)),
       refl,
     ),
     subst (λ (s : Durable). KernelAt new now (opened s w.room log)) (sym at.began.base) (subst (λ n. KernelAt new now (opened base n log)) (sym at.began.room) starts.stands),
@@ -75,9 +89,10 @@ module _ (k : KernelState) (told now : Option DiskState) (w : World) (pick : ℕ
   cut log possible leaves = (
     interrupted,
     interrupted_restart w,
-    (at.off, refl, refl),
+    off_does interrupted (Refused MachineDown) (interrupted_restart w) (refl, refl),
     record {
       now = at.now ∙ off_present w at.off (possible_logs (interrupted_restart w));
+      standing = fallen_law.2 w at.standing;
       before = at.before;
       began = began_on k.journal k.journal at.before w (interrupted_restart w) refl refl refl refl at.began;
       disk = Tells-map now (LeavesOwnOrNot k.journal.units k.journal.image at.before log) (LeavesPossible k.journal at.before (interrupted_restart w)) leaves (λ s either image may. elim (either image may) [
@@ -96,9 +111,10 @@ module _ (k : KernelState) (told now : Option DiskState) (w : World) (pick : ℕ
   stays log possible is holds = (
     full log,
     found_full w log,
-    (record { down = at.off; possible = possible; room = full_is log true is }, refl, refl),
+    off_does (full log) (Refused LogFull) (found_full w log) (record { possible = possible; room = full_is log true is }, refl, refl),
     record {
       now = at.now ∙ off_present w at.off (log ∷ []);
+      standing = fallen_law.3 w log possible at.standing;
       before = at.before;
       began = began_on k.journal k.journal at.before w (found_full w log) refl refl refl refl at.began;
       disk = Tells-map now (HoldsBoth k.journal.units k.journal.image at.before log) (LeavesPossible k.journal at.before (found_full w log)) holds (λ s held image may. (

@@ -90,13 +90,13 @@ module _ (old new : KernelState) (process : Pid) (command : Command) (reply : Re
   applies_then few =
       let events = (decide (present w) process command).events in
       let recorded : stand w.base w.log ≡ w.recorded = (stands.standing.lawful.stands (ap is_up on)).comes_to in
-      let apply : events_apply w.recorded events ≡ true = (events_law.0 (present w) process command built (now_law.1 w stands.standing (ap is_up on))).1.0 (few_now few) in
+      let apply : events_apply w.recorded events ≡ true = (events_law.0 (present w) process command built (now_law.1 w stands.standing (ap is_up on))).1 (few_now few) in
       log_applies-append w.base w.log (as_groups events)
       ∙ and_from (log_applies w.base w.log) (log_applies (stand w.base w.log) (as_groups events)) applies_now
       (ap (λ (s : Durable). log_applies s (as_groups events)) recorded ∙ log_applies-as_groups w.recorded events ∙ apply)
 
   now_then : IsDone old process command reply new before now → new.now ≡ present (after w process command)
-  now_then done = done.state ∙ ap (λ x. apply x (decide x process command)) stands.now ∙ sym (step_law.1.0 w process command (first_opens_within w stands.standing.built.now))
+  now_then done = done.state ∙ ap (λ x. apply x (decide x process command)) stands.now ∙ sym (step_law.1 w process command (first_opens_within w stands.standing.built.now))
 
   log_then : IsDone old process command reply new before now → Tells now (JournalAt new.journal ((stands.before ++ w.log) ++ groups))
   unfolding groups
@@ -134,7 +134,7 @@ module _ (old new : KernelState) (process : Pid) (command : Command) (reply : Re
       began = began_on old.journal new.journal stands.before w w done.units done.image refl refl stands.began
 
       same : (stands.before ++ w.log) ++ groups ≡ stands.before ++ w.log
-      same = ap (λ (es : List Event). (stands.before ++ w.log) ++ as_groups es) (decided_law.1.1.1.0 (present w) process command built stops) ∙ append-nil (stands.before ++ w.log)
+      same = ap (λ (es : List Event). (stands.before ++ w.log) ++ as_groups es) (decided_law.3 (present w) process command built stops) ∙ append-nil (stands.before ++ w.log)
 
   done_stands : IsDone old process command reply new before now → (b : Bool) → (decide (present w) process command).stops ≡ b → StandsBy (is_up (power_after b w)) new now (after w process command)
   done_stands done false goes_on = subst (λ power. StandsBy (is_up power) new now (after w process command)) (sym on) (done_up done)
@@ -178,7 +178,7 @@ module _ (old new : KernelState) (process : Pid) (command : Command) (reply : Re
     (ap is_up on, cut.says, refl),
     record {
       now = cut.state ∙ ap fallen stands.now;
-      standing = fallen_law.1.0 w process command built stands.standing;
+      standing = fallen_law.1 w process command built stands.standing;
       before = stands.before;
       began = subst (λ j. Began j stands.before (interrupted_by w (decide (present w) process command))) (sym cut.journal) (began_on old.journal old.journal stands.before w (interrupted_by w (decide (present w) process command)) refl refl refl refl stands.began);
       disk = left cut;
@@ -215,7 +215,7 @@ crash_line k on told w at =
     let (power, stands) = up_by w.power k told w refl at on in (
       answered,
       crashed w,
-      subst (λ p. CrashDoes (is_up p) w Done (crashed w)) (sym power) (refl, refl),
+      subst (λ p. CrashDoes (is_up p) w answered Done (crashed w)) (sym power) (refl, refl),
       record {
         now = ap fallen stands.now;
         standing = fallen_law.0 w stands.standing;

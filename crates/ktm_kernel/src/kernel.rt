@@ -57,8 +57,9 @@ impl Kernel {
         self.state.fall();
     }
 
-    /// Answers a call of a process. After MACHINE_DOWN and ERROR_LOG_FULL the machine is down. Where memory is wanting the
-    /// machine is not used again; its disk holds what it held before the call.
+    /// Answers a call of a process. After MACHINE_DOWN and ERROR_LOG_FULL the machine is down. A call that is refused, but
+    /// for MACHINE_DOWN, and one that records nothing make no device call. Where memory is wanting the machine is not used
+    /// again; its disk holds what it held before the call.
     pub fn call<D: Disk>(
         &mut self,
         disk: &mut D,

@@ -95,7 +95,8 @@ impl Kernel {
 impl Kernel {
     /// Starts a machine that is down again, from its disk, whose power is back; what it held in memory is gone. The reply is
     /// that of a restart: how many events were found; ERROR_LOG_FULL or BAD_IMAGE, and the machine stays down; or
-    /// MACHINE_DOWN where the power went again. Where memory is wanting nothing was written.
+    /// MACHINE_DOWN where the power went again. With ERROR_LOG_FULL, with BAD_IMAGE and where memory is wanting nothing was
+    /// written, and it can be called again.
     pub fn start_again<D: Disk>(&mut self, disk: &mut D) -> Result<Reply, NoMemory>
         requires off { self.old.now.machine.is_up ≡ false }
         requires power { (D.status disk.old).is_down ≡ false }

@@ -106,6 +106,7 @@ impl State {
         requires { self.old.now.machine.is_up ≡ true }
         ensures answered { IfOk result (λ reply. Answered self.old.now process (CreateTransaction label timeout) reply self.new.now) }
         ensures machine { self.new.now.machine ≡ self.old.now.machine }
+        ensures recorded { self.new.now.recorded ≡ self.old.now.recorded }
     {
         if self.is_bound(process, label) {
             return Ok(Reply::Refused(Refusal::InvalidParameter));
@@ -163,6 +164,7 @@ impl State {
         requires { self.old.now.machine.is_up ≡ true }
         ensures answered { IfOk result (λ reply. Answered self.old.now process (KvSet label key value) reply self.new.now) }
         ensures machine { self.new.now.machine ≡ self.old.now.machine }
+        ensures recorded { self.new.now.recorded ≡ self.old.now.recorded }
     {
         let Some(t) = self.named(process, label) else {
             return Ok(Reply::Refused(Refusal::InvalidHandle));
@@ -188,6 +190,7 @@ impl State {
         requires { self.old.now.machine.is_up ≡ true }
         ensures answered { IfOk result (λ reply. Answered self.old.now process (KvUnset label key) reply self.new.now) }
         ensures machine { self.new.now.machine ≡ self.old.now.machine }
+        ensures recorded { self.new.now.recorded ≡ self.old.now.recorded }
     {
         let Some(t) = self.named(process, label) else {
             return Ok(Reply::Refused(Refusal::InvalidHandle));

@@ -1,11 +1,12 @@
 use Rattle.std.proofs.Common.{refl}
+use Rattle.ktm_kernel.proofs.Decided.{create_records_nothing}
 use Rattle.ktm_kernel.proofs.Ready.{quiet_ends}
 use Rattle.ktm_kernel.proofs.Worlds.{IfOk-map, IfOk-each}
 use Rattle.ktm_kernel.proofs.kernel.Kernel.answer.Goals as goal
 
 pub returns-in-CreateTransaction-clause-ends : goal.returns-in-CreateTransaction-clause-ends
 returns-in-CreateTransaction-clause-ends g c = rw (c.in-CreateTransaction.is, ← c.self.view_is) (IfOk-map c.create_transaction.result _ _
-    (λ reply done. quiet_ends _ c.self.inside.state.now c.create_transaction.new.self.now c.self.inside.journal c.args.process _ reply _ (c.requires.ready.powered.power c.requires.up) refl done)
+    (λ reply done. quiet_ends _ c.self.inside.state.now c.create_transaction.new.self.now c.self.inside.journal c.args.process _ reply _ (c.requires.ready.powered.power c.requires.up) (create_records_nothing _ _ _ _) done)
     c.create_transaction.ensures.answered)
 
 pub returns-in-KvSet-clause-ends : goal.returns-in-KvSet-clause-ends

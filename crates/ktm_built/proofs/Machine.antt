@@ -1,0 +1,31 @@
+-- What is so now, where only the machine changes.
+use Rattle.std.proofs.Common.{◌≡◌, ℕ, ◌-◌, Bool, true, false, arith}
+use Rattle.std.proofs.Math.Bool.{and-false}
+use Rattle.ktm_world.specs.Outcome.{apply}
+use Rattle.ktm_world.specs.Present.{Present}
+use Rattle.ktm_built.specs.Standing.{IsBuiltNow}
+use Rattle.ktm_built.proofs.Alone.{alone, by_alone}
+use Rattle.ktm_built.proofs.Decided.{full_log}
+
+abbrev pub with_machine : Present → Bool → ℕ → Present
+with_machine x is_up left = record x { machine = record { is_up = is_up; left = left } }
+
+pub built_machine : (x : Present) (is_up : Bool) (left : ℕ) → IsBuiltNow x → IsBuiltNow (with_machine x is_up left)
+built_machine x is_up left built = record {
+  managers = built.managers;
+  enlistments = built.enlistments;
+  last_manager = built.last_manager;
+  last_enlistment = built.last_enlistment;
+  files = built.files;
+  recorded = built.recorded;
+}
+
+-- a machine whose log is full is down
+pub apply-full : (x : Present) → IsBuiltNow x → apply x (full_log x) ≡ with_machine x false x.machine.left
+apply-full x built = by_alone (λ (y : Present). apply y (full_log y) ≡ with_machine y false y.machine.left) x built (full_alone x)
+  where
+    none_less : (n : ℕ) → n - 0 ≡ n
+    none_less n = omega arith
+
+    full_alone : (x : Present) → apply (alone x) (full_log (alone x)) ≡ with_machine (alone x) false x.machine.left
+    full_alone x i = with_machine (alone x) (and-false x.machine.is_up i) (none_less x.machine.left i)

@@ -1,0 +1,5 @@
+use Rattle.ktm_built.proofs.Now.{events_law}
+use Rattle.ktm_built.proofs.laws.law_of_events.Goals as goal
+
+pub returns : goal.returns
+returns c = events_law

@@ -1,0 +1,5 @@
+use Rattle.ktm_built.proofs.Forms.{named_law}
+use Rattle.ktm_built.proofs.laws.law_of_named.Goals as goal
+
+pub returns : goal.returns
+returns c = named_law

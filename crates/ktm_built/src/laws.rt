@@ -1,0 +1,47 @@
+// Laws of worlds that have only what built forms make, each the contract of a function that does nothing.
+ghost use Rattle.ktm_built.specs.Laws.{FormsLaw, NamedLaw, DecidedLaw, EventsLaw, NowLaw, LawfulLaw, OpenedLaw, FallenLaw, OutcomeLaw};
+
+/// Each call changes its own part of what is so now.
+pub fn law_of_forms()
+    ensures { FormsLaw }
+{}
+
+/// A label names a transaction by its Id.
+pub fn law_of_named()
+    ensures { NamedLaw }
+{}
+
+/// What holds of every outcome of a command.
+pub fn law_of_decided()
+    ensures { DecidedLaw }
+{}
+
+/// What a command records is built, applies, and can be spelled.
+pub fn law_of_events()
+    ensures { EventsLaw }
+{}
+
+/// A command keeps what the machine keeps of what is so now.
+pub fn law_of_now()
+    ensures { NowLaw }
+{}
+
+/// A command keeps what the machine keeps of a world.
+pub fn law_of_lawful()
+    ensures { LawfulLaw }
+{}
+
+/// A restart opens a world that stands.
+pub fn law_of_opened()
+    ensures { OpenedLaw }
+{}
+
+/// A loss of power leaves a world that stands.
+pub fn law_of_fallen()
+    ensures { FallenLaw }
+{}
+
+/// No transaction is told two outcomes.
+pub fn law_of_outcomes()
+    ensures { OutcomeLaw }
+{}
