@@ -19,7 +19,7 @@ use Rattle.ktm_world.specs.Enlistments.{Enlistment, is_durable_at, superior_of, 
 use Rattle.ktm_world.specs.Files.{OpenFile, own_changes}
 use Rattle.ktm_world.specs.Holds.{Holds, is_in, meet_in, is_place_in}
 use Rattle.ktm_world.specs.Present.{Present}
-use Rattle.ktm_world.specs.Transactions.{same_id, is_of, is_undecided}
+use Rattle.ktm_world.specs.Transactions.{is_of, is_undecided}
 use Rattle.ktm_world.specs.Tree.{IsWellFormed}
 use Rattle.ktm_world.specs.Uses.{is_over_quota, is_over_disk}
 use Rattle.ktm_world.specs.World.{World, OpenedAfter, committed, present, enlistment_back, by_rising_id}
@@ -45,13 +45,17 @@ are_apart a b = not (meet_in a.nodes b.nodes) && not (list_any (is_place_in b.pl
 abbrev pub hold_apart : Present → Transaction → Transaction → Bool
 hold_apart x t u = are_apart (holds_now x.files t.id) (holds_now x.files u.id) && not (set_both (own_settings x.keys.own t.id) (own_settings x.keys.own u.id))
 
+-- the undecided transactions but this one
+abbrev pub others : List Transaction → Option Id → List Transaction
+others ts who = filter (λ t. is_undecided t && not (is_of t.id who)) ts
+
 -- the undecided transactions
 abbrev pub undecided : Present → List Transaction
-undecided x = filter is_undecided x.transactions.items
+undecided x = others x.transactions.items None
 
 -- do no two undecided transactions hold the same
 abbrev pub all_apart : Present → Bool
-all_apart x = list_all (λ t. list_all (hold_apart x t) (filter (λ u. not (same_id u.id t.id)) (undecided x))) (undecided x)
+all_apart x = list_all (λ t. list_all (hold_apart x t) (others x.transactions.items (Some t.id))) (undecided x)
 
 -- ---- a version that a transaction writes over stays the last one
 
