@@ -379,7 +379,7 @@ records-commit x id (s ∷ ss) state boots units number sound few room = record 
       let good = and_from _ _ (and_from _ _ some sound.rising) sound.good in
       and_from _ _ (subst (λ (t : Durable). event_applies t (Single id (Settings (s ∷ ss))) ≡ true) (sym state) (single_applies x.recorded id (s ∷ ss) sound.boot_is good units room least)) refl;
   short = All-cons (IsShortEvent x.recorded.units) (Single id (Settings (s ∷ ss))) []
-      (record { boot_from = omega (arith, boots, sound.boot_is); number_from = number; few = few; short = short_settings x.recorded.boots _ sound }) (All-nil _);
+      (record { boot_from = omega (arith, boots, sound.boot_is); number_from = number; rising = sound.rising; few = few; short = short_settings x.recorded.boots _ sound }) (All-nil _);
   unchanged = (refl, tt);
 }
 
@@ -391,6 +391,7 @@ short_work x t plain found =
     record {
       boot_from = omega (arith, sound.boot_is, plain.sound.boots_from);
       number_from = sound.number_from;
+      rising = (own_settings_sound x.recorded.boots t.id sound.boot_is x.keys.own plain.sound.own).rising;
       few = omega (arith, less, plain.within.keys, plain.within.changes);
       short = short_settings x.recorded.boots _ (own_settings_sound x.recorded.boots t.id sound.boot_is x.keys.own plain.sound.own);
     }

@@ -7,10 +7,6 @@ pub OnOk-map : {T E : Type 0} (r : Result T E) (P Q : Type 0) → (P → Q) → 
 OnOk-map (Ok x) P Q f h = f h
 OnOk-map (Err e) P Q f h = tt
 
-pub OnOk-any : {T E : Type 0} (r : Result T E) (P : Type 0) → P → OnOk r P
-OnOk-any (Ok x) P h = h
-OnOk-any (Err e) P h = tt
-
 pub Goes-map : (R S : List ℕ → List ℕ → Type 0) (a b : Option (List ℕ)) → ((x y : List ℕ) → R x y → S x y) → Goes R a b → Goes S a b
 Goes-map R S None None f h = tt
 Goes-map R S None (Some y) f h = h

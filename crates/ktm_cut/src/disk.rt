@@ -30,6 +30,7 @@ pub struct CutDisk<B: Block> {
 
 impl<B: Block> Disk for CutDisk<B> {
     ghost use Rattle.ktm_cut.specs.Cut.{told_by, status_of, block_of, HasCause};
+    ghost use Rattle.ktm_cut.specs.Lengths.{known_lengths};
 
     ghost told = { told_by };
 
@@ -99,6 +100,7 @@ impl<B: Block> Disk for CutDisk<B> {
         ensures counts { status_of self.new ≡ with_pending (after_call (status_of self.old) (is_err result)) (status_of self.new).pending }
         ensures cause { OnErr result (HasCause self.old self.new) }
         ensures faults { B.faults (block_of self.old) ≤ B.faults (block_of self.new) }
+        ensures flushed { OnOk result (B.waits (block_of self.new) ≡ false) }
     {
         self.switch.admit()?;
         match self.block.flush() {
@@ -129,6 +131,8 @@ impl<B: Block> Disk for CutDisk<B> {
             Err(Failed) => Err(self.switch.fall()),
         }
     }
+
+    ghost lengths = { λ d. known_lengths d.dirty.items d.grown_from d.asked (B.contents d.block) d.is_length_known };
 }
 
 impl<B: Block> PowerDisk for CutDisk<B> {
@@ -160,6 +164,7 @@ impl<B: Block> PowerDisk for CutDisk<B> {
         ensures left { OnOk result (Goes (λ old new. new.seen ≡ left_of pick old.dirty old.shortest old.seen) (told_by self.old) (told_by self.new)) }
         ensures cause { OnErr result (Rose (B.faults (block_of self.old)) (B.faults (block_of self.new))) }
         ensures faults { B.faults (block_of self.old) ≤ B.faults (block_of self.new) }
+        ensures flushed { OnOk result (B.waits (block_of self.new) ≡ false) }
     {
         self.switch.note(PowerCall::Power(pick));
         match settle(&mut self.block, pick, &self.dirty, self.grown_from) {

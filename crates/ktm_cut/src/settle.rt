@@ -1,5 +1,5 @@
 // What is left of the dirty ranges of a block.
-ghost use Rattle.std.specs.Prelude.{◌≡◌, ℕ, ◌+◌, ◌-◌, ◌%◌, ◌<◌, ◌≤◌, min, List, [], ◌∷◌, length, Option, OnOk};
+ghost use Rattle.std.specs.Prelude.{◌≡◌, ℕ, ◌+◌, ◌-◌, ◌%◌, ◌<◌, ◌≤◌, min, List, [], ◌∷◌, length, Option, OnOk, false};
 ghost use Rattle.ktm_base.specs.Bytes.{SameOutside};
 ghost use Rattle.ktm_base.specs.Stream.{Faults};
 ghost use Rattle.ktm_base.specs.Told.{IfTold, Goes};
@@ -23,12 +23,14 @@ pub fn settle<B: Block>(
     ensures contents { Goes (λ old new. SameElsewhere ranges.now (length_at_sync grown_from (length old)) old new) (B.contents block.old) (B.contents block.new) }
     ensures left { OnOk result (Goes (λ old new. new ≡ left_of pick ranges.now (length_at_sync grown_from (length old)) old) (B.contents block.old) (B.contents block.new)) }
     ensures faults { Faults (B.faults block.old) (B.faults block.new) result }
+    ensures flushed { OnOk result (B.waits block.new ≡ false) }
 {
     let mut words = Lcg64Xsh32::seed_from_u64(pick);
     let len = block.len()?;
     settle_ranges(block, &mut words, ranges, len)?;
     settle_added(block, &mut words, grown_from, len)?;
-    block.flush()
+    block.flush()?;
+    Ok(())
 }
 
 // Of a range that passes the end, which only a block that tells nothing can have, the part before the end is treated.

@@ -1,18 +1,21 @@
 -- How what is read of a part at one place goes on at the next.
-use Rattle.std.proofs.Common.{◌≢◌, ℕ, Option, Some, None, List, [], refl, sym, subst}
+use Rattle.std.proofs.Common.{true, false, ◌≡◌, ◌≢◌, ◌∙◌, ap, ℕ, Option, Some, None, List, [], refl, sym, subst}
 use Rattle.std.specs.List.{slice_range}
 use Rattle.ktm_base.specs.declared.id.Id.{Id}
 use Rattle.ktm_base.specs.Grammar.{IsValueOf, IsListOf}
 use Rattle.ktm_codec.specs.Spans.{Spans, Reads}
+use Rattle.ktm_codec.proofs.Forms.{unambiguous_list}
 use Rattle.ktm_codec.proofs.SpansLemmas.{Spans-map, spans_then, one_reading}
+use Rattle.ktm_world.specs.declared.event.Keyed.{Keyed}
 use Rattle.ktm_world.specs.declared.event.Part.{Part}
 use Rattle.ktm_world.specs.declared.event.Part.TheVariants.{Enlistment, Changes, Settings}
 use Rattle.ktm_world.specs.declared.event.DonePart.{DonePart}
 use Rattle.ktm_world.specs.declared.event.DonePart.TheVariants.{Files, Keys}
-use Rattle.ktm_world.specs.EventGrammar.{IsIdOf, IsSetTo, IsSettingOf, IsChangeOf, IsPartOf, IsSoleOf, IsDoneOf}
+use Rattle.ktm_world.specs.EventGrammar.{IsIdOf, IsSetTo, IsSettingOf, AreSettingsOf, IsChangeOf, IsPartOf, IsSoleOf, IsDoneOf}
+use Rattle.ktm_world.specs.Keyed.{is_rising}
 use Rattle.ktm_event.specs.Reading.{Behind, IsKeyOf, IsRecordedOf}
 use Rattle.ktm_event.proofs.Pairs.{Both}
-use Rattle.ktm_event.proofs.Parts.{IsEnlistedOf, unambiguous_part, sole_is_part}
+use Rattle.ktm_event.proofs.Parts.{IsEnlistedOf, unambiguous_part, unambiguous_setting, sole_is_part}
 use Rattle.ktm_event.proofs.Readings.{Absent, tag_after}
 
 module _ {bytes : List ℕ} {at : ℕ} where
@@ -38,6 +41,19 @@ module _ {bytes : List ℕ} {at : ℕ} where
   setting_read {mid} {end} first second =
       Spans-map (λ part (one, two, whole, key, value). record { text = key.text; parts = (one, two, whole, key.spelled, value) }) (spans_then bytes at mid end first second)
 
+  pub no_list : Absent (IsListOf IsSettingOf) bytes at → Absent AreSettingsOf bytes at
+  no_list absent = record { none = λ settings end spans. absent.none settings end (Spans-map (λ part is. is.listed) spans) }
+
+  pub not_rising : (settings : List (Keyed (Option (List ℕ)))) {end : ℕ} → Spans (IsListOf IsSettingOf settings) bytes at end → is_rising settings ≡ false → Reads AreSettingsOf bytes at None
+  not_rising settings {end} listed falls other end' spans =
+      let (same, ends) = one_reading (IsListOf IsSettingOf) (unambiguous_list IsSettingOf unambiguous_setting) bytes at settings other end end' listed (Spans-map (λ part is. is.listed) spans) in
+      let rises : is_rising other ≡ true = spans.form.rising in
+      let falls' = ap is_rising (sym same) ∙ falls in
+      absurd cc
+
+  pub settings_read : (settings : List (Keyed (Option (List ℕ)))) {end : ℕ} → Spans (IsListOf IsSettingOf settings) bytes at end → is_rising settings ≡ true → Spans (AreSettingsOf settings) bytes at end
+  settings_read settings listed rises = Spans-map (λ part is. record { rising = rises; listed = is }) listed
+
   pub no_record : Absent IsEnlistedOf bytes at → Absent IsRecordedOf bytes at
   no_record absent = record { none = λ (enlistment, manager, information) end spans. absent.none (enlistment, (manager, information)) end spans }
 
@@ -55,7 +71,7 @@ module _ {bytes : List ℕ} {at : ℕ} where
       none (Changes changes) end spans = absent.none changes end (tag_after 2 spans)
       none part end spans = let is = spans.form.1 in absurd cc
 
-  pub no_settings : Absent (IsListOf IsSettingOf) bytes at → Absent (Behind IsPartOf 3) bytes at
+  pub no_settings : Absent AreSettingsOf bytes at → Absent (Behind IsPartOf 3) bytes at
   no_settings absent = record { none = none }
     where
       none : Reads (Behind IsPartOf 3) bytes at None

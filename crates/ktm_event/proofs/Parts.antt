@@ -8,7 +8,7 @@ use Rattle.ktm_world.specs.declared.event.Part.{Part}
 use Rattle.ktm_world.specs.declared.event.Part.TheVariants.{Enlistment, Changes, Settings}
 use Rattle.ktm_world.specs.declared.event.DonePart.{DonePart}
 use Rattle.ktm_world.specs.declared.event.DonePart.TheVariants.{Files, Keys}
-use Rattle.ktm_world.specs.EventGrammar.{IsIdOf, IsSetTo, IsSettingOf, IsChangeOf, IsRecordOf, IsPartOf, IsSoleOf, IsDoneOf}
+use Rattle.ktm_world.specs.EventGrammar.{IsIdOf, IsSetTo, IsSettingOf, AreSettingsOf, IsChangeOf, IsRecordOf, IsPartOf, IsSoleOf, IsDoneOf}
 use Rattle.ktm_event.specs.Reading.{IsKeyOf}
 use Rattle.ktm_event.proofs.Pairs.{Both, unambiguous_both}
 use Rattle.ktm_event.proofs.Changes.{unambiguous_change, one_change}
@@ -35,6 +35,9 @@ unambiguous_setting x y a b c d p q e =
     let same : x ≡ y = ap (λ (key : List ℕ). record { key = key; value = x.value }) keys ∙ ap (λ (value : Option (List ℕ)). record { key = y.key; value = value }) values in
     (same, bytes)
 
+pub unambiguous_settings : Unambiguous AreSettingsOf
+unambiguous_settings x y a b c d p q e = unambiguous_list IsSettingOf unambiguous_setting x y a b c d p.listed q.listed e
+
 -- an enlistment, its resource manager and its information, as pairs
 abbrev pub IsEnlistedOf : Id × (Id × List ℕ) → List ℕ → Type 0
 IsEnlistedOf = Both IsIdOf (Both IsIdOf IsTextOf)
@@ -50,7 +53,7 @@ unambiguous_part (Changes x) (Changes y) a b c d p q is =
     let (same, bytes) = unambiguous_tagged (IsListOf IsChangeOf) (unambiguous_list IsChangeOf unambiguous_change) 2 x y a b c d p q is in
     (ap Changes same, bytes)
 unambiguous_part (Settings x) (Settings y) a b c d p q is =
-    let (same, bytes) = unambiguous_tagged (IsListOf IsSettingOf) (unambiguous_list IsSettingOf unambiguous_setting) 3 x y a b c d p q is in
+    let (same, bytes) = unambiguous_tagged AreSettingsOf unambiguous_settings 3 x y a b c d p q is in
     (ap Settings same, bytes)
 unambiguous_part x y a b c d p q is = let tags = other_tags _ _ a b c d p q is in absurd cc
 
@@ -93,6 +96,9 @@ one_set_to (Some value) = one_tagged 1 (IsValueOf value) (one_value value)
 one_setting : OneSpelling IsSettingOf
 one_setting setting a b all all' p q = one_then (IsTextOf setting.key) (IsSetTo setting.value) (one_text setting.key) (one_set_to setting.value) a b all all' p.parts q.parts
 
+one_settings : OneSpelling AreSettingsOf
+one_settings settings a b all all' p q = one_list IsSettingOf one_setting settings a b all all' p.listed q.listed
+
 pub one_enlisted : (enlistment manager : Id) (information : List ℕ) → HasOne (IsRecordOf enlistment manager information)
 one_enlisted enlistment manager information =
     one_then (IsIdOf enlistment) _ (one_id enlistment) (one_then (IsIdOf manager) (IsTextOf information) (one_id manager) (one_text information))
@@ -100,7 +106,7 @@ one_enlisted enlistment manager information =
 pub one_part : OneSpelling IsPartOf
 one_part (Enlistment enlistment manager information) = one_tagged 1 _ (one_enlisted enlistment manager information)
 one_part (Changes changes) = one_tagged 2 _ (one_list IsChangeOf one_change changes)
-one_part (Settings settings) = one_tagged 3 _ (one_list IsSettingOf one_setting settings)
+one_part (Settings settings) = one_tagged 3 _ (one_settings settings)
 
 pub one_sole : OneSpelling IsSoleOf
 one_sole part a b all all' p q = one_part part a b all all' (sole_is_part part a p) (sole_is_part part b q)

@@ -18,7 +18,7 @@ use Rattle.ktm_world.specs.declared.event.DonePart.{DonePart}
 use Rattle.ktm_world.specs.declared.event.DonePart.TheVariants.{Files, Keys}
 use Rattle.ktm_world.specs.declared.event.Event.{Event}
 use Rattle.ktm_world.specs.declared.event.Event.TheVariants.{Boot, MadeRm, Plain, Ready, Single, Held, Decide, Undo}
-use Rattle.ktm_world.specs.EventGrammar.{IsIdOf, IsSetTo, IsSettingOf, IsPutOf, IsCutOf, IsChangeOf, IsRecordOf, IsPartOf, IsSoleOf, IsDoneOf, IsEventOf, IsGroupOf}
+use Rattle.ktm_world.specs.EventGrammar.{IsIdOf, IsSetTo, IsSettingOf, AreSettingsOf, IsPutOf, IsCutOf, IsChangeOf, IsRecordOf, IsPartOf, IsSoleOf, IsDoneOf, IsEventOf, IsGroupOf}
 use Rattle.ktm_event.specs.Spelling.{IsSpellableId, IsSpellableSetting, AreSpellableSettings, IsSpellableContents, IsSpellableChange, AreSpellableChanges, IsSpellableRecord, IsSpellablePart, IsSpellableSole, IsSpellableDone, IsSpellableEvent, AreSpellableEvents}
 
 -- what a spelling in bytes shows, one behind the other
@@ -82,10 +82,10 @@ changes_show changes bytes all is =
     let (few, each) = list_shows IsChangeOf IsSpellableChange change_shows changes bytes all is in
     record { few = few; each = All-from_recursion IsSpellableChange changes each }
 
-settings_show : (settings : List (Keyed (Option (List ℕ)))) → Shows (IsListOf IsSettingOf settings) (AreSpellableSettings settings)
+settings_show : (settings : List (Keyed (Option (List ℕ)))) → Shows (AreSettingsOf settings) (AreSpellableSettings settings)
 settings_show settings bytes all is =
-    let (few, each) = list_shows IsSettingOf IsSpellableSetting setting_shows settings bytes all is in
-    record { few = few; each = All-from_recursion IsSpellableSetting settings each }
+    let (few, each) = list_shows IsSettingOf IsSpellableSetting setting_shows settings bytes all is.listed in
+    record { rising = is.rising; few = few; each = All-from_recursion IsSpellableSetting settings each }
 
 record_shows : (enlistment manager : Id) (information : List ℕ) → Shows (IsRecordOf enlistment manager information) (IsSpellableRecord enlistment manager information)
 record_shows enlistment manager information bytes all is =

@@ -1,5 +1,5 @@
 -- Which events and groups have bytes.
-use Rattle.std.specs.Prelude.{◌≡◌, ℕ, ◌<◌, ◌≤◌, ◌^◌, List, [], length, Option, All, IfSome}
+use Rattle.std.specs.Prelude.{◌≡◌, ℕ, ◌<◌, ◌≤◌, ◌^◌, List, [], length, Option, All, IfSome, IsTrue}
 use Rattle.ktm_base.specs.declared.id.Id.{Id}
 use Rattle.ktm_world.specs.declared.change.Change.{Change}
 use Rattle.ktm_world.specs.declared.change.Change.TheVariants.{Make, Put, Cut, Move, Drop}
@@ -12,6 +12,7 @@ use Rattle.ktm_world.specs.declared.event.DonePart.{DonePart}
 use Rattle.ktm_world.specs.declared.event.DonePart.TheVariants.{Files, Keys}
 use Rattle.ktm_world.specs.declared.event.Event.{Event}
 use Rattle.ktm_world.specs.declared.event.Event.TheVariants.{Boot, MadeRm, Plain, Ready, Single, Held, Decide, Undo}
+use Rattle.ktm_world.specs.Keyed.{is_rising}
 use Rattle.ktm_world.specs.Values.{IsText}
 
 -- an Id's numbers are at least 1
@@ -25,8 +26,9 @@ pub record IsSpellableSetting (setting : Keyed (Option (List ℕ))) : Type 0 whe
   pub short_key : length setting.key < 2 ^ 8
   pub short_value : IfSome setting.value (λ bytes. length bytes < 2 ^ 16)
 
--- their count fits four bytes
+-- their keys rise, and their count fits four bytes
 pub record AreSpellableSettings (settings : List (Keyed (Option (List ℕ)))) : Type 0 where
+  pub rising : IsTrue (is_rising settings)
   pub few : length settings < 2 ^ 32
   pub each : All IsSpellableSetting settings
 

@@ -69,7 +69,8 @@ impl Events {
 
     /// How many bytes more of events there is room for.
     pub fn spare(&self) -> usize
-        ensures { result ≡ self.now.spare }
+        ensures spare { result ≡ self.now.spare }
+        ensures small { result < 2 ^ 32 }
     {
         4 + self.room - self.bytes.len()
     }

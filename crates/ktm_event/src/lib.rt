@@ -11,6 +11,7 @@ pub mod kept;
 mod laws;
 mod part;
 mod setting;
+mod size;
 #[cfg(test)]
 mod tests;
 
@@ -18,3 +19,4 @@ pub use event::{read_event, write_event};
 pub use fault::EventFault;
 pub use group::{read_group, write_boot, write_group, write_single};
 pub use laws::{law_of_events, law_of_groups, law_of_kept_events, law_of_round_trip};
+pub use size::{event_size, work_size};

@@ -2,7 +2,7 @@
 ghost use Rattle.std.specs.Prelude.{◌≡◌, ◌+◌, ◌<◌, ◌≤◌, ◌^◌, length, sum_by, IfSome, OnErr, OnOk, vec_len, vec_capacity};
 ghost use Rattle.ktm_base.specs.Grammar.{IsListOf};
 ghost use Rattle.ktm_codec.specs.Spans.{Adds};
-ghost use Rattle.ktm_world.specs.EventGrammar.{IsSetTo, IsSettingOf};
+ghost use Rattle.ktm_world.specs.EventGrammar.{AreSettingsOf, IsSetTo, IsSettingOf};
 ghost use Rattle.ktm_world.specs.Sizes.{set_to_size, setting_size};
 ghost use Rattle.ktm_event.specs.Reading.{Gives};
 ghost use Rattle.ktm_event.specs.Spelling.{AreSpellableSettings, IsSpellableSetting};
@@ -11,6 +11,7 @@ use crate::EventFault;
 use crate::field::{count_at, key_at, tag_at};
 use ktm_base::{Bytes, NoMemory};
 use ktm_codec::{put_text, put_u8, put_u32, put_value, value_at};
+use ktm_world::keyed::is_rising;
 use ktm_world::{Setting, Settings};
 use std::alloc::Global;
 
@@ -43,11 +44,8 @@ fn setting_at(alloc: Global, bytes: &[u8], at: usize) -> Result<(Setting, usize)
     Ok((Setting { key, value }, end))
 }
 
-pub(crate) fn settings_at(
-    alloc: Global,
-    bytes: &[u8],
-    at: usize,
-) -> Result<(Settings, usize), EventFault>
+// A list of settings in any order.
+fn list_at(alloc: Global, bytes: &[u8], at: usize) -> Result<(Settings, usize), EventFault>
     ensures { Gives (IsListOf IsSettingOf) bytes.now at result }
 {
     let (count, start) = count_at(bytes, at)?;
@@ -59,6 +57,20 @@ pub(crate) fn settings_at(
         end = next;
     }
     Ok((Settings::new(settings), end))
+}
+
+pub(crate) fn settings_at(
+    alloc: Global,
+    bytes: &[u8],
+    at: usize,
+) -> Result<(Settings, usize), EventFault>
+    ensures { Gives AreSettingsOf bytes.now at result }
+{
+    let (settings, end) = list_at(alloc, bytes, at)?;
+    if !is_rising(settings.as_slice()) {
+        return Err(EventFault::NotAnEvent);
+    }
+    Ok((settings, end))
 }
 
 // Each function below writes at the end, and takes no memory where there is room for what it writes.
@@ -95,7 +107,7 @@ fn put_setting(out: &mut Vec<u8>, setting: &Setting) -> Result<(), NoMemory>
 
 pub(crate) fn put_settings(out: &mut Vec<u8>, settings: &[Setting]) -> Result<(), NoMemory>
     requires { AreSpellableSettings settings.now }
-    ensures adds { OnOk result (Adds (IsListOf IsSettingOf settings.now) out.old.items out.new.items) }
+    ensures adds { OnOk result (Adds (AreSettingsOf settings.now) out.old.items out.new.items) }
     ensures len { OnOk result (vec_len out.new ≡ vec_len out.old + 4 + sum_by setting_size settings.now) }
     ensures room { vec_capacity out.old ≤ vec_capacity out.new }
     ensures full { OnErr result (vec_capacity out.old < vec_len out.old + 4 + sum_by setting_size settings.now) }

@@ -4,8 +4,8 @@ ghost use Rattle.ktm_event.specs.Spelling.{AreSpellableSettings, IsSpellableEven
 
 use crate::kept::Events;
 use crate::{
-    EventFault, law_of_round_trip, read_event, read_group, write_boot, write_event, write_group,
-    write_single,
+    EventFault, event_size, law_of_round_trip, read_event, read_group, work_size, write_boot,
+    write_event, write_group, write_single,
 };
 use ktm_base::{Bytes, Id, NoMemory, Text};
 use ktm_world::{Change, DonePart, Event, NodeKind, Part, Setting, Settings};
@@ -166,7 +166,7 @@ fn each_kind_is_read(rt: HostRuntime) -> Result<(), Fail> {
 
 #[test]
 fn no_events(rt: HostRuntime) {
-    let spellings: [(&[u8], &str); 20] = [
+    let spellings: [(&[u8], &str); 22] = [
         (b"", "nothing"),
         (b"\0\x01\0\0\0", "tag 0"),
         (b"\x0a\x01\0\0\0\x01\0\0\0", "tag 10"),
@@ -218,6 +218,14 @@ fn no_events(rt: HostRuntime) {
         (
             b"\x05\x01\0\0\0\x01\0\0\0\x03\x01\0\0\0\x01\"\0",
             "a quotation mark in a key",
+        ),
+        (
+            b"\x05\x01\0\0\0\x01\0\0\0\x03\x02\0\0\0\x01l\0\x01k\0",
+            "keys that fall",
+        ),
+        (
+            b"\x05\x01\0\0\0\x01\0\0\0\x03\x02\0\0\0\x01k\0\x01k\0",
+            "a key twice",
         ),
         (b"\x09\x01\0\0\0\x01\0\0\0\x04", "done 4"),
     ];
@@ -289,6 +297,27 @@ fn events_that_are_kept(rt: HostRuntime) -> Result<(), Fail> {
         events.payload(),
         b"\x01\0\0\0\x04\x01\0\0\0\x01\0\0\0\x03\0\0\0\0".as_slice()
     );
+    Ok(())
+}
+
+// Adds an event, where there is room for it.
+fn push_within_room(events: &mut Events, event: &Event) -> bool
+    requires { IsSpellableEvent event.now }
+{
+    let fits = event_size(event) <= events.spare();
+    if fits {
+        events.push(event);
+    }
+    fits
+}
+
+#[test]
+fn room_for_events(rt: HostRuntime) -> Result<(), Fail> {
+    let event = Event::Boot { boot: 2 };
+    let mut events = Events::new(rt.alloc(), 5)?;
+    assert!(rt; push_within_room(&mut events, &event));
+    assert!(rt; !push_within_room(&mut events, &event));
+    assert_eq!(rt; work_size(true, &[Change::Drop { node: 3 }], &[]), 23);
     Ok(())
 }
 

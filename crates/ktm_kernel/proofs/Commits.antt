@@ -31,7 +31,8 @@ use Rattle.ktm_world.specs.Transactions.{transaction_at}
 use Rattle.ktm_built.specs.Forms.{commit_events, with_commit}
 use Rattle.ktm_built.specs.Spelling.{IsShortSetting}
 use Rattle.ktm_built.specs.Standing.{IsBuiltNow, IsStandingNow}
-use Rattle.ktm_kernel.proofs.Assumed.{forms_law, named_law, events_law}
+use Rattle.ktm_built.proofs.Forms.{forms_law, named_law}
+use Rattle.ktm_built.proofs.Now.{events_law}
 use Rattle.ktm_world.specs.Sizes.{log_size}
 use Rattle.ktm_world.specs.Logs.{Group, as_groups}
 use Rattle.ktm_world.proofs.SizeLemmas.{size_law}
@@ -47,6 +48,7 @@ pub spellable : (x : Present) (t : Transaction) → IsStandingNow x → transact
 spellable x t standing there units =
     let short = events_law.1 x t standing there in
     record {
+      rising = short.rising;
       few = omega (arith, short.few);
       each = All-weaker IsShortSetting IsSpellableSetting
           (λ s within. record { text = within.text; short_key = omega (arith, within.short_key); short_value = short_value-of s.value within.short_value })

@@ -5,7 +5,7 @@ use Rattle.ktm_base.specs.declared.id.Label.{Label}
 use Rattle.ktm_base.specs.declared.id.Pid.{Pid}
 use Rattle.ktm_base.specs.declared.refusal.Refusal.{Refusal}
 use Rattle.ktm_built.specs.Standing.{IsBuiltNow}
-use Rattle.ktm_kernel.proofs.Assumed.{forms_law}
+use Rattle.ktm_built.proofs.Forms.{forms_law}
 use Rattle.ktm_kernel.specs.Answered.{Answered}
 use Rattle.ktm_world.specs.declared.command.Command.{Command}
 use Rattle.ktm_world.specs.declared.reply.Reply.TheVariants.{Refused}

@@ -7,4 +7,3 @@ pub mod Ready
 pub mod Commits
 pub mod Restarts
 pub mod StartAgain
-pub mod Assumed

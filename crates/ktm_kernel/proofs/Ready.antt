@@ -23,7 +23,8 @@ use Rattle.ktm_built.specs.Standing.{IsStandingNow}
 use Rattle.ktm_kernel.specs.Answered.{Answered}
 use Rattle.ktm_kernel.specs.Done.{Ends}
 use Rattle.ktm_kernel.specs.Stands.{KernelState, IsPowered, IsReady}
-use Rattle.ktm_kernel.proofs.Assumed.{decided_law, now_law}
+use Rattle.ktm_built.proofs.Decided.{decided_law}
+use Rattle.ktm_built.proofs.Now.{now_law}
 
 -- what is so then is as it is to be, where the machine is up then
 pub ends_standing : (is_down : Bool) (old new : KernelState) (process : Pid) (command : Command) (reply : Reply) (before now : Option DiskState)

@@ -29,7 +29,7 @@ use Rattle.ktm_world.proofs.BuiltStates.{built_log, built_stand, own_is, within_
 use Rattle.ktm_world.proofs.Durables.{stand-append, log_applies-append}
 use Rattle.ktm_world.proofs.SizeLemmas.{size_law, log_size-append}
 use Rattle.ktm_built.specs.Standing.{IsStanding, IsStandingNow}
-use Rattle.ktm_kernel.proofs.Assumed.{opened_law}
+use Rattle.ktm_built.proofs.Worlds.{opened_law}
 use Rattle.ktm_kernel.specs.Memory.{fresh}
 use Rattle.ktm_kernel.specs.Restarts.{HoldsBoth, base_of, is_full_for_own, Started, LeavesOwnOrNot}
 use Rattle.ktm_kernel.specs.Stands.{KernelState, IsReady}

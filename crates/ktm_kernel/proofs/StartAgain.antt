@@ -18,7 +18,7 @@ use Rattle.ktm_world.specs.Sizes.{log_size}
 use Rattle.ktm_world.specs.World.{World, present, own_group, opened, in_doubt, possible_logs, interrupted_restart, found_full, is_full_to_open}
 use Rattle.ktm_world.specs.Built.{is_built_log}
 use Rattle.ktm_world.proofs.BuiltStates.{built_stand}
-use Rattle.ktm_kernel.proofs.Assumed.{fallen_law}
+use Rattle.ktm_built.proofs.Worlds.{fallen_law}
 use Rattle.ktm_world.specs.Logs.{Group, down, is_up}
 use Rattle.ktm_world.specs.Transcript.{Step, interrupted, found, full, RestartDoes, StartDoes}
 use Rattle.ktm_world.proofs.Durables.{stand-units}

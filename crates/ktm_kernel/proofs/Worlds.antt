@@ -33,7 +33,9 @@ use Rattle.ktm_world.proofs.Durables.{after_events-events, log_applies-append, l
 use Rattle.ktm_built.specs.Standing.{IsBuiltNow, IsStanding}
 use Rattle.ktm_kernel.specs.Stands.{KernelState, Began, Stands, HasFallen, StandsBy, KernelAt, LeavesPossible, DoesLine}
 use Rattle.ktm_kernel.specs.Done.{FewEvents, IsDone, IsCutOff, Ends, LeavesWithOr, fallen}
-use Rattle.ktm_kernel.proofs.Assumed.{decided_law, events_law, now_law, lawful_law, fallen_law}
+use Rattle.ktm_built.proofs.Decided.{decided_law}
+use Rattle.ktm_built.proofs.Now.{events_law, now_law}
+use Rattle.ktm_built.proofs.Worlds.{lawful_law, fallen_law}
 use Rattle.ktm_kernel.proofs.Left.{both_apply, both_built, log_is_possible, left_up}
 use Rattle.ktm_kernel.proofs.Possible.{log_possible, groups_possible}
 

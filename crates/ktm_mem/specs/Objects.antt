@@ -1,5 +1,7 @@
 -- What a source, a sink and a block in memory tell, and which of their calls fail.
-use Rattle.std.specs.Prelude.{ℕ, List, drop}
+use Rattle.std.specs.Prelude.{◌≡◌, ℕ, List, drop, Result}
+use Rattle.ktm_base.specs.declared.fault.Failed.{Failed}
+use Rattle.ktm_mem.specs.Schedule.{after_call, faults_after}
 use Rattle.ktm_mem.specs.declared.schedule.Schedule.{Schedule}
 use Rattle.ktm_mem.specs.declared.source.MemSource.{MemSource}
 use Rattle.ktm_mem.specs.declared.sink.MemSink.{MemSink}
@@ -36,3 +38,9 @@ block_room b = b.room
 -- which calls of a block fail
 abbrev pub block_schedule : MemBlock → Schedule
 block_schedule b = b.schedule
+
+-- what a call of a block does beside its bytes: it is counted, and so is its failure; the room stays
+pub record BlockCall {T : Type 0} (old new : MemBlock) (result : Result T Failed) : Type 0 where
+  pub schedule : new.schedule ≡ after_call old.schedule
+  pub faults : new.faults ≡ faults_after result old.faults
+  pub room : new.room ≡ old.room

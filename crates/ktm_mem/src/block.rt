@@ -1,5 +1,5 @@
 // A block device in memory.
-ghost use Rattle.std.specs.Prelude.{◌≡◌, ◌≤◌, ◌+◌, ◌||◌, ℕ, List, Some, [], ◌∷◌, length, IfOk, OnOk, OnErr, is_err, nat_lt, vec_capacity, slice_range, max};
+ghost use Rattle.std.specs.Prelude.{◌≡◌, ◌≤◌, ◌+◌, ◌||◌, ℕ, List, Some, true, false, [], ◌∷◌, length, IfOk, OnOk, OnErr, is_err, nat_lt, vec_capacity, slice_range, max};
 ghost use Rattle.ktm_base.specs.Told.{IfTold, Goes};
 ghost use Rattle.ktm_base.specs.Bytes.{written, SameOutside, GrewTo, GrewTowards};
 ghost use Rattle.ktm_base.specs.Stream.{Faults};
@@ -16,6 +16,7 @@ pub struct MemBlock {
     bytes: Vec<u8>,
     room: usize,
     schedule: Schedule,
+    waits: bool,
     faults: u64,
     ghost within: { length bytes.items ≤ room },
     ghost taken: { room ≤ vec_capacity bytes },
@@ -30,6 +31,7 @@ impl MemBlock {
         ensures contents { IfOk result (λ block. contents_of block ≡ bytes) }
         ensures room { IfOk result (λ block. block_room block ≡ room) }
         ensures schedule { IfOk result (λ block. block_schedule block ≡ record { fails = fails; calls = 0 }) }
+        ensures waits { IfOk result (λ block. block.waits ≡ false) }
     {
         let mut bytes = bytes.into_vec();
         bytes.reserve(room - bytes.len())?;
@@ -37,6 +39,7 @@ impl MemBlock {
             bytes,
             room,
             schedule: Schedule::new(fails),
+            waits: false,
             faults: 0,
         })
     }
@@ -47,19 +50,30 @@ impl MemBlock {
     {
         &self.bytes
     }
+
+    /// Whether anything that was written or added waits to be flushed.
+    pub fn waits(&self) -> bool
+        ensures { result ≡ self.now.waits }
+    {
+        self.waits
+    }
 }
 
 impl Block for MemBlock {
-    ghost use Rattle.ktm_mem.specs.Objects.{contents_of, block_room, block_schedule};
+    ghost use Rattle.ktm_mem.specs.Objects.{contents_of, block_room, block_schedule, BlockCall};
 
     ghost contents = { λ b. Some (contents_of b) };
 
     ghost faults = { λ b. b.faults };
 
+    ghost waits = { λ b. b.waits };
+
     fn len(&mut self) -> Result<u64, Failed>
         ensures value { IfOk result (λ n. n ≡ length (contents_of self.old)) }
         ensures same { Some (contents_of self.new) ≡ Some (contents_of self.old) }
+        ensures waits { self.new.waits ≡ self.old.waits }
         ensures faults { Faults self.old.faults self.new.faults result }
+        ensures call { BlockCall self.old self.new result }
         ensures fails { is_err result ≡ fails_next (block_schedule self.old) }
     {
         self.begin_call()?;
@@ -70,7 +84,9 @@ impl Block for MemBlock {
         requires { at + length buf.old ≤ length (contents_of self.old) }
         ensures value { OnOk result (buf.new ≡ slice_range (contents_of self.old) at (at + length buf.old)) }
         ensures same { Some (contents_of self.new) ≡ Some (contents_of self.old) }
+        ensures waits { self.new.waits ≡ self.old.waits }
         ensures faults { Faults self.old.faults self.new.faults result }
+        ensures call { BlockCall self.old self.new result }
         ensures fails { is_err result ≡ fails_next (block_schedule self.old) }
     {
         self.begin_call()?;
@@ -83,9 +99,12 @@ impl Block for MemBlock {
         requires { at + length bytes.now ≤ length (contents_of self.old) }
         ensures ok { OnOk result (contents_of self.new ≡ written (contents_of self.old) at bytes.now) }
         ensures err { OnErr result (contents_of self.new ≡ contents_of self.old) }
+        ensures waits { self.new.waits ≡ true }
         ensures faults { Faults self.old.faults self.new.faults result }
+        ensures call { BlockCall self.old self.new result }
         ensures fails { is_err result ≡ fails_next (block_schedule self.old) }
     {
+        self.waits = true;
         self.begin_call()?;
         put_over(&mut self.bytes, at as usize, bytes);
         Ok(())
@@ -93,18 +112,26 @@ impl Block for MemBlock {
 
     fn flush(&mut self) -> Result<(), Failed>
         ensures same { Some (contents_of self.new) ≡ Some (contents_of self.old) }
+        ensures ok { OnOk result (self.new.waits ≡ false) }
+        ensures err { OnErr result (self.new.waits ≡ self.old.waits) }
         ensures faults { Faults self.old.faults self.new.faults result }
+        ensures call { BlockCall self.old self.new result }
         ensures fails { is_err result ≡ fails_next (block_schedule self.old) }
     {
-        self.begin_call()
+        self.begin_call()?;
+        self.waits = false;
+        Ok(())
     }
 
     fn ensure(&mut self, len: u64) -> Result<(), Failed>
         ensures ok { OnOk result (GrewTo len (contents_of self.old) (contents_of self.new)) }
         ensures err { OnErr result (contents_of self.new ≡ contents_of self.old) }
+        ensures waits { self.new.waits ≡ true }
         ensures faults { Faults self.old.faults self.new.faults result }
+        ensures call { BlockCall self.old self.new result }
         ensures fails { is_err result ≡ (fails_next (block_schedule self.old) || nat_lt (block_room self.old) len) }
     {
+        self.waits = true;
         self.begin_call()?;
         if len > self.room as u64 {
             return Err(self.fault());
@@ -115,15 +142,16 @@ impl Block for MemBlock {
 }
 
 impl MemBlock {
-    ghost use Rattle.ktm_mem.specs.Objects.{contents_of, block_room, block_schedule};
+    ghost use Rattle.ktm_mem.specs.Objects.{contents_of, block_room, block_schedule, BlockCall};
     ghost use Rattle.ktm_base.specs.Count.{raised};
 
     // Counts a call, and a fault where it fails.
     fn begin_call(&mut self) -> Result<(), Failed>
         ensures fails { is_err result ≡ fails_next (block_schedule self.old) }
         ensures faults { Faults self.old.faults self.new.faults result }
+        ensures call { BlockCall self.old self.new result }
         ensures bytes { self.new.bytes ≡ self.old.bytes }
-        ensures room { self.new.room ≡ self.old.room }
+        ensures waits { self.new.waits ≡ self.old.waits }
     {
         if self.schedule.next_fails() {
             return Err(self.fault());
@@ -133,10 +161,8 @@ impl MemBlock {
 
     // Counts a fault.
     fn fault(&mut self) -> Failed
-        ensures faults { self.new.faults ≡ raised self.old.faults }
+        ensures faults { self.new ≡ record self.old { faults = raised self.old.faults } }
         ensures later { self.old.faults ≤ self.new.faults }
-        ensures bytes { self.new.bytes ≡ self.old.bytes }
-        ensures room { self.new.room ≡ self.old.room }
     {
         self.faults = self.faults.saturating_add(1);
         Failed

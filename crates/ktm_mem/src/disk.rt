@@ -13,8 +13,8 @@ use std::alloc::Global;
 /// The most writes between two syncs.
 const MOST_PENDING: usize = 64;
 
-/// Keeps its bytes, and grows within its room. It goes down at the first call that fails, and stays down. A call that
-/// it refuses changes none of its bytes.
+/// Keeps its bytes. It goes down at the first call that fails, or that asks for a length beyond its room, and stays down.
+/// A call that it refuses changes none of its bytes.
 #[derive(Drop)]
 pub struct MemDisk {
     bytes: Vec<u8>,
@@ -24,6 +24,8 @@ pub struct MemDisk {
     room: u64,
     supply: Supply,
     ghost within: { length bytes.items ≤ room },
+    ghost no_shorter: { shortest ≤ length bytes.items },
+    ghost no_longer: { length bytes.items ≤ longest },
     ghost room_taken: { room ≤ vec_capacity bytes },
     ghost places_taken: { 64 ≤ vec_capacity dirty },
 }
@@ -66,20 +68,35 @@ impl MemDisk {
 }
 
 impl Disk for MemDisk {
-    ghost use Rattle.ktm_mem.specs.DiskInMemory.{state_of, status_of, disk_room, disk_schedule};
+    ghost use Rattle.ktm_mem.specs.DiskInMemory.{state_of, status_of, disk_room, refuses_next, DiskCall};
 
     ghost told = { λ d. Some (state_of d) };
 
     ghost status = { status_of };
 
-    fn len(&mut self) -> Result<u64, Down> {
+    fn len(&mut self) -> Result<u64, Down>
+        ensures value { IfOk result (λ n. n ≡ length (state_of self.old).seen) }
+        ensures same { Some (state_of self.new) ≡ Some (state_of self.old) }
+        ensures pending { (status_of self.new).pending ≡ (status_of self.old).pending }
+        ensures call { DeviceCall (status_of self.old) (status_of self.new) (is_err result) }
+        ensures fails { is_err result ≡ refuses_next self.old }
+        ensures after { DiskCall self.old self.new (is_err result) }
+    {
         if let Err(Down) = self.supply.begin_call() {
             return Err(Down);
         }
         Ok(self.bytes.len() as u64)
     }
 
-    fn read_at(&mut self, at: u64, buf: &mut [u8]) -> Result<(), Down> {
+    fn read_at(&mut self, at: u64, buf: &mut [u8]) -> Result<(), Down>
+        requires { at + length buf.old ≤ length (state_of self.old).seen }
+        ensures value { OnOk result (buf.new ≡ slice_range (state_of self.old).seen at (at + length buf.old)) }
+        ensures same { Some (state_of self.new) ≡ Some (state_of self.old) }
+        ensures pending { (status_of self.new).pending ≡ (status_of self.old).pending }
+        ensures call { DeviceCall (status_of self.old) (status_of self.new) (is_err result) }
+        ensures fails { is_err result ≡ refuses_next self.old }
+        ensures after { DiskCall self.old self.new (is_err result) }
+    {
         if let Err(Down) = self.supply.begin_call() {
             return Err(Down);
         }
@@ -88,7 +105,17 @@ impl Disk for MemDisk {
         Ok(())
     }
 
-    fn write_at(&mut self, at: u64, bytes: &[u8]) -> Result<(), Down> {
+    fn write_at(&mut self, at: u64, bytes: &[u8]) -> Result<(), Down>
+        requires within { at + length bytes.now ≤ length (state_of self.old).seen }
+        requires room { (status_of self.old).pending < 64 }
+        ensures ok { OnOk result (Wrote at bytes.now (state_of self.old) (state_of self.new)) }
+        ensures err { OnErr result ((status_of self.old).is_down ≡ false → WriteRefused at (length bytes.now) (state_of self.old) (state_of self.new)) }
+        ensures frozen { IsTrue (status_of self.old).is_down → Some (state_of self.new) ≡ Some (state_of self.old) }
+        ensures pending { (status_of self.old).is_down ≡ false → (status_of self.new).pending ≡ (status_of self.old).pending + 1 }
+        ensures call { DeviceCall (status_of self.old) (status_of self.new) (is_err result) }
+        ensures fails { is_err result ≡ refuses_next self.old }
+        ensures after { DiskCall self.old self.new (is_err result) }
+    {
         let was_down = self.supply.is_down;
         let begun = self.supply.begin_call();
         if !was_down {
@@ -101,7 +128,14 @@ impl Disk for MemDisk {
         Ok(())
     }
 
-    fn sync(&mut self) -> Result<(), Down> {
+    fn sync(&mut self) -> Result<(), Down>
+        ensures ok { OnOk result (Synced (state_of self.old) (state_of self.new)) }
+        ensures err { OnErr result (Some (state_of self.new) ≡ Some (state_of self.old)) }
+        ensures pending { (status_of self.new).pending ≡ (if is_ok result then 0 else (status_of self.old).pending) }
+        ensures call { DeviceCall (status_of self.old) (status_of self.new) (is_err result) }
+        ensures fails { is_err result ≡ refuses_next self.old }
+        ensures after { DiskCall self.old self.new (is_err result) }
+    {
         if let Err(Down) = self.supply.begin_call() {
             return Err(Down);
         }
@@ -111,7 +145,15 @@ impl Disk for MemDisk {
         Ok(())
     }
 
-    fn ensure(&mut self, len: u64) -> Result<(), Down> {
+    fn ensure(&mut self, len: u64) -> Result<(), Down>
+        ensures ok { OnOk result (Grew len (state_of self.old) (state_of self.new)) }
+        ensures err { OnErr result ((status_of self.old).is_down ≡ false → GrowthRefused len (state_of self.old) (state_of self.new)) }
+        ensures frozen { IsTrue (status_of self.old).is_down → Some (state_of self.new) ≡ Some (state_of self.old) }
+        ensures pending { (status_of self.new).pending ≡ (status_of self.old).pending }
+        ensures call { DeviceCall (status_of self.old) (status_of self.new) (is_err result) }
+        ensures fails { is_err result ≡ (refuses_next self.old || nat_lt (disk_room self.old) len) }
+        ensures after { DiskCall self.old self.new (is_err result) }
+    {
         let was_down = self.supply.is_down;
         let begun = self.supply.begin_call();
         if !was_down {
@@ -126,4 +168,6 @@ impl Disk for MemDisk {
         grow(&mut self.bytes, len as usize);
         Ok(())
     }
+
+    ghost lengths = { λ d. record { no_shorter = d.no_shorter; no_longer = d.no_longer } };
 }

@@ -1,7 +1,7 @@
 // A sink in memory.
 ghost use Rattle.std.specs.Prelude.{◌≡◌, ◌≤◌, ◌+◌, ◌||◌, Some, [], length, IfOk, is_err, nat_lt, vec_capacity};
 ghost use Rattle.ktm_base.specs.Stream.{Writes, Faults, TakesSome};
-ghost use Rattle.ktm_mem.specs.Schedule.{fails_next};
+ghost use Rattle.ktm_mem.specs.Schedule.{fails_next, after_call, faults_after};
 
 use crate::contents::put_behind;
 use crate::schedule::{Calls, Schedule};
@@ -56,6 +56,9 @@ impl Sink for MemSink {
         ensures writes { Writes (Some (taken_of self.old)) (Some (taken_of self.new)) result bytes.now }
         ensures some { TakesSome result bytes.now (self.old.faults) (self.new.faults) }
         ensures faults { Faults (self.old.faults) (self.new.faults) result }
+        ensures counts { self.new.faults ≡ faults_after result self.old.faults }
+        ensures schedule { sink_schedule self.new ≡ after_call (sink_schedule self.old) }
+        ensures room { sink_room self.new ≡ sink_room self.old }
         ensures fails { is_err result ≡ (fails_next (sink_schedule self.old)
             || nat_lt (sink_room self.old) (length (taken_of self.old) + length bytes.now)) }
         ensures whole { IfOk result (λ n. n ≡ length bytes.now) }

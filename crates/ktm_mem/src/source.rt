@@ -2,7 +2,7 @@
 ghost use Rattle.std.specs.Prelude.{◌≡◌, ◌≤◌, Some, length, drop, IfOk, is_err, min};
 ghost use Rattle.ktm_base.specs.Count.{raised};
 ghost use Rattle.ktm_base.specs.Stream.{Reads, Faults};
-ghost use Rattle.ktm_mem.specs.Schedule.{fails_next};
+ghost use Rattle.ktm_mem.specs.Schedule.{fails_next, after_call, faults_after};
 
 use crate::schedule::{Calls, Schedule};
 use ktm_base::{Bytes, Failed, Source};
@@ -44,6 +44,8 @@ impl Source for MemSource {
         ensures count { IfOk result (λ n. n ≤ length buf.old) }
         ensures reads { Reads (Some (left_of self.old)) (Some (left_of self.new)) result buf.new }
         ensures faults { Faults (self.old.faults) (self.new.faults) result }
+        ensures counts { self.new.faults ≡ faults_after result self.old.faults }
+        ensures schedule { source_schedule self.new ≡ after_call (source_schedule self.old) }
         ensures fails { is_err result ≡ fails_next (source_schedule self.old) }
         ensures whole { IfOk result (λ n. n ≡ min (length (left_of self.old)) (length buf.old)) }
     {

@@ -16,12 +16,12 @@ pub struct Supply {
 }
 
 impl Supply {
-    ghost use Rattle.ktm_mem.specs.PowerSupply.{status_with};
+    ghost use Rattle.ktm_mem.specs.PowerSupply.{status_with, supply_after};
 
     /// Begins a device call, and is down from the first one on that fails.
     pub fn begin_call(&mut self) -> Result<(), Down>
         ensures down { is_err result ≡ (self.old.is_down || fails_next self.old.schedule) }
-        ensures counted { self.new.schedule ≡ record self.old.schedule { calls = raised self.old.schedule.calls } }
+        ensures after { self.new ≡ supply_after self.old (is_err result) }
         ensures call { (before after : ℕ) → (IsTrue self.old.is_down → after ≡ before)
             → DeviceCall (status_with self.old before) (status_with self.new after) (is_err result) }
     {

@@ -1,5 +1,5 @@
 -- How the failures of the system are counted.
-use Rattle.std.specs.Prelude.{ℕ, Result, Ok, Err}
+use Rattle.std.specs.Prelude.{◌≡◌, ℕ, Result, Ok, Err}
 use Rattle.ktm_base.specs.declared.fault.Failed.{Failed}
 use Rattle.ktm_base.specs.Count.{raised}
 
@@ -12,3 +12,7 @@ answer_of (Err error) = Err (record {})
 abbrev pub counted : {T : Type 0} → Result T Failed → ℕ → ℕ
 counted (Ok value) faults = faults
 counted (Err failed) faults = raised faults
+
+-- one failure more
+abbrev pub IsOneMore : ℕ → ℕ → Type 0
+IsOneMore before now = now ≡ raised before

@@ -1,3 +1,4 @@
 -- What the edges to the system keep.
 pub mod Count
 pub mod File
+pub mod ImageFile

@@ -1,40 +1,59 @@
 // A block device over a file.
-ghost use Rattle.std.specs.Prelude.{◌≡◌, ◌≤◌, None};
+ghost use Rattle.std.specs.Prelude.{◌≡◌, ◌≤◌, ◌+◌, true, false, [], ◌∷◌, length, slice_range, IfOk, OnOk, OnErr};
+ghost use Rattle.ktm_base.specs.Bytes.{written, SameOutside, GrewTo, GrewTowards};
 ghost use Rattle.ktm_base.specs.Stream.{Faults};
-ghost use Rattle.ktm_os.specs.Count.{counted};
+ghost use Rattle.ktm_base.specs.Told.{IfTold, Goes};
+ghost use Rattle.ktm_os.specs.Count.{counted, IsOneMore};
 ghost use Rattle.ktm_os.specs.File.{to_change};
 
 use crate::count::count_failure;
+use crate::image::Image;
+use crate::image_file::ImageFile;
 use crate::late_file::LateFile;
 use ktm_base::{Block, Failed};
-use std::fs::{OpenFile, OpenOptions};
-use std::io::{self, Read, Seek, SeekFrom, Write};
+use std::fs::{File, OpenOptions};
 use std::rt::Files;
 
-/// A block device in a file, which is opened at the first call, and made, empty, where there is none. A range that passes
-/// the file's end is a failure.
+/// A block device in a file, which nobody else changes. A range that passes the file's end is a failure.
 #[derive(Drop)]
-pub struct FileBlock<R: Files> {
-    image: Image<R>,
+pub struct FileBlock<F: ImageFile> {
+    image: Image<F>,
     faults: u64,
 }
 
-impl<R: Files + Drop> FileBlock<R> {
-    pub fn new(rt: R, path: String) -> FileBlock<R>
+impl<R: Files<File = File>> FileBlock<LateFile<R>> {
+    /// In the file of this path, which is opened at the first call, and made, empty, where there is none.
+    pub fn new(rt: R, path: String) -> FileBlock<LateFile<R>>
         ensures faults { result.faults ≡ 0 }
         ensures rt { result.image.file.rt ≡ rt }
         ensures path { result.image.file.path ≡ path }
         ensures how { result.image.file.how ≡ to_change }
+        ensures waits { result.image.waits ≡ true }
     {
         let mut how = OpenOptions::new();
         how.read(true).write(true).create(true);
+        FileBlock::over(LateFile::new(rt, path, how))
+    }
+}
+
+impl<F: ImageFile> FileBlock<F> {
+    /// In this file. What is found in it may wait for a sync, since its writer may have been stopped.
+    pub fn over(file: F) -> FileBlock<F>
+        ensures faults { result.faults ≡ 0 }
+        ensures file { result.image.file ≡ file }
+        ensures waits { result.image.waits ≡ true }
+    {
         FileBlock {
-            image: Image {
-                file: LateFile::new(rt, path, how),
-                is_folder_synced: false,
-            },
+            image: Image::new(file),
             faults: 0,
         }
+    }
+
+    /// The file below.
+    pub fn file(&self) -> &F
+        ensures { result.now ≡ self.now.image.file }
+    {
+        &self.image.file
     }
 
     /// How often it failed.
@@ -45,94 +64,75 @@ impl<R: Files + Drop> FileBlock<R> {
     }
 }
 
-impl<R: Files + Drop> Block for FileBlock<R> {
-    ghost contents = { λ _. None };
+impl<F: ImageFile> Block for FileBlock<F> {
+    ghost contents = { λ b. F.contents b.image.file };
 
     ghost faults = { λ b. b.faults };
 
+    ghost waits = { λ b. b.image.waits };
+
     fn len(&mut self) -> Result<u64, Failed>
+        ensures value { IfOk result (λ n. IfTold (F.contents self.old.image.file) (λ bytes. n ≡ length bytes)) }
+        ensures same { F.contents self.new.image.file ≡ F.contents self.old.image.file }
+        ensures waits { self.new.image.waits ≡ self.old.image.waits }
         ensures faults { Faults self.old.faults self.new.faults result }
         ensures counts { self.new.faults ≡ counted result self.old.faults }
+        ensures answered { OnOk result (F.failures self.new.image.file ≡ F.failures self.old.image.file) }
+        ensures failed { OnErr result (Goes IsOneMore (F.failures self.old.image.file) (F.failures self.new.image.file)) }
     {
         count_failure(self.image.len(), &mut self.faults)
     }
 
     fn read_at(&mut self, at: u64, buf: &mut [u8]) -> Result<(), Failed>
+        requires { IfTold (F.contents self.old.image.file) (λ bytes. at + length buf.old ≤ length bytes) }
+        ensures value { OnOk result (IfTold (F.contents self.old.image.file) (λ bytes. buf.new ≡ slice_range bytes at (at + length buf.old))) }
+        ensures same { F.contents self.new.image.file ≡ F.contents self.old.image.file }
+        ensures waits { self.new.image.waits ≡ self.old.image.waits }
         ensures faults { Faults self.old.faults self.new.faults result }
         ensures counts { self.new.faults ≡ counted result self.old.faults }
+        ensures answered { OnOk result (F.failures self.new.image.file ≡ F.failures self.old.image.file) }
+        ensures failed { OnErr result (IfTold (F.contents self.old.image.file) (λ _. Goes IsOneMore (F.failures self.old.image.file) (F.failures self.new.image.file))) }
     {
         count_failure(self.image.read_at(at, buf), &mut self.faults)
     }
 
     fn write_at(&mut self, at: u64, bytes: &[u8]) -> Result<(), Failed>
+        requires { IfTold (F.contents self.old.image.file) (λ old. at + length bytes.now ≤ length old) }
+        ensures ok { OnOk result (Goes (λ old new. new ≡ written old at bytes.now) (F.contents self.old.image.file) (F.contents self.new.image.file)) }
+        ensures err { OnErr result (Goes (SameOutside ((at, length bytes.now) ∷ [])) (F.contents self.old.image.file) (F.contents self.new.image.file)) }
+        ensures waits { self.new.image.waits ≡ true }
         ensures faults { Faults self.old.faults self.new.faults result }
         ensures counts { self.new.faults ≡ counted result self.old.faults }
+        ensures answered { OnOk result (F.failures self.new.image.file ≡ F.failures self.old.image.file) }
+        ensures failed { OnErr result (IfTold (F.contents self.old.image.file) (λ _. Goes IsOneMore (F.failures self.old.image.file) (F.failures self.new.image.file))) }
     {
         count_failure(self.image.write_at(at, bytes), &mut self.faults)
     }
 
+    /// Where nothing waits the file is not called.
     fn flush(&mut self) -> Result<(), Failed>
+        ensures same { F.contents self.new.image.file ≡ F.contents self.old.image.file }
+        ensures kept { OnOk result ((F.is_synced self.new.image.file ≡ true) × (F.is_name_synced self.new.image.file ≡ true)) }
+        ensures ok { OnOk result (self.new.image.waits ≡ false) }
+        ensures err { OnErr result (self.new.image.waits ≡ self.old.image.waits) }
+        ensures idle { self.old.image.waits ≡ false → self.new.image ≡ self.old.image }
         ensures faults { Faults self.old.faults self.new.faults result }
         ensures counts { self.new.faults ≡ counted result self.old.faults }
+        ensures answered { OnOk result (F.failures self.new.image.file ≡ F.failures self.old.image.file) }
+        ensures failed { OnErr result (Goes IsOneMore (F.failures self.old.image.file) (F.failures self.new.image.file)) }
     {
         count_failure(self.image.flush(), &mut self.faults)
     }
 
     fn ensure(&mut self, len: u64) -> Result<(), Failed>
+        ensures ok { OnOk result (Goes (GrewTo len) (F.contents self.old.image.file) (F.contents self.new.image.file)) }
+        ensures err { OnErr result (Goes (GrewTowards len) (F.contents self.old.image.file) (F.contents self.new.image.file)) }
+        ensures waits { self.new.image.waits ≡ true }
         ensures faults { Faults self.old.faults self.new.faults result }
         ensures counts { self.new.faults ≡ counted result self.old.faults }
+        ensures answered { OnOk result (F.failures self.new.image.file ≡ F.failures self.old.image.file) }
+        ensures failed { OnErr result (Goes IsOneMore (F.failures self.old.image.file) (F.failures self.new.image.file)) }
     {
         count_failure(self.image.ensure(len), &mut self.faults)
-    }
-}
-
-/// The file of a block. What its calls do to the bytes no clause says.
-#[derive(Drop)]
-struct Image<R: Files> {
-    file: LateFile<R>,
-    is_folder_synced: bool,
-}
-
-impl<R: Files + Drop> Image<R> {
-    fn len(&mut self) -> io::Result<u64> {
-        Ok(self.file.get()?.metadata()?.len())
-    }
-
-    /// The file at the start of a range that lies within it.
-    fn at_range(&mut self, at: u64, len: usize) -> io::Result<&mut R::File> {
-        let file = self.file.get()?;
-        match at.checked_add(len as u64) {
-            Some(end) if end <= file.metadata()?.len() => {
-                file.seek(SeekFrom::Start(at))?;
-                Ok(file)
-            }
-            _ => Err(io::ErrorKind::UnexpectedEof.into()),
-        }
-    }
-
-    fn read_at(&mut self, at: u64, buf: &mut [u8]) -> io::Result<()> {
-        self.at_range(at, buf.len())?.read_exact(buf)
-    }
-
-    fn write_at(&mut self, at: u64, bytes: &[u8]) -> io::Result<()> {
-        self.at_range(at, bytes.len())?.write_all(bytes)
-    }
-
-    /// The first flush also makes the name of the file stay, which may have been made since.
-    fn flush(&mut self) -> io::Result<()> {
-        self.file.get()?.sync_all()?;
-        if !self.is_folder_synced {
-            self.file.sync_folder()?;
-            self.is_folder_synced = true;
-        }
-        Ok(())
-    }
-
-    fn ensure(&mut self, len: u64) -> io::Result<()> {
-        let file = self.file.get()?;
-        if file.metadata()?.len() < len {
-            file.set_len(len)?;
-        }
-        Ok(())
     }
 }

@@ -1,22 +1,28 @@
 // A file that is opened at its first use.
-ghost use Rattle.std.specs.Prelude.{◌≡◌, None};
+ghost use Rattle.std.specs.Prelude.{◌≡◌, ◌<ℤ◌, pos, None, IfOk, true};
+ghost use Rattle.std.specs.Option.{ForSome};
+ghost use Rattle.std.specs.Fd.{file_raw_fd};
 ghost use Rattle.ktm_os.specs.File.{folder_of};
 
-use std::fs::{File, OpenFile, OpenOptions};
+use crate::image_file::ImageFile;
+use std::fs::{File, OpenOptions};
 use std::io;
+use std::os::fd::AsRawFd;
+use std::os::unix::fs::FileExt;
 use std::path::Path;
 use std::rt::Files;
 
 /// A file by its path, which is opened at its first use. Where that fails the next use tries again.
 #[derive(Drop)]
-pub struct LateFile<R: Files> {
+pub struct LateFile<R> {
     rt: R,
     path: String,
     how: OpenOptions,
-    file: Option<R::File>,
+    file: Option<File>,
+    ghost apart: { ForSome file (λ f. pos 2 <ℤ file_raw_fd f) },
 }
 
-impl<R: Files + Drop> LateFile<R> {
+impl<R: Files<File = File>> LateFile<R> {
     pub fn new(rt: R, path: String, how: OpenOptions) -> LateFile<R>
         ensures rt { result.rt ≡ rt }
         ensures path { result.path ≡ path }
@@ -31,20 +37,70 @@ impl<R: Files + Drop> LateFile<R> {
         }
     }
 
-    pub fn get(&mut self) -> io::Result<&mut R::File> {
+    pub fn get(&mut self) -> io::Result<&File>
+        ensures apart { IfOk result (λ file. pos 2 <ℤ file_raw_fd file.now) }
+    {
         if self.file.is_none() {
-            self.file = Some(self.how.open(&self.rt, self.path.as_str())?);
+            self.file = Some(open_apart(&self.rt, &self.how, self.path.as_str())?);
         }
-        match &mut self.file {
+        match &self.file {
             Some(file) => Ok(file),
             None => Err(io::ErrorKind::NotFound.into()),
         }
     }
+}
 
-    /// Makes the name of the file stay.
-    pub fn sync_folder(&self) -> io::Result<()> {
-        File::open(&self.rt, folder_of(self.path.as_str()))?.sync_all()
+/// It tells nothing, since no contract can say what a file holds or the system keeps.
+impl<R: Files<File = File>> ImageFile for LateFile<R> {
+    ghost contents = { λ _. None };
+
+    ghost failures = { λ _. None };
+
+    ghost is_synced = { λ _. true };
+
+    ghost is_name_synced = { λ _. true };
+
+    fn len(&mut self) -> io::Result<u64> {
+        Ok(self.get()?.metadata()?.len())
     }
+
+    fn read(&mut self, at: u64, buf: &mut [u8]) -> io::Result<()> {
+        self.get()?.read_exact_at(buf, at)
+    }
+
+    fn write(&mut self, at: u64, bytes: &[u8]) -> io::Result<()> {
+        self.get()?.write_all_at(bytes, at)
+    }
+
+    fn grow(&mut self, len: u64) -> io::Result<()> {
+        self.get()?.set_len(len)
+    }
+
+    fn sync(&mut self) -> io::Result<()> {
+        self.get()?.sync_data()
+    }
+
+    fn sync_folder(&mut self) -> io::Result<()> {
+        let mut how = OpenOptions::new();
+        how.read(true);
+        open_apart(&self.rt, &how, folder_of(self.path.as_str()))?.sync_all()
+    }
+}
+
+/// Opens a file apart from standard input, output and error: where one of these is closed, the system gives its number
+/// to the next file that is opened, and what is printed would come into that file.
+fn open_apart<R: Files<File = File>>(rt: &R, how: &OpenOptions, path: &str) -> io::Result<File>
+    ensures { IfOk result (λ file. pos 2 <ℤ file_raw_fd file) }
+{
+    let file = how.open(rt, path)?;
+    if file.as_raw_fd() > 2 {
+        return Ok(file);
+    }
+    let copy = file.try_clone()?;
+    if copy.as_raw_fd() > 2 {
+        return Ok(copy);
+    }
+    Err(io::ErrorKind::Unsupported.into())
 }
 
 /// The folder of a file. It is the current one where the path is a name alone.

@@ -1,10 +1,12 @@
-//! The outside of the program: a source and a block device over files, and a sink over standard output. They tell no
-//! contents, since no contract can say what a file holds: what is proved of them is that each failure is counted, and
-//! nothing else is.
+//! The outside of the program: a source over a file, a block device over a file, and a sink over standard output. Each
+//! failure is counted, and nothing else is. No contract can say what a file of the system holds; but what a block asks of
+//! its file, and what it makes of the answers, is proved over any file.
 #![tactic(auto)]
 
 mod block;
 mod count;
+mod image;
+mod image_file;
 mod late_file;
 mod sink;
 mod source;
@@ -12,5 +14,6 @@ mod source;
 mod tests;
 
 pub use block::FileBlock;
+pub use image_file::ImageFile;
 pub use sink::StdSink;
 pub use source::FileSource;

@@ -7,7 +7,8 @@ use crate::count::count_failure;
 use ktm_base::{Failed, Sink};
 use std::io::{self, Print};
 
-/// Standard output. Each write is one call of the system and waits in no buffer.
+/// Standard output. Each write is one call of the system and waits in no buffer; one of no bytes too, which fails where
+/// standard output is closed.
 #[derive(Drop)]
 pub struct StdSink<R> {
     rt: R,

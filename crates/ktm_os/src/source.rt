@@ -7,18 +7,18 @@ ghost use Rattle.ktm_os.specs.File.{to_read};
 use crate::count::count_failure;
 use crate::late_file::LateFile;
 use ktm_base::{Failed, Source};
-use std::fs::OpenOptions;
+use std::fs::{File, OpenOptions};
 use std::io::{self, Read};
 use std::rt::Files;
 
 /// The bytes of a file, from its start on. It is opened at the first read.
 #[derive(Drop)]
-pub struct FileSource<R: Files> {
+pub struct FileSource<R> {
     file: LateFile<R>,
     faults: u64,
 }
 
-impl<R: Files + Drop> FileSource<R> {
+impl<R: Files<File = File>> FileSource<R> {
     pub fn new(rt: R, path: String) -> FileSource<R>
         ensures faults { result.faults ≡ 0 }
         ensures rt { result.file.rt ≡ rt }
@@ -41,7 +41,7 @@ impl<R: Files + Drop> FileSource<R> {
     }
 }
 
-impl<R: Files + Drop> Source for FileSource<R> {
+impl<R: Files<File = File>> Source for FileSource<R> {
     ghost left = { λ _. None };
 
     ghost faults = { λ s. s.faults };
@@ -55,8 +55,9 @@ impl<R: Files + Drop> Source for FileSource<R> {
     }
 }
 
-fn read_some<R: Files + Drop>(file: &mut LateFile<R>, buf: &mut [u8]) -> io::Result<usize>
+fn read_some<R: Files<File = File>>(file: &mut LateFile<R>, buf: &mut [u8]) -> io::Result<usize>
     ensures { IfOk result (λ n. n ≤ length buf.old) }
 {
-    file.get()?.read(buf)
+    let mut file = file.get()?;
+    file.read(buf)
 }

@@ -122,35 +122,43 @@ bytes_at text = do
   bytes ← unhex_or_dash (word_from [] rest).0
   Some (bytes, (word_from [] rest).1)
 
--- the values that are told apart by their words
+-- the kinds of access
 abbrev pub accesses : List Access
 accesses = access.Read ∷ access.Write ∷ access.ReadWrite ∷ []
 
+-- the share modes
 abbrev pub shares : List ShareMode
 shares = share.Nothing ∷ share.Read ∷ share.Write ∷ share.ReadWrite ∷ []
 
+-- the dispositions
 abbrev pub dispositions : List Disposition
 dispositions = disposition.CreateNew ∷ disposition.CreateAlways ∷ disposition.OpenExisting ∷ disposition.OpenAlways ∷ disposition.TruncateExisting ∷ []
 
+-- the durabilities
 abbrev pub durabilities : List Durability
 durabilities = durability.Volatile ∷ durability.Durable ∷ []
 
+-- the kinds of enlistment
 abbrev pub kinds : List EnlistmentKind
 kinds = kind.Plain ∷ kind.PrePrepare ∷ kind.SinglePhase ∷ kind.Both ∷ kind.Superior ∷ []
 
--- each is read by its word, behind a space
+-- an access, by its word behind a space
 unfoldable pub access_at : List ℕ → Option (Access × List ℕ)
 access_at text = one_of access_spelling accesses text
 
+-- a share mode, by its word behind a space
 unfoldable pub share_at : List ℕ → Option (ShareMode × List ℕ)
 share_at text = one_of share_spelling shares text
 
+-- a disposition, by its word behind a space
 unfoldable pub disposition_at : List ℕ → Option (Disposition × List ℕ)
 disposition_at text = one_of disposition_spelling dispositions text
 
+-- a durability, by its word behind a space
 unfoldable pub durability_at : List ℕ → Option (Durability × List ℕ)
 durability_at text = one_of durability_spelling durabilities text
 
+-- a kind of enlistment, by its word behind a space
 unfoldable pub kind_at : List ℕ → Option (EnlistmentKind × List ℕ)
 kind_at text = one_of kind_spelling kinds text
 

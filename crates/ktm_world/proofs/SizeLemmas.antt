@@ -16,7 +16,7 @@ use Rattle.ktm_world.specs.declared.change.Contents.{Contents}
 use Rattle.ktm_world.specs.declared.change.Contents.TheVariants.{Whole, Paged}
 use Rattle.ktm_world.specs.declared.change.NodeKind.{NodeKind}
 use Rattle.ktm_world.specs.declared.change.NodeKind.TheVariants.{File, Directory}
-use Rattle.ktm_world.specs.EventGrammar.{IsIdOf, IsSetTo, IsSettingOf, IsKindOf, IsPutOf, IsCutOf, IsChangeOf, IsRecordOf, IsPartOf, IsSoleOf, IsDoneOf, IsEventOf}
+use Rattle.ktm_world.specs.EventGrammar.{IsIdOf, IsSetTo, IsSettingOf, AreSettingsOf, IsKindOf, IsPutOf, IsCutOf, IsChangeOf, IsRecordOf, IsPartOf, IsSoleOf, IsDoneOf, IsEventOf}
 use Rattle.ktm_world.specs.SizeLaw.{SizeLaw}
 use Rattle.ktm_world.specs.Sizes.{set_to_size, setting_size, put_size, change_size, record_size, part_size, done_size, event_size, frame_size, log_size}
 
@@ -98,12 +98,15 @@ length-record enlistment manager information bytes is =
     (λ second more. length-then 8 (1 + length information) _ _ second (length-id manager) (length-text information) more ∙ omega arith) is
     ∙ omega arith
 
+length-settings : (settings : List (Keyed (Option (List ℕ)))) (bytes : List ℕ) → AreSettingsOf settings bytes → length bytes ≡ 4 + sum_by setting_size settings
+length-settings settings bytes is = length-list IsSettingOf setting_size length-setting settings bytes is.listed
+
 length-part : (part : Part) (bytes : List ℕ) → IsPartOf part bytes → length bytes ≡ part_size part
 length-part (Enlistment enlistment manager information) bytes is = length-tagged 1 (record_size information) _ bytes (length-record enlistment manager information) is
 length-part (Changes changes) bytes is =
     length-tagged 2 (4 + sum_by change_size changes) _ bytes (length-list IsChangeOf change_size length-change changes) is ∙ omega arith
 length-part (Settings settings) bytes is =
-    length-tagged 3 (4 + sum_by setting_size settings) _ bytes (length-list IsSettingOf setting_size length-setting settings) is ∙ omega arith
+    length-tagged 3 (4 + sum_by setting_size settings) _ bytes (length-settings settings) is ∙ omega arith
 
 length-sole : (part : Part) (bytes : List ℕ) → IsSoleOf part bytes → length bytes ≡ part_size part
 length-sole (Enlistment enlistment manager information) bytes is = absurd is

@@ -1,5 +1,5 @@
 -- How events stand in bytes.
-use Rattle.std.specs.Prelude.{◌≡◌, ℕ, ◌≤◌, List, [], ◌∷◌, Option, Some, None}
+use Rattle.std.specs.Prelude.{◌≡◌, ℕ, ◌≤◌, IsTrue, List, [], ◌∷◌, Option, Some, None}
 use Rattle.ktm_base.specs.declared.id.Id.{Id}
 use Rattle.ktm_base.specs.Grammar.{IsU8, IsU32, IsU64, Then, Tagged, IsTextOf, IsValueOf, IsBytesOf, IsListOf}
 use Rattle.ktm_world.specs.declared.event.Keyed.{Keyed}
@@ -15,6 +15,7 @@ use Rattle.ktm_world.specs.declared.change.Contents.{Contents}
 use Rattle.ktm_world.specs.declared.change.Contents.TheVariants.{Whole, Paged}
 use Rattle.ktm_world.specs.declared.change.NodeKind.{NodeKind}
 use Rattle.ktm_world.specs.declared.change.NodeKind.TheVariants.{File, Directory}
+use Rattle.ktm_world.specs.Keyed.{is_rising}
 use Rattle.ktm_world.specs.Values.{IsText}
 
 -- an Id is its boot and its number, each at least 1
@@ -32,6 +33,11 @@ IsSetTo (Some value) = Tagged 1 (IsValueOf value)
 pub record IsSettingOf (setting : Keyed (Option (List ℕ))) (bytes : List ℕ) : Type 0 where
   pub text : IsText setting.key
   pub parts : Then (IsTextOf setting.key) (IsSetTo setting.value) bytes
+
+-- the settings of a part are a list by rising key: no key stands twice
+pub record AreSettingsOf (settings : List (Keyed (Option (List ℕ)))) (bytes : List ℕ) : Type 0 where
+  pub rising : IsTrue (is_rising settings)
+  pub listed : IsListOf IsSettingOf settings bytes
 
 -- what a node is: 0 for a file, 1 for a directory
 abbrev pub IsKindOf : NodeKind → List ℕ → Type 0
@@ -65,7 +71,7 @@ IsRecordOf enlistment manager information = Then (IsIdOf enlistment) (Then (IsId
 abbrev pub IsPartOf : Part → List ℕ → Type 0
 IsPartOf (Enlistment enlistment manager information) = Tagged 1 (IsRecordOf enlistment manager information)
 IsPartOf (Changes changes) = Tagged 2 (IsListOf IsChangeOf changes)
-IsPartOf (Settings settings) = Tagged 3 (IsListOf IsSettingOf settings)
+IsPartOf (Settings settings) = Tagged 3 (AreSettingsOf settings)
 
 -- the part of a transaction that has this one alone: no enlistment's
 abbrev pub IsSoleOf : Part → List ℕ → Type 0

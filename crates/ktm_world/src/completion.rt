@@ -5,7 +5,7 @@ ghost use Rattle.ktm_world.specs.Completions.{completion_of};
 use crate::Command;
 use ktm_base::Label;
 
-/// A call that is promised to be answered whatever memory there is: it is asked on the way to the end of a transaction.
+/// A call on the way to the end of a transaction, with the label that it names.
 #[derive(Clone, Copy, Debug, PartialEq, Eq)]
 pub enum Completion {
     CommitTransaction(Label),

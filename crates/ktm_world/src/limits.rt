@@ -1,11 +1,10 @@
 // The limits on keys and values, and on settings that are recorded.
 ghost use Rattle.std.specs.Prelude.{◌≡◌, ◌==◌, not};
 ghost use Rattle.std.specs.List.{list_all};
-ghost use Rattle.ktm_world.specs.Keyed.{comes_first, is_rising};
 ghost use Rattle.ktm_world.specs.Keys.{is_bad_key, is_bad_value, is_bad_set_to, is_good_setting, are_good_settings};
 
-use crate::keyed::is_before;
-use crate::{Keyed, Setting};
+use crate::Setting;
+use crate::keyed::is_rising;
 use ktm_base::{Bytes, Text};
 
 /// The longest key, in bytes.
@@ -39,26 +38,6 @@ fn is_good_setting(setting: &Setting) -> bool
     ensures { result ≡ is_good_setting setting.now }
 {
     !is_bad_key(&setting.key) && !is_bad_set_to(&setting.value)
-}
-
-fn comes_first<V>(key: &[u8], items: &[Keyed<V>]) -> bool
-    ensures { result ≡ comes_first key.now items.now }
-{
-    match items.first() {
-        Some(item) => is_before(key, item.key.as_slice()),
-        None => true,
-    }
-}
-
-fn is_rising<V>(items: &[Keyed<V>]) -> bool
-    ensures { result ≡ is_rising items.now }
-{
-    for (i, item) in items.iter().enumerate() {
-        if !comes_first(item.key.as_slice(), &items[i + 1..]) {
-            return false;
-        }
-    }
-    true
 }
 
 fn all_are_good(settings: &[Setting]) -> bool

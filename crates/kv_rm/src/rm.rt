@@ -1,5 +1,5 @@
 // The manager.
-ghost use Rattle.std.specs.Prelude.{◌≡◌, ◌≤◌, ℕ, List, [], Some, None, IfOk, OnOk, OnErr, IsOk, length, nat_lt};
+ghost use Rattle.std.specs.Prelude.{◌≡◌, ◌+◌, ◌-◌, ◌≤◌, ℕ, List, [], Some, None, IfOk, OnOk, OnErr, IsOk, length, nat_lt, vec_len, vec_capacity};
 ghost use Rattle.std.specs.Option.{option_copied};
 ghost use Rattle.ktm_world.specs.Keys.{own_settings, with_own, without_own, value_seen, is_held_by_other, keys_used, changes_pending, stored_all, store_seen, keys_of};
 
@@ -35,7 +35,8 @@ impl Model for KvRm {
 impl KvRm {
     /// With these committed keys, which rise.
     pub fn with_store(alloc: Global, store: Vec<Entry>) -> Self
-        ensures { result.keys ≡ record { store = store.items; own = [] } }
+        ensures keys { result.keys ≡ record { store = store.items; own = [] } }
+        ensures room { result.room ≡ vec_capacity store - vec_len store }
     {
         KvRm {
             alloc,
@@ -120,6 +121,7 @@ impl KvRm {
     pub fn reserve(&mut self, transaction: Id) -> Result<(), NoMemory>
         ensures keys { self.new.keys ≡ self.old.keys }
         ensures room { OnOk result (length (own_settings self.old.keys.own transaction) ≤ self.new.room) }
+        ensures err { OnErr result (self.new.room ≡ self.old.room) }
         ensures succeeds { length (own_settings self.old.keys.own transaction) ≤ self.old.room → IsOk result }
         ensures grows { self.old.room ≤ self.new.room }
     {
@@ -131,7 +133,8 @@ impl KvRm {
     /// Makes the transaction's settings in the store, in order. It takes no memory.
     pub fn commit(&mut self, transaction: Id)
         requires { length (own_settings self.old.keys.own transaction) ≤ self.old.room }
-        ensures { self.new.keys ≡ record { store = stored_all self.old.keys.store (own_settings self.old.keys.own transaction); own = without_own self.old.keys.own transaction } }
+        ensures keys { self.new.keys ≡ record { store = stored_all self.old.keys.store (own_settings self.old.keys.own transaction); own = without_own self.old.keys.own transaction } }
+        ensures room { self.new.room + length self.new.keys.store ≡ self.old.room + length self.old.keys.store }
     {
         let settings = take_own(self.alloc, &mut self.own, transaction);
         make_all(&mut self.store, settings);

@@ -1,15 +1,9 @@
-use Rattle.std.proofs.Common.{◌≡◌, length}
-use Rattle.ktm_base.specs.Told.{Goes}
-use Rattle.ktm_cut.specs.Told.{length_at_sync}
-use Rattle.ktm_cut.specs.Left.{left_of}
 use Rattle.ktm_cut.proofs.Choices.{leaves}
-use Rattle.ktm_cut.proofs.Steps.{OnOk-any}
 use Rattle.ktm_cut.proofs.settle.settle.Goals as goal
 
 pub returns-clause-left : goal.returns-clause-left
 returns-clause-left g c =
-    OnOk-any c.flush.result (Goes (λ old new. new ≡ left_of c.args.pick c.args.ranges.now (length_at_sync c.args.grown_from (length old)) old) (g.B.Block.contents c.args.block.now) (g.B.Block.contents c.flush.new.self))
-    (rw (c.flush.ensures.same, ← c.len.ensures.same)
+    rw (c.flush.ensures.same, ← c.len.ensures.same)
     (leaves c.args.pick c.args.ranges.now c.args.grown_from c.seed_from_u64-words.result c.settle_ranges.new.words
     (g.B.Block.contents c.len.new.self) (g.B.Block.contents c.settle_ranges.new.block) (g.B.Block.contents c.settle_added.new.block)
-    c.seed_from_u64-words.ensures c.settle_ranges.ensures.contents c.in_ok-settle_ranges.ensures.left c.in_ok-settle_added.ensures.left))
+    c.seed_from_u64-words.ensures c.settle_ranges.ensures.contents c.in_ok-settle_ranges.ensures.left c.in_ok-settle_added.ensures.left)

@@ -1,25 +1,14 @@
-use Rattle.std.proofs.Common.{◌+◌, ◌<◌, length, ◌∙◌, ap, arith}
-use Rattle.std.proofs.lemmas.List.{length_push}
-use Rattle.ktm_codec.proofs.SpansLemmas.{row_push, list_no_count, list_cut, list_read}
-use Rattle.ktm_world.specs.EventGrammar.{IsSettingOf}
-use Rattle.ktm_event.proofs.Parts.{unambiguous_setting}
+use Rattle.std.proofs.Common.{sym, ◌∙◌, ap}
+use Rattle.ktm_world.specs.Keyed.{is_rising}
+use Rattle.ktm_event.proofs.PartReadings.{no_list, not_rising, settings_read}
 use Rattle.ktm_event.proofs.Readings.{passes}
 use Rattle.ktm_event.proofs.setting.settings_at.Goals as goal
 
-pub returns-in_err-count : goal.returns-in_err-count
-returns-in_err-count c = passes _ _ c.from_residual.ensures.1 c.in_err-count.ensures (λ absent. record { none = list_no_count IsSettingOf _ _ absent.none })
+pub returns-in_err-settings : goal.returns-in_err-settings
+returns-in_err-settings c = passes _ _ c.from_residual.ensures.1 c.in_err-settings.ensures no_list
 
-pub returns-in_err-setting : goal.returns-in_err-setting
-returns-in_err-setting c =
-    let fewer : length c.settings.settings.items < c.in_ok-count.count = omega arith in
-    passes _ _ c.from_residual-in_err-setting.ensures.1 c.in_err-setting.ensures
-    (λ absent. record { none = list_cut IsSettingOf _ _ _ _ c.in_ok-count.ensures unambiguous_setting _ _ c.settings.invariant.row fewer absent.none })
-
-pub settings-preserved : goal.settings-preserved
-settings-preserved c = record {
-  row = rw c.in_ok-push.ensures.items (row_push IsSettingOf _ _ _ _ _ _ c.settings.invariant.row c.in_ok-setting.ensures);
-  counted = ap length c.in_ok-push.ensures.items ∙ length_push _ _ ∙ ap (λ n. n + 1) c.settings.invariant.counted;
-}
+pub returns-then-not-is_rising : goal.returns-then-not-is_rising
+returns-then-not-is_rising c = not_rising _ c.in_ok-settings.ensures (ap is_rising (sym c.as_slice.ensures) ∙ sym c.is_rising.ensures ∙ c.if-not-is_rising.true)
 
 pub returns : goal.returns
-returns c = rw c.new.ensures (list_read IsSettingOf _ _ _ _ c.in_ok-count.ensures _ _ c.settings.invariant.row (omega arith))
+returns c = settings_read _ c.in_ok-settings.ensures (ap is_rising (sym c.as_slice.ensures) ∙ sym c.is_rising.ensures ∙ c.if-not-is_rising.false)

@@ -2,7 +2,8 @@ use Rattle.std.proofs.Common.{◌-◌, true, refl, length, Err, sym, ◌∙◌, 
 use Rattle.std.proofs.lemmas.Bool.{or_right}
 use Rattle.ktm_world.specs.Keys.{own_settings}
 use Rattle.ktm_built.specs.Forms.{with_commit}
-use Rattle.ktm_kernel.proofs.Assumed.{named_law, events_law}
+use Rattle.ktm_built.proofs.Forms.{named_law}
+use Rattle.ktm_built.proofs.Now.{events_law}
 use Rattle.ktm_kernel.specs.Done.{fallen}
 use Rattle.ktm_kernel.proofs.Commits.{spellable, left_is, fits_of_ok, fits_of_down, fits_left, full_of, few_of, counted_after, commit_done, commit_cut, commit_full, done_touches, cut_touches}
 use Rattle.ktm_kernel.proofs.kernel.Kernel.commit_transaction.Goals as goal

@@ -1,0 +1,1 @@
+../crates/ktm_examples/data/all_or_nothing.ktm
