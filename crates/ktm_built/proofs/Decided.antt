@@ -12,10 +12,10 @@ use Rattle.ktm_world.specs.declared.object.Transaction.{Transaction}
 use Rattle.ktm_world.specs.declared.reply.Reply.{Reply}
 use Rattle.ktm_world.specs.declared.reply.Reply.TheVariants.{Refused}
 use Rattle.ktm_world.specs.Built.{is_built_command}
-use Rattle.ktm_world.specs.Conflicts.{is_undecided}
 use Rattle.ktm_world.specs.Decide.{decide, with_room, refusal_of, command_tests, command_effect}
 use Rattle.ktm_world.specs.Enlistments.{is_ended}
-use Rattle.ktm_world.specs.Files.{without_own_changes}
+use Rattle.ktm_world.specs.Transactions.{is_undecided}
+use Rattle.ktm_world.specs.Files.{without_transaction}
 use Rattle.ktm_world.specs.Keys.{without_own}
 use Rattle.ktm_world.specs.KeyCalls.{reply_of_value}
 use Rattle.ktm_world.specs.Labels.{transaction_named}
@@ -48,7 +48,7 @@ quiet_is x process command none =
 -- ---- a command by itself stops no machine
 
 released_goes_on : (c : Course) (o : Outcome) → (released c o).stops ≡ o.stops
-released_goes_on c o = elim (is_undecided c.transaction) as (λ b. (cond b o (record o { forgotten = c.transaction.id ∷ []; table = record o.table { own = without_own_changes o.table.own c.transaction.id }; own = without_own o.own c.transaction.id })).stops ≡ o.stops) [ true ↦ refl | false ↦ refl ]
+released_goes_on c o = elim (is_undecided c.transaction) as (λ b. (cond b o (record o { forgotten = c.transaction.id ∷ []; table = without_transaction o.table c.transaction.id; own = without_own o.own c.transaction.id })).stops ≡ o.stops) [ true ↦ refl | false ↦ refl ]
 
 commit_goes_on : (x : Present) (t : Option Transaction) → (commit_transaction x t).stops ≡ false
 unfolding commit_transaction
@@ -117,7 +117,7 @@ value_not_down None e = cc
 value_not_down (Some value) e = cc
 
 released_says : (c : Course) (o : Outcome) → (released c o).reply ≡ o.reply
-released_says c o = elim (is_undecided c.transaction) as (λ b. (cond b o (record o { forgotten = c.transaction.id ∷ []; table = record o.table { own = without_own_changes o.table.own c.transaction.id }; own = without_own o.own c.transaction.id })).reply ≡ o.reply) [ true ↦ refl | false ↦ refl ]
+released_says c o = elim (is_undecided c.transaction) as (λ b. (cond b o (record o { forgotten = c.transaction.id ∷ []; table = without_transaction o.table c.transaction.id; own = without_own o.own c.transaction.id })).reply ≡ o.reply) [ true ↦ refl | false ↦ refl ]
 
 commit_reply_not_down : (c : Course) → commit_reply c ≡ Refused MachineDown → ⊥
 commit_reply_not_down c = go (is_ended c.transaction.phase)

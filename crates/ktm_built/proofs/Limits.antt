@@ -6,7 +6,8 @@ use Rattle.ktm_world.specs.Keys.{keys_used, changes_pending}
 use Rattle.ktm_world.specs.Limits.{most_live, most_handles, most_number}
 use Rattle.ktm_world.specs.Present.{Present}
 use Rattle.ktm_world.specs.Transactions.{is_live}
-use Rattle.ktm_world.specs.Uses.{units_used, nodes_used, file_changes_waiting, changes_waiting, key_room, is_over_quota, is_over_disk}
+use Rattle.ktm_world.specs.FileUses.{units_used, nodes_used, file_changes_waiting}
+use Rattle.ktm_world.specs.Uses.{changes_waiting, key_room, is_over_quota, is_over_disk}
 use Rattle.ktm_built.specs.Standing.{IsBuiltNow}
 use Rattle.ktm_built.proofs.Alone.{alone, by_alone}
 

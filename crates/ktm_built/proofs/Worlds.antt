@@ -16,7 +16,7 @@ use Rattle.ktm_world.specs.declared.object.Transaction.{Transaction}
 use Rattle.ktm_world.specs.Built.{is_built_command, is_built_log, IsBuiltState}
 use Rattle.ktm_world.specs.Changes.{apply_all}
 use Rattle.ktm_world.specs.Committed.{Committed, Work, with_work, committed_with}
-use Rattle.ktm_world.specs.Conflicts.{is_undecided, is_of}
+use Rattle.ktm_world.specs.Transactions.{is_undecided, is_of}
 use Rattle.ktm_world.specs.Decide.{decide, command_tests, refusal_of}
 use Rattle.ktm_world.specs.Durable.{Durable, stand, after_event, after_events, event_applies, events_apply}
 use Rattle.ktm_world.specs.Laws.{FirstOpensLieWithin}

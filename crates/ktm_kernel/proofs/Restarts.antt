@@ -22,7 +22,8 @@ use Rattle.ktm_world.specs.Durable.{Durable, empty_state, stand, fact_applies, f
 use Rattle.ktm_world.specs.Sizes.{frame_size, group_size, log_size}
 use Rattle.ktm_world.specs.Logs.{Group}
 use Rattle.ktm_world.specs.Outcome.{is_full as is_full_in}
-use Rattle.ktm_world.specs.Uses.{changes_waiting, file_changes_waiting, is_over_disk, is_over_quota, nodes_used, units_used}
+use Rattle.ktm_world.specs.FileUses.{file_changes_waiting, nodes_used, units_used}
+use Rattle.ktm_world.specs.Uses.{changes_waiting, is_over_disk, is_over_quota}
 use Rattle.ktm_world.specs.World.{own_group, opened, present}
 use Rattle.ktm_world.proofs.BuiltStates.{built_log, built_stand, own_is, within_built}
 use Rattle.ktm_world.proofs.Durables.{stand-append, log_applies-append}

@@ -110,8 +110,8 @@ few_within : (s : Durable) → is_within_limits s ≡ true → length s.keys ≤
 unfolding is_within_limits
 few_within s within =
     let few = leb-true (keys_in_use s) s.units
-        (third (nat_le (units_in_use s) s.units) (nat_le (nodes_in_use s) s.units) (nat_le (keys_in_use s) s.units) (nat_le (changes_in_wait s) s.units) (nat_le (length s.transactions) most_live)
-        (nat_le (enlistments_in_use s) most_live) (nat_le (length s.managers) most_live) within) in
+    (third (nat_le (units_in_use s) s.units) (nat_le (nodes_in_use s) s.units) (nat_le (keys_in_use s) s.units) (nat_le (changes_in_wait s) s.units) (nat_le (length s.transactions) most_live)
+    (nat_le (enlistments_in_use s) most_live) (nat_le (length s.managers) most_live) within) in
     omega (arith, few)
 
 after_event-keys : (s : Durable) (event : Event) → IsTrue (event_applies s event) → length (after_event s event).keys ≤ s.units

@@ -6,6 +6,7 @@ pub mod KeyLemmas
 pub mod Slots
 pub mod Stores
 pub mod Worlds
+mod FileLaws
 pub mod Texts
 pub mod Transcripts
 pub mod Computing

@@ -1,5 +1,5 @@
 -- What an outcome does to the history, and to what is so now.
-use Rattle.std.proofs.Common.{◌≡◌, ◌+◌, ◌-◌, ◌≤◌, ◌&&◌, not, Bool, true, false, List, [], ◌∷◌, ◌++◌, length, map, filter, All, None, Option, refl, sym, ◌∙◌, ap, subst, arith, inl, inr, length-append}
+use Rattle.std.proofs.Common.{◌≡◌, ◌-◌, ◌≤◌, ◌&&◌, not, Bool, true, false, List, [], ◌∷◌, ◌++◌, length, map, filter, All, None, Option, refl, sym, ◌∙◌, ap, subst, arith, inl, inr, length-append}
 use Rattle.std.proofs.Math.Bool.{and-true, and-false}
 use Rattle.std.proofs.Math.Seq.{take-append_seam}
 use Rattle.std.proofs.lemmas.Bool.{cases_Bool}
@@ -11,7 +11,7 @@ use Rattle.ktm_base.specs.declared.refusal.Refusal.TheVariants.{MachineDown}
 use Rattle.ktm_world.specs.declared.event.Event.{Event}
 use Rattle.ktm_world.specs.declared.reply.Reply.{Reply}
 use Rattle.ktm_world.specs.declared.reply.Reply.TheVariants.{Refused}
-use Rattle.ktm_world.specs.Outcome.{first_refusal, Outcome, apply, first_open, first_opens_after, is_forgotten, only_reply, refuse_or, served, within_log}
+use Rattle.ktm_world.specs.Outcome.{first_refusal, Outcome, apply, first_opens_after, is_forgotten, only_reply, refuse_or, served, within_log}
 use Rattle.ktm_world.specs.Sizes.{log_size}
 use Rattle.ktm_world.specs.Logs.{as_groups, is_up}
 use Rattle.ktm_world.proofs.SizeLemmas.{log_size-append}
@@ -19,7 +19,7 @@ use Rattle.ktm_world.specs.Committed.{committed_with, with_work}
 use Rattle.ktm_world.specs.Decide.{decide, command_effect}
 use Rattle.ktm_world.specs.Durable.{after_events}
 use Rattle.ktm_world.specs.Enlistments.{Manager}
-use Rattle.ktm_world.specs.Files.{FirstOpen}
+use Rattle.ktm_world.specs.Files.{FirstOpen, first_open}
 use Rattle.ktm_world.specs.TransactionCalls.{tick}
 use Rattle.ktm_world.specs.World.{World, ManagerPast, OpenedAfter, committed, decide_tick, extend, first_open_now, made_past, manager_now, opened_after, power_after, present, served_past}
 use Rattle.ktm_world.specs.Laws.{FirstOpensLaw, FirstOpensLieWithin, RefusalLaw, StepLaw}
@@ -49,7 +49,7 @@ map_filter f p q kept (x ∷ xs) = elim (cases_Bool (p x)) [
 ]
 
 -- a test that each element passes
-filter_all : {A : Type 0} (p : A → Bool) → ((x : A) → p x ≡ true) → (xs : List A) → filter p xs ≡ xs
+pub filter_all : {A : Type 0} (p : A → Bool) → ((x : A) → p x ≡ true) → (xs : List A) → filter p xs ≡ xs
 filter_all p pass [] = refl
 filter_all p pass (x ∷ xs) = rw (pass x) (ap (λ ys. x ∷ ys) (filter_all p pass xs))
 

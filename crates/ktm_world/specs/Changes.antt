@@ -1,5 +1,5 @@
 -- Changes of the tree: what each makes of it, and when it applies.
-use Rattle.std.specs.Prelude.{ℕ, ◌+◌, ◌^◌, ◌==◌, ◌&&◌, not, Bool, true, false, List, [], ◌∷◌, nat_lt, nat_le, Option, Some, None, is_none, max, fold, count_by}
+use Rattle.std.specs.Prelude.{ℕ, ◌+◌, ◌^◌, ◌==◌, ◌&&◌, not, Bool, true, false, List, [], ◌∷◌, nat_lt, nat_le, Option, Some, None, is_none, max, fold, if◌then◌else◌}
 use Rattle.std.specs.List.{list_any}
 use Rattle.ktm_world.specs.declared.change.Change.{Change}
 use Rattle.ktm_world.specs.declared.change.Change.TheVariants.{Make, Put, Cut, Move, Drop}
@@ -105,6 +105,7 @@ abbrev pub next_after : ℕ → Change → ℕ
 next_after next (Make node parent kind name) = max next (node + 1)
 next_after next _ = next
 
--- the nodes that a transaction made and did not drop
+-- the nodes that changes make and leave: each time that one is made, and not dropped behind that
 abbrev pub nodes_made : List Change → ℕ
-nodes_made changes = count_by (λ change. is_make change && not (list_any (λ other. is_drop other && node_of other == node_of change) changes)) changes
+nodes_made [] = 0
+nodes_made (change ∷ changes) = (if is_make change && not (list_any (λ later. is_drop later && node_of later == node_of change) changes) then 1 else 0) + nodes_made changes

@@ -9,12 +9,12 @@ use Rattle.ktm_world.specs.Keys.{Store, OwnSettings, stored_all}
 use Rattle.ktm_world.specs.Changes.{changed, node_of, changes_bytes, is_make_of_file, is_drop}
 use Rattle.ktm_world.specs.Tree.{Tree}
 
--- how many Puts and Cuts of a file were committed since the restart
+-- how many Puts and Cuts of a file that is there were committed since the restart
 pub record Version : Type 0 where
   pub file : ℕ
   pub count : ℕ
 
--- the committed files, the versions of those that were changed since the restart, and the committed keys
+-- the committed files, by rising number the versions of those whose bytes were changed since the restart, and the committed keys
 pub record Committed : Type 0 where
   pub tree : Tree
   pub versions : List Version
@@ -34,11 +34,19 @@ version_of (v ∷ vs) file = if v.file == file then v.count else version_of vs f
 -- a file has one version more
 abbrev pub raised_version : List Version → ℕ → List Version
 raised_version [] file = record { file = file; count = 1 } ∷ []
-raised_version (v ∷ vs) file = if v.file == file then record v { count = v.count + 1 } ∷ vs else v ∷ raised_version vs file
+raised_version (v ∷ vs) file =
+    if v.file == file then record v { count = v.count + 1 } ∷ vs else
+    (if nat_lt file v.file then record { file = file; count = 1 } ∷ v ∷ vs else v ∷ raised_version vs file)
 
--- the versions after a change: a Put or a Cut raises that of its file
+-- the versions but that of this file
+abbrev pub without_version : List Version → ℕ → List Version
+without_version versions file = filter (λ v. not (v.file == file)) versions
+
+-- the versions after a change: a Put or a Cut raises that of its file, and a file that is dropped has none
 abbrev pub versions_after : List Version → Change → List Version
-versions_after versions change = if changes_bytes change then raised_version versions (node_of change) else versions
+versions_after versions change =
+    if changes_bytes change then raised_version versions (node_of change) else
+    (if is_drop change then without_version versions (node_of change) else versions)
 
 -- a change is committed
 abbrev pub with_change : Committed → Change → Committed

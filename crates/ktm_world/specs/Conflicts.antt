@@ -1,15 +1,13 @@
 -- When a call is refused for another transaction, or for an open file's share mode.
-use Rattle.std.specs.Prelude.{ℕ, ◌==◌, ◌&&◌, ◌||◌, not, Bool, true, false, List, map, filter, Option, Some, None, is_none}
-use Rattle.std.specs.List.{list_any}
+use Rattle.std.specs.Prelude.{ℕ, ◌==◌, ◌&&◌, ◌||◌, not, Bool, true, false, List, [], ◌∷◌, ◌++◌, map, filter, Option, Some, None, is_some, is_none}
+use Rattle.std.specs.List.{list_any, flat_map}
 use Rattle.ktm_base.specs.declared.id.Id.{Id}
-use Rattle.ktm_world.specs.declared.object.Transaction.{Transaction}
-use Rattle.ktm_world.specs.declared.object.TransactionOutcome.TheVariants.{Undetermined, Committed, Aborted}
 use Rattle.ktm_world.specs.declared.options.Access.{Access}
 use Rattle.ktm_world.specs.declared.options.Access.TheVariants.{Read, Write, ReadWrite}
 use Rattle.ktm_world.specs.declared.options.ShareMode.{ShareMode}
-use Rattle.ktm_world.specs.Transactions.{same_id}
-use Rattle.ktm_world.specs.Files.{FilesNow, OpenFile, FirstOpen, own_changes, first_open_of, is_last_version}
-use Rattle.ktm_world.specs.Holds.{Holder, Act, meets, is_in, file_touched, file_changed, file_overwritten}
+use Rattle.ktm_world.specs.Transactions.{same_id, is_of}
+use Rattle.ktm_world.specs.Files.{FilesNow, FileTable, OpenFile, FirstOpen, own_changes, first_open_of, is_last_version}
+use Rattle.ktm_world.specs.Holds.{Holds, Act, holds_by, meets, is_in, file_touched, file_changed, file_overwritten}
 
 -- does the access include reading
 abbrev pub reads : Access → Bool
@@ -39,32 +37,27 @@ lets_write ShareMode.ReadWrite = true
 
 -- ---- undecided transactions
 
--- has the transaction no outcome yet
-abbrev pub is_undecided : Transaction → Bool
-is_undecided t = elim t.outcome as (λ _. Bool) [ Undetermined ↦ true | Committed ↦ false | Aborted ↦ false ]
-
--- does something belong to the transaction with this Id; what is plain belongs to none
-abbrev pub is_of : Id → Option Id → Bool
-is_of id None = false
-is_of id (Some other) = same_id id other
-
 -- the nodes of a transaction's open files that may be written
 abbrev pub written_by : List OpenFile → Id → List ℕ
 written_by opens id = map (λ o. o.node) (filter (λ o. is_of id o.transaction && writes o.access) opens)
 
--- a transaction with its changes of what is committed, and the nodes of its open files that may be written
-abbrev pub holder_of : FilesNow → Id → Holder
-holder_of files id = record { tree = files.tree; changes = own_changes files.table.own id; writes = written_by files.table.opens id }
+-- what a transaction holds of the files
+abbrev pub holds_now : FilesNow → Id → Holds
+holds_now files id = holds_by files.tree (own_changes files.table.own id) (written_by files.table.opens id)
 
--- the undecided transactions but this one
-abbrev pub others : List Transaction → Option Id → List Transaction
-others ts who = filter (λ t. is_undecided t && not (is_of t.id who)) ts
+-- the transaction in which a file is open, if it is in one
+abbrev pub opener : OpenFile → List Id
+opener o = elim o.transaction as (λ _. List Id) [ None ↦ [] | Some id ↦ id ∷ [] ]
+
+-- the undecided transactions that changed or opened anything
+abbrev pub users : FileTable → List Id
+users table = map (λ o. o.transaction) table.own ++ flat_map opener table.opens
 
 -- ---- conflicts
 
 -- does the call meet what another transaction holds
-abbrev pub meets_other : FilesNow → List Transaction → Option Id → Act → Bool
-meets_other files ts who act = list_any (λ t. meets (holder_of files t.id) act) (others ts who)
+abbrev pub meets_other : FilesNow → Option Id → Act → Bool
+meets_other files who act = list_any (λ id. not (is_of id who) && meets (holds_now files id) act) (users files.table)
 
 -- does a first open have a version that is not the last one of its file
 abbrev pub is_outdated : FilesNow → Option FirstOpen → Bool
@@ -81,15 +74,14 @@ abbrev pub touches_plain_writer : FilesNow → Option Id → Act → Bool
 touches_plain_writer files None act = false
 touches_plain_writer files (Some id) act = list_any (λ o. is_none o.transaction && writes o.access && is_in (file_touched act) o.node) files.table.opens
 
--- does a plain call write, empty or delete a file that an undecided transaction has open
-abbrev pub overwrites_opened : FilesNow → List Transaction → Option Id → Act → Bool
-overwrites_opened files ts None act = list_any (λ t. list_any (λ o. is_of t.id o.transaction && is_in (file_overwritten act) o.node) files.table.opens) (others ts None)
-overwrites_opened files ts (Some id) act = false
+-- does a plain call write, empty or delete a file that a transaction has open
+abbrev pub overwrites_opened : FilesNow → Option Id → Act → Bool
+overwrites_opened files None act = list_any (λ o. is_some o.transaction && is_in (file_overwritten act) o.node) files.table.opens
+overwrites_opened files (Some id) act = false
 
 -- is a call refused for another transaction, or for plain handles
-unfoldable pub conflicts : FilesNow → List Transaction → Option Id → Act → Bool
-conflicts files ts who act =
-    meets_other files ts who act || changes_outdated files who act || touches_plain_writer files who act || overwrites_opened files ts who act
+unfoldable pub conflicts : FilesNow → Option Id → Act → Bool
+conflicts files who act = meets_other files who act || changes_outdated files who act || touches_plain_writer files who act || overwrites_opened files who act
 
 -- ---- sharing
 

@@ -18,7 +18,7 @@ use Rattle.ktm_world.specs.Keyed.{value_at}
 use Rattle.ktm_world.specs.Transactions.{same_id}
 use Rattle.ktm_world.specs.Changes.{changed, changed_all, apply_all, node_of, changes_bytes, is_make, next_after, nodes_made}
 use Rattle.ktm_world.specs.Committed.{written_files}
-use Rattle.ktm_world.specs.Holds.{Holder, Act, place, opens, deletes, moves_file, makes, drops_directory, moves_directory, meets}
+use Rattle.ktm_world.specs.Holds.{Holds, holds_by, Act, place, opens, deletes, moves_file, makes, drops_directory, moves_directory, meets}
 use Rattle.ktm_world.specs.Tree.{Tree, node_at, bytes_or_none, bytes_of, units_of}
 use Rattle.ktm_world.specs.Limits.{most_information, most_live}
 
@@ -237,9 +237,9 @@ abbrev pub acts_of_all : Tree → List Change → List Act
 acts_of_all tree [] = []
 acts_of_all tree (change ∷ changes) = acts_of tree change ++ acts_of_all (changed tree change) changes
 
--- what a waiting transaction holds
-abbrev pub holder_of : Durable → Recorded → Holder
-holder_of s t = record { tree = s.tree; changes = changes_of t; writes = [] }
+-- what a waiting transaction holds of the files
+abbrev pub holds_in : Durable → Recorded → Holds
+holds_in s t = holds_by s.tree (changes_of t) []
 
 -- the waiting transactions but this one
 abbrev pub others : Durable → Option Id → List Recorded
@@ -253,7 +253,7 @@ is_made_in changes node = list_any (λ change. is_make change && node_of change 
 -- changes that apply, meet no hold of another transaction, and make no node that is made in another one's waiting work
 abbrev pub changes_apply : Durable → Option Id → List Change → Bool
 changes_apply s who changes =
-    list_all (λ t. not (list_any (meets (holder_of s t)) (acts_of_all s.tree changes)) && not (list_any (λ change. is_make change && is_made_in (changes_of t) (node_of change)) changes)) (others s who)
+    list_all (λ t. not (list_any (meets (holds_in s t)) (acts_of_all s.tree changes)) && not (list_any (λ change. is_make change && is_made_in (changes_of t) (node_of change)) changes)) (others s who)
     && apply_all s.tree changes
 
 -- settings that meet no hold of another transaction

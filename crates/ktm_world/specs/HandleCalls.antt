@@ -13,7 +13,7 @@ use Rattle.ktm_world.specs.declared.reply.Reply.TheVariants.{Done}
 use Rattle.ktm_world.specs.Handles.{object_at}
 use Rattle.ktm_world.specs.Transactions.{same_id, transaction_at, is_active}
 use Rattle.ktm_world.specs.Files.{FileTable}
-use Rattle.ktm_world.specs.Labels.{holds_of, invalid_handle, file_named, is_dead, binding}
+use Rattle.ktm_world.specs.Labels.{holds_of, invalid_handle, file_number, is_dead, binding}
 use Rattle.ktm_world.specs.Outcome.{Outcome, only_reply, and_then}
 use Rattle.ktm_world.specs.Present.{Present}
 use Rattle.ktm_world.specs.TransactionCalls.{aborted_by, bound_test, handle_test}
@@ -110,7 +110,7 @@ duplicate_handle x process label from source = bind_to x process label (object_a
 unfoldable pub duplicate_handle_tests : Present → Pid → Label → Pid → Label → List (Bool × Refusal)
 duplicate_handle_tests x process label from source =
     invalid_handle (object_at x.handles from source)
-    ∷ (holds_of (is_dead x) (file_named x from source), HandleNoLongerValid)
+    ∷ (holds_of (is_dead x.files) (file_number (object_at x.handles from source)), HandleNoLongerValid)
     ∷ bound_test x process label
     ∷ handle_test x
     ∷ []

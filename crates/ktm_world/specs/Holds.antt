@@ -1,4 +1,4 @@
--- What an undecided transaction holds, as a function of its changes and of its open files, and when a call meets it.
+-- What an undecided transaction holds, which follows from its changes and its open files, and when a call meets it.
 use Rattle.std.specs.Prelude.{ℕ, ◌==◌, ◌&&◌, ◌||◌, Bool, true, false, List, [], ◌∷◌, ◌++◌, map, Option, Some, None, bytes_eq, if◌then◌else◌}
 use Rattle.std.specs.List.{list_any}
 use Rattle.ktm_base.specs.Names.{folded}
@@ -34,16 +34,45 @@ places_of tree (Cut node size pages) = []
 places_of tree (Move node parent name) = place_of (node_at tree node) ++ place parent name ∷ []
 places_of tree (Drop node) = place_of (node_at tree node)
 
--- an undecided transaction with its changes of what is committed, and the nodes of its open files that may be written
-pub record Holder : Type 0 where
-  pub tree : Tree
-  pub changes : List Change
-  pub writes : List ℕ
+-- what an undecided transaction holds
+pub record Holds : Type 0 where
+  -- the files and directories: each that it made, changed, moved or dropped, and each file that it has open for writing
+  pub nodes : List ℕ
+  -- each name that it made, dropped, moved away or moved to
+  pub places : List Place
+  -- the use of each directory in which it holds a name
+  pub uses : List ℕ
+  -- the directories that it dropped
+  pub dropped : List ℕ
+  -- the right to move directories, once it has moved one
+  pub moves : Bool
 
 -- what is so of some change, on the tree that it finds
 abbrev pub each_change : {X : Type 0} → (Tree → Change → List X) → Tree → List Change → List X
 each_change f tree [] = []
 each_change f tree (change ∷ changes) = f tree change ++ each_change f (changed tree change) changes
+
+-- the directory that a change of this tree drops, if it drops one
+abbrev pub dropped_directory : Tree → Change → List ℕ
+dropped_directory tree change = if is_drop change && is_directory tree (node_of change) then node_of change ∷ [] else []
+
+-- the directory that a change of this tree moves, if it moves one
+abbrev pub moved_directory : Tree → Change → List ℕ
+moved_directory tree change = if is_move change && is_directory tree (node_of change) then node_of change ∷ [] else []
+
+-- the directories in which places are
+abbrev pub directories_of : List Place → List ℕ
+directories_of places = map (λ p. p.directory) places
+
+-- what is held by changes of this tree, with these files open for writing
+abbrev pub holds_by : Tree → List Change → List ℕ → Holds
+holds_by tree changes writes = record {
+  nodes = map node_of changes ++ writes;
+  places = each_change places_of tree changes;
+  uses = directories_of (each_change places_of tree changes);
+  dropped = each_change dropped_directory tree changes;
+  moves = list_any (λ node. true) (each_change moved_directory tree changes);
+}
 
 -- is the number in the list
 abbrev pub is_in : List ℕ → ℕ → Bool
@@ -53,33 +82,9 @@ is_in ns n = list_any (λ m. m == n) ns
 abbrev pub meet_in : List ℕ → List ℕ → Bool
 meet_in ms ns = list_any (is_in ns) ms
 
--- the files and directories: each that it made, changed, moved or dropped, and each file that it has open for writing
-abbrev pub nodes_held : Holder → List ℕ
-nodes_held h = map node_of h.changes ++ h.writes
-
--- each name that it made, dropped, moved away or moved to
-abbrev pub places_held : Holder → List Place
-places_held h = each_change places_of h.tree h.changes
-
--- the use of each directory in which it holds a name
-abbrev pub uses_held : Holder → List ℕ
-uses_held h = map (λ p. p.directory) (places_held h)
-
--- the directory that a change of this tree drops, if it drops one
-abbrev pub dropped_directory : Tree → Change → List ℕ
-dropped_directory tree change = if is_drop change && is_directory tree (node_of change) then node_of change ∷ [] else []
-
--- each directory that it dropped
-abbrev pub directories_dropped : Holder → List ℕ
-directories_dropped h = each_change dropped_directory h.tree h.changes
-
--- the directory that a change of this tree moves, if it moves one
-abbrev pub moved_directory : Tree → Change → List ℕ
-moved_directory tree change = if is_move change && is_directory tree (node_of change) then node_of change ∷ [] else []
-
--- the right to move directories, once it has moved one
-abbrev pub moves_directories : Holder → Bool
-moves_directories h = list_any (λ node. true) (each_change moved_directory h.tree h.changes)
+-- is the name in the list
+abbrev pub is_place_in : List Place → Place → Bool
+is_place_in places p = list_any (same_place p) places
 
 -- ---- what a call does
 
@@ -153,21 +158,21 @@ is_move_of_directory _ = false
 -- ---- meeting what another holds
 
 -- it changes a file, a directory or a name that the other holds
-abbrev pub changes_held : Holder → Act → Bool
-changes_held h act = meet_in (nodes_changed act) (nodes_held h) || list_any (λ p. list_any (same_place p) (places_held h)) (places_changed act)
+abbrev pub changes_held : Holds → Act → Bool
+changes_held h act = meet_in (nodes_changed act) h.nodes || list_any (is_place_in h.places) (places_changed act)
 
 -- it changes a name in a directory that the other has dropped
-abbrev pub enters_dropped : Holder → Act → Bool
-enters_dropped h act = meet_in (map (λ p. p.directory) (places_changed act)) (directories_dropped h)
+abbrev pub enters_dropped : Holds → Act → Bool
+enters_dropped h act = meet_in (directories_of (places_changed act)) h.dropped
 
 -- it drops a directory of which the other holds the use
-abbrev pub drops_used : Holder → Act → Bool
-drops_used h act = meet_in (directory_dropped act) (uses_held h)
+abbrev pub drops_used : Holds → Act → Bool
+drops_used h act = meet_in (directory_dropped act) h.uses
 
 -- it moves a directory while the other has the right to
-abbrev pub moves_too : Holder → Act → Bool
-moves_too h act = is_move_of_directory act && moves_directories h
+abbrev pub moves_too : Holds → Act → Bool
+moves_too h act = is_move_of_directory act && h.moves
 
--- does a call meet what an undecided transaction holds
-unfoldable pub meets : Holder → Act → Bool
+-- does a call meet what another undecided transaction holds
+unfoldable pub meets : Holds → Act → Bool
 meets h act = changes_held h act || enters_dropped h act || drops_used h act || moves_too h act

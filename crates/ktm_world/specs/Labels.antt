@@ -1,5 +1,5 @@
 -- What the labels of a process name, and the tests on them.
-use Rattle.std.specs.Prelude.{ℕ, ◌==◌, ◌&&◌, ◌||◌, not, Bool, false, List, [], ◌∷◌, ◌++◌, find, Option, Some, None, is_some, is_none, option_and_then}
+use Rattle.std.specs.Prelude.{ℕ, ◌==◌, ◌&&◌, not, Bool, true, false, List, [], ◌∷◌, ◌++◌, find, Option, Some, None, is_some, is_none, option_and_then}
 use Rattle.ktm_base.specs.declared.id.Id.{Id}
 use Rattle.ktm_base.specs.declared.id.Label.{Label}
 use Rattle.ktm_base.specs.declared.id.Pid.{Pid}
@@ -13,12 +13,11 @@ use Rattle.ktm_world.specs.declared.object.Object.TheVariants.{Manager as Manage
 use Rattle.ktm_world.specs.declared.object.Transaction.{Transaction}
 use Rattle.ktm_world.specs.Handles.{object_at, transaction_id}
 use Rattle.ktm_world.specs.Transactions.{transaction_at, is_active, is_committed, is_aborted}
-use Rattle.ktm_world.specs.Conflicts.{is_undecided}
 use Rattle.ktm_world.specs.Enlistments.{Enlistment, Manager, manager_at, enlistment_at}
-use Rattle.ktm_world.specs.Files.{OpenFile}
+use Rattle.ktm_world.specs.Files.{FilesNow, OpenFile}
 use Rattle.ktm_world.specs.Outcome.{Outcome}
 use Rattle.ktm_world.specs.Present.{Present}
-use Rattle.ktm_world.specs.Tree.{is_file}
+use Rattle.ktm_world.specs.Tree.{Tree, is_file}
 
 -- the resource manager that a handle names, if it names one
 abbrev pub manager_id : Option Object → Option Id
@@ -97,25 +96,31 @@ viewer x process (Through label) = id_of_named (transaction_named x process labe
 
 -- ---- dead file handles
 
+-- a file is open until the outcome of its transaction is known, and a plain one is dead once it is gone from the tree
+abbrev pub is_dead_file : Tree → Option OpenFile → Bool
+is_dead_file tree None = true
+is_dead_file tree (Some o) = is_none o.transaction && not (is_file tree o.node)
+
+-- is the handle of the file with this number dead
+abbrev pub is_dead : FilesNow → ℕ → Bool
+is_dead files number = is_dead_file files.tree (open_file_at files.table.opens number)
+
 -- the transaction of an open file, if it has one
 abbrev pub transaction_of : Present → OpenFile → Option Transaction
 transaction_of x o = option_and_then (transaction_at x.transactions.items) o.transaction
 
--- is it a plain open file
-abbrev pub is_plain_file : OpenFile → Bool
-is_plain_file o = is_none o.transaction
-
--- the outcome of its transaction is known, or it is a plain handle whose file is gone
-abbrev pub is_dead : Present → OpenFile → Bool
-is_dead x o = holds_of (λ t. not (is_undecided t)) (transaction_of x o) || (is_plain_file o && not (is_file x.files.tree o.node))
-
--- its transaction is undecided and not active
+-- its transaction is not active
 abbrev pub is_suspended : Present → OpenFile → Bool
-is_suspended x o = holds_of (λ t. is_undecided t && not (is_active t)) (transaction_of x o)
+is_suspended x o = holds_of (λ t. not (is_active t)) (transaction_of x o)
 
 -- the tests on the handle of an open file
-abbrev pub file_tests : Present → Option OpenFile → List (Bool × Refusal)
-file_tests x file = invalid_handle file ∷ (holds_of (is_dead x) file, HandleNoLongerValid) ∷ (holds_of (is_suspended x) file, TransactionNotActive) ∷ []
+abbrev pub file_tests : Present → Pid → Label → List (Bool × Refusal)
+file_tests x process label =
+    let number = file_number (object_at x.handles process label) in
+    invalid_handle number
+    ∷ (holds_of (is_dead x.files) number, HandleNoLongerValid)
+    ∷ (holds_of (is_suspended x) (file_named x process label), TransactionNotActive)
+    ∷ []
 
 -- ---- binding labels
 

@@ -12,13 +12,14 @@ use Rattle.ktm_world.specs.Keyed.{value_at}
 use Rattle.ktm_world.specs.Keys.{OwnSettings, own_settings}
 use Rattle.ktm_world.specs.Logs.{is_up}
 use Rattle.ktm_world.specs.Changes.{apply_all, node_of, changes_bytes, is_drop}
-use Rattle.ktm_world.specs.Committed.{Committed, Work, with_work, changes_to_commit}
-use Rattle.ktm_world.specs.Conflicts.{holder_of, is_of, others, writes}
+use Rattle.ktm_world.specs.Committed.{Committed, Work, with_work}
+use Rattle.ktm_world.specs.Conflicts.{holds_now, writes}
 use Rattle.ktm_world.specs.Durable.{Recorded, changes_of, settings_of, log_applies, stand}
 use Rattle.ktm_world.specs.Enlistments.{Enlistment, is_durable_at, superior_of, takes_part}
-use Rattle.ktm_world.specs.Files.{OpenFile, own_changes, bytes_seen}
-use Rattle.ktm_world.specs.Holds.{Holder, is_in, meet_in, nodes_held, places_held, same_place, uses_held, directories_dropped, moves_directories}
+use Rattle.ktm_world.specs.Files.{OpenFile, own_changes}
+use Rattle.ktm_world.specs.Holds.{Holds, is_in, meet_in, is_place_in}
 use Rattle.ktm_world.specs.Present.{Present}
+use Rattle.ktm_world.specs.Transactions.{is_of, is_undecided}
 use Rattle.ktm_world.specs.Tree.{IsWellFormed}
 use Rattle.ktm_world.specs.Uses.{is_over_quota, is_over_disk}
 use Rattle.ktm_world.specs.World.{World, OpenedAfter, committed, present, enlistment_back, by_rising_id}
@@ -37,14 +38,16 @@ abbrev pub set_both : OwnSettings → OwnSettings → Bool
 set_both a b = list_any (λ setting. is_some (value_at b setting.key)) a
 
 -- two transactions hold no file, directory or name both, neither uses a directory that the other dropped, and not both may move directories
-abbrev pub are_apart : Holder → Holder → Bool
-are_apart a b =
-    not (meet_in (nodes_held a) (nodes_held b)) && not (list_any (λ place. list_any (same_place place) (places_held b)) (places_held a))
-    && not (meet_in (directories_dropped a) (uses_held b)) && not (moves_directories a && moves_directories b)
+abbrev pub are_apart : Holds → Holds → Bool
+are_apart a b = not (meet_in a.nodes b.nodes) && not (list_any (is_place_in b.places) a.places) && not (meet_in a.dropped b.uses) && not (a.moves && b.moves)
 
 -- and they set no key both
 abbrev pub hold_apart : Present → Transaction → Transaction → Bool
-hold_apart x t u = are_apart (holder_of x.files t.id) (holder_of x.files u.id) && not (set_both (own_settings x.keys.own t.id) (own_settings x.keys.own u.id))
+hold_apart x t u = are_apart (holds_now x.files t.id) (holds_now x.files u.id) && not (set_both (own_settings x.keys.own t.id) (own_settings x.keys.own u.id))
+
+-- the undecided transactions but this one
+abbrev pub others : List Transaction → Option Id → List Transaction
+others ts who = filter (λ t. is_undecided t && not (is_of t.id who)) ts
 
 -- the undecided transactions
 abbrev pub undecided : Present → List Transaction
@@ -63,14 +66,14 @@ ends_version work file = list_any (λ change. node_of change == file && (changes
 -- a transaction that changed a file, or may write it, has its first open of the file in the last version
 abbrev pub is_fixed_last : World → OpenedAfter → Bool
 is_fixed_last w o =
-    not (is_in (nodes_held (holder_of (present w).files o.transaction)) o.file) || not (list_any (λ work. ends_version work o.file) (drop o.works w.works))
+    not (is_in (holds_now (present w).files o.transaction).nodes o.file) || not (list_any (λ work. ends_version work o.file) (drop o.works w.works))
 
 -- ---- plain writers are alone
 
 -- does the transaction hold the file, or have it open
 abbrev pub is_touched_by : Present → ℕ → Transaction → Bool
 is_touched_by x file t =
-    is_in (nodes_held (holder_of x.files t.id)) file || list_any (λ o. is_of t.id o.transaction && o.node == file) x.files.table.opens
+    is_in (holds_now x.files t.id).nodes file || list_any (λ o. is_of t.id o.transaction && o.node == file) x.files.table.opens
 
 -- a plain handle that may write has no undecided transaction on its file
 abbrev pub is_alone : Present → OpenFile → Bool
@@ -150,7 +153,7 @@ summary_now x t stage = record {
   stage = stage;
   superior = if is_ready_stage stage then None else superior_now (superior_of x.transactions.enlistments t.id);
   enlistments = recorded_enlistments x t.id;
-  changes = if is_held_stage stage then changes_to_commit (own_changes x.files.table.own t.id) (bytes_seen x.files (Some t.id)) else [];
+  changes = if is_held_stage stage then own_changes x.files.table.own t.id else [];
   settings = if is_held_stage stage then own_settings x.keys.own t.id else [];
 }
 

@@ -1,5 +1,7 @@
 -- Laws of the model.
 use Rattle.std.specs.Prelude.{◌≡◌, ◌↔◌, ℕ, ◌≤◌, Bool, true, false, List, [], ◌∷◌, length, Option, Some, All, Contains, if◌then◌else◌}
+use Rattle.ktm_base.specs.declared.id.Id.{Id}
+use Rattle.ktm_base.specs.declared.id.Label.{Label}
 use Rattle.ktm_base.specs.declared.id.Pid.{Pid}
 use Rattle.ktm_base.specs.declared.refusal.Refusal.{Refusal}
 use Rattle.ktm_base.specs.Names.{IsName, IsPath, IsPattern}
@@ -8,11 +10,14 @@ use Rattle.ktm_world.specs.declared.command.Line.{Line}
 use Rattle.ktm_world.specs.declared.command.Line.TheVariants.{Restart}
 use Rattle.ktm_world.specs.Transcript.{Step, answered, found, full, Transcript}
 use Rattle.ktm_world.specs.Logs.{Group, is_up}
-use Rattle.ktm_world.specs.Decide.{decide, refusal_of}
+use Rattle.ktm_world.specs.Decide.{decide, refusal_of, of_files, opening}
 use Rattle.ktm_world.specs.Durable.{Durable}
+use Rattle.ktm_world.specs.FileOutcome.{FileOutcome, files_after, lacks_quota, lacks_disk}
 use Rattle.ktm_world.specs.Outcome.{Outcome, apply}
 use Rattle.ktm_world.specs.Paths.{is_name, path_of, pattern_of}
+use Rattle.ktm_world.specs.Present.{Present}
 use Rattle.ktm_world.specs.Scripts.{answer, answers}
+use Rattle.ktm_world.specs.Uses.{file_room, is_over_quota, is_over_disk}
 use Rattle.ktm_world.specs.World.{World, OpenedAfter, present, extend, after, decide_tick, is_full_to_open, opened, possible_logs, crashed}
 
 -- each first open was made after works that the world has
@@ -35,6 +40,13 @@ FirstOpensLaw = ((base : Durable) (room : ℕ) (log : List Group) → FirstOpens
 abbrev pub RefusalLaw : Type 0
 RefusalLaw = ((w : World) (process : Pid) (command : Command) (refusal : Refusal) → refusal_of (present w) process command ≡ Some refusal → after w process command ≡ w)
     × ((w : World) (ms : ℕ) → is_up w.power ≡ false → extend w (decide_tick (present w) ms) ≡ w)
+
+-- what a call on files makes of the files is what the machine has then, and it lacks room exactly where a limit would be passed then
+abbrev pub FilesLaw : Type 0
+FilesLaw = ((x : Present) (who : Option Id) (o : FileOutcome) → (apply x (of_files x who o)).files ≡ files_after x.files who o)
+    × ((x : Present) (process : Pid) (label : Label) (who : Option Id) (o : FileOutcome) → is_over_quota x ≡ false
+    → lacks_quota x.files (file_room x) who o ≡ is_over_quota (apply x (opening x process label who o)))
+    × ((x : Present) (who : Option Id) (o : FileOutcome) → is_over_disk x ≡ false → lacks_disk x.files (file_room x) who o ≡ is_over_disk (apply x (of_files x who o)))
 
 -- a text of any bytes is read as a name, a path or a pattern exactly where it is one, and as the one that it is
 abbrev pub PathLaw : Type 0

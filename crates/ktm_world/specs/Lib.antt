@@ -22,6 +22,8 @@ pub mod Enlistments
 pub mod Present
 pub mod Uses
 pub mod Outcome
+pub mod FileUses
+pub mod FileOutcome
 pub mod Labels
 pub mod FileCalls
 pub mod KeyCalls
@@ -39,6 +41,7 @@ pub mod Laws
 pub mod RowsOfViews
 pub mod RowsOfConflicts
 pub mod RowsOfFiles
+pub mod RowsOfLimits
 pub mod RowsOfTransactions
 pub mod RowsOfRestarts
 pub mod RowsOfHandles

@@ -13,6 +13,10 @@ most_handles = 4096
 abbrev pub most_number : ℕ
 most_number = 2 ^ 32 - 1
 
+-- node numbers end below this
+abbrev pub end_of_nodes : ℕ
+end_of_nodes = 2 ^ 63
+
 -- recovery information has at most so many bytes
 abbrev pub most_information : ℕ
 most_information = 128

@@ -1,5 +1,5 @@
 -- What a command does, as data, and what it makes of what is so now.
-use Rattle.std.specs.Prelude.{ℕ, ◌+◌, ◌-◌, ◌&&◌, ◌||◌, not, Bool, true, false, List, [], ◌∷◌, ◌++◌, length, map, filter, drop, nat_lt, Option, Some, None, if◌then◌else◌}
+use Rattle.std.specs.Prelude.{ℕ, ◌+◌, ◌-◌, ◌&&◌, ◌||◌, not, Bool, true, false, List, [], ◌∷◌, ◌++◌, map, filter, drop, nat_lt, Option, Some, None, if◌then◌else◌}
 use Rattle.std.specs.List.{list_any}
 use Rattle.ktm_base.specs.declared.id.Id.{Id}
 use Rattle.ktm_base.specs.declared.refusal.Refusal.{Refusal}
@@ -12,17 +12,11 @@ use Rattle.ktm_world.specs.Keys.{Own}
 use Rattle.ktm_world.specs.Sizes.{frame_size, log_size}
 use Rattle.ktm_world.specs.Transactions.{same_id}
 use Rattle.ktm_world.specs.Logs.{as_groups}
-use Rattle.ktm_world.specs.Committed.{Committed, Work, committed_with, version_of}
+use Rattle.ktm_world.specs.Committed.{Committed, Work, committed_with}
 use Rattle.ktm_world.specs.Durable.{after_events}
 use Rattle.ktm_world.specs.Enlistments.{Manager, Sent, notes_for, taken_count}
-use Rattle.ktm_world.specs.Files.{FilesNow, FileTable, FirstOpen}
+use Rattle.ktm_world.specs.Files.{FileTable, FirstOpen, Opening, committed_files, first_open, files_with}
 use Rattle.ktm_world.specs.Present.{Present, Transactions}
-use Rattle.ktm_world.specs.Tree.{bytes_of}
-
--- a first open that a command makes
-pub record Opening : Type 0 where
-  pub transaction : Id
-  pub file : ℕ
 
 -- what a command does
 pub record Outcome : Type 0 where
@@ -70,7 +64,7 @@ only_reply x reply = record {
 
 -- what is committed now
 abbrev pub committed_now : Present → Committed
-committed_now x = record { tree = x.files.tree; versions = x.files.versions; store = x.keys.store }
+committed_now x = committed_files x.files x.keys.store
 
 -- a manager's notifications, without the one that is taken and with those that are sent
 abbrev pub served : Option Id → List Sent → Manager → Manager
@@ -80,17 +74,9 @@ served took sent m = record m { queue = drop (taken_count m.id took) m.queue ++ 
 abbrev pub is_forgotten : List Id → Id → Bool
 is_forgotten ids id = list_any (λ other. same_id id other) ids
 
--- the version of the file now
-abbrev pub first_open : Committed → Opening → FirstOpen
-first_open c o = record { transaction = o.transaction; file = o.file; version = version_of c.versions o.file; bytes = bytes_of c.tree o.file }
-
 -- the first opens after an outcome: with those that it makes, and without those of transactions that it ends
 abbrev pub first_opens_after : Present → Outcome → List FirstOpen
 first_opens_after x o = filter (λ f. not (is_forgotten o.forgotten f.transaction)) (x.files.first_opens ++ map (first_open (committed_now x)) o.openings)
-
--- the files now, put together
-abbrev pub files_with : Committed → List FirstOpen → FileTable → FilesNow
-files_with c first_opens table = record { tree = c.tree; versions = c.versions; first_opens = first_opens; table = table }
 
 -- what is so after an outcome
 abbrev pub apply : Present → Outcome → Present

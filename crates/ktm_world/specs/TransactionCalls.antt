@@ -24,11 +24,9 @@ use Rattle.ktm_world.specs.declared.reply.TransactionState.{TransactionState}
 use Rattle.ktm_world.specs.declared.reply.TransactionState.TheVariants.{Normal, Indoubt, CommittedNotify}
 use Rattle.ktm_world.specs.Handles.{no_handle_left}
 use Rattle.ktm_world.specs.Keys.{own_settings, without_own}
-use Rattle.ktm_world.specs.Transactions.{same_id, transaction_at, change_at, is_live}
-use Rattle.ktm_world.specs.Committed.{changes_to_commit}
-use Rattle.ktm_world.specs.Conflicts.{is_undecided}
+use Rattle.ktm_world.specs.Transactions.{same_id, transaction_at, change_at, is_live, is_undecided}
 use Rattle.ktm_world.specs.Enlistments.{Enlistment, Manager, Note, Sent, is_superior, is_open_for_votes, owes_commit, is_live_in, is_live_enlistment, is_ended, has_id, with_enlistments, superior_of}
-use Rattle.ktm_world.specs.Files.{own_changes, without_own_changes, bytes_seen}
+use Rattle.ktm_world.specs.Files.{own_changes, without_transaction}
 use Rattle.ktm_world.specs.Labels.{is_bound, holds_of, invalid_handle, outcome_tests, transaction_tests, binding}
 use Rattle.ktm_world.specs.Limits.{most_information, most_live, most_number}
 use Rattle.ktm_world.specs.Outcome.{Outcome, only_reply, and_then}
@@ -43,7 +41,7 @@ course_of x t caller = record {
   transaction = t;
   enlistments = x.transactions.enlistments;
   managers = x.managers;
-  changes = changes_to_commit (own_changes x.files.table.own t.id) (bytes_seen x.files (Some t.id));
+  changes = own_changes x.files.table.own t.id;
   settings = own_settings x.keys.own t.id;
   caller = caller;
   sent = [];
@@ -57,7 +55,7 @@ released c o =
     if is_undecided c.transaction then o else
     record o {
       forgotten = c.transaction.id ∷ [];
-      table = record o.table { own = without_own_changes o.table.own c.transaction.id };
+      table = without_transaction o.table c.transaction.id;
       own = without_own o.own c.transaction.id;
     }
 

@@ -9,6 +9,11 @@ use Rattle.ktm_world.specs.declared.object.TransactionOutcome.TheVariants.{Undet
 abbrev pub same_id : Id → Id → Bool
 same_id a b = (a.boot == b.boot) && (a.number == b.number)
 
+-- does something belong to the transaction with this Id; what is plain belongs to none
+abbrev pub is_of : Id → Option Id → Bool
+is_of id None = false
+is_of id (Some other) = same_id id other
+
 -- the transaction with this Id
 abbrev pub transaction_at : List Transaction → Id → Option Transaction
 transaction_at [] id = None
@@ -34,3 +39,7 @@ is_committed t = elim t.outcome as (λ _. Bool) [ Undetermined ↦ false | Commi
 -- is the outcome that the transaction rolls back
 abbrev pub is_aborted : Transaction → Bool
 is_aborted t = elim t.outcome as (λ _. Bool) [ Undetermined ↦ false | Committed ↦ false | Aborted ↦ true ]
+
+-- has the transaction no outcome yet
+abbrev pub is_undecided : Transaction → Bool
+is_undecided t = elim t.outcome as (λ _. Bool) [ Undetermined ↦ true | Committed ↦ false | Aborted ↦ false ]

@@ -1,45 +1,13 @@
--- What is in use, and the limits on it.
-use Rattle.std.specs.Prelude.{ℕ, ◌+◌, ◌-◌, ◌^◌, ◌==◌, ◌&&◌, ◌||◌, not, Bool, List, [], ◌∷◌, ◌++◌, length, filter, sum_by, count_by, nat_lt, Some}
-use Rattle.std.specs.List.{list_any}
+-- What is in use, the limits on it, and the room that the files and the keys have.
+use Rattle.std.specs.Prelude.{ℕ, ◌+◌, ◌-◌, ◌||◌, Bool, length, count_by, nat_lt}
+use Rattle.ktm_world.specs.FileOutcome.{FileRoom}
+use Rattle.ktm_world.specs.FileUses.{file_changes_waiting, nodes_used, units_used}
 use Rattle.ktm_world.specs.KeyCalls.{KeyRoom}
 use Rattle.ktm_world.specs.Keys.{keys_used, changes_pending as keys_unset}
 use Rattle.ktm_world.specs.Transactions.{is_live}
-use Rattle.ktm_world.specs.Changes.{changes_bytes, nodes_made}
-use Rattle.ktm_world.specs.Committed.{written_files}
 use Rattle.ktm_world.specs.Enlistments.{is_live_enlistment}
-use Rattle.ktm_world.specs.Files.{FilesNow, OwnChanges, FirstOpen, bytes_seen, is_last_version}
-use Rattle.ktm_world.specs.Limits.{most_handles, most_live, most_number}
+use Rattle.ktm_world.specs.Limits.{end_of_nodes, most_handles, most_live, most_number}
 use Rattle.ktm_world.specs.Present.{Present}
-use Rattle.ktm_world.specs.Tree.{bytes_or_none, units_of}
-
--- of the files that a transaction made or whose bytes it changed, as it sees them
-abbrev pub own_units : FilesNow → OwnChanges → ℕ
-own_units files o = sum_by (λ file. units_of (bytes_seen files (Some o.transaction) file)) (written_files o.changes)
-
--- are they the same version of the same file
-abbrev pub same_version : FirstOpen → FirstOpen → Bool
-same_version a b = a.file == b.file && a.version == b.version
-
--- the older versions that were first opened, each once
-abbrev pub older_versions : FilesNow → List FirstOpen → List FirstOpen
-older_versions files [] = []
-older_versions files (o ∷ os) =
-    let rest = older_versions files os in
-    filter (λ a. not (is_last_version files a) && not (list_any (same_version a) rest)) (o ∷ []) ++ rest
-
--- the units in use: of committed files, of what undecided transactions wrote, and of the older versions that they first opened
-unfoldable pub units_used : FilesNow → ℕ
-units_used files =
-    sum_by (λ node. units_of (bytes_or_none node.content)) files.tree + sum_by (own_units files) files.table.own
-    + sum_by (λ o. units_of o.bytes) (older_versions files files.first_opens)
-
--- the nodes in use: the root, the committed ones, and those that undecided transactions made
-unfoldable pub nodes_used : FilesNow → ℕ
-nodes_used files = 1 + length files.tree + sum_by (λ o. nodes_made o.changes) files.table.own
-
--- the changes of files that wait: what undecided transactions made, moved and dropped
-unfoldable pub file_changes_waiting : FilesNow → ℕ
-file_changes_waiting files = sum_by (λ o. count_by (λ change. not (changes_bytes change)) o.changes) files.table.own
 
 -- the changes that wait: those of files, and the keys that undecided transactions unset
 unfoldable pub changes_waiting : Present → ℕ
@@ -48,6 +16,10 @@ changes_waiting x = file_changes_waiting x.files + keys_unset x.keys
 -- the room that the keys have: as many keys as the image has units, and as many changes less those of files
 unfoldable pub key_room : Present → KeyRoom
 key_room x = record { keys = x.recorded.units; changes = x.recorded.units - file_changes_waiting x.files }
+
+-- the room that the files have: the handles that are free, as many changes as the image has units, less those of keys, and its units
+unfoldable pub file_room : Present → FileRoom
+file_room x = record { handles = most_handles - length x.handles; changes = x.recorded.units - keys_unset x.keys; units = x.recorded.units }
 
 -- is a quota passed: pending changes; live transactions, live enlistments and resource managers; handles; the numbers of objects and nodes
 unfoldable pub is_over_quota : Present → Bool
@@ -61,7 +33,7 @@ is_over_quota x =
     || nat_lt most_number x.transactions.last_manager
     || nat_lt most_number x.transactions.last_enlistment
     || nat_lt most_number x.files.table.last_open
-    || nat_lt (2 ^ 63) x.files.table.next_node
+    || nat_lt end_of_nodes x.files.table.next_node
 
 -- is the disk too full: more units, nodes or keys than the image has units
 unfoldable pub is_over_disk : Present → Bool

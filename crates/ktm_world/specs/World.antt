@@ -17,14 +17,14 @@ use Rattle.ktm_world.specs.declared.object.Transaction.{Transaction}
 use Rattle.ktm_world.specs.declared.object.TransactionOutcome.{TransactionOutcome}
 use Rattle.ktm_world.specs.declared.options.EnlistmentKind.{EnlistmentKind}
 use Rattle.ktm_world.specs.Keys.{Own}
-use Rattle.ktm_world.specs.Outcome.{is_full, first_refusal, Outcome, Opening, is_forgotten, first_open, files_with, refuse_or, within_log}
+use Rattle.ktm_world.specs.Outcome.{is_full, first_refusal, Outcome, is_forgotten, refuse_or, within_log}
 use Rattle.ktm_world.specs.Sizes.{log_size}
 use Rattle.ktm_world.specs.Logs.{Group, Power, up, down, is_up, as_groups, kept_after, prefixes_from, possible_by}
 use Rattle.ktm_world.specs.Committed.{Committed, Work, committed_with}
 use Rattle.ktm_world.specs.Decide.{decide}
 use Rattle.ktm_world.specs.Durable.{Durable, Recorded, is_held, is_decided, has_undone, changes_of, settings_of, is_before, after_events, stand}
 use Rattle.ktm_world.specs.Enlistments.{Enlistment, Manager, Note, Sent, notes_for, taken_count}
-use Rattle.ktm_world.specs.Files.{FileTable, FirstOpen, OwnChanges}
+use Rattle.ktm_world.specs.Files.{FileTable, FirstOpen, OwnChanges, Opening, first_open, files_with}
 use Rattle.ktm_world.specs.Present.{Present, Transactions}
 use Rattle.ktm_world.specs.TransactionCalls.{tick}
 

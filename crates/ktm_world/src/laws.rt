@@ -1,5 +1,5 @@
 // Laws of the model, over every world and every outcome, and of the sizes of events, each the contract of a function that does nothing.
-ghost use Rattle.ktm_world.specs.Laws.{StepLaw, FirstOpensLaw, RefusalLaw, PathLaw, TranscriptLaw};
+ghost use Rattle.ktm_world.specs.Laws.{StepLaw, FirstOpensLaw, RefusalLaw, FilesLaw, PathLaw, TranscriptLaw};
 ghost use Rattle.ktm_world.specs.SizeLaw.{SizeLaw};
 
 /// What is so after an outcome is what the outcome makes of what was so.
@@ -15,6 +15,11 @@ pub fn law_of_first_opens()
 /// A refusal, but for that of a full log, changes nothing.
 pub fn law_of_refusals()
     ensures { RefusalLaw }
+{}
+
+/// What a call on files makes of the files is what the machine has then, and it lacks room exactly where a limit would be passed.
+pub fn law_of_files()
+    ensures { FilesLaw }
 {}
 
 /// Names, paths and patterns are read exactly where the text is one.

@@ -1,7 +1,8 @@
 // Worked rows: what the model answers to some scripts, each the contract of a function that does nothing.
 ghost use Rattle.ktm_world.specs.RowsOfViews.{ViewsOfWriterAndReader, FixedVersion, DeadHandle, DeletedFile};
-ghost use Rattle.ktm_world.specs.RowsOfConflicts.{SecondWriter, NamesWithoutCase, DirectoryInUse, CrossingMoves};
+ghost use Rattle.ktm_world.specs.RowsOfConflicts.{SecondWriter, NamesWithoutCase, DirectoryInUse, CrossingMoves, PlainWriter, OpenInTransaction, SharingInTransaction};
 ghost use Rattle.ktm_world.specs.RowsOfFiles.{NamesOfFiles, UnitLimit, FullLog};
+ghost use Rattle.ktm_world.specs.RowsOfLimits.{OlderVersion, NodeLimit, ChangesLimit};
 ghost use Rattle.ktm_world.specs.RowsOfTransactions.{VoteAgainst, ReadOnly, SinglePhaseRejected, FileBesideOnePhase, Timeout};
 ghost use Rattle.ktm_world.specs.RowsOfRestarts.{UndecidedAtRestart, InDoubt, InDoubtRolledBack, SeveralInDoubt, DurableTwoPhaseCommit};
 ghost use Rattle.ktm_world.specs.RowsOfHandles.{HandlesAndExit, LinesAndMachine};
@@ -47,6 +48,21 @@ pub fn row_of_crossing_moves()
     ensures { CrossingMoves }
 {}
 
+/// No transaction opens or changes a file that a plain handle may write.
+pub fn row_of_plain_writer()
+    ensures { PlainWriter }
+{}
+
+/// No plain call writes, empties or deletes a file that a transaction has open.
+pub fn row_of_open_in_transaction()
+    ensures { OpenInTransaction }
+{}
+
+/// The open files of one transaction share with each other, both ways.
+pub fn row_of_sharing_in_transaction()
+    ensures { SharingInTransaction }
+{}
+
 /// Names are kept as created and compared without case, each call has its refusals, and a file that is open is not deleted.
 pub fn row_of_names_of_files()
     ensures { NamesOfFiles }
@@ -60,6 +76,21 @@ pub fn row_of_unit_limit()
 /// The log of an image of 16 units has room for two writes of 65,536 bytes, and a third one stops the machine.
 pub fn row_of_full_log()
     ensures { FullLog }
+{}
+
+/// An older version takes its units, once for all who opened it, until the last of them is over.
+pub fn row_of_older_version()
+    ensures { OlderVersion }
+{}
+
+/// The root and 15 more nodes are there at most on an image of 16 units, those of transactions among them.
+pub fn row_of_node_limit()
+    ensures { NodeLimit }
+{}
+
+/// On an image of 16 units 16 changes wait at most, and written bytes do not count.
+pub fn row_of_changes_limit()
+    ensures { ChangesLimit }
 {}
 
 /// An enlistment that rolls back before it has prepared aborts the transaction, also for one that has prepared.
