@@ -172,7 +172,7 @@ fn refusal_of(t: &Transaction) -> Option<Refusal>
     None
 }
 
-#[tactic(auto, unfolding(ktm_world::specs::Uses::key_room, ktm_world::specs::Uses::file_changes_waiting))]
+#[tactic(auto, unfolding(ktm_world::specs::Uses::key_room, ktm_world::specs::FileUses::file_changes_waiting))]
 impl State {
     /// Gives a key a value, in a transaction.
     pub fn kv_set(
