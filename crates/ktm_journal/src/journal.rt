@@ -11,10 +11,10 @@ ghost use Rattle.ktm_journal.specs.Bad.{IfBad, IsBadAt, load_went_down};
 ghost use Rattle.ktm_journal.specs.Format.{Anything};
 
 use crate::LoadFault;
+use crate::durable::Durable;
 use crate::image::{lay, log_area, put_header};
 use crate::load::{Header, fold, read_form};
 use ktm_base::{Disk, Down};
-use crate::durable::Durable;
 use ktm_log::{AppendFault, Log, LogFault};
 use std::alloc::Global;
 use std::marker::Model;

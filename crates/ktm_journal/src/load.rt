@@ -15,10 +15,10 @@ ghost use Rattle.ktm_journal.specs.Bad.{IfBad, IsBadAt, IsBadPayload, load_went_
 ghost use Rattle.ktm_journal.specs.Load.{BeginsAnImage, ComesTo, IsFirstBad, IsFront};
 
 use crate::LoadFault;
+use crate::durable::Durable;
 use crate::image::{SELECTOR_AT, SNAPSHOT_AT, empty_snapshot, image_len, log_area};
 use ktm_base::{Bytes, Disk, Down, NoMemory};
 use ktm_event::{EventFault, read_group};
-use crate::durable::Durable;
 use std::alloc::Global;
 
 /// What the header of an image says.

@@ -1,5 +1,5 @@
 -- A command that is refused in memory.
-use Rattle.std.proofs.Common.{◌≡◌, ℕ, true, cond, refl, List, [], ◌∷◌, ◌++◌, Bool, Option, Some, sym, ◌∙◌, ap, inl, inr}
+use Rattle.std.proofs.Common.{◌≡◌, ℕ, refl, List, [], ◌∷◌, ◌++◌, Bool, Some, sym, ◌∙◌, ap, inl, inr}
 use Rattle.std.proofs.lemmas.Bool.{cases_Bool}
 use Rattle.ktm_base.specs.declared.id.Label.{Label}
 use Rattle.ktm_base.specs.declared.id.Pid.{Pid}

@@ -1,9 +1,8 @@
 -- What a restart finds on a disk, and what it makes of it.
-use Rattle.std.proofs.Common.{◌≡◌, ℕ, ◌+◌, ◌-◌, ◌^◌, ◌≤◌, ◌<◌, ◌&&◌, nat_le, nat_lt, true, false, List, [], ◌∷◌, ◌++◌, length, Option, None, Some, refl, sym, ◌∙◌, ap, subst, arith, inl, inr, append_assoc}
+use Rattle.std.proofs.Common.{◌≡◌, ℕ, ◌+◌, ◌-◌, ◌^◌, ◌≤◌, ◌<◌, nat_le, nat_lt, true, false, List, [], ◌∷◌, ◌++◌, length, Option, None, Some, refl, sym, ◌∙◌, ap, subst, arith, inl, inr, append_assoc}
 use Rattle.std.proofs.lemmas.Bool.{and_from, and_parts, eq-eqb, le-leb, lt-ltb, le-ltb}
 use Rattle.std.proofs.lemmas.List.Folds.{list_all-append}
 use Rattle.std.specs.List.{list_all}
-use Rattle.std.proofs.lemmas.List.Elements.{All-nil}
 use Rattle.std.specs.Prelude.{IsTrue}
 use Rattle.ktm_base.specs.Disk.{DiskState, DiskStatus, IsSafe}
 use Rattle.ktm_base.specs.Told.{IfTold, Tells}
@@ -22,8 +21,6 @@ use Rattle.ktm_world.specs.Durable.{Durable, empty_state, stand, fact_applies, f
 use Rattle.ktm_world.specs.Sizes.{frame_size, group_size, log_size}
 use Rattle.ktm_world.specs.Logs.{Group}
 use Rattle.ktm_world.specs.Outcome.{is_full as is_full_in}
-use Rattle.ktm_world.specs.FileUses.{file_changes_waiting, nodes_used, units_used}
-use Rattle.ktm_world.specs.Uses.{changes_waiting, is_over_disk, is_over_quota}
 use Rattle.ktm_world.specs.World.{own_group, opened, present}
 use Rattle.ktm_world.proofs.BuiltStates.{built_log, built_stand, own_is, within_built}
 use Rattle.ktm_world.proofs.Durables.{stand-append, log_applies-append}

@@ -139,12 +139,7 @@ impl State {
 }
 
 // What is told of a key, through a transaction or the plain view.
-fn get_through(
-    alloc: Global,
-    keys: &KvRm,
-    who: Option<Id>,
-    key: &Text,
-) -> Result<Reply, NoMemory>
+fn get_through(alloc: Global, keys: &KvRm, who: Option<Id>, key: &Text) -> Result<Reply, NoMemory>
     ensures { IfOk result (λ reply. reply ≡ get_through keys.now.keys who key.now) }
 {
     if is_bad_key(key) {

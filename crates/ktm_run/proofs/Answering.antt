@@ -22,10 +22,9 @@ use Rattle.ktm_world.specs.declared.command.Line.{Line}
 use Rattle.ktm_world.specs.declared.command.Line.TheVariants.{Crash, Restart, Process}
 use Rattle.ktm_world.specs.declared.reply.Reply.{Reply}
 use Rattle.ktm_world.specs.declared.reply.Reply.TheVariants.{Refused, Done}
-use Rattle.ktm_keys.specs.Present.{Present}
-use Rattle.ktm_world.specs.Transcript.{Step, answered, interrupted, found, full}
-use Rattle.ktm_keys.specs.Transcript.{CrashDoes, Does}
-use Rattle.ktm_keys.specs.World.{World, present, interrupted_restart}
+use Rattle.ktm_world.specs.Present.{Present}
+use Rattle.ktm_world.specs.Transcript.{Step, answered, interrupted, found, full, CrashDoes, StartDoes, RestartDoes, Does}
+use Rattle.ktm_world.specs.World.{World, present, interrupted_restart}
 use Rattle.ktm_world.specs.Logs.{is_up}
 
 -- what is so now of a machine that stands for a world
@@ -97,11 +96,14 @@ not_executed k n before now a b line told same w at = record {
 -- ---- a crash
 
 -- a crash that is answered takes the disk down
-off_rose : (w new : World) (a b : DiskStatus) (step : Step) → b ≡ after_off a → Does w (Some Crash) step Done new → RoseBy (falls_of (Some Crash) step Done) a.downs b.downs
-off_rose w new a b answered is does = let up = ap (λ s. s.downs) is in omega arith
-off_rose w new a b interrupted is none = absurd none
-off_rose w new a b (found log) is none = absurd none
-off_rose w new a b (full log) is none = absurd none
+off_rose : (on : Bool) (w new : World) (a b : DiskStatus) (step : Step) → b ≡ after_off a → CrashDoes on w step Done new → RoseBy (falls_of (Some Crash) step Done) a.downs b.downs
+off_rose on w new a b answered is does = let up = ap (λ s. s.downs) is in omega arith
+off_rose true w new a b interrupted is none = absurd none
+off_rose true w new a b (found log) is none = absurd none
+off_rose true w new a b (full log) is none = absurd none
+off_rose false w new a b interrupted is none = absurd none
+off_rose false w new a b (found log) is none = absurd none
+off_rose false w new a b (full log) is none = absurd none
 
 pub went_down : (k n : KernelState) (before now : Option DiskState) (a b : DiskStatus) → now ≡ before → b ≡ after_off a
     → ((told : Option DiskState) (w : World) → KernelAt k told w → DoesLine w (Some Crash) Done n told)
@@ -112,7 +114,7 @@ went_down k n before now a b told is does = λ w at.
       world = new;
       does = done;
       stands = stands;
-      counts = counted w k n before now a b _ (falls_of (Some Crash) step Done) (off_rose w new a b step is done) (ap (λ s. s.plan) is) (let few = ap (λ s. s.calls) is in omega arith);
+      counts = counted w k n before now a b _ (falls_of (Some Crash) step Done) (off_rose (is_up w.power) w new a b step is done) (ap (λ s. s.plan) is) (let few = ap (λ s. s.calls) is in omega arith);
     }
 
 pub is_down_still : (k : KernelState) (told : Option DiskState) (a : DiskStatus) → k.now.machine.is_up ≡ false
@@ -120,7 +122,7 @@ pub is_down_still : (k : KernelState) (told : Option DiskState) (a : DiskStatus)
 is_down_still k told a off = λ w at. record {
   step = answered;
   world = w;
-  does = subst (λ b. CrashDoes b w (Refused MachineDown) w) (sym (off_of k told w off at)) (refl, refl);
+  does = subst (λ b. CrashDoes b w answered (Refused MachineDown) w) (sym (off_of k told w off at)) (refl, refl);
   stands = at;
   counts = quiet w k k told told a a refl;
 }
@@ -135,7 +137,7 @@ failed_again k before now a b pick off is rose goes = λ w at.
     let down = off_of k before w off at in record {
       step = interrupted;
       world = interrupted_restart w;
-      does = (down, refl, refl);
+      does = subst (λ b. RestartDoes b w interrupted (Refused MachineDown) (interrupted_restart w)) (sym down) (refl, refl);
       stands = (power_law k before now w down at).1 goes;
       counts = counted w k k before now a b (Power pick ∷ []) 1 rose (ap (λ s. s.plan) is) (let few = ap (λ s. s.calls) is in omega arith);
     }
@@ -148,18 +150,22 @@ found_at k before now off goes w at = (power_law k before now w (off_of k before
 abbrev powered : DiskStatus → ℕ → DiskStatus
 powered a pick = record (planned a (Power pick)) { is_down = false; pending = 0 }
 
+-- a restart of a world that is down starts it
+starts_of : (w new : World) (pick : ℕ) (step : Step) (reply : Reply) → is_up w.power ≡ false → Does w (Some (Restart pick)) step reply new → StartDoes w step reply new
+starts_of w new pick step reply off does = subst (λ b. RestartDoes b w step reply new) off does
+
 -- a machine that was down and starts asks for the power
-started_plan : (w new : World) (pick : ℕ) (step : Step) (reply : Reply) → is_up w.power ≡ false → Does w (Some (Restart pick)) step reply new → plan_of (Some (Restart pick)) reply ≡ Power pick ∷ []
-started_plan w new pick answered reply off (on, says, is) = let wrong : true ≡ false = sym on ∙ off in absurd (cc)
-started_plan w new pick interrupted reply off (down, says, is) = ap (λ r. plan_of (Some (Restart pick)) r) says
-started_plan w new pick (found log) reply off (finds, says, is) = ap (λ r. plan_of (Some (Restart pick)) r) says
-started_plan w new pick (full log) reply off (finds, says, is) = ap (λ r. plan_of (Some (Restart pick)) r) says
+started_plan : (w new : World) (pick : ℕ) (step : Step) (reply : Reply) → StartDoes w step reply new → plan_of (Some (Restart pick)) reply ≡ Power pick ∷ []
+started_plan w new pick answered reply none = absurd none
+started_plan w new pick interrupted reply (says, is) = ap (λ r. plan_of (Some (Restart pick)) r) says
+started_plan w new pick (found log) reply (finds, says, is) = ap (λ r. plan_of (Some (Restart pick)) r) says
+started_plan w new pick (full log) reply (finds, says, is) = ap (λ r. plan_of (Some (Restart pick)) r) says
 
 -- and the power goes in it only where the count of downs rose
-started_rose : (w new : World) (pick : ℕ) (step : Step) (reply : Reply) (a b : DiskStatus) → Does w (Some (Restart pick)) step reply new → (reply ≡ Refused MachineDown → Rose a.downs b.downs) → a.downs ≤ b.downs
+started_rose : (w new : World) (pick : ℕ) (step : Step) (reply : Reply) (a b : DiskStatus) → StartDoes w step reply new → (reply ≡ Refused MachineDown → Rose a.downs b.downs) → a.downs ≤ b.downs
     → RoseBy (falls_of (Some (Restart pick)) step reply) a.downs b.downs
-started_rose w new pick answered reply a b does cause later = RoseBy-none a.downs b.downs later
-started_rose w new pick interrupted reply a b (down, says, is) cause later = cause says
+started_rose w new pick answered reply a b none cause later = absurd none
+started_rose w new pick interrupted reply a b (says, is) cause later = cause says
 started_rose w new pick (found log) reply a b does cause later = RoseBy-none a.downs b.downs later
 started_rose w new pick (full log) reply a b does cause later = RoseBy-none a.downs b.downs later
 
@@ -176,14 +182,15 @@ module _ (k n : KernelState) (before mid now : Option DiskState) (a m b : DiskSt
   pub started : (reply : Reply) → ((pick : ℕ) (w : World) → FoundAt k mid w → DoesLine w (Some (Restart pick)) reply n now) → (reply ≡ Refused MachineDown → Rose m.downs b.downs)
       → Answers (record { machine = k; disk = before; status = a }) (record { machine = n; disk = now; status = b }) (Some (Restart pick)) reply
   started reply does cause = λ w at.
-      let (step, new, done, stands) = does pick w (found_at k before mid off goes w at) in record {
+      let (step, new, done, stands) = does pick w (found_at k before mid off goes w at) in
+      let starts = starts_of w new pick step reply (off_of k before w off at) done in record {
         step = step;
         world = new;
         does = done;
         stands = stands;
         counts = subst (λ (p : List PowerCall). Counts w (record { machine = k; disk = before; status = a }) (record { machine = n; disk = now; status = b }) 1 p (falls_of (Some (Restart pick)) step reply))
-            (sym (started_plan w new pick step reply (off_of k before w off at) done))
-            (starts_counted w (falls_of (Some (Restart pick)) step reply) at (started_rose w new pick step reply m b done cause calls.later));
+            (sym (started_plan w new pick step reply starts))
+            (starts_counted w (falls_of (Some (Restart pick)) step reply) at (started_rose w new pick step reply m b starts cause calls.later));
       }
 
   pub not_started : now ≡ mid → (line : List ℕ) (w : World) → Means line (Some (Restart pick)) → KernelAt k before w

@@ -14,7 +14,7 @@ use Rattle.ktm_run.specs.Script.{AppendsPart, Means, kept_of, reply_line}
 use Rattle.ktm_world.specs.declared.command.Line.{Line}
 use Rattle.ktm_world.specs.declared.command.Line.TheVariants.{Restart}
 use Rattle.ktm_world.specs.declared.reply.Reply.{Reply}
-use Rattle.ktm_keys.specs.World.{World}
+use Rattle.ktm_world.specs.World.{World}
 
 -- a line that was not executed at all
 pub unanswered_here : (w : World) (s : Scene) (line : List ℕ) → KernelAt s.machine s.disk w → Unanswered w s s line

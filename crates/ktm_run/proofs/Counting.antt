@@ -2,15 +2,17 @@
 use Rattle.std.proofs.Common.{◌≡◌, ℕ, ◌+◌, ◌*◌, ◌≤◌, Bool, true, false, List, [], ◌∷◌, ◌++◌, Option, Some, None, refl, sym, ◌∙◌, ap, subst, arith, append_assoc, add-mul}
 use Rattle.std.proofs.lemmas.List.{append-nil}
 use Rattle.ktm_base.specs.declared.power.PowerCall.{PowerCall}
+use Rattle.ktm_base.specs.declared.refusal.Refusal.TheVariants.{BadLine, MachineDown, MachineUp}
 use Rattle.ktm_run.specs.Plan.{plan_of, plans, falls, RoseBy, most_calls}
 use Rattle.ktm_run.specs.Progress.{Scene, Counts}
 use Rattle.ktm_world.specs.declared.command.Line.{Line}
 use Rattle.ktm_world.specs.declared.command.Line.TheVariants.{Tick, Cut, Crash, Restart, Process}
 use Rattle.ktm_world.specs.declared.reply.Reply.{Reply}
-use Rattle.ktm_keys.specs.Durable.{Durable}
-use Rattle.ktm_world.specs.Transcript.{Step, answered, interrupted, found, full}
-use Rattle.ktm_keys.specs.Transcript.{CrashDoes, Does, Transcript}
-use Rattle.ktm_keys.specs.World.{World}
+use Rattle.ktm_world.specs.declared.reply.Reply.TheVariants.{Refused, Done}
+use Rattle.ktm_world.specs.Durable.{Durable}
+use Rattle.ktm_world.specs.Transcript.{Step, answered, interrupted, found, full, IsAnswered, CallDoes, CrashDoes, StartDoes, RestartDoes, Does, Transcript}
+use Rattle.ktm_world.specs.Outcome.{Outcome}
+use Rattle.ktm_world.specs.World.{World}
 
 pub RoseBy-none : (a b : ℕ) → a ≤ b → RoseBy 0 a b
 RoseBy-none a b h = omega arith
@@ -36,36 +38,44 @@ Counts-none w a = record { rose = RoseBy-none a.status.downs a.status.downs (ome
 
 -- ---- along a transcript
 
-crash_keeps_base : (up : Bool) (w : World) (reply : Reply) (mid : World) → CrashDoes up w reply mid → mid.base ≡ w.base
-crash_keeps_base true w reply mid (says, is) = ap (λ v. v.base) is
-crash_keeps_base false w reply mid (says, is) = ap (λ v. v.base) is
+-- a line that is answered leaves the world as it is
+answered_keeps_base : (w : World) (says : Reply) (step : Step) (reply : Reply) (mid : World) → IsAnswered w says step reply mid → mid.base ≡ w.base
+answered_keeps_base w says answered reply mid (same, is) = ap (λ v. v.base) is
+answered_keeps_base w says interrupted reply mid none = absurd none
+answered_keeps_base w says (found log) reply mid none = absurd none
+answered_keeps_base w says (full log) reply mid none = absurd none
+
+call_keeps_base : (w : World) (o : Outcome) (step : Step) (reply : Reply) (mid : World) → CallDoes w o step reply mid → mid.base ≡ w.base
+call_keeps_base w o answered reply mid (says, is) = ap (λ v. v.base) is
+call_keeps_base w o interrupted reply mid (on, says, is) = ap (λ v. v.base) is
+call_keeps_base w o (found log) reply mid none = absurd none
+call_keeps_base w o (full log) reply mid none = absurd none
+
+crash_keeps_base : (on : Bool) (w : World) (step : Step) (reply : Reply) (mid : World) → CrashDoes on w step reply mid → mid.base ≡ w.base
+crash_keeps_base true w answered reply mid (says, is) = ap (λ v. v.base) is
+crash_keeps_base true w interrupted reply mid none = absurd none
+crash_keeps_base true w (found log) reply mid none = absurd none
+crash_keeps_base true w (full log) reply mid none = absurd none
+crash_keeps_base false w step reply mid does = answered_keeps_base w (Refused MachineDown) step reply mid does
+
+start_keeps_base : (w : World) (step : Step) (reply : Reply) (mid : World) → StartDoes w step reply mid → mid.base ≡ w.base
+start_keeps_base w answered reply mid none = absurd none
+start_keeps_base w interrupted reply mid (says, is) = ap (λ v. v.base) is
+start_keeps_base w (found log) reply mid (finds, says, is) = ap (λ v. v.base) is
+start_keeps_base w (full log) reply mid (finds, says, is) = ap (λ v. v.base) is
+
+restart_keeps_base : (on : Bool) (w : World) (step : Step) (reply : Reply) (mid : World) → RestartDoes on w step reply mid → mid.base ≡ w.base
+restart_keeps_base true w step reply mid does = answered_keeps_base w (Refused MachineUp) step reply mid does
+restart_keeps_base false w step reply mid does = start_keeps_base w step reply mid does
 
 -- a line leaves the state that the run began with
 pub does_keeps_base : (w : World) (line : Option Line) (step : Step) (reply : Reply) (mid : World) → Does w line step reply mid → mid.base ≡ w.base
-does_keeps_base w (Some (Process process command)) answered reply mid (says, is) = ap (λ v. v.base) is
-does_keeps_base w (Some (Process process command)) interrupted reply mid (on, says, is) = ap (λ v. v.base) is
-does_keeps_base w (Some (Process process command)) (found log) reply mid none = absurd none
-does_keeps_base w (Some (Process process command)) (full log) reply mid none = absurd none
-does_keeps_base w (Some (Tick ms)) answered reply mid (says, is) = ap (λ v. v.base) is
-does_keeps_base w (Some (Tick ms)) interrupted reply mid none = absurd none
-does_keeps_base w (Some (Tick ms)) (found log) reply mid none = absurd none
-does_keeps_base w (Some (Tick ms)) (full log) reply mid none = absurd none
-does_keeps_base w (Some (Cut calls)) answered reply mid (says, is) = ap (λ v. v.base) is
-does_keeps_base w (Some (Cut calls)) interrupted reply mid none = absurd none
-does_keeps_base w (Some (Cut calls)) (found log) reply mid none = absurd none
-does_keeps_base w (Some (Cut calls)) (full log) reply mid none = absurd none
-does_keeps_base w (Some Crash) answered reply mid does = crash_keeps_base _ w reply mid does
-does_keeps_base w (Some Crash) interrupted reply mid none = absurd none
-does_keeps_base w (Some Crash) (found log) reply mid none = absurd none
-does_keeps_base w (Some Crash) (full log) reply mid none = absurd none
-does_keeps_base w (Some (Restart pick)) answered reply mid (on, says, is) = ap (λ v. v.base) is
-does_keeps_base w (Some (Restart pick)) interrupted reply mid (off, says, is) = ap (λ v. v.base) is
-does_keeps_base w (Some (Restart pick)) (found log) reply mid (finds, says, is) = ap (λ v. v.base) is
-does_keeps_base w (Some (Restart pick)) (full log) reply mid (finds, says, is) = ap (λ v. v.base) is
-does_keeps_base w None answered reply mid (says, is) = ap (λ v. v.base) is
-does_keeps_base w None interrupted reply mid none = absurd none
-does_keeps_base w None (found log) reply mid none = absurd none
-does_keeps_base w None (full log) reply mid none = absurd none
+does_keeps_base w (Some (Process process command)) step reply mid does = call_keeps_base w _ step reply mid does
+does_keeps_base w (Some (Tick ms)) step reply mid does = call_keeps_base w _ step reply mid does
+does_keeps_base w (Some (Cut calls)) step reply mid does = answered_keeps_base w Done step reply mid does
+does_keeps_base w (Some Crash) step reply mid does = crash_keeps_base _ w step reply mid does
+does_keeps_base w (Some (Restart pick)) step reply mid does = restart_keeps_base _ w step reply mid does
+does_keeps_base w None step reply mid does = answered_keeps_base w (Refused BadLine) step reply mid does
 
 pub keeps_base : (w : World) (lines : List (Option Line)) (steps : List Step) (replies : List Reply) (new : World) → Transcript w lines steps replies new → new.base ≡ w.base
 keeps_base w [] [] [] new is = ap (λ v. v.base) is

@@ -6,5 +6,4 @@ pub mod Breaks
 pub mod Answering
 pub mod Openings
 pub mod Theorems
-pub mod Whole
 pub mod Probed

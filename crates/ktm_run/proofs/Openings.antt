@@ -1,5 +1,5 @@
 -- What a run begins from, on a disk that was prepared.
-use Rattle.std.proofs.Common.{◌≡◌, ◌⊎◌, inl, inr, ℕ, ◌+◌, ◌-◌, ◌*◌, ◌<◌, ◌≤◌, Bool, true, false, List, [], ◌∷◌, ◌++◌, length, Option, Some, None, refl, sym, ◌∙◌, ap, subst, arith}
+use Rattle.std.proofs.Common.{◌≡◌, ◌⊎◌, inl, inr, ℕ, ◌+◌, ◌-◌, ◌*◌, ◌<◌, ◌≤◌, Bool, true, false, List, [], ◌∷◌, ◌++◌, length, Option, Some, None, refl, sym, ◌∙◌, ap, ap₂, subst, arith}
 use Rattle.std.proofs.lemmas.List.{append-nil}
 use Rattle.ktm_base.specs.Disk.{DiskState, DiskStatus, DeviceCalls, MayLeave, IsSafe}
 use Rattle.ktm_base.specs.Told.{IfTold, Tells, Goes}
@@ -11,15 +11,14 @@ use Rattle.ktm_journal.proofs.OneImage.{not_bad}
 use Rattle.ktm_kernel.specs.Restarts.{HoldsBoth, LeavesOwnOrNot, Started, base_of, is_full_for_own}
 use Rattle.ktm_kernel.specs.Stands.{KernelState, KernelAt}
 use Rattle.ktm_run.specs.Opening.{Prepared}
-use Rattle.ktm_run.specs.KeyTheorem.{Begins, BeginsAs, BeginsWith, LeavesOpening}
-use Rattle.ktm_run.specs.Theorem.{RunCounts}
-use Rattle.ktm_keys.specs.Durable.{Durable, empty_state, stand}
-use Rattle.ktm_keys.proofs.Logs.{stand-append}
+use Rattle.ktm_run.specs.Theorem.{Begins, BeginsAs, BeginsWith, LeavesOpening, RunCounts}
+use Rattle.ktm_world.specs.Durable.{Durable, empty_state, stand}
+use Rattle.ktm_world.proofs.Durables.{stand-append, stand-units, stand-image}
 use Rattle.ktm_world.proofs.SizeLemmas.{log_size-append}
 use Rattle.ktm_world.specs.Outcome.{is_full}
 use Rattle.ktm_world.specs.Sizes.{log_size}
 use Rattle.ktm_world.specs.Logs.{Group}
-use Rattle.ktm_keys.specs.World.{opened, own_group}
+use Rattle.ktm_world.specs.World.{opened, own_group}
 
 -- all of the disk is safe, and it holds groups that come to the state and leave the room
 pub record IsBase (base : Durable) (room : ℕ) (s : DiskState) : Type 0 where
@@ -83,7 +82,8 @@ module _ (base : Durable) (room : ℕ) where
       let start = starts base.units base.image is.before [] is.holds in (
         subst (λ n. KernelAt kernel new (opened base n [])) (sym is.room_is)
             (subst (λ (d : Durable). KernelAt kernel new (opened d (left_after base.units is.before) [])) (sym is.comes_to) start.stands),
-        subst (λ n. is_full n (own_group base) ≡ false) (all_left (left_after base.units is.before) ∙ sym is.room_is) start.room,
+        subst (λ n. is_full n (own_group base) ≡ false) (all_left (left_after base.units is.before) ∙ sym is.room_is)
+            (subst (λ (d : Durable). is_full (left_after base.units is.before - log_size []) (own_group d) ≡ false) (sym is.comes_to) start.room),
       )
 
   pub no_room : (told : Option DiskState) → Tells told (IsBase base room)
@@ -91,7 +91,8 @@ module _ (base : Durable) (room : ℕ) where
       → is_full room (own_group base) ≡ true
   no_room None is full = absurd is
   no_room (Some s) is full =
-      subst (λ n. is_full n (own_group base) ≡ true) (all_left (left_after base.units is.before) ∙ sym is.room_is) (full base.units base.image is.before [] is.holds)
+      subst (λ n. is_full n (own_group base) ≡ true) (all_left (left_after base.units is.before) ∙ sym is.room_is)
+      (subst (λ (d : Durable). is_full (left_after base.units is.before - log_size []) (own_group d) ≡ true) (sym is.comes_to) (full base.units base.image is.before [] is.holds))
 
   -- what is left where nothing was written may begin the same run
   pub left_begins : (told : Option DiskState) → Tells told (IsBase base room) → Tells told (λ s. (image : List ℕ) → MayLeave s image → BeginsAs base room image)
@@ -200,14 +201,20 @@ module _ (base : Durable) (room : ℕ) where
     ]
   ]
 
+  room_after : (before : List Group) → room ≡ left_after base.units before → room - log_size (own_group base ∷ []) ≡ left_after base.units (before ++ own_group base ∷ [])
+  room_after before left = let size = log_size-append before (own_group base ∷ []) in omega (arith, left, size)
+
   recorded : (before : List Group) (image : List ℕ) → base ≡ base_of base.units base.image before → room ≡ left_after base.units before
       → HoldsLog base.units base.image (before ++ own_group base ∷ []) image → BeginsWith (stand base (own_group base ∷ [])) (room - log_size (own_group base ∷ [])) image
-  recorded before image is left holds = record {
-    log = before ++ own_group base ∷ [];
-    holds = holds;
-    comes_to = ap (λ (d : Durable). stand d (own_group base ∷ [])) is ∙ sym (stand-append (empty_state base.units base.image) before (own_group base ∷ []));
-    room_is = let size = log_size-append before (own_group base ∷ []) in omega (arith, left, size);
-  }
+  recorded before image is left holds =
+      let units = sym (stand-units base (own_group base ∷ [])) in
+      let number = sym (stand-image base (own_group base ∷ [])) in record {
+        log = before ++ own_group base ∷ [];
+        holds = subst (λ n. HoldsLog (stand base (own_group base ∷ [])).units n (before ++ own_group base ∷ []) image) number (subst (λ n. HoldsLog n base.image (before ++ own_group base ∷ []) image) units holds);
+        comes_to = ap (λ (d : Durable). stand d (own_group base ∷ [])) is ∙ sym (stand-append (empty_state base.units base.image) before (own_group base ∷ []))
+            ∙ ap₂ (λ n m. stand (empty_state n m) (before ++ own_group base ∷ [])) units number;
+        room_is = room_after before left ∙ ap (λ n. left_after n (before ++ own_group base ∷ [])) units;
+      }
 
   -- in the restart
   pub cut_within : (told new : Option DiskState) → Tells told (IsBase base room)

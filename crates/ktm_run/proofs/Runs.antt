@@ -16,7 +16,7 @@ use Rattle.ktm_run.specs.Progress.{Scene, Now, Counts, Answers, Ran, Progress, B
 use Rattle.ktm_run.specs.Script.{has_reply, Means, MeanAll, reply_line}
 use Rattle.ktm_world.specs.declared.command.Line.{Line}
 use Rattle.ktm_world.specs.declared.reply.Reply.{Reply}
-use Rattle.ktm_keys.specs.World.{World}
+use Rattle.ktm_world.specs.World.{World}
 
 MeanAll-append : (xs : List (List ℕ)) (ys : List (List ℕ)) (ms ns : List (Option Line)) → MeanAll xs ms → MeanAll ys ns → MeanAll (xs ++ ys) (ms ++ ns)
 MeanAll-append [] ys [] ns h k = k

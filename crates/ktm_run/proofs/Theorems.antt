@@ -1,23 +1,31 @@
 -- From the lines that were answered to what a run comes to.
-use Rattle.std.proofs.Common.{◌≡◌, ◌⊎◌, inl, inr, ℕ, ◌+◌, ◌*◌, ◌<◌, ◌≤◌, false, List, [], ◌++◌, length, take, Option, Some, None, refl, ◌∙◌, ap, arith, add-mul}
+use Rattle.std.proofs.Common.{◌≡◌, ◌⊎◌, inl, inr, ℕ, ◌+◌, ◌*◌, ◌<◌, ◌≤◌, true, false, List, [], ◌∷◌, ◌++◌, length, take, Option, Some, None, refl, ◌∙◌, ap, arith, add-mul}
+use Rattle.std.proofs.lemmas.Bool.{and_from}
 use Rattle.std.proofs.lemmas.List.{append-nil}
 use Rattle.std.specs.Io.KnownBytes.{Consumes, IsAtEnd}
+use Rattle.std.specs.List.{list_all, filter}
 use Rattle.ktm_base.specs.declared.power.PowerCall.{PowerCall}
+use Rattle.ktm_base.specs.declared.power.PowerCall.TheVariants.{Power}
 use Rattle.ktm_base.specs.Count.{Rose}
-use Rattle.ktm_base.specs.Disk.{DiskStatus}
+use Rattle.ktm_base.specs.Disk.{DiskState, DiskStatus, HasLengths}
 use Rattle.ktm_base.specs.Told.{IfTold, Tells}
-use Rattle.ktm_kernel.specs.Stands.{KernelState, KernelAt}
+use Rattle.ktm_base.proofs.Images.{seen_law}
+use Rattle.ktm_built.proofs.Tellings.{outcome_law}
+use Rattle.ktm_kernel.specs.Stands.{KernelState, KernelAt, LeavesStates}
 use Rattle.ktm_kernel.proofs.Left.{left_law}
 use Rattle.ktm_run.specs.declared.status.Status.{Status}
 use Rattle.ktm_run.specs.declared.status.Status.TheVariants.{Done, Usage, SourceFault, SinkFault, NoMemory, BadImage, DiskFault, ScriptTooLong, LogFull}
-use Rattle.ktm_run.specs.Progress.{Scene, Now, Counts, Progress, Stops}
-use Rattle.ktm_run.specs.Script.{cut_lines, lines_from, most_script}
-use Rattle.ktm_run.specs.KeyTheorem.{Replied, EndedBetween, EndedWithin, EndedEarly, RunTheorem}
+use Rattle.ktm_run.specs.Progress.{Scene, Now, Counts, Ran, Progress, Broke, Stops}
+use Rattle.ktm_run.specs.Script.{has_reply, Means, MeanAll, cut_lines, lines_from, most_script}
 use Rattle.ktm_run.specs.Early.{Outside, Ends, FoundDown}
-use Rattle.ktm_run.specs.Theorem.{RunCounts}
-use Rattle.ktm_keys.specs.Durable.{Durable}
+use Rattle.ktm_run.specs.Theorem.{HoldsStates, Moment, moment_of, RunCounts, LineCounts, Replied, RunTheorem, EndedBetween, Unanswered, HalfWritten, EndedWithin, EndedEarly}
+use Rattle.ktm_world.specs.declared.command.Line.{Line}
+use Rattle.ktm_world.specs.declared.command.Line.TheVariants.{Restart}
+use Rattle.ktm_world.specs.Built.{is_built_line}
+use Rattle.ktm_world.specs.Durable.{Durable}
+use Rattle.ktm_world.specs.Logs.{is_up}
 use Rattle.ktm_world.specs.Outcome.{is_full}
-use Rattle.ktm_keys.specs.World.{opened, own_group}
+use Rattle.ktm_world.specs.World.{World, opened, own_group}
 
 few_lines : (a b c n x : ℕ) → b ≤ a + (0 + 4) * x → c ≤ b + n * x → c ≤ a + (n + 4) * x
 few_lines a b c n x h k = rw (add-mul n 4 x) (omega arith)
@@ -30,47 +38,103 @@ all_counts base room old first last n plan fell opening counts = record {
   few = few_lines old.calls first.status.calls last.status.calls n (16 * base.units + 256) opening.few counts.few;
 }
 
-module _ (base : Durable) (room : ℕ) (old new : Outside) (first : Scene) (machine : KernelState) where
+-- ---- what is told of a run
+
+-- the lines that were executed are built
+built_of : (lines : List (List ℕ)) (meant : List (Option Line)) → MeanAll lines meant → list_all is_built_line meant ≡ true
+built_of [] [] mean = refl
+built_of [] (line ∷ meant) mean = absurd mean
+built_of (bytes ∷ lines) [] mean = absurd mean
+built_of (bytes ∷ lines) (None ∷ meant) mean = built_of lines meant mean.1
+built_of (bytes ∷ lines) (Some line ∷ meant) mean = and_from _ _ mean.0.1 (built_of lines meant mean.1)
+
+-- what is read is one of the images that may be left
+holds_of : (told : Option DiskState) (w : World) → IfTold told HasLengths → Tells told (LeavesStates w) → Tells told (HoldsStates w)
+holds_of None w lengths leaves = absurd leaves
+holds_of (Some s) w lengths leaves = record { seen = leaves s.seen (seen_law s lengths); left = leaves }
+
+abbrev moment_at : Now → Moment
+moment_at now = record { taken = now.taken; disk = now.scene.disk; status = now.scene.status }
+
+-- ---- a line at which a run ended
+
+module _ (w : World) (at new : Now) (line : List ℕ) (lengths : IfTold new.scene.disk HasLengths) where
+  line_counts : (n : ℕ) (plan : List PowerCall) (fell : ℕ) → Counts w at.scene new.scene n plan fell → LineCounts w.base.units at.scene.status new.scene.status n plan fell
+  line_counts n plan fell counts = record { rose = counts.rose; plan_is = counts.plan_is; few = counts.few }
+
+  unanswered_counts : Counts w at.scene new.scene 1 [] 0 ⊎ ((pick : ℕ) × Means line (Some (Restart pick)) × (is_up w.power ≡ false) × Counts w at.scene new.scene 1 (Power pick ∷ []) 0)
+      → LineCounts w.base.units at.scene.status new.scene.status 1 [] 0
+      ⊎ ((pick : ℕ) × Means line (Some (Restart pick)) × (is_up w.power ≡ false) × LineCounts w.base.units at.scene.status new.scene.status 1 (Power pick ∷ []) 0)
+  unanswered_counts (inl none) = inl (line_counts 1 [] 0 none)
+  unanswered_counts (inr (pick, mean, off, some)) = inr (pick, mean, off, line_counts 1 (Power pick ∷ []) 0 some)
+
+  broke_of : Broke w at new line → Unanswered w (moment_at at) (moment_at new) line ⊎ HalfWritten w (moment_at at) (moment_at new) line
+  broke_of (inl (wrote, unanswered)) = inl (record {
+    wrote = wrote;
+    holds = holds_of new.scene.disk w lengths unanswered.leaves;
+    counts = unanswered_counts unanswered.counts;
+  })
+  broke_of (inr half) =
+      let did = half.did in inr (record {
+        meant = half.meant;
+        mean = half.mean;
+        step = did.step;
+        reply = half.reply;
+        world = did.world;
+        does = did.does;
+        wrote = half.wrote;
+        counts = line_counts 1 _ _ did.counts;
+        holds = holds_of new.scene.disk did.world lengths half.leaves;
+      })
+
+-- ---- the run
+
+module _ (base : Durable) (room : ℕ) (old new : Outside) (first : Scene) (machine : KernelState) (lengths : IfTold new.disk HasLengths) where
   abbrev begun : Now
   begun = record { scene = first; taken = old.taken }
 
   abbrev ended : Now
   ended = record { scene = record { machine = machine; disk = new.disk; status = new.status }; taken = new.taken }
 
-  replied : (lines : List (List ℕ)) → KernelAt first.machine first.disk (opened base room []) → RunCounts base.units old.status first.status 0 [] 0 → Progress begun ended lines → Replied base room old new lines
-  replied lines stands opening progress =
-      let ran = progress (opened base room []) stands in record {
-        meant = ran.meant;
-        steps = ran.steps;
-        replies = ran.replies;
-        world = ran.world;
-        mean = ran.mean;
-        transcript = ran.run;
-        wrote = ran.wrote;
-        counts = all_counts base room old.status first ended.scene _ _ _ opening ran.counts;
-        images = left_law machine new.disk ran.world ran.stands;
-      }
-
   module _ (stands : KernelAt first.machine first.disk (opened base room [])) (fits : is_full room (own_group base) ≡ false) (opening : RunCounts base.units old.status first.status 0 [] 0) where
+    abbrev replied : (at : Now) (lines : List (List ℕ)) → IfTold at.scene.disk HasLengths → Ran (opened base room []) begun at lines → Replied base room (moment_of old) (moment_at at) lines
+    replied at lines long ran = record {
+      meant = ran.meant;
+      steps = ran.steps;
+      replies = ran.replies;
+      world = ran.world;
+      mean = ran.mean;
+      transcript = ran.run;
+      one_outcome = outcome_law (opened base room []) ran.meant ran.steps ran.replies ran.world stands.standing (built_of (filter has_reply lines) ran.meant ran.mean) ran.run;
+      wrote = ran.wrote;
+      counts = all_counts base room old.status first at.scene _ _ _ opening ran.counts;
+      holds = holds_of at.scene.disk ran.world long (left_law at.scene.machine at.scene.disk ran.world ran.stands);
+    }
+
+    all_replied : (lines : List (List ℕ)) → Progress begun ended lines → Replied base room (moment_of old) (moment_of new) lines
+    all_replied lines progress = replied ended lines lengths (progress (opened base room []) stands)
+
     whole : (script : List ℕ) → Consumes old.left new.left script → IsAtEnd new.left → length script ≤ most_script → Progress begun ended (cut_lines script) → RunTheorem base room old new
-    whole script read at_end within progress = record { script = script; was_read = read; at_end = at_end; within = within; room_left = fits; replied = replied (cut_lines script) stands opening progress }
+    whole script read at_end within progress = record { script = script; was_read = read; at_end = at_end; within = within; room_left = fits; replied = all_replied (cut_lines script) progress }
 
     between : (script lines : List ℕ) → Consumes old.left new.left script → Progress begun ended (lines_from [] lines) → EndedBetween base room old new script lines
-    between script lines read progress = record { was_read = read; room_left = fits; replied = replied (lines_from [] lines) stands opening progress }
+    between script lines read progress = record { was_read = read; room_left = fits; replied = all_replied (lines_from [] lines) progress }
 
     within : (script : List ℕ) → Consumes old.left new.left script → length script ≤ most_script → Stops begun ended (cut_lines script) → EndedWithin base room old new
-    within script read few stops = record {
-      script = script;
-      was_read = read;
-      within = few;
-      room_left = fits;
-      first = first;
-      last = ended.scene;
-      disk_is = refl;
-      status_is = refl;
-      opening = opening;
-      stopped = stops (opened base room []) stands;
-    }
+    within script read few stops =
+        let stopped = stops (opened base room []) stands in record {
+          script = script;
+          was_read = read;
+          within = few;
+          room_left = fits;
+          before = stopped.before;
+          line = stopped.line;
+          behind = stopped.behind;
+          split = stopped.split;
+          at = moment_at stopped.at;
+          replied = replied stopped.at stopped.before stopped.lengths stopped.ran;
+          broke = broke_of stopped.ran.world stopped.at ended stopped.line lengths stopped.broke;
+        }
 
     pub run_ended : (result : Status)
         → (result ≡ Done → (script : List ℕ) × Consumes old.left new.left script × IsAtEnd new.left × (length script ≤ most_script) × Progress begun ended (cut_lines script))
@@ -82,7 +146,7 @@ module _ (base : Durable) (room : ℕ) (old new : Outside) (first : Scene) (mach
     run_ended Done done part behind broke usage image down full = let (script, read, at_end, short, progress) = done refl in whole script read at_end short progress
     run_ended SourceFault done part behind broke usage image down full = let (script, read, short, progress) = part refl in (script, short, between script script read progress)
     run_ended ScriptTooLong done part behind broke usage image down full = let (script, read, long, progress) = behind refl in (script, long, between script (take most_script script) read progress)
-    run_ended SinkFault done part behind broke usage image down full = let (script, read, few, stops) = broke (inl refl) in within script read few stops
+    run_ended SinkFault done part behind broke usage image down full = let (script, read, few, stops) = broke (inl refl) in inr (within script read few stops)
     run_ended NoMemory done part behind broke usage image down full = let (script, read, few, stops) = broke (inr refl) in inr (within script read few stops)
     run_ended Usage done part behind broke usage image down full = absurd (usage refl)
     run_ended BadImage done part behind broke usage image down full = absurd (image refl)

@@ -6,4 +6,3 @@ pub mod Progress
 pub mod Opening
 pub mod Early
 pub mod Theorem
-pub mod KeyTheorem

@@ -12,9 +12,8 @@ use Rattle.ktm_run.specs.Script.{has_reply, Means, MeanAll, AppendsPart, reply_l
 use Rattle.ktm_world.specs.declared.command.Line.{Line}
 use Rattle.ktm_world.specs.declared.command.Line.TheVariants.{Restart}
 use Rattle.ktm_world.specs.declared.reply.Reply.{Reply}
-use Rattle.ktm_world.specs.Transcript.{Step}
-use Rattle.ktm_keys.specs.Transcript.{Does, Transcript}
-use Rattle.ktm_keys.specs.World.{World}
+use Rattle.ktm_world.specs.Transcript.{Step, Does, Transcript}
+use Rattle.ktm_world.specs.World.{World}
 use Rattle.ktm_world.specs.Logs.{is_up}
 
 -- the machine, and what its disk tells and counts

@@ -6,7 +6,8 @@ use Rattle.ktm_base.specs.declared.power.PowerCall.{PowerCall}
 use Rattle.ktm_base.specs.declared.power.PowerCall.TheVariants.{Power}
 use Rattle.ktm_base.specs.Disk.{DiskState, DiskStatus, MayLeave, IsSafe}
 use Rattle.ktm_base.specs.Told.{Tells}
-use Rattle.ktm_journal.specs.Image.{HoldsLog, left_after}
+use Rattle.ktm_journal.specs.Image.{HoldsLog, StandsFor, left_after}
+use Rattle.ktm_kernel.specs.Stands.{LeavesStates}
 use Rattle.ktm_world.specs.Durable.{Durable, empty_state, stand}
 use Rattle.ktm_world.specs.OneOutcome.{HasOneOutcome, tellings}
 use Rattle.ktm_world.specs.Transcript.{Does, Transcript, Step}
@@ -42,16 +43,6 @@ abbrev pub Begins : Durable → ℕ → DiskState → Type 0
 Begins base room s = IsSafe s × BeginsAs base room s.seen
 
 -- ---- what a disk may leave
-
--- the image stands for this durable state: it is what the groups of its log come to
-pub record StandsFor (state : Durable) (image : List ℕ) : Type 0 where
-  pub log : List Group
-  pub holds : HoldsLog state.units state.image log image
-  pub comes_to : state ≡ stand (empty_state state.units state.image) log
-
--- each image that a loss of power may leave stands for the state that one of the possible logs comes to
-abbrev pub LeavesStates : World → DiskState → Type 0
-LeavesStates w s = (image : List ℕ) → MayLeave s image → (log : List Group) × Contains (possible_logs w) log × StandsFor (stand w.base log) image
 
 -- what the disk reads, and each image that a loss of power may leave, stands for the state of a possible log
 pub record HoldsStates (w : World) (s : DiskState) : Type 0 where

@@ -5,7 +5,7 @@ ghost use Rattle.ktm_run.specs.Progress.{Answers, Unanswered};
 ghost use Rattle.ktm_run.specs.Script.{Means};
 ghost use Rattle.ktm_world.specs.Built.{is_built_command};
 ghost use Rattle.ktm_world.specs.Values.{IsCommand};
-ghost use Rattle.ktm_keys.specs.World.{World};
+ghost use Rattle.ktm_world.specs.World.{World};
 ghost use Rattle.ktm_world.specs.declared.command.Line.{Line};
 ghost use Rattle.ktm_world.specs.declared.command.Line.TheVariants.{Cut, Crash, Restart, Process};
 

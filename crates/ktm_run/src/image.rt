@@ -5,10 +5,10 @@ ghost use Rattle.ktm_base.specs.Count.{Rose};
 ghost use Rattle.ktm_base.specs.Stream.{Faults};
 ghost use Rattle.ktm_base.specs.Told.{IfTold, Tells};
 ghost use Rattle.ktm_run.specs.Form.{bad_image_line};
-ghost use Rattle.ktm_run.specs.KeyTheorem.{Begins, BeginsAs, EndedEarly};
+ghost use Rattle.ktm_run.specs.Theorem.{Begins, BeginsAs, EndedEarly};
 ghost use Rattle.ktm_run.specs.Early.{Ends};
 ghost use Rattle.ktm_run.specs.Script.{AppendsPart, most_script};
-ghost use Rattle.ktm_keys.specs.Durable.{Durable};
+ghost use Rattle.ktm_world.specs.Durable.{Durable};
 
 use crate::fault::OpenFault;
 use crate::line::MOST_KEPT;

@@ -4,7 +4,7 @@ ghost use Rattle.ktm_base.specs.Count.{Rose};
 ghost use Rattle.ktm_kernel.specs.Stands.{KernelAt, IsReady};
 ghost use Rattle.ktm_run.specs.Progress.{Progress, Broke, Stops};
 ghost use Rattle.ktm_run.specs.Script.{has_reply, kept_of, lines_from, part_from};
-ghost use Rattle.ktm_keys.specs.World.{World};
+ghost use Rattle.ktm_world.specs.World.{World};
 
 use crate::answer::answer;
 use crate::fault::RunFault;

@@ -5,12 +5,11 @@ ghost use Rattle.ktm_base.specs.Told.{IfTold, Tells, Goes};
 ghost use Rattle.ktm_journal.specs.Bad.{IsBadAt};
 ghost use Rattle.ktm_kernel.specs.Stands.{KernelAt, IsReady};
 ghost use Rattle.ktm_run.specs.Opening.{Prepared, IfBadImage, IfOpened};
-ghost use Rattle.ktm_run.specs.KeyTheorem.{Begins, BeginsAs, LeavesOpening};
+ghost use Rattle.ktm_run.specs.Theorem.{Begins, BeginsAs, LeavesOpening, RunCounts};
 ghost use Rattle.ktm_run.specs.Early.{WentDown};
-ghost use Rattle.ktm_run.specs.Theorem.{RunCounts};
-ghost use Rattle.ktm_keys.specs.Durable.{Durable};
+ghost use Rattle.ktm_world.specs.Durable.{Durable};
 ghost use Rattle.ktm_world.specs.Outcome.{is_full};
-ghost use Rattle.ktm_keys.specs.World.{opened, own_group};
+ghost use Rattle.ktm_world.specs.World.{opened, own_group};
 
 use crate::fault::OpenFault;
 use ktm_base::{Disk, Down};

@@ -12,8 +12,7 @@ pub use rm::KvRm;
 mod tests {
     use super::*;
     use ktm_base::{Bytes, Id, Text};
-    use ktm_keys::Durable;
-    use ktm_world::{Event, Part, Settings};
+    use ktm_world::Entry;
     use std::alloc::Global;
     use std::process::Abort;
     use std::test::Fail;
@@ -143,30 +142,15 @@ mod tests {
     }
 
     #[test]
-    fn committed_keys_are_found_again(rt: HostRuntime) -> Result<(), Fail> {
+    fn stored_keys_are_seen(rt: HostRuntime) -> Result<(), Fail> {
         let alloc = rt.alloc();
-        let mut keys = KvRm::with_store(alloc, Vec::new(alloc));
-        set(alloc, &mut keys, FIRST, b"b", b"two")?;
-        set(alloc, &mut keys, FIRST, b"a", b"one")?;
-        let mut settings = Vec::new(alloc);
-        for setting in keys.own_settings(FIRST) {
-            settings.push(setting.clone()?)?;
-        }
-        let part = Part::Settings(Settings::new(settings));
-        let mut events = Vec::new(alloc);
-        events.push(Event::Boot { boot: 1 })?;
-        events.push(Event::Single {
-            transaction: FIRST,
-            part,
+        let mut store = Vec::new(alloc);
+        store.push(Entry {
+            key: Text::new(b"a".to_vec(alloc)?),
+            value: Bytes::new(b"one".to_vec(alloc)?),
         })?;
-        let mut state = Durable::empty(alloc, 4, 7);
-        assert!(rt; state.apply_all(events)?);
-        assert_eq!(rt; state.units(), 4);
-        assert_eq!(rt; state.image(), 7);
-        assert_eq!(rt; state.events(), 2);
-        assert_eq!(rt; state.boots(), 1);
-        let keys = KvRm::with_store(alloc, state.into_keys());
-        check(&rt, &keys, None, &[(b"a", b"one"), (b"b", b"two")]);
+        let keys = KvRm::with_store(alloc, store);
+        check(&rt, &keys, None, &[(b"a", b"one")]);
         Ok(())
     }
 }

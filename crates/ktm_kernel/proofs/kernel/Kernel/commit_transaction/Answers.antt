@@ -122,5 +122,5 @@ returns-then-is_empty-clause-ends g c =
     let standing = rw (← c.self.view_is) at (c.requires.ready.standing c.requires.up) in
     let own = c.own_settings-settings.ensures ∙ ap (λ n. own_settings n.keys.own c.in-Ok.t.id) c.reserve.ensures.same in
     let quiet = commit_quiet now c.args.process c.args.label c.in-Ok.t (rw (← c.self.view_is) at c.requires.up) standing.built c.in-Ok.ensures.ok.0 c.in-Ok.ensures.ok.1 c.own_settings-settings.result.now own (sym c.is_empty.ensures ∙ c.if-is_empty.true)
-        _ (c.commit.ensures ∙ ap (λ n. with_commit n c.in-Ok.t) c.reserve.ensures.same) in
+    _ (c.commit.ensures ∙ ap (λ n. with_commit n c.in-Ok.t) c.reserve.ensures.same) in
     rw (← c.self.view_is) (quiet_ends _ now _ c.self.inside.journal c.args.process _ _ _ (c.requires.ready.powered.power c.requires.up) quiet.0 quiet.1)
