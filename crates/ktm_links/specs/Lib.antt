@@ -1,0 +1,5 @@
+pub mod Entry
+pub mod Items
+pub mod Links
+pub mod Mapped
+pub mod Order

@@ -1,0 +1,59 @@
+-- How keys in order of their values' names stand for a map. No public clause cites this module.
+use Rattle.std.specs.Prelude.{◌≡◌, ◌⊎◌, ℕ, ◌<◌, true, false, List, [], ◌∷◌, length, get_or, Option, Some, None, is_some}
+use Rattle.std.specs.declared.cmp.Ordering.TheVariants.{Less}
+use Rattle.std.specs.declared.cmp.Ordering.{Ordering}
+use Rattle.std.specs.Ordering.{is_lt}
+use Rattle.ktm_links.specs.declared.list.Key.{Key}
+use Rattle.ktm_links.specs.Items.{Item, value_at}
+use Rattle.ktm_links.specs.Mapped.{NameAndValue, NamedItem, name_cmp}
+
+-- the key is among these
+abbrev pub HasKey : Key → List Key → Type 0
+HasKey key [] = ⊥
+HasKey key (k ∷ ks) = (k ≡ key) ⊎ HasKey key ks
+
+module _ {T : Type 0} where
+  -- each entry's name is above this one
+  abbrev pub AreAbove : List ℕ → List (NamedItem T) → Type 0
+  AreAbove name [] = Unit {0}
+  AreAbove name (e ∷ es) = (name_cmp name e.name ≡ Less) × AreAbove name es
+
+  -- the names rise strictly
+  abbrev pub IsRising : List (NamedItem T) → Type 0
+  IsRising [] = Unit {0}
+  IsRising (e ∷ es) = AreAbove e.name es × IsRising es
+
+  -- how the name of a value, if there is one, stands to this one
+  abbrev pub order_in : Option (NameAndValue T) → List ℕ → Ordering
+  order_in None name = Less
+  order_in (Some n) name = name_cmp n.name name
+
+  -- how the name of the key's value stands to this one
+  abbrev pub order_at : List (Item (NameAndValue T)) → List ℕ → Key → Ordering
+  order_at items name key = order_in (value_at items key) name
+
+  -- the entry of a key whose value this is, and then the rest
+  abbrev pub entry_from : Key → Option (NameAndValue T) → List (NamedItem T) → List (NamedItem T)
+  entry_from key None rest = rest
+  entry_from key (Some n) rest = record { name = n.name; key = key; value = n.value } ∷ rest
+
+  -- the entry of each key
+  abbrev pub entries_of : List (Item (NameAndValue T)) → List Key → List (NamedItem T)
+  entries_of items [] = []
+  entries_of items (k ∷ ks) = entry_from k (value_at items k) (entries_of items ks)
+
+  -- each key names a value
+  abbrev pub ArePresent : List (Item (NameAndValue T)) → List Key → Type 0
+  ArePresent items [] = Unit {0}
+  ArePresent items (k ∷ ks) = (is_some (value_at items k) ≡ true) × ArePresent items ks
+
+  -- the keys name all the values, by rising name
+  pub record IsInOrder (items : List (Item (NameAndValue T))) (keys : List Key) : Type 0 where
+    pub present : ArePresent items keys
+    pub rising : IsRising (entries_of items keys)
+    pub complete : (key : Key) → is_some (value_at items key) ≡ true → HasKey key keys
+
+  -- at the place the first name stands that is not below this one, or all names are below it
+  pub record IsFirstNotBelow (items : List (Item (NameAndValue T))) (name : List ℕ) (keys : List Key) (place : ℕ) : Type 0 where
+    pub below : (i : ℕ) (d : Key) → i < place → order_at items name (get_or keys i d) ≡ Less
+    pub not_below : (d : Key) → place < length keys → is_lt (order_at items name (get_or keys place d)) ≡ false

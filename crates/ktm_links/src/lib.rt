@@ -1,0 +1,61 @@
+//! A list in order, through the places of a slab, whose keys name one value ever, and a map from names. Both take no
+//! memory for what comes once its place is reserved.
+#![tactic(auto)]
+
+mod chains;
+mod entry;
+mod list;
+mod name;
+mod named;
+
+pub use chains::Chains;
+pub use list::{Key, List};
+pub use name::{InlineName, Name};
+
+#[cfg(test)]
+mod tests {
+    use super::*;
+    use std::test::Fail;
+
+    #[test]
+    fn an_old_key_names_nothing(rt: HostRuntime) -> Result<(), Fail> {
+        let mut list = List::new(rt.alloc());
+        let one = list.push_back(1u32)?;
+        let two = list.push_back(2u32)?;
+        list.push_back(3u32)?;
+        assert_eq!(&rt; list.first_key(), Some(one));
+        assert_eq!(&rt; list.unlink(two), Some(2));
+        assert_eq!(&rt; list.unlink(two), None);
+        assert!(&rt; !list.contains(two));
+        if list.reserve(2).is_err() {
+            return Ok(());
+        }
+        list.push_spare(4);
+        assert!(&rt; list.spare() > 0);
+        assert_eq!(&rt; list.get(two), None);
+        assert_eq!(&rt; list.pop_front(), Some(1));
+        assert_eq!(&rt; list.pop_front(), Some(3));
+        assert_eq!(&rt; list.pop_front(), Some(4));
+        assert_eq!(&rt; list.pop_front(), None);
+        Ok(())
+    }
+
+    #[test]
+    fn a_name_finds_its_value(rt: HostRuntime) -> Result<(), Fail> {
+        let mut map: Chains<InlineName<8>, u32> = Chains::new(rt.alloc());
+        if map.reserve(3).is_err() {
+            return Ok(());
+        }
+        map.insert(InlineName::new(b"pear"), 1);
+        let fig = map.insert(InlineName::new(b"fig"), 2);
+        assert!(&rt; map.spare() > 0);
+        assert_eq!(&rt; map.find(b"fig"), Some(fig));
+        assert_eq!(&rt; map.get(fig), Some(&2));
+        assert_eq!(&rt; map.find(b"plum"), None);
+        assert_eq!(&rt; map.first_from(b"f"), Some(fig));
+        assert_eq!(&rt; map.remove(b"fig"), Some(2));
+        assert_eq!(&rt; map.find(b"fig"), None);
+        assert_eq!(&rt; map.get(fig), None);
+        Ok(())
+    }
+}
