@@ -1,0 +1,3 @@
+pub mod Diamond
+pub mod Footprint
+pub mod Formed

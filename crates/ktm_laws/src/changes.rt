@@ -1,0 +1,26 @@
+// Laws of changes of a tree.
+ghost use Rattle.ktm_laws.specs.Diamond.{DiamondLaw};
+ghost use Rattle.ktm_laws.specs.Footprint.{ListsLaw};
+ghost use Rattle.ktm_laws.specs.Formed.{FormedLaw};
+
+use ktm_world::law_of_paths;
+
+/// Two changes that are apart apply in both orders, hold what they held, and make the same tree.
+pub fn law_of_diamonds()
+    ensures { DiamondLaw }
+{}
+
+/// What applies to a well-formed tree leaves it well formed.
+pub fn law_of_forms()
+    ensures { FormedLaw }
+{
+    law_of_paths();
+}
+
+/// Two lists of changes that hold nothing both apply in both orders, hold what they held, and make the same tree.
+pub fn law_of_lists()
+    ensures { ListsLaw }
+{
+    law_of_diamonds();
+    law_of_forms();
+}

@@ -1,0 +1,6 @@
+//! Laws of the whole model, beyond those beside its definitions: each is the contract of a function that does nothing.
+#![tactic(auto)]
+
+mod changes;
+
+pub use changes::{law_of_diamonds, law_of_forms, law_of_lists};
