@@ -8,7 +8,7 @@ use Rattle.ktm_world.specs.Durable.{Durable, event_applies, after_event, is_with
 use Rattle.ktm_world.specs.Keys.{OwnSettings, are_good_settings, stored_all}
 use Rattle.ktm_built.specs.Laws.{StateLaw}
 use Rattle.ktm_built.proofs.Alone.{alone_state, by_alone_state}
-use Rattle.ktm_built.proofs.Logs.{stand_built}
+use Rattle.ktm_world.proofs.BuiltStates.{built_stand}
 
 boot_alone : (s : Durable) (boot : ℕ)
     → event_applies (alone_state s) (Boot boot) ≡ ((boot == s.boots + 1 && nat_lt boot (2 ^ 32 - 1)) && (nat_le 1 s.units && nat_le (length s.keys) s.units) && nat_lt (s.events + 1) (2 ^ 63))
@@ -32,5 +32,5 @@ state_law = (
       s state (settings_alone s id settings),
   λ s boot state. by_alone_state (λ (t : Durable). after_event t (Boot boot) ≡ record t { events = t.events + 1; boots = boot }) s state refl,
   λ s id settings state. by_alone_state (λ (t : Durable). after_event t (Single id (Settings settings)) ≡ record t { events = t.events + 1; keys = stored_all t.keys settings }) s state refl,
-  stand_built,
+  built_stand,
 )

@@ -35,7 +35,9 @@ use Rattle.ktm_built.specs.Standing.{IsBuiltNow, IsBuiltWorld, IsSoundNow, IsSta
 use Rattle.ktm_built.proofs.Alone.{alone, by_alone, by_alone_state}
 use Rattle.ktm_built.proofs.Ids.{same_id-turned}
 use Rattle.ktm_built.proofs.Limits.{IsWithin, within_limits, limits_hold}
-use Rattle.ktm_built.proofs.Logs.{stand-append, stand-as_groups, log_applies-append, log_applies-as_groups, stand_built, own_group_is, contains_passes, prefixes_built, groups_built, log_with_own, logs_with_own}
+use Rattle.ktm_built.proofs.Logs.{contains_passes, prefixes_built, groups_built, log_with_own, logs_with_own}
+use Rattle.ktm_world.proofs.BuiltStates.{built_events, built_stand, own_is}
+use Rattle.ktm_world.proofs.Durables.{stand-append, stand-as_groups, log_applies-append, log_applies-as_groups}
 use Rattle.ktm_built.proofs.Machine.{with_machine, built_machine}
 use Rattle.ktm_built.proofs.Now.{IsPlain, plain_of, standing_of, sound_machine, within_machine, decided_plain, records-decided, now_law}
 use Rattle.ktm_built.proofs.States.{state_law}
@@ -182,7 +184,7 @@ record BootFits (s : Durable) : Type 0 where
 
 boot_fits : (s : Durable) → IsBuiltState s → events_apply s (own_group s) ≡ true → BootFits s
 boot_fits s state applies =
-    let one : (event_applies s (Boot (s.boots + 1)) && true) ≡ true = ap (λ (group : Group). events_apply s group) (sym (own_group_is s state)) ∙ applies in
+    let one : (event_applies s (Boot (s.boots + 1)) && true) ≡ true = ap (λ (group : Group). events_apply s group) (sym (own_is s state)) ∙ applies in
     let boot = (and_parts (event_applies s (Boot (s.boots + 1))) true one).0 in
     let parts = and_parts _ (nat_lt (s.events + 1) (2 ^ 63)) (sym (state_law.0 s (s.boots + 1) state) ∙ boot) in
     let room = and_parts (nat_le 1 s.units) (nat_le (length s.keys) s.units) (and_parts _ _ parts.0).1 in
@@ -219,7 +221,7 @@ opened_is base room log state built =
     let s = stand base log in
     let size = log_size-append log (own_group s ∷ []) in
     let left : room - log_size (log ++ own_group s ∷ []) ≡ room - log_size log - frame_size (own_group s) = omega arith in
-    opened_fresh s room (room - log_size (log ++ own_group s ∷ [])) (stand_built base log state built) ∙ ap (λ n. fresh s n) left
+    opened_fresh s room (room - log_size (log ++ own_group s ∷ [])) (built_stand base log state built) ∙ ap (λ n. fresh s n) left
 
 pub fresh_law : FreshLaw
 fresh_law = (opened_is, λ s left state own. standing_of (fresh s left) (fresh_plain s left state (boot_fits s state own)))
@@ -232,7 +234,7 @@ opened_built base room log state built =
     let is = opened_is base room log state built in (
       record {
         base = state;
-        now = subst IsBuiltNow (sym is) (fresh_built s _ (stand_built base log state built));
+        now = subst IsBuiltNow (sym is) (fresh_built s _ (built_stand base log state built));
         log = whole;
         logs = prefixes_built (length log + 1) (log ++ own_group s ∷ []) whole;
       },
@@ -242,7 +244,7 @@ opened_built base room log state built =
 pub opened_law : OpenedLaw
 opened_law base room log state built applies own =
     let s = stand base log in
-    let stood = stand_built base log state built in
+    let stood = built_stand base log state built in
     let w = opened base room log in
     let is = opened_is base room log state built in
     let fits = boot_fits s stood own in

@@ -1,8 +1,6 @@
 -- Which logs are among the possible ones.
-use Rattle.std.proofs.Common.{◌≡◌, ℕ, Bool, true, List, [], ◌∷◌, ◌++◌, map, length, drop, zero, suc, refl, sym, ◌∙◌, ap, subst, arith}
-use Rattle.std.proofs.lemmas.Bool.{and_parts}
+use Rattle.std.proofs.Common.{◌≡◌, ℕ, List, [], ◌∷◌, ◌++◌, map, length, drop, zero, suc, refl, sym, ◌∙◌, ap, subst, arith}
 use Rattle.std.proofs.lemmas.List.{append-nil}
-use Rattle.std.specs.List.{list_all}
 use Rattle.std.specs.Prelude.{Contains}
 use Rattle.ktm_world.specs.declared.event.Event.{Event}
 use Rattle.ktm_world.specs.Logs.{Group, as_groups, prefixes, prefixes_from}
@@ -49,9 +47,3 @@ in_first (z ∷ zs) ys x (suc k, within, is) = let (j, inside, at) = in_first zs
 pub in_second : {X : Type 0} (xs ys : List X) (x : X) → Contains ys x → Contains (xs ++ ys) x
 in_second [] ys x there = there
 in_second (z ∷ zs) ys x there = let (j, inside, at) = in_second zs ys x there in (suc j, omega arith, at)
-
--- what each of a list passes, one in it passes
-pub passes : {X : Type 0} (p : X → Bool) (xs : List X) (x : X) → list_all p xs ≡ true → Contains xs x → p x ≡ true
-passes p [] x all (k, within, is) = absurd (omega arith)
-passes p (y ∷ ys) x all (zero, within, is) = ap p (sym is) ∙ (and_parts (p y) (list_all p ys) all).0
-passes p (y ∷ ys) x all (suc k, within, is) = passes p ys x (and_parts (p y) (list_all p ys) all).1 (k, omega arith, is)

@@ -25,7 +25,8 @@ use Rattle.ktm_world.proofs.Durables.{stand-units}
 use Rattle.ktm_kernel.specs.Restarts.{HoldsBoth, base_of, is_full_for_own, Started, LeavesOwnOrNot}
 use Rattle.ktm_kernel.specs.Stands.{KernelState, HasFallen, StandsBy, KernelAt, LeavesPossible, DoesLine, FoundAt, PowerLaw, FoundLaw}
 use Rattle.ktm_kernel.proofs.Left.{stands_for}
-use Rattle.ktm_kernel.proofs.Possible.{first_is, Contains-map, in_first, in_second, passes}
+use Rattle.ktm_kernel.proofs.Possible.{first_is, Contains-map, in_first, in_second}
+use Rattle.ktm_built.proofs.Logs.{contains_passes}
 use Rattle.ktm_kernel.proofs.Worlds.{began_on}
 
 -- what is so now of a machine that is down is the same, whatever is possible on its disk
@@ -70,7 +71,7 @@ module _ (k : KernelState) (told now : Option DiskState) (w : World) (pick : ℕ
 
   -- nothing that is built is in doubt after a restart
   none_back : (log : List Group) → Contains (possible_logs w) log → length (in_doubt (stand w.base log)) ≡ 0
-  none_back log possible = ap (λ (s : Durable). length (in_doubt s)) (built_stand w.base log at.standing.built.base (passes is_built_log (possible_logs w) log at.standing.built.logs possible))
+  none_back log possible = ap (λ (s : Durable). length (in_doubt s)) (built_stand w.base log at.standing.built.base (contains_passes is_built_log (possible_logs w) log at.standing.built.logs possible))
 
   started : (new : KernelState) (events in_doubt : ℕ) (log : List Group) → Contains (possible_logs w) log → Started k.journal.units k.journal.image at.before log new events in_doubt now
       → DoesLine w (Some (Restart pick)) (Restarted events in_doubt) new now
