@@ -1,1 +1,0 @@
-../crates/ktm_examples/data/all_or_nothing.ktm

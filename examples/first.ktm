@@ -1,1 +1,0 @@
-../crates/ktm_program/data/first.ktm

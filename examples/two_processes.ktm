@@ -1,1 +1,0 @@
-../crates/ktm_examples/data/two_processes.ktm
