@@ -36,7 +36,7 @@ use Rattle.ktm_built.proofs.Alone.{alone, by_alone, by_alone_state}
 use Rattle.ktm_built.proofs.Ids.{same_id-turned}
 use Rattle.ktm_built.proofs.Limits.{IsWithin, within_limits, limits_hold}
 use Rattle.ktm_built.proofs.Logs.{contains_passes, prefixes_built, groups_built, log_with_own, logs_with_own}
-use Rattle.ktm_world.proofs.BuiltStates.{built_events, built_stand, own_is}
+use Rattle.ktm_world.proofs.BuiltStates.{built_stand, own_is}
 use Rattle.ktm_world.proofs.Durables.{stand-append, stand-as_groups, log_applies-append, log_applies-as_groups}
 use Rattle.ktm_built.proofs.Machine.{with_machine, built_machine}
 use Rattle.ktm_built.proofs.Now.{IsPlain, plain_of, standing_of, sound_machine, within_machine, decided_plain, records-decided, now_law}
