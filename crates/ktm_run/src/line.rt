@@ -8,7 +8,7 @@ ghost use Rattle.ktm_world.specs.World.{World};
 
 use crate::answer::answer;
 use crate::fault::RunFault;
-use crate::write::write_line;
+use crate::write::write_all;
 use ktm_base::{Failed, NoMemory, PowerDisk, Sink};
 use ktm_kernel::Kernel;
 use ktm_reply::write_reply;
@@ -50,10 +50,14 @@ pub fn do_line<K: Sink, D: PowerDisk>(
     let Ok(reply) = answer(alloc, kernel, disk, kept) else {
         return Err(RunFault::NoMemory);
     };
-    let Ok(bytes) = write_reply(alloc, &reply) else {
+    let Ok(spelling) = write_reply(alloc, &reply) else {
         return Err(RunFault::NoMemory);
     };
-    if let Err(Failed) = write_line(sink, bytes.as_slice()) {
+    let mut bytes = spelling.into_vec();
+    if let Err(_) = bytes.push(b'\n') {
+        return Err(RunFault::NoMemory);
+    }
+    if let Err(Failed) = write_all(sink, bytes.as_slice()) {
         return Err(RunFault::SinkFault);
     }
     Ok(())

@@ -69,8 +69,8 @@ fn failing_streams(rt: HostRuntime) -> Result<(), Fail> {
     let alloc = rt.alloc();
     // the lines, and then the end
     assert!(rt; first_call_not_made(&rt, alloc, Status::SourceFault)? >= 3);
-    // each line in a write at least
-    assert!(rt; first_call_not_made(&rt, alloc, Status::SinkFault)? >= 9);
+    // a write of no bytes at the start, and each reply in one write
+    assert_eq!(rt; first_call_not_made(&rt, alloc, Status::SinkFault)?, 10);
     Ok(())
 }
 

@@ -1,9 +1,9 @@
-use Rattle.std.proofs.Common.{inl, inr, sym, ◌∙◌, ap}
+use Rattle.std.proofs.Common.{◌≡◌, inl, inr, ℕ, List, [], ◌∷◌, ◌++◌, sym, ◌∙◌, ap}
 use Rattle.ktm_run.proofs.Breaks.{unanswered_here, unanswered_kept, did_planned, unanswered_planned, half_written, AppendsPart-none}
 use Rattle.ktm_run.proofs.Known.{Appends-none}
 use Rattle.ktm_run.proofs.Lines.{has_reply-kept, Means-kept}
 use Rattle.ktm_run.proofs.Runs.{Progress-silent, Progress-line}
-use Rattle.ktm_run.specs.Script.{has_reply}
+use Rattle.ktm_run.specs.Script.{has_reply, newline, reply_line}
 use Rattle.ktm_run.proofs.line.do_line.Goals as goal
 
 pub returns-then-not-is_answered-clause-done : goal.returns-then-not-is_answered-clause-done
@@ -26,17 +26,24 @@ returns-in_default-write_reply-clause-broke g c = λ line is w stands.
     let (meant, means, answers) = c.in-Ok.ensures.does in
     inr (half_written c.args.kernel.now _ _ c.plan_room.ensures.same _ _ _ c.plan_room.ensures.others w _ _ line meant c.in-Ok.reply (Means-kept line meant (rw is at means)) answers (AppendsPart-none _ _) stands)
 
-pub returns-in-Err-write_line-clause-broke : goal.returns-in-Err-write_line-clause-broke
-returns-in-Err-write_line-clause-broke g c = λ line is w stands.
+pub returns-in-Err-push-clause-broke : goal.returns-in-Err-push-clause-broke
+returns-in-Err-push-clause-broke g c = λ line is w stands.
     let (meant, means, answers) = c.in-Ok.ensures.does in
+    inr (half_written c.args.kernel.now _ _ c.plan_room.ensures.same _ _ _ c.plan_room.ensures.others w _ _ line meant c.in-Ok.reply (Means-kept line meant (rw is at means)) answers (AppendsPart-none _ _) stands)
+
+pub returns-in-Err-write_all-clause-broke : goal.returns-in-Err-write_all-clause-broke
+returns-in-Err-write_all-clause-broke g c = λ line is w stands.
+    let (meant, means, answers) = c.in-Ok.ensures.does in
+    let whole : c.as_slice.result.now ≡ reply_line c.in-Ok.reply = c.as_slice.ensures.value ∙ c.in_default-push.ensures.items ∙ ap (λ (l : List ℕ). l ++ newline ∷ []) (c.into_vec-bytes.ensures ∙ c.in-Ok-write_reply.ensures) in
     inr (half_written c.args.kernel.now _ _ c.plan_room.ensures.same _ _ _ c.plan_room.ensures.others w _ _ line meant c.in-Ok.reply (Means-kept line meant (rw is at means)) answers
-    (rw (← c.in-Ok-write_reply.ensures, ← c.as_slice.ensures) c.in-Err-write_line.ensures.err) stands)
+    (rw whole at c.in-Err-write_all.ensures.err) stands)
 
 pub returns-clause-done : goal.returns-clause-done
 returns-clause-done g c = λ line is.
     let (meant, means, answers) = c.in-Ok.ensures.does in
+    let whole : c.as_slice.result.now ≡ reply_line c.in-Ok.reply = c.as_slice.ensures.value ∙ c.in_default-push.ensures.items ∙ ap (λ (l : List ℕ). l ++ newline ∷ []) (c.into_vec-bytes.ensures ∙ c.in-Ok-write_reply.ensures) in
     Progress-line _ _ line meant c.in-Ok.reply
     (sym (has_reply-kept line) ∙ ap has_reply (sym is) ∙ sym c.if-not-is_answered.ensures)
     (Means-kept line meant (rw is at means))
     (λ w stands. did_planned c.args.kernel.now _ _ c.plan_room.ensures.same _ _ _ c.plan_room.ensures.others w meant c.in-Ok.reply answers stands)
-    (rw (← c.in-Ok-write_reply.ensures, ← c.as_slice.ensures) c.in_default-write_line.ensures.ok)
+    (rw whole at c.in_default-write_all.ensures.ok)
