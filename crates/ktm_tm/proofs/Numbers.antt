@@ -8,7 +8,7 @@ use Rattle.ktm_world.specs.declared.object.Transaction.{Transaction}
 use Rattle.ktm_world.specs.Transactions.{same_id, is_live}
 use Rattle.ktm_world.specs.declared.object.Phase.TheVariants.{Active}
 use Rattle.ktm_world.specs.declared.object.TransactionOutcome.TheVariants.{Undetermined}
-use Rattle.ktm_tm.specs.TmState.{AreNumbered, IsPlace, IsAbsent, is_given, with_new}
+use Rattle.ktm_tm.specs.TmState.{AreNumbered, IsPlace, IsAbsent, TmState, is_given, next_id, with_new}
 
 place_from : (ts : List Transaction) (boot before i : ℕ) (id : Id) → AreNumbered boot before ts → id ≡ record { boot = boot; number = before + 1 + i } → i < length ts → IsPlace ts id i
 place_from [] boot before i id numbered is within = absurd (omega (arith, within))
@@ -83,24 +83,11 @@ pub live_set : (ts : List Transaction) (i : ℕ) (t old : Transaction) → i < l
 live_set ts i t old within is =
     omega (arith, live_share is, sum_by-set (λ t. cond (is_live t) 1 0) ts i t old within)
 
--- what is there with one more, whose number is this
-pub made : (boot clock timeout room : ℕ) (items : List Transaction) (number : ℕ) → number ≡ length items + 1
-    → (record {
-      clock = clock;
-      last_transaction = length (items ++ record { id = record { boot = boot; number = number }; timeout = timeout; created = clock; phase = Active; outcome = Undetermined; is_recorded = false } ∷ []);
-      last_manager = 0;
-      last_enlistment = 0;
-      items = items ++ record { id = record { boot = boot; number = number }; timeout = timeout; created = clock; phase = Active; outcome = Undetermined; is_recorded = false } ∷ [];
-      enlistments = [];
-    })
-    ≡ with_new (record { boot = boot; now = record { clock = clock; last_transaction = length items; last_manager = 0; last_enlistment = 0; items = items; enlistments = [] }; room = room }) timeout
-made boot clock timeout room items number is = rw is (ap
-    (λ (n : ℕ). record {
-      clock = clock;
-      last_transaction = n;
-      last_manager = 0;
-      last_enlistment = 0;
-      items = items ++ record { id = record { boot = boot; number = length items + 1 }; timeout = timeout; created = clock; phase = Active; outcome = Undetermined; is_recorded = false } ∷ [];
-      enlistments = [];
-    })
-    (length-append items _))
+-- what is there with one more, which has the next Id
+pub made : (tm : TmState) (id : Id) (timeout : ℕ) → tm.now.last_transaction ≡ length tm.now.items → id ≡ next_id tm
+    → record tm.now {
+      last_transaction = length (tm.now.items ++ record { id = id; timeout = timeout; created = tm.now.clock; phase = Active; outcome = Undetermined; is_recorded = false } ∷ []);
+      items = tm.now.items ++ record { id = id; timeout = timeout; created = tm.now.clock; phase = Active; outcome = Undetermined; is_recorded = false } ∷ [];
+    }
+    ≡ with_new tm timeout
+made tm id timeout counted is = rw is (ap (λ (n : ℕ). record (with_new tm timeout) { last_transaction = n }) (length-append tm.now.items _ ∙ ap (λ n. n + 1) (sym counted)))

@@ -116,6 +116,17 @@ impl Tm {
         Ok(())
     }
 
+    /// The Id of the transaction that is made next.
+    pub fn next_id(&self) -> Id
+        requires { no_transaction_left self.now.now ≡ false }
+        ensures { result ≡ next_id self.now }
+    {
+        Id {
+            boot: self.boot,
+            number: (self.items.len() + 1) as u32,
+        }
+    }
+
     /// Makes a transaction with the next number. It takes no memory. The timeout is in milliseconds; 0 and 4,294,967,295
     /// mean none.
     pub fn create(&mut self, timeout: u32) -> Id
@@ -126,10 +137,7 @@ impl Tm {
         ensures now { self.new.now ≡ with_new self.old timeout }
         ensures room { self.new.room + 1 ≡ self.old.room }
     {
-        let id = Id {
-            boot: self.boot,
-            number: (self.items.len() + 1) as u32,
-        };
+        let id = self.next_id();
         self.items.push_reserved(Transaction {
             id,
             timeout,
