@@ -13,7 +13,7 @@ use Rattle.ktm_world.specs.EventGrammar.{IsEventOf, IsGroupOf}
 use Rattle.ktm_event.specs.declared.fault.EventFault.{EventFault}
 use Rattle.ktm_event.specs.declared.fault.EventFault.TheVariants.{NotAnEvent, NoMemory}
 use Rattle.ktm_event.specs.Reading.{Gives}
-use Rattle.ktm_event.proofs.Events.{unambiguous_events}
+use Rattle.ktm_event.proofs.OneEvent.{unambiguous_events}
 use Rattle.ktm_event.proofs.Readings.{Absent}
 
 module _ (payload : List ℕ) where

@@ -1,7 +1,7 @@
 pub mod Pairs
 pub mod Changes
 pub mod Parts
-pub mod Events
+pub mod OneEvent
 pub mod Spellable
 pub mod Readings
 pub mod ChangeReadings
@@ -10,3 +10,4 @@ pub mod EventReadings
 pub mod Writings
 pub mod Groups
 pub mod KeptLemmas
+pub mod LeastSizes

@@ -1,5 +1,5 @@
 -- How what is written at the end goes on.
-use Rattle.std.proofs.Common.{Bool, true, false, ◌⊎◌, inl, inr, ◌≡◌, ◌+◌, ◌<◌, ◌≤◌, ℕ, List, [], ◌∷◌, ◌++◌, length, take, get_or, sum_by, refl, sym, ◌∙◌, ap, subst, arith, append_assoc}
+use Rattle.std.proofs.Common.{◌≡◌, ◌+◌, ◌<◌, ◌≤◌, ℕ, List, [], ◌∷◌, ◌++◌, length, take, get_or, sum_by, refl, sym, ◌∙◌, ap, subst, arith, append_assoc}
 use Rattle.std.proofs.lemmas.List.Sums.{sum_by_more, sum_by_more_le}
 use Rattle.ktm_base.specs.declared.id.Id.{Id}
 use Rattle.ktm_base.specs.Grammar.{IsU8, IsBytesOf, Then, Tagged}
@@ -11,7 +11,9 @@ use Rattle.ktm_world.specs.declared.event.Part.{Part}
 use Rattle.ktm_world.specs.declared.event.Part.TheVariants.{Enlistment, Changes, Settings}
 use Rattle.ktm_world.specs.EventGrammar.{IsIdOf, IsPutOf, IsPartOf, IsSoleOf, IsEventOf}
 use Rattle.ktm_event.specs.Spelling.{IsSpellablePart, IsSpellableSole, IsSpellableEvent}
-use Rattle.ktm_event.specs.Work.{work_event}
+use Rattle.ktm_event.specs.Work.{stage_tag, work_event}
+use Rattle.ktm_event.specs.declared.work.Stage.{Stage}
+use Rattle.ktm_event.specs.declared.work.Stage.TheVariants.{Ready, Single}
 
 -- one thing and then another
 pub then : {P Q : List ℕ → Type 0} {a b c : List ℕ} → Adds P a b → Adds Q b c → Adds (Then P Q) a c
@@ -61,11 +63,8 @@ sole_spellable (Enlistment enlistment manager information) spellable = absurd sp
 sole_spellable (Changes changes) spellable = spellable
 sole_spellable (Settings settings) spellable = spellable
 
--- what a transaction has to record, behind its tag
-pub work : (single : Bool) (part : Part) {tag : ℕ} {transaction : Id} {a b c : List ℕ} → IsSpellableEvent (work_event single transaction part)
-    → ((single ≡ true) × (tag ≡ 5)) ⊎ ((single ≡ false) × (tag ≡ 4))
-    → Adds (Tagged tag (IsIdOf transaction)) a b → Adds (IsPartOf part) b c → Adds (IsEventOf (work_event single transaction part)) a c
-work true part spellable (inl (is, tag)) head rest = headed (rw tag at head) (sole part spellable.1 rest)
-work true part spellable (inr (is, tag)) head rest = absurd cc
-work false part spellable (inl (is, tag)) head rest = absurd cc
-work false part spellable (inr (is, tag)) head rest = headed (rw tag at head) rest
+-- what a participant has to record, behind its tag
+pub work : (stage : Stage) (part : Part) {transaction : Id} {a b c : List ℕ} → IsSpellableEvent (work_event stage transaction part)
+    → Adds (Tagged (stage_tag stage) (IsIdOf transaction)) a b → Adds (IsPartOf part) b c → Adds (IsEventOf (work_event stage transaction part)) a c
+work Ready part spellable head rest = headed head rest
+work Single part spellable head rest = headed head (sole part spellable.1 rest)

@@ -8,18 +8,18 @@ ghost use Rattle.ktm_world.specs.declared.event.Event.{Event};
 ghost use Rattle.ktm_world.specs.declared.event.Event.TheVariants.{Boot, Held, Plain, Ready, Single};
 ghost use Rattle.ktm_event.specs.Reading.{Behind, Gives};
 ghost use Rattle.ktm_event.specs.Spelling.{IsSpellableChange, IsSpellableDone, IsSpellableEvent, IsSpellableId, IsSpellablePart, IsSpellableRecord, IsSpellableSole};
-ghost use Rattle.ktm_event.specs.Work.{work_event, work_part};
+ghost use Rattle.ktm_event.specs.Work.{part_of, work_event};
 
-use crate::EventFault;
 use crate::change::{change_at, put_change};
 use crate::field::{count_at, id_at, put_id, tag_at};
 use crate::part::{
     done_at, part_at, put_changes_part, put_done, put_part, put_record, put_settings_part,
     record_at, sole_at,
 };
+use crate::{EventFault, Stage, Work};
 use ktm_base::{Id, NoMemory};
 use ktm_codec::{put_u8, put_u32};
-use ktm_world::{Change, DonePart, Event, Part, Setting};
+use ktm_world::{Change, DonePart, Event, Part};
 use std::alloc::Global;
 
 const BOOT: u8 = 1;
@@ -28,9 +28,9 @@ const MADE_RM: u8 = 2;
 
 const PLAIN: u8 = 3;
 
-const READY: u8 = 4;
+pub(crate) const READY: u8 = 4;
 
-const SINGLE: u8 = 5;
+pub(crate) const SINGLE: u8 = 5;
 
 const HELD: u8 = 6;
 
@@ -232,27 +232,23 @@ fn put_finished(out: &mut Vec<u8>, transaction: Id, done: DonePart) -> Result<()
     Ok(())
 }
 
-// What a transaction has to record of its work on the files, where `files`, or else on the keys: a Single where `single`,
-// or else a Ready.
+// What a participant has to record of a transaction's work.
 pub(crate) fn put_work(
     out: &mut Vec<u8>,
-    single: bool,
+    stage: Stage,
     transaction: Id,
-    files: bool,
-    changes: &[Change],
-    settings: &[Setting],
+    work: Work<'_>,
 ) -> Result<(), NoMemory>
-    requires { IsSpellableEvent (work_event single transaction (work_part files changes.now settings.now)) }
-    ensures adds { OnOk result (Adds (IsEventOf (work_event single transaction (work_part files changes.now settings.now))) out.old.items out.new.items) }
-    ensures len { OnOk result (vec_len out.new ≡ vec_len out.old + event_size (work_event single transaction (work_part files changes.now settings.now))) }
+    requires { IsSpellableEvent (work_event stage transaction (part_of work)) }
+    ensures adds { OnOk result (Adds (IsEventOf (work_event stage transaction (part_of work.entry))) out.old.items out.new.items) }
+    ensures len { OnOk result (vec_len out.new ≡ vec_len out.old + event_size (work_event stage transaction (part_of work.entry))) }
     ensures room { vec_capacity out.old ≤ vec_capacity out.new }
-    ensures full { OnErr result (vec_capacity out.old < vec_len out.old + event_size (work_event single transaction (work_part files changes.now settings.now))) }
+    ensures full { OnErr result (vec_capacity out.old < vec_len out.old + event_size (work_event stage transaction (part_of work.entry))) }
 {
-    put_tagged_id(out, if single { SINGLE } else { READY }, transaction)?;
-    if files {
-        put_changes_part(out, changes)?;
-    } else {
-        put_settings_part(out, settings)?;
+    put_tagged_id(out, stage.tag(), transaction)?;
+    match work {
+        Work::Changes(changes) => put_changes_part(out, changes)?,
+        Work::Settings(settings) => put_settings_part(out, settings)?,
     }
     Ok(())
 }

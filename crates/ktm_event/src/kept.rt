@@ -1,22 +1,24 @@
 // Events that are kept as their spellings, until they are recorded as one group.
-ghost use Rattle.std.specs.Prelude.{◌≡◌, ◌↔◌, ◌+◌, ◌^◌, ◌<◌, ◌≤◌, List, [], ◌∷◌, ◌++◌, drop, length, IfOk, IsTrue, vec_len, vec_capacity};
-ghost use Rattle.ktm_base.specs.Grammar.{IsU32, Then};
+ghost use Rattle.std.specs.Prelude.{◌≡◌, ◌↔◌, ℕ, ◌+◌, ◌*◌, ◌^◌, ◌<◌, ◌≤◌, List, [], ◌∷◌, ◌++◌, take, drop, length, IfOk, IsTrue, vec_len, vec_capacity};
+ghost use Rattle.std.specs.Int.{to_le_bytes, w32};
+ghost use Rattle.ktm_base.specs.Bytes.{written};
+ghost use Rattle.ktm_log.specs.Settle.{IsBodyOf, behind_gate};
 ghost use Rattle.ktm_world.specs.EventGrammar.{IsGroupOf};
 ghost use Rattle.ktm_world.specs.Sizes.{event_size};
 ghost use Rattle.ktm_world.specs.declared.event.Event.{Event};
 ghost use Rattle.ktm_event.specs.Kept.{Holds};
 ghost use Rattle.ktm_event.specs.Spelling.{IsSpellableEvent};
-ghost use Rattle.ktm_event.specs.Work.{work_event, work_part};
+ghost use Rattle.ktm_event.specs.Work.{part_of, work_event};
 
 use crate::event::{put_work, write_event};
+use crate::{Stage, Work};
 use ktm_base::{Id, NoMemory};
-use ktm_codec::put_u32;
-use ktm_world::{Change, Event, Setting};
+use ktm_world::Event;
 use std::alloc::Global;
 use std::marker::Model;
 
-/// A list of events, kept as the payload of a group. Its room is reserved when it is made, and is counted in bytes of the
-/// events' spellings.
+/// A list of events, kept as the body of a frame of the log: the length of the payload, the payload of their group, and a
+/// closed gate. Its room is reserved when it is made, and is counted in bytes of the events' spellings.
 #[derive(Drop)]
 pub struct Events {
     bytes: Vec<u8>,
@@ -26,45 +28,102 @@ pub struct Events {
 
 impl Model for Events {
     ghost use Rattle.std.specs.Prelude.{◌+◌, ◌-◌, length, vec_capacity};
-    ghost use Rattle.ktm_event.specs.Kept.{EventsState, IsKept};
+    ghost use Rattle.ktm_event.specs.Kept.{EventsState, IsKept, payload_of};
 
     ghost Value = { EventsState };
 
-    ghost view = { λ e. record { bytes = e.bytes.items; room = e.room; spare = 4 + e.room - length e.bytes.items } };
+    ghost view = { λ e. record { payload = payload_of e.bytes.items; count = e.count; room = e.room; spare = e.room + 9 - length e.bytes.items } };
 
     ghost invariant = { λ e. IsKept e.bytes.items e.count e.room (vec_capacity e.bytes) };
 }
 
-// Writes the count over the first four bytes.
-fn set_count(bytes: &mut Vec<u8>, count: u32)
-    requires { 4 ≤ vec_len bytes.old }
-    ensures items { Then (IsU32 count) (λ events. events ≡ drop 4 bytes.old.items) bytes.new.items }
+// Writes a number over four bytes.
+fn set_u32(bytes: &mut Vec<u8>, at: usize, value: u32)
+    requires { at + 4 ≤ vec_len bytes.old }
+    ensures items { bytes.new.items ≡ written bytes.old.items at (to_le_bytes w32 value) }
     ensures len { vec_len bytes.new ≡ vec_len bytes.old }
     ensures room { vec_capacity bytes.new ≡ vec_capacity bytes.old }
 {
-    bytes[0..4].copy_from_slice(&count.to_le_bytes());
+    bytes[at..at + 4].copy_from_slice(&value.to_le_bytes());
+}
+
+// Takes the closed gate away, so that an event can be added.
+fn open(bytes: &mut Vec<u8>)
+    requires { 1 ≤ vec_len bytes.old }
+    ensures items { bytes.new.items ≡ take (vec_len bytes.new) bytes.old.items }
+    ensures len { vec_len bytes.new + 1 ≡ vec_len bytes.old }
+    ensures room { vec_capacity bytes.new ≡ vec_capacity bytes.old }
+{
+    bytes.truncate(bytes.len() - 1);
+}
+
+// Writes the closed gate behind so many events, and the two numbers before them.
+fn close(bytes: &mut Vec<u8>, count: u32)
+    requires there { 8 ≤ vec_len bytes.old }
+    requires small { vec_len bytes.old < 2 ^ 32 + 4 }
+    requires room { vec_len bytes.old + 1 ≤ vec_capacity bytes.old }
+    ensures items { bytes.new.items ≡ behind_gate (to_le_bytes w32 count ++ drop 8 bytes.old.items) }
+    ensures len { vec_len bytes.new ≡ vec_len bytes.old + 1 }
+    ensures room { vec_capacity bytes.old ≤ vec_capacity bytes.new }
+{
+    let size = (bytes.len() - 4) as u32;
+    bytes.push_reserved(0);
+    set_u32(bytes, 0, size);
+    set_u32(bytes, 4, count);
 }
 
 impl Events {
     /// No events, with room for so many bytes of them.
     pub fn new(alloc: Global, room: usize) -> Result<Events, NoMemory>
-        requires { room < 2 ^ 32 }
+        requires { room + 4 < 2 ^ 32 }
         ensures empty { IfOk result (λ events. Holds events []) }
         ensures room { IfOk result (λ events. events.room ≡ room) }
     {
-        let mut bytes = Vec::with_capacity(alloc, 4 + room)?;
-        put_u32(&mut bytes, 0);
-        Ok(Events {
+        let buffer = Vec::with_capacity(alloc, room + 9)?;
+        Ok(Events::with_buffer(buffer, room))
+    }
+
+    /// No events, in this buffer, which has memory for the room and for nine bytes of the frame besides. What it held is
+    /// lost.
+    pub fn with_buffer(buffer: Vec<u8>, room: usize) -> Events
+        requires reserved { room + 9 ≤ vec_capacity buffer }
+        requires few { room + 4 < 2 ^ 32 }
+        ensures empty { Holds result [] }
+        ensures room { result.room ≡ room }
+    {
+        let mut bytes = buffer;
+        bytes.clear();
+        bytes.extend_from_slice(&[0; 8]).unwrap();
+        close(&mut bytes, 0);
+        Events {
             bytes,
             count: 0,
             room,
-        })
+        }
+    }
+
+    /// The buffer, for other bytes. The events are lost.
+    pub fn into_buffer(self) -> Vec<u8>
+        ensures { self.room + 9 ≤ vec_capacity result }
+    {
+        let Events { bytes, .. } = self;
+        bytes
     }
 
     pub fn is_empty(&self) -> bool
-        ensures { (events : List Event) → Holds self.now events → IsTrue result ↔ (events ≡ []) }
+        ensures count { IsTrue result ↔ (self.now.count ≡ 0) }
+        ensures events { (events : List Event) → Holds self.now events → IsTrue result ↔ (events ≡ []) }
     {
         self.count == 0
+    }
+
+    /// How many events there are.
+    pub fn len(&self) -> u32
+        ensures count { result ≡ self.now.count }
+        ensures events { (events : List Event) → Holds self.now events → result ≡ length events }
+        ensures least { 5 * result + 4 ≤ length self.now.payload }
+    {
+        self.count
     }
 
     /// How many bytes more of events there is room for.
@@ -72,7 +131,7 @@ impl Events {
         ensures spare { result ≡ self.now.spare }
         ensures small { result < 2 ^ 32 }
     {
-        4 + self.room - self.bytes.len()
+        self.room + 9 - self.bytes.len()
     }
 
     /// Adds an event at the end.
@@ -83,39 +142,25 @@ impl Events {
         ensures spare { self.new.spare + event_size event.now ≡ self.old.spare }
         ensures room { self.new.room ≡ self.old.room }
     {
+        open(&mut self.bytes);
         write_event(&mut self.bytes, event).unwrap();
         self.count += 1;
-        set_count(&mut self.bytes, self.count);
+        close(&mut self.bytes, self.count);
     }
 
-    /// Adds what a transaction has to record of its work on the files, where `files`, or else on the keys: a Single where
-    /// `single`, or else a Ready. The other list is not looked at.
-    pub fn push_work(
-        &mut self,
-        single: bool,
-        transaction: Id,
-        files: bool,
-        changes: &[Change],
-        settings: &[Setting],
-    )
-        requires spellable { IsSpellableEvent (work_event single transaction (work_part files changes.now settings.now)) }
-        requires fits { event_size (work_event single transaction (work_part files changes.now settings.now)) ≤ self.old.spare }
+    /// Adds what a participant has to record of a transaction's work.
+    pub fn push_work(&mut self, stage: Stage, transaction: Id, work: Work<'_>)
+        requires spellable { IsSpellableEvent (work_event stage transaction (part_of work)) }
+        requires fits { event_size (work_event stage transaction (part_of work)) ≤ self.old.spare }
         ensures adds { (events : List Event) → Holds self.old events
-            → Holds self.new (events ++ work_event single transaction (work_part files changes.now settings.now) ∷ []) }
-        ensures spare { self.new.spare + event_size (work_event single transaction (work_part files changes.now settings.now)) ≡ self.old.spare }
+            → Holds self.new (events ++ work_event stage transaction (part_of work.entry) ∷ []) }
+        ensures spare { self.new.spare + event_size (work_event stage transaction (part_of work.entry)) ≡ self.old.spare }
         ensures room { self.new.room ≡ self.old.room }
     {
-        put_work(
-            &mut self.bytes,
-            single,
-            transaction,
-            files,
-            changes,
-            settings,
-        )
-        .unwrap();
+        open(&mut self.bytes);
+        put_work(&mut self.bytes, stage, transaction, work).unwrap();
         self.count += 1;
-        set_count(&mut self.bytes, self.count);
+        close(&mut self.bytes, self.count);
     }
 
     /// Takes all events out. The room stays reserved.
@@ -123,15 +168,15 @@ impl Events {
         ensures empty { Holds self.new [] }
         ensures room { self.new.room ≡ self.old.room }
     {
-        self.bytes.truncate(4);
+        self.bytes.truncate(8);
         self.count = 0;
-        set_count(&mut self.bytes, 0);
+        close(&mut self.bytes, 0);
     }
 
-    /// The payload of the group of its events, where there are some.
-    pub fn payload(&self) -> &[u8]
-        ensures bytes { result.now ≡ self.now.bytes }
-        ensures group { (events : List Event) → Holds self.now events → 1 ≤ length events → IsGroupOf events result.now }
+    /// The body of the frame of its events' group, where there are some.
+    pub fn body(&self) -> &[u8]
+        ensures body { IsBodyOf self.now.payload result.now }
+        ensures group { (events : List Event) → Holds self.now events → 1 ≤ length events → IsGroupOf events self.now.payload }
     {
         self.bytes.as_slice()
     }

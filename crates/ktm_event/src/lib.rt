@@ -1,5 +1,5 @@
 //! Events as bytes: a group of them is the payload of one frame of the log. Each group has one spelling, which is
-//! written and read here. A list of events can be kept as its bytes until it is recorded.
+//! written and read here. A list of events is kept as its bytes, in the body of a frame, until it is recorded.
 #![tactic(auto)]
 
 mod change;
@@ -7,16 +7,17 @@ mod event;
 mod fault;
 mod field;
 mod group;
-pub mod kept;
+mod kept;
 mod laws;
 mod part;
 mod setting;
 mod size;
-#[cfg(test)]
-mod tests;
+mod work;
 
 pub use event::{read_event, write_event};
 pub use fault::EventFault;
-pub use group::{read_group, write_boot, write_group, write_single};
+pub use group::read_group;
+pub use kept::Events;
 pub use laws::{law_of_events, law_of_groups, law_of_kept_events, law_of_round_trip};
 pub use size::{event_size, work_size};
+pub use work::{Stage, Work};

@@ -1,10 +1,12 @@
 // How many bytes events take, from their fields. Where there are more than a number can say, each function answers the
 // greatest number.
-ghost use Rattle.std.specs.Prelude.{◌≡◌, ◌-◌, ◌^◌, Bool, min, sum_by};
+ghost use Rattle.std.specs.Prelude.{◌≡◌, ◌-◌, ◌^◌, min, sum_by};
 ghost use Rattle.ktm_base.specs.declared.id.Id.{Id};
 ghost use Rattle.ktm_world.specs.Sizes.{change_size, done_size, event_size, part_size, put_size, record_size, set_to_size, setting_size};
-ghost use Rattle.ktm_event.specs.Work.{work_event, work_part};
+ghost use Rattle.ktm_event.specs.Work.{part_of, work_event};
+ghost use Rattle.ktm_event.specs.declared.work.Stage.{Stage};
 
+use crate::Work;
 use ktm_base::Bytes;
 use ktm_world::{Change, Contents, DonePart, Event, Part, Setting};
 
@@ -108,15 +110,14 @@ pub fn event_size(event: &Event) -> usize
     }
 }
 
-/// The same of what a transaction has to record of its work on the files, where `files`, or else on the keys.
-pub fn work_size(files: bool, changes: &[Change], settings: &[Setting]) -> usize
-    ensures { (single : Bool) (transaction : Id)
-        → result ≡ min (event_size (work_event single transaction (work_part files changes.now settings.now))) (2 ^ 64 - 1) }
+/// The same of what a participant has to record of a transaction's work, which is the same for a Ready and a Single.
+pub fn work_size(work: Work<'_>) -> usize
+    ensures { (stage : Stage) (transaction : Id)
+        → result ≡ min (event_size (work_event stage transaction (part_of work.entry))) (2 ^ 64 - 1) }
 {
-    let items = if files {
-        changes_size(changes)
-    } else {
-        settings_size(settings)
+    let items = match work {
+        Work::Changes(changes) => changes_size(changes),
+        Work::Settings(settings) => settings_size(settings),
     };
     items.saturating_add(14)
 }

@@ -30,29 +30,7 @@ groups_size [] (p ∷ ps) hold = absurd hold
 groups_size (group ∷ log) [] hold = absurd hold
 groups_size (group ∷ log) (p ∷ ps) hold = omega (arith, size_law group p hold.0, groups_size log ps hold.1, sum_by-cons frame_size group log)
 
--- an event takes five bytes at least
-event_size-least : (event : Event) → 5 ≤ event_size event
-event_size-least (Boot boot) = omega arith
-event_size-least (MadeRm manager) = omega arith
-event_size-least (Plain change) = let least = change_size-least change in omega arith
-  where
-    change_size-least : (change : Change) → 4 ≤ change_size change
-    change_size-least (Make node parent kind name) = omega arith
-    change_size-least (Put node offset contents) = omega arith
-    change_size-least (Cut node size pages) = omega arith
-    change_size-least (Move node parent name) = omega arith
-    change_size-least (Drop node) = omega arith
-event_size-least (Ready transaction part) = omega arith
-event_size-least (Single transaction part) = omega arith
-event_size-least (Held transaction enlistment manager information) = omega arith
-event_size-least (Decide transaction) = omega arith
-event_size-least (Undo transaction) = omega arith
-event_size-least (Done transaction done) = omega arith
-
-events_size-least : (events : Group) → 5 * length events ≤ sum_by event_size events
-events_size-least [] = omega arith
-events_size-least (event ∷ events) = omega (arith, event_size-least event, events_size-least events, sum_by-cons event_size event events)
-
+-- all events take five bytes of the log at least
 log_size-least : (log : List Group) → 5 * count_events log ≤ log_size log
 log_size-least [] = omega arith
 log_size-least (group ∷ log) = omega (arith, events_size-least group, log_size-least log, sum_by-cons frame_size group log)

@@ -6,7 +6,7 @@ use Rattle.std.specs.List.{list_all}
 use Rattle.ktm_log.specs.Log.{BeginsWith, IsFrame, IsClosed, area_bytes, end_of}
 use Rattle.ktm_log.proofs.Frames.{begins-split}
 use Rattle.ktm_log.proofs.GoodOrBad.{begins_compare, one_frame, one_log, torn_is_no_frame}
-use Rattle.ktm_event.proofs.Events.{one_group}
+use Rattle.ktm_event.proofs.OneEvent.{one_group}
 use Rattle.ktm_world.specs.Built.{is_built_event, is_built_log}
 use Rattle.ktm_world.specs.Logs.{Group}
 use Rattle.ktm_world.specs.Durable.{Durable, empty_state, stand, events_apply, log_applies}

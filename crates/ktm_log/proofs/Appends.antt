@@ -5,7 +5,7 @@ use Rattle.ktm_base.specs.Bytes.{SameOutside, written}
 use Rattle.ktm_base.specs.Disk.{DiskState, IsSafe}
 use Rattle.ktm_log.specs.declared.area.Area.{Area}
 use Rattle.ktm_log.specs.Log.{Rests, LeavesEither, SameElsewhere, IsLog, area_bytes, end_of}
-use Rattle.ktm_log.specs.Settle.{Settled, Tore, behind_gate}
+use Rattle.ktm_log.specs.Settle.{Settled, Tore, IsBodyOf, behind_gate}
 use Rattle.std.proofs.lemmas.List.{get_or-take}
 use Rattle.ktm_base.proofs.Images.{same_written}
 use Rattle.ktm_log.proofs.Parts.{area_written, area_same, elsewhere_same, elsewhere_trans, length-area}
@@ -13,6 +13,9 @@ use Rattle.ktm_log.proofs.Frames.{Staged, first_at, gate_opened, gate_either, lo
 
 pub length-behind_gate : (p : List ℕ) → length (behind_gate p) ≡ length p + 5
 length-behind_gate p = omega (arith, length-append (to_le_bytes w32 (length p)) (p ++ 0 ∷ []), length-append p (0 ∷ []))
+
+pub length-body : (p body : List ℕ) → IsBodyOf p body → length body ≡ length p + 5
+length-body p body is = ap (λ (l : List ℕ). length l) is.is ∙ length-behind_gate p
 
 -- the rest of a frame is safe behind the closed gate
 pub record StagedAt (area : Area) (ps : List (List ℕ)) (p : List ℕ) (end : ℕ) (before : List ℕ) (s : DiskState) : Type 0 where
@@ -109,8 +112,7 @@ module _ (area : Area) where
         same = settled_same (end_of ps) at (1 ∷ []) a b gate staged.within fits settled
 
   -- both writes stay in the area
-  pub both_elsewhere : (p : List ℕ) (end : ℕ) → end + length p + 6 ≤ area.len → (behind at : ℕ) (bytes : List ℕ) (a b d : DiskState) → behind ≡ area.at + (end + 1) → at ≡ area.at + end → bytes ≡ behind_gate p → area.at + area.len ≤ length a.seen → Settled behind bytes a b → Settled at (1 ∷ []) b d → SameElsewhere area a.seen d.seen
-  both_elsewhere p end room behind at bytes a b d e f form within staged opened =
-      let fits : end + 1 + length bytes ≤ area.len = omega (arith, length-behind_gate p, ap (λ (l : List ℕ). length l) form) in
-      let first = settled_elsewhere (end + 1) behind bytes a b e within fits staged in
+  pub both_elsewhere : (end behind at : ℕ) (bytes : List ℕ) (a b d : DiskState) → end + length bytes + 1 ≤ area.len → behind ≡ area.at + (end + 1) → at ≡ area.at + end → area.at + area.len ≤ length a.seen → Settled behind bytes a b → Settled at (1 ∷ []) b d → SameElsewhere area a.seen d.seen
+  both_elsewhere end behind at bytes a b d room e f within staged opened =
+      let first = settled_elsewhere (end + 1) behind bytes a b e within (omega arith) staged in
       elsewhere_trans area a.seen b.seen d.seen first (settled_elsewhere end at (1 ∷ []) b d f (omega (arith, first.same_length)) (omega arith) opened)

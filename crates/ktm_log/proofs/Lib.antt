@@ -4,3 +4,4 @@ pub mod GoodOrBad
 pub mod Appends
 pub mod Steps
 pub mod Loading
+pub mod Payloads

@@ -1,16 +1,17 @@
 -- An area that is read piece by piece.
-use Rattle.std.proofs.Common.{◌≡◌, ℕ, ◌+◌, ◌-◌, ◌<◌, ◌≤◌, Bool, false, Option, List, ◌++◌, length, get_or, take, drop, sym, ◌∙◌, ap, subst, arith, length-drop, length-append}
-use Rattle.std.proofs.lemmas.List.{take_at, take_all, drop_all, take-append-drop, take-take, drop-take, drop-drop, get_or-take, append-nil}
-use Rattle.std.specs.Int.{from_le_bytes, w32}
+use Rattle.std.proofs.Common.{◌≡◌, ℕ, ◌+◌, ◌-◌, ◌<◌, ◌≤◌, Bool, false, Option, None, Some, List, [], ◌∷◌, ◌++◌, length, get_or, take, drop, sym, ◌∙◌, ap, subst, arith, length-take, length-drop, length-append}
+use Rattle.std.proofs.lemmas.List.{take_at, take_all, drop_all, take-append-drop, take-take, drop-take, drop-drop, append-nil}
 use borrow.Rule.Slice.PartMut.{put_mid}
-use Rattle.ktm_base.specs.Told.{IfTold}
-use Rattle.ktm_base.specs.Disk.{DiskState, DiskStatus, DeviceCalls}
+use Rattle.ktm_base.specs.Told.{IfTold, Tells}
+use Rattle.ktm_base.specs.Disk.{DiskState, DiskStatus, DeviceCalls, IsSafe}
 use Rattle.ktm_log.specs.declared.area.Area.{Area}
-use Rattle.ktm_log.specs.Log.{area_bytes, size_at, IsTorn, IsFrame}
-use Rattle.ktm_log.specs.Load.{IsRead, Loads, pieces}
+use Rattle.ktm_log.specs.Log.{area_bytes, size_at, IsClosed, IsTorn, IsFrame, IsLog, IsBadLog, Rests, end_of, first_payload, payloads_in}
+use Rattle.ktm_log.specs.Load.{EndFrames, IsRead, Loads, WentOn, pieces}
 use Rattle.ktm_log.proofs.Parts.{area_part, length-area}
-use Rattle.ktm_log.proofs.Frames.{first_at}
+use Rattle.ktm_log.proofs.Frames.{first_at, begins-push, end_of-push}
 use Rattle.ktm_base.proofs.Images.{calls_law}
+use Rattle.ktm_base.proofs.ToldSteps.{IfTold-map}
+use Rattle.ktm_log.proofs.Payloads.{front_at, went_on_trans, size_went_on, begins_went_on, log_went_on, none_closed, payloads_are}
 use Rattle.ktm_log.proofs.Steps.{IfTold-both}
 
 -- a vector that was made longer, and then filled from its old end on
@@ -45,36 +46,17 @@ loads_then area a b d s t u refused first second = record {
   pending = second.pending ∙ first.pending;
 }
 
+-- what was read, in the area
+pub in_area : (area : Area) (read image : List ℕ) → IsRead area read image → WentOn read (area_bytes area image)
+in_area area read image is = record { front = sym is.is }
+
 module _ (area : Area) (at : ℕ) where
-  -- what was read, in the area
-  read_at : (read image : List ℕ) (from n : ℕ) → IsRead area read image → from + n ≤ length read → take n (drop from read) ≡ take n (drop from (area_bytes area image))
-  read_at read image from n is fits =
-      ap (λ (l : List ℕ). take n (drop from l)) is.is
-      ∙ ap (λ k. take n (drop from (take k (area_bytes area image)))) (omega arith)
-      ∙ ap (λ (l : List ℕ). take n l) (drop-take from (length read - from) (area_bytes area image))
-      ∙ take-take n (length read - from) (drop from (area_bytes area image)) (omega arith)
-
-  read_gate : (read image : List ℕ) → IsRead area read image → at < length read → get_or (drop at (area_bytes area image)) 0 0 ≡ get_or read at 0
-  read_gate read image is inside =
-      sym (get_or-take 1 (drop at (area_bytes area image)) 0 0 (omega arith)) ∙ ap (λ (l : List ℕ). get_or l 0 0) (sym (read_at read image at 1 is (omega arith))) ∙ get_or-take 1 (drop at read) 0 0 (omega arith) ∙ first_at read at
-
-  read_size : (read image : List ℕ) → IsRead area read image → at + 5 ≤ length read → size_at (drop at read) ≡ size_at (drop at (area_bytes area image))
-  read_size read image is inside = ap (λ (l : List ℕ). from_le_bytes w32 l) (
-      ap (λ (l : List ℕ). take 4 l) (drop-drop 1 at read) ∙ read_at read image (at + 1) 4 is (omega arith) ∙ ap (λ (l : List ℕ). take 4 l) (sym (drop-drop 1 at (area_bytes area image))))
-
+  -- the gate and the size of a frame that is cut short
   module _ (first second : List ℕ) (size : ℕ) (there : at < length first) (open_gate : get_or first at 0 ≡ 1) (more : at + 5 ≤ length second) (size_is : size ≡ size_at (drop at second)) where
     torn : (image : List ℕ) → IsRead area first image → IsRead area second image → area.len - at < size + 6 → at < area.len → IsTorn (drop at (area_bytes area image))
     torn image one two short inside = record {
-      open_gate = read_gate first image one there ∙ open_gate;
-      short = omega (arith, length-area area image one.within, length-drop at (area_bytes area image), size_is, read_size second image two more);
-    }
-
-    frame : (third p image : List ℕ) → IsRead area first image → IsRead area second image → IsRead area third image → size + 6 ≤ area.len - at → at + size + 6 ≤ length third → length p ≡ size → p ≡ take size (drop (at + 5) third) → IsFrame p (drop at (area_bytes area image))
-    frame third p image one two three fits more_read long is = record {
-      open_gate = read_gate first image one there ∙ open_gate;
-      size = sym (read_size second image two more) ∙ sym size_is ∙ sym long;
-      fits = omega (arith, length-area area image one.within, length-drop at (area_bytes area image));
-      payload_is = ap (λ n. take n (drop 5 (drop at (area_bytes area image)))) long ∙ ap (λ (l : List ℕ). take size l) (drop-drop 5 at (area_bytes area image)) ∙ sym (read_at third image (at + 5) size three (omega arith)) ∙ sym is;
+      open_gate = first_at (area_bytes area image) at ∙ front_at first (area_bytes area image) (in_area area first image one) at there ∙ open_gate;
+      short = omega (arith, length-area area image one.within, length-drop at (area_bytes area image), size_is, size_went_on second (area_bytes area image) (in_area area second image two) at more);
     }
 
     pub finds_torn : (o m : Option DiskState) → m ≡ o → IfTold o (λ s. IsRead area first s.seen) → IfTold m (λ s. IsRead area second s.seen) → area.len - at < size + 6 → at < area.len → IfTold m (λ s. IsTorn (drop at (area_bytes area s.seen)))
@@ -82,11 +64,58 @@ module _ (area : Area) (at : ℕ) where
         IfTold-both (λ (s : DiskState). IsRead area first s.seen) (λ (s : DiskState). IsRead area second s.seen) (λ (s : DiskState). IsTorn (drop at (area_bytes area s.seen))) m
         (subst (λ t. IfTold t (λ (s : DiskState). IsRead area first s.seen)) (sym same) one) two (λ s a b. torn s.seen a b short inside)
 
-    pub finds_frame : (third p : List ℕ) (o m n : Option DiskState) → m ≡ o → n ≡ m → IfTold o (λ s. IsRead area first s.seen) → IfTold m (λ s. IsRead area second s.seen) → IfTold n (λ s. IsRead area third s.seen) → size + 6 ≤ area.len - at → at + size + 6 ≤ length third → length p ≡ size → p ≡ take size (drop (at + 5) third) → IfTold n (λ s. IsFrame p (drop at (area_bytes area s.seen)))
-    finds_frame third p o m n same again one two three fits more_read long is =
-        let Both : DiskState → Type 0 = λ s. IsRead area first s.seen × IsRead area second s.seen in
-        IfTold-both Both (λ (s : DiskState). IsRead area third s.seen) (λ (s : DiskState). IsFrame p (drop at (area_bytes area s.seen))) n
-        (subst (λ t. IfTold t Both) (sym again)
-        (IfTold-both (λ (s : DiskState). IsRead area first s.seen) (λ (s : DiskState). IsRead area second s.seen) Both m
-        (subst (λ t. IfTold t (λ (s : DiskState). IsRead area first s.seen)) (sym same) one) two (λ s a b. (a, b))))
-        three (λ s both c. frame third p s.seen both.0 both.1 c fits more_read long is)
+    -- the frame, in bytes that went on
+    pub finds_frame : (third : List ℕ) → WentOn first second → WentOn second third → at + size + 6 ≤ length third → (payload : List ℕ) × (length payload ≡ size) × IsFrame payload (drop at third)
+    finds_frame third on again long =
+        let p = take size (drop (at + 5) third) in
+        let size_of : length p ≡ size = omega (arith, length-take size (drop (at + 5) third), length-drop (at + 5) third) in (
+          p,
+          size_of,
+          record {
+            open_gate = first_at third at ∙ front_at first third (went_on_trans first second third on again) at there ∙ open_gate;
+            size = size_went_on second third again at more ∙ sym size_is ∙ sym size_of;
+            fits = omega (arith, size_of, length-drop at third);
+            payload_is = ap (λ n. take n (drop 5 (drop at third))) size_of ∙ ap (λ (l : List ℕ). take size l) (drop-drop 5 at third);
+          },
+        )
+
+-- the frames that were read, in bytes that went on
+module _ (area : Area) (at : ℕ) (old read : List ℕ) (frames : EndFrames at old) (on : WentOn old read) where
+  pub one_more : (size : ℕ) → ((payload : List ℕ) × (length payload ≡ size) × IsFrame payload (drop at read)) → EndFrames (at + (size + 5)) read
+  one_more size (p, long, frame) =
+      let ps = frames.payloads in
+      record {
+        payloads = ps ++ p ∷ [];
+        begins = begins-push ps p read (begins_went_on ps old read on frames.begins) (subst (λ k. IsFrame p (drop k read)) frames.gate_at frame);
+        gate_at = omega (arith, frames.gate_at, end_of-push ps p, long);
+      }
+
+  all_payloads : first_payload (drop at read) ≡ None → payloads_in read ≡ frames.payloads
+  all_payloads none = payloads_are frames.payloads read (begins_went_on frames.payloads old read on frames.begins) (subst (λ k. first_payload (drop k read) ≡ None) frames.gate_at none)
+
+  -- no frame begins here, so here is the end of all that are there
+  pub end_found : first_payload (drop at read) ≡ None → at ≡ end_of (payloads_in read)
+  end_found none = frames.gate_at ∙ ap end_of (sym (all_payloads none))
+
+  pub log_found : IsClosed (drop at read) → (o n : Option DiskState) → n ≡ o → IfTold n (λ s. IsRead area read s.seen) → IfTold o (λ s. IsLog (payloads_in read) (area_bytes area s.seen))
+  log_found closed o n same is =
+      let ps = frames.payloads in
+      subst (λ t. IfTold t (λ (s : DiskState). IsLog (payloads_in read) (area_bytes area s.seen))) same
+      (IfTold-map n (λ (s : DiskState). IsRead area read s.seen) (λ (s : DiskState). IsLog (payloads_in read) (area_bytes area s.seen)) is
+      (λ s r. subst (λ (l : List (List ℕ)). IsLog l (area_bytes area s.seen)) (sym (all_payloads (none_closed (drop at read) closed)))
+      (log_went_on ps read (area_bytes area s.seen) (in_area area read s.seen r) (begins_went_on ps old read on frames.begins) (subst (λ k. IsClosed (drop k read)) frames.gate_at closed))))
+
+  pub bad_found : first_payload (drop at read) ≡ None → (o n : Option DiskState) → n ≡ o → IfTold o (λ s. IsRead area old s.seen) → IfTold n (λ s. IsTorn (drop at (area_bytes area s.seen)))
+      → IfTold o (λ s. IsBadLog (payloads_in read) (area_bytes area s.seen))
+  bad_found none o n same is short =
+      let ps = frames.payloads in
+      IfTold-both (λ (s : DiskState). IsRead area old s.seen) (λ (s : DiskState). IsTorn (drop at (area_bytes area s.seen))) (λ (s : DiskState). IsBadLog (payloads_in read) (area_bytes area s.seen)) o is
+      (subst (λ t. IfTold t (λ (s : DiskState). IsTorn (drop at (area_bytes area s.seen)))) same short)
+      (λ s r t. subst (λ (l : List (List ℕ)). IsBadLog l (area_bytes area s.seen)) (sym (all_payloads none))
+      (record { frames = begins_went_on ps old (area_bytes area s.seen) (in_area area old s.seen r) frames.begins; gate = subst (λ k. IsTorn (drop k (area_bytes area s.seen))) frames.gate_at t }))
+
+-- a log that was read from a safe disk rests on it
+pub rests_found : (area : Area) (ps : List (List ℕ)) (end : ℕ) → end ≡ end_of ps → (o n : Option DiskState) → n ≡ o → IfTold o (λ s. area.at + area.len ≤ length s.seen) → IfTold o (λ s. IsLog ps (area_bytes area s.seen))
+    → Tells o IsSafe → Tells n (Rests area ps end)
+rests_found area ps end gate None n same within log safe = absurd safe
+rests_found area ps end gate (Some s) n same within log safe = subst (λ t. Tells t (Rests area ps end)) (sym same) (record { safe = safe; within = within; log = log; gate_at = gate })

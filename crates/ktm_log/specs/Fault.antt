@@ -1,24 +1,24 @@
 -- What the answers of a scan and of an append say.
-use Rattle.std.specs.Prelude.{ℕ, Bool, true, false, List, Result, Ok, Err}
+use Rattle.std.specs.Prelude.{ℕ, Bool, true, false, Result, Ok, Err}
 use Rattle.ktm_log.specs.declared.fault.LogFault.{LogFault}
 use Rattle.ktm_log.specs.declared.fault.LogFault.TheVariants.{Down as ScanDown, Bad, NoMemory}
 use Rattle.ktm_log.specs.declared.fault.FrameFault.{FrameFault}
-use Rattle.ktm_log.specs.declared.fault.FrameFault.TheVariants.{Down as FrameDown, Torn, NoMemory as NoFrameMemory}
+use Rattle.ktm_log.specs.declared.fault.FrameFault.TheVariants.{Down as FrameDown, Torn}
 use Rattle.ktm_log.specs.declared.fault.AppendFault.{AppendFault}
 use Rattle.ktm_log.specs.declared.fault.AppendFault.TheVariants.{Down as AppendDown, Full}
 
--- the fact of the offset and the payloads, where the log is bad
-abbrev pub IfBad : {T : Type 0} → Result T LogFault → (ℕ → List (List ℕ) → Type 0) → Type 0
+-- the fact of the offset, where the log is bad
+abbrev pub IfBad : {T : Type 0} → Result T LogFault → (ℕ → Type 0) → Type 0
 IfBad (Ok value) P = Unit {0}
 IfBad (Err ScanDown) P = Unit {0}
-IfBad (Err (Bad offset before)) P = P offset before
+IfBad (Err (Bad offset)) P = P offset
 IfBad (Err NoMemory) P = Unit {0}
 
 -- did a scan find the disk down
 abbrev pub scan_went_down : {T : Type 0} → Result T LogFault → Bool
 scan_went_down (Ok value) = false
 scan_went_down (Err ScanDown) = true
-scan_went_down (Err (Bad offset before)) = false
+scan_went_down (Err (Bad offset)) = false
 scan_went_down (Err NoMemory) = false
 
 -- the fact, where a frame is cut short
@@ -26,14 +26,12 @@ abbrev pub IfTorn : {T : Type 0} → Result T FrameFault → Type 0 → Type 0
 IfTorn (Ok value) P = Unit {0}
 IfTorn (Err FrameDown) P = Unit {0}
 IfTorn (Err Torn) P = P
-IfTorn (Err NoFrameMemory) P = Unit {0}
 
 -- did the search for a frame find the disk down
 abbrev pub frame_went_down : {T : Type 0} → Result T FrameFault → Bool
 frame_went_down (Ok value) = false
 frame_went_down (Err FrameDown) = true
 frame_went_down (Err Torn) = false
-frame_went_down (Err NoFrameMemory) = false
 
 -- did an append find the disk down
 abbrev pub append_went_down : {T : Type 0} → Result T AppendFault → Bool

@@ -3,7 +3,7 @@ use Rattle.std.specs.Prelude.{◌≡◌, ℕ, ◌+◌, ◌-◌, ◌*◌, ◌/◌
 use Rattle.ktm_base.specs.Disk.{DiskState, DiskStatus, DeviceCalls}
 use Rattle.ktm_base.specs.Told.{IfTold}
 use Rattle.ktm_log.specs.declared.area.Area.{Area}
-use Rattle.ktm_log.specs.Log.{area_bytes, IsFrame, IsClosed}
+use Rattle.ktm_log.specs.Log.{area_bytes, BeginsWith, IsFrame, IsClosed, end_of}
 
 -- how many pieces of 4,096 bytes so many bytes are in, the last one shorter
 abbrev pub pieces : ℕ → ℕ
@@ -28,7 +28,17 @@ pub record Loads (area : Area) (before after : ℕ) (old new : DiskStatus) (refu
   pub calls : DeviceCalls (pieces after - pieces before) old new refused
   pub pending : new.pending ≡ old.pending
 
--- the gate at this offset is closed, or it is open and has this payload behind it
-abbrev pub Finds : Area → Option DiskState → ℕ → Option (List ℕ) → Type 0
-Finds area told at None = IfTold told (λ s. IsClosed (drop at (area_bytes area s.seen)))
-Finds area told at (Some payload) = (at + length payload + 6 ≤ area.len) × IfTold told (λ s. IsFrame payload (drop at (area_bytes area s.seen)))
+-- the bytes went on behind what they were
+pub record WentOn (old new : List ℕ) : Type 0 where
+  pub front : take (length old) new ≡ old
+
+-- in the bytes of the area the gate at this offset is closed, or it is open and has a payload of this length behind it
+abbrev pub Finds : Area → List ℕ → ℕ → Option ℕ → Type 0
+Finds area read at None = IsClosed (drop at read)
+Finds area read at (Some size) = (at + size + 6 ≤ area.len) × ((payload : List ℕ) × (length payload ≡ size) × IsFrame payload (drop at read))
+
+-- the bytes begin with frames that end here
+pub record EndFrames (end : ℕ) (read : List ℕ) : Type 0 where
+  pub payloads : List (List ℕ)
+  pub begins : BeginsWith payloads read
+  pub gate_at : end ≡ end_of payloads

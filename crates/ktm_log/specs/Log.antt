@@ -1,5 +1,5 @@
 -- A log area: frames with open gates, and behind them a closed gate.
-use Rattle.std.specs.Prelude.{◌≡◌, ◌≢◌, ◌⊎◌, ℕ, ◌+◌, ◌<◌, ◌≤◌, List, [], ◌∷◌, ◌++◌, length, take, drop, slice_index}
+use Rattle.std.specs.Prelude.{◌≡◌, ◌≢◌, ◌⊎◌, ℕ, zero, suc, ◌+◌, ◌<◌, ◌≤◌, ◌==◌, ◌&&◌, nat_le, if◌then◌else◌, Option, None, Some, List, [], ◌∷◌, ◌++◌, length, take, drop, slice_index}
 use Rattle.std.specs.Int.{from_le_bytes, w32}
 use Rattle.ktm_base.specs.Bytes.{SameOutside}
 use Rattle.ktm_base.specs.Disk.{DiskState, MayLeave, IsSafe}
@@ -25,6 +25,25 @@ BeginsWith (p ∷ ps) bytes = IsFrame p bytes × BeginsWith ps (drop (length p +
 abbrev pub end_of : List (List ℕ) → ℕ
 end_of [] = 0
 end_of (p ∷ ps) = length p + 5 + end_of ps
+
+-- the payload of the frame that the bytes begin with, if they begin with one
+abbrev pub first_payload : List ℕ → Option (List ℕ)
+first_payload bytes =
+    if (slice_index bytes 0 == 1) && nat_le (size_at bytes + 6) (length bytes) then Some (take (size_at bytes) (drop 5 bytes)) else None
+
+-- a payload, if there is one, and what follows it
+abbrev pub followed : Option (List ℕ) → (List ℕ → List (List ℕ)) → List (List ℕ)
+followed None rest = []
+followed (Some payload) rest = payload ∷ rest payload
+
+-- the payloads of the frames that the bytes begin with, up to so many
+abbrev pub payloads_up_to : ℕ → List ℕ → List (List ℕ)
+payloads_up_to zero bytes = []
+payloads_up_to (suc most) bytes = followed (first_payload bytes) (λ payload. payloads_up_to most (drop (length payload + 5) bytes))
+
+-- the payloads of the frames that the bytes begin with; there are no more of them than bytes
+unfoldable pub payloads_in : List ℕ → List (List ℕ)
+payloads_in bytes = payloads_up_to (length bytes) bytes
 
 -- there is a gate, and it is not open
 pub record IsClosed (bytes : List ℕ) : Type 0 where

@@ -1,15 +1,13 @@
 // Why a log was not read or not written.
-use crate::Payloads;
 
 /// Why a scan has no log.
-#[derive(Debug, Drop)]
+#[derive(Clone, Copy, Debug, PartialEq, Eq)]
 pub enum LogFault {
     /// The disk has no power.
     Down,
-    /// There is an open gate at this offset of the disk, and its frame passes the area's end. The payloads are those of the
-    /// frames before it.
-    Bad(u64, Payloads),
-    /// Memory was wanted and not to be had.
+    /// There is an open gate at this offset of the disk, and its frame passes the area's end.
+    Bad(u64),
+    /// The buffer could not be made as long as the area.
     NoMemory,
 }
 
@@ -29,6 +27,4 @@ pub(crate) enum FrameFault {
     Down,
     /// The gate is open, and its frame passes the area's end.
     Torn,
-    /// Memory was wanted and not to be had.
-    NoMemory,
 }

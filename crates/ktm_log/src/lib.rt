@@ -5,14 +5,14 @@
 
 mod area;
 mod fault;
+mod frame;
 mod laws;
 mod load;
 mod log;
-mod payloads;
 mod settle;
 
 pub use area::Area;
 pub use fault::{AppendFault, LogFault};
+pub use frame::first_payload;
 pub use laws::{law_of_bad_logs, law_of_logs, law_of_one_kind, law_of_some_kind};
-pub use log::{Log, Scanned};
-pub use payloads::Payloads;
+pub use log::Log;

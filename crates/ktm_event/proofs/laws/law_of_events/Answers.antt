@@ -1,4 +1,4 @@
-use Rattle.ktm_event.proofs.Events.{unambiguous_event, one_event}
+use Rattle.ktm_event.proofs.OneEvent.{unambiguous_event, one_event}
 use Rattle.ktm_event.proofs.Spellable.{event_shows}
 use Rattle.ktm_event.proofs.laws.law_of_events.Goals as goal
 

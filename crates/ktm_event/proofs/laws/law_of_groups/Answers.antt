@@ -1,4 +1,4 @@
-use Rattle.ktm_event.proofs.Events.{one_group, one_spelling}
+use Rattle.ktm_event.proofs.OneEvent.{one_group, one_spelling}
 use Rattle.ktm_event.proofs.Spellable.{group_fits}
 use Rattle.ktm_event.proofs.laws.law_of_groups.Goals as goal
 

@@ -3,7 +3,7 @@ use Rattle.std.specs.List.{list_all}
 use Rattle.ktm_world.specs.Built.{is_built_event}
 use Rattle.ktm_world.specs.Durable.{events_apply}
 use Rattle.ktm_world.specs.Logs.{Group}
-use Rattle.ktm_event.proofs.Events.{one_group}
+use Rattle.ktm_event.proofs.OneEvent.{one_group}
 use Rattle.ktm_journal.proofs.load.apply.Goals as goal
 
 pub returns-in-Ok-clause-bad : goal.returns-in-Ok-clause-bad

@@ -1,4 +1,4 @@
-use Rattle.std.proofs.Common.{◌≡◌, ℕ, ◌+◌, ◌≤◌, List, length, take, drop, get_or, ◌∙◌, ap, sym, arith, length-take, length-drop}
+use Rattle.std.proofs.Common.{◌≡◌, ℕ, List, drop, get_or, ◌∙◌, ap, sym, arith}
 use Rattle.std.proofs.lemmas.List.{get_or_read, take_rest}
 use Rattle.ktm_log.specs.Log.{size_at}
 use Rattle.ktm_log.proofs.Loading.{loads_then, finds_torn, finds_frame}
@@ -28,13 +28,8 @@ returns-clause-found g c =
     let n = c.from-size.result in
     let gate : get_or first at 0 ≡ 1 = sym (get_or_read first at c.index.result.now (omega (arith, c.in_default.ensures.upto)) c.index.ensures 0) ∙ c.if-index-ne1.false in
     let size : n ≡ size_at (drop at second) =
-    c.from-size.ensures ∙ c.payload_size.ensures ∙ ap size_at (take_rest c.deref.result.now at) ∙ ap (λ (l : List ℕ). size_at (drop at l)) c.deref.ensures.value in
-    let read : at + n + 6 ≤ length third = omega (arith, c.in_default-load-2.ensures.upto) in
-    let is : c.new.result ≡ take n (drop (at + 5) third) =
-    c.new.ensures ∙ c.in-Ok.ensures.items_if_clones_equal (λ x y e. e) ∙ ap (λ k. take k (drop (at + 5) c.deref-2.result.now)) (omega arith) ∙ ap (λ (l : List ℕ). take n (drop (at + 5) l)) c.deref-2.ensures.value in
-    let long : length c.new.result ≡ n = ap (λ (l : List ℕ). length l) is ∙ omega (arith, read, length-take n (drop (at + 5) third), length-drop (at + 5) third) in (
-      omega (arith, long),
-      finds_frame c.args.area at first second n (omega (arith, c.in_default.ensures.upto)) gate (omega (arith, c.in_default-load.ensures.upto)) size third c.new.result
-          _ _ _ c.load-2.ensures.same c.load-3.ensures.same c.in_default.ensures.holds.bytes c.in_default-load.ensures.holds.bytes c.in_default-load-2.ensures.holds.bytes
-          (omega arith) read long is,
+    c.from-size.ensures ∙ c.payload_size.ensures ∙ ap size_at (take_rest c.deref.result.now at) ∙ ap (λ (l : List ℕ). size_at (drop at l)) c.deref.ensures.value in (
+      omega arith,
+      finds_frame c.args.area at first second n (omega (arith, c.in_default.ensures.upto)) gate (omega (arith, c.in_default-load.ensures.upto)) size third
+          c.in_default-load.ensures.front c.in_default-load-2.ensures.front (omega (arith, c.in_default-load-2.ensures.upto)),
     )

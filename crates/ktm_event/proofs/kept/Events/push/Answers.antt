@@ -1,22 +1,24 @@
-use Rattle.std.proofs.Common.{arith}
-use Rattle.ktm_event.proofs.KeptLemmas.{list_more, sizes_more}
+use Rattle.std.proofs.Common.{arith, vec_len}
+use Rattle.ktm_event.proofs.KeptLemmas.{Grew, kept_more, holds_more}
 use Rattle.ktm_event.proofs.kept.Events.push.Goals as goal
 
-pub returns-clause-adds : goal.returns-clause-adds
-returns-clause-adds c events holds =
-    let before = rw (← c.self.view_is) at holds in
+module _ (c : goal.After-close) where
+  grew : Grew c.self.inside.bytes.items c.open.new.bytes.items c.write_event.new.out.items c.close.new.bytes.items c.self.inside.count (vec_len c.open.new.bytes) c.args.event.now
+  grew = record {
+    front = c.open.ensures.items;
+    end = omega (arith, c.open.ensures.len, c.self.inside.bytes.ok.0);
+    adds = rw c.unwrap.ensures at c.write_event.ensures.adds;
+    size = omega (arith, rw c.unwrap.ensures at c.write_event.ensures.len, c.open.new.bytes.ok.0, c.write_event.new.out.ok.0);
+    closed = c.close.ensures.items;
+  }
+
+pub invariant_of-self : goal.invariant_of-self
+invariant_of-self c =
     let fits = rw (← c.self.view_is) at c.requires.fits in
-    record {
-      spelled = list_more c.args.event.now (rw c.unwrap.ensures at c.write_event.ensures.adds) c.set_count.ensures.items events c.self.invariant.counted before.spelled;
-      sizes = omega (
-        arith,
-        before.sizes,
-        fits,
-        sizes_more events c.args.event.now,
-        rw c.unwrap.ensures at c.write_event.ensures.len,
-        c.set_count.ensures.len,
-        c.self.invariant.within,
-        c.self.inside.bytes.ok.0,
-        c.set_count.new.bytes.ok.0,
-      );
-    }
+    kept_more _ _ _ _ _ _ _ _ c.args.event.now c.self.invariant (grew c) (omega (arith, fits, c.self.invariant.within)) _
+    (omega (arith, c.close.ensures.room, c.write_event.ensures.room, c.open.ensures.room, c.self.invariant.reserved))
+
+pub returns-clause-adds : goal.returns-clause-adds
+returns-clause-adds c list held =
+    let fits = rw (← c.self.view_is) at c.requires.fits in
+    holds_more _ _ _ _ _ _ _ _ c.args.event.now c.self.invariant (grew c) (omega (arith, fits, c.self.invariant.within)) list (rw (← c.self.view_is) at held)

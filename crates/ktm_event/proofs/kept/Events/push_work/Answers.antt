@@ -1,24 +1,32 @@
-use Rattle.std.proofs.Common.{arith}
-use Rattle.ktm_event.specs.Work.{work_event, work_part}
-use Rattle.ktm_event.proofs.KeptLemmas.{list_more, sizes_more}
+use Rattle.std.proofs.Common.{arith, vec_len}
+use Rattle.ktm_world.specs.declared.event.Event.{Event}
+use Rattle.ktm_event.specs.Work.{part_of, work_event}
+use Rattle.ktm_event.proofs.KeptLemmas.{Grew, kept_more, holds_more}
 use Rattle.ktm_event.proofs.kept.Events.push_work.Goals as goal
 
-pub returns-clause-adds : goal.returns-clause-adds
-returns-clause-adds c events holds =
-    let event = work_event c.args.single c.args.transaction (work_part c.args.files c.args.changes.now c.args.settings.now) in
-    let before = rw (← c.self.view_is) at holds in
+module _ (c : goal.After-close) where
+  event : Event
+  event = work_event c.args.stage c.args.transaction (part_of c.args.work)
+
+  grew : Grew c.self.inside.bytes.items c.open.new.bytes.items c.put_work.new.out.items c.close.new.bytes.items c.self.inside.count (vec_len c.open.new.bytes) event
+  unfolding event
+  grew = record {
+    front = c.open.ensures.items;
+    end = omega (arith, c.open.ensures.len, c.self.inside.bytes.ok.0);
+    adds = rw c.unwrap.ensures at c.put_work.ensures.adds;
+    size = omega (arith, rw c.unwrap.ensures at c.put_work.ensures.len, c.open.new.bytes.ok.0, c.put_work.new.out.ok.0);
+    closed = c.close.ensures.items;
+  }
+
+pub invariant_of-self : goal.invariant_of-self
+unfolding event
+invariant_of-self c =
     let fits = rw (← c.self.view_is) at c.requires.fits in
-    record {
-      spelled = list_more event (rw c.unwrap.ensures at c.put_work.ensures.adds) c.set_count.ensures.items events c.self.invariant.counted before.spelled;
-      sizes = omega (
-        arith,
-        before.sizes,
-        fits,
-        sizes_more events event,
-        rw c.unwrap.ensures at c.put_work.ensures.len,
-        c.set_count.ensures.len,
-        c.self.invariant.within,
-        c.self.inside.bytes.ok.0,
-        c.set_count.new.bytes.ok.0,
-      );
-    }
+    kept_more _ _ _ _ _ _ _ _ (event c) c.self.invariant (grew c) (omega (arith, fits, c.self.invariant.within)) _
+    (omega (arith, c.close.ensures.room, c.put_work.ensures.room, c.open.ensures.room, c.self.invariant.reserved))
+
+pub returns-clause-adds : goal.returns-clause-adds
+unfolding event
+returns-clause-adds c list held =
+    let fits = rw (← c.self.view_is) at c.requires.fits in
+    holds_more _ _ _ _ _ _ _ _ (event c) c.self.invariant (grew c) (omega (arith, fits, c.self.invariant.within)) list (rw (← c.self.view_is) at held)

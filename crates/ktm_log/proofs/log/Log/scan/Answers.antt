@@ -1,20 +1,53 @@
-use Rattle.std.proofs.Common.{◌∙◌, ap, arith}
-use Rattle.ktm_log.specs.Log.{end_of}
-use Rattle.ktm_log.proofs.Loading.{loads_then}
-use Rattle.ktm_log.proofs.Frames.{end_of-push, frames_more}
+use Rattle.std.proofs.Common.{◌+◌, ◌∙◌, ap, refl, arith}
+use Rattle.ktm_log.proofs.Loading.{loads_then, one_more, end_found, log_found, bad_found, rests_found}
+use Rattle.ktm_log.proofs.Payloads.{none_closed}
 use Rattle.ktm_log.proofs.log.Log.scan.Goals as goal
 
-pub loop-payload-preserved : goal.loop-payload-preserved
-loop-payload-preserved g c =
+pub loop-size-preserved : goal.loop-size-preserved
+loop-size-preserved g c =
     let found = rw c.in-Ok-Some.field-0-is at c.in-Ok-Some.ensures.found in
-    let before = c.loop-payload.invariant in
-    let ps = c.loop-payload.payloads.items in
+    let before = c.loop-size.invariant in
     record {
       same = c.next_frame.ensures.same ∙ before.same;
-      room = c.next_frame.ensures.room;
+      room = omega (arith, c.next_frame.ensures.room);
+      kept = omega (arith, c.next_frame.ensures.room);
       holds = c.in-Ok-Some.ensures.holds;
       loads = loads_then _ _ _ _ _ _ _ _ before.loads c.in-Ok-Some.ensures.loads;
       inside = omega (arith, found.0);
-      end = omega (arith, before.end, end_of-push ps c.in-Ok-Some.payload, ap end_of c.in-Ok-push.ensures.items);
-      frames = frames_more c.args.area ps _ c.in-Ok-Some.payload c.loop-payload.end _ _ c.next_frame.ensures.same c.in-Ok-push.ensures.items before.end before.frames found.1;
+      frames = one_more c.args.area _ _ _ before.frames (c.in-Ok-Some.ensures.front refl) _ found.1;
     }
+
+pub returns-in-Ok-None-clause-end : goal.returns-in-Ok-None-clause-end
+returns-in-Ok-None-clause-end g c =
+    let closed = rw c.in-Ok-None.field-0-is at c.in-Ok-None.ensures.found in
+    end_found c.args.area _ _ _ c.loop-size.invariant.frames (c.in-Ok-None.ensures.front refl) (none_closed _ closed)
+
+pub returns-in-Ok-None-clause-log : goal.returns-in-Ok-None-clause-log
+returns-in-Ok-None-clause-log g c =
+    let closed = rw c.in-Ok-None.field-0-is at c.in-Ok-None.ensures.found in
+    log_found c.args.area _ _ _ c.loop-size.invariant.frames (c.in-Ok-None.ensures.front refl) closed _ _ (c.next_frame.ensures.same ∙ c.loop-size.invariant.same) c.in-Ok-None.ensures.holds.bytes
+
+pub returns-in-Ok-None-clause-stands : goal.returns-in-Ok-None-clause-stands
+returns-in-Ok-None-clause-stands g c =
+    let closed = rw c.in-Ok-None.field-0-is at c.in-Ok-None.ensures.found in
+    let same = c.next_frame.ensures.same ∙ c.loop-size.invariant.same in
+    let frames = c.loop-size.invariant.frames in
+    let on = c.in-Ok-None.ensures.front refl in
+    rests_found c.args.area _ c.loop-size.end (end_found c.args.area _ _ _ frames on (none_closed _ closed)) _ _ same c.requires.within
+    (log_found c.args.area _ _ _ frames on closed _ _ same c.in-Ok-None.ensures.holds.bytes)
+
+pub returns-in-Err-Torn-clause-bad : goal.returns-in-Err-Torn-clause-bad
+returns-in-Err-Torn-clause-bad g c =
+    let none = rw c.in-Err-Torn.field-0-is at c.in-Err-Torn.ensures.no_frame in
+    let torn = rw c.in-Err-Torn.field-0-is at c.in-Err-Torn.ensures.torn in
+    let on = (rw c.in-Err-Torn.field-0-is at c.in-Err-Torn.ensures.front) refl in
+    let frames = c.loop-size.invariant.frames in (
+      ap (λ n. c.args.area.at + n) (end_found c.args.area _ _ _ frames on none),
+      bad_found c.args.area _ _ _ frames on none _ _ (c.next_frame.ensures.same ∙ c.loop-size.invariant.same) (rw c.loop-size.invariant.same at c.loop-size.invariant.holds.bytes) torn,
+    )
+
+pub returns-in-Err-Torn-clause-inside_bad : goal.returns-in-Err-Torn-clause-inside_bad
+returns-in-Err-Torn-clause-inside_bad g c =
+    let none = rw c.in-Err-Torn.field-0-is at c.in-Err-Torn.ensures.no_frame in
+    let on = (rw c.in-Err-Torn.field-0-is at c.in-Err-Torn.ensures.front) refl in
+    omega (arith, end_found c.args.area _ _ _ c.loop-size.invariant.frames on none)

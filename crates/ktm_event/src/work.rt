@@ -1,0 +1,35 @@
+// What is recorded of a transaction's work.
+ghost use Rattle.std.specs.Prelude.{◌≡◌};
+ghost use Rattle.ktm_event.specs.Work.{stage_tag};
+
+use crate::event::{READY, SINGLE};
+use ktm_world::{Change, Setting};
+
+/// What one participant has to record of a transaction.
+#[derive(Clone, Copy)]
+pub enum Work<'a> {
+    /// Changes of files.
+    Changes(&'a [Change]),
+    /// Settings of keys.
+    Settings(&'a [Setting]),
+}
+
+/// What a participant's work is recorded with.
+#[derive(Clone, Copy, Debug, PartialEq, Eq)]
+pub enum Stage {
+    /// The participant is prepared, and the transaction is still to be decided.
+    Ready,
+    /// The participant is the only one, and the transaction commits.
+    Single,
+}
+
+impl Stage {
+    pub(crate) fn tag(self) -> u8
+        ensures { result ≡ stage_tag self }
+    {
+        match self {
+            Stage::Ready => READY,
+            Stage::Single => SINGLE,
+        }
+    }
+}

@@ -1,0 +1,13 @@
+use Rattle.std.proofs.Common.{◌∙◌, arith}
+use Rattle.ktm_log.proofs.Loading.{loads_then}
+use Rattle.ktm_log.proofs.Payloads.{went_on_trans}
+use Rattle.ktm_log.proofs.load.load.Goals as goal
+
+pub loop-area-preserved : goal.loop-area-preserved
+loop-area-preserved g c = record {
+  same = c.load_piece.ensures.same ∙ c.loop-area.invariant.same;
+  room = omega (arith, c.load_piece.ensures.room);
+  front = went_on_trans _ _ _ c.loop-area.invariant.front c.in_default.ensures.front;
+  holds = c.in_default.ensures.holds;
+  loads = loads_then _ _ _ _ _ _ _ _ c.loop-area.invariant.loads c.in_default.ensures.loads;
+}

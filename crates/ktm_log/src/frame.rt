@@ -1,0 +1,26 @@
+// Frames in bytes, which are read where they lie.
+ghost use Rattle.std.specs.Prelude.{◌≡◌, ◌≤◌, length, MatchOption, None, Some};
+ghost use Rattle.ktm_log.specs.Log.{first_payload, size_at};
+
+// The payload length behind the gate that the bytes begin with.
+pub(crate) fn payload_size(bytes: &[u8]) -> u32
+    requires { 5 ≤ length bytes.now }
+    ensures { result ≡ size_at bytes.now }
+{
+    u32::from_le_bytes([bytes[1], bytes[2], bytes[3], bytes[4]])
+}
+
+/// The payload of the frame that the bytes begin with, if they begin with one. The next frame is five bytes behind as many
+/// as the payload has.
+pub fn first_payload(bytes: &[u8]) -> Option<&[u8]>
+    ensures { MatchOption result (first_payload bytes.now ≡ None) (λ payload. first_payload bytes.now ≡ Some payload.now) }
+{
+    if bytes.len() < 6 || bytes[0] != 1 {
+        return None;
+    }
+    let size = payload_size(bytes) as usize;
+    if bytes.len() - 6 < size {
+        return None;
+    }
+    Some(&bytes[5..5 + size])
+}
