@@ -2,3 +2,4 @@ pub mod Place
 pub mod Count
 pub mod Marks
 pub mod KvState
+pub mod Calls

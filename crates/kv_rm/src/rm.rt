@@ -1,14 +1,20 @@
 // The manager.
-ghost use Rattle.std.specs.Prelude.{◌≡◌, ◌+◌, ◌-◌, ◌≤◌, ℕ, List, [], Some, None, IfOk, OnOk, OnErr, IsOk, length, nat_lt, vec_len, vec_capacity};
+ghost use Rattle.std.specs.Prelude.{◌≡◌, ◌+◌, ◌-◌, ◌^◌, ◌≤◌, ℕ, List, [], true, Option, Some, None, IfOk, OnOk, OnErr, IsOk, length, min, nat_lt, vec_len, vec_capacity};
 ghost use Rattle.std.specs.Option.{option_copied};
-ghost use Rattle.ktm_world.specs.Keys.{own_settings, with_own, without_own, value_seen, is_held_by_other, keys_used, changes_pending, stored_all, store_seen, keys_of};
+ghost use Rattle.ktm_world.specs.declared.reply.Reply.TheVariants.{Done};
+ghost use Rattle.ktm_world.specs.KeyCalls.{KeyRoom, is_key_held, keys_with, with_setting};
+ghost use Rattle.ktm_world.specs.Keys.{own_settings, without_own, value_seen, keys_used, changes_pending, stored_all, store_seen, keys_of};
+ghost use Rattle.kv_rm.specs.Calls.{key_outcome};
+ghost use Rattle.kv_rm.specs.Count.{is_counted, own_count};
+ghost use Rattle.kv_rm.specs.declared.call.KvCall.TheVariants.{Get, Set, Unset};
 
+use crate::call::{KvCall, Room};
 use crate::count::{Counted, count_own, own_gains};
 use crate::list::keys_with;
 use crate::own::{OwnKeys, is_held, set_own, settings_of, take_own};
-use ktm_base::{Bytes, Id, NoMemory, Text, TextList};
+use ktm_base::{Bytes, Id, NoMemory, Refusal, Text, TextList};
 use ktm_world::keyed::value_of;
-use ktm_world::{Entry, Setting, make_all};
+use ktm_world::{Entry, Reply, Setting, is_bad_key, is_bad_value, make_all};
 use std::alloc::Global;
 use std::marker::Model;
 
@@ -45,8 +51,23 @@ impl KvRm {
         }
     }
 
-    /// What a transaction sees of a key, or the plain view, where there is no transaction.
-    pub fn value_seen(&self, who: Option<Id>, key: &[u8]) -> Option<&Bytes>
+    /// Makes a call for a transaction, or for none: it is refused, or answered. At want of memory nothing has changed.
+    pub fn call(&mut self, who: Option<Id>, call: KvCall, room: Room) -> Result<Reply, NoMemory>
+        ensures reply { IfOk result (λ reply. reply ≡ (key_outcome self.old.keys room who call).reply) }
+        ensures keys { OnOk result (self.new.keys ≡ record self.old.keys { own = (key_outcome self.old.keys room who call).own }) }
+        ensures no_memory { OnErr result (self.new.keys ≡ self.old.keys) }
+        ensures room { self.new.room ≡ self.old.room }
+    {
+        match call {
+            KvCall::Set { key, value } => self.set(who, key, value, room.keys),
+            KvCall::Unset { key } => self.unset(who, key, room.changes),
+            KvCall::Get { key } => self.get(who, &key),
+            KvCall::List => Ok(Reply::Keys(self.keys_seen(who)?)),
+        }
+    }
+
+    // What is seen of a key.
+    fn value_seen(&self, who: Option<Id>, key: &[u8]) -> Option<&Bytes>
         ensures { option_copied result ≡ value_seen self.now.keys who key.now }
     {
         if let Some(transaction) = who {
@@ -57,57 +78,125 @@ impl KvRm {
         value_of(&self.store, key)
     }
 
-    /// The keys that a transaction sees, or that the plain view has, where there is no transaction: by rising key.
-    pub fn keys_seen(&self, alloc: Global, who: Option<Id>) -> Result<TextList, NoMemory>
-        ensures { IfOk result (λ keys. keys ≡ keys_of (store_seen self.now.keys who)) }
+    fn get(&self, who: Option<Id>, key: &Text) -> Result<Reply, NoMemory>
+        ensures { (room : KeyRoom) → IfOk result (λ reply. reply ≡ (key_outcome self.now.keys room who (Get key.now)).reply) }
     {
-        match who {
-            Some(transaction) => keys_with(alloc, &self.store, settings_of(&self.own, transaction)),
-            None => keys_with(alloc, &self.store, &[]),
+        if is_bad_key(key) {
+            return Ok(Reply::Refused(Refusal::InvalidParameter));
+        }
+        match self.value_seen(who, key.as_slice()) {
+            Some(value) => Ok(Reply::Contents(value.copy(self.alloc)?)),
+            None => Ok(Reply::Refused(Refusal::NotFound)),
         }
     }
 
-    /// Has another transaction, undecided yet, set or unset the key.
-    pub fn is_held_by_other(&self, transaction: Id, key: &[u8]) -> bool
-        ensures { result ≡ is_held_by_other self.now.keys.own transaction key.now }
+    // The keys that are seen, by rising key.
+    fn keys_seen(&self, who: Option<Id>) -> Result<TextList, NoMemory>
+        ensures { IfOk result (λ keys. keys ≡ keys_of (store_seen self.now.keys who)) }
     {
-        is_held(&self.own, transaction, key)
+        let settings = match who {
+            Some(transaction) => settings_of(&self.own, transaction),
+            None => &[],
+        };
+        keys_with(self.alloc, &self.store, settings)
     }
 
-    /// Would one key more, set by this transaction, pass the limit.
-    pub fn is_full_with(&self, units: u32, transaction: Id, key: &[u8]) -> bool
-        ensures { (value : List ℕ) → result ≡ nat_lt units (keys_used (record self.now.keys { own = with_own self.now.keys.own transaction key.now (Some value) })) }
+    // Does another undecided transaction hold the key.
+    fn is_held(&self, who: Option<Id>, key: &Text) -> bool
+        ensures { result ≡ is_key_held self.now.keys.own who key.now }
     {
-        let used = count_own(Counted::Values, self.store.len(), &self.own);
-        let more = usize::from(own_gains(Counted::Values, &self.own, transaction, key));
-        used.saturating_add(more) > units as usize
+        match who {
+            Some(transaction) => is_held(&self.own, transaction, key.as_slice()),
+            None => false,
+        }
     }
 
-    /// Would one change more that waits, the key unset by this transaction, pass the limit.
-    pub fn is_full_of_changes_with(&self, units: u32, transaction: Id, key: &[u8]) -> bool
-        ensures { result ≡ nat_lt units (changes_pending (record self.now.keys { own = with_own self.now.keys.own transaction key.now None })) }
+    // How many settings are counted, once this one, which is counted, is made.
+    fn count_with(&self, counted: Counted, who: Option<Id>, key: &Text) -> usize
+        ensures { (value : Option (List ℕ)) → is_counted counted (record { key = key.now; value = value }) ≡ true
+            → result ≡ min (own_count counted (with_setting self.now.keys.own who key.now value)) (2 ^ 64 - 1) }
     {
-        let waiting = count_own(Counted::Unsets, 0, &self.own);
-        let more = usize::from(own_gains(Counted::Unsets, &self.own, transaction, key));
-        waiting.saturating_add(more) > units as usize
+        let count = count_own(counted, 0, &self.own);
+        match who {
+            Some(transaction) => {
+                let more = usize::from(own_gains(counted, &self.own, transaction, key.as_slice()));
+                count.saturating_add(more)
+            }
+            None => count,
+        }
     }
 
-    /// A value in place of the transaction's earlier one, where it has one under the key.
-    pub fn set(&mut self, transaction: Id, key: Text, value: Bytes) -> Result<(), NoMemory>
-        ensures ok { OnOk result (self.new.keys ≡ record self.old.keys { own = with_own self.old.keys.own transaction key (Some value) }) }
+    // Would one key more, set for this caller, pass the limit.
+    fn is_full_with(&self, units: u32, who: Option<Id>, key: &Text) -> bool
+        ensures { (value : List ℕ) → result ≡ nat_lt units (keys_used (keys_with self.now.keys who key.now (Some value))) }
+    {
+        let used = self.count_with(Counted::Values, who, key);
+        self.store.len().saturating_add(used) > units as usize
+    }
+
+    // Would one change more that waits, the key unset for this caller, pass the limit.
+    fn is_full_of_changes_with(&self, units: u32, who: Option<Id>, key: &Text) -> bool
+        ensures { result ≡ nat_lt units (changes_pending (keys_with self.now.keys who key.now None)) }
+    {
+        self.count_with(Counted::Unsets, who, key) > units as usize
+    }
+
+    // One setting more for this caller.
+    fn add(&mut self, who: Option<Id>, key: Text, value: Option<Bytes>) -> Result<Reply, NoMemory>
+        ensures reply { IfOk result (λ reply. reply ≡ Done) }
+        ensures ok { OnOk result (self.new.keys ≡ keys_with self.old.keys who key value) }
         ensures err { OnErr result (self.new.keys ≡ self.old.keys) }
         ensures room { self.new.room ≡ self.old.room }
     {
-        set_own(self.alloc, &mut self.own, transaction, key, Some(value))
+        if let Some(transaction) = who {
+            set_own(self.alloc, &mut self.own, transaction, key, value)?;
+        }
+        Ok(Reply::Done)
     }
 
-    /// The key has no value, once the transaction commits.
-    pub fn unset(&mut self, transaction: Id, key: Text) -> Result<(), NoMemory>
-        ensures ok { OnOk result (self.new.keys ≡ record self.old.keys { own = with_own self.old.keys.own transaction key None }) }
-        ensures err { OnErr result (self.new.keys ≡ self.old.keys) }
+    fn set(
+        &mut self,
+        who: Option<Id>,
+        key: Text,
+        value: Bytes,
+        most: u32,
+    ) -> Result<Reply, NoMemory>
+        ensures reply { (changes : ℕ) → IfOk result (λ reply. reply ≡ (key_outcome self.old.keys (record { keys = most; changes = changes }) who (Set key value)).reply) }
+        ensures keys { (changes : ℕ) → OnOk result (self.new.keys ≡ record self.old.keys { own = (key_outcome self.old.keys (record { keys = most; changes = changes }) who (Set key value)).own }) }
+        ensures no_memory { OnErr result (self.new.keys ≡ self.old.keys) }
         ensures room { self.new.room ≡ self.old.room }
     {
-        set_own(self.alloc, &mut self.own, transaction, key, None)
+        if is_bad_key(&key) || is_bad_value(&value) {
+            return Ok(Reply::Refused(Refusal::InvalidParameter));
+        }
+        if self.is_held(who, &key) {
+            return Ok(Reply::Refused(Refusal::TransactionalConflict));
+        }
+        if self.is_full_with(most, who, &key) {
+            return Ok(Reply::Refused(Refusal::DiskFull));
+        }
+        self.add(who, key, Some(value))
+    }
+
+    fn unset(&mut self, who: Option<Id>, key: Text, most: u32) -> Result<Reply, NoMemory>
+        ensures reply { (keys : ℕ) → IfOk result (λ reply. reply ≡ (key_outcome self.old.keys (record { keys = keys; changes = most }) who (Unset key)).reply) }
+        ensures keys { (keys : ℕ) → OnOk result (self.new.keys ≡ record self.old.keys { own = (key_outcome self.old.keys (record { keys = keys; changes = most }) who (Unset key)).own }) }
+        ensures no_memory { OnErr result (self.new.keys ≡ self.old.keys) }
+        ensures room { self.new.room ≡ self.old.room }
+    {
+        if is_bad_key(&key) {
+            return Ok(Reply::Refused(Refusal::InvalidParameter));
+        }
+        if self.value_seen(who, key.as_slice()).is_none() {
+            return Ok(Reply::Refused(Refusal::NotFound));
+        }
+        if self.is_held(who, &key) {
+            return Ok(Reply::Refused(Refusal::TransactionalConflict));
+        }
+        if self.is_full_of_changes_with(most, who, &key) {
+            return Ok(Reply::Refused(Refusal::NotEnoughQuota));
+        }
+        self.add(who, key, None)
     }
 
     /// In the order in which a commit makes them.
