@@ -114,6 +114,7 @@ impl<K: Name, T> Chains<K, T> {
     pub fn find(&self, name: &[u8]) -> Option<Key>
         ensures key { result ≡ key_at self.now.entries name.now }
         ensures value { IfSome result (λ key. value_of self.now.entries key ≡ option_map (λ e. e.1) (at self.now.entries name.now)) }
+        ensures absent { IfNone result (at self.now.entries name.now ≡ None) }
     {
         match search(&self.values, self.order.as_slice(), name) {
             Ok(i) => Some(self.order[i]),

@@ -99,6 +99,13 @@ impl<T> List<T> {
         }
     }
 
+    /// How many values there are.
+    pub fn len(&self) -> usize
+        ensures { result ≡ length self.now.items }
+    {
+        self.entries.len()
+    }
+
     /// How many values can come without memory.
     pub fn spare(&self) -> usize
         ensures { result ≡ self.now.spare }
