@@ -1,17 +1,24 @@
 -- Lemmas on the entries of a map.
-use Rattle.std.proofs.Common.{◌≡◌, ℕ, ◌+◌, true, false, List, [], ◌∷◌, Some, None, cond, refl, sym, ap, ◌∙◌, inl, inr, arith}
+use Rattle.std.proofs.Common.{◌≡◌, ℕ, ◌+◌, true, false, List, [], ◌∷◌, Some, None, is_some, cond, drop, length, nat_eq, refl, sym, ap, ◌∙◌, inl, inr, arith}
 use Rattle.std.specs.declared.cmp.Ordering.{Ordering}
 use Rattle.std.specs.Ordering.{is_eq, is_lt}
 use Rattle.std.specs.declared.cmp.Ordering.TheVariants.{Less, Equal, Greater}
 use Rattle.std.proofs.lemmas.Cmp.{nat_list_cmp_total}
 use Rattle.std.proofs.lemmas.Bool.{cases_Bool}
+use Rattle.std.proofs.lemmas.Option.{same_Some}
 use Rattle.ktm_links.specs.declared.list.Key.{Key}
+use Rattle.std.specs.List.{starts_with}
 use Rattle.std.specs.Option.{option_map}
+use Rattle.std.proofs.lemmas.Bool.Decides.{Decides-eqb}
+use Rattle.std.proofs.lemmas.Slice.Eq.{starts_is}
 use Rattle.ktm_links.specs.Items.{same_key}
-use Rattle.ktm_links.specs.Mapped.{Mapped, KeepsSpent, NamedItem, name_cmp, at, key_at, put, value_of, without_name}
+use Rattle.ktm_links.specs.Mapped.{Mapped, KeepsSpent, NamedItem, name_cmp, at, first_from, key_at, put, value_of, without_name, Begins, IsFirstOf, IsNoneOf, IsNotBelow}
 use Rattle.ktm_links.specs.Order.{AreAbove, IsRising}
-use Rattle.ktm_links.proofs.Keys.{same_key-true, same_key-self, other_generation}
-use Rattle.ktm_links.proofs.Names.{turned, name_same, name_equal, from_is_eq, is_eq-other}
+use Rattle.ktm_links.proofs.Keys.{none_of, same_key-true, same_key-self, other_generation}
+use Rattle.ktm_links.proofs.Names.{begins_not_below, begins_between, not_lower, lower_differs, turned, name_same, name_equal, from_is_eq, is_eq-other}
+
+from_prefix : (prefix q : List ℕ) → Begins prefix q → IsNotBelow q prefix
+from_prefix prefix q begins = rw begins.is (begins_not_below prefix begins.after)
 
 module _ {T : Type 0} where
   pub key_at-same : (e : NamedItem T) (es : List (NamedItem T)) (name : List ℕ) → name_cmp e.name name ≡ Equal → key_at (e ∷ es) name ≡ Some e.key
@@ -78,6 +85,76 @@ module _ {T : Type 0} where
         | inl lower ↦ rw lower (ap (λ o. cond (is_eq (name_cmp x.name q)) (Some (x.key, x.value)) o) (at-put_other xs e q differs))
         | inr higher ↦ rw (higher, is_eq-other e.name q (λ same. differs (sym same))) refl
       ]
+
+  -- ---- the first name from one on
+  above-at : (a : List ℕ) (es : List (NamedItem T)) (q : List ℕ) → AreAbove a es → is_some (at es q) ≡ true → name_cmp a q ≡ Less
+  above-at a [] q above some = absurd (cc)
+  above-at a (e ∷ es) q above some =
+      elim (cases_Bool (is_eq (name_cmp e.name q))) [
+        | inl this ↦ rw (← name_equal e.name q (from_is_eq (name_cmp e.name q) this)) above.0
+        | inr other ↦ above-at a es q above.1 (rw other at some)
+      ]
+
+  pub first_from-least : (es : List (NamedItem T)) (name : List ℕ) (key : Key) (value : T) → IsRising es → first_from es name ≡ Some (key, value)
+      → IsFirstOf (λ q. IsNotBelow q name) es key
+  first_from-least [] name key value rising found = absurd (cc)
+  first_from-least (e ∷ es) name key value rising found =
+      elim (cases_Bool (is_lt (name_cmp e.name name))) [
+        | inl lower ↦
+            let rest = first_from-least es name key value rising.1 (rw lower at found) in
+            record {
+              name = rest.name;
+              value = rest.value;
+              there = rw (lower_differs e.name rest.name name lower rest.so) rest.there;
+              so = rest.so;
+              first = λ q so some. rest.first q so (rw (lower_differs e.name q name lower so) at some);
+            }
+        | inr not_below ↦
+            record {
+              name = e.name;
+              value = e.value;
+              there = rw (name_same e.name) (ap (λ k. Some (k, e.value)) (ap (λ p. p.0) (same_Some (e.key, e.value) (key, value) (rw not_below at found))));
+              so = not_below;
+              first = λ q so some. elim (cases_Bool (is_eq (name_cmp e.name q))) [
+                | inl this ↦ rw (← name_equal e.name q (from_is_eq (name_cmp e.name q) this), name_same e.name) refl
+                | inr other ↦ not_lower e.name q (above-at e.name es q rising.0 (rw other at some))
+              ];
+            }
+      ]
+
+  pub first_from-nothing : (es : List (NamedItem T)) (name : List ℕ) → first_from es name ≡ None → IsNoneOf (λ q. IsNotBelow q name) es
+  first_from-nothing [] name none q not_below = refl
+  first_from-nothing (e ∷ es) name none q not_below =
+      elim (cases_Bool (is_lt (name_cmp e.name name))) [
+        | inl lower ↦ rw (lower_differs e.name q name lower not_below) (first_from-nothing es name (rw lower at none) q not_below)
+        | inr higher ↦ absurd (let some = rw higher at none in cc)
+      ]
+
+  -- ---- the first name that begins with these bytes
+  pub first_with-here : (es : List (NamedItem T)) (prefix name : List ℕ) (key : Key) → (f : IsFirstOf (λ q. IsNotBelow q prefix) es key) → name ≡ f.name
+      → starts_with nat_eq name prefix ≡ true → IsFirstOf (Begins prefix) es key
+  first_with-here es prefix name key f is starts =
+      record {
+        name = f.name;
+        value = f.value;
+        there = f.there;
+        so = rw (← is) (record { after = drop (length prefix) name; is = (starts_is Decides-eqb name prefix _ refl).0 starts });
+        first = λ q begins some. f.first q (from_prefix prefix q begins) some;
+      }
+
+  pub first_with-nowhere : (es : List (NamedItem T)) (prefix name : List ℕ) (key : Key) → (f : IsFirstOf (λ q. IsNotBelow q prefix) es key) → name ≡ f.name
+      → starts_with nat_eq name prefix ≡ false → IsNoneOf (Begins prefix) es
+  first_with-nowhere es prefix name key f is starts q begins =
+      elim (cases_Bool (is_some (at es q))) [
+        | inl some ↦
+            let high = rw begins.is at (f.first q (from_prefix prefix q begins) some) in
+            let between = begins_between prefix begins.after f.name f.so high in
+            absurd (let yes = (starts_is Decides-eqb name prefix _ refl).1 between.after (is ∙ between.is) in cc)
+        | inr none ↦ none_of (at es q) none
+      ]
+
+  pub first_with-nothing : (es : List (NamedItem T)) (prefix : List ℕ) → IsNoneOf (λ q. IsNotBelow q prefix) es → IsNoneOf (Begins prefix) es
+  first_with-nothing es prefix none q begins = none q (from_prefix prefix q begins)
 
   -- ---- one less
   pub without_name-same : (e : NamedItem T) (es : List (NamedItem T)) (name : List ℕ) → name_cmp e.name name ≡ Equal → without_name (e ∷ es) name ≡ es

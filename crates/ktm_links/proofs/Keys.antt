@@ -3,7 +3,7 @@ use Rattle.std.proofs.Common.{◌≡◌, ◌⊎◌, ℕ, ◌+◌, true, false, e
 use Rattle.std.specs.Prelude.{OnSome}
 use Rattle.std.proofs.lemmas.Bool.{cases_Bool, and_parts, and_from, and_left, and_right, eqb-true, eq-eqb, ne_eqb}
 use Rattle.ktm_links.specs.declared.list.Key.{Key}
-use Rattle.ktm_links.specs.Items.{Item, item, same_key, Listed, value_at, without, IsSpent, KeepsSpent}
+use Rattle.ktm_links.specs.Items.{Item, item, same_key, Listed, value_at, with_value, without, IsSpent, KeepsSpent}
 
 pub key_from : (place generation place' generation' : ℕ) → place ≡ place' → generation ≡ generation'
     → ◌≡◌ {A = Key} (record { place = place; generation = generation }) (record { place = place'; generation = generation' })
@@ -35,6 +35,7 @@ module _ {T : Type 0} where
     pub is : xs ≡ left ++ item key value ∷ right
     pub found : value_at xs key ≡ Some value
     pub rest : without xs key ≡ left ++ right
+    pub other : (v : T) → with_value xs key v ≡ left ++ item key v ∷ right
 
   pub split : (xs : List (Item T)) (key : Key) → is_some (value_at xs key) ≡ true → IsSplit xs key
   split [] key some = absurd (cc)
@@ -48,6 +49,7 @@ module _ {T : Type 0} where
               is = ap (λ k. item k x.value ∷ xs) (same_key-true x.key key same);
               found = value_at-same x xs key same;
               rest = rw same refl;
+              other = λ v. rw (same, same_key-true x.key key same) refl;
             }
         | inr differs ↦
             let inner = split xs key (rw (value_at-other x xs key differs) at some) in
@@ -58,6 +60,7 @@ module _ {T : Type 0} where
               is = ap (λ l. x ∷ l) inner.is;
               found = value_at-other x xs key differs ∙ inner.found;
               rest = rw differs (ap (λ l. x ∷ l) inner.rest);
+              other = λ v. rw differs (ap (λ l. x ∷ l) (inner.other v));
             }
       ]
 
@@ -180,3 +183,32 @@ same_key-other a b differs =
 pub value_at-push_other : {V : Type 0} (xs : List (Item V)) (x : Item V) (key : Key) → (key ≡ x.key → ⊥) → value_at (xs ++ x ∷ []) key ≡ value_at xs key
 value_at-push_other [] x key differs = value_at-other x [] key (same_key-other x.key key (λ same. differs (sym same)))
 value_at-push_other (y ∷ ys) x key differs = ap (λ o. cond (same_key y.key key) (Some y.value) o) (value_at-push_other ys x key differs)
+
+-- ---- another value
+pub value_at-with_same : {V : Type 0} (xs : List (Item V)) (key : Key) (v : V) → is_some (value_at xs key) ≡ true → value_at (with_value xs key v) key ≡ Some v
+value_at-with_same [] key v some = absurd (cc)
+value_at-with_same (x ∷ xs) key v some =
+    elim (cases_Bool (same_key x.key key)) [
+      | inl same ↦ rw (same, same) refl
+      | inr differs ↦ rw (differs, differs) (value_at-with_same xs key v (rw differs at some))
+    ]
+
+pub value_at-with_other : {V : Type 0} (xs : List (Item V)) (key other : Key) (v : V) → (other ≡ key → ⊥) → value_at (with_value xs key v) other ≡ value_at xs other
+value_at-with_other [] key other v differs = refl
+value_at-with_other (x ∷ xs) key other v differs =
+    elim (cases_Bool (same_key x.key key)) [
+      | inl same ↦
+          let apart = same_key-other x.key other (λ is. differs (sym is ∙ same_key-true x.key key same)) in
+          rw (same, apart) refl
+      | inr not_this ↦ rw not_this (ap (λ o. cond (same_key x.key other) (Some x.value) o) (value_at-with_other xs key other v differs))
+    ]
+
+value_at-with_none : {V : Type 0} (xs : List (Item V)) (key other : Key) (v : V) → is_some (value_at xs key) ≡ true → value_at xs other ≡ None
+    → value_at (with_value xs key v) other ≡ None
+value_at-with_none xs key other v some none =
+    value_at-with_other xs key other v (λ same. absurd (let no = rw (← same) at some in cc)) ∙ none
+
+pub KeepsSpent-with_value : {V : Type 0} (old new : Listed V) (key : Key) (v : V) → is_some (value_at old.items key) ≡ true
+    → new.items ≡ with_value old.items key v → new.next ≡ old.next → KeepsSpent old new
+KeepsSpent-with_value old new key v some items next = λ other spent.
+    record { before = rw next spent.before; gone = rw items (value_at-with_none old.items key other v some spent.gone) }

@@ -5,10 +5,10 @@ use Rattle.std.proofs.lemmas.Option.{same_Some}
 use Rattle.slab.specs.Slab.{Slab, get, slab_len, ContainsKey, Updates}
 use Rattle.ktm_links.specs.declared.list.Key.{Key}
 use Rattle.ktm_links.specs.declared.entry.Entry.{Entry}
-use Rattle.ktm_links.specs.Items.{Item, item, value_at, without}
+use Rattle.ktm_links.specs.Items.{Item, item, value_at, with_value, without}
 use Rattle.ktm_links.specs.Links.{first_place, last_place, entry_of, Segment, HasPlace, HasDistinctPlaces, IsBelow, IsLinked}
-use Rattle.ktm_links.specs.Entry.{SetsAfter, SetsBefore, beside_or}
-use Rattle.ktm_links.proofs.Segments.{HasPlace-cases, Segment-present, Segment-append, HasPlace-append, distinct_parts, unlinked}
+use Rattle.ktm_links.specs.Entry.{SetsAfter, SetsBefore, SetsValue, beside_or, value_of}
+use Rattle.ktm_links.proofs.Segments.{HasPlace-cases, Segment-present, Segment-append, HasPlace-append, distinct_parts, revalued, unlinked}
 use Rattle.ktm_links.proofs.Keys.{other_place, other_generation, value_at-same, value_at-other, IsSplit}
 
 module _ {T : Type 0} where
@@ -90,6 +90,15 @@ module _ {T : Type 0} where
   unlinked_key s s1 s2 s3 head tail next xs key e at linked is removed len1 after len2 before len3 =
       rw at.rest
       (unlinked s s1 s2 s3 head tail next at.left (item key at.value) at.right e (rw at.is at linked) is removed len1 after len2 before len3)
+
+  pub valued_was : (s : Slab (Entry T)) (head tail : Option ℕ) (next : ℕ) (xs : List (Item T)) (key : Key) (was : T) → IsSplit xs key
+      → IsLinked s head tail next xs → value_of (get s key.place) ≡ Some was → value_at xs key ≡ Some was
+  valued_was s head tail next xs key was at linked is = at.found ∙ sym (ap value_of (entry_at s head tail next xs key linked at)) ∙ is
+
+  pub valued_key : (s new : Slab (Entry T)) (head tail : Option ℕ) (next : ℕ) (xs : List (Item T)) (key : Key) (v : T) → IsSplit xs key
+      → IsLinked s head tail next xs → SetsValue s new key.place v → slab_len new ≡ slab_len s → IsLinked new head tail next (with_value xs key v)
+  valued_key s new head tail next xs key v at linked sets len =
+      rw (at.other v) (revalued s new head tail next at.left key at.value v at.right (rw at.is at linked) sets len)
 
   pub value_at-removed : (xs : List (Item T)) (key : Key) → HasDistinctPlaces xs → IsSplit xs key → value_at (without xs key) key ≡ None
   value_at-removed xs key distinct at =

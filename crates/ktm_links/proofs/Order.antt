@@ -2,7 +2,7 @@
 use Rattle.std.proofs.Common.{◌≡◌, ◌⊎◌, ℕ, zero, suc, ◌<◌, ◌≤◌, true, false, List, [], ◌∷◌, ◌++◌, length, get_or, take, drop, Option, Some, None, is_some, refl, sym, ap, ◌∙◌, inl, inr, arith}
 use Rattle.std.specs.Prelude.{Ok, Err, OnSome}
 use Rattle.std.specs.Option.{option_map}
-use Rattle.std.specs.Ordering.{is_lt, ordering_index}
+use Rattle.std.specs.Ordering.{is_eq, is_lt, ordering_index}
 use Rattle.std.specs.declared.cmp.Ordering.TheVariants.{Less, Equal, Greater}
 use Rattle.std.specs.List.Sorted.{IsBinarySearchResult, IsNonDecreasingBy, IsPartitionPoint}
 use Rattle.std.proofs.lemmas.Bool.{cases_lt, cases_Bool}
@@ -11,7 +11,7 @@ use Rattle.ktm_links.specs.declared.list.Key.{Key}
 use Rattle.ktm_links.specs.Items.{Listed, IsSpent as IsSpentKey, Item, item, same_key, value_at, without}
 use Rattle.ktm_links.specs.Mapped.{Mapped, IsSpent, NameAndValue, NamedItem, name_cmp, at, first_from, key_at, put, without_name, value_of}
 use Rattle.ktm_links.specs.Order.{order_in, order_at, entries_of, AreAbove, IsRising, ArePresent, HasKey, IsInOrder, IsFirstNotBelow}
-use Rattle.ktm_links.proofs.Names.{less_equal, index_rises, name_same}
+use Rattle.ktm_links.proofs.Names.{less_equal, index_rises, name_equal, name_same, from_is_eq}
 use Rattle.ktm_links.proofs.Keys.{on_some, same_key-true, same_key-self, some_of, none_of, value_at-kept, value_at-last, value_at-others, value_at-append}
 use Rattle.ktm_links.proofs.Entries.{key_at-at, key_at-same, key_at-less, key_at-differs, put-lower, put-higher, rising_put, without_name-same, without_name-less, at-same, at-less, rising_without, value_of-same, value_of-other}
 
@@ -295,6 +295,20 @@ module _ {T : Type 0} where
         | inr none ↦
             let gone = none_of (value_at items key) none in
             ap (λ o. option_map (λ (n : NameAndValue T). n.value) o) gone ∙ sym (value_of-absent items ks key ordered.present gone)
+      ]
+
+  -- what stands under a name is a value with that name
+  pub at-stands : (items : List (Item (NameAndValue T))) (ks : List Key) (q : List ℕ) (key : Key) (v : T) → ArePresent items ks
+      → at (entries_of items ks) q ≡ Some (key, v) → (n : NameAndValue T) × (value_at items key ≡ Some n) × (n.name ≡ q)
+  at-stands items [] q key v present found = absurd (cc)
+  at-stands items (k ∷ ks) q key v present found =
+      let s = some_of (value_at items k) present.0 in
+      let found' = rw (entries_of-cons items k ks s.0 s.1) at found in
+      elim (cases_Bool (is_eq (name_cmp s.0.name q))) [
+        | inl this ↦
+            let key_is : k ≡ key = ap (λ p. p.0) (same_Some (k, s.0.value) (key, v) (rw this at found')) in
+            (s.0, ap (λ x. value_at items x) (sym key_is) ∙ s.1, name_equal s.0.name q (from_is_eq (name_cmp s.0.name q) this))
+        | inr other ↦ at-stands items ks q key v present.1 (rw other at found')
       ]
 
   -- the key of what was removed is spent

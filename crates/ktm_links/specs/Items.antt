@@ -53,6 +53,11 @@ module _ {T : Type 0} where
   without [] key = []
   without (x ∷ xs) key = if same_key x.key key then xs else x ∷ without xs key
 
+  -- the list with another value under the key, where it names one
+  abbrev pub with_value : List (Item T) → Key → T → List (Item T)
+  with_value [] key value = []
+  with_value (x ∷ xs) key value = if same_key x.key key then item x.key value ∷ xs else x ∷ with_value xs key value
+
   -- the key of the first value
   abbrev pub first_key : List (Item T) → Option Key
   first_key [] = None

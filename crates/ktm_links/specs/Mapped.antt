@@ -1,5 +1,5 @@
 -- What a contract sees of a `Chains`.
-use Rattle.std.specs.Prelude.{◌≡◌, ℕ, ◌<◌, List, [], ◌∷◌, Option, Some, None, if◌then◌else◌, refl}
+use Rattle.std.specs.Prelude.{◌≡◌, ℕ, ◌<◌, true, false, List, [], ◌∷◌, ◌++◌, Option, Some, None, is_some, if◌then◌else◌, refl}
 use Rattle.std.specs.Coded.{Coded, code_by, coded×, coded_ℕ, coded_list}
 use Rattle.std.specs.declared.cmp.Ordering.{Ordering}
 use Rattle.std.specs.Ordering.{nat_cmp, is_eq, is_lt}
@@ -58,6 +58,15 @@ mapped_code {T} code =
 abbrev pub name_cmp : List ℕ → List ℕ → Ordering
 name_cmp = slice_cmp nat_cmp
 
+-- the first name is not below the second
+abbrev pub IsNotBelow : List ℕ → List ℕ → Type 0
+IsNotBelow a b = is_lt (name_cmp a b) ≡ false
+
+-- the name begins with these bytes
+pub record Begins (prefix name : List ℕ) : Type 0 where
+  pub after : List ℕ
+  pub is : name ≡ prefix ++ after
+
 module _ {T : Type 0} where
   -- the key and the value that the map has under the name
   abbrev pub at : List (NamedItem T) → List ℕ → Option (Key × T)
@@ -73,6 +82,18 @@ module _ {T : Type 0} where
   abbrev pub first_from : List (NamedItem T) → List ℕ → Option (Key × T)
   first_from [] name = None
   first_from (e ∷ es) name = if is_lt (name_cmp e.name name) then first_from es name else Some (e.key, e.value)
+
+  -- this key stands under the first of the names of which this is so
+  pub record IsFirstOf (P : List ℕ → Type 0) (entries : List (NamedItem T)) (key : Key) : Type 0 where
+    pub name : List ℕ
+    pub value : T
+    pub there : at entries name ≡ Some (key, value)
+    pub so : P name
+    pub first : (q : List ℕ) → P q → is_some (at entries q) ≡ true → IsNotBelow q name
+
+  -- nothing stands under a name of which this is so
+  abbrev pub IsNoneOf : (List ℕ → Type 0) → List (NamedItem T) → Type 0
+  IsNoneOf P entries = (q : List ℕ) → P q → at entries q ≡ None
 
   -- the entry put in its place by name
   abbrev pub put : List (NamedItem T) → NamedItem T → List (NamedItem T)

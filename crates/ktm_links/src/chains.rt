@@ -4,7 +4,7 @@ ghost use Rattle.std.specs.Option.{option_map};
 ghost use Rattle.std.specs.List.Sorted.{IsBinarySearchResult, IsSearchInRange, IsPartitionPoint};
 ghost use Rattle.std.specs.declared.cmp.Ordering.TheVariants.{Less, Greater};
 ghost use Rattle.ktm_links.specs.declared.list.Key.{Key};
-ghost use Rattle.ktm_links.specs.Mapped.{at, first_from, key_at, put, value_of, without_name, IsSpent, KeepsSpent};
+ghost use Rattle.ktm_links.specs.Mapped.{at, first_from, key_at, put, value_of, without_name, Begins, IsFirstOf, IsNoneOf, IsNotBelow, IsSpent, KeepsSpent};
 ghost use Rattle.ktm_links.specs.Order.{order_at, entries_of, IsInOrder, IsFirstNotBelow};
 
 use crate::list::{Key, List};
@@ -114,6 +114,7 @@ impl<K: Name, T> Chains<K, T> {
     pub fn find(&self, name: &[u8]) -> Option<Key>
         ensures key { result ≡ key_at self.now.entries name.now }
         ensures value { IfSome result (λ key. value_of self.now.entries key ≡ option_map (λ e. e.1) (at self.now.entries name.now)) }
+        ensures absent { IfNone result (at self.now.entries name.now ≡ None) }
     {
         match search(&self.values, self.order.as_slice(), name) {
             Ok(i) => Some(self.order[i]),
@@ -125,12 +126,45 @@ impl<K: Name, T> Chains<K, T> {
     pub fn first_from(&self, name: &[u8]) -> Option<Key>
         ensures key { result ≡ option_map (λ e. e.0) (first_from self.now.entries name.now) }
         ensures value { IfSome result (λ key. value_of self.now.entries key ≡ option_map (λ e. e.1) (first_from self.now.entries name.now)) }
+        ensures first { IfSome result (λ key. IsFirstOf (λ q. IsNotBelow q name.now) self.now.entries key) }
+        ensures none { IfNone result (IsNoneOf (λ q. IsNotBelow q name.now) self.now.entries) }
     {
         let place = not_below(&self.values, self.order.as_slice(), name);
         if place < self.order.len() {
             Some(self.order[place])
         } else {
             None
+        }
+    }
+
+    /// The key of the value whose name is the first that begins with these bytes.
+    pub fn first_with(&self, prefix: &[u8]) -> Option<Key>
+        ensures first { IfSome result (λ key. IsFirstOf (Begins prefix.now) self.now.entries key) }
+        ensures none { IfNone result (IsNoneOf (Begins prefix.now) self.now.entries) }
+    {
+        match self.first_from(prefix) {
+            Some(key) => match self.name(key) {
+                Some(name) => {
+                    if name.starts_with(prefix) {
+                        Some(key)
+                    } else {
+                        None
+                    }
+                }
+                None => None,
+            },
+            None => None,
+        }
+    }
+
+    /// The name under which the key's value stands.
+    pub fn name(&self, key: Key) -> Option<&[u8]>
+        ensures name { (q : Seq ℕ) (v : T) → at self.now.entries q ≡ Some (key, v) → option_copied result ≡ Some q }
+        ensures none { IfNone result (value_of self.now.entries key ≡ None) }
+    {
+        match self.values.get(key) {
+            Some(named) => Some(named.name()),
+            None => None,
         }
     }
 

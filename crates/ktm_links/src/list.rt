@@ -1,9 +1,9 @@
 // A list in order.
 ghost use Rattle.std.specs.Prelude.{◌≡◌, ◌≢◌, ℕ, ◌+◌, ◌-◌, ◌^◌, ◌≤◌, ◌<◌, ◌++◌, ◌∷◌, [], min, None, length, option_copied, OnSome, IfSome, IfNone, IfOk, IfErr, IsOk, OnOk, OnErr, Some, is_some};
-ghost use Rattle.ktm_links.specs.Items.{item, value_at, without, first_key, first_value, rest, IsSpent, KeepsSpent};
+ghost use Rattle.ktm_links.specs.Items.{item, value_at, with_value, without, first_key, first_value, rest, IsSpent, KeepsSpent};
 ghost use Rattle.ktm_links.specs.declared.list.Key.{Key};
 
-use crate::entry::{Entry, beside_or, set_after, set_before};
+use crate::entry::{Entry, beside_or, set_after, set_before, set_value};
 use ktm_base::NoMemory;
 use slab::Slab;
 use std::alloc::Global;
@@ -99,6 +99,13 @@ impl<T> List<T> {
         }
     }
 
+    /// How many values there are.
+    pub fn len(&self) -> usize
+        ensures { result ≡ length self.now.items }
+    {
+        self.entries.len()
+    }
+
     /// How many values can come without memory.
     pub fn spare(&self) -> usize
         ensures { result ≡ self.now.spare }
@@ -172,6 +179,27 @@ impl<T> List<T> {
         self.tail = Some(place);
         self.next = generation + 1;
         Key { place, generation }
+    }
+
+    /// Puts a value under the key in place of the one that it hands out; the value comes back where the key names none.
+    pub fn replace(&mut self, key: Key, value: T) -> Result<T, T>
+        ensures was { IfOk result (λ was. value_at self.old.items key ≡ Some was) }
+        ensures items { OnOk result (self.new.items ≡ with_value self.old.items key value) }
+        ensures next { self.new.next ≡ self.old.next }
+        ensures spare { self.new.spare ≡ self.old.spare }
+        ensures cause { OnErr result (value_at self.old.items key ≡ None) }
+        ensures given_back { IfErr result (λ back. back ≡ value) }
+        ensures unchanged { OnErr result (self.new.items ≡ self.old.items) }
+
+        // Of each key, what it names now.
+        ensures named { OnOk result (value_at self.new.items key ≡ Some value) }
+        ensures others { (k : Key) → k ≢ key → value_at self.new.items k ≡ value_at self.old.items k }
+        ensures spent { KeepsSpent self.old self.new }
+    {
+        if !self.contains(key) {
+            return Err(value);
+        }
+        Ok(set_value(&mut self.entries, key.place, value))
     }
 
     /// Removes the value that the key names.

@@ -1,6 +1,7 @@
 use Rattle.std.proofs.Common.{◌∙◌, ap, sym, arith, Some}
 use Rattle.std.specs.Option.{option_map}
 use Rattle.ktm_links.specs.Mapped.{NameAndValue}
+use Rattle.ktm_links.proofs.Entries.{first_from-least, first_from-nothing}
 use Rattle.ktm_links.proofs.Order.{first_from-at, first_from-none, keyed}
 use Rattle.ktm_links.proofs.chains.Chains.first_from.Goals as goal
 
@@ -21,3 +22,13 @@ pub returns-else-place-len-clause-key : goal.returns-else-place-len-clause-key
 returns-else-place-len-clause-key g c =
     let none = first_from-none _ _ _ c.not_below-place.result c.self.invariant.present (rw c.as_slice.ensures.value at c.not_below-place.ensures.first) (grind (arith, c.if-place-len.false, c.len.ensures)) in
     rw (← c.self.view_is) (sym (ap (λ o. option_map (λ e. e.0) o) none))
+
+pub returns-then-place-len-clause-first : goal.returns-then-place-len-clause-first
+returns-then-place-len-clause-first g c =
+    let first = first_from-at _ _ _ c.not_below-place.result c.index.result.now c.self.invariant.present (rw c.as_slice.ensures.value at c.not_below-place.ensures.first) (grind (arith, c.if-place-len.true, c.len.ensures)) in
+    rw (← c.self.view_is) (first_from-least _ c.args.name.now _ _ c.self.invariant.rising (rw (← c.index.ensures) at first.2))
+
+pub returns-else-place-len-clause-none : goal.returns-else-place-len-clause-none
+returns-else-place-len-clause-none g c =
+    let none = first_from-none _ _ _ c.not_below-place.result c.self.invariant.present (rw c.as_slice.ensures.value at c.not_below-place.ensures.first) (grind (arith, c.if-place-len.false, c.len.ensures)) in
+    rw (← c.self.view_is) (first_from-nothing _ c.args.name.now none)

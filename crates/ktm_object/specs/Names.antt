@@ -1,0 +1,45 @@
+-- The names under which the handles are sorted. No public clause cites this module.
+use Rattle.std.specs.Prelude.{ℕ, ◌/◌, ◌%◌, List, [], ◌∷◌, Option, Some, None}
+use Rattle.ktm_base.specs.declared.id.Id.{Id}
+use Rattle.ktm_base.specs.declared.id.Label.{Label}
+use Rattle.ktm_base.specs.declared.id.Pid.{Pid}
+use Rattle.ktm_world.specs.declared.object.Object.{Object}
+use Rattle.ktm_world.specs.declared.object.Object.TheVariants.{Transaction, Manager, Enlistment, File}
+use Rattle.ktm_object.specs.declared.entry.Entry.{Entry}
+use Rattle.ktm_object.specs.declared.name.Owner.{Owner}
+
+-- the process, and then the label, its greatest byte first
+abbrev pub label_bytes : Pid → Label → List ℕ
+label_bytes process label = process.0 ∷ label.0 / 256 ∷ label.0 % 256 ∷ []
+
+-- a number, its greatest byte first, and then these bytes
+abbrev pub number_bytes : ℕ → List ℕ → List ℕ
+number_bytes n rest = n / 16777216 ∷ n / 65536 % 256 ∷ n / 256 % 256 ∷ n % 256 ∷ rest
+
+-- whose handles stand together, and then these bytes
+abbrev pub owner_bytes : Owner → List ℕ → List ℕ
+owner_bytes owner rest = owner.kind ∷ number_bytes owner.boot (number_bytes owner.number rest)
+
+-- the handles of one object stand together
+abbrev pub object_owner : Object → Owner
+object_owner (Transaction id) = record { kind = 1; boot = id.boot; number = id.number }
+object_owner (Manager id) = record { kind = 2; boot = id.boot; number = id.number }
+object_owner (Enlistment id) = record { kind = 3; boot = id.boot; number = id.number }
+object_owner (File number) = record { kind = 4; boot = 0; number = number }
+
+-- the handles of one group stand together
+abbrev pub group_owner : Option Id → Owner
+group_owner None = record { kind = 0; boot = 0; number = 0 }
+group_owner (Some id) = record { kind = 1; boot = id.boot; number = id.number }
+
+-- by which name the handle stands under its label
+abbrev pub label_name : Entry → List ℕ
+label_name e = label_bytes e.handle.process e.handle.label
+
+-- by which name it stands under its object
+abbrev pub object_name : Entry → List ℕ
+object_name e = owner_bytes (object_owner e.handle.object) (label_name e)
+
+-- by which name it stands under its group
+abbrev pub group_name : Entry → List ℕ
+group_name e = owner_bytes (group_owner e.group) (label_name e)

@@ -1,0 +1,42 @@
+-- What a contract sees of the handles.
+use Rattle.std.specs.Prelude.{ℕ, Bool, false, List, [], ◌∷◌, map, Option, Some, None, if◌then◌else◌}
+use Rattle.ktm_base.specs.declared.id.Id.{Id}
+use Rattle.ktm_base.specs.declared.id.Label.{Label}
+use Rattle.ktm_base.specs.declared.id.Pid.{Pid}
+use Rattle.ktm_world.specs.declared.object.Handle.{Handle}
+use Rattle.ktm_world.specs.declared.object.Object.{Object}
+use Rattle.ktm_world.specs.HandleCalls.{is_handle}
+use Rattle.ktm_object.specs.declared.entry.Entry.{Entry}
+
+-- the handles in the order in which they were bound, how many were ever bound, and how many can be bound without memory
+pub record HandleTable : Type 0 where
+  pub entries : List Entry
+  pub ever : ℕ
+  pub spare : ℕ
+
+-- the handle of an entry
+abbrev pub handle_of : Entry → Handle
+handle_of e = e.handle
+
+-- the handles alone
+abbrev pub handles_of : HandleTable → List Handle
+handles_of table = map handle_of table.entries
+
+-- the entry of the handle that the process has under the label
+abbrev pub entry_at : List Entry → Pid → Label → Option Entry
+entry_at [] process label = None
+entry_at (e ∷ es) process label = if is_handle process label e.handle then Some e else entry_at es process label
+
+-- what the group of an entry tells of it, if there is one
+abbrev pub is_dead_entry : Option Entry → Bool
+is_dead_entry None = false
+is_dead_entry (Some e) = e.is_dead
+
+-- has the group of the handle that the process has under the label ended
+abbrev pub is_dead_at : List Entry → Pid → Label → Bool
+is_dead_at entries process label = is_dead_entry (entry_at entries process label)
+
+-- the entry of a new handle
+abbrev pub bound : Pid → Label → Object → Option Id → Entry
+bound process label object group =
+    record { handle = record { process = process; label = label; object = object }; group = group; is_dead = false }

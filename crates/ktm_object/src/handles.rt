@@ -1,0 +1,172 @@
+// The handles of all processes.
+ghost use Rattle.std.specs.Prelude.{◌≡◌, ℕ, ◌<◌, ◌≤◌, ◌+◌, ◌++◌, ◌∷◌, [], length, false, None, IsOk, OnOk};
+ghost use Rattle.std.specs.Option.{option_map};
+ghost use Rattle.ktm_world.specs.Handles.{no_handle_left, object_at};
+ghost use Rattle.ktm_world.specs.Labels.{holds_of, with_handle};
+ghost use Rattle.ktm_object.specs.Indexed.{key_under};
+ghost use Rattle.ktm_object.specs.Table.{bound, entry_at, handles_of, is_dead_at};
+
+use crate::entry::Entry;
+use crate::name::{
+    LabelName, OwnerName, group_owner, label_bytes, label_name, object_owner, owner_name,
+};
+use ktm_base::{Id, Label, NoMemory, Pid};
+use ktm_links::{Chains, Key, List, Name};
+use ktm_world::{Handle, Object};
+use std::alloc::Global;
+use std::marker::Model;
+
+/// The most handles over all processes.
+const MOST_HANDLES: usize = 4096;
+
+/// Which process holds which object under which label, in the order in which they were bound.
+#[derive(Drop)]
+pub struct Handles {
+    entries: List<Entry>,
+    // The keys of the entries, by process and label, by object, and by group.
+    by_label: Chains<LabelName, Key>,
+    by_object: Chains<OwnerName, Key>,
+    by_group: Chains<OwnerName, Key>,
+}
+
+impl Model for Handles {
+    ghost use Rattle.std.specs.Prelude.{min};
+    ghost use Rattle.ktm_object.specs.Table.{HandleTable};
+
+    ghost Value = { HandleTable };
+
+    ghost use Rattle.ktm_object.specs.Indexed.{entries_of, IsIndexed};
+
+    ghost view = { λ h. record {
+      entries = entries_of h.entries.items;
+      ever = h.entries.next;
+      spare = min h.entries.spare (min h.by_label.spare (min h.by_object.spare h.by_group.spare));
+    } };
+
+    ghost invariant = { λ h. IsIndexed h.entries h.by_label h.by_object h.by_group };
+}
+
+// The key that the map has under the name.
+fn key_under<K: Name>(map: &Chains<K, Key>, name: &[u8]) -> Option<Key>
+    ensures { result ≡ key_under map.now.entries name.now }
+{
+    match map.find(name) {
+        Some(key) => map.get(key).copied(),
+        None => None,
+    }
+}
+
+impl Handles {
+    /// A table of no handles.
+    pub fn new(alloc: Global) -> Self
+        ensures entries { result.entries ≡ [] }
+        ensures ever { result.ever ≡ 0 }
+    {
+        Handles {
+            entries: List::new(alloc),
+            by_label: Chains::new(alloc),
+            by_object: Chains::new(alloc),
+            by_group: Chains::new(alloc),
+        }
+    }
+
+    /// The entry of a handle.
+    pub fn entry(&self, process: Pid, label: Label) -> Option<Entry>
+        ensures entry { result ≡ entry_at self.now.entries process label }
+        ensures object { option_map (λ e. e.handle.object) result ≡ object_at (handles_of self.now) process label }
+    {
+        match key_under(&self.by_label, &label_bytes(process, label)) {
+            Some(key) => self.entries.get(key).copied(),
+            None => None,
+        }
+    }
+
+    /// What a label of a process names.
+    pub fn get(&self, process: Pid, label: Label) -> Option<Object>
+        ensures { result ≡ object_at (handles_of self.now) process label }
+    {
+        self.entry(process, label).map(|entry| entry.handle.object)
+    }
+
+    /// Has the group of the handle ended. A label that is not bound is not dead.
+    pub fn is_dead(&self, process: Pid, label: Label) -> bool
+        ensures { result ≡ is_dead_at self.now.entries process label }
+    {
+        match self.entry(process, label) {
+            Some(entry) => entry.is_dead,
+            None => false,
+        }
+    }
+
+    /// How many handles are bound.
+    pub fn len(&self) -> usize
+        ensures { result ≡ length (handles_of self.now) }
+    {
+        self.entries.len()
+    }
+
+    /// Would one handle more pass the limit over all processes.
+    pub fn is_full(&self) -> bool
+        ensures { result ≡ no_handle_left (handles_of self.now) }
+    {
+        self.len() >= MOST_HANDLES
+    }
+
+    /// How many handles can be bound without memory.
+    pub fn spare(&self) -> usize
+        ensures { result ≡ self.now.spare }
+    {
+        let maps = self.by_object.spare().min(self.by_group.spare());
+        self.entries.spare().min(self.by_label.spare().min(maps))
+    }
+
+    /// Makes room for so many more handles. It fails where the memory does not reach, or where more handles would have
+    /// been bound, from the first on, than a table can tell apart.
+    pub fn reserve(&mut self, n: usize) -> Result<(), NoMemory>
+        ensures room { OnOk result (n ≤ self.new.spare) }
+        ensures enough { n ≤ self.old.spare → IsOk result }
+        ensures entries { self.new.entries ≡ self.old.entries }
+        ensures ever { self.new.ever ≡ self.old.ever }
+        ensures spare { self.old.spare ≤ self.new.spare }
+    {
+        if let Err(NoMemory) = self.entries.reserve(n) {
+            return Err(NoMemory);
+        }
+        if let Err(NoMemory) = self.by_label.reserve(n) {
+            return Err(NoMemory);
+        }
+        if let Err(NoMemory) = self.by_object.reserve(n) {
+            return Err(NoMemory);
+        }
+        if let Err(NoMemory) = self.by_group.reserve(n) {
+            return Err(NoMemory);
+        }
+        Ok(())
+    }
+
+    /// Binds a label that is not bound to an object, and takes no memory.
+    pub fn insert(&mut self, process: Pid, label: Label, object: Object, group: Option<Id>)
+        requires spare { 0 < self.old.spare }
+        requires free { object_at (handles_of self.old) process label ≡ None }
+        ensures entries { self.new.entries ≡ self.old.entries ++ bound process label object group ∷ [] }
+        ensures handles { handles_of self.new ≡ with_handle (handles_of self.old) process label object }
+        ensures ever { self.new.ever ≡ self.old.ever + 1 }
+        ensures spare { self.new.spare + 1 ≡ self.old.spare }
+    {
+        let key = self.entries.push_spare(Entry {
+            handle: Handle {
+                process,
+                label,
+                object,
+            },
+            group,
+            is_dead: false,
+        });
+        self.by_label.insert(label_name(process, label), key);
+        let owner = object_owner(object);
+        self.by_object
+            .insert(owner_name(owner, process, label), key);
+        let owner = group_owner(group);
+        self.by_group.insert(owner_name(owner, process, label), key);
+    }
+}

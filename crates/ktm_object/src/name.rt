@@ -1,0 +1,85 @@
+// Names of handles, by which they are sorted.
+ghost use Rattle.std.specs.Prelude.{◌≡◌, []};
+ghost use Rattle.ktm_object.specs.Names.{label_bytes, owner_bytes, object_owner, group_owner};
+
+use ktm_base::{Id, Label, Pid};
+use ktm_links::InlineName;
+use ktm_world::Object;
+
+/// A name that begins with the process and the label.
+pub(crate) type LabelName = InlineName<3>;
+
+/// A name that begins with an owner, and ends with the process and the label.
+pub(crate) type OwnerName = InlineName<12>;
+
+/// What handles stand together by: an object, or a group.
+#[derive(Clone, Copy, Debug, PartialEq, Eq)]
+pub(crate) struct Owner {
+    pub(crate) kind: u8,
+    pub(crate) boot: u32,
+    pub(crate) number: u32,
+}
+
+/// The object, as what its handles stand together by.
+pub(crate) fn object_owner(object: Object) -> Owner
+    ensures { result ≡ object_owner object }
+{
+    let (kind, boot, number) = match object {
+        Object::Transaction(id) => (1, id.boot, id.number),
+        Object::Manager(id) => (2, id.boot, id.number),
+        Object::Enlistment(id) => (3, id.boot, id.number),
+        Object::File(number) => (4, 0, number),
+    };
+    Owner { kind, boot, number }
+}
+
+/// The group, as what its handles stand together by.
+pub(crate) fn group_owner(group: Option<Id>) -> Owner
+    ensures { result ≡ group_owner group }
+{
+    let (kind, boot, number) = match group {
+        Some(id) => (1, id.boot, id.number),
+        None => (0, 0, 0),
+    };
+    Owner { kind, boot, number }
+}
+
+/// The bytes of a label, which rise with the process and then with the label.
+pub(crate) fn label_bytes(process: Pid, label: Label) -> [u8; 3]
+    ensures { result ≡ label_bytes process label }
+{
+    [process.0, (label.0 / 256) as u8, (label.0 % 256) as u8]
+}
+
+/// How a handle stands under its label.
+pub(crate) fn label_name(process: Pid, label: Label) -> LabelName
+    ensures { result ≡ label_bytes process label }
+{
+    InlineName::new(&label_bytes(process, label))
+}
+
+/// The bytes that the names of an owner's handles begin with.
+pub(crate) fn owner_bytes(owner: Owner) -> [u8; 9]
+    ensures { result ≡ owner_bytes owner [] }
+{
+    [
+        owner.kind,
+        (owner.boot / 16_777_216) as u8,
+        (owner.boot / 65_536 % 256) as u8,
+        (owner.boot / 256 % 256) as u8,
+        (owner.boot % 256) as u8,
+        (owner.number / 16_777_216) as u8,
+        (owner.number / 65_536 % 256) as u8,
+        (owner.number / 256 % 256) as u8,
+        (owner.number % 256) as u8,
+    ]
+}
+
+/// How a handle stands under its owner.
+pub(crate) fn owner_name(owner: Owner, process: Pid, label: Label) -> OwnerName
+    ensures { result ≡ owner_bytes owner (label_bytes process label) }
+{
+    let [kind, b3, b2, b1, b0, n3, n2, n1, n0] = owner_bytes(owner);
+    let [process, high, low] = label_bytes(process, label);
+    InlineName::new(&[kind, b3, b2, b1, b0, n3, n2, n1, n0, process, high, low])
+}
