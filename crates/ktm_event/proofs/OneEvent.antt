@@ -1,8 +1,8 @@
 -- No spelling of an event begins another one, and an event has one spelling.
-use Rattle.std.proofs.Common.{◌≡◌, ◌≤◌, ℕ, List, [], ◌∷◌, length, refl, sym, ap, subst, arith}
+use Rattle.std.proofs.Common.{◌≡◌, ℕ, List, [], ◌∷◌, refl, ap}
 use Rattle.ktm_base.specs.declared.id.Id.{Id}
 use Rattle.ktm_base.specs.Grammar.{IsU32, Then, IsListOf}
-use Rattle.ktm_codec.specs.Spans.{Adds, Unambiguous, OneSpelling}
+use Rattle.ktm_codec.specs.Spans.{Unambiguous, OneSpelling}
 use Rattle.ktm_codec.proofs.Forms.{HasOne, unambiguous_u32, unambiguous_tagged, unambiguous_list, other_tags, one_u32, one_then, one_tagged, one_list}
 use Rattle.ktm_world.specs.declared.event.Part.{Part}
 use Rattle.ktm_world.specs.declared.event.DonePart.{DonePart}
@@ -55,11 +55,6 @@ pub one_group : (a b : List Event) (bytes : List ℕ) → IsGroupOf a bytes → 
 one_group [] b bytes p q = absurd p
 one_group (x ∷ xs) [] bytes p q = absurd q
 one_group (x ∷ xs) (y ∷ ys) bytes p q = (unambiguous_events (x ∷ xs) (y ∷ ys) bytes bytes [] [] p q refl).0
-
--- events that were written to no bytes are a group
-pub group_from_nothing : (events : List Event) (bytes : List ℕ) → 1 ≤ length events → Adds (IsListOf IsEventOf events) [] bytes → IsGroupOf events bytes
-group_from_nothing [] bytes some adds = absurd (omega arith)
-group_from_nothing (event ∷ events) bytes some adds = subst (IsListOf IsEventOf (event ∷ events)) (sym adds.is) adds.form
 
 one_of : (transaction : Id) (Rest : List ℕ → Type 0) → HasOne Rest → HasOne (Then (IsIdOf transaction) Rest)
 one_of transaction Rest one = one_then (IsIdOf transaction) Rest (one_id transaction) one

@@ -4,7 +4,7 @@ ghost use Rattle.std.specs.Int.{to_le_bytes, w32};
 ghost use Rattle.ktm_base.specs.Bytes.{written};
 ghost use Rattle.ktm_log.specs.Settle.{IsBodyOf, behind_gate};
 ghost use Rattle.ktm_world.specs.EventGrammar.{IsGroupOf};
-ghost use Rattle.ktm_world.specs.Sizes.{event_size};
+ghost use Rattle.ktm_world.specs.Sizes.{event_size, frame_size};
 ghost use Rattle.ktm_world.specs.declared.event.Event.{Event};
 ghost use Rattle.ktm_event.specs.Kept.{Holds};
 ghost use Rattle.ktm_event.specs.Spelling.{IsSpellableEvent};
@@ -176,6 +176,7 @@ impl Events {
     /// The body of the frame of its events' group, where there are some.
     pub fn body(&self) -> &[u8]
         ensures body { IsBodyOf self.now.payload result.now }
+        ensures size { (events : List Event) → Holds self.now events → length result.now ≡ frame_size events }
         ensures group { (events : List Event) → Holds self.now events → 1 ≤ length events → IsGroupOf events self.now.payload }
     {
         self.bytes.as_slice()

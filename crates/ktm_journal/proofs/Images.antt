@@ -1,5 +1,5 @@
 -- What an append to the log makes of an image, and what may be left of it.
-use Rattle.std.proofs.Common.{◌≡◌, inl, inr, ℕ, ◌+◌, ◌%◌, ◌<◌, ◌≤◌, Option, None, Some, List, [], ◌∷◌, ◌++◌, get_or, take, drop, sym, ◌∙◌, ap, subst, arith}
+use Rattle.std.proofs.Common.{◌≡◌, inl, inr, ℕ, ◌+◌, ◌-◌, ◌%◌, ◌<◌, ◌≤◌, IsTrue, Option, None, Some, List, [], ◌∷◌, ◌++◌, length, get_or, take, drop, sym, ◌∙◌, ap, subst, arith}
 use Rattle.std.specs.Int.{from_le_bytes, w16, w32}
 use Rattle.ktm_base.specs.Disk.{DiskState, MayLeave}
 use Rattle.ktm_base.specs.Told.{IfTold, Tells, Goes}
@@ -8,6 +8,9 @@ use Rattle.ktm_log.specs.declared.area.Area.{Area}
 use Rattle.ktm_log.specs.Log.{LogState, IsLog, Rests, LeavesEither, SameElsewhere, area_bytes}
 use Rattle.ktm_log.proofs.Parts.{not_covered, same_part}
 use Rattle.ktm_world.specs.Logs.{Group}
+use Rattle.ktm_world.specs.Outcome.{is_full}
+use Rattle.ktm_world.specs.Sizes.{frame_size}
+use Rattle.std.proofs.lemmas.Bool.Decides.{nat_tests}
 use Rattle.ktm_world.specs.EventGrammar.{IsGroupOf}
 use Rattle.ktm_journal.specs.Image.{IsFormatted, HoldGroups, IsImage, JournalState, JournalAt, LeavesGroupOrNot, log_area, area_len}
 
@@ -32,6 +35,11 @@ formatted_elsewhere units image old new was same = record {
 
     part : (from n : ℕ) → from + n ≤ 4096 + area_len units → take n (drop from new) ≡ take n (drop from old)
     part from n fits = same_part old new from n same.same_length (λ place low high. before place (omega arith))
+
+-- there is no room for a frame where the log's area is full of it
+pub full_law : (len end size : ℕ) (group : Group) → 1 ≤ length group → size ≡ frame_size group → (len < end + size + 1 → IsTrue (is_full (len - end) group)) × (IsTrue (is_full (len - end) group) → len < end + size + 1)
+full_law len end size [] some is = absurd (omega arith)
+full_law len end size (event ∷ events) some is = (λ more. grind (arith, nat_tests), λ full. grind (arith, nat_tests))
 
 -- one group more
 pub groups-push : (log : List Group) (ps : List (List ℕ)) (events : Group) (p : List ℕ) → HoldGroups log ps → IsGroupOf events p → HoldGroups (log ++ events ∷ []) (ps ++ p ∷ [])
@@ -58,13 +66,13 @@ module _ (j : JournalState) where
   stays_formatted (Some a) (Some b) at was same = formatted_elsewhere j.units j.image a.seen b.seen was (subst (λ (x : Area). SameElsewhere x a.seen b.seen) at same)
 
   module _ (log : List Group) (events : Group) (p : List ℕ) (is : IsGroupOf events p) where
-    pub group_added : (l : LogState) (old new : Option DiskState) → l.area ≡ j.log.area → Tells old (JournalAt j log)
+    pub group_added : (l : LogState) (count : ℕ) (old new : Option DiskState) → l.area ≡ j.log.area → Tells old (JournalAt j log)
         → ((ps : List (List ℕ)) → Tells old (Rests j.log.area ps j.log.end) → Tells new (Rests j.log.area (ps ++ p ∷ []) l.end))
         → Goes (λ a b. SameElsewhere j.log.area a.seen b.seen) old new
-        → Tells new (JournalAt (record j { log = l }) (log ++ events ∷ []))
-    group_added l None new same_area at rests same = absurd at
-    group_added l (Some a) None same_area at rests same = absurd same
-    group_added l (Some a) (Some b) same_area at rests same = record {
+        → Tells new (JournalAt (record j { log = l; events = count }) (log ++ events ∷ []))
+    group_added l count None new same_area at rests same = absurd at
+    group_added l count (Some a) None same_area at rests same = absurd same
+    group_added l count (Some a) (Some b) same_area at rests same = record {
       area = same_area ∙ at.area;
       formatted = formatted_elsewhere j.units j.image a.seen b.seen at.formatted (subst (λ (x : Area). SameElsewhere x a.seen b.seen) at.area same);
       payloads = at.payloads ++ p ∷ [];

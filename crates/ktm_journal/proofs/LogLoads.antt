@@ -1,5 +1,5 @@
 -- What a log that was read says of the image.
-use Rattle.std.proofs.Common.{◌≡◌, inl, inr, ℕ, ◌+◌, ◌-◌, ◌*◌, ◌≤◌, length, sum_by, Option, None, Some, List, [], ◌∷◌, sym, ◌∙◌, ap, subst, arith}
+use Rattle.std.proofs.Common.{◌≡◌, inl, inr, ℕ, ◌+◌, ◌-◌, ◌*◌, ◌≤◌, length, Option, None, Some, List, [], ◌∷◌, sym, ◌∙◌, ap, subst, arith}
 use Rattle.std.proofs.lemmas.List.Sums.{sum_by-cons}
 use Rattle.ktm_base.specs.Disk.{DiskState, IsSafe}
 use Rattle.ktm_base.specs.Told.{IfTold, Tells}
@@ -8,15 +8,12 @@ use Rattle.ktm_log.specs.Log.{LogState, BeginsWith, IsLog, IsBadLog, Rests, area
 use Rattle.ktm_log.proofs.Frames.{begins-split}
 use Rattle.ktm_log.proofs.GoodOrBad.{one_log}
 use Rattle.ktm_log.proofs.Steps.{IfTold-both}
-use Rattle.ktm_world.specs.declared.event.Event.{Event}
-use Rattle.ktm_world.specs.declared.event.Event.TheVariants.{Boot, MadeRm, Plain, Ready, Single, Held, Decide, Undo, Done}
-use Rattle.ktm_world.specs.declared.change.Change.{Change}
-use Rattle.ktm_world.specs.declared.change.Change.TheVariants.{Make, Put, Cut, Move, Drop}
+use Rattle.ktm_event.proofs.LeastSizes.{events_size-least}
 use Rattle.ktm_world.specs.Built.{IsBuiltState}
 use Rattle.ktm_world.proofs.BuiltStates.{built_log}
 use Rattle.ktm_world.specs.Logs.{Group}
 use Rattle.ktm_world.specs.Durable.{Durable, empty_state, stand}
-use Rattle.ktm_world.specs.Sizes.{change_size, event_size, frame_size, log_size}
+use Rattle.ktm_world.specs.Sizes.{frame_size, log_size}
 use Rattle.ktm_world.proofs.Durables.{count_events, stand-units, stand-image, stand-events, few_keys, few_boots}
 use Rattle.ktm_world.proofs.SizeLemmas.{size_law}
 use Rattle.ktm_journal.specs.Image.{AreInLog, HoldGroups, HoldsLog, IsFormatted, JournalAt, JournalState, StandsFor, left_after, log_area}
@@ -136,13 +133,13 @@ module _ (units image : ℕ) (area : Area) (at : area ≡ log_area units) where
         (λ s f b. torn payloads state offset s.seen comes offset_is f b)
 
   -- the journal of whichever log the image holds
-  pub journal_told : (l : LogState) (payloads : List (List ℕ)) (o n : Option DiskState) → l.area ≡ area → n ≡ o → (Tells o IsSafe → Tells n (Rests area payloads l.end))
-      → (log : List Group) → Tells o (λ s. IsSafe s × HoldsLog units image log s.seen) → Tells n (JournalAt (record { units = units; image = image; log = l }) log)
-  journal_told l payloads None n same_area same rests log holds = absurd holds
-  journal_told l payloads (Some s) n same_area same rests log holds =
+  pub journal_told : (l : LogState) (count : ℕ) (payloads : List (List ℕ)) (o n : Option DiskState) → l.area ≡ area → n ≡ o → (Tells o IsSafe → Tells n (Rests area payloads l.end))
+      → (log : List Group) → Tells o (λ s. IsSafe s × HoldsLog units image log s.seen) → Tells n (JournalAt (record { units = units; image = image; log = l; events = count }) log)
+  journal_told l count payloads None n same_area same rests log holds = absurd holds
+  journal_told l count payloads (Some s) n same_area same rests log holds =
       let resting : Rests area payloads l.end s = subst (λ t. Tells t (Rests area payloads l.end)) same (rests holds.0) in
       let is = holds.1.is in
-      subst (λ t. Tells t (JournalAt (record { units = units; image = image; log = l }) log)) (sym same) (record {
+      subst (λ t. Tells t (JournalAt (record { units = units; image = image; log = l; events = count }) log)) (sym same) (record {
         area = same_area ∙ at;
         formatted = is.formatted;
         payloads = payloads;

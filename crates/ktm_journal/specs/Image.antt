@@ -83,11 +83,12 @@ pub record AreInLog (state : Durable) (end : ℕ) : Type 0 where
   pub boots : state.boots ≤ state.events
   pub events : 5 * state.events ≤ end
 
--- what is known of a journal: its image, and its log
+-- what is known of a journal: its image, its log, and how many events were ever recorded
 pub record JournalState : Type 0 where
   pub units : ℕ
   pub image : ℕ
   pub log : LogState
+  pub events : ℕ
 
 -- the journal is that of the disk, its groups are these, and all of it is safe
 pub record JournalAt (j : JournalState) (log : List Group) (s : DiskState) : Type 0 where

@@ -1,11 +1,13 @@
 // The journal of an image, and how it grows.
-ghost use Rattle.std.specs.Prelude.{◌≡◌, ◌↔◌, ℕ, ◌+◌, ◌-◌, ◌*◌, ◌<◌, ◌≤◌, List, [], ◌∷◌, ◌++◌, length, IfOk, OnOk, OnErr, IfErr, Err, false, is_err};
+ghost use Rattle.std.specs.Prelude.{◌≡◌, ◌↔◌, ℕ, ◌+◌, ◌-◌, ◌*◌, ◌<◌, ◌≤◌, List, [], ◌∷◌, ◌++◌, length, IfOk, OnOk, OnErr, IfErr, IsTrue, Err, false, is_err, vec_capacity};
 ghost use Rattle.ktm_base.specs.Told.{IfTold, Tells, Goes};
 ghost use Rattle.ktm_base.specs.Disk.{DeviceCalls, IsSafe};
 ghost use Rattle.ktm_log.specs.Fault.{IfAppendDown, append_went_down};
 ghost use Rattle.ktm_world.specs.Built.{IsBuiltState};
 ghost use Rattle.ktm_world.specs.Logs.{Group};
-ghost use Rattle.ktm_world.specs.EventGrammar.{IsGroupOf};
+ghost use Rattle.ktm_world.specs.Outcome.{is_full};
+ghost use Rattle.ktm_world.specs.Sizes.{frame_size};
+ghost use Rattle.ktm_event.specs.Kept.{Holds};
 ghost use Rattle.ktm_journal.specs.Image.{AreInLog, HoldsLog, IsFormatted, IsHeaded, JournalAt, LeavesGroupOrNot, StandsFor, log_area};
 ghost use Rattle.ktm_journal.specs.Bad.{IfBad, IsBadAt, load_went_down};
 ghost use Rattle.ktm_journal.specs.Format.{Anything};
@@ -15,6 +17,7 @@ use crate::durable::Durable;
 use crate::image::{lay, log_area, put_header};
 use crate::load::{Header, fold, read_form};
 use ktm_base::{Disk, Down};
+use ktm_event::Events;
 use ktm_log::{AppendFault, Log, LogFault};
 use std::alloc::Global;
 use std::marker::Model;
@@ -25,17 +28,18 @@ pub struct Journal {
     units: u32,
     image: u16,
     log: Log,
+    events: u64,
 }
 
 impl Model for Journal {
-    ghost use Rattle.std.specs.Prelude.{◌≡◌, ◌≤◌};
+    ghost use Rattle.std.specs.Prelude.{◌≡◌, ◌*◌, ◌≤◌};
     ghost use Rattle.ktm_journal.specs.Image.{JournalState, log_area};
 
     ghost Value = { JournalState };
 
-    ghost view = { λ j. record { units = j.units; image = j.image; log = j.log } };
+    ghost view = { λ j. record { units = j.units; image = j.image; log = j.log; events = j.events } };
 
-    ghost invariant = { λ j. (j.units ≤ 1024) × (j.log.area ≡ log_area j.units) };
+    ghost invariant = { λ j. (j.units ≤ 1024) × (j.log.area ≡ log_area j.units) × (5 * j.events ≤ j.log.end) };
 }
 
 /// A journal that was loaded, and the durable state that its image stands for.
@@ -67,16 +71,23 @@ impl Journal {
         Ok(())
     }
 
-    /// Reads the image of a disk, and gives its journal with the state that it stands for. It writes nothing, and takes the
-    /// memory that appends need.
-    pub fn load<D: Disk>(alloc: Global, disk: &mut D) -> Result<Loaded, LoadFault>
+    /// Reads the image of a disk, and gives its journal with the state that it stands for. It writes nothing. The log is read
+    /// into the buffer, which is made as long as the log's area, and afterwards has room for whatever can be appended.
+    pub fn load<D: Disk>(
+        alloc: Global,
+        disk: &mut D,
+        buffer: &mut Vec<u8>,
+    ) -> Result<Loaded, LoadFault>
         ensures units { IfOk result (λ loaded. (loaded.journal.units ≡ loaded.state.units) × (16 ≤ loaded.state.units) × (loaded.state.units ≤ 1024)) }
         ensures image { IfOk result (λ loaded. loaded.journal.image ≡ loaded.state.image) }
         ensures area { IfOk result (λ loaded. loaded.journal.log.area ≡ log_area loaded.state.units) }
         ensures keys { IfOk result (λ loaded. length loaded.state.keys ≤ loaded.state.units) }
         ensures built { IfOk result (λ loaded. IsBuiltState loaded.state) }
         ensures events { IfOk result (λ loaded. AreInLog loaded.state loaded.journal.log.end) }
+        ensures counted { IfOk result (λ loaded. loaded.journal.events ≡ loaded.state.events) }
         ensures inside { IfOk result (λ loaded. loaded.journal.log.end < loaded.journal.log.area.len) }
+        ensures room { IfOk result (λ loaded. loaded.journal.log.area.len ≤ vec_capacity buffer.new) }
+        ensures kept { vec_capacity buffer.old ≤ vec_capacity buffer.new }
         ensures stands { IfOk result (λ loaded. IfTold (D.told disk.old) (λ s. StandsFor loaded.state s.seen)) }
         ensures formatted { IfOk result (λ loaded. IfTold (D.told disk.new) (λ s. IsFormatted loaded.journal.units loaded.journal.image s.seen)) }
         ensures journal { IfOk result (λ loaded. (log : List Group) → Tells (D.told disk.old) (λ s. IsSafe s × HoldsLog loaded.state.units loaded.state.image log s.seen)
@@ -93,11 +104,16 @@ impl Journal {
             Ok(header) => header,
             Err(fault) => return Err(fault),
         };
-        Journal::read_log(alloc, disk, header)
+        Journal::read_log(alloc, disk, header, buffer)
     }
 
     // Reads the log behind this header.
-    fn read_log<D: Disk>(alloc: Global, disk: &mut D, header: Header) -> Result<Loaded, LoadFault>
+    fn read_log<D: Disk>(
+        alloc: Global,
+        disk: &mut D,
+        header: Header,
+        buffer: &mut Vec<u8>,
+    ) -> Result<Loaded, LoadFault>
         requires most { header.units ≤ 1024 }
         requires formatted { IfTold (D.told disk.old) (λ s. IsFormatted header.units header.image s.seen) }
         ensures units { IfOk result (λ loaded. (loaded.journal.units ≡ header.units) × (loaded.state.units ≡ header.units)) }
@@ -106,7 +122,10 @@ impl Journal {
         ensures keys { IfOk result (λ loaded. length loaded.state.keys ≤ loaded.state.units) }
         ensures built { IfOk result (λ loaded. IsBuiltState loaded.state) }
         ensures events { IfOk result (λ loaded. AreInLog loaded.state loaded.journal.log.end) }
+        ensures counted { IfOk result (λ loaded. loaded.journal.events ≡ loaded.state.events) }
         ensures inside { IfOk result (λ loaded. loaded.journal.log.end < loaded.journal.log.area.len) }
+        ensures room { IfOk result (λ loaded. loaded.journal.log.area.len ≤ vec_capacity buffer.new) }
+        ensures kept { vec_capacity buffer.old ≤ vec_capacity buffer.new }
         ensures stands { IfOk result (λ loaded. IfTold (D.told disk.old) (λ s. StandsFor loaded.state s.seen)) }
         ensures journal { IfOk result (λ loaded. (log : List Group) → Tells (D.told disk.old) (λ s. IsSafe s × HoldsLog header.units header.image log s.seen)
             → Tells (D.told disk.new) (JournalAt loaded.journal log)) }
@@ -117,52 +136,59 @@ impl Journal {
         ensures up_bad { IfBad result (λ offset. (D.status disk.new).is_down ≡ false) }
         ensures calls { DeviceCalls (2 * header.units + 16) (D.status disk.old) (D.status disk.new) (load_went_down result) }
     {
-        match Log::scan(alloc, disk, log_area(header.units)) {
-            Ok(scanned) => match fold(alloc, header, scanned.payloads.as_slice()) {
+        match Log::scan(disk, log_area(header.units), buffer) {
+            Ok(log) => match fold(alloc, header, buffer.as_slice()) {
                 Ok(state) => Ok(Loaded {
                     journal: Journal {
                         units: header.units,
                         image: header.image,
-                        log: scanned.log,
+                        log,
+                        events: state.events(),
                     },
                     state,
                 }),
                 Err(fault) => Err(fault),
             },
-            Err(LogFault::Bad(offset, before)) => match fold(alloc, header, before.as_slice()) {
-                Ok(_) => Err(LoadFault::Bad(offset)),
-                Err(fault) => Err(fault),
-            },
+            Err(LogFault::Bad(offset)) => {
+                if let Err(fault) = fold(alloc, header, buffer.as_slice()) {
+                    return Err(fault);
+                }
+                Err(LoadFault::Bad(offset))
+            }
             Err(LogFault::Down) => Err(LoadFault::Down),
             Err(LogFault::NoMemory) => Err(LoadFault::NoMemory),
         }
     }
 
-    /// Records a group: once it is answered no loss of power takes it. It takes no memory, and makes four device calls.
-    pub fn append<D: Disk>(&mut self, disk: &mut D, group: &[u8]) -> Result<(), AppendFault>
+    /// Records events as one group: once it is answered no loss of power takes it. It takes no memory and copies nothing, and
+    /// makes four device calls.
+    pub fn append<D: Disk>(&mut self, disk: &mut D, events: &Events) -> Result<(), AppendFault>
         requires pending { (D.status disk.old).pending < 64 }
         requires formatted { IfTold (D.told disk.old) (λ s. IsFormatted self.old.units self.old.image s.seen) }
+        requires some { 1 ≤ events.now.count }
         ensures units { self.new.units ≡ self.old.units }
         ensures image { self.new.image ≡ self.old.image }
         ensures area { self.new.log.area ≡ self.old.log.area }
-        ensures end { OnOk result (self.new.log.end ≡ self.old.log.end + length group.now + 5) }
-        ensures full { (result ≡ Err AppendFault.Full) ↔ (self.old.log.area.len < self.old.log.end + length group.now + 6) }
+        ensures end { OnOk result ((group : Group) → Holds events.now group → self.new.log.end ≡ self.old.log.end + frame_size group) }
+        ensures counted { OnOk result ((group : Group) → Holds events.now group → self.new.events ≡ self.old.events + length group) }
+        ensures full { (group : Group) → Holds events.now group
+            → (result ≡ Err AppendFault.Full) ↔ IsTrue (is_full (self.old.log.area.len - self.old.log.end) group) }
         ensures refused { IfErr result (λ fault. self.new ≡ self.old) }
         ensures unchanged { result ≡ Err AppendFault.Full → (D.told disk.new ≡ D.told disk.old) × (D.status disk.new ≡ D.status disk.old) }
-        ensures ok { OnOk result ((log : List Group) (events : Group) → IsGroupOf events group.now
-            → Tells (D.told disk.old) (JournalAt self.old log) → Tells (D.told disk.new) (JournalAt self.new (log ++ events ∷ []))) }
+        ensures ok { OnOk result ((log : List Group) (group : Group) → Holds events.now group
+            → Tells (D.told disk.old) (JournalAt self.old log) → Tells (D.told disk.new) (JournalAt self.new (log ++ group ∷ []))) }
         ensures formatted { OnOk result (IfTold (D.told disk.new) (λ s. IsFormatted self.new.units self.new.image s.seen)) }
-        ensures down { IfAppendDown result ((log : List Group) (events : Group) → IsGroupOf events group.now
-            → Tells (D.told disk.old) (JournalAt self.old log) → Tells (D.told disk.new) (LeavesGroupOrNot self.old log events)) }
+        ensures down { IfAppendDown result ((log : List Group) (group : Group) → Holds events.now group
+            → Tells (D.told disk.old) (JournalAt self.old log) → Tells (D.told disk.new) (LeavesGroupOrNot self.old log group)) }
         ensures pending { OnOk result ((D.status disk.new).pending ≡ 0) }
         ensures up { OnOk result ((D.status disk.new).is_down ≡ false) }
         ensures calls { DeviceCalls 4 (D.status disk.old) (D.status disk.new) (append_went_down result) }
     {
-        // So its length has four bytes.
-        if group.len() as u64 > self.log.spare() {
-            return Err(AppendFault::Full);
+        if let Err(fault) = self.log.append(disk, events.body()) {
+            return Err(fault);
         }
-        self.log.append(disk, group)
+        self.events += u64::from(events.len());
+        Ok(())
     }
 
     /// How many bytes of the log are left.
@@ -170,6 +196,13 @@ impl Journal {
         ensures { result ≡ self.now.log.area.len - self.now.log.end }
     {
         self.log.spare() + 1
+    }
+
+    /// How many events were ever recorded.
+    pub fn events(&self) -> u64
+        ensures { result ≡ self.now.events }
+    {
+        self.events
     }
 
     /// The size that it was made with.

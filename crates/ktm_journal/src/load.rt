@@ -3,13 +3,13 @@ ghost use Rattle.std.specs.Prelude.{◌≡◌, ◌↔◌, ◌&&◌, ℕ, ◌+◌
 ghost use Rattle.std.specs.Int.{from_le_bytes, w16, w32};
 ghost use Rattle.ktm_base.specs.Told.{IfTold};
 ghost use Rattle.ktm_base.specs.Disk.{DeviceCalls};
-ghost use Rattle.ktm_log.specs.Log.{end_of};
+ghost use Rattle.ktm_log.specs.Log.{end_of, payloads_in};
 ghost use Rattle.ktm_world.specs.Durable.{after_events, events_apply};
 ghost use Rattle.std.specs.List.{list_all};
 ghost use Rattle.ktm_world.specs.Built.{is_built_event, IsBuiltState};
 ghost use Rattle.ktm_world.specs.Logs.{Group};
 ghost use Rattle.ktm_world.specs.EventGrammar.{IsGroupOf};
-ghost use Rattle.ktm_journal.specs.Image.{IsFormatted, IsHeaded, area_len, empty_snapshot, snapshot_of};
+ghost use Rattle.ktm_journal.specs.Image.{AreInLog, IsFormatted, IsHeaded, empty_snapshot, snapshot_of};
 ghost use Rattle.ktm_journal.specs.Format.{IsHeader};
 ghost use Rattle.ktm_journal.specs.Bad.{IfBad, IsBadAt, IsBadPayload, load_went_down};
 ghost use Rattle.ktm_journal.specs.Load.{BeginsAnImage, ComesTo, IsFirstBad, IsFront};
@@ -17,8 +17,9 @@ ghost use Rattle.ktm_journal.specs.Load.{BeginsAnImage, ComesTo, IsFirstBad, IsF
 use crate::LoadFault;
 use crate::durable::Durable;
 use crate::image::{SELECTOR_AT, SNAPSHOT_AT, empty_snapshot, image_len, log_area};
-use ktm_base::{Bytes, Disk, Down, NoMemory};
+use ktm_base::{Disk, Down, NoMemory};
 use ktm_event::{EventFault, read_group};
+use ktm_log::first_payload;
 use std::alloc::Global;
 
 /// What the header of an image says.
@@ -152,22 +153,22 @@ fn apply(alloc: Global, state: &mut Durable, payload: &[u8]) -> Result<bool, NoM
     }
 }
 
-/// The state that the payloads of a log come to.
-pub(crate) fn fold(alloc: Global, header: Header, payloads: &[Bytes]) -> Result<Durable, LoadFault>
-    requires most { header.units ≤ 1024 }
-    requires small { end_of payloads.now ≤ area_len header.units }
-    ensures good { IfOk result (λ state. ComesTo header.units header.image payloads.now state) }
+/// The state that the payloads of a log come to, which are read where they lie in its bytes.
+pub(crate) fn fold(alloc: Global, header: Header, bytes: &[u8]) -> Result<Durable, LoadFault>
+    requires { header.units ≤ 1024 }
+    ensures good { IfOk result (λ state. ComesTo header.units header.image (payloads_in bytes.now) state) }
     ensures keys { IfOk result (λ state. length state.keys ≤ state.units) }
     ensures built { IfOk result IsBuiltState }
-    ensures bad { IfBad result (λ offset. IsFirstBad header.units header.image payloads.now offset) }
+    ensures events { IfOk result (λ state. AreInLog state (end_of (payloads_in bytes.now))) }
+    ensures bad { IfBad result (λ offset. IsFirstBad header.units header.image (payloads_in bytes.now) offset) }
     ensures up { load_went_down result ≡ false }
 {
     let mut state = Durable::empty(alloc, header.units, header.image);
-    let mut at = log_area(header.units).at;
-    for payload in payloads {
-        match apply(alloc, &mut state, payload.as_slice()) {
-            Ok(true) => at += payload.len() as u64 + 5,
-            Ok(false) => return Err(LoadFault::Bad(at)),
+    let mut at = 0;
+    while let Some(payload) = first_payload(&bytes[at..]) {
+        match apply(alloc, &mut state, payload) {
+            Ok(true) => at += payload.len() + 5,
+            Ok(false) => return Err(LoadFault::Bad(log_area(header.units).at + at as u64)),
             Err(NoMemory) => return Err(LoadFault::NoMemory),
         }
     }

@@ -1,5 +1,5 @@
 // Frames in bytes, which are read where they lie.
-ghost use Rattle.std.specs.Prelude.{◌≡◌, ◌≤◌, length, MatchOption, None, Some};
+ghost use Rattle.std.specs.Prelude.{◌≡◌, ◌+◌, ◌≤◌, length, IfSome, MatchOption, None, Some};
 ghost use Rattle.ktm_log.specs.Log.{first_payload, size_at};
 
 // The payload length behind the gate that the bytes begin with.
@@ -13,7 +13,8 @@ pub(crate) fn payload_size(bytes: &[u8]) -> u32
 /// The payload of the frame that the bytes begin with, if they begin with one. The next frame is five bytes behind as many
 /// as the payload has.
 pub fn first_payload(bytes: &[u8]) -> Option<&[u8]>
-    ensures { MatchOption result (first_payload bytes.now ≡ None) (λ payload. first_payload bytes.now ≡ Some payload.now) }
+    ensures is { MatchOption result (first_payload bytes.now ≡ None) (λ payload. first_payload bytes.now ≡ Some payload.now) }
+    ensures fits { IfSome result (λ payload. length payload.now + 6 ≤ length bytes.now) }
 {
     if bytes.len() < 6 || bytes[0] != 1 {
         return None;

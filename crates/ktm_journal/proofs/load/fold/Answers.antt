@@ -1,30 +1,40 @@
-use Rattle.std.proofs.Common.{Ok, arith, ap}
-use Rattle.ktm_journal.proofs.Folds.{comes_to_more, first_bad, fits, next_at}
-use Rattle.ktm_journal.proofs.LogLoads.{comes_to_built, comes_to_keys}
+use Rattle.std.proofs.Common.{◌≡◌, Ok, Some, drop, refl, ap, sym, ◌∙◌}
+use Rattle.std.proofs.lemmas.List.{take_rest}
+use Rattle.ktm_log.specs.Log.{first_payload, payloads_in}
+use Rattle.ktm_journal.specs.Load.{ComesTo}
+use Rattle.ktm_journal.proofs.Folds.{folded_more, folded_all, first_bad}
+use Rattle.ktm_journal.proofs.LogLoads.{comes_to_built, comes_to_keys, comes_to_events}
 use Rattle.ktm_journal.proofs.load.fold.Goals as goal
 
 pub loop-payload-preserved : goal.loop-payload-preserved
 loop-payload-preserved c =
-    let k = c.loop-payload.payload-index in
-    let item = c.payload-item in
-    record {
-      good = comes_to_more c.args.payloads.now k item.result c.loop-payload-test.true item.is c.args.header.units c.args.header.image c.loop-payload.state c.apply.new.state c.loop-payload.invariant.good
-          (rw c.as_slice.ensures at (c.in-Ok-true.ensures.good (ap Ok c.in-Ok-true.field-0-test)));
-      at = omega (arith, c.len.ensures, next_at c.args.payloads.now k item.result c.loop-payload-test.true item.is c.args.header.units c.loop-payload.at c.loop-payload.invariant.at);
-    }
-
-pub overflow_add-at-in-Ok-true : goal.overflow_add-at-in-Ok-true
-overflow_add-at-in-Ok-true c =
-    let item = c.payload-item in
-    omega (arith, c.len.ensures, fits c.args.payloads.now c.loop-payload.payload-index item.result c.loop-payload-test.true item.is c.args.header.units c.loop-payload.at c.requires.most c.requires.small c.loop-payload.invariant.at)
+    let at = c.loop-payload.at in
+    let rest = take_rest c.args.bytes.now at in
+    let next : first_payload (drop at c.args.bytes.now) ≡ Some c.in-Some.payload.now = ap first_payload (sym rest) ∙ c.in-Some.ensures.is in
+    folded_more c.args.header.units c.args.header.image c.args.bytes.now at c.loop-payload.state c.loop-payload.invariant c.in-Some.payload.now next c.apply.new.state
+    (rw rest at c.in-Some.ensures.fits) (c.in-Ok-true.ensures.good (ap Ok c.in-Ok-true.field-0-test))
 
 pub returns-in-Ok-false-clause-bad : goal.returns-in-Ok-false-clause-bad
 returns-in-Ok-false-clause-bad c =
-    let item = c.payload-item in
-    first_bad c.args.payloads.now c.loop-payload.payload-index item.result c.loop-payload-test.true item.is c.args.header.units c.args.header.image c.loop-payload.at c.loop-payload.state c.loop-payload.invariant.good c.loop-payload.invariant.at (rw c.as_slice.ensures at (c.in-Ok-false.ensures.bad (ap Ok c.in-Ok-false.field-0-test)))
+    let at = c.loop-payload.at in
+    let rest = take_rest c.args.bytes.now at in
+    let next : first_payload (drop at c.args.bytes.now) ≡ Some c.in-Some.payload.now = ap first_payload (sym rest) ∙ c.in-Some.ensures.is in
+    rw c.log_area.ensures
+    (first_bad c.args.header.units c.args.header.image c.args.bytes.now at c.loop-payload.state c.loop-payload.invariant c.in-Some.payload.now next (c.in-Ok-false.ensures.bad (ap Ok c.in-Ok-false.field-0-test)))
+
+module _ (c : goal.In_default) where
+  good : ComesTo c.args.header.units c.args.header.image (payloads_in c.args.bytes.now) c.loop-payload.state
+  good = folded_all c.args.header.units c.args.header.image c.args.bytes.now c.loop-payload.at c.loop-payload.state c.loop-payload.invariant
+      (ap first_payload (sym (take_rest c.args.bytes.now c.loop-payload.at)) ∙ c.in_default.ensures.is)
+
+pub returns-clause-good : goal.returns-clause-good
+returns-clause-good c = good c
 
 pub returns-clause-keys : goal.returns-clause-keys
-returns-clause-keys c = comes_to_keys c.args.header.units c.args.header.image _ c.loop-payload.state c.loop-payload.invariant.good
+returns-clause-keys c = comes_to_keys c.args.header.units c.args.header.image _ c.loop-payload.state (good c)
 
 pub returns-clause-built : goal.returns-clause-built
-returns-clause-built c = comes_to_built c.args.header.units c.args.header.image _ c.loop-payload.state c.loop-payload.invariant.good
+returns-clause-built c = comes_to_built c.args.header.units c.args.header.image _ c.loop-payload.state (good c)
+
+pub returns-clause-events : goal.returns-clause-events
+returns-clause-events c = comes_to_events c.args.header.units c.args.header.image _ c.loop-payload.state (good c) _ refl

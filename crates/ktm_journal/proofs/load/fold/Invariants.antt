@@ -1,11 +1,9 @@
-use Rattle.std.proofs.Common.{◌≡◌, ◌+◌, take}
-use Rattle.ktm_log.specs.Log.{end_of}
-use Rattle.ktm_journal.specs.Image.{log_area}
-use Rattle.ktm_journal.specs.Load.{ComesTo}
+use Rattle.std.proofs.Common.{◌-◌, length}
+use Rattle.ktm_journal.proofs.Folds.{Folded}
 use Rattle.ktm_journal.proofs.load.fold.Given as goal
 
 abbrev pub invariant-loop-payload : goal.invariant-loop-payload
-invariant-loop-payload l = record {
-  good : ComesTo l.fn.header.units l.fn.header.image (take l.payload-index l.payloads) l.state;
-  at : l.at ≡ (log_area l.fn.header.units).at + end_of (take l.payload-index l.payloads);
-}
+invariant-loop-payload l = Folded l.fn.header.units l.fn.header.image l.bytes l.at l.state
+
+abbrev pub decreases-loop-payload : goal.decreases-loop-payload
+decreases-loop-payload l = length l.bytes - l.at
