@@ -51,17 +51,17 @@ module _ (bytes events : List ℕ) (count : ℕ) (small : count < 2 ^ 32) (close
     few = few;
   }
 
-  pub holds : (room : ℕ) (list : List Event) → length list ≡ count → IsRow IsEventOf list events → sum_by event_size list ≡ length events → length events ≤ room
-      → Holds (record { payload = payload_of bytes; count = count; room = room; spare = room + 9 - length bytes }) list
-  holds room list many row sizes within = record {
+  pub holds : (room capacity : ℕ) (list : List Event) → length list ≡ count → IsRow IsEventOf list events → sum_by event_size list ≡ length events → length events ≤ room
+      → Holds (record { payload = payload_of bytes; count = count; room = room; spare = room + 9 - length bytes; capacity = capacity }) list
+  holds room capacity list many row sizes within = record {
     counted = many;
     spelled = (to_le_bytes w32 count, events, payload_is, subst (λ n. IsU32 n (to_le_bytes w32 count)) (sym many) counts, row);
     sizes = omega (arith, bytes_long);
   }
 
 -- what the model tells of a list
-abbrev pub seen : List ℕ → ℕ → ℕ → EventsState
-seen bytes count room = record { payload = payload_of bytes; count = count; room = room; spare = room + 9 - length bytes }
+abbrev pub seen : List ℕ → ℕ → ℕ → ℕ → EventsState
+seen bytes count room capacity = record { payload = payload_of bytes; count = count; room = room; spare = room + 9 - length bytes; capacity = capacity }
 
 -- a body whose events were taken out
 module _ (old bytes : List ℕ) (few : length old ≤ 8) (closed : bytes ≡ behind_gate (to_le_bytes w32 0 ++ drop 8 old)) where
@@ -71,8 +71,8 @@ module _ (old bytes : List ℕ) (few : length old ≤ 8) (closed : bytes ≡ beh
   pub kept_none : (room capacity : ℕ) → room + 9 ≤ capacity → room + 4 < 2 ^ 32 → IsKept bytes 0 room capacity
   kept_none room capacity reserved small = kept bytes [] 0 (omega arith) closed_empty room capacity (omega arith) (omega arith) reserved small
 
-  pub holds_none : (room : ℕ) → Holds (seen bytes 0 room) []
-  holds_none room = holds bytes [] 0 (omega arith) closed_empty room [] refl refl refl (omega arith)
+  pub holds_none : (room capacity : ℕ) → Holds (seen bytes 0 room capacity) []
+  holds_none room capacity = holds bytes [] 0 (omega arith) closed_empty room capacity [] refl refl refl (omega arith)
 
 pub sizes_more : (events : List Event) (event : Event) → sum_by event_size (events ++ event ∷ []) ≡ sum_by event_size events + event_size event
 sizes_more events event = sum_by-append event_size events (event ∷ []) ∙ ap (λ n. sum_by event_size events + n) (sum_by-cons event_size event [] ∙ omega arith)
@@ -116,12 +116,12 @@ module _ (bytes opened written new : List ℕ) (count n room before : ℕ) (even
     kept_more capacity reserved =
         kept new (drop 8 written) (count + 1) few_more grew.closed room capacity (omega (arith, long_more, was.counted.4, event_size-least event)) (omega (arith, long_more, body_long)) reserved was.few
 
-    pub holds_more : (list : List Event) → Holds (seen bytes count room) list → Holds (seen new (count + 1) room) (list ++ event ∷ [])
-    holds_more list held =
+    pub holds_more : (old now : ℕ) (list : List Event) → Holds (seen bytes count room old) list → Holds (seen new (count + 1) room now) (list ++ event ∷ [])
+    holds_more old now list held =
         let (number, events, is, spelled, row) = held.spelled in
         let same : was.counted.1 ≡ events =
         sym (drop_at was.counted.0 was.counted.1 4 was.counted.3.long) ∙ ap (λ (l : List ℕ). drop 4 l) (sym was.counted.2 ∙ is) ∙ drop_at number events 4 spelled.long in
-        holds new (drop 8 written) (count + 1) few_more grew.closed room (list ++ event ∷ []) (length_push list event ∙ ap (λ k. k + 1) held.counted)
+        holds new (drop 8 written) (count + 1) few_more grew.closed room now (list ++ event ∷ []) (length_push list event ∙ ap (λ k. k + 1) held.counted)
         (subst (λ (l : List ℕ). IsRow IsEventOf (list ++ event ∷ []) l) (sym (events_are ∙ ap (λ (l : List ℕ). l ++ grew.adds.more) same))
         (row-push IsEventOf list event events grew.adds.more row grew.adds.form))
         (omega (arith, sizes_more list event, held.sizes, body_long, long_more))

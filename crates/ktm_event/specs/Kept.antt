@@ -16,6 +16,8 @@ pub record EventsState : Type 0 where
   pub room : ℕ
   -- how many of these are left
   pub spare : ℕ
+  -- how many bytes its buffer has memory for
+  pub capacity : ℕ
 
 -- these are the events of the list, which take up the room that is not left
 pub record Holds (state : EventsState) (events : List Event) : Type 0 where

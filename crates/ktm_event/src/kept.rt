@@ -32,7 +32,7 @@ impl Model for Events {
 
     ghost Value = { EventsState };
 
-    ghost view = { λ e. record { payload = payload_of e.bytes.items; count = e.count; room = e.room; spare = e.room + 9 - length e.bytes.items } };
+    ghost view = { λ e. record { payload = payload_of e.bytes.items; count = e.count; room = e.room; spare = e.room + 9 - length e.bytes.items; capacity = vec_capacity e.bytes } };
 
     ghost invariant = { λ e. IsKept e.bytes.items e.count e.room (vec_capacity e.bytes) };
 }
@@ -90,6 +90,7 @@ impl Events {
         requires few { room + 4 < 2 ^ 32 }
         ensures empty { Holds result [] }
         ensures room { result.room ≡ room }
+        ensures capacity { vec_capacity buffer ≤ result.capacity }
     {
         let mut bytes = buffer;
         bytes.clear();
@@ -104,7 +105,8 @@ impl Events {
 
     /// The buffer, for other bytes. The events are lost.
     pub fn into_buffer(self) -> Vec<u8>
-        ensures { self.room + 9 ≤ vec_capacity result }
+        ensures room { self.room + 9 ≤ vec_capacity result }
+        ensures capacity { vec_capacity result ≡ self.capacity }
     {
         let Events { bytes, .. } = self;
         bytes
@@ -141,6 +143,7 @@ impl Events {
         ensures adds { (events : List Event) → Holds self.old events → Holds self.new (events ++ event.now ∷ []) }
         ensures spare { self.new.spare + event_size event.now ≡ self.old.spare }
         ensures room { self.new.room ≡ self.old.room }
+        ensures capacity { self.old.capacity ≤ self.new.capacity }
     {
         open(&mut self.bytes);
         write_event(&mut self.bytes, event).unwrap();
@@ -156,6 +159,7 @@ impl Events {
             → Holds self.new (events ++ work_event stage transaction (part_of work.entry) ∷ []) }
         ensures spare { self.new.spare + event_size (work_event stage transaction (part_of work.entry)) ≡ self.old.spare }
         ensures room { self.new.room ≡ self.old.room }
+        ensures capacity { self.old.capacity ≤ self.new.capacity }
     {
         open(&mut self.bytes);
         put_work(&mut self.bytes, stage, transaction, work).unwrap();
@@ -167,6 +171,7 @@ impl Events {
     pub fn clear(&mut self)
         ensures empty { Holds self.new [] }
         ensures room { self.new.room ≡ self.old.room }
+        ensures capacity { self.old.capacity ≤ self.new.capacity }
     {
         self.bytes.truncate(8);
         self.count = 0;

@@ -1,9 +1,9 @@
-pub mod Changes
+pub mod Routes
+pub mod Decides
 pub mod Possible
-pub mod Decided
 pub mod Left
 pub mod Worlds
 pub mod Ready
-pub mod Commits
 pub mod Restarts
 pub mod StartAgain
+pub mod Ends

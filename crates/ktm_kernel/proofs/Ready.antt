@@ -1,26 +1,16 @@
 -- What a call leaves of what is so now.
-use Rattle.std.proofs.Common.{◌≡◌, ◌⊎◌, Bool, true, false, List, [], ◌++◌, Option, None, Some, Result, Ok, Err, OnOk, IfOk, refl, sym, ◌∙◌, ap, subst, inl, inr}
-use Rattle.std.proofs.lemmas.List.{append-nil}
+use Rattle.std.proofs.Common.{◌≡◌, ◌⊎◌, Bool, true, false, Option, Result, Ok, Err, OnOk, IfOk, refl, sym, ◌∙◌, ap, subst, inl, inr}
 use Rattle.ktm_base.specs.declared.id.Pid.{Pid}
 use Rattle.ktm_base.specs.declared.fault.NoMemory.{NoMemory}
-use Rattle.ktm_base.specs.declared.refusal.Refusal.{Refusal}
 use Rattle.ktm_base.specs.declared.refusal.Refusal.TheVariants.{MachineDown}
 use Rattle.ktm_base.specs.Count.{Rose}
 use Rattle.ktm_base.specs.Disk.{DiskState, DiskStatus, DeviceCalls}
-use Rattle.ktm_base.specs.Told.{Tells}
-use Rattle.ktm_journal.specs.Image.{JournalState, JournalAt}
 use Rattle.ktm_world.specs.declared.command.Command.{Command}
-use Rattle.ktm_world.specs.declared.event.Event.{Event}
 use Rattle.ktm_world.specs.declared.reply.Reply.{Reply}
 use Rattle.ktm_world.specs.declared.reply.Reply.TheVariants.{Refused}
-use Rattle.ktm_world.specs.Decide.{decide, with_room, refusal_of, command_effect}
-use Rattle.ktm_world.specs.Present.{Present}
 use Rattle.ktm_world.specs.Values.{IsCommand}
-use Rattle.ktm_world.specs.Logs.{Group, as_groups}
-use Rattle.ktm_world.specs.Outcome.{apply, refuse_or}
 use Rattle.ktm_world.specs.Built.{is_built_command}
 use Rattle.ktm_built.specs.Standing.{IsStandingNow}
-use Rattle.ktm_kernel.specs.Answered.{Answered}
 use Rattle.ktm_kernel.specs.Done.{Ends}
 use Rattle.ktm_kernel.specs.Stands.{KernelState, IsPowered, IsReady}
 use Rattle.ktm_built.proofs.Decided.{decided_law}
@@ -31,33 +21,6 @@ pub ends_standing : (is_down : Bool) (old new : KernelState) (process : Pid) (co
     → IsCommand command → is_built_command command ≡ true → IsStandingNow old.now → Ends is_down old process command reply new before now → new.now.machine.is_up ≡ true → IsStandingNow new.now
 ends_standing false old new process command reply before now is built standing done on = subst IsStandingNow (sym done.state) (now_law.0 old.now process command is built standing)
 ends_standing true old new process command reply before now is built standing cut on = let off = sym on ∙ ap (λ x. x.machine.is_up) cut.state in absurd (cc)
-
--- a command that records nothing was done in memory alone
-pub quiet_ends : (is_down : Bool) (x y : Present) (j : JournalState) (process : Pid) (command : Command) (reply : Reply) (told : Option DiskState)
-    → is_down ≡ false → (command_effect x process command).events ≡ [] → Answered x process command reply y
-    → Ends is_down (record { now = x; journal = j }) process command reply (record { now = y; journal = j }) told told
-quiet_ends true x y j process command reply told on none done = absurd (cc)
-quiet_ends false x y j process command reply told on none done = record {
-  says = done.says ∙ ap (λ o. o.reply) (sym same);
-  state = done.state ∙ ap (λ o. apply x o) (sym same);
-  few = inl nothing;
-  units = refl;
-  image = refl;
-  log = λ log at. subst (λ (gs : List Group). Tells told (JournalAt j gs)) (sym (ap (λ (es : List Event). log ++ as_groups es) nothing ∙ append-nil log)) at;
-}
-  where
-    same : decide x process command ≡ with_room x process command
-    same = decided_law.1 x process command none
-
-    room : (with_room x process command).events ≡ []
-    room = refuse_or_nothing (refusal_of x process command)
-      where
-        refuse_or_nothing : (tested : Option Refusal) → (refuse_or x tested (command_effect x process command)).events ≡ []
-        refuse_or_nothing None = none
-        refuse_or_nothing (Some refusal) = refl
-
-    nothing : (decide x process command).events ≡ []
-    nothing = ap (λ o. o.events) same ∙ room
 
 -- what a call leaves is ready for the next one
 pub ready_after : (r : Result Reply NoMemory) (is_down : DiskStatus) (old new : KernelState) (process : Pid) (command : Command) (before now : Option DiskState)

@@ -1,6 +1,6 @@
 -- What a restart finds on a disk, and what it makes of it.
-use Rattle.std.proofs.Common.{◌≡◌, ℕ, ◌+◌, ◌-◌, ◌^◌, ◌≤◌, ◌<◌, nat_le, nat_lt, true, false, List, [], ◌∷◌, ◌++◌, length, Option, None, Some, refl, sym, ◌∙◌, ap, subst, arith, inl, inr, append_assoc}
-use Rattle.std.proofs.lemmas.Bool.{and_from, and_parts, eq-eqb, le-leb, lt-ltb, le-ltb}
+use Rattle.std.proofs.Common.{◌≡◌, ℕ, ◌+◌, ◌-◌, ◌^◌, ◌≤◌, ◌<◌, nat_le, true, false, List, [], ◌∷◌, ◌++◌, length, Bool, Ok, Err, Option, None, Some, refl, sym, ◌∙◌, ap, subst, arith, inl, inr, append_assoc}
+use Rattle.std.proofs.lemmas.Bool.{and_from, and_parts, eq-eqb, le-leb, lt-ltb, false_from_ne_true}
 use Rattle.std.proofs.lemmas.List.Folds.{list_all-append}
 use Rattle.std.specs.List.{list_all}
 use Rattle.std.specs.Prelude.{IsTrue}
@@ -13,21 +13,25 @@ use Rattle.ktm_log.specs.Log.{LogState}
 use Rattle.ktm_journal.specs.Image.{AreInLog, JournalState, JournalAt, IsImage, HoldsLog, IsFormatted, StandsFor, LeavesGroupOrNot, left_after, log_area}
 use Rattle.ktm_journal.proofs.LogLoads.{journal_left}
 use Rattle.ktm_journal.proofs.OneImage.{one_image}
-use Rattle.ktm_world.specs.EventGrammar.{IsGroupOf}
+use Rattle.ktm_event.specs.Kept.{EventsState, Holds}
 use Rattle.ktm_world.specs.declared.event.Event.{Event}
 use Rattle.ktm_world.specs.declared.event.Event.TheVariants.{Boot}
 use Rattle.ktm_world.specs.Built.{is_built_event, is_built_log, IsBuiltState}
 use Rattle.ktm_world.specs.Durable.{Durable, empty_state, stand, fact_applies, fact_of, is_within_limits, events_apply, log_applies}
-use Rattle.ktm_world.specs.Sizes.{frame_size, group_size, log_size}
+use Rattle.ktm_world.specs.Sizes.{frame_size, log_size}
 use Rattle.ktm_world.specs.Logs.{Group}
 use Rattle.ktm_world.specs.Outcome.{is_full as is_full_in}
 use Rattle.ktm_world.specs.World.{own_group, opened, present}
 use Rattle.ktm_world.proofs.BuiltStates.{built_log, built_stand, own_is, within_built}
 use Rattle.ktm_world.proofs.Durables.{stand-append, log_applies-append}
-use Rattle.ktm_world.proofs.SizeLemmas.{size_law, log_size-append}
+use Rattle.ktm_world.proofs.SizeLemmas.{log_size-append}
 use Rattle.ktm_built.specs.Standing.{IsStanding, IsStandingNow}
 use Rattle.ktm_built.proofs.Worlds.{fresh_law, opened_law}
 use Rattle.ktm_built.specs.Standing.{fresh}
+use Rattle.ktm_kernel.specs.Memory.{Held, MemoryState, held, now_of}
+use Rattle.ktm_object.specs.Table.{handles_of}
+use Rattle.ktm_world.specs.Keys.{Store}
+use Rattle.ktm_log.specs.declared.fault.AppendFault.TheVariants.{Full}
 use Rattle.ktm_kernel.specs.Restarts.{HoldsBoth, base_of, is_full_for_own, Started, LeavesOwnOrNot}
 use Rattle.ktm_kernel.specs.Stands.{KernelState, IsReady}
 
@@ -72,12 +76,35 @@ next_applies state log built few least counted inside area most =
         ∙ and_from (nat_le 1 state.units) (nat_le (length state.keys) state.units) (le-leb 1 state.units (omega arith)) (le-leb (length state.keys) state.units few)
 
 -- how many bytes the group of a restart has
-pub own_size : (state : Durable) (payload : List ℕ) → IsBuiltState state → IsGroupOf (own_group state) payload → length payload ≡ 9
-own_size state payload built is = size_law (own_group state) payload is ∙ ap (λ (es : List Event). group_size es) (own_is state built) ∙ omega arith
+pub own_size : (state : Durable) → IsBuiltState state → frame_size (own_group state) ≡ 14
+own_size state built = ap (λ (es : List Event). frame_size es) (own_is state built) ∙ omega arith
 
--- the payload of a boot is that of the group of a restart
-pub own_payload : (state : Durable) (payload : List ℕ) → IsBuiltState state → IsGroupOf (Boot (state.boots + 1) ∷ []) payload → IsGroupOf (own_group state) payload
-own_payload state payload built group = subst (λ (es : List Event). IsGroupOf es payload) (sym (own_is state built)) group
+-- the boot that a restart records is its whole group
+pub own_held : (events : EventsState) (state : Durable) (boot : ℕ) → IsBuiltState state → boot ≡ state.boots + 1 → Holds events ([] ++ Boot boot ∷ []) → Holds events (own_group state)
+own_held events state boot built is holds = subst (λ (es : List Event). Holds events es) (ap (λ (n : ℕ). Boot n ∷ []) is ∙ sym (own_is state built)) holds
+
+-- it is one event
+pub own_length : (state : Durable) → IsBuiltState state → length (own_group state) ≡ 1
+own_length state built = ap (λ (es : List Event). length es) (own_is state built)
+
+-- where an append answered Ok the log was not full
+pub not_full : {T : Type 0} (value : T) (full : Bool) → (IsTrue full → Ok value ≡ Err Full) → full ≡ false
+not_full value full tells = false_from_ne_true full (λ is. let wrong = tells is in cc)
+
+-- what a machine holds that starts from this state
+abbrev pub fresh_held : Durable → Held
+fresh_held state = record {
+  is_up = true;
+  handles = [];
+  boot = state.boots + 1;
+  transactions = record { clock = 0; last_transaction = 0; last_manager = 0; last_enlistment = 0; items = []; enlistments = [] };
+  keys = record { store = state.keys; own = [] };
+}
+
+pub held_fresh : (m : MemoryState) (state : Durable) (boot : ℕ) (store : Store) → m.is_up ≡ true → m.tm.boot ≡ boot
+    → m.tm.now ≡ record { clock = 0; last_transaction = 0; last_manager = 0; last_enlistment = 0; items = []; enlistments = [] } → m.keys.keys ≡ record { store = store; own = [] } → handles_of m.handles ≡ []
+    → boot ≡ state.boots + 1 → store ≡ state.keys → held m ≡ fresh_held state
+held_fresh m state boot store up boot_is now keys handles is keys_are = rw (up, boot_is, now, keys, handles, is, keys_are) refl
 
 -- what a disk that nothing was written to may leave
 pub unwritten_leaves : (units image : ℕ) (before log : List Group) (told : Option DiskState) → Tells told (HoldsBoth units image before log) → Tells told (LeavesOwnOrNot units image before log)
@@ -122,22 +149,12 @@ module _ (units image : ℕ) (before log : List Group) (state : Durable) (is : I
       let same = is.units_are in
       omega arith
 
-  module _ (j : JournalState) (told : Option DiskState) (units_are : j.units ≡ state.units) (at : Tells told (JournalAt j (before ++ log))) (payload : List ℕ) (group : IsGroupOf (own_group state) payload) where
-    own_full : is_full_for_own units image before log ≡ nat_lt (left_after units before - log_size log) 15
-    own_full = ap (λ (es : List Event). is_full_in (left_after units before - log_size log) es) (own_is (stand base log) built_found)
-
-    -- the log is full exactly where the group of the restart does not fit
-    pub is_full : j.log.area.len < j.log.end + length payload + 6 → is_full_for_own units image before log ≡ true
-    is_full less =
-        let left = left_found j told units_are at in
-        let long = own_size state payload built_state_is group in
-        own_full ∙ lt-ltb (left_after units before - log_size log) 15 (omega arith)
-
-    is_not_full : j.log.end + length payload + 6 ≤ j.log.area.len → is_full_for_own units image before log ≡ false
-    is_not_full fits =
-        let left = left_found j told units_are at in
-        let long = own_size state payload built_state_is group in
-        own_full ∙ le-ltb (left_after units before - log_size log) 15 (omega arith)
+  -- the log is full exactly where the group of the restart does not fit
+  pub is_full : (j : JournalState) (told : Option DiskState) → j.units ≡ state.units → Tells told (JournalAt j (before ++ log))
+      → is_full_in (j.log.area.len - j.log.end) (own_group state) ≡ is_full_for_own units image before log
+  is_full j told units_are at =
+      ap (λ n. is_full_in n (own_group state)) (left_found j told units_are at)
+      ∙ ap (λ (s : Durable). is_full_in (left_after units before - log_size log) (own_group s)) is.is
 
   own_applies : events_apply state (own_group state) ≡ true → IsTrue (events_apply (stand base log) (own_group (stand base log)))
   own_applies may = subst (λ (s : Durable). IsTrue (events_apply s (own_group s))) is.is may
@@ -150,35 +167,36 @@ module _ (units image : ℕ) (before log : List Group) (state : Durable) (is : I
   fresh_is left left_is = ap (λ (s : Durable). fresh s left) is.is ∙ ap (λ n. fresh (stand base log) n) less ∙ sym (fresh_law.0 base (left_after units before) log built_base made.1)
     where
       own : frame_size (own_group (stand base log)) ≡ 14
-      own = ap (λ (g : Group). frame_size g) (own_is (stand base log) built_found) ∙ omega arith
+      own = own_size (stand base log) built_found
 
       less : left ≡ left_after units before - log_size log - frame_size (own_group (stand base log))
       less = omega (arith, own)
 
   -- of the journal that the group of the restart was added to
   module _ (may : events_apply state (own_group state) ≡ true) (j k : JournalState) (units_are : j.units ≡ state.units) (image_is : j.image ≡ state.image) (old new : Option DiskState)
-      (at : Tells old (JournalAt j (before ++ log))) (payload : List ℕ) (group : IsGroupOf (own_group state) payload) where
-    pub started : (kernel : KernelState) (left events : ℕ) → kernel.journal ≡ k → kernel.now ≡ fresh state left → left ≡ k.log.area.len - k.log.end → events ≡ state.events
-        → k.units ≡ j.units → k.image ≡ j.image → k.log.area ≡ j.log.area → k.log.end ≡ j.log.end + length payload + 5 → j.log.end + length payload + 6 ≤ j.log.area.len
-        → ((gs : List Group) (group : Group) → IsGroupOf group payload → Tells old (JournalAt j gs) → Tells new (JournalAt k (gs ++ group ∷ [])))
-        → Started units image before log kernel events 0 new
-    started kernel left events journal now left_is events_are k_units k_image area end fits added = record {
-      room = is_not_full j old units_are at payload group fits;
+      (at : Tells old (JournalAt j (before ++ log))) (events : EventsState) (holds : Holds events (own_group state)) where
+    pub started : (kernel : KernelState) (left count : ℕ) → kernel.journal ≡ k → kernel.now ≡ fresh state left → left ≡ k.log.area.len - k.log.end → count ≡ state.events
+        → k.units ≡ j.units → k.image ≡ j.image → k.log.area ≡ j.log.area → ((group : Group) → Holds events group → k.log.end ≡ j.log.end + frame_size group)
+        → is_full_in (j.log.area.len - j.log.end) (own_group state) ≡ false
+        → ((gs : List Group) (group : Group) → Holds events group → Tells old (JournalAt j gs) → Tells new (JournalAt k (gs ++ group ∷ [])))
+        → Started units image before log kernel count 0 new
+    started kernel left count journal now left_is count_is k_units k_image area end fits added = record {
+      room = sym (is_full j old units_are at) ∙ fits;
       stands = record {
-        now = now ∙ fresh_is left (omega (arith, left_is, ap (λ a. a.len) area, end, left_found j old units_are at, own_size state payload built_state_is group));
+        now = now ∙ fresh_is left (omega (arith, left_is, ap (λ (a : Area). a.len) area, end (own_group state) holds, left_found j old units_are at, own_size state built_state_is));
         standing = standing may;
         before = before;
         began = rw (journal, k_units ∙ units_are ∙ is.units_are, k_image ∙ image_is ∙ is.image_is) (record { built = made.0; applies = applied.0; base = refl; room = refl });
         disk = subst (λ i. Tells new (JournalAt i (before ++ (log ++ own_group (stand base log) ∷ [])))) (sym journal)
             (subst (λ (gs : List Group). Tells new (JournalAt k gs)) (append_assoc before log (own_group (stand base log) ∷ []))
-            (subst (λ (s : Durable). Tells new (JournalAt k ((before ++ log) ++ own_group s ∷ []))) is.is (added (before ++ log) (own_group state) group at)));
+            (subst (λ (s : Durable). Tells new (JournalAt k ((before ++ log) ++ own_group s ∷ []))) is.is (added (before ++ log) (own_group state) holds at)));
       };
-      events_are = events_are ∙ ap (λ (s : Durable). s.events) is.is;
+      events_are = count_is ∙ ap (λ (s : Durable). s.events) is.is;
       none_in_doubt = refl;
     }
 
-    pub cut_off : ((gs : List Group) (group : Group) → IsGroupOf group payload → Tells old (JournalAt j gs) → Tells new (LeavesGroupOrNot j gs group)) → Tells new (LeavesOwnOrNot units image before log)
-    cut_off left = Tells-map new _ (LeavesOwnOrNot units image before log) (left (before ++ log) (own_group state) group at) (λ s either bytes may_be. elim (either bytes may_be) [
+    pub cut_off : ((gs : List Group) (group : Group) → Holds events group → Tells old (JournalAt j gs) → Tells new (LeavesGroupOrNot j gs group)) → Tells new (LeavesOwnOrNot units image before log)
+    cut_off left = Tells-map new _ (LeavesOwnOrNot units image before log) (left (before ++ log) (own_group state) holds at) (λ s either bytes may_be. elim (either bytes may_be) [
       | inl without ↦ inl (record { is = same (before ++ log) bytes without; built = is.built; applies = is.applies })
       | inr with_it ↦ inr (record { is = same _ bytes (subst (λ (gs : List Group). IsImage j.units j.image gs bytes) both with_it); built = both_built; applies = both_apply })
     ])
@@ -199,6 +217,13 @@ module _ (units image : ℕ) (before log : List Group) (state : Durable) (is : I
         both_apply =
             log_applies-append (empty_state units image) before (log ++ own_group (stand base log) ∷ [])
             ∙ and_from _ _ applied.0 (log_applies-append base log (own_group (stand base log) ∷ []) ∙ and_from _ _ applied.1 (and_from _ _ (own_applies may) refl))
+
+-- what a machine holds that started, with the journal that recorded that
+pub fresh_now : (k : JournalState) (h : Held) (state : Durable) (left : ℕ) → IsBuiltState state → k.units ≡ state.units → k.image ≡ state.image → k.events ≡ state.events + 1 → left ≡ k.log.area.len - k.log.end
+    → h ≡ fresh_held state → now_of k h ≡ fresh state left
+fresh_now k h state left built units image events left_is is =
+    rw (is, left_is, units, image, events)
+    (ap (λ (s : Durable). fresh (record s { events = state.events; boots = state.boots; keys = state.keys }) (k.log.area.len - k.log.end)) (sym built))
 
 -- a machine that started is ready for calls
 pub fresh_ready : (kernel : KernelState) (state : Durable) (left : ℕ) (told : Option DiskState) (status : DiskStatus) → kernel.now ≡ fresh state left → IsBuiltState state → events_apply state (own_group state) ≡ true

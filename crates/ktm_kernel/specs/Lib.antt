@@ -1,5 +1,6 @@
 pub mod Memory
-pub mod Answered
+pub mod Route
+pub mod Decided
 pub mod Stands
 pub mod Restarts
 pub mod Done

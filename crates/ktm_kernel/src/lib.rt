@@ -2,12 +2,14 @@
 //! are recorded as one group, and only then the memory is changed.
 #![tactic(auto)]
 
-mod handles;
+mod commit;
 mod kernel;
 mod laws;
+mod memory;
+mod record;
 mod restart;
-mod state;
-mod transactions;
+mod route;
+mod settlement;
 
 pub use kernel::Kernel;
 pub use laws::{law_of_power, law_of_what_is_found, law_of_what_is_left};

@@ -1,5 +1,6 @@
 // Starting the machine from its disk.
-ghost use Rattle.std.specs.Prelude.{◌≡◌, ◌+◌, ◌*◌, ◌≤◌, ℕ, List, IfOk, OnOk, OnErr, Some, true, false};
+ghost use Rattle.std.specs.Prelude.{◌≡◌, ◌+◌, ◌*◌, ◌≤◌, ℕ, List, IfOk, OnOk, OnErr, Some, true, false, [], vec_capacity};
+ghost use Rattle.ktm_event.specs.Kept.{Holds};
 ghost use Rattle.ktm_base.specs.Count.{Rose};
 ghost use Rattle.ktm_base.specs.declared.refusal.Refusal.TheVariants.{MachineDown, MachineUp};
 ghost use Rattle.ktm_world.specs.declared.command.Line.TheVariants.{Restart};
@@ -7,7 +8,7 @@ ghost use Rattle.ktm_world.specs.declared.reply.Reply.TheVariants.{Refused};
 ghost use Rattle.ktm_base.specs.Told.{IfTold, Tells};
 ghost use Rattle.ktm_base.specs.Disk.{DeviceCalls};
 ghost use Rattle.ktm_journal.specs.Bad.{IsBadAt};
-ghost use Rattle.ktm_journal.specs.Image.{IsHeaded, StandsFor};
+ghost use Rattle.ktm_journal.specs.Image.{IsHeaded, StandsFor, area_len};
 ghost use Rattle.ktm_world.specs.Durable.{Durable};
 ghost use Rattle.ktm_world.specs.World.{World};
 ghost use Rattle.ktm_world.specs.Logs.{Group};
@@ -15,12 +16,25 @@ ghost use Rattle.ktm_kernel.specs.Restarts.{HoldsBoth, Started, LeavesOwnOrNot, 
 ghost use Rattle.ktm_kernel.specs.Stands.{IsReady, FoundAt, DoesLine};
 
 use crate::kernel::Kernel;
-use crate::state::State;
+use crate::memory::Memory;
 use ktm_base::{Disk, NoMemory, Refusal};
-use ktm_event::write_boot;
+use ktm_event::Events;
 use ktm_journal::{AppendFault, Journal, LoadFault, Loaded};
-use ktm_world::Reply;
+use ktm_world::{Event, Reply};
 use std::alloc::Global;
+use std::mem::replace;
+
+// A list of no events in the buffer of a journal, with the room for whatever its log has room for.
+fn events_in(buffer: Vec<u8>, journal: &Journal) -> Events
+    requires most { journal.now.units ≤ 1024 }
+    requires reserved { area_len journal.now.units ≤ vec_capacity buffer }
+    ensures empty { Holds result [] }
+    ensures room { result.room + 9 ≡ area_len journal.now.units }
+    ensures capacity { vec_capacity buffer ≤ result.capacity }
+{
+    let room = 8192 * journal.units() as usize + 65536 - 9;
+    Events::with_buffer(buffer, room)
+}
 
 /// A machine that started.
 #[derive(Drop)]
@@ -46,8 +60,14 @@ pub enum RestartFault {
 }
 
 impl Kernel {
-    /// Starts the machine from the image of its disk: it reads the groups that are there, and records that it started.
-    pub fn restart<D: Disk>(alloc: Global, disk: &mut D) -> Result<Restarted, RestartFault>
+    /// Starts the machine from the image of its disk: it reads the groups that are there, and records that it started. The
+    /// log is read into the buffer, which the machine keeps, and gives back where it does not start; an empty one grows to
+    /// the length of the log's area.
+    pub fn restart<D: Disk>(
+        alloc: Global,
+        disk: &mut D,
+        buffer: &mut Vec<u8>,
+    ) -> Result<Restarted, RestartFault>
         requires pending { (D.status disk.old).pending ≡ 0 }
         ensures starts { IfOk result (λ restarted. (units image : ℕ) (before log : List Group) → Tells (D.told disk.old) (HoldsBoth units image before log)
             → Started units image before log restarted.kernel restarted.events restarted.in_doubt (D.told disk.new)) }
@@ -60,33 +80,42 @@ impl Kernel {
         ensures bad { IfBad result (λ offset. IfTold (D.told disk.old) (λ s. IsBadAt s.seen offset)) }
         ensures unwritten { IfUnwritten result (D.told disk.new ≡ D.told disk.old) }
         ensures pending { IfUnwritten result ((D.status disk.new).pending ≡ (D.status disk.old).pending) }
+        ensures buffer { OnErr result (vec_capacity buffer.old ≤ vec_capacity buffer.new) }
         ensures calls { DeviceCalls (8 * 1024 + 68) (D.status disk.old) (D.status disk.new) (restart_went_down result) }
         ensures few { (units image : ℕ) → Tells (D.told disk.old) (λ s. IsHeaded units image s.seen) → (D.status disk.new).calls ≤ (D.status disk.old).calls + (8 * units + 68) }
     {
-        let Loaded { journal, state } = match Journal::load(alloc, disk) {
+        let Loaded { journal, state } = match Journal::load(alloc, disk, buffer) {
             Ok(loaded) => loaded,
             Err(LoadFault::Down) => return Err(RestartFault::Down),
             Err(LoadFault::Bad(offset)) => return Err(RestartFault::Bad(offset)),
             Err(LoadFault::NoMemory) => return Err(RestartFault::NoMemory),
         };
-        let Ok(group) = write_boot(alloc, state.boots() + 1) else {
-            return Err(RestartFault::NoMemory);
-        };
         let mut journal = journal;
-        match journal.append(disk, group.as_slice()) {
+        let mut events = events_in(replace(buffer, Vec::new(alloc)), &journal);
+        events.push(&Event::Boot {
+            boot: state.boots() + 1,
+        });
+        match journal.append(disk, &events) {
             Ok(()) => {}
-            Err(AppendFault::Down) => return Err(RestartFault::Down),
-            Err(AppendFault::Full) => return Err(RestartFault::Full),
+            Err(AppendFault::Down) => {
+                *buffer = events.into_buffer();
+                return Err(RestartFault::Down);
+            }
+            Err(AppendFault::Full) => {
+                *buffer = events.into_buffer();
+                return Err(RestartFault::Full);
+            }
         }
-        let events = state.events();
-        let left = journal.left();
+        let found = state.events();
+        let boot = state.boots() + 1;
         Ok(Restarted {
             kernel: Kernel {
                 alloc,
-                state: State::start(alloc, state, left),
+                memory: Memory::start(alloc, boot, state.into_keys()),
                 journal,
+                events,
             },
-            events,
+            events: found,
             in_doubt: 0,
         })
     }
@@ -111,7 +140,9 @@ impl Kernel {
         ensures unwritten { IfOk result (λ reply. IfUnwrittenBy reply ((D.told disk.new ≡ D.told disk.old) × ((D.status disk.new).is_down ≡ false) × ((D.status disk.new).pending ≡ 0) × (self.new ≡ self.old))) }
         ensures no_memory { OnErr result ((D.told disk.new ≡ D.told disk.old) × ((D.status disk.new).is_down ≡ false) × ((D.status disk.new).pending ≡ 0) × (self.new ≡ self.old)) }
     {
-        match Kernel::restart(self.alloc, disk) {
+        let none = Events::new(self.alloc, 0)?;
+        let mut buffer = replace(&mut self.events, none).into_buffer();
+        match Kernel::restart(self.alloc, disk, &mut buffer) {
             Ok(
                 Restarted {
                     kernel,
@@ -122,10 +153,22 @@ impl Kernel {
                 *self = kernel;
                 Ok(Reply::Restarted { events, in_doubt })
             }
-            Err(RestartFault::Down) => Ok(Reply::Refused(Refusal::MachineDown)),
-            Err(RestartFault::Bad(offset)) => Ok(Reply::BadImage(offset)),
-            Err(RestartFault::Full) => Ok(Reply::Refused(Refusal::LogFull)),
-            Err(RestartFault::NoMemory) => Err(NoMemory),
+            Err(RestartFault::Down) => {
+                self.events = events_in(buffer, &self.journal);
+                Ok(Reply::Refused(Refusal::MachineDown))
+            }
+            Err(RestartFault::Bad(offset)) => {
+                self.events = events_in(buffer, &self.journal);
+                Ok(Reply::BadImage(offset))
+            }
+            Err(RestartFault::Full) => {
+                self.events = events_in(buffer, &self.journal);
+                Ok(Reply::Refused(Refusal::LogFull))
+            }
+            Err(RestartFault::NoMemory) => {
+                self.events = events_in(buffer, &self.journal);
+                Err(NoMemory)
+            }
         }
     }
 }

@@ -8,7 +8,8 @@ use Rattle.ktm_world.specs.declared.object.Transaction.{Transaction}
 use Rattle.ktm_world.specs.Transactions.{same_id, is_live}
 use Rattle.ktm_world.specs.declared.object.Phase.TheVariants.{Active}
 use Rattle.ktm_world.specs.declared.object.TransactionOutcome.TheVariants.{Undetermined}
-use Rattle.ktm_tm.specs.TmState.{AreNumbered, IsPlace, IsAbsent, TmState, is_given, next_id, with_new}
+use Rattle.ktm_world.specs.Present.{Transactions}
+use Rattle.ktm_tm.specs.TmState.{AreNumbered, IsPlace, IsAbsent, is_given, next_id, with_new}
 
 place_from : (ts : List Transaction) (boot before i : ℕ) (id : Id) → AreNumbered boot before ts → id ≡ record { boot = boot; number = before + 1 + i } → i < length ts → IsPlace ts id i
 place_from [] boot before i id numbered is within = absurd (omega (arith, within))
@@ -84,10 +85,10 @@ live_set ts i t old within is =
     omega (arith, live_share is, sum_by-set (λ t. cond (is_live t) 1 0) ts i t old within)
 
 -- what is there with one more, which has the next Id
-pub made : (tm : TmState) (id : Id) (timeout : ℕ) → tm.now.last_transaction ≡ length tm.now.items → id ≡ next_id tm
-    → record tm.now {
-      last_transaction = length (tm.now.items ++ record { id = id; timeout = timeout; created = tm.now.clock; phase = Active; outcome = Undetermined; is_recorded = false } ∷ []);
-      items = tm.now.items ++ record { id = id; timeout = timeout; created = tm.now.clock; phase = Active; outcome = Undetermined; is_recorded = false } ∷ [];
+pub made : (boot : ℕ) (now : Transactions) (id : Id) (timeout : ℕ) → now.last_transaction ≡ length now.items → id ≡ next_id boot now
+    → record now {
+      last_transaction = length (now.items ++ record { id = id; timeout = timeout; created = now.clock; phase = Active; outcome = Undetermined; is_recorded = false } ∷ []);
+      items = now.items ++ record { id = id; timeout = timeout; created = now.clock; phase = Active; outcome = Undetermined; is_recorded = false } ∷ [];
     }
-    ≡ with_new tm timeout
-made tm id timeout counted is = rw is (ap (λ (n : ℕ). record (with_new tm timeout) { last_transaction = n }) (length-append tm.now.items _ ∙ ap (λ n. n + 1) (sym counted)))
+    ≡ with_new boot now timeout
+made boot now id timeout counted is = rw is (ap (λ (n : ℕ). record (with_new boot now timeout) { last_transaction = n }) (length-append now.items _ ∙ ap (λ n. n + 1) (sym counted)))

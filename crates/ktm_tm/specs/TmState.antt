@@ -24,15 +24,15 @@ AreNumbered boot before (t ∷ ts) = (t.id ≡ record { boot = boot; number = be
 abbrev pub is_given : ℕ → ℕ → Id → Bool
 is_given boot count id = (id.boot == boot) && (nat_le 1 id.number && nat_le id.number count)
 
--- the Id of the transaction that is made next
-abbrev pub next_id : TmState → Id
-next_id tm = record { boot = tm.boot; number = tm.now.last_transaction + 1 }
+-- the Id of the transaction that is made next in this boot
+abbrev pub next_id : ℕ → Transactions → Id
+next_id boot now = record { boot = boot; number = now.last_transaction + 1 }
 
 -- a transaction more, which begins now and is active
-abbrev pub with_new : TmState → ℕ → Transactions
-with_new tm timeout = record tm.now {
-  last_transaction = tm.now.last_transaction + 1;
-  items = tm.now.items ++ record { id = next_id tm; timeout = timeout; created = tm.now.clock; phase = Active; outcome = Undetermined; is_recorded = false } ∷ [];
+abbrev pub with_new : ℕ → Transactions → ℕ → Transactions
+with_new boot now timeout = record now {
+  last_transaction = now.last_transaction + 1;
+  items = now.items ++ record { id = next_id boot now; timeout = timeout; created = now.clock; phase = Active; outcome = Undetermined; is_recorded = false } ∷ [];
 }
 
 -- the transaction with this Id is the one at this place, and is found and changed there

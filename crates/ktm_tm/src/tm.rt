@@ -119,7 +119,7 @@ impl Tm {
     /// The Id of the transaction that is made next.
     pub fn next_id(&self) -> Id
         requires { no_transaction_left self.now.now ≡ false }
-        ensures { result ≡ next_id self.now }
+        ensures { result ≡ next_id self.now.boot self.now.now }
     {
         Id {
             boot: self.boot,
@@ -132,9 +132,9 @@ impl Tm {
     pub fn create(&mut self, timeout: u32) -> Id
         requires left { no_transaction_left self.old.now ≡ false }
         requires room { 1 ≤ self.old.room }
-        ensures id { result ≡ next_id self.old }
+        ensures id { result ≡ next_id self.old.boot self.old.now }
         ensures boot { self.new.boot ≡ self.old.boot }
-        ensures now { self.new.now ≡ with_new self.old timeout }
+        ensures now { self.new.now ≡ with_new self.old.boot self.old.now timeout }
         ensures room { self.new.room + 1 ≡ self.old.room }
     {
         let id = self.next_id();

@@ -10,4 +10,4 @@ invariant_of-self c =
 pub returns-clause-empty : goal.returns-clause-empty
 returns-clause-empty c =
     let few : length c.truncate.new.self.items ≤ 8 = omega (arith, ap length c.truncate.ensures.items, length-take 8 c.self.inside.bytes.items) in
-    holds_none c.truncate.new.self.items _ few c.close.ensures.items _
+    holds_none c.truncate.new.self.items _ few c.close.ensures.items _ _

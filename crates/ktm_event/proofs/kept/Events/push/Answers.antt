@@ -21,4 +21,4 @@ invariant_of-self c =
 pub returns-clause-adds : goal.returns-clause-adds
 returns-clause-adds c list held =
     let fits = rw (← c.self.view_is) at c.requires.fits in
-    holds_more _ _ _ _ _ _ _ _ c.args.event.now c.self.invariant (grew c) (omega (arith, fits, c.self.invariant.within)) list (rw (← c.self.view_is) at held)
+    holds_more _ _ _ _ _ _ _ _ c.args.event.now c.self.invariant (grew c) (omega (arith, fits, c.self.invariant.within)) _ _ list (rw (← c.self.view_is) at held)

@@ -29,4 +29,4 @@ pub returns-clause-adds : goal.returns-clause-adds
 unfolding event
 returns-clause-adds c list held =
     let fits = rw (← c.self.view_is) at c.requires.fits in
-    holds_more _ _ _ _ _ _ _ _ (event c) c.self.invariant (grew c) (omega (arith, fits, c.self.invariant.within)) list (rw (← c.self.view_is) at held)
+    holds_more _ _ _ _ _ _ _ _ (event c) c.self.invariant (grew c) (omega (arith, fits, c.self.invariant.within)) _ _ list (rw (← c.self.view_is) at held)

@@ -12,4 +12,4 @@ invariant_of-result c =
     (omega (arith, c.close.ensures.room, c.extend_from_slice.ensures.capacity, c.clear.ensures.capacity, c.requires.reserved)) c.requires.few
 
 pub returns-clause-empty : goal.returns-clause-empty
-returns-clause-empty c = holds_none c.extend_from_slice.new.self.items _ (few c) c.close.ensures.items _
+returns-clause-empty c = holds_none c.extend_from_slice.new.self.items _ (few c) c.close.ensures.items _ _

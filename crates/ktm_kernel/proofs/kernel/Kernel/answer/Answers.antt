@@ -1,45 +1,31 @@
-use Rattle.std.proofs.Common.{refl}
-use Rattle.ktm_kernel.proofs.Decided.{create_records_nothing}
-use Rattle.ktm_kernel.proofs.Ready.{quiet_ends}
-use Rattle.ktm_kernel.proofs.Worlds.{IfOk-map, IfOk-each}
+use Rattle.std.proofs.lemmas.Bool.{or_right}
+use Rattle.std.proofs.Common.{true, refl, ap, sym, ◌∙◌, subst}
+use Rattle.ktm_kernel.specs.Done.{TouchesNothing}
+use Rattle.ktm_kernel.specs.Memory.{held}
+use Rattle.ktm_kernel.proofs.Ends.{done, cut, done_touches, kept}
 use Rattle.ktm_kernel.proofs.kernel.Kernel.answer.Goals as goal
 
-pub returns-in-CreateTransaction-clause-ends : goal.returns-in-CreateTransaction-clause-ends
-returns-in-CreateTransaction-clause-ends g c = rw (c.in-CreateTransaction.is, ← c.self.view_is) (IfOk-map c.create_transaction.result _ _
-    (λ reply done. quiet_ends _ c.self.inside.state.now c.create_transaction.new.self.now c.self.inside.journal c.args.process _ reply _ (c.requires.ready.powered.power c.requires.up) (create_records_nothing _ _ _ _) done)
-    c.create_transaction.ensures.answered)
+pub invariant_of-self-in-Ok : goal.invariant_of-self-in-Ok
+invariant_of-self-in-Ok g c =
+    let decided = c.in_ok-reply.ensures.ok in
+    kept c.self.inside.journal c.record.new.journal c.self.inside.events c.decide.new.events _ (c.in-Ok.ensures.grows _ decided.records) c.self.invariant.0 (c.decide.ensures.room ∙ c.clear.ensures.room) c.self.invariant.1 c.self.invariant.2
 
-pub returns-in-KvSet-clause-ends : goal.returns-in-KvSet-clause-ends
-returns-in-KvSet-clause-ends g c = rw (c.in-KvSet.is, ← c.self-in-KvSet.view_is) (IfOk-map c.kv_set.result _ _
-    (λ reply done. quiet_ends _ c.self-in-KvSet.inside.state.now c.kv_set.new.self.now c.self-in-KvSet.inside.journal c.args.process _ reply _ (c.requires.ready.powered.power c.requires.up) refl done)
-    c.kv_set.ensures.answered)
+pub returns-in-Ok-clause-ends : goal.returns-in-Ok-clause-ends
+returns-in-Ok-clause-ends g c =
+    rw (c.in-Ok.ensures.up, ← c.self.view_is) (done c.self.inside.journal (held c.self.inside.memory) c.args.process c.args.command c.in_ok-reply.field-0.reply c.in_ok-reply.field-0.settlement c.decide.new.events c.decide.new.self c.in_ok-reply.ensures.ok
+    c.record.new.journal c.settle.new.self (g.D.Disk.told c.args.disk.now) (g.D.Disk.told c.record.new.disk)
+    c.self.invariant.0.most c.self.invariant.1 c.self.invariant.2 c.in-Ok.ensures.grows c.settle.ensures c.in-Ok.ensures.room c.in-Ok.ensures.log)
 
-pub returns-in-KvUnset-clause-ends : goal.returns-in-KvUnset-clause-ends
-returns-in-KvUnset-clause-ends g c = rw (c.in-KvUnset.is, ← c.self-in-KvUnset.view_is) (IfOk-map c.kv_unset.result _ _
-    (λ reply done. quiet_ends _ c.self-in-KvUnset.inside.state.now c.kv_unset.new.self.now c.self-in-KvUnset.inside.journal c.args.process _ reply _ (c.requires.ready.powered.power c.requires.up) refl done)
-    c.kv_unset.ensures.answered)
+pub returns-in-Ok-clause-untouched : goal.returns-in-Ok-clause-untouched
+returns-in-Ok-clause-untouched g c = λ touches.
+    done_touches c.self.inside.journal (held c.self.inside.memory) c.args.process c.args.command c.in_ok-reply.field-0.reply c.in_ok-reply.field-0.settlement c.decide.new.events c.decide.new.self c.in_ok-reply.ensures.ok c.in-Ok.ensures.room _ c.in-Ok.ensures.none
+    (subst (λ k. TouchesNothing k.now c.args.process c.args.command c.in_ok-reply.field-0.reply) (sym c.self.view_is) touches)
 
-pub returns-in-KvGet-clause-ends : goal.returns-in-KvGet-clause-ends
-returns-in-KvGet-clause-ends g c = rw (c.in-KvGet.is, ← c.self-in-KvGet.view_is) (IfOk-map c.kv_get.result _ _
-    (λ reply done. quiet_ends _ c.self-in-KvGet.inside.state.now c.self-in-KvGet.inside.state.now c.self-in-KvGet.inside.journal c.args.process _ reply _ (c.requires.ready.powered.power c.requires.up) refl done)
-    c.kv_get.ensures)
-
-pub returns-in-KvList-clause-ends : goal.returns-in-KvList-clause-ends
-returns-in-KvList-clause-ends g c = rw (c.in-KvList.is, ← c.self-in-KvList.view_is) (IfOk-map c.kv_list.result _ _
-    (λ reply done. quiet_ends _ c.self-in-KvList.inside.state.now c.self-in-KvList.inside.state.now c.self-in-KvList.inside.journal c.args.process _ reply _ (c.requires.ready.powered.power c.requires.up) refl done)
-    c.kv_list.ensures)
-
-pub returns-in-CreateTransaction-clause-untouched : goal.returns-in-CreateTransaction-clause-untouched
-returns-in-CreateTransaction-clause-untouched g c = IfOk-each c.create_transaction.result _ (λ reply touches. (refl, refl))
-
-pub returns-in-KvSet-clause-untouched : goal.returns-in-KvSet-clause-untouched
-returns-in-KvSet-clause-untouched g c = IfOk-each c.kv_set.result _ (λ reply touches. (refl, refl))
-
-pub returns-in-KvUnset-clause-untouched : goal.returns-in-KvUnset-clause-untouched
-returns-in-KvUnset-clause-untouched g c = IfOk-each c.kv_unset.result _ (λ reply touches. (refl, refl))
-
-pub returns-in-KvGet-clause-untouched : goal.returns-in-KvGet-clause-untouched
-returns-in-KvGet-clause-untouched g c = IfOk-each c.kv_get.result _ (λ reply touches. (refl, refl))
-
-pub returns-in-KvList-clause-untouched : goal.returns-in-KvList-clause-untouched
-returns-in-KvList-clause-untouched g c = IfOk-each c.kv_list.result _ (λ reply touches. (refl, refl))
+pub returns-in-Err-Down-clause-ends : goal.returns-in-Err-Down-clause-ends
+returns-in-Err-Down-clause-ends g c =
+    let calls = rw c.in-Err-Down.field-0-is at c.in-Err-Down.ensures.calls in
+    let down = calls.down ∙ or_right _ true refl in
+    rw (down, ← c.self.view_is) (cut c.self.inside.journal (held c.self.inside.memory) c.args.process c.args.command c.in_ok-reply.field-0.reply c.in_ok-reply.field-0.settlement c.decide.new.events c.decide.new.self c.in_ok-reply.ensures.ok
+    c.record.new.journal c.fall.new.self (g.D.Disk.told c.args.disk.now) (g.D.Disk.told c.record.new.disk)
+    c.self.invariant.0.most c.self.invariant.1 c.self.invariant.2 c.in-Err-Down.ensures.refused (ap held c.fall.ensures) c.in-Err-Down.ensures.some
+    (rw c.in-Err-Down.field-0-is at c.in-Err-Down.ensures.cut_room) (rw c.in-Err-Down.field-0-is at c.in-Err-Down.ensures.cut))

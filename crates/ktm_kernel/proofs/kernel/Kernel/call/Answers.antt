@@ -1,26 +1,25 @@
-use Rattle.std.proofs.Common.{sym, ◌∙◌, ap}
+use Rattle.std.proofs.Common.{sym, ◌∙◌}
 use Rattle.ktm_kernel.proofs.Ready.{ready_after, down_causes}
 use Rattle.ktm_kernel.proofs.Worlds.{IfOk-map, ended_line, down_line}
 use Rattle.ktm_kernel.proofs.kernel.Kernel.call.Goals as goal
 
 pub returns-then-not-is_up-clause-does : goal.returns-then-not-is_up-clause-does
-returns-then-not-is_up-clause-does g c =
-    down_line c.args.self.now _ c.args.process c.args.command (ap (λ k. k.now.machine.is_up) (sym c.self.view_is) ∙ sym c.is_up.ensures ∙ c.if-not-is_up.true)
+returns-then-not-is_up-clause-does g c = down_line c.args.self.now _ c.args.process c.args.command (sym c.is_up.ensures ∙ c.if-not-is_up.true)
 
 pub returns-clause-does : goal.returns-clause-does
 returns-clause-does g c = IfOk-map c.answer.result _ _
     (λ reply ends. ended_line (g.D.Disk.status c.answer.new.disk).is_down c.args.self.now c.answer.new.self c.args.process c.args.command reply (g.D.Disk.told c.args.disk.now) (g.D.Disk.told c.answer.new.disk)
-    (ap (λ k. k.now.machine.is_up) (sym c.self.view_is) ∙ sym c.is_up.ensures ∙ c.if-not-is_up.false) c.requires.command c.requires.built ends)
+    (sym c.is_up.ensures ∙ c.if-not-is_up.false) c.requires.command c.requires.built ends)
     c.answer.ensures.ends
 
 pub returns-clause-cause : goal.returns-clause-cause
 returns-clause-cause g c =
-    let up = ap (λ k. k.now.machine.is_up) (sym c.self.view_is) ∙ sym c.is_up.ensures ∙ c.if-not-is_up.false in
+    let up = sym c.is_up.ensures ∙ c.if-not-is_up.false in
     down_causes c.answer.result c.args.self.now c.answer.new.self c.args.process c.args.command (g.D.Disk.told c.args.disk.now) (g.D.Disk.told c.answer.new.disk) (g.D.Disk.status c.args.disk.now) (g.D.Disk.status c.answer.new.disk)
     c.requires.built up (c.requires.ready.powered.power up) c.answer.ensures.ends c.answer.ensures.calls
 
 pub returns-clause-ready : goal.returns-clause-ready
 returns-clause-ready g c =
-    let up = ap (λ k. k.now.machine.is_up) (sym c.self.view_is) ∙ sym c.is_up.ensures ∙ c.if-not-is_up.false in
+    let up = sym c.is_up.ensures ∙ c.if-not-is_up.false in
     ready_after c.answer.result (g.D.Disk.status c.answer.new.disk) c.args.self.now c.answer.new.self c.args.process c.args.command (g.D.Disk.told c.args.disk.now) (g.D.Disk.told c.answer.new.disk)
     c.requires.command c.requires.built (c.requires.ready.standing up) c.answer.ensures.ends c.answer.ensures.powered

@@ -1,10 +1,15 @@
-use Rattle.std.proofs.Common.{Err, length, refl, ap}
-use Rattle.ktm_kernel.proofs.Commits.{fits_of_ok}
-use Rattle.ktm_kernel.proofs.Restarts.{found, next_applies, own_payload, unwritten_leaves, journal_at, is_full, started, cut_off, fresh_ready}
+use Rattle.std.proofs.Common.{Err, [], ◌+◌, ◌-◌, refl, ap, sym, ◌∙◌, arith}
+use Rattle.ktm_journal.specs.Image.{log_area}
+use Rattle.ktm_world.specs.World.{own_group}
+use Rattle.ktm_kernel.specs.Memory.{held, now_of}
+use Rattle.ktm_kernel.proofs.Restarts.{found, next_applies, own_held, own_length, own_size, unwritten_leaves, journal_at, is_full, not_full, started, cut_off, fresh_now, held_fresh, fresh_ready}
 use Rattle.ktm_kernel.proofs.kernel.Kernel.restart.Goals as goal
 
 pub returns-in-Err-Down-clause-down : goal.returns-in-Err-Down-clause-down
 returns-in-Err-Down-clause-down g c = λ units image before log holds. rw c.in-Err-Down.ensures.same (unwritten_leaves units image before log _ holds)
+
+pub append-requires-clause-some : goal.append-requires-clause-some
+append-requires-clause-some g c = omega (arith, (c.push.ensures.adds [] c.events_in-events.ensures.empty).counted)
 
 pub returns-in-Err-Down-append-clause-down : goal.returns-in-Err-Down-append-clause-down
 returns-in-Err-Down-append-clause-down g c = λ units image before log holds.
@@ -12,28 +17,49 @@ returns-in-Err-Down-append-clause-down g c = λ units image before log holds.
     let at = journal_at units image before log c.in-Ok.loaded.state is c.in-Ok.loaded.journal (g.D.Disk.told c.args.disk.now) (g.D.Disk.told c.load.new.disk) c.in-Ok.ensures.journal holds in
     cut_off units image before log c.in-Ok.loaded.state is (next_applies c.in-Ok.loaded.state c.in-Ok.loaded.journal.log c.in-Ok.ensures.built c.in-Ok.ensures.keys c.in-Ok.ensures.units.1 c.in-Ok.ensures.events c.in-Ok.ensures.inside c.in-Ok.ensures.area c.in-Ok.ensures.units.2) c.in-Ok.loaded.journal c.append.new.self c.in-Ok.ensures.units.0 c.in-Ok.ensures.image
     (g.D.Disk.told c.load.new.disk) (g.D.Disk.told c.append.new.disk) at
-    c.as_slice.result.now (rw c.as_slice.ensures (own_payload c.in-Ok.loaded.state _ c.in-Ok.ensures.built (rw c.boots.ensures at c.in-Ok-write_boot.ensures))) (rw c.in-Err-Down-append.field-0-is at c.in-Err-Down-append.ensures.down)
+    c.push.new.self (own_held c.push.new.self c.in-Ok.loaded.state _ c.in-Ok.ensures.built (ap (λ n. n + 1) c.boots.ensures) (c.push.ensures.adds [] c.events_in-events.ensures.empty)) (rw c.in-Err-Down-append.field-0-is at c.in-Err-Down-append.ensures.down)
 
 pub returns-in-Err-Full-clause-full : goal.returns-in-Err-Full-clause-full
 returns-in-Err-Full-clause-full g c = λ units image before log holds.
     let is = found units image before log c.in-Ok.loaded.state (g.D.Disk.told c.args.disk.now) c.in-Ok.ensures.stands holds in
     let at = journal_at units image before log c.in-Ok.loaded.state is c.in-Ok.loaded.journal (g.D.Disk.told c.args.disk.now) (g.D.Disk.told c.load.new.disk) c.in-Ok.ensures.journal holds in
-    is_full units image before log c.in-Ok.loaded.state is c.in-Ok.loaded.journal (g.D.Disk.told c.load.new.disk) c.in-Ok.ensures.units.0 at
-    c.as_slice.result.now (rw c.as_slice.ensures (own_payload c.in-Ok.loaded.state _ c.in-Ok.ensures.built (rw c.boots.ensures at c.in-Ok-write_boot.ensures))) (c.in-Err-Full.ensures.full.0 (ap Err c.in-Err-Full.field-0-is))
+    let own = own_held c.push.new.self c.in-Ok.loaded.state _ c.in-Ok.ensures.built (ap (λ n. n + 1) c.boots.ensures) (c.push.ensures.adds [] c.events_in-events.ensures.empty) in
+    sym (is_full units image before log c.in-Ok.loaded.state is c.in-Ok.loaded.journal (g.D.Disk.told c.load.new.disk) c.in-Ok.ensures.units.0 at)
+    ∙ (c.in-Err-Full.ensures.full (own_group c.in-Ok.loaded.state) own).0 (ap Err c.in-Err-Full.field-0-is)
+
+pub invariant_of-result : goal.invariant_of-result
+invariant_of-result g c =
+    let own = own_held c.push.new.self c.in-Ok.loaded.state _ c.in-Ok.ensures.built (ap (λ n. n + 1) c.boots.ensures) (c.push.ensures.adds [] c.events_in-events.ensures.empty) in (
+      record {
+        most = omega (arith, c.in-Ok-append.ensures.units, c.in-Ok.ensures.units.0, c.in-Ok.ensures.units.2);
+        room = omega (arith, c.in-Ok-append.ensures.units, c.push.ensures.room, c.events_in-events.ensures.room);
+      },
+      c.in-Ok-append.ensures.area ∙ c.in-Ok.ensures.area ∙ ap log_area (sym (c.in-Ok-append.ensures.units ∙ c.in-Ok.ensures.units.0)),
+      omega (arith, c.in-Ok-append.ensures.counted _ own, c.in-Ok-append.ensures.end _ own, c.in-Ok.ensures.counted, c.in-Ok.ensures.events.events, own_length c.in-Ok.loaded.state c.in-Ok.ensures.built, own_size c.in-Ok.loaded.state c.in-Ok.ensures.built),
+    )
 
 pub returns-clause-starts : goal.returns-clause-starts
 returns-clause-starts g c = λ units image before log holds.
     let is = found units image before log c.in-Ok.loaded.state (g.D.Disk.told c.args.disk.now) c.in-Ok.ensures.stands holds in
     let at = journal_at units image before log c.in-Ok.loaded.state is c.in-Ok.loaded.journal (g.D.Disk.told c.args.disk.now) (g.D.Disk.told c.load.new.disk) c.in-Ok.ensures.journal holds in
+    let own = own_held c.push.new.self c.in-Ok.loaded.state _ c.in-Ok.ensures.built (ap (λ n. n + 1) c.boots.ensures) (c.push.ensures.adds [] c.events_in-events.ensures.empty) in
+    let fresh = held_fresh c.start.result c.in-Ok.loaded.state _ _ c.start.ensures.up c.start.ensures.boot c.start.ensures.transactions c.start.ensures.keys c.start.ensures.handles (ap (λ n. n + 1) c.boots-boot.ensures) c.into_keys.ensures in
+    let now = fresh_now c.append.new.self (held c.start.result) c.in-Ok.loaded.state (c.append.new.self.log.area.len - c.append.new.self.log.end) c.in-Ok.ensures.built
+    (c.in-Ok-append.ensures.units ∙ c.in-Ok.ensures.units.0) (c.in-Ok-append.ensures.image ∙ c.in-Ok.ensures.image)
+    (omega (arith, c.in-Ok-append.ensures.counted _ own, c.in-Ok.ensures.counted, own_length c.in-Ok.loaded.state c.in-Ok.ensures.built)) refl fresh in
     started units image before log c.in-Ok.loaded.state is (next_applies c.in-Ok.loaded.state c.in-Ok.loaded.journal.log c.in-Ok.ensures.built c.in-Ok.ensures.keys c.in-Ok.ensures.units.1 c.in-Ok.ensures.events c.in-Ok.ensures.inside c.in-Ok.ensures.area c.in-Ok.ensures.units.2) c.in-Ok.loaded.journal c.append.new.self c.in-Ok.ensures.units.0 c.in-Ok.ensures.image
-    (g.D.Disk.told c.load.new.disk) (g.D.Disk.told c.append.new.disk) at
-    c.as_slice.result.now (rw c.as_slice.ensures (own_payload c.in-Ok.loaded.state _ c.in-Ok.ensures.built (rw c.boots.ensures at c.in-Ok-write_boot.ensures)))
-    (record { now = c.start.result.now; journal = c.append.new.self }) c.left-left.result c.events-events.result refl c.start.ensures c.left-left.ensures c.events-events.ensures
+    (g.D.Disk.told c.load.new.disk) (g.D.Disk.told c.append.new.disk) at c.push.new.self own
+    (record { now = now_of c.append.new.self (held c.start.result); journal = c.append.new.self }) (c.append.new.self.log.area.len - c.append.new.self.log.end) c.events-found.result refl now refl c.events-found.ensures
     c.in-Ok-append.ensures.units c.in-Ok-append.ensures.image c.in-Ok-append.ensures.area c.in-Ok-append.ensures.end
-    (fits_of_ok c.in-Ok-append.field-0 c.in-Ok.loaded.journal.log.area.len c.in-Ok.loaded.journal.log.end (length c.as_slice.result.now) c.in-Ok-append.ensures.full.1)
+    (not_full c.in-Ok-append.field-0 _ (c.in-Ok-append.ensures.full _ own).1)
     c.in-Ok-append.ensures.ok
 
 pub returns-clause-ready : goal.returns-clause-ready
 returns-clause-ready g c =
-    fresh_ready (record { now = c.start.result.now; journal = c.append.new.self }) c.in-Ok.loaded.state c.left-left.result (g.D.Disk.told c.append.new.disk) (g.D.Disk.status c.append.new.disk)
-    c.start.ensures c.in-Ok.ensures.built (next_applies c.in-Ok.loaded.state c.in-Ok.loaded.journal.log c.in-Ok.ensures.built c.in-Ok.ensures.keys c.in-Ok.ensures.units.1 c.in-Ok.ensures.events c.in-Ok.ensures.inside c.in-Ok.ensures.area c.in-Ok.ensures.units.2) c.in-Ok-append.ensures.up c.in-Ok-append.ensures.pending c.in-Ok-append.ensures.formatted
+    let own = own_held c.push.new.self c.in-Ok.loaded.state _ c.in-Ok.ensures.built (ap (λ n. n + 1) c.boots.ensures) (c.push.ensures.adds [] c.events_in-events.ensures.empty) in
+    let fresh = held_fresh c.start.result c.in-Ok.loaded.state _ _ c.start.ensures.up c.start.ensures.boot c.start.ensures.transactions c.start.ensures.keys c.start.ensures.handles (ap (λ n. n + 1) c.boots-boot.ensures) c.into_keys.ensures in
+    let now = fresh_now c.append.new.self (held c.start.result) c.in-Ok.loaded.state (c.append.new.self.log.area.len - c.append.new.self.log.end) c.in-Ok.ensures.built
+    (c.in-Ok-append.ensures.units ∙ c.in-Ok.ensures.units.0) (c.in-Ok-append.ensures.image ∙ c.in-Ok.ensures.image)
+    (omega (arith, c.in-Ok-append.ensures.counted _ own, c.in-Ok.ensures.counted, own_length c.in-Ok.loaded.state c.in-Ok.ensures.built)) refl fresh in
+    fresh_ready (record { now = now_of c.append.new.self (held c.start.result); journal = c.append.new.self }) c.in-Ok.loaded.state (c.append.new.self.log.area.len - c.append.new.self.log.end) (g.D.Disk.told c.append.new.disk) (g.D.Disk.status c.append.new.disk)
+    now c.in-Ok.ensures.built (next_applies c.in-Ok.loaded.state c.in-Ok.loaded.journal.log c.in-Ok.ensures.built c.in-Ok.ensures.keys c.in-Ok.ensures.units.1 c.in-Ok.ensures.events c.in-Ok.ensures.inside c.in-Ok.ensures.area c.in-Ok.ensures.units.2) c.in-Ok-append.ensures.up c.in-Ok-append.ensures.pending c.in-Ok-append.ensures.formatted

@@ -8,7 +8,7 @@ pub returns-in-Ok-clause-few : goal.returns-in-Ok-clause-few
 returns-in-Ok-clause-few g c = found_few c.args.self.now (g.D.Disk.told c.args.disk.now) _ _ c.in-Ok.ensures.few
 
 pub returns-in-Err-Down-clause-does : goal.returns-in-Err-Down-clause-does
-returns-in-Err-Down-clause-does g c = interrupted_line c.args.self.now (g.D.Disk.told c.args.disk.now) (g.D.Disk.told c.restart.new.disk) (rw c.in-Err-Down.field-0-is at c.in-Err-Down.ensures.down)
+returns-in-Err-Down-clause-does g c = rw c.self.view_is (interrupted_line c.args.self.now (g.D.Disk.told c.args.disk.now) (g.D.Disk.told c.restart.new.disk) (rw c.in-Err-Down.field-0-is at c.in-Err-Down.ensures.down))
 
 pub returns-in-Err-Down-clause-few : goal.returns-in-Err-Down-clause-few
 returns-in-Err-Down-clause-few g c = found_few c.args.self.now (g.D.Disk.told c.args.disk.now) _ _ c.in-Err-Down.ensures.few
@@ -20,7 +20,7 @@ pub returns-in-Err-Bad-clause-few : goal.returns-in-Err-Bad-clause-few
 returns-in-Err-Bad-clause-few g c = found_few c.args.self.now (g.D.Disk.told c.args.disk.now) _ _ c.in-Err-Bad.ensures.few
 
 pub returns-in-Err-Full-clause-does : goal.returns-in-Err-Full-clause-does
-returns-in-Err-Full-clause-does g c = full_line c.args.self.now (g.D.Disk.told c.args.disk.now) (g.D.Disk.told c.restart.new.disk) (rw c.in-Err-Full.field-0-is at c.in-Err-Full.ensures.unwritten) (rw c.in-Err-Full.field-0-is at c.in-Err-Full.ensures.full)
+returns-in-Err-Full-clause-does g c = rw c.self.view_is (full_line c.args.self.now (g.D.Disk.told c.args.disk.now) (g.D.Disk.told c.restart.new.disk) (rw c.in-Err-Full.field-0-is at c.in-Err-Full.ensures.unwritten) (rw c.in-Err-Full.field-0-is at c.in-Err-Full.ensures.full))
 
 pub returns-in-Err-Full-clause-few : goal.returns-in-Err-Full-clause-few
 returns-in-Err-Full-clause-few g c = found_few c.args.self.now (g.D.Disk.told c.args.disk.now) _ _ c.in-Err-Full.ensures.few

@@ -1,0 +1,181 @@
+-- How a call ends: recorded, refused by a full log, or cut off.
+use Rattle.std.proofs.Common.{◌≡◌, ◌≢◌, ◌⊎◌, ℕ, ◌+◌, ◌-◌, ◌*◌, ◌^◌, ◌<◌, ◌≤◌, ◌&&◌, Bool, true, false, cond, List, [], ◌∷◌, ◌++◌, length, Option, Result, Ok, Err, refl, sym, ◌∙◌, ap, subst, arith, inl, inr}
+use Rattle.std.proofs.Math.Bool.{and-false}
+use Rattle.std.proofs.lemmas.Bool.{ltb-false, cases_eq, both_ways}
+use Rattle.std.proofs.lemmas.List.{append-nil}
+use Rattle.std.proofs.lemmas.List.Sums.{sum_by-cons}
+use Rattle.std.specs.Prelude.{IsTrue, sum_by}
+use Rattle.ktm_base.specs.declared.id.Pid.{Pid}
+use Rattle.ktm_base.specs.declared.refusal.Refusal.TheVariants.{LogFull, MachineDown}
+use Rattle.ktm_base.specs.Disk.{DiskState}
+use Rattle.ktm_base.specs.Told.{Tells}
+use Rattle.ktm_event.proofs.LeastSizes.{event_size-least}
+use Rattle.ktm_event.specs.Kept.{EventsState, Holds}
+use Rattle.ktm_journal.specs.Image.{JournalState, JournalAt, LeavesGroupOrNot, log_area}
+use Rattle.ktm_log.specs.declared.area.Area.{Area}
+use Rattle.ktm_log.specs.declared.fault.AppendFault.{AppendFault}
+use Rattle.ktm_log.specs.declared.fault.AppendFault.TheVariants.{Down, Full}
+use Rattle.ktm_log.specs.Fault.{IfAppendDown}
+use Rattle.ktm_world.specs.declared.command.Command.{Command}
+use Rattle.ktm_world.specs.declared.event.Event.{Event}
+use Rattle.ktm_world.specs.declared.reply.Reply.{Reply}
+use Rattle.ktm_world.specs.declared.reply.Reply.TheVariants.{Refused}
+use Rattle.ktm_world.specs.Decide.{decide, with_room}
+use Rattle.ktm_world.specs.Logs.{Group, as_groups}
+use Rattle.ktm_world.specs.Outcome.{Outcome, apply, is_full, only_reply}
+use Rattle.ktm_world.specs.Present.{Present}
+use Rattle.ktm_world.specs.Sizes.{event_size, frame_size, log_size}
+use Rattle.ktm_built.specs.Standing.{IsBuiltNow}
+use Rattle.ktm_built.proofs.Forms.{forms_law}
+use Rattle.ktm_kernel.specs.declared.settlement.Settlement.{Settlement}
+use Rattle.ktm_kernel.specs.Decided.{Decides}
+use Rattle.ktm_kernel.specs.Done.{FewEvents, IsDone, IsCutOff, LeavesWithOr, TouchesNothing, fallen}
+use Rattle.ktm_kernel.specs.Memory.{Held, IsRoomy, MemoryState, appended, held, now_of, settled}
+
+-- ---- whether the log has room
+
+-- where it has, the outcome is as it is with room
+pub with_room_done : (x : Present) (process : Pid) (command : Command) → is_full x.machine.left (with_room x process command).events ≡ false → decide x process command ≡ with_room x process command
+with_room_done x process command room = ap (λ b. cond b (record (only_reply x (Refused LogFull)) { stops = true }) (with_room x process command)) room
+
+with_full_log : (x : Present) (process : Pid) (command : Command) → is_full x.machine.left (with_room x process command).events ≡ true → decide x process command ≡ record (only_reply x (Refused LogFull)) { stops = true }
+with_full_log x process command full = ap (λ b. cond b (record (only_reply x (Refused LogFull)) { stops = true }) (with_room x process command)) full
+
+-- each event has five bytes at least
+all_sized : (es : List Event) → 5 * length es ≤ sum_by event_size es
+all_sized [] = omega arith
+all_sized (e ∷ es) = omega (arith, sum_by-cons event_size e es, event_size-least e, all_sized es)
+
+-- the journal with a group more is as the machine keeps it
+pub kept : (j k : JournalState) (e f : EventsState) (group : Group) → k ≡ appended j group → IsRoomy j e → f.room ≡ e.room → j.log.area ≡ log_area j.units → 5 * j.events ≤ j.log.end
+    → IsRoomy k f × (k.log.area ≡ log_area k.units) × (5 * k.events ≤ k.log.end)
+kept j k e f group grown roomy room area counted = rw grown (record { most = roomy.most; room = omega (arith, roomy.room, room) }, area, more group)
+  where
+    more : (group : Group) → 5 * (j.events + length group) ≤ j.log.end + log_size (as_groups group)
+    more [] = omega (arith, counted)
+    more (x ∷ xs) = omega (arith, counted, all_sized (x ∷ xs))
+
+-- so there are numbers for the events that it has room for
+few : (j : JournalState) (es : List Event) → j.units ≤ 1024 → j.log.area ≡ log_area j.units → 5 * j.events ≤ j.log.end → is_full (j.log.area.len - j.log.end) es ≡ false
+    → es ≡ [] ⊎ (j.events + length es < 2 ^ 63)
+few j [] most area counted room = inl refl
+few j (e ∷ es) most area counted room =
+    inr (omega (arith, most, ap (λ (a : Area). a.len) area, counted, ltb-false (j.log.area.len - j.log.end) (frame_size (e ∷ es) + 1) room, all_sized (e ∷ es)))
+
+of_group : (events : EventsState) (j : JournalState) (log : List Group) (now : Option DiskState) → 1 ≤ events.count → (group : Group) → Holds events group
+    → Tells now (LeavesGroupOrNot j log group) → Tells now (LeavesWithOr j log (as_groups group))
+of_group events j log now some [] holds leaves = absurd (omega (arith, some, holds.counted))
+of_group events j log now some (e ∷ es) holds leaves = leaves
+
+-- what an append leaves that was cut off, of a list that is not empty
+pub cut_groups : {T : Type 0} (result : Result T AppendFault) (events : EventsState) (j : JournalState) (before now : Option DiskState) → 1 ≤ events.count
+    → IfAppendDown result ((log : List Group) (group : Group) → Holds events group → Tells before (JournalAt j log) → Tells now (LeavesGroupOrNot j log group))
+    → IfAppendDown result ((log : List Group) (group : Group) → Holds events group → Tells before (JournalAt j log) → Tells now (LeavesWithOr j log (as_groups group)))
+cut_groups (Ok value) events j before now some left = tt
+cut_groups (Err Down) events j before now some left = λ log group holds at. of_group events j log now some group holds (left log group holds at)
+cut_groups (Err Full) events j before now some left = tt
+
+-- a list that is not empty has one at least
+pub counted_from : (count : ℕ) (empty : Bool) → empty ≡ false → (count ≡ 0 → IsTrue empty) → 1 ≤ count
+counted_from count empty not_empty tells = elim (cases_eq count 0) [
+  | inl none ↦ absurd (both_ways empty not_empty (tells none))
+  | inr some ↦ omega (arith, some)
+]
+
+-- there are events, or none
+some_or_none : (es : List Event) → (es ≡ []) ⊎ (es ≢ [])
+some_or_none [] = inl refl
+some_or_none (e ∷ es) = inr (λ is. cc)
+
+-- a full log has some to record
+some_full : (left : ℕ) (es : List Event) → is_full left es ≡ true → es ≢ []
+some_full left [] full is = absurd (cc)
+some_full left (e ∷ es) full is = cc
+
+module _ (j : JournalState) (h : Held) (process : Pid) (command : Command) (reply : Reply) (then : Settlement) (events : EventsState) (n : MemoryState)
+    (decided : Decides j h (with_room (now_of j h) process command) reply then events n) where
+  abbrev pub x : Present
+  x = now_of j h
+
+  abbrev pub o : Outcome
+  o = with_room (now_of j h) process command
+
+  few_events : j.units ≤ 1024 → j.log.area ≡ log_area j.units → 5 * j.events ≤ j.log.end → is_full (j.log.area.len - j.log.end) o.events ≡ false → FewEvents x process command
+  few_events most area counted room =
+      subst (λ (d : Outcome). d.events ≡ [] ⊎ (x.recorded.events + length d.events < 2 ^ 63)) (sym (with_room_done x process command room)) (few j o.events most area counted room)
+
+  -- the group was recorded, where there is one, and memory has settled
+  pub done : (k : JournalState) (m : MemoryState) (before now : Option DiskState)
+      → j.units ≤ 1024 → j.log.area ≡ log_area j.units → 5 * j.events ≤ j.log.end
+      → ((group : Group) → Holds events group → k ≡ appended j group) → held m ≡ settled (held n) then
+      → ((group : Group) → Holds events group → is_full (j.log.area.len - j.log.end) group ≡ false)
+      → ((log : List Group) (group : Group) → Holds events group → Tells before (JournalAt j log) → Tells now (JournalAt k (log ++ as_groups group)))
+      → IsDone (record { now = x; journal = j }) process command reply (record { now = now_of k (held m); journal = k }) before now
+  done k m before now most area counted grows settles room log =
+      let same = with_room_done x process command (room o.events decided.records) in
+      let grown = grows o.events decided.records in
+      record {
+        says = decided.says ∙ ap (λ (d : Outcome). d.reply) (sym same);
+        state = ap (λ i. now_of i (held m)) grown ∙ ap (now_of (appended j o.events)) settles ∙ decided.comes_to ∙ ap (apply x) (sym same);
+        few = few_events most area counted (room o.events decided.records);
+        units = ap (λ (i : JournalState). i.units) grown;
+        image = ap (λ (i : JournalState). i.image) grown;
+        log = λ gs at. subst (λ (d : Outcome). Tells now (JournalAt k (gs ++ as_groups d.events))) (sym same) (log gs o.events decided.records at);
+      }
+
+  -- the log had no room for it
+  pub stopped : (k : JournalState) (m : MemoryState) (before now : Option DiskState) → IsBuiltNow x
+      → k ≡ j → held m ≡ record (held n) { is_up = false }
+      → ((group : Group) → Holds events group → is_full (j.log.area.len - j.log.end) group ≡ true) → now ≡ before
+      → IsDone (record { now = x; journal = j }) process command (Refused LogFull) (record { now = now_of k (held m); journal = k }) before now
+  stopped k m before now built same falls full told =
+      let stops = with_full_log x process command (full o.events decided.records) in
+      let was = decided.waits (some_full (j.log.area.len - j.log.end) o.events (full o.events decided.records)) in
+      record {
+        says = ap (λ (d : Outcome). d.reply) (sym stops);
+        state = ap (λ i. now_of i (held m)) same ∙ ap (now_of j) (falls ∙ ap (λ (g : Held). record g { is_up = false }) was) ∙ fallen_is built ∙ ap (apply x) (sym stops);
+        few = inl (ap (λ (d : Outcome). d.events) stops);
+        units = ap (λ (i : JournalState). i.units) same;
+        image = ap (λ (i : JournalState). i.image) same;
+        log = λ gs at. subst (λ (es : List Event). Tells now (JournalAt k (gs ++ as_groups es))) (ap (λ (d : Outcome). d.events) (sym stops))
+            (subst (λ (l : List Group). Tells now (JournalAt k l)) (sym (append-nil gs)) (subst (λ i. Tells now (JournalAt i gs)) (sym same) (subst (λ d. Tells d (JournalAt j gs)) (sym told) at)));
+      }
+    where
+      fallen_is : IsBuiltNow x → fallen x ≡ apply x (record (only_reply x (Refused LogFull)) { stops = true })
+      fallen_is built =
+          sym (ap (λ b. record x { machine = record x.machine { is_up = b } }) (and-false x.machine.is_up))
+          ∙ sym (ap (λ (y : Present). record y { machine = record y.machine { is_up = x.machine.is_up && false } }) (forms_law.0 x (Refused LogFull) built))
+
+  -- the power went
+  pub cut : (k : JournalState) (m : MemoryState) (before now : Option DiskState)
+      → j.units ≤ 1024 → j.log.area ≡ log_area j.units → 5 * j.events ≤ j.log.end
+      → k ≡ j → held m ≡ record (held n) { is_up = false } → (Holds events [] → ⊥)
+      → ((group : Group) → Holds events group → is_full (j.log.area.len - j.log.end) group ≡ false)
+      → ((log : List Group) (group : Group) → Holds events group → Tells before (JournalAt j log) → Tells now (LeavesWithOr j log (as_groups group)))
+      → IsCutOff (record { now = x; journal = j }) process command (Refused MachineDown) (record { now = now_of k (held m); journal = k }) before now
+  cut k m before now most area counted same falls some room left =
+      let is = with_room_done x process command (room o.events decided.records) in
+      let was = decided.waits (λ none. some (subst (Holds events) none decided.records)) in
+      record {
+        says = refl;
+        state = ap (λ i. now_of i (held m)) same ∙ ap (now_of j) (falls ∙ ap (λ (g : Held). record g { is_up = false }) was);
+        few = few_events most area counted (room o.events decided.records);
+        journal = same;
+        log = λ gs at. subst (λ (d : Outcome). Tells now (LeavesWithOr j gs (as_groups d.events))) (sym is) (left gs o.events decided.records at);
+      }
+
+  -- what was recorded was not refused, and its command records something
+  pub done_touches : ((group : Group) → Holds events group → is_full (j.log.area.len - j.log.end) group ≡ false) → (P : Type 0) → (Holds events [] → P) → TouchesNothing x process command reply → P
+  done_touches room P none touches = elim (some_or_none o.events) [
+    | inl is ↦ none (subst (Holds events) is decided.records)
+    | inr some ↦ (elim touches [
+      | inl (refusal, is, other) ↦ absurd (decided.answers some refusal is)
+      | inr nothing ↦ absurd (some (ap (λ (d : Outcome). d.events) (sym (with_room_done x process command (room o.events decided.records))) ∙ nothing))
+    ])
+  ]
+
+  pub cut_touches : ((group : Group) → Holds events group → is_full (j.log.area.len - j.log.end) group ≡ false) → (Holds events [] → ⊥) → TouchesNothing x process command (Refused MachineDown) → ⊥
+  cut_touches room some touches = elim touches [
+    | inl (refusal, is, other) ↦ (let same : refusal ≡ MachineDown = cc in other same)
+    | inr nothing ↦ some (subst (Holds events) (ap (λ (d : Outcome). d.events) (sym (with_room_done x process command (room o.events decided.records))) ∙ nothing) decided.records)
+  ]
