@@ -1,20 +1,12 @@
 -- Facts on answers and on what is told, carried over implications.
-use Rattle.std.proofs.Common.{ℕ, Option, None, Some, Result, Ok, Err, OnOk}
-use Rattle.ktm_base.specs.Told.{IfTold, Goes}
+use Rattle.std.proofs.Common.{ℕ, Option, None, Some, Result, Ok, Err}
+use Rattle.ktm_base.specs.Told.{Goes}
 use Rattle.ktm_log.specs.declared.fault.AppendFault.{AppendFault}
 use Rattle.ktm_log.specs.declared.fault.AppendFault.TheVariants.{Down, Full}
 use Rattle.ktm_log.specs.Fault.{IfAppendDown}
 use Rattle.ktm_journal.specs.declared.fault.LoadFault.{LoadFault}
 use Rattle.ktm_journal.specs.declared.fault.LoadFault.TheVariants.{Down as LoadDown, Bad, NoMemory}
 use Rattle.ktm_journal.specs.Bad.{IfBad}
-
-pub OnOk-map : {T E : Type 0} {P Q : Type 0} (r : Result T E) → OnOk r P → (P → Q) → OnOk r Q
-OnOk-map (Ok value) p f = f p
-OnOk-map (Err fault) p f = p
-
-pub OnOk-both : {T E : Type 0} {P Q R : Type 0} (r : Result T E) → OnOk r P → OnOk r Q → (P → Q → R) → OnOk r R
-OnOk-both (Ok value) p q f = f p q
-OnOk-both (Err fault) p q f = p
 
 pub IfAppendDown-map : {T : Type 0} {P Q : Type 0} (r : Result T AppendFault) → IfAppendDown r P → (P → Q) → IfAppendDown r Q
 IfAppendDown-map (Ok value) p f = p
@@ -33,9 +25,3 @@ Goes-then None (Some b) new r t f = absurd r
 Goes-then (Some a) None new r t f = absurd r
 Goes-then (Some a) (Some b) None r t f = t
 Goes-then (Some a) (Some b) (Some c) r t f = f a b c r t
-
-pub IfTold-from_goes : {S : Type 0} {R : S → S → Type 0} (P : S → Type 0) (old new : Option S) → Goes R old new → ((a b : S) → R a b → P b) → IfTold new P
-IfTold-from_goes P None None r f = tt
-IfTold-from_goes P None (Some b) r f = absurd r
-IfTold-from_goes P (Some a) None r f = absurd r
-IfTold-from_goes P (Some a) (Some b) r f = f a b r

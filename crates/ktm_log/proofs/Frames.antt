@@ -1,25 +1,17 @@
 -- Frames in bytes: how a list of them grows, and what it depends on.
-use Rattle.std.proofs.Common.{◌≡◌, ◌≢◌, ◌⊎◌, inl, inr, ℕ, ◌+◌, ◌<◌, ◌≤◌, ◌^◌, Option, List, [], ◌∷◌, ◌++◌, length, get_or, take, drop, refl, sym, ◌∙◌, ap, subst, arith, length-drop}
+use Rattle.std.proofs.Common.{◌≡◌, ◌≢◌, ◌⊎◌, inl, inr, ℕ, ◌+◌, ◌<◌, ◌≤◌, ◌^◌, List, [], ◌∷◌, ◌++◌, length, get_or, take, drop, refl, sym, ◌∙◌, ap, subst, arith, length-drop}
 use Rattle.std.proofs.lemmas.List.{take_at, drop_at, drop-drop, take-take, drop-take, get_or-take, get_or-drop, get_or_at}
 use Rattle.std.proofs.lemmas.Nat.{from_le_bytes-to_le_bytes_4}
 use Rattle.std.proofs.lemmas.Bool.{cases_eq}
 use Rattle.std.specs.Int.{from_le_bytes, to_le_bytes, w32}
 use Rattle.ktm_base.specs.Bytes.{SameOutside}
-use Rattle.ktm_base.specs.Disk.{DiskState}
-use Rattle.ktm_base.specs.Told.{IfTold}
-use Rattle.ktm_log.specs.declared.area.Area.{Area}
-use Rattle.ktm_log.specs.Log.{area_bytes, BeginsWith, IsFrame, IsClosed, IsLog, end_of}
+use Rattle.ktm_log.specs.Log.{BeginsWith, IsFrame, IsClosed, IsLog, end_of}
 use Rattle.ktm_log.specs.Settle.{behind_gate}
-use Rattle.ktm_log.proofs.Steps.{IfTold-both}
 use Rattle.ktm_log.proofs.Parts.{same_part, not_covered}
 
 pub end_of-push : (ps : List (List ℕ)) (p : List ℕ) → end_of (ps ++ p ∷ []) ≡ end_of ps + (length p + 5)
 end_of-push [] p = omega arith
 end_of-push (q ∷ ps) p = omega (arith, end_of-push ps p)
-
-pub end_of-append : (ps qs : List (List ℕ)) → end_of (ps ++ qs) ≡ end_of ps + end_of qs
-end_of-append [] qs = omega arith
-end_of-append (p ∷ ps) qs = omega (arith, end_of-append ps qs)
 
 pub first_at : (b : List ℕ) (at : ℕ) → get_or (drop at b) 0 0 ≡ get_or b at 0
 first_at b at = get_or-drop at b 0 0 ∙ ap (λ n. get_or b n 0) (omega arith)
@@ -35,13 +27,6 @@ begins-split [] rest p b begins = (tt, begins.0)
 begins-split (q ∷ ps) rest p b begins =
     let (front, frame) = begins-split ps rest p (drop (length q + 5) b) begins.1 in
     ((begins.0, front), subst (λ (l : List ℕ). IsFrame p l) (drop-drop (end_of ps) (length q + 5) b) frame)
-
--- where the contents are told
-pub frames_more : (area : Area) (ps qs : List (List ℕ)) (p : List ℕ) (at : ℕ) (o n : Option DiskState) → n ≡ o → qs ≡ ps ++ p ∷ [] → at ≡ end_of ps → IfTold o (λ s. BeginsWith ps (area_bytes area s.seen)) → IfTold n (λ s. IsFrame p (drop at (area_bytes area s.seen))) → IfTold n (λ s. BeginsWith qs (area_bytes area s.seen))
-frames_more area ps qs p at o n same is end begins frame =
-    IfTold-both (λ (s : DiskState). BeginsWith ps (area_bytes area s.seen)) (λ (s : DiskState). IsFrame p (drop at (area_bytes area s.seen))) (λ (s : DiskState). BeginsWith qs (area_bytes area s.seen)) n
-    (subst (λ t. IfTold t (λ (s : DiskState). BeginsWith ps (area_bytes area s.seen))) (sym same) begins) frame
-    (λ s b f. subst (λ (l : List (List ℕ)). BeginsWith l (area_bytes area s.seen)) (sym is) (begins-push ps p (area_bytes area s.seen) b (subst (λ k. IsFrame p (drop k (area_bytes area s.seen))) end f)))
 
 -- a frame depends on its own bytes and on the length
 frame_same : (p b c : List ℕ) → IsFrame p b → length c ≡ length b → ((place : ℕ) → place < length p + 5 → get_or c place 0 ≡ get_or b place 0) → IsFrame p c
