@@ -14,7 +14,8 @@ pub use rm::KvRm;
 mod tests {
     use super::*;
     use ktm_base::{Bytes, Id, Refusal, Text};
-    use ktm_world::{Entry, Reply};
+    use ktm_world::Reply;
+    use ktm_world::keyed::KeyedList;
     use std::alloc::Global;
     use std::process::Abort;
     use std::test::Fail;
@@ -110,11 +111,8 @@ mod tests {
     #[test]
     fn steps_are_answered(rt: HostRuntime) -> Result<(), Fail> {
         let alloc = rt.alloc();
-        let mut store = Vec::new(alloc);
-        store.push(Entry {
-            key: Text::new(b"b".to_vec(alloc)?),
-            value: Bytes::new(b"two".to_vec(alloc)?),
-        })?;
+        let mut store = KeyedList::new(alloc);
+        store.put(text(alloc, b"b")?, Bytes::new(b"two".to_vec(alloc)?))?;
         let mut keys = KvRm::with_store(alloc, store);
         let steps: [(Option<Id>, Ask, &[u8]); 24] = [
             (None, Get(b"b"), b"two"),
