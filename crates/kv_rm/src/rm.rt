@@ -5,6 +5,7 @@ ghost use Rattle.ktm_base.specs.declared.id.Id.{Id};
 ghost use Rattle.ktm_world.specs.declared.reply.Reply.TheVariants.{Done};
 ghost use Rattle.ktm_world.specs.KeyCalls.{KeyRoom, is_key_held, keys_with, with_setting};
 ghost use Rattle.ktm_world.specs.Keys.{Own, own_settings, without_own, value_seen, stored_all, store_seen, keys_of};
+ghost use Rattle.ktm_world.specs.Phases.{has_settings};
 ghost use Rattle.kv_rm.specs.Calls.{key_outcome};
 ghost use Rattle.kv_rm.specs.Count.{kind_of, AreCounts, AreFew};
 ghost use Rattle.kv_rm.specs.Place.{IsSeatOf};
@@ -256,6 +257,13 @@ impl KvRm {
         settings_of(&self.own, transaction)
     }
 
+    /// Has the transaction set or unset a key.
+    pub fn has_settings(&self, transaction: Id) -> bool
+        ensures { result ≡ has_settings (own_settings self.now.keys.own transaction) }
+    {
+        !settings_of(&self.own, transaction).is_empty()
+    }
+
     /// Takes the memory that a commit of this transaction needs.
     pub fn reserve(&mut self, transaction: Id) -> Result<(), NoMemory>
         ensures keys { self.new.keys ≡ self.old.keys }
@@ -268,14 +276,32 @@ impl KvRm {
         self.store.reserve(count)
     }
 
+    // Takes out what a transaction has set.
+    fn take(&mut self, transaction: Id) -> Vec<Setting>
+        ensures settings { result.items ≡ own_settings self.old.keys.own transaction }
+        ensures keys { self.new.keys ≡ record self.old.keys { own = without_own self.old.keys.own transaction } }
+        ensures room { self.new.room ≡ self.old.room }
+    {
+        let settings = take_own(self.alloc, &mut self.own, transaction);
+        self.counts = self.counts.less(&settings);
+        settings
+    }
+
     /// Makes the transaction's settings in the store, in order. It takes no memory.
     pub fn commit(&mut self, transaction: Id)
         requires { length (own_settings self.old.keys.own transaction) ≤ self.old.room }
         ensures keys { self.new.keys ≡ record { store = stored_all self.old.keys.store (own_settings self.old.keys.own transaction); own = without_own self.old.keys.own transaction } }
         ensures room { self.new.room + length self.new.keys.store ≡ self.old.room + length self.old.keys.store }
     {
-        let settings = take_own(self.alloc, &mut self.own, transaction);
-        self.counts = self.counts.less(&settings);
+        let settings = self.take(transaction);
         make_all(&mut self.store, settings);
+    }
+
+    /// Forgets what the transaction has set, as it rolls back.
+    pub fn forget(&mut self, transaction: Id)
+        ensures keys { self.new.keys ≡ record self.old.keys { own = without_own self.old.keys.own transaction } }
+        ensures room { self.new.room ≡ self.old.room }
+    {
+        let _ = self.take(transaction);
     }
 }

@@ -1,7 +1,7 @@
 use Rattle.std.proofs.Common.{arith}
 use Rattle.kv_rm.specs.declared.count.Kind.TheVariants.{Value, Unset}
 use Rattle.kv_rm.proofs.Counts.{own_count-without, are_counts-without}
-use Rattle.kv_rm.proofs.rm.KvRm.commit.Goals as goal
+use Rattle.kv_rm.proofs.rm.KvRm.take.Goals as goal
 
 pub less-self-inside-requires-clause-values : goal.less-self-inside-requires-clause-values
 less-self-inside-requires-clause-values c =
