@@ -1,5 +1,5 @@
 //! Lists of values under keys, by rising key.
-ghost use Rattle.std.specs.Prelude.{◌≡◌, ◌+◌, ◌<◌, ◌≤◌, [], true, IfOk, OnOk, OnErr, IsOk, ℕ, List, length};
+ghost use Rattle.std.specs.Prelude.{◌≡◌, ◌+◌, ◌<◌, ◌≤◌, [], true, OnOk, OnErr, IsOk, ℕ, List, length};
 ghost use Rattle.std.specs.List.Sorted.{IsBinarySearchResult, IsSearchInRange};
 ghost use Rattle.std.specs.Option.{option_copied};
 ghost use Rattle.ktm_world.specs.Keyed.{comes_before, comes_first, is_rising, key_order, value_at, put, without};

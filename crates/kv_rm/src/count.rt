@@ -1,5 +1,5 @@
 // How many settings of each kind the transactions have.
-ghost use Rattle.std.specs.Prelude.{◌≡◌, ◌+◌, ◌<◌, ◌≤◌, ◌^◌, count_by, Option, Some};
+ghost use Rattle.std.specs.Prelude.{◌≡◌, ◌+◌, ◌<◌, ◌≤◌, ◌^◌, count_by, Some};
 ghost use Rattle.kv_rm.specs.Count.{kind_of, is_of_kind, one_of};
 ghost use Rattle.kv_rm.specs.declared.count.Kind.TheVariants.{Value, Unset};
 
