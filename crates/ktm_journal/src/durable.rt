@@ -5,8 +5,9 @@ ghost use Rattle.ktm_world.specs.Built.{is_built_event};
 ghost use Rattle.ktm_world.specs.Durable.{Durable, empty_state, fact_of, fact_applies, is_within_limits, after_event, event_applies, after_events, events_apply};
 ghost use Rattle.ktm_world.specs.Keys.{are_good_settings, stored_all};
 
-use ktm_base::{Id, NoMemory};
-use ktm_world::{Entry, Event, Part, Setting, are_good_settings, make_all};
+use ktm_base::{Bytes, Id, NoMemory};
+use ktm_world::keyed::KeyedList;
+use ktm_world::{Event, Part, Setting, are_good_settings, make_all};
 use std::alloc::Global;
 use std::marker::Model;
 
@@ -20,7 +21,7 @@ pub struct Durable {
     image: u16,
     events: u64,
     boots: u32,
-    keys: Vec<Entry>,
+    keys: KeyedList<Bytes>,
 }
 
 impl Model for Durable {
@@ -42,7 +43,7 @@ impl Durable {
             image,
             events: 0,
             boots: 0,
-            keys: Vec::new(alloc),
+            keys: KeyedList::new(alloc),
         }
     }
 
@@ -75,7 +76,7 @@ impl Durable {
     }
 
     /// The committed keys, by rising key.
-    pub fn into_keys(self) -> Vec<Entry>
+    pub fn into_keys(self) -> KeyedList<Bytes>
         ensures { result.items ≡ self.keys }
     {
         let Durable { keys, .. } = self;

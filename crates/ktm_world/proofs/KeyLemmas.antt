@@ -28,7 +28,7 @@ length-stored_all-le store (s ∷ ss) =
     omega arith
 
 -- a setting sets its key or unsets it
-length-counts : (settings : OwnSettings) → length settings ≡ count_by (λ s. is_some s.value) settings + count_by (λ s. is_none s.value) settings
+pub length-counts : (settings : OwnSettings) → length settings ≡ count_by (λ s. is_some s.value) settings + count_by (λ s. is_none s.value) settings
 length-counts [] = omega arith
 length-counts (s ∷ ss) =
     let rest = length-counts ss in

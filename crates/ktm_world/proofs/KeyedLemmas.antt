@@ -1,5 +1,5 @@
 -- Keys are in a total order, and a list under keys keeps rising where a value is put into it.
-use Rattle.std.proofs.Common.{◌≡◌, ℕ, ◌+◌, ◌≤◌, ◌&&◌, Bool, true, false, cond, List, [], ◌∷◌, length, count_by, bytes_eq, refl, sym, ◌∙◌, ap, arith, inl, inr, is_eq, is_lt, nat_cmp, Ordering, Less, Equal, Greater}
+use Rattle.std.proofs.Common.{◌≡◌, ℕ, zero, suc, ◌+◌, ◌<◌, ◌≤◌, ◌&&◌, Bool, true, false, cond, List, [], ◌∷◌, length, get_or, count_by, bytes_eq, refl, sym, ◌∙◌, ap, arith, inl, inr, is_eq, is_lt, nat_cmp, Ordering, Less, Equal, Greater}
 use Rattle.std.proofs.lemmas.Bool.{cases_Bool, and_parts, and_from}
 use Rattle.std.proofs.lemmas.Cmp.{nat_list_cmp_total, nat_list_eq_equiv}
 use Rattle.std.proofs.lemmas.List.Sums.{sum_by-cons}
@@ -20,6 +20,55 @@ after_by Greater s turned other behind = ap is_lt turned
 pub comes_before-total : (a b : List ℕ) → bytes_eq a b ≡ false → comes_before b a ≡ false → comes_before a b ≡ true
 comes_before-total a b other behind =
     after_by (slice_cmp nat_cmp b a) (slice_cmp nat_cmp a b) (nat_list_cmp_total.antisymm a b) (is_eq-slice_cmp b a ∙ nat_list_eq_equiv.symm b a ∙ other) behind
+
+comes_before-less : (a b : List ℕ) → comes_before a b ≡ true → slice_cmp nat_cmp a b ≡ Less
+comes_before-less a b before = by_order (slice_cmp nat_cmp a b) before
+  where
+    by_order : (o : Ordering) → is_lt o ≡ true → o ≡ Less
+    by_order Less is = refl
+    by_order Equal is = absurd (cc)
+    by_order Greater is = absurd (cc)
+
+pub comes_before-differs : (a b : List ℕ) → comes_before a b ≡ true → bytes_eq a b ≡ false
+comes_before-differs a b before = sym (is_eq-slice_cmp a b) ∙ ap is_eq (comes_before-less a b before)
+
+pub comes_before-after : (a b : List ℕ) → comes_before a b ≡ true → comes_before b a ≡ false
+comes_before-after a b before = ap is_lt (nat_list_cmp_total.antisymm b a ∙ ap ordering_reverse (comes_before-less a b before))
+
+pub comes_before-trans : (a b c : List ℕ) → comes_before a b ≡ true → comes_before b c ≡ true → comes_before a c ≡ true
+comes_before-trans a b c first second = ap is_lt (nat_list_cmp_total.trans a b c (comes_before-less a b first) (comes_before-less b c second))
+
+-- ---- a key that comes before the first one comes before all
+
+pub comes_first-trans : {V : Type 0} (a b : List ℕ) (xs : List (Keyed V)) → comes_before a b ≡ true → comes_first b xs ≡ true → comes_first a xs ≡ true
+comes_first-trans a b [] before first = refl
+comes_first-trans a b (x ∷ xs) before first = comes_before-trans a b x.key before first
+
+pub comes_first-at : {V : Type 0} (a : List ℕ) (xs : List (Keyed V)) (i : ℕ) (d : Keyed V) → comes_first a xs ≡ true → is_rising xs ≡ true → i < length xs
+    → comes_before a (get_or xs i d).key ≡ true
+comes_first-at a [] i d first rises within = absurd (omega arith)
+comes_first-at a (x ∷ xs) zero d first rises within = first
+comes_first-at a (x ∷ xs) (suc i) d first rises within =
+    let parts = and_parts (comes_first x.key xs) (is_rising xs) rises in
+    comes_first-at a xs i d (comes_first-trans a x.key xs first parts.0) parts.1 (omega arith)
+
+-- ---- what is under a key is taken away
+
+comes_first-without : {V : Type 0} (a : List ℕ) (xs : List (Keyed V)) (key : List ℕ) → comes_first a xs ≡ true → is_rising xs ≡ true → comes_first a (without xs key) ≡ true
+comes_first-without a [] key first rises = refl
+comes_first-without a (x ∷ xs) key first rises = elim (cases_Bool (bytes_eq x.key key)) [
+  | inl same ↦ rw same (comes_first-trans a x.key xs first (and_parts (comes_first x.key xs) (is_rising xs) rises).0)
+  | inr other ↦ rw other first
+]
+
+pub is_rising-without : {V : Type 0} (xs : List (Keyed V)) (key : List ℕ) → is_rising xs ≡ true → is_rising (without xs key) ≡ true
+is_rising-without [] key rises = refl
+is_rising-without (x ∷ xs) key rises =
+    let parts = and_parts (comes_first x.key xs) (is_rising xs) rises in
+    elim (cases_Bool (bytes_eq x.key key)) [
+      | inl same ↦ rw same parts.1
+      | inr other ↦ rw other (and_from _ _ (comes_first-without x.key xs key parts.0 parts.1) (is_rising-without xs key parts.1))
+    ]
 
 -- ---- what holds of a list with a value put into it: the value took the place of one, or came before one or at the end
 

@@ -1,60 +1,111 @@
--- Where a key stands, when the search has come to its place.
-use Rattle.std.proofs.Common.{◌≡◌, ℕ, ◌<◌, true, false, List, ◌∷◌, ◌++◌, length, suc, get_or, take, drop, refl, sym, ◌∙◌, ap, arith, drop-cons}
-use Rattle.std.proofs.lemmas.List.{set_split}
+-- What a search by halves finds in a list whose keys rise.
+use Rattle.std.proofs.Common.{◌≡◌, ℕ, zero, suc, ◌<◌, ◌≤◌, true, false, List, [], ◌∷◌, length, get_or, drop, refl, sym, ◌∙◌, ap, arith, add-one, drop-cons, is_lt, nat_cmp, Less, Equal, Greater}
+use Rattle.std.specs.Prelude.{Ok, Err}
+use Rattle.std.proofs.lemmas.Bool.{and_parts}
+use Rattle.std.proofs.lemmas.Cmp.{nat_list_cmp_total, nat_list_eq_equiv}
+use Rattle.std.proofs.lemmas.List.Sorted.{searchable_from_sorted}
+use Rattle.std.proofs.lemmas.Map.Lookups.{exact_bytes}
+use Rattle.std.proofs.lemmas.Map.Text.{is_eq-slice_cmp}
+use Rattle.std.specs.Cmp.Lexicographic.{slice_cmp}
+use Rattle.std.specs.List.Sorted.{IsBinarySearchResult, IsNonDecreasingBy, IsSortedBy}
+use Rattle.std.specs.Ordering.{is_eq, ordering_index, ordering_reverse}
 use Rattle.std.specs.Str.{bytes_eq}
 use Rattle.ktm_world.specs.declared.event.Keyed.{Keyed}
-use Rattle.ktm_world.specs.Keyed.{comes_before, put, without}
-use Rattle.ktm_world.specs.Slot.{IsHere, IsFree, IsFound}
+use Rattle.ktm_world.specs.Keyed.{comes_before, comes_first, is_rising, key_order}
+use Rattle.ktm_world.specs.Slot.{IsHere, IsFree}
+use Rattle.ktm_world.proofs.KeyedLemmas.{comes_before-differs, comes_before-after, comes_first-trans, comes_first-at}
 
 -- the rest begins with what is at the index
 pub rest_is : {X : Type 0} (xs : List X) (i : ℕ) (x : X) → i < length xs → x ≡ get_or xs i x → drop i xs ≡ x ∷ drop (suc i) xs
 rest_is xs i x within is = drop-cons xs i x within ∙ ap (λ y. y ∷ drop (suc i) xs) (sym is)
 
-put_same : {V : Type 0} (x : Keyed V) (xs : List (Keyed V)) (key : List ℕ) (value : V) → bytes_eq x.key key ≡ true
-    → put (x ∷ xs) key value ≡ record { key = key; value = value } ∷ xs
-put_same x xs key value same = rw same refl
+module _ {V : Type 0} where
+  -- ---- at the head of the list, or behind it
 
-put_before : {V : Type 0} (x : Keyed V) (xs : List (Keyed V)) (key : List ℕ) (value : V) → bytes_eq x.key key ≡ false → comes_before key x.key ≡ true
-    → put (x ∷ xs) key value ≡ record { key = key; value = value } ∷ x ∷ xs
-put_before x xs key value other before = rw (other, before) refl
+  here_first : (x : Keyed V) (xs : List (Keyed V)) (key : List ℕ) → bytes_eq x.key key ≡ true → IsHere (x ∷ xs) key 0
+  here_first x xs key same = record {
+    within = omega arith;
+    value = λ d. rw same refl;
+    replaces = λ value. rw same refl;
+    removes = rw same refl;
+  }
 
-without_same : {V : Type 0} (x : Keyed V) (xs : List (Keyed V)) (key : List ℕ) → bytes_eq x.key key ≡ true → without (x ∷ xs) key ≡ xs
-without_same x xs key same = rw same refl
+  here_later : (x : Keyed V) (xs : List (Keyed V)) (key : List ℕ) (i : ℕ) → comes_before x.key key ≡ true → IsHere xs key i → IsHere (x ∷ xs) key (suc i)
+  here_later x xs key i before here =
+      let other = comes_before-differs x.key key before in
+      let behind = comes_before-after x.key key before in
+      record {
+        within = let within = here.within in omega arith;
+        value = λ d. rw other (here.value d);
+        replaces = λ value. rw (other, behind) (ap (λ l. x ∷ l) (here.replaces value));
+        removes = rw other (ap (λ l. x ∷ l) here.removes);
+      }
 
-pub is_here : {V : Type 0} (items : List (Keyed V)) (key : List ℕ) (i : ℕ) (x : Keyed V) → i < length items → x ≡ get_or items i x
-    → bytes_eq x.key key ≡ true
-    → ((value : V) → take i items ++ put (drop i items) key value ≡ put items key value)
-    → IsHere items key i
-is_here items key i x within is same rest = record {
-  within = within;
-  replaces = λ value.
-      sym (rest value)
-      ∙ ap (λ l. take i items ++ put l key value) (rest_is items i x within is)
-      ∙ ap (λ l. take i items ++ l) (put_same x (drop (suc i) items) key value same)
-      ∙ sym (set_split items i (record { key = key; value = value }) within);
-}
+  free_later : (x : Keyed V) (xs : List (Keyed V)) (key : List ℕ) (i : ℕ) → comes_before x.key key ≡ true → IsFree xs key i → IsFree (x ∷ xs) key (suc i)
+  free_later x xs key i before free =
+      let other = comes_before-differs x.key key before in
+      let behind = comes_before-after x.key key before in
+      record {
+        within = let within = free.within in omega arith;
+        value = rw other free.value;
+        adds = λ value. rw (other, behind) (ap (λ l. x ∷ l) (free.adds value));
+        stays = rw other (ap (λ l. x ∷ l) free.stays);
+      }
 
-pub is_free : {V : Type 0} (items : List (Keyed V)) (key : List ℕ) (i : ℕ) (x : Keyed V) → i < length items → x ≡ get_or items i x
-    → bytes_eq x.key key ≡ false → comes_before key x.key ≡ true
-    → ((value : V) → take i items ++ put (drop i items) key value ≡ put items key value)
-    → IsFree items key i
-is_free items key i x within is other before rest = record {
-  within = omega arith;
-  adds = λ value.
-      sym (rest value)
-      ∙ ap (λ l. take i items ++ put l key value) (rest_is items i x within is)
-      ∙ ap (λ l. take i items ++ l) (put_before x (drop (suc i) items) key value other before)
-      ∙ ap (λ l. take i items ++ record { key = key; value = value } ∷ l) (sym (rest_is items i x within is));
-}
+  -- a key that comes before all others has its place at the head
+  pub free_first : (xs : List (Keyed V)) (key : List ℕ) → is_rising xs ≡ true → comes_first key xs ≡ true → IsFree xs key 0
+  free_first [] key rises first = record { within = omega arith; value = refl; adds = λ value. refl; stays = refl }
+  free_first (x ∷ xs) key rises first =
+      let parts = and_parts (comes_first x.key xs) (is_rising xs) rises in
+      let rest = free_first xs key parts.1 (comes_first-trans key x.key xs first parts.0) in
+      let other : bytes_eq x.key key ≡ false = nat_list_eq_equiv.symm x.key key ∙ comes_before-differs key x.key first in
+      record {
+        within = omega arith;
+        value = rw other rest.value;
+        adds = λ value. rw (other, first) refl;
+        stays = rw other (ap (λ l. x ∷ l) rest.stays);
+      }
 
-pub is_found : {V : Type 0} (items : List (Keyed V)) (key : List ℕ) (i : ℕ) (x : Keyed V) → i < length items → x ≡ get_or items i x
-    → bytes_eq x.key key ≡ true
-    → take i items ++ without (drop i items) key ≡ without items key
-    → IsFound items key i
-is_found items key i x within is same rest = record {
-  within = within;
-  removes =
-      sym rest
-      ∙ ap (λ l. take i items ++ without l key) (rest_is items i x within is)
-      ∙ ap (λ l. take i items ++ l) (without_same x (drop (suc i) items) key same);
-}
+  -- ---- what the search asks, and what it answers
+
+  next_after : (xs : List (Keyed V)) → is_rising xs ≡ true → (k : ℕ) (d : Keyed V) → suc k < length xs → comes_before (get_or xs (suc k) d).key (get_or xs k d).key ≡ false
+  next_after [] rises k d within = absurd (omega arith)
+  next_after (x ∷ []) rises k d within = absurd (omega arith)
+  next_after (x ∷ y ∷ xs) rises zero d within = comes_before-after x.key y.key (and_parts (comes_before x.key y.key) (is_rising (y ∷ xs)) rises).0
+  next_after (x ∷ y ∷ xs) rises (suc k) d within = next_after (y ∷ xs) (and_parts (comes_before x.key y.key) (is_rising (y ∷ xs)) rises).1 k d (omega arith)
+
+  sorted : (xs : List (Keyed V)) → is_rising xs ≡ true → IsSortedBy (λ a b. is_lt (slice_cmp nat_cmp a.key b.key)) xs
+  sorted xs rises k d low within = rw (add-one k) (next_after xs rises k d (omega arith))
+
+  searchable : (xs : List (Keyed V)) (key : List ℕ) → is_rising xs ≡ true → IsNonDecreasingBy (λ x. ordering_index (key_order key x)) xs
+  searchable xs key rises = searchable_from_sorted nat_list_cmp_total (λ x. x.key) xs key (sorted xs rises)
+
+  here_at : (xs : List (Keyed V)) (key : List ℕ) (i : ℕ) → is_rising xs ≡ true → i < length xs → ((d : Keyed V) → key_order key (get_or xs i d) ≡ Equal) → IsHere xs key i
+  here_at [] key i rises within equal = absurd (omega arith)
+  here_at (x ∷ xs) key zero rises within equal = here_first x xs key (sym (is_eq-slice_cmp x.key key) ∙ ap is_eq (equal x))
+  here_at (x ∷ xs) key (suc i) rises within equal =
+      let parts = and_parts (comes_first x.key xs) (is_rising xs) rises in
+      let before = comes_first-at x.key xs i x parts.0 parts.1 (omega arith) in
+      let is : (get_or xs i x).key ≡ key = exact_bytes _ _ (equal x) in
+      here_later x xs key i (ap (comes_before x.key) (sym is) ∙ before) (here_at xs key i parts.1 (omega arith) equal)
+
+  pub found : (xs : List (Keyed V)) (key : List ℕ) (i : ℕ) → is_rising xs ≡ true → i < length xs → IsBinarySearchResult (key_order key) xs (Ok i) → IsHere xs key i
+  found xs key i rises within result = here_at xs key i rises within result
+
+  free_at : (xs : List (Keyed V)) (key : List ℕ) (i : ℕ) → is_rising xs ≡ true → i ≤ length xs
+      → ((k : ℕ) (d : Keyed V) → k < i → key_order key (get_or xs k d) ≡ Less)
+      → ((k : ℕ) (d : Keyed V) → i ≤ k → k < length xs → key_order key (get_or xs k d) ≡ Greater)
+      → IsFree xs key i
+  free_at [] key zero rises within less more = free_first [] key rises refl
+  free_at [] key (suc i) rises within less more = absurd (omega arith)
+  free_at (x ∷ xs) key zero rises within less more =
+      free_first (x ∷ xs) key rises (ap is_lt (nat_list_cmp_total.antisymm key x.key ∙ ap ordering_reverse (more 0 x (omega arith) (omega arith))))
+  free_at (x ∷ xs) key (suc i) rises within less more =
+      let parts = and_parts (comes_first x.key xs) (is_rising xs) rises in
+      free_later x xs key i (ap is_lt (less 0 x (omega arith)))
+      (free_at xs key i parts.1 (omega arith) (λ k d below. less (suc k) d (omega arith)) (λ k d above inside. more (suc k) d (omega arith) (omega arith)))
+
+  pub absent : (xs : List (Keyed V)) (key : List ℕ) (i : ℕ) → is_rising xs ≡ true → i ≤ length xs → IsBinarySearchResult (key_order key) xs (Err i) → IsFree xs key i
+  absent xs key i rises within result =
+      let point = result (searchable xs key rises) in
+      free_at xs key i rises within (λ k d below. point.0 k d (omega arith) below) point.1

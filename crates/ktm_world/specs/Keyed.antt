@@ -1,9 +1,14 @@
 -- Lists of values under keys, by rising key. Keys are compared byte by byte.
 use Rattle.std.specs.Prelude.{ℕ, Bool, true, ◌&&◌, List, [], ◌∷◌, Option, Some, None, if◌then◌else◌}
+use Rattle.std.specs.declared.cmp.Ordering.{Ordering}
 use Rattle.std.specs.Ordering.{is_lt, nat_cmp}
 use Rattle.std.specs.Cmp.Lexicographic.{slice_cmp}
 use Rattle.std.specs.Str.{bytes_eq}
 use Rattle.ktm_world.specs.declared.event.Keyed.{Keyed}
+
+-- how the key of an item stands to this one
+abbrev pub key_order : {V : Type 0} → List ℕ → Keyed V → Ordering
+key_order key x = slice_cmp nat_cmp x.key key
 
 -- does the first key come before the second
 abbrev pub comes_before : List ℕ → List ℕ → Bool
@@ -35,3 +40,8 @@ comes_first key (x ∷ xs) = comes_before key x.key
 abbrev pub is_rising : {V : Type 0} → List (Keyed V) → Bool
 is_rising [] = true
 is_rising (x ∷ xs) = comes_first x.key xs && is_rising xs
+
+-- a list of values under keys, and how many more it takes with no memory
+pub record KeyedItems (V : Type 0) : Type 0 where
+  pub items : List (Keyed V)
+  pub spare : ℕ

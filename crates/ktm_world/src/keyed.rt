@@ -1,11 +1,14 @@
 //! Lists of values under keys, by rising key.
-ghost use Rattle.std.specs.Prelude.{◌≡◌, ◌-◌, ◌+◌, ◌<◌, ◌≤◌, MatchOption, OnOk, OnErr, IsOk, vec_len, vec_capacity};
+ghost use Rattle.std.specs.Prelude.{◌≡◌, ◌+◌, ◌<◌, ◌≤◌, [], true, OnOk, OnErr, IsOk, ℕ, List, length};
+ghost use Rattle.std.specs.List.Sorted.{IsBinarySearchResult, IsSearchInRange};
 ghost use Rattle.std.specs.Option.{option_copied};
-ghost use Rattle.ktm_world.specs.Keyed.{comes_before, comes_first, is_rising, value_at, put, without};
-ghost use Rattle.ktm_world.specs.Slot.{IsSlot, IsFound};
+ghost use Rattle.ktm_world.specs.Keyed.{comes_before, comes_first, is_rising, key_order, value_at, put, without};
+ghost use Rattle.ktm_world.specs.Slot.{IsSlot};
 
 use crate::Keyed;
 use ktm_base::{NoMemory, Text};
+use std::alloc::Global;
+use std::marker::Model;
 
 /// Where a key stands in a list.
 #[derive(Clone, Copy)]
@@ -14,6 +17,26 @@ pub enum Slot {
     Here(usize),
     /// The key is not there, and this is its place.
     Free(usize),
+}
+
+/// Values under keys, by rising key. A key is found by halves.
+#[derive(Drop)]
+pub struct KeyedList<V> {
+    items: Vec<Keyed<V>>,
+}
+
+impl<V> Model for KeyedList<V> {
+    ghost use Rattle.std.specs.Prelude.{◌≡◌, ◌-◌, true, vec_len, vec_capacity};
+    ghost use Rattle.ktm_world.specs.Keyed.{KeyedItems, is_rising};
+
+    ghost Value = { KeyedItems V };
+
+    ghost view = { λ l. record {
+      items = l.items.items;
+      spare = vec_capacity l.items - vec_len l.items;
+    } };
+
+    ghost invariant = { λ l. is_rising l.items.items ≡ true };
 }
 
 fn is_before(a: &[u8], b: &[u8]) -> bool
@@ -43,71 +66,142 @@ pub fn is_rising<V>(items: &[Keyed<V>]) -> bool
     true
 }
 
-/// Where the value under a key is put.
+// Where the key is, or would be, by halves.
+fn search<V>(items: &[Keyed<V>], key: &[u8]) -> Result<usize, usize>
+    ensures bound { IsSearchInRange result (length items.now) }
+    ensures position { IsBinarySearchResult (key_order key.now) items.now result }
+{
+    items.binary_search_by(|item| item.key.as_slice().cmp(key))
+}
+
+/// Where the key stands in a list by rising key.
 pub fn slot_of<V>(items: &[Keyed<V>], key: &[u8]) -> Slot
+    requires { is_rising items.now ≡ true }
     ensures { IsSlot items.now key.now result }
 {
-    for (i, item) in items.iter().enumerate() {
-        let other = item.key.as_slice();
-        if other == key {
-            return Slot::Here(i);
-        }
-        if is_before(key, other) {
-            return Slot::Free(i);
-        }
+    match search(items, key) {
+        Ok(i) => Slot::Here(i),
+        Err(i) => Slot::Free(i),
     }
-    Slot::Free(items.len())
 }
 
-fn index_of<V>(items: &[Keyed<V>], key: &[u8]) -> Option<usize>
-    ensures { MatchOption result (without items.now key.now ≡ items.now) (IsFound items.now key.now) }
-{
-    for (i, item) in items.iter().enumerate() {
-        if item.key.as_slice() == key {
-            return Some(i);
+impl<V> KeyedList<V> {
+    /// A list of nothing.
+    pub fn new(alloc: Global) -> Self
+        ensures { result.items ≡ [] }
+    {
+        KeyedList {
+            items: Vec::new(alloc),
         }
     }
-    None
-}
 
-/// The value under a key.
-pub fn value_of<'a, V>(items: &'a [Keyed<V>], key: &[u8]) -> Option<&'a V>
-    ensures { option_copied result ≡ value_at items.now key.now }
-{
-    for item in items {
-        if item.key.as_slice() == key {
-            return Some(&item.value);
+    pub fn len(&self) -> usize
+        ensures { result ≡ length self.now.items }
+    {
+        self.items.len()
+    }
+
+    pub fn as_slice(&self) -> &[Keyed<V>]
+        ensures items { result.now ≡ self.now.items }
+        ensures rising { is_rising result.now ≡ true }
+    {
+        &self.items
+    }
+
+    pub fn into_vec(self) -> Vec<Keyed<V>>
+        ensures items { result.items ≡ self.items }
+        ensures rising { is_rising result.items ≡ true }
+    {
+        let KeyedList { items } = self;
+        items
+    }
+
+    /// Where the key stands.
+    pub fn slot(&self, key: &[u8]) -> Slot
+        ensures { IsSlot self.now.items key.now result }
+    {
+        slot_of(&self.items, key)
+    }
+
+    /// The value under the key that stands there.
+    pub fn value_in(&self, slot: Slot) -> Option<&V>
+        ensures { (key : List ℕ) → IsSlot self.now.items key slot → option_copied result ≡ value_at self.now.items key }
+    {
+        match slot {
+            Slot::Here(i) => match self.items.get(i) {
+                Some(item) => Some(&item.value),
+                None => None,
+            },
+            Slot::Free(_) => None,
         }
     }
-    None
-}
 
-/// Puts a value under a key, in place of what is there. It takes one place of the list's room at most.
-pub fn put<V: Drop>(items: &mut Vec<Keyed<V>>, key: Text, value: V) -> Result<(), NoMemory>
-    ensures ok { OnOk result (items.new.items ≡ put items.old.items key value) }
-    ensures err { OnErr result (items.new.items ≡ items.old.items) }
-    ensures succeeds { vec_len items.old < vec_capacity items.old → IsOk result }
-    ensures in_place { vec_len items.old < vec_capacity items.old → vec_capacity items.new ≡ vec_capacity items.old }
-    ensures room { vec_capacity items.old - vec_len items.old ≤ vec_capacity items.new - vec_len items.new + 1 }
-{
-    match slot_of(items, key.as_slice()) {
-        Slot::Here(i) => {
-            items[i] = Keyed { key, value };
-        }
-        Slot::Free(i) => {
-            items.insert(i, Keyed { key, value })?;
-        }
+    /// The value under a key.
+    pub fn get(&self, key: &[u8]) -> Option<&V>
+        ensures { option_copied result ≡ value_at self.now.items key.now }
+    {
+        self.value_in(self.slot(key))
     }
-    Ok(())
+
+    /// Makes room for so many more values.
+    pub fn reserve(&mut self, n: usize) -> Result<(), NoMemory>
+        ensures items { self.new.items ≡ self.old.items }
+        ensures room { OnOk result (n ≤ self.new.spare) }
+        ensures err { OnErr result (self.new.spare ≡ self.old.spare) }
+        ensures succeeds { n ≤ self.old.spare → IsOk result }
+        ensures grows { self.old.spare ≤ self.new.spare }
+    {
+        self.items.reserve(n)?;
+        Ok(())
+    }
 }
 
-/// Takes what is under a key away. It takes no memory.
-pub fn remove<V: Drop>(items: &mut Vec<Keyed<V>>, key: &[u8])
-    ensures items { items.new.items ≡ without items.old.items key.now }
-    ensures capacity { vec_capacity items.new ≡ vec_capacity items.old }
-    ensures room { vec_capacity items.old - vec_len items.old ≤ vec_capacity items.new - vec_len items.new }
-{
-    if let Some(i) = index_of(items, key) {
-        items.remove(i);
+impl<V: Drop> KeyedList<V> {
+    /// Puts a value under the key that stands there, in place of what is there. It takes one place of the room at most, and
+    /// memory only where there is no room.
+    pub fn put_in(&mut self, slot: Slot, key: Text, value: V) -> Result<(), NoMemory>
+        requires { IsSlot self.old.items key slot }
+        ensures ok { OnOk result (self.new.items ≡ put self.old.items key value) }
+        ensures err { OnErr result (self.new.items ≡ self.old.items) }
+        ensures succeeds { 0 < self.old.spare → IsOk result }
+        ensures in_place { 0 < self.old.spare → self.new.spare + length self.new.items ≡ self.old.spare + length self.old.items }
+        ensures room { self.old.spare ≤ self.new.spare + 1 }
+    {
+        let item = Keyed { key, value };
+        match slot {
+            Slot::Here(i) => {
+                self.items[i] = item;
+            }
+            Slot::Free(i) => {
+                if let Err(_) = self.items.insert(i, item) {
+                    return Err(NoMemory);
+                }
+            }
+        }
+        Ok(())
+    }
+
+    /// Puts a value under a key, in place of what is there. It takes one place of the room at most, and memory only where
+    /// there is no room.
+    pub fn put(&mut self, key: Text, value: V) -> Result<(), NoMemory>
+        ensures ok { OnOk result (self.new.items ≡ put self.old.items key value) }
+        ensures err { OnErr result (self.new.items ≡ self.old.items) }
+        ensures succeeds { 0 < self.old.spare → IsOk result }
+        ensures in_place { 0 < self.old.spare → self.new.spare + length self.new.items ≡ self.old.spare + length self.old.items }
+        ensures room { self.old.spare ≤ self.new.spare + 1 }
+    {
+        let slot = self.slot(key.as_slice());
+        self.put_in(slot, key, value)
+    }
+
+    /// Takes what is under a key away. It takes no memory.
+    pub fn remove(&mut self, key: &[u8])
+        ensures items { self.new.items ≡ without self.old.items key.now }
+        ensures in_place { self.new.spare + length self.new.items ≡ self.old.spare + length self.old.items }
+        ensures room { self.old.spare ≤ self.new.spare }
+    {
+        if let Slot::Here(i) = self.slot(key) {
+            self.items.remove(i);
+        }
     }
 }

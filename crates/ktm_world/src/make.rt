@@ -1,28 +1,29 @@
 // Settings made in the store, within its room.
-ghost use Rattle.std.specs.Prelude.{◌≡◌, ◌-◌, ◌+◌, ◌<◌, ◌≤◌, length, vec_len, vec_capacity};
+ghost use Rattle.std.specs.Prelude.{◌≡◌, ◌+◌, ◌<◌, ◌≤◌, length};
 ghost use Rattle.ktm_world.specs.Keys.{stored, stored_all};
 
-use crate::keyed::{put, remove};
-use crate::{Entry, Keyed, Setting};
+use crate::keyed::KeyedList;
+use crate::{Keyed, Setting};
+use ktm_base::Bytes;
 
-fn make_one(store: &mut Vec<Entry>, setting: Setting)
-    requires { vec_len store.old < vec_capacity store.old }
+fn make_one(store: &mut KeyedList<Bytes>, setting: Setting)
+    requires { 0 < store.old.spare }
     ensures items { store.new.items ≡ stored store.old.items setting }
-    ensures capacity { vec_capacity store.new ≡ vec_capacity store.old }
-    ensures room { vec_capacity store.old - vec_len store.old ≤ vec_capacity store.new - vec_len store.new + 1 }
+    ensures in_place { store.new.spare + length store.new.items ≡ store.old.spare + length store.old.items }
+    ensures room { store.old.spare ≤ store.new.spare + 1 }
 {
     let Keyed { key, value } = setting;
     match value {
-        Some(value) => put(store, key, value).unwrap(),
-        None => remove(store, key.as_slice()),
+        Some(value) => store.put(key, value).unwrap(),
+        None => store.remove(key.as_slice()),
     }
 }
 
 /// Makes settings in the store, in order. It takes no memory.
-pub fn make_all(store: &mut Vec<Entry>, settings: Vec<Setting>)
-    requires { length settings.items ≤ vec_capacity store.old - vec_len store.old }
+pub fn make_all(store: &mut KeyedList<Bytes>, settings: Vec<Setting>)
+    requires { length settings.items ≤ store.old.spare }
     ensures items { store.new.items ≡ stored_all store.old.items settings.items }
-    ensures capacity { vec_capacity store.new ≡ vec_capacity store.old }
+    ensures in_place { store.new.spare + length store.new.items ≡ store.old.spare + length store.old.items }
 {
     for setting in settings {
         make_one(store, setting);

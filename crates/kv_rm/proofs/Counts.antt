@@ -1,21 +1,125 @@
--- How one setting more changes the count.
-use Rattle.std.proofs.Common.{◌≡◌, ℕ, ◌+◌, true, List, Option, get_or, sym, ◌∙◌, ap, arith}
-use Rattle.std.proofs.lemmas.List.Sums.{sum_by-set}
-use Rattle.std.specs.Prelude.{count_by}
+-- How one setting more changes the counts.
+use Rattle.std.proofs.Common.{◌≡◌, ℕ, ◌+◌, ◌≤◌, cond, List, [], ◌∷◌, ◌++◌, Option, None, Some, get_or, set, refl, sym, ◌∙◌, ap, arith}
+use Rattle.std.proofs.lemmas.List.Sums.{sum_by-set, sum_by-insert, sum_by-append, sum_by-cons}
+use Rattle.std.specs.Prelude.{count_by, MatchOption}
+use Rattle.std.specs.List.{insert}
+use Rattle.std.specs.Option.{option_map}
 use Rattle.ktm_base.specs.declared.id.Id.{Id}
-use Rattle.ktm_world.specs.Keyed.{put}
-use Rattle.ktm_world.specs.Keys.{Own, with_own}
-use Rattle.kv_rm.specs.declared.count.Counted.{Counted}
-use Rattle.kv_rm.specs.Count.{is_counted, own_count}
-use Rattle.kv_rm.specs.Place.{IsPlace}
+use Rattle.ktm_world.specs.declared.event.Keyed.{Keyed}
+use Rattle.ktm_world.specs.declared.keyed.Slot.{Slot}
+use Rattle.ktm_world.specs.declared.keyed.Slot.TheVariants.{Here, Free}
+use Rattle.ktm_world.specs.Keyed.{put, value_at}
+use Rattle.ktm_world.specs.Keys.{Own, OwnSettings, own_settings, with_own, without_own}
+use Rattle.ktm_world.proofs.KeyLemmas.{counted-without_own}
+use Rattle.ktm_world.specs.Slot.{IsSlot}
+use Rattle.kv_rm.specs.Count.{kind_of, is_of_kind, one_of, own_count, AreCounts}
+use Rattle.kv_rm.specs.declared.count.Counts.{Counts}
+use Rattle.kv_rm.specs.Place.{IsPlace, IsAbsent, IsSeat}
+use Rattle.kv_rm.specs.declared.count.Kind.{Kind}
+use Rattle.kv_rm.specs.declared.count.Kind.TheVariants.{Value, Unset}
+use Rattle.kv_rm.specs.declared.own.Seat.{Seat}
 
-pub own_gains_at : (counted : Counted) (own : List Own) (id : Id) (key : List ℕ) (i more : ℕ) (o : Own) → IsPlace own id i → o ≡ get_or own i o
-    → ((value : Option (List ℕ)) → is_counted counted (record { key = key; value = value }) ≡ true
-    → count_by (is_counted counted) (put o.settings key value) ≡ count_by (is_counted counted) o.settings + more)
-    → (value : Option (List ℕ)) → is_counted counted (record { key = key; value = value }) ≡ true
-    → own_count counted (with_own own id key value) ≡ own_count counted own + more
-own_gains_at counted own id key i more o place is gains value is_one =
-    let f : Own → ℕ = λ x. count_by (is_counted counted) x.settings in
-    let with_value : Own → Own = λ x. record x { settings = put x.settings key value } in
-    let one : f (with_value (get_or own i o)) ≡ f (get_or own i o) + more = ap (λ x. f (with_value x)) (sym is) ∙ gains value is_one ∙ ap (λ x. f x + more) is in
-    ap (own_count counted) (place.changes key value o) ∙ omega (arith, one, sum_by-set f own i (with_value (get_or own i o)) o place.within)
+one_is : (kind : Kind) (key : List ℕ) (value : Option (List ℕ)) → cond (is_of_kind kind (record { key = key; value = value })) 1 0 ≡ one_of kind (Some (kind_of value))
+one_is Value key None = refl
+one_is Value key (Some value) = refl
+one_is Unset key None = refl
+one_is Unset key (Some value) = refl
+
+one_of-none : (kind : Kind) → one_of kind None ≡ 0
+one_of-none Value = refl
+one_of-none Unset = refl
+
+module _ (kind : Kind) where
+  -- what one setting adds to the count
+  abbrev weight : Keyed (Option (List ℕ)) → ℕ
+  weight setting = cond (is_of_kind kind setting) 1 0
+
+  -- a setting takes the place of what was there
+  count_by-put : (xs : OwnSettings) (key : List ℕ) (slot : Slot) (value : Option (List ℕ)) → IsSlot xs key slot
+      → count_by (is_of_kind kind) (put xs key value) + one_of kind (option_map kind_of (value_at xs key)) ≡ count_by (is_of_kind kind) xs + one_of kind (Some (kind_of value))
+  count_by-put xs key (Here i) value here =
+      let y : Keyed (Option (List ℕ)) = record { key = key; value = value } in
+      let x : Keyed (Option (List ℕ)) = get_or xs i y in
+      let counted : count_by (is_of_kind kind) (put xs key value) ≡ count_by (is_of_kind kind) (set xs i y) = ap (count_by (is_of_kind kind)) (here.replaces value) in
+      let changed : count_by (is_of_kind kind) (set xs i y) + weight x ≡ count_by (is_of_kind kind) xs + weight y = sum_by-set weight xs i y y here.within in
+      let before : one_of kind (option_map kind_of (value_at xs key)) ≡ weight x = ap (λ v. one_of kind (option_map kind_of v)) (here.value y) ∙ sym (one_is kind x.key x.value) in
+      let after = one_is kind key value in
+      omega (arith, counted, changed, before, after)
+  count_by-put xs key (Free i) value free =
+      let y : Keyed (Option (List ℕ)) = record { key = key; value = value } in
+      let counted : count_by (is_of_kind kind) (put xs key value) ≡ count_by (is_of_kind kind) (insert xs i y) = ap (count_by (is_of_kind kind)) (free.adds value) in
+      let changed : count_by (is_of_kind kind) (insert xs i y) ≡ count_by (is_of_kind kind) xs + weight y = sum_by-insert weight xs i y in
+      let before : one_of kind (option_map kind_of (value_at xs key)) ≡ 0 = ap (λ v. one_of kind (option_map kind_of v)) free.value ∙ one_of-none kind in
+      let after = one_is kind key value in
+      omega (arith, counted, changed, before, after)
+
+  module _ (own : List Own) (id : Id) (key : List ℕ) where
+    -- the count of a transaction's settings
+    abbrev of_one : Own → ℕ
+    of_one o = count_by (is_of_kind kind) o.settings
+
+    at_place : (place : Option ℕ) → MatchOption place (IsAbsent own id) (IsPlace own id) → (value : Option (List ℕ)) (gone : ℕ)
+        → count_by (is_of_kind kind) (put (own_settings own id) key value) + gone ≡ count_by (is_of_kind kind) (own_settings own id) + one_of kind (Some (kind_of value))
+        → own_count kind (with_own own id key value) + gone ≡ own_count kind own + one_of kind (Some (kind_of value))
+    at_place None absent value gone one =
+        let o : Own = record { transaction = id; settings = put [] key value } in
+        let all : own_count kind (with_own own id key value) ≡ own_count kind (own ++ o ∷ []) = ap (own_count kind) (absent.adds key value) in
+        let more : own_count kind (own ++ o ∷ []) ≡ own_count kind own + own_count kind (o ∷ []) = sum_by-append of_one own (o ∷ []) in
+        let last : own_count kind (o ∷ []) ≡ of_one o + 0 = sum_by-cons of_one o [] in
+        let new : count_by (is_of_kind kind) (put (own_settings own id) key value) ≡ of_one o = ap (λ l. count_by (is_of_kind kind) (put l key value)) absent.settings in
+        let old : count_by (is_of_kind kind) (own_settings own id) ≡ 0 = ap (count_by (is_of_kind kind)) absent.settings in
+        omega (arith, all, more, last, new, old, one)
+    at_place (Some i) place value gone one =
+        let d : Own = record { transaction = id; settings = [] } in
+        let x : Own = get_or own i d in
+        let y : Own = record x { settings = put x.settings key value } in
+        let all : own_count kind (with_own own id key value) ≡ own_count kind (set own i y) = ap (own_count kind) (place.changes key value d) in
+        let changed : own_count kind (set own i y) + of_one x ≡ own_count kind own + of_one y = sum_by-set of_one own i y d place.within in
+        let new : count_by (is_of_kind kind) (put (own_settings own id) key value) ≡ of_one y = ap (λ l. count_by (is_of_kind kind) (put l key value)) (place.settings d) in
+        let old : count_by (is_of_kind kind) (own_settings own id) ≡ of_one x = ap (count_by (is_of_kind kind)) (place.settings d) in
+        omega (arith, all, changed, new, old, one)
+
+    -- a setting of a transaction's takes the place of what was there
+    pub own_count-with : (seat : Seat) → IsSeat own id key seat → (value : Option (List ℕ))
+        → own_count kind (with_own own id key value) + one_of kind seat.was ≡ own_count kind own + one_of kind (Some (kind_of value))
+    own_count-with seat is value =
+        at_place seat.place is.place value (one_of kind seat.was)
+        (ap (λ o. count_by (is_of_kind kind) (put (own_settings own id) key value) + one_of kind o) is.was ∙ count_by-put (own_settings own id) key seat.slot value is.slot)
+
+-- what was there is among those that are counted
+pub was_counted : (kind : Kind) (own : List Own) (id : Id) (key : List ℕ) (seat : Seat) → IsSeat own id key seat → one_of kind seat.was ≤ own_count kind own
+was_counted Value own id key seat is = let without = own_count-with Value own id key seat is None in omega (arith, without)
+was_counted Unset own id key seat is = let without = own_count-with Unset own id key seat is (Some []) in omega (arith, without)
+
+-- the counts without a transaction's settings, and of its settings
+pub own_count-without : (kind : Kind) (own : List Own) (id : Id) → own_count kind (without_own own id) + count_by (is_of_kind kind) (own_settings own id) ≡ own_count kind own
+own_count-without kind own id = counted-without_own (is_of_kind kind) id own
+
+-- what is counted once a setting of this kind is made in place of what was there
+pub are_counts-with : (own : List Own) (id : Id) (key : List ℕ) (seat : Seat) (counts new : Counts) (kind : Kind) (value : Option (List ℕ))
+    → IsSeat own id key seat → AreCounts own counts → kind_of value ≡ kind
+    → new.values + one_of Value seat.was ≡ counts.values + one_of Value (Some kind)
+    → new.unsets + one_of Unset seat.was ≡ counts.unsets + one_of Unset (Some kind)
+    → AreCounts (with_own own id key value) new
+are_counts-with own id key seat counts new kind value is are same values unsets = record {
+  values =
+      let made = own_count-with Value own id key seat is value in
+      let one : one_of Value (Some (kind_of value)) ≡ one_of Value (Some kind) = ap (λ k. one_of Value (Some k)) same in
+      let before = are.values in
+      omega (arith, made, one, before, values);
+  unsets =
+      let made = own_count-with Unset own id key seat is value in
+      let one : one_of Unset (Some (kind_of value)) ≡ one_of Unset (Some kind) = ap (λ k. one_of Unset (Some k)) same in
+      let before = are.unsets in
+      omega (arith, made, one, before, unsets);
+}
+
+-- what is counted once a transaction's settings are gone
+pub are_counts-without : (own : List Own) (id : Id) (counts new : Counts) → AreCounts own counts
+    → new.values + count_by (is_of_kind Value) (own_settings own id) ≡ counts.values
+    → new.unsets + count_by (is_of_kind Unset) (own_settings own id) ≡ counts.unsets
+    → AreCounts (without_own own id) new
+are_counts-without own id counts new are values unsets = record {
+  values = let gone = own_count-without Value own id in let before = are.values in omega (arith, gone, before, values);
+  unsets = let gone = own_count-without Unset own id in let before = are.unsets in omega (arith, gone, before, unsets);
+}

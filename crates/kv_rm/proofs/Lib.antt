@@ -1,3 +1,3 @@
 pub mod Places
 pub mod Counts
-pub mod MarkLemmas
+pub mod Merges

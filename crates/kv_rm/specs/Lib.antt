@@ -1,5 +1,5 @@
 pub mod Place
 pub mod Count
-pub mod Marks
 pub mod KvState
 pub mod Calls
+pub mod Split

@@ -1,9 +1,13 @@
 -- Where a transaction's own settings stand in the list.
-use Rattle.std.specs.Prelude.{◌≡◌, ℕ, ◌<◌, List, [], ◌∷◌, ◌++◌, length, Option, slice_index_or, slice_set}
+use Rattle.std.specs.Prelude.{◌≡◌, ℕ, ◌<◌, List, [], ◌∷◌, ◌++◌, length, Option, Some, None, MatchOption, ⊤, slice_index_or, slice_set}
 use Rattle.std.specs.List.{remove}
+use Rattle.std.specs.Option.{option_map}
 use Rattle.ktm_base.specs.declared.id.Id.{Id}
-use Rattle.ktm_world.specs.Keyed.{put}
+use Rattle.ktm_world.specs.Keyed.{put, value_at}
 use Rattle.ktm_world.specs.Keys.{Own, own_settings, with_own, without_own}
+use Rattle.ktm_world.specs.Slot.{IsSlot}
+use Rattle.kv_rm.specs.Count.{kind_of}
+use Rattle.kv_rm.specs.declared.own.Seat.{Seat}
 
 -- the transaction's settings are the first of its own at this place, and are looked up, changed and taken away there
 pub record IsPlace (own : List Own) (id : Id) (i : ℕ) : Type 0 where
@@ -17,3 +21,15 @@ pub record IsAbsent (own : List Own) (id : Id) : Type 0 where
   pub settings : own_settings own id ≡ []
   pub adds : (key : List ℕ) (value : Option (List ℕ)) → with_own own id key value ≡ own ++ record { transaction = id; settings = put [] key value } ∷ []
   pub keeps : without_own own id ≡ own
+
+-- a setting of the transaction's under this key goes there
+pub record IsSeat (own : List Own) (id : Id) (key : List ℕ) (seat : Seat) : Type 0 where
+  pub place : MatchOption seat.place (IsAbsent own id) (IsPlace own id)
+  pub slot : IsSlot (own_settings own id) key seat.slot
+  pub was : seat.was ≡ option_map kind_of (value_at (own_settings own id) key)
+
+-- the caller's setting under this key goes there, and that of no transaction goes nowhere
+abbrev pub IsSeatOf : List Own → Option Id → List ℕ → Option Seat → Type 0
+IsSeatOf own (Some id) key (Some seat) = IsSeat own id key seat
+IsSeatOf own None key None = ⊤
+IsSeatOf _ _ _ _ = ⊥

@@ -1,67 +1,96 @@
-// How many keys transactions set, or unset.
-ghost use Rattle.std.specs.Prelude.{◌≡◌, ℕ, List, ◌+◌, ◌-◌, ◌^◌, min, Option, true, length, count_by, if◌then◌else◌};
-ghost use Rattle.ktm_world.specs.Keyed.{put};
-ghost use Rattle.ktm_world.specs.Keys.{with_own};
-ghost use Rattle.kv_rm.specs.Count.{is_counted, own_count};
+// How many settings of each kind the transactions have.
+ghost use Rattle.std.specs.Prelude.{◌≡◌, ◌+◌, ◌<◌, ◌≤◌, ◌^◌, count_by, Some};
+ghost use Rattle.kv_rm.specs.Count.{kind_of, is_of_kind, one_of};
+ghost use Rattle.kv_rm.specs.declared.count.Kind.TheVariants.{Value, Unset};
 
-use crate::own::{OwnKeys, place_of};
-use ktm_base::Id;
+use ktm_base::Bytes;
 use ktm_world::Setting;
-use ktm_world::keyed::{Slot, slot_of};
 
-/// Which settings are counted.
+/// What a setting does with its key.
 #[derive(Clone, Copy)]
-pub enum Counted {
-    /// Those that give a key a value.
-    Values,
-    /// Those that unset a key.
-    Unsets,
+pub enum Kind {
+    /// It gives the key a value.
+    Value,
+    /// It unsets the key.
+    Unset,
 }
 
-fn is_counted(counted: Counted, setting: &Setting) -> bool
-    ensures { result ≡ is_counted counted setting.now }
+/// How many settings of all transactions give a value, and how many unset a key.
+#[derive(Clone, Copy)]
+pub struct Counts {
+    pub values: usize,
+    pub unsets: usize,
+}
+
+pub fn kind_of(value: &Option<Bytes>) -> Kind
+    ensures { result ≡ kind_of value.now }
 {
-    match counted {
-        Counted::Values => setting.value.is_some(),
-        Counted::Unsets => setting.value.is_none(),
+    match value {
+        Some(_) => Kind::Value,
+        None => Kind::Unset,
     }
 }
 
-fn count_in(counted: Counted, settings: &[Setting]) -> usize
-    ensures { result ≡ count_by (is_counted counted) settings.now }
+fn count_values(settings: &[Setting]) -> usize
+    ensures { result ≡ count_by (is_of_kind Value) settings.now }
 {
-    settings.iter().filter(|s| is_counted(counted, s)).count()
+    settings.iter().filter(|s| s.value.is_some()).count()
 }
 
-/// So many, and those of transactions that are counted: or the greatest number.
-pub fn count_own(counted: Counted, others: usize, own: &[OwnKeys]) -> usize
-    ensures { result ≡ min (others + own_count counted own.now) (2 ^ 64 - 1) }
-{
-    let mut count = others;
-    for o in own {
-        count = count.saturating_add(count_in(counted, o.settings()));
+impl Counts {
+    /// The counts without a setting of this kind, if there was one.
+    fn without(self, was: Option<Kind>) -> Counts
+        requires values { one_of Value was ≤ self.values }
+        requires unsets { one_of Unset was ≤ self.unsets }
+        ensures values { result.values + one_of Value was ≡ self.values }
+        ensures unsets { result.unsets + one_of Unset was ≡ self.unsets }
+    {
+        match was {
+            Some(Kind::Value) => Counts {
+                values: self.values - 1,
+                unsets: self.unsets,
+            },
+            Some(Kind::Unset) => Counts {
+                values: self.values,
+                unsets: self.unsets - 1,
+            },
+            None => self,
+        }
     }
-    count
-}
 
-/// Would a setting under the key, which is counted, be one more.
-fn gains(counted: Counted, settings: &[Setting], key: &[u8]) -> bool
-    ensures { (value : Option (List ℕ)) → is_counted counted (record { key = key.now; value = value }) ≡ true
-        → count_by (is_counted counted) (put settings.now key.now value) ≡ count_by (is_counted counted) settings.now + (if result then 1 else 0) }
-{
-    match slot_of(settings, key) {
-        Slot::Here(i) => !is_counted(counted, &settings[i]),
-        Slot::Free(_) => true,
+    /// The counts with a setting of this kind, in place of what there was under its key.
+    pub fn with(self, was: Option<Kind>, kind: Kind) -> Counts
+        requires values { one_of Value was ≤ self.values }
+        requires unsets { one_of Unset was ≤ self.unsets }
+        requires few_values { self.values < 2 ^ 32 }
+        requires few_unsets { self.unsets < 2 ^ 32 }
+        ensures values { result.values + one_of Value was ≡ self.values + one_of Value (Some kind) }
+        ensures unsets { result.unsets + one_of Unset was ≡ self.unsets + one_of Unset (Some kind) }
+    {
+        let Counts { values, unsets } = self.without(was);
+        match kind {
+            Kind::Value => Counts {
+                values: values + 1,
+                unsets,
+            },
+            Kind::Unset => Counts {
+                values,
+                unsets: unsets + 1,
+            },
+        }
     }
-}
 
-/// Would a setting of the transaction's under the key, which is counted, be one more.
-pub fn own_gains(counted: Counted, own: &[OwnKeys], transaction: Id, key: &[u8]) -> bool
-    ensures { (value : Option (List ℕ)) → is_counted counted (record { key = key.now; value = value }) ≡ true
-        → own_count counted (with_own own.now transaction key.now value) ≡ own_count counted own.now + (if result then 1 else 0) }
-{
-    match place_of(own, transaction) {
-        Some(place) => gains(counted, own[place].settings(), key),
-        None => true,
+    /// The counts without these settings.
+    pub fn less(self, settings: &[Setting]) -> Counts
+        requires values { count_by (is_of_kind Value) settings.now ≤ self.values }
+        requires unsets { count_by (is_of_kind Unset) settings.now ≤ self.unsets }
+        ensures values { result.values + count_by (is_of_kind Value) settings.now ≡ self.values }
+        ensures unsets { result.unsets + count_by (is_of_kind Unset) settings.now ≡ self.unsets }
+    {
+        let values = count_values(settings);
+        Counts {
+            values: self.values - values,
+            unsets: self.unsets - (settings.len() - values),
+        }
     }
 }

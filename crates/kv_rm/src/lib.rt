@@ -14,7 +14,8 @@ pub use rm::KvRm;
 mod tests {
     use super::*;
     use ktm_base::{Bytes, Id, Refusal, Text};
-    use ktm_world::{Entry, Reply};
+    use ktm_world::Reply;
+    use ktm_world::keyed::KeyedList;
     use std::alloc::Global;
     use std::process::Abort;
     use std::test::Fail;
@@ -110,13 +111,10 @@ mod tests {
     #[test]
     fn steps_are_answered(rt: HostRuntime) -> Result<(), Fail> {
         let alloc = rt.alloc();
-        let mut store = Vec::new(alloc);
-        store.push(Entry {
-            key: Text::new(b"b".to_vec(alloc)?),
-            value: Bytes::new(b"two".to_vec(alloc)?),
-        })?;
+        let mut store = KeyedList::new(alloc);
+        store.put(text(alloc, b"b")?, Bytes::new(b"two".to_vec(alloc)?))?;
         let mut keys = KvRm::with_store(alloc, store);
-        let steps: [(Option<Id>, Ask, &[u8]); 24] = [
+        let steps: [(Option<Id>, Ask, &[u8]); 25] = [
             (None, Get(b"b"), b"two"),
             (FIRST, Set(b"c", b"three"), b""),
             (FIRST, Set(b"a", b"one"), b""),
@@ -141,7 +139,14 @@ mod tests {
             (SECOND, Commit, b""),
             (None, List, b"a,c,"),
             (FIRST, Set(b"b", b"2"), b""),
+            (FIRST, List, b"a,b,c,"),
         ];
-        check(&rt, alloc, &mut keys, &steps)
+        check(&rt, alloc, &mut keys, &steps)?;
+        if let Some(first) = FIRST {
+            assert!(rt; keys.has_settings(first));
+            keys.forget(first);
+            assert!(rt; !keys.has_settings(first));
+        }
+        check(&rt, alloc, &mut keys, &[(FIRST, List, b"a,c,")])
     }
 }

@@ -1,61 +1,58 @@
-// The keys that are seen, with no copy of the values.
-ghost use Rattle.std.specs.Prelude.{◌≡◌, IfOk, OnOk, map};
-ghost use Rattle.ktm_world.specs.Keys.{Store, stored, stored_all, keys_of};
-ghost use Rattle.kv_rm.specs.Marks.{marks_of};
+// The keys that are seen, out of those that are stored and those that are set, with no copy of the values.
+ghost use Rattle.std.specs.Prelude.{◌≡◌, ◌++◌, [], true, IfOk, OnOk};
+ghost use Rattle.ktm_world.specs.Keyed.{is_rising};
+ghost use Rattle.ktm_world.specs.Keys.{stored, stored_all, keys_of};
+ghost use Rattle.kv_rm.specs.Split.{IsSplit};
 
 use ktm_base::{NoMemory, Text, TextList};
-use ktm_world::{Entry, Keyed, Setting, keyed};
+use ktm_world::keyed::{Slot, slot_of};
+use ktm_world::{Entry, Setting};
 use std::alloc::Global;
 
-// A key alone.
-type Mark = Keyed<()>;
-
-fn marks_of(alloc: Global, store: &[Entry]) -> Result<Vec<Mark>, NoMemory>
-    ensures { IfOk result (λ marks. marks.items ≡ marks_of store.now) }
+// The entries whose keys come before this one, and those whose keys come after it.
+fn split<'a>(store: &'a [Entry], key: &[u8]) -> (&'a [Entry], &'a [Entry])
+    requires { is_rising store.now ≡ true }
+    ensures { IsSplit store.now key.now result.0.now result.1.now }
 {
-    let mut marks = Vec::new(alloc);
+    match slot_of(store, key) {
+        Slot::Here(i) => (&store[..i], &store[i + 1..]),
+        Slot::Free(i) => (&store[..i], &store[i..]),
+    }
+}
+
+fn push_keys(alloc: Global, keys: &mut Vec<Text>, store: &[Entry]) -> Result<(), NoMemory>
+    ensures { OnOk result (keys.new.items ≡ keys.old.items ++ keys_of store.now) }
+{
     for entry in store {
-        marks.push(Keyed {
-            key: entry.key.copy(alloc)?,
-            value: (),
-        })?;
-    }
-    Ok(marks)
-}
-
-// A setting is made in the marks of a store.
-fn mark(alloc: Global, marks: &mut Vec<Mark>, setting: &Setting) -> Result<(), NoMemory>
-    ensures { (store : Store) → marks.old.items ≡ marks_of store → OnOk result (marks.new.items ≡ marks_of (stored store setting.now)) }
-{
-    match &setting.value {
-        Some(_) => keyed::put(marks, setting.key.copy(alloc)?, ())?,
-        None => keyed::remove(marks, setting.key.as_slice()),
+        keys.push(entry.key.copy(alloc)?)?;
     }
     Ok(())
 }
 
-// Settings are made in the marks of a store, in order.
-fn mark_all(alloc: Global, marks: &mut Vec<Mark>, settings: &[Setting]) -> Result<(), NoMemory>
-    ensures { (store : Store) → marks.old.items ≡ marks_of store → OnOk result (marks.new.items ≡ marks_of (stored_all store settings.now)) }
+// The key of a setting, where it gives it a value.
+fn push_set(alloc: Global, keys: &mut Vec<Text>, setting: &Setting) -> Result<(), NoMemory>
+    ensures { OnOk result (keys.new.items ≡ keys.old.items ++ keys_of (stored [] setting.now)) }
 {
-    for setting in settings {
-        mark(alloc, marks, setting)?;
+    if setting.value.is_some() {
+        keys.push(setting.key.copy(alloc)?)?;
     }
     Ok(())
 }
 
-fn keys_in(alloc: Global, marks: Vec<Mark>) -> Result<Vec<Text>, NoMemory>
-    ensures { IfOk result (λ keys. keys.items ≡ map (λ m. m.key) marks.items) }
-{
-    let keys = marks.into_iter().map(|m| m.key).collect(alloc)?;
-    Ok(keys)
-}
-
-/// The keys of a store, with settings made in it, by rising key.
+/// The keys of a store, with settings made in it, by rising key. It takes room for them once.
 pub fn keys_with(alloc: Global, store: &[Entry], settings: &[Setting]) -> Result<TextList, NoMemory>
+    requires store { is_rising store.now ≡ true }
+    requires settings { is_rising settings.now ≡ true }
     ensures { IfOk result (λ keys. keys ≡ keys_of (stored_all store.now settings.now)) }
 {
-    let mut marks = marks_of(alloc, store)?;
-    mark_all(alloc, &mut marks, settings)?;
-    Ok(TextList::new(keys_in(alloc, marks)?))
+    let mut keys = Vec::with_capacity(alloc, store.len() + settings.len())?;
+    let mut rest = store;
+    for setting in settings {
+        let (before, after) = split(rest, setting.key.as_slice());
+        push_keys(alloc, &mut keys, before)?;
+        push_set(alloc, &mut keys, setting)?;
+        rest = after;
+    }
+    push_keys(alloc, &mut keys, rest)?;
+    Ok(TextList::new(keys))
 }

@@ -1,12 +1,18 @@
 // What each undecided transaction has set.
-ghost use Rattle.std.specs.Prelude.{◌≡◌, [], MatchOption, IfOk, OnOk, OnErr, is_some};
-ghost use Rattle.ktm_world.specs.Keyed.{value_at, put};
-ghost use Rattle.ktm_world.specs.Keys.{own_settings, with_own, without_own, is_held_by_other};
+ghost use Rattle.std.specs.Prelude.{◌≡◌, ℕ, List, [], MatchOption, IfOk, OnOk, OnErr, true};
+ghost use Rattle.std.specs.Option.{option_copied, option_map};
+ghost use Rattle.ktm_world.specs.Keyed.{is_rising, value_at, put};
+ghost use Rattle.ktm_world.specs.KeyCalls.{with_setting};
+ghost use Rattle.ktm_world.specs.Keys.{Store, own_settings, with_own, without_own, is_held_by_other, store_seen, stored_all};
+ghost use Rattle.ktm_world.specs.Slot.{IsSlot};
 ghost use Rattle.ktm_world.specs.Transactions.{same_id};
-ghost use Rattle.kv_rm.specs.Place.{IsPlace, IsAbsent};
+ghost use Rattle.kv_rm.specs.Count.{kind_of};
+ghost use Rattle.kv_rm.specs.Place.{IsPlace, IsAbsent, IsSeat, IsSeatOf};
 
+use crate::count::{Kind, kind_of};
 use ktm_base::{Bytes, Id, NoMemory, Text};
-use ktm_world::{Keyed, Setting, keyed};
+use ktm_world::Setting;
+use ktm_world::keyed::{KeyedList, Slot};
 use std::alloc::Global;
 use std::marker::Model;
 
@@ -14,7 +20,7 @@ use std::marker::Model;
 #[derive(Drop)]
 pub struct OwnKeys {
     transaction: Id,
-    settings: Vec<Setting>,
+    settings: KeyedList<Option<Bytes>>,
 }
 
 impl Model for OwnKeys {
@@ -23,6 +29,17 @@ impl Model for OwnKeys {
     ghost Value = { Own };
 
     ghost view = { λ o. record { transaction = o.transaction; settings = o.settings.items } };
+}
+
+/// Where a setting of a transaction's goes.
+#[derive(Clone, Copy)]
+pub struct Seat {
+    /// Where the transaction's own settings are, if it has any.
+    pub place: Option<usize>,
+    /// Where the key stands among them.
+    pub slot: Slot,
+    /// What the transaction has done with the key.
+    pub was: Option<Kind>,
 }
 
 impl OwnKeys {
@@ -35,8 +52,8 @@ impl OwnKeys {
     ) -> Result<Self, NoMemory>
         ensures { IfOk result (λ own. own ≡ record { transaction = transaction; settings = put [] key value }) }
     {
-        let mut settings = Vec::new(alloc);
-        settings.push(Keyed { key, value })?;
+        let mut settings = KeyedList::new(alloc);
+        settings.put(key, value)?;
         Ok(OwnKeys {
             transaction,
             settings,
@@ -50,29 +67,49 @@ impl OwnKeys {
     }
 
     pub fn settings(&self) -> &[Setting]
-        ensures { result.now ≡ self.now.settings }
+        ensures settings { result.now ≡ self.now.settings }
+        ensures rising { is_rising result.now ≡ true }
     {
-        &self.settings
+        self.settings.as_slice()
     }
 
     pub fn into_settings(self) -> Vec<Setting>
         ensures { result.items ≡ self.settings }
     {
         let OwnKeys { settings, .. } = self;
-        settings
+        settings.into_vec()
     }
 
-    pub fn set(&mut self, key: Text, value: Option<Bytes>) -> Result<(), NoMemory>
+    /// What the key is set to.
+    pub fn get(&self, key: &[u8]) -> Option<&Option<Bytes>>
+        ensures { option_copied result ≡ value_at self.now.settings key.now }
+    {
+        self.settings.get(key)
+    }
+
+    pub fn slot(&self, key: &[u8]) -> Slot
+        ensures { IsSlot self.now.settings key.now result }
+    {
+        self.settings.slot(key)
+    }
+
+    /// What is done with the key that stands there.
+    pub fn kind_in(&self, slot: Slot) -> Option<Kind>
+        ensures { (key : List ℕ) → IsSlot self.now.settings key slot → result ≡ option_map kind_of (value_at self.now.settings key) }
+    {
+        match self.settings.value_in(slot) {
+            Some(value) => Some(kind_of(value)),
+            None => None,
+        }
+    }
+
+    /// One setting more where its key stands, or in place of the one there.
+    pub fn set_in(&mut self, slot: Slot, key: Text, value: Option<Bytes>) -> Result<(), NoMemory>
+        requires { IsSlot self.old.settings key slot }
         ensures ok { OnOk result (self.new ≡ record self.old { settings = put self.old.settings key value }) }
         ensures err { OnErr result (self.new ≡ self.old) }
     {
-        keyed::put(&mut self.settings, key, value)
-    }
-
-    pub fn holds(&self, key: &[u8]) -> bool
-        ensures { result ≡ is_some (value_at self.now.settings key.now) }
-    {
-        keyed::value_of(&self.settings, key).is_some()
+        self.settings.put_in(slot, key, value)
     }
 }
 
@@ -89,47 +126,107 @@ pub fn place_of(own: &[OwnKeys], transaction: Id) -> Option<usize>
 }
 
 pub fn settings_of(own: &[OwnKeys], transaction: Id) -> &[Setting]
-    ensures { result.now ≡ own_settings own.now transaction }
+    ensures settings { result.now ≡ own_settings own.now transaction }
+    ensures rising { is_rising result.now ≡ true }
 {
-    for o in own {
-        if o.is_of(transaction) {
-            return o.settings();
-        }
+    match place_of(own, transaction) {
+        Some(place) => own[place].settings(),
+        None => &[],
     }
-    &[]
+}
+
+/// The settings through which the store is seen.
+pub fn settings_before(own: &[OwnKeys], who: Option<Id>) -> &[Setting]
+    ensures seen { (store : Store) → store_seen (record { store = store; own = own.now }) who ≡ stored_all store result.now }
+    ensures rising { is_rising result.now ≡ true }
+{
+    match who {
+        Some(transaction) => settings_of(own, transaction),
+        None => &[],
+    }
+}
+
+/// What a transaction has set the key to.
+pub fn own_value<'a>(own: &'a [OwnKeys], transaction: Id, key: &[u8]) -> Option<&'a Option<Bytes>>
+    ensures { option_copied result ≡ value_at (own_settings own.now transaction) key.now }
+{
+    match place_of(own, transaction) {
+        Some(place) => own[place].get(key),
+        None => None,
+    }
+}
+
+/// Where a setting of the transaction's under this key goes.
+pub fn seat_of(own: &[OwnKeys], transaction: Id, key: &[u8]) -> Seat
+    ensures { IsSeat own.now transaction key.now result }
+{
+    let place = place_of(own, transaction);
+    match place {
+        Some(i) => {
+            let slot = own[i].slot(key);
+            let was = own[i].kind_in(slot);
+            Seat { place, slot, was }
+        }
+        None => Seat {
+            place,
+            slot: Slot::Free(0),
+            was: None,
+        },
+    }
 }
 
 pub fn is_held(own: &[OwnKeys], transaction: Id, key: &[u8]) -> bool
     ensures { result ≡ is_held_by_other own.now transaction key.now }
 {
     for o in own {
-        if !o.is_of(transaction) && o.holds(key) {
+        if !o.is_of(transaction) && o.get(key).is_some() {
             return true;
         }
     }
     false
 }
 
-/// One setting more, or in place of an earlier one of the same key.
-pub fn set_own(
+// One setting more where it goes, or in place of the one there.
+fn set_at(
     alloc: Global,
     own: &mut Vec<OwnKeys>,
     transaction: Id,
+    seat: Seat,
     key: Text,
     value: Option<Bytes>,
 ) -> Result<(), NoMemory>
+    requires { IsSeat own.old.items transaction key seat }
     ensures ok { OnOk result (own.new.items ≡ with_own own.old.items transaction key value) }
     ensures err { OnErr result (own.new.items ≡ own.old.items) }
 {
-    match place_of(own, transaction) {
+    match seat.place {
         Some(place) => {
             let o = &mut own[place];
-            o.set(key, value)
+            o.set_in(seat.slot, key, value)
         }
         None => {
             own.push(OwnKeys::new(alloc, transaction, key, value)?)?;
             Ok(())
         }
+    }
+}
+
+/// One setting more for a transaction. One for none is not kept.
+pub fn set_for(
+    alloc: Global,
+    own: &mut Vec<OwnKeys>,
+    who: Option<Id>,
+    seat: Option<Seat>,
+    key: Text,
+    value: Option<Bytes>,
+) -> Result<(), NoMemory>
+    requires { IsSeatOf own.old.items who key seat }
+    ensures ok { OnOk result (own.new.items ≡ with_setting own.old.items who key value) }
+    ensures err { OnErr result (own.new.items ≡ own.old.items) }
+{
+    match (who, seat) {
+        (Some(transaction), Some(seat)) => set_at(alloc, own, transaction, seat, key, value),
+        _ => Ok(()),
     }
 }
 

@@ -1,53 +1,98 @@
 // The manager.
-ghost use Rattle.std.specs.Prelude.{◌≡◌, ◌+◌, ◌-◌, ◌^◌, ◌≤◌, ℕ, List, [], true, Option, Some, None, IfOk, OnOk, OnErr, IsOk, length, min, nat_lt, vec_len, vec_capacity};
+ghost use Rattle.std.specs.Prelude.{◌≡◌, ◌+◌, ◌^◌, ◌<◌, ◌≤◌, ℕ, List, [], Option, IfOk, OnOk, OnErr, IsOk, is_none, length, nat_lt};
 ghost use Rattle.std.specs.Option.{option_copied};
+ghost use Rattle.ktm_base.specs.declared.id.Id.{Id};
 ghost use Rattle.ktm_world.specs.declared.reply.Reply.TheVariants.{Done};
 ghost use Rattle.ktm_world.specs.KeyCalls.{KeyRoom, is_key_held, keys_with, with_setting};
-ghost use Rattle.ktm_world.specs.Keys.{own_settings, without_own, value_seen, keys_used, changes_pending, stored_all, store_seen, keys_of};
+ghost use Rattle.ktm_world.specs.Keys.{Own, own_settings, without_own, value_seen, stored_all, store_seen, keys_of};
+ghost use Rattle.ktm_world.specs.Phases.{has_settings};
 ghost use Rattle.kv_rm.specs.Calls.{key_outcome};
-ghost use Rattle.kv_rm.specs.Count.{is_counted, own_count};
+ghost use Rattle.kv_rm.specs.Count.{kind_of, AreCounts, AreFew};
+ghost use Rattle.kv_rm.specs.Place.{IsSeatOf};
 ghost use Rattle.kv_rm.specs.declared.call.KvCall.TheVariants.{Get, Set, Unset};
+ghost use Rattle.kv_rm.specs.declared.count.Kind.{Kind};
 
 use crate::call::{KvCall, Room};
-use crate::count::{Counted, count_own, own_gains};
+use crate::count::{Counts, Kind};
 use crate::list::keys_with;
-use crate::own::{OwnKeys, is_held, set_own, settings_of, take_own};
+use crate::own::{
+    OwnKeys, Seat, is_held, own_value, seat_of, set_for, settings_before, settings_of, take_own,
+};
 use ktm_base::{Bytes, Id, NoMemory, Refusal, Text, TextList};
-use ktm_world::keyed::value_of;
-use ktm_world::{Entry, Reply, Setting, is_bad_key, is_bad_value, make_all};
+use ktm_world::keyed::KeyedList;
+use ktm_world::{Reply, Setting, is_bad_key, is_bad_value, make_all};
 use std::alloc::Global;
 use std::marker::Model;
+
+// Where a setting goes, if it is for a transaction, and the counts once it is made.
+#[derive(Clone, Copy)]
+struct Plan {
+    seat: Option<Seat>,
+    counts: Counts,
+}
 
 /// The store of committed keys, with what each undecided transaction has set or unset.
 #[derive(Drop)]
 pub struct KvRm {
     alloc: Global,
-    store: Vec<Entry>,
+    store: KeyedList<Bytes>,
     own: Vec<OwnKeys>,
+    // Of what the transactions have set.
+    counts: Counts,
 }
 
 impl Model for KvRm {
-    ghost use Rattle.std.specs.Prelude.{◌-◌, vec_len, vec_capacity};
+    ghost use Rattle.kv_rm.specs.Count.{AreCounts, AreFew};
     ghost use Rattle.kv_rm.specs.KvState.{KvState};
 
     ghost Value = { KvState };
 
     ghost view = { λ k. record {
       keys = record { store = k.store.items; own = k.own.items };
-      room = vec_capacity k.store - vec_len k.store;
+      room = k.store.spare;
+    } };
+
+    ghost invariant = { λ k. record {
+      counted : AreCounts k.own.items k.counts;
+      few : AreFew k.counts;
     } };
 }
 
+// Is the key unset, after what a transaction has done with it, or as it is committed.
+fn is_unset(store: &KeyedList<Bytes>, seat: Option<Seat>, key: &Text) -> bool
+    ensures { (own : List Own) (who : Option Id) → IsSeatOf own who key.now seat → result ≡ is_none (value_seen (record { store = store.now.items; own = own }) who key.now) }
+{
+    match seat {
+        Some(
+            Seat {
+                was: Some(Kind::Value),
+                ..
+            },
+        ) => false,
+        Some(
+            Seat {
+                was: Some(Kind::Unset),
+                ..
+            },
+        ) => true,
+        _ => store.get(key.as_slice()).is_none(),
+    }
+}
+
 impl KvRm {
-    /// With these committed keys, which rise.
-    pub fn with_store(alloc: Global, store: Vec<Entry>) -> Self
+    /// With these committed keys.
+    pub fn with_store(alloc: Global, store: KeyedList<Bytes>) -> Self
         ensures keys { result.keys ≡ record { store = store.items; own = [] } }
-        ensures room { result.room ≡ vec_capacity store - vec_len store }
+        ensures room { result.room ≡ store.spare }
     {
         KvRm {
             alloc,
             store,
             own: Vec::new(alloc),
+            counts: Counts {
+                values: 0,
+                unsets: 0,
+            },
         }
     }
 
@@ -71,11 +116,11 @@ impl KvRm {
         ensures { option_copied result ≡ value_seen self.now.keys who key.now }
     {
         if let Some(transaction) = who {
-            if let Some(setting) = value_of(settings_of(&self.own, transaction), key) {
+            if let Some(setting) = own_value(&self.own, transaction, key) {
                 return setting.as_ref();
             }
         }
-        value_of(&self.store, key)
+        self.store.get(key)
     }
 
     fn get(&self, who: Option<Id>, key: &Text) -> Result<Reply, NoMemory>
@@ -94,11 +139,8 @@ impl KvRm {
     fn keys_seen(&self, who: Option<Id>) -> Result<TextList, NoMemory>
         ensures { IfOk result (λ keys. keys ≡ keys_of (store_seen self.now.keys who)) }
     {
-        let settings = match who {
-            Some(transaction) => settings_of(&self.own, transaction),
-            None => &[],
-        };
-        keys_with(self.alloc, &self.store, settings)
+        let settings = settings_before(&self.own, who);
+        keys_with(self.alloc, self.store.as_slice(), settings)
     }
 
     // Does another undecided transaction hold the key.
@@ -111,46 +153,53 @@ impl KvRm {
         }
     }
 
-    // How many settings are counted, once this one, which is counted, is made.
-    fn count_with(&self, counted: Counted, who: Option<Id>, key: &Text) -> usize
-        ensures { (value : Option (List ℕ)) → is_counted counted (record { key = key.now; value = value }) ≡ true
-            → result ≡ min (own_count counted (with_setting self.now.keys.own who key.now value)) (2 ^ 64 - 1) }
+    // Where a setting of this kind goes, and the counts once it is made. One for no transaction goes nowhere.
+    fn plan(&self, who: Option<Id>, key: &Text, kind: Kind) -> Plan
+        ensures seat { IsSeatOf self.now.keys.own who key.now result.seat }
+        ensures counts { (value : Option (List ℕ)) → kind_of value ≡ kind → AreCounts (with_setting self.now.keys.own who key.now value) result.counts }
+        ensures few_values { kind ≡ Kind.Unset → result.counts.values < 2 ^ 32 }
+        ensures few_unsets { kind ≡ Kind.Value → result.counts.unsets < 2 ^ 32 }
     {
-        let count = count_own(counted, 0, &self.own);
         match who {
             Some(transaction) => {
-                let more = usize::from(own_gains(counted, &self.own, transaction, key.as_slice()));
-                count.saturating_add(more)
+                let seat = seat_of(&self.own, transaction, key.as_slice());
+                Plan {
+                    seat: Some(seat),
+                    counts: self.counts.with(seat.was, kind),
+                }
             }
-            None => count,
+            None => Plan {
+                seat: None,
+                counts: self.counts,
+            },
         }
     }
 
-    // Would one key more, set for this caller, pass the limit.
-    fn is_full_with(&self, units: u32, who: Option<Id>, key: &Text) -> bool
-        ensures { (value : List ℕ) → result ≡ nat_lt units (keys_used (keys_with self.now.keys who key.now (Some value))) }
+    // Would so many keys be too many, beside the committed ones.
+    fn is_full_with(&self, values: usize, most: u32) -> bool
+        ensures { result ≡ nat_lt most (length self.now.keys.store + values) }
     {
-        let used = self.count_with(Counted::Values, who, key);
-        self.store.len().saturating_add(used) > units as usize
+        self.store.len().saturating_add(values) > most as usize
     }
 
-    // Would one change more that waits, the key unset for this caller, pass the limit.
-    fn is_full_of_changes_with(&self, units: u32, who: Option<Id>, key: &Text) -> bool
-        ensures { result ≡ nat_lt units (changes_pending (keys_with self.now.keys who key.now None)) }
-    {
-        self.count_with(Counted::Unsets, who, key) > units as usize
-    }
-
-    // One setting more for this caller.
-    fn add(&mut self, who: Option<Id>, key: Text, value: Option<Bytes>) -> Result<Reply, NoMemory>
+    // One setting more, as it was planned.
+    fn add(
+        &mut self,
+        who: Option<Id>,
+        plan: Plan,
+        key: Text,
+        value: Option<Bytes>,
+    ) -> Result<Reply, NoMemory>
+        requires seat { IsSeatOf self.old.keys.own who key plan.seat }
+        requires counts { AreCounts (with_setting self.old.keys.own who key value) plan.counts }
+        requires few { AreFew plan.counts }
         ensures reply { IfOk result (λ reply. reply ≡ Done) }
         ensures ok { OnOk result (self.new.keys ≡ keys_with self.old.keys who key value) }
         ensures err { OnErr result (self.new.keys ≡ self.old.keys) }
         ensures room { self.new.room ≡ self.old.room }
     {
-        if let Some(transaction) = who {
-            set_own(self.alloc, &mut self.own, transaction, key, value)?;
-        }
+        set_for(self.alloc, &mut self.own, who, plan.seat, key, value)?;
+        self.counts = plan.counts;
         Ok(Reply::Done)
     }
 
@@ -172,10 +221,11 @@ impl KvRm {
         if self.is_held(who, &key) {
             return Ok(Reply::Refused(Refusal::TransactionalConflict));
         }
-        if self.is_full_with(most, who, &key) {
+        let plan = self.plan(who, &key, Kind::Value);
+        if self.is_full_with(plan.counts.values, most) {
             return Ok(Reply::Refused(Refusal::DiskFull));
         }
-        self.add(who, key, Some(value))
+        self.add(who, plan, key, Some(value))
     }
 
     fn unset(&mut self, who: Option<Id>, key: Text, most: u32) -> Result<Reply, NoMemory>
@@ -187,16 +237,17 @@ impl KvRm {
         if is_bad_key(&key) {
             return Ok(Reply::Refused(Refusal::InvalidParameter));
         }
-        if self.value_seen(who, key.as_slice()).is_none() {
+        let plan = self.plan(who, &key, Kind::Unset);
+        if is_unset(&self.store, plan.seat, &key) {
             return Ok(Reply::Refused(Refusal::NotFound));
         }
         if self.is_held(who, &key) {
             return Ok(Reply::Refused(Refusal::TransactionalConflict));
         }
-        if self.is_full_of_changes_with(most, who, &key) {
+        if plan.counts.unsets > most as usize {
             return Ok(Reply::Refused(Refusal::NotEnoughQuota));
         }
-        self.add(who, key, None)
+        self.add(who, plan, key, None)
     }
 
     /// In the order in which a commit makes them.
@@ -204,6 +255,13 @@ impl KvRm {
         ensures { result.now ≡ own_settings self.now.keys.own transaction }
     {
         settings_of(&self.own, transaction)
+    }
+
+    /// Has the transaction set or unset a key.
+    pub fn has_settings(&self, transaction: Id) -> bool
+        ensures { result ≡ has_settings (own_settings self.now.keys.own transaction) }
+    {
+        !settings_of(&self.own, transaction).is_empty()
     }
 
     /// Takes the memory that a commit of this transaction needs.
@@ -215,8 +273,18 @@ impl KvRm {
         ensures grows { self.old.room ≤ self.new.room }
     {
         let count = settings_of(&self.own, transaction).len();
-        self.store.reserve(count)?;
-        Ok(())
+        self.store.reserve(count)
+    }
+
+    // Takes out what a transaction has set.
+    fn take(&mut self, transaction: Id) -> Vec<Setting>
+        ensures settings { result.items ≡ own_settings self.old.keys.own transaction }
+        ensures keys { self.new.keys ≡ record self.old.keys { own = without_own self.old.keys.own transaction } }
+        ensures room { self.new.room ≡ self.old.room }
+    {
+        let settings = take_own(self.alloc, &mut self.own, transaction);
+        self.counts = self.counts.less(&settings);
+        settings
     }
 
     /// Makes the transaction's settings in the store, in order. It takes no memory.
@@ -225,7 +293,15 @@ impl KvRm {
         ensures keys { self.new.keys ≡ record { store = stored_all self.old.keys.store (own_settings self.old.keys.own transaction); own = without_own self.old.keys.own transaction } }
         ensures room { self.new.room + length self.new.keys.store ≡ self.old.room + length self.old.keys.store }
     {
-        let settings = take_own(self.alloc, &mut self.own, transaction);
+        let settings = self.take(transaction);
         make_all(&mut self.store, settings);
+    }
+
+    /// Forgets what the transaction has set, as it rolls back.
+    pub fn forget(&mut self, transaction: Id)
+        ensures keys { self.new.keys ≡ record self.old.keys { own = without_own self.old.keys.own transaction } }
+        ensures room { self.new.room ≡ self.old.room }
+    {
+        let _ = self.take(transaction);
     }
 }

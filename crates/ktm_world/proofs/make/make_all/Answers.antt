@@ -9,6 +9,6 @@ loop-setting-preserved c =
     let n = length_push c.loop-setting.yielded c.in-Some.setting in
     record {
       made = c.make_one.ensures.items ∙ ap (λ s. stored s c.in-Some.setting) c.loop-setting.invariant.made ∙ sym (stored_all-append _ c.loop-setting.yielded c.in-Some.setting);
-      capacity = c.make_one.ensures.capacity ∙ c.loop-setting.invariant.capacity;
+      in_place = c.make_one.ensures.in_place ∙ c.loop-setting.invariant.in_place;
       room = omega arith;
     }

@@ -1,10 +1,10 @@
-use Rattle.std.proofs.Common.{◌≡◌, ◌+◌, ◌-◌, ◌≤◌, length, vec_len, vec_capacity}
+use Rattle.std.proofs.Common.{◌≡◌, ◌+◌, ◌≤◌, length}
 use Rattle.ktm_world.specs.Keys.{stored_all}
 use Rattle.ktm_world.proofs.make.make_all.Given as goal
 
 abbrev pub invariant-loop-setting : goal.invariant-loop-setting
 invariant-loop-setting l = record {
   made : l.store.items ≡ stored_all l.initial.store.items l.yielded;
-  capacity : vec_capacity l.store ≡ vec_capacity l.initial.store;
-  room : vec_capacity l.initial.store - vec_len l.initial.store ≤ vec_capacity l.store - vec_len l.store + length l.yielded;
+  in_place : l.store.spare + length l.store.items ≡ l.initial.store.spare + length l.initial.store.items;
+  room : l.initial.store.spare ≤ l.store.spare + length l.yielded;
 }

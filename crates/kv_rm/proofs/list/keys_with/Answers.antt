@@ -1,11 +1,7 @@
-use Rattle.std.proofs.Common.{◌∙◌, ap}
-use Rattle.std.specs.Prelude.{map}
-use Rattle.kv_rm.proofs.MarkLemmas.{keys_of-marks}
+use Rattle.kv_rm.proofs.Merges.{merged_more}
 use Rattle.kv_rm.proofs.list.keys_with.Goals as goal
 
-pub returns : goal.returns
-returns c =
-    c.new.ensures
-    ∙ c.in_ok-keys_in.ensures
-    ∙ ap (λ marks. map (λ m. m.key) marks) (c.in_ok-mark_all.ensures c.args.store.now c.in_ok-marks.ensures)
-    ∙ keys_of-marks _
+pub loop-setting-preserved : goal.loop-setting-preserved
+loop-setting-preserved c =
+    rw (c.in_ok-push_set.ensures, c.in_ok-push_keys.ensures)
+    (merged_more _ _ _ _ _ _ _ c.setting-item.result c.loop-setting-test.true c.setting-item.is c.loop-setting.invariant (rw c.as_slice.ensures at c.split.ensures))
