@@ -48,7 +48,7 @@ named_at name named (x ∷ xs) key e all is =
       | inr differs ↦ named_at name named xs key e all.1 (rw differs at is)
     ]
 
-cases_name : (a b : List ℕ) → (a ≡ b) ⊎ (a ≡ b → ⊥)
+pub cases_name : (a b : List ℕ) → (a ≡ b) ⊎ (a ≡ b → ⊥)
 cases_name a b =
     elim (cases_Bool (is_eq (name_cmp a b))) [
       | inl same ↦ inl (name_equal a b (from_is_eq (name_cmp a b) same))
@@ -100,10 +100,10 @@ name_key_free name items labels named process label owner q by_label index owner
     key_at-free named q (name_free name items labels named process label owner q by_label index owner_of name_is is free)
 
 -- ---- one more
-key_under-at : (named : List (NamedItem Key)) (q : List ℕ) (own key : Key) → at named q ≡ Some (own, key) → key_under named q ≡ Some key
+pub key_under-at : (named : List (NamedItem Key)) (q : List ℕ) (own key : Key) → at named q ≡ Some (own, key) → key_under named q ≡ Some key
 key_under-at named q own key is = ap (λ o. option_map (λ (e : Key × Key). e.1) o) is
 
-key_under-same : (named more : List (NamedItem Key)) (q : List ℕ) → at more q ≡ at named q → key_under more q ≡ key_under named q
+pub key_under-same : (named more : List (NamedItem Key)) (q : List ℕ) → at more q ≡ at named q → key_under more q ≡ key_under named q
 key_under-same named more q is = ap (λ o. option_map (λ (e : Key × Key). e.1) o) is
 
 AreNamed-other : (name : Entry → List ℕ) (named new : List (NamedItem Key)) (items : List (Item Entry)) (q : List ℕ) → AreNamed name named items

@@ -1,2 +1,4 @@
+pub mod Closing
 pub mod Indexes
 pub mod Labels
+pub mod Owners

@@ -1,11 +1,14 @@
 -- What a contract sees of the handles.
-use Rattle.std.specs.Prelude.{ℕ, Bool, false, List, [], ◌∷◌, map, Option, Some, None, if◌then◌else◌}
+use Rattle.std.specs.Prelude.{ℕ, Bool, false, not, List, [], ◌∷◌, map, filter, Option, Some, None, if◌then◌else◌}
+use Rattle.std.specs.Option.{option_map}
 use Rattle.ktm_base.specs.declared.id.Id.{Id}
 use Rattle.ktm_base.specs.declared.id.Label.{Label}
 use Rattle.ktm_base.specs.declared.id.Pid.{Pid}
 use Rattle.ktm_world.specs.declared.object.Handle.{Handle}
 use Rattle.ktm_world.specs.declared.object.Object.{Object}
-use Rattle.ktm_world.specs.HandleCalls.{is_handle}
+use Rattle.ktm_world.specs.Handles.{object_at}
+use Rattle.ktm_world.specs.HandleCalls.{has_handle, is_handle, without_handle}
+use Rattle.ktm_object.specs.declared.entry.Closed.{Closed}
 use Rattle.ktm_object.specs.declared.entry.Entry.{Entry}
 
 -- the handles in the order in which they were bound, how many were ever bound, and how many can be bound without memory
@@ -40,3 +43,21 @@ is_dead_at entries process label = is_dead_entry (entry_at entries process label
 abbrev pub bound : Pid → Label → Object → Option Id → Entry
 bound process label object group =
     record { handle = record { process = process; label = label; object = object }; group = group; is_dead = false }
+
+-- the entries but that of this process with this label
+abbrev pub without_entry : List Entry → Pid → Label → List Entry
+without_entry entries process label = filter (λ e. not (is_handle process label e.handle)) entries
+
+-- what is told where the handle of an object is closed: whether no other handle names it, too
+abbrev pub closing : List Handle → Pid → Label → Object → Closed
+closing handles process label object =
+    record { label = label; object = object; is_last = not (has_handle (without_handle handles process label) object) }
+
+-- what is told where the label is closed, if it is bound
+abbrev pub closed_of : List Handle → Pid → Label → Option Closed
+closed_of handles process label = option_map (closing handles process label) (object_at handles process label)
+
+-- the first of the labels
+abbrev pub first_label : List Label → Option Label
+first_label [] = None
+first_label (l ∷ ls) = Some l

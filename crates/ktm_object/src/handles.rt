@@ -1,14 +1,17 @@
 // The handles of all processes.
-ghost use Rattle.std.specs.Prelude.{◌≡◌, ℕ, ◌<◌, ◌≤◌, ◌+◌, ◌++◌, ◌∷◌, [], length, false, None, IsOk, OnOk};
+ghost use Rattle.std.specs.Prelude.{◌≡◌, ℕ, ◌<◌, ◌≤◌, ◌+◌, ◌-◌, ◌^◌, ◌++◌, ◌∷◌, [], length, false, min, None, IfNone, IfSome, IsOk, OnOk, OnSome};
 ghost use Rattle.std.specs.Option.{option_map};
 ghost use Rattle.ktm_world.specs.Handles.{no_handle_left, object_at};
-ghost use Rattle.ktm_world.specs.Labels.{holds_of, with_handle};
-ghost use Rattle.ktm_object.specs.Indexed.{key_under};
-ghost use Rattle.ktm_object.specs.Table.{bound, entry_at, handles_of, is_dead_at};
+ghost use Rattle.ktm_world.specs.HandleCalls.{without_handle};
+ghost use Rattle.ktm_world.specs.Labels.{with_handle};
+ghost use Rattle.ktm_links.specs.Mapped.{Begins};
+ghost use Rattle.ktm_object.specs.Indexed.{key_under, IsFirstUnder, IsNoneUnder};
+ghost use Rattle.ktm_object.specs.Table.{bound, closed_of, entry_at, handles_of, is_dead_at, without_entry};
 
-use crate::entry::Entry;
+use crate::entry::{Closed, Entry};
 use crate::name::{
-    LabelName, OwnerName, group_owner, label_bytes, label_name, object_owner, owner_name,
+    LabelName, OwnerName, group_owner, label_bytes, label_name, object_owner, owner_bytes,
+    owner_name,
 };
 use ktm_base::{Id, Label, NoMemory, Pid};
 use ktm_links::{Chains, Key, List, Name};
@@ -52,6 +55,17 @@ fn key_under<K: Name>(map: &Chains<K, Key>, name: &[u8]) -> Option<Key>
 {
     match map.find(name) {
         Some(key) => map.get(key).copied(),
+        None => None,
+    }
+}
+
+// The key under the first of the names that begin with these bytes.
+fn first_under<K: Name>(map: &Chains<K, Key>, prefix: &[u8]) -> Option<Key>
+    ensures first { IfSome result (λ key. IsFirstUnder (Begins prefix.now) map.now.entries key) }
+    ensures none { IfNone result (IsNoneUnder (Begins prefix.now) map.now.entries) }
+{
+    match map.first_with(prefix) {
+        Some(own) => map.get(own).copied(),
         None => None,
     }
 }
@@ -168,5 +182,36 @@ impl Handles {
             .insert(owner_name(owner, process, label), key);
         let owner = group_owner(group);
         self.by_group.insert(owner_name(owner, process, label), key);
+    }
+
+    /// Unbinds a label, and gives its place back.
+    pub fn close(&mut self, process: Pid, label: Label) -> Option<Closed>
+        ensures closed { result ≡ closed_of (handles_of self.old) process label }
+        ensures entries { self.new.entries ≡ without_entry self.old.entries process label }
+        ensures handles { handles_of self.new ≡ without_handle (handles_of self.old) process label }
+        ensures ever { self.new.ever ≡ self.old.ever }
+        ensures spare { OnSome result (self.new.spare ≡ min (self.old.spare + 1) (2 ^ 64 - 1 - self.old.ever)) }
+        ensures kept { IfNone result (self.new.spare ≡ self.old.spare) }
+    {
+        let bytes = label_bytes(process, label);
+        let Some(key) = key_under(&self.by_label, &bytes) else {
+            return None;
+        };
+        let Some(entry) = self.entries.unlink(key) else {
+            unreachable!();
+        };
+        self.by_label.remove(&bytes);
+        let object = object_owner(entry.handle.object);
+        self.by_object
+            .remove(owner_name(object, process, label).as_slice());
+        let group = group_owner(entry.group);
+        self.by_group
+            .remove(owner_name(group, process, label).as_slice());
+        let other = first_under(&self.by_object, &owner_bytes(object));
+        Some(Closed {
+            label,
+            object: entry.handle.object,
+            is_last: other.is_none(),
+        })
     }
 }

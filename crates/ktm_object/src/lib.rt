@@ -5,7 +5,7 @@ mod entry;
 mod handles;
 mod name;
 
-pub use entry::Entry;
+pub use entry::{Closed, Entry};
 pub use handles::Handles;
 
 #[cfg(test)]
