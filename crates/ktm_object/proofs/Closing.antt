@@ -1,5 +1,5 @@
 -- Lemmas on a handle that is gone.
-use Rattle.std.proofs.Common.{◌≡◌, ℕ, ◌+◌, ◌-◌, ◌^◌, Bool, true, false, not, min, cond, List, [], ◌∷◌, map, filter, Option, Some, None, is_some, refl, sym, ap, ◌∙◌, inl, inr, arith}
+use Rattle.std.proofs.Common.{◌≡◌, ℕ, ◌+◌, ◌-◌, ◌^◌, Bool, true, false, not, min, List, [], ◌∷◌, map, Option, Some, None, refl, sym, ap, ◌∙◌, inl, inr, arith}
 use Rattle.std.specs.Prelude.{OnSome}
 use Rattle.std.specs.Option.{option_map}
 use Rattle.std.proofs.lemmas.Bool.{cases_Bool}
@@ -19,11 +19,11 @@ use Rattle.ktm_object.proofs.Indexes.{cases_name, named_at, key_under-same}
 use Rattle.ktm_object.proofs.Labels.{is_handle-from, is_handle-to}
 
 -- of each item, is it that of the key exactly where it is the handle of the process with the label
-abbrev TellsKey : Pid → Label → Key → List (Item Entry) → Type 0
+abbrev pub TellsKey : Pid → Label → Key → List (Item Entry) → Type 0
 TellsKey process label key [] = Unit {0}
 TellsKey process label key (x ∷ xs) = (is_handle process label x.value.handle ≡ same_key x.key key) × TellsKey process label key xs
 
-tells : (items : List (Item Entry)) (named : List (NamedItem Key)) (process : Pid) (label : Label) (key : Key) → IsIndex label_name items named
+pub tells : (items : List (Item Entry)) (named : List (NamedItem Key)) (process : Pid) (label : Label) (key : Key) → IsIndex label_name items named
     → key_under named (label_bytes process label) ≡ Some key → (xs : List (Item Entry)) → AreNamed label_name named xs → TellsKey process label key xs
 tells items named process label key index under [] all = tt
 tells items named process label key index under (x ∷ xs) all = (

@@ -9,16 +9,16 @@ use Rattle.ktm_base.specs.declared.id.Label.{Label}
 use Rattle.ktm_base.specs.declared.id.Pid.{Pid}
 use Rattle.ktm_world.specs.Handles.{object_at}
 use Rattle.ktm_links.specs.declared.list.Key.{Key}
-use Rattle.ktm_links.specs.Items.{Item, item, same_key, value_at}
+use Rattle.ktm_links.specs.Items.{Item, item, same_key, value_at, without}
 use Rattle.ktm_links.specs.Mapped.{NamedItem, name_cmp, at, key_at}
-use Rattle.ktm_links.proofs.Keys.{same_key-true, same_key-self}
+use Rattle.ktm_links.proofs.Keys.{same_key-true, same_key-self, value_at-others, value_at-push_other}
 use Rattle.ktm_links.proofs.Entries.{key_at-at}
 use Rattle.ktm_links.proofs.Names.{name_equal, name_same, from_is_eq}
 use Rattle.ktm_object.specs.declared.entry.Entry.{Entry}
 use Rattle.ktm_object.specs.declared.name.Owner.{Owner}
 use Rattle.ktm_object.specs.Table.{handle_of}
 use Rattle.ktm_object.specs.Names.{label_bytes, label_name, owner_bytes}
-use Rattle.ktm_object.specs.Indexed.{entries_of, key_under, AreNamed, IsIndex}
+use Rattle.ktm_object.specs.Indexed.{entries_of, key_under, AreDistinct, AreNamed, IsIndex}
 use Rattle.ktm_object.proofs.Labels.{owner_tells, entry_at-index, object_at-entry}
 
 cases_key : (a b : Key) → (a ≡ b) ⊎ (a ≡ b → ⊥)
@@ -140,3 +140,36 @@ IsIndex-push name items new named more key own e q index is free items_are absen
             (at.0, kept k (λ same. absurd (let none = rw (← same) at absent in let some = at.1 in cc)) ∙ at.1, at.2)
       ];
     }
+
+-- ---- distinct keys
+pub AreDistinct-push : (xs : List (Item Entry)) (key : Key) (e : Entry) → AreDistinct xs → value_at xs key ≡ None → AreDistinct (xs ++ item key e ∷ [])
+AreDistinct-push [] key e distinct none = (refl, tt)
+AreDistinct-push (x ∷ xs) key e distinct none =
+    elim (cases_Bool (same_key x.key key)) [
+      | inl same ↦ absurd (let some = rw same at none in cc)
+      | inr differs ↦ (
+        value_at-push_other xs (item key e) x.key (λ same. absurd (let is = same_key-self x.key key same in cc)) ∙ distinct.0,
+        AreDistinct-push xs key e distinct.1 (rw differs at none),
+      )
+    ]
+
+pub AreDistinct-without : (xs : List (Item Entry)) (key : Key) → AreDistinct xs → AreDistinct (without xs key)
+AreDistinct-without [] key distinct = tt
+AreDistinct-without (x ∷ xs) key distinct =
+    elim (cases_Bool (same_key x.key key)) [
+      | inl same ↦ rw same distinct.1
+      | inr differs ↦
+          rw differs
+          ((
+            value_at-others xs key x.key (λ same. absurd (let is = same_key-self x.key key (sym same) in cc)) ∙ distinct.0,
+            AreDistinct-without xs key distinct.1,
+          ))
+    ]
+
+pub value_at-gone : (xs : List (Item Entry)) (key : Key) → AreDistinct xs → value_at (without xs key) key ≡ None
+value_at-gone [] key distinct = refl
+value_at-gone (x ∷ xs) key distinct =
+    elim (cases_Bool (same_key x.key key)) [
+      | inl same ↦ rw same (ap (value_at xs) (sym (same_key-true x.key key same)) ∙ distinct.0)
+      | inr differs ↦ rw (differs, differs) (value_at-gone xs key distinct.1)
+    ]

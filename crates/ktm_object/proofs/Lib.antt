@@ -1,4 +1,5 @@
 pub mod Closing
+pub mod Exits
 pub mod Indexes
 pub mod Labels
 pub mod Owners

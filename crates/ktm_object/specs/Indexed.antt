@@ -40,11 +40,17 @@ pub record IsFirstUnder (P : List ℕ → Type 0) (named : List (NamedItem Key))
 abbrev pub IsNoneUnder : (List ℕ → Type 0) → List (NamedItem Key) → Type 0
 IsNoneUnder P named = (q : List ℕ) → P q → key_under named q ≡ None
 
+-- no two entries have one key
+abbrev pub AreDistinct : List (Item Entry) → Type 0
+AreDistinct [] = Unit {0}
+AreDistinct (x ∷ xs) = (value_at xs x.key ≡ None) × AreDistinct xs
+
 -- the three maps stand for the entries, and no key of one was given out without one of each other
 pub record IsIndexed (listed : Listed Entry) (labels objects groups : Mapped Key) : Type 0 where
   pub by_label : IsIndex label_name listed.items labels.entries
   pub by_object : IsIndex object_name listed.items objects.entries
   pub by_group : IsIndex group_name listed.items groups.entries
+  pub distinct : AreDistinct listed.items
   pub labels_next : labels.next ≡ listed.next
   pub objects_next : objects.next ≡ listed.next
   pub groups_next : groups.next ≡ listed.next

@@ -1,5 +1,5 @@
 -- What a contract sees of the handles.
-use Rattle.std.specs.Prelude.{ℕ, Bool, false, not, List, [], ◌∷◌, map, filter, Option, Some, None, if◌then◌else◌}
+use Rattle.std.specs.Prelude.{ℕ, Bool, false, not, List, [], ◌∷◌, ◌++◌, map, filter, Option, Some, None, if◌then◌else◌}
 use Rattle.std.specs.Option.{option_map}
 use Rattle.ktm_base.specs.declared.id.Id.{Id}
 use Rattle.ktm_base.specs.declared.id.Label.{Label}
@@ -43,6 +43,12 @@ is_dead_at entries process label = is_dead_entry (entry_at entries process label
 abbrev pub bound : Pid → Label → Object → Option Id → Entry
 bound process label object group =
     record { handle = record { process = process; label = label; object = object }; group = group; is_dead = false }
+
+-- the entries with one more, of a new label for what an entry names, if there is one
+abbrev pub with_duplicate : List Entry → Pid → Label → Option Entry → List Entry
+with_duplicate entries process label None = entries
+with_duplicate entries process label (Some e) =
+    entries ++ record e { handle = record { process = process; label = label; object = e.handle.object } } ∷ []
 
 -- the entries but that of this process with this label
 abbrev pub without_entry : List Entry → Pid → Label → List Entry

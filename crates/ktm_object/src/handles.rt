@@ -1,12 +1,12 @@
 // The handles of all processes.
-ghost use Rattle.std.specs.Prelude.{◌≡◌, ℕ, ◌<◌, ◌≤◌, ◌+◌, ◌-◌, ◌^◌, ◌++◌, ◌∷◌, [], length, false, min, None, IfNone, IfSome, IsOk, OnOk, OnSome};
+ghost use Rattle.std.specs.Prelude.{◌≡◌, ℕ, ◌<◌, ◌≤◌, ◌+◌, ◌-◌, ◌^◌, ◌++◌, ◌∷◌, [], length, is_some, min, option_and_then, true, None, Some, IfNone, IfSome, IsOk, OnOk, OnSome};
 ghost use Rattle.std.specs.Option.{option_map};
 ghost use Rattle.ktm_world.specs.Handles.{no_handle_left, object_at};
-ghost use Rattle.ktm_world.specs.HandleCalls.{without_handle};
+ghost use Rattle.ktm_world.specs.HandleCalls.{labels_of, without_handle};
 ghost use Rattle.ktm_world.specs.Labels.{with_handle};
 ghost use Rattle.ktm_links.specs.Mapped.{Begins};
 ghost use Rattle.ktm_object.specs.Indexed.{key_under, IsFirstUnder, IsNoneUnder};
-ghost use Rattle.ktm_object.specs.Table.{bound, closed_of, entry_at, handles_of, is_dead_at, without_entry};
+ghost use Rattle.ktm_object.specs.Table.{bound, closed_of, entry_at, first_label, handles_of, is_dead_at, with_duplicate, without_entry};
 
 use crate::entry::{Closed, Entry};
 use crate::name::{
@@ -167,7 +167,7 @@ impl Handles {
         ensures ever { self.new.ever ≡ self.old.ever + 1 }
         ensures spare { self.new.spare + 1 ≡ self.old.spare }
     {
-        let key = self.entries.push_spare(Entry {
+        self.bind(Entry {
             handle: Handle {
                 process,
                 label,
@@ -176,12 +176,48 @@ impl Handles {
             group,
             is_dead: false,
         });
+    }
+
+    /// Binds a label that is not bound to what another label names, in the same group, and takes no memory.
+    pub fn duplicate(&mut self, to: Pid, new: Label, from: Pid, old: Label)
+        requires spare { 0 < self.old.spare }
+        requires free { object_at (handles_of self.old) to new ≡ None }
+        requires named { is_some (object_at (handles_of self.old) from old) ≡ true }
+        ensures entries { self.new.entries ≡ with_duplicate self.old.entries to new (entry_at self.old.entries from old) }
+        ensures handles { Some (handles_of self.new) ≡ option_map (with_handle (handles_of self.old) to new) (object_at (handles_of self.old) from old) }
+        ensures ever { self.new.ever ≡ self.old.ever + 1 }
+        ensures spare { self.new.spare + 1 ≡ self.old.spare }
+    {
+        let Some(entry) = self.entry(from, old) else {
+            unreachable!();
+        };
+        self.bind(Entry {
+            handle: Handle {
+                process: to,
+                label: new,
+                object: entry.handle.object,
+            },
+            ..entry
+        });
+    }
+
+    // Puts an entry, whose label is not bound, at the end.
+    fn bind(&mut self, entry: Entry)
+        requires spare { 0 < self.old.spare }
+        requires free { object_at (handles_of self.old) entry.handle.process entry.handle.label ≡ None }
+        ensures entries { self.new.entries ≡ self.old.entries ++ entry ∷ [] }
+        ensures ever { self.new.ever ≡ self.old.ever + 1 }
+        ensures spare { self.new.spare + 1 ≡ self.old.spare }
+    {
+        let process = entry.handle.process;
+        let label = entry.handle.label;
+        let key = self.entries.push_spare(entry);
         self.by_label.insert(label_name(process, label), key);
-        let owner = object_owner(object);
+        let object = object_owner(entry.handle.object);
         self.by_object
-            .insert(owner_name(owner, process, label), key);
-        let owner = group_owner(group);
-        self.by_group.insert(owner_name(owner, process, label), key);
+            .insert(owner_name(object, process, label), key);
+        let group = group_owner(entry.group);
+        self.by_group.insert(owner_name(group, process, label), key);
     }
 
     /// Unbinds a label, and gives its place back.
@@ -213,5 +249,26 @@ impl Handles {
             object: entry.handle.object,
             is_last: other.is_none(),
         })
+    }
+
+    /// Unbinds the least label of the process, if it has one.
+    pub fn exit_next(&mut self, process: Pid) -> Option<Closed>
+        ensures closed { result ≡ option_and_then (closed_of (handles_of self.old) process) (first_label (labels_of (handles_of self.old) process)) }
+        ensures labels { IfSome result (λ closed. labels_of (handles_of self.old) process ≡ closed.label ∷ labels_of (handles_of self.new) process) }
+        ensures entries { IfSome result (λ closed. self.new.entries ≡ without_entry self.old.entries process closed.label) }
+        ensures handles { IfSome result (λ closed. handles_of self.new ≡ without_handle (handles_of self.old) process closed.label) }
+        ensures ever { self.new.ever ≡ self.old.ever }
+        ensures spare { OnSome result (self.new.spare ≡ min (self.old.spare + 1) (2 ^ 64 - 1 - self.old.ever)) }
+        ensures none { IfNone result (labels_of (handles_of self.old) process ≡ []) }
+        ensures unchanged { IfNone result (self.new ≡ self.old) }
+    {
+        let Some(key) = first_under(&self.by_label, &[process.0]) else {
+            return None;
+        };
+        let Some(entry) = self.entries.get(key) else {
+            unreachable!();
+        };
+        let label = entry.handle.label;
+        self.close(process, label)
     }
 }

@@ -1,13 +1,12 @@
-use Rattle.std.proofs.Common.{◌≡◌, ◌-◌, ◌^◌, Some, None, not, is_some, map, ◌∙◌, sym, ap, refl}
+use Rattle.std.proofs.Common.{◌≡◌, ◌-◌, ◌^◌, Some, None, not, map, ◌∙◌, sym, ap}
 use Rattle.std.specs.Option.{option_map}
-use Rattle.ktm_world.specs.Handles.{object_at}
 use Rattle.ktm_world.specs.HandleCalls.{has_handle, without_handle}
-use Rattle.ktm_object.specs.declared.entry.Closed.{Closed}
 use Rattle.ktm_object.specs.declared.entry.Entry.{Entry}
 use Rattle.ktm_object.specs.Table.{HandleTable, closing, entry_at, handle_of, without_entry}
-use Rattle.ktm_object.specs.Indexed.{entries_of, key_under}
+use Rattle.ktm_object.specs.Indexed.{key_under}
 use Rattle.ktm_object.specs.Names.{label_bytes, label_name, object_name, object_owner, owner_bytes, group_name, group_owner}
 use Rattle.ktm_object.proofs.Closing.{IsIndex-without, entries_of-without, handles-without, label_name-found, name_taken, not_flip, spare_back, spare_rises, without_entry-absent}
+use Rattle.ktm_object.proofs.Indexes.{AreDistinct-without}
 use Rattle.ktm_object.proofs.Labels.{entry_at-absent, entry_at-index, object_at-entry}
 use Rattle.ktm_object.proofs.Owners.{has_handle-told}
 use Rattle.ktm_object.proofs.handles.Handles.close.Goals as goal
@@ -54,6 +53,7 @@ invariant_of-self c =
           ∙ ap (owner_bytes (group_owner c.in-Some-unlink.entry.group)) (sym name))
           (sym c.in-Some-unlink.ensures.value) c.in-Some-unlink.ensures.items gone c.in-Some-unlink.ensures.others
           c.remove-other-3.ensures.gone c.remove-other-3.ensures.other_names;
+      distinct = rw c.in-Some-unlink.ensures.items (AreDistinct-without _ c.in-Some.key c.self.invariant.distinct);
       labels_next = c.remove-other.ensures.next ∙ c.self.invariant.labels_next ∙ sym c.in-Some-unlink.ensures.next;
       objects_next = c.remove-other-2.ensures.next ∙ c.self.invariant.objects_next ∙ sym c.in-Some-unlink.ensures.next;
       groups_next = c.remove-other-3.ensures.next ∙ c.self.invariant.groups_next ∙ sym c.in-Some-unlink.ensures.next;
