@@ -1,11 +1,7 @@
 -- Lemmas on the labels of one process.
-use Rattle.std.proofs.Common.{◌≡◌, ℕ, ◌⊎◌, ◌<◌, ◌≤◌, ◌/◌, ◌%◌, true, false, eqb, ltb, List, [], ◌∷◌, map, Some, None, is_some, refl, sym, subst, ap, ◌∙◌, inl, inr, arith}
+use Rattle.std.proofs.Common.{◌≡◌, ℕ, ◌<◌, ◌≤◌, ◌/◌, ◌%◌, true, false, eqb, ltb, List, [], ◌∷◌, map, Some, None, is_some, refl, sym, subst, ap, ◌∙◌, inl, inr, arith}
 use Rattle.std.specs.Option.{option_map}
-use Rattle.std.specs.Ordering.{is_lt, nat_cmp, ordering_then}
-use Rattle.std.specs.declared.cmp.Ordering.{Ordering}
-use Rattle.std.specs.declared.cmp.Ordering.TheVariants.{Less, Equal, Greater}
 use Rattle.std.proofs.lemmas.Bool.{cases_Bool, and_from, and_parts, eqb-true, eq-eqb, cases_lt, lt-ltb, le-ltb}
-use Rattle.std.proofs.lemmas.Cmp.{nat_cmp_total, ranked, tied_itself}
 use Rattle.std.proofs.lemmas.Option.{same_Some}
 use Rattle.ktm_base.specs.declared.id.Label.{Label}
 use Rattle.ktm_base.specs.declared.id.Pid.{Pid}
@@ -22,27 +18,7 @@ use Rattle.ktm_object.specs.Indexed.{entries_of, key_under, AreDistinct, AreName
 use Rattle.ktm_object.proofs.Closing.{TellsKey, tells, entries_of-without, handles-without}
 use Rattle.ktm_object.proofs.Indexes.{value_at-gone}
 use Rattle.ktm_object.proofs.Labels.{entry_at-index, object_at-entry}
-
--- ---- the order of labels
-second_order : (a b : ℕ) (o : Ordering) → o ≡ nat_cmp a b → is_lt (ordering_then o Equal) ≡ false → b ≤ a
-second_order a b Less is not_below = absurd (cc)
-second_order a b Equal is not_below = let same : a ≡ b = ranked a b Equal is in omega arith
-second_order a b Greater is not_below = let above : b < a = ranked a b Greater is in omega arith
-
-first_order : (a b c d : ℕ) (o : Ordering) → o ≡ nat_cmp a b → is_lt (ordering_then o (ordering_then (nat_cmp c d) Equal)) ≡ false → (b < a) ⊎ ((a ≡ b) × (d ≤ c))
-first_order a b c d Less is not_below = absurd (cc)
-first_order a b c d Equal is not_below = inr (ranked a b Equal is, second_order c d (nat_cmp c d) refl not_below)
-first_order a b c d Greater is not_below = inl (ranked a b Greater is)
-
--- names of one process are in the order of its labels
-pub label_order : (process : Pid) (a b : Label) → IsNotBelow (label_bytes process a) (label_bytes process b) → b.0 ≤ a.0
-label_order process a b not_below =
-    let rest : is_lt (ordering_then (nat_cmp (a.0 / 256) (b.0 / 256)) (ordering_then (nat_cmp (a.0 % 256) (b.0 % 256)) Equal)) ≡ false =
-    rw (tied_itself nat_cmp_total process.0) at not_below in
-    elim (first_order (a.0 / 256) (b.0 / 256) (a.0 % 256) (b.0 % 256) (nat_cmp (a.0 / 256) (b.0 / 256)) refl rest) [
-      | inl above ↦ omega arith
-      | inr level ↦ omega arith
-    ]
+use Rattle.ktm_object.proofs.NameOrder.{label_order}
 
 -- ---- labels in order
 -- the label is below each of these

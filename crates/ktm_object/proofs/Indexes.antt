@@ -21,7 +21,7 @@ use Rattle.ktm_object.specs.Names.{label_bytes, label_name, owner_bytes}
 use Rattle.ktm_object.specs.Indexed.{entries_of, key_under, AreDistinct, AreNamed, IsIndex}
 use Rattle.ktm_object.proofs.Labels.{owner_tells, entry_at-index, object_at-entry}
 
-cases_key : (a b : Key) → (a ≡ b) ⊎ (a ≡ b → ⊥)
+pub cases_key : (a b : Key) → (a ≡ b) ⊎ (a ≡ b → ⊥)
 cases_key a b =
     elim (cases_Bool (same_key a b)) [
       | inl same ↦ inl (same_key-true a b same)

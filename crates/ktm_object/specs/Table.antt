@@ -1,11 +1,12 @@
 -- What a contract sees of the handles.
-use Rattle.std.specs.Prelude.{ℕ, Bool, false, not, List, [], ◌∷◌, ◌++◌, map, filter, Option, Some, None, if◌then◌else◌}
+use Rattle.std.specs.Prelude.{ℕ, Bool, true, false, not, List, [], ◌∷◌, ◌++◌, map, filter, Option, Some, None, if◌then◌else◌}
 use Rattle.std.specs.Option.{option_map}
 use Rattle.ktm_base.specs.declared.id.Id.{Id}
 use Rattle.ktm_base.specs.declared.id.Label.{Label}
 use Rattle.ktm_base.specs.declared.id.Pid.{Pid}
 use Rattle.ktm_world.specs.declared.object.Handle.{Handle}
 use Rattle.ktm_world.specs.declared.object.Object.{Object}
+use Rattle.ktm_world.specs.Transactions.{is_of}
 use Rattle.ktm_world.specs.Handles.{object_at}
 use Rattle.ktm_world.specs.HandleCalls.{has_handle, is_handle, without_handle}
 use Rattle.ktm_object.specs.declared.entry.Closed.{Closed}
@@ -67,3 +68,11 @@ closed_of handles process label = option_map (closing handles process label) (ob
 abbrev pub first_label : List Label → Option Label
 first_label [] = None
 first_label (l ∷ ls) = Some l
+
+-- the entry, dead where it is of the group
+abbrev pub ended : Id → Entry → Entry
+ended group e = if is_of group e.group then record e { is_dead = true } else e
+
+-- the entries, each of the group dead
+abbrev pub ended_group : List Entry → Id → List Entry
+ended_group entries group = map (ended group) entries

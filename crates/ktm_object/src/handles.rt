@@ -4,13 +4,15 @@ ghost use Rattle.std.specs.Option.{option_map};
 ghost use Rattle.ktm_world.specs.Handles.{no_handle_left, object_at};
 ghost use Rattle.ktm_world.specs.HandleCalls.{labels_of, without_handle};
 ghost use Rattle.ktm_world.specs.Labels.{with_handle};
-ghost use Rattle.ktm_links.specs.Mapped.{Begins};
+ghost use Rattle.ktm_world.specs.Transactions.{is_of};
+ghost use Rattle.ktm_links.specs.Mapped.{Begins, IsNotBelow};
+ghost use Rattle.ktm_object.specs.Ending.{after, group_bytes, name_in, AreAllEnded, AreEnded, IsInRange};
 ghost use Rattle.ktm_object.specs.Indexed.{key_under, IsFirstUnder, IsNoneUnder};
-ghost use Rattle.ktm_object.specs.Table.{bound, closed_of, entry_at, first_label, handles_of, is_dead_at, with_duplicate, without_entry};
+ghost use Rattle.ktm_object.specs.Table.{bound, closed_of, ended_group, entry_at, first_label, handles_of, is_dead_at, with_duplicate, without_entry};
 
 use crate::entry::{Closed, Entry};
 use crate::name::{
-    LabelName, OwnerName, group_owner, label_bytes, label_name, object_owner, owner_bytes,
+    LabelName, OwnerName, after, group_owner, label_bytes, label_name, object_owner, owner_bytes,
     owner_name,
 };
 use ktm_base::{Id, Label, NoMemory, Pid};
@@ -67,6 +69,27 @@ fn first_under<K: Name>(map: &Chains<K, Key>, prefix: &[u8]) -> Option<Key>
     match map.first_with(prefix) {
         Some(own) => map.get(own).copied(),
         None => None,
+    }
+}
+
+// The key under the first of the names that are not below this one.
+fn first_from<K: Name>(map: &Chains<K, Key>, name: &[u8]) -> Option<Key>
+    ensures first { IfSome result (λ key. IsFirstUnder (λ q. IsNotBelow q name.now) map.now.entries key) }
+    ensures none { IfNone result (IsNoneUnder (λ q. IsNotBelow q name.now) map.now.entries) }
+{
+    match map.first_from(name) {
+        Some(own) => map.get(own).copied(),
+        None => None,
+    }
+}
+
+// Is the entry of the group.
+fn is_of(group: Id, entry: Entry) -> bool
+    ensures { result ≡ is_of group entry.group }
+{
+    match entry.group {
+        Some(other) => group == other,
+        None => false,
     }
 }
 
@@ -270,5 +293,49 @@ impl Handles {
         };
         let label = entry.handle.label;
         self.close(process, label)
+    }
+
+    /// Tells each handle of the group, one after another, that the group has ended. They stay bound.
+    pub fn end_group(&mut self, group: Id)
+        ensures entries { self.new.entries ≡ ended_group self.old.entries group }
+        ensures handles { handles_of self.new ≡ handles_of self.old }
+        ensures ever { self.new.ever ≡ self.old.ever }
+        ensures spare { self.new.spare ≡ self.old.spare }
+    {
+        let mut last = self.end_next(group, &owner_bytes(group_owner(Some(group))));
+        while let Some(handle) = last {
+            last = self.end_next(group, &after(group, handle));
+        }
+    }
+
+    // Tells the first handle of the group whose name is not below this one, if there is one, that the group has ended.
+    fn end_next(&mut self, group: Id, from: &[u8]) -> Option<Handle>
+        requires begins { Begins (group_bytes group) from.now }
+        requires before { AreEnded group from.now self.old.entries }
+        ensures entries { ended_group self.new.entries group ≡ ended_group self.old.entries group }
+        ensures rises { IfSome result (λ h. IsNotBelow (name_in group h) from.now) }
+        ensures range { IfSome result IsInRange }
+        ensures some { IfSome result (λ h. AreEnded group (after group h) self.new.entries) }
+        ensures none { IfNone result (AreAllEnded group self.new.entries) }
+        ensures ever { self.new.ever ≡ self.old.ever }
+        ensures spare { self.new.spare ≡ self.old.spare }
+    {
+        let Some(key) = first_from(&self.by_group, from) else {
+            return None;
+        };
+        let Some(entry) = self.entries.get(key).copied() else {
+            unreachable!();
+        };
+        if !is_of(group, entry) {
+            return None;
+        }
+        let dead = Entry {
+            is_dead: true,
+            ..entry
+        };
+        if let Err(_) = self.entries.replace(key, dead) {
+            unreachable!();
+        }
+        Some(entry.handle)
     }
 }
