@@ -299,15 +299,16 @@ module _ {T : Type 0} where
 
   -- what stands under a name is a value with that name
   pub at-stands : (items : List (Item (NameAndValue T))) (ks : List Key) (q : List ℕ) (key : Key) (v : T) → ArePresent items ks
-      → at (entries_of items ks) q ≡ Some (key, v) → (n : NameAndValue T) × (value_at items key ≡ Some n) × (n.name ≡ q)
+      → at (entries_of items ks) q ≡ Some (key, v) → (n : NameAndValue T) × (value_at items key ≡ Some n) × (n.name ≡ q) × (n.value ≡ v)
   at-stands items [] q key v present found = absurd (cc)
   at-stands items (k ∷ ks) q key v present found =
       let s = some_of (value_at items k) present.0 in
       let found' = rw (entries_of-cons items k ks s.0 s.1) at found in
       elim (cases_Bool (is_eq (name_cmp s.0.name q))) [
         | inl this ↦
-            let key_is : k ≡ key = ap (λ p. p.0) (same_Some (k, s.0.value) (key, v) (rw this at found')) in
-            (s.0, ap (λ x. value_at items x) (sym key_is) ∙ s.1, name_equal s.0.name q (from_is_eq (name_cmp s.0.name q) this))
+            let same = same_Some (k, s.0.value) (key, v) (rw this at found') in
+            let key_is : k ≡ key = ap (λ p. p.0) same in
+            (s.0, ap (λ x. value_at items x) (sym key_is) ∙ s.1, name_equal s.0.name q (from_is_eq (name_cmp s.0.name q) this), ap (λ p. p.1) same)
         | inr other ↦ at-stands items ks q key v present.1 (rw other at found')
       ]
 

@@ -170,7 +170,8 @@ impl<K: Name, T> Chains<K, T> {
 
     /// The value that the key names.
     pub fn get(&self, key: Key) -> Option<&T>
-        ensures { option_copied result ≡ value_of self.now.entries key }
+        ensures value { option_copied result ≡ value_of self.now.entries key }
+        ensures under { (q : Seq ℕ) (v : T) → at self.now.entries q ≡ Some (key, v) → option_copied result ≡ Some v }
     {
         match self.values.get(key) {
             Some(named) => Some(named.value()),

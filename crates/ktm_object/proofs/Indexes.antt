@@ -9,19 +9,19 @@ use Rattle.ktm_base.specs.declared.id.Label.{Label}
 use Rattle.ktm_base.specs.declared.id.Pid.{Pid}
 use Rattle.ktm_world.specs.Handles.{object_at}
 use Rattle.ktm_links.specs.declared.list.Key.{Key}
-use Rattle.ktm_links.specs.Items.{Item, item, same_key, value_at}
+use Rattle.ktm_links.specs.Items.{Item, item, same_key, value_at, without}
 use Rattle.ktm_links.specs.Mapped.{NamedItem, name_cmp, at, key_at}
-use Rattle.ktm_links.proofs.Keys.{same_key-true, same_key-self}
+use Rattle.ktm_links.proofs.Keys.{same_key-true, same_key-self, value_at-others, value_at-push_other}
 use Rattle.ktm_links.proofs.Entries.{key_at-at}
 use Rattle.ktm_links.proofs.Names.{name_equal, name_same, from_is_eq}
 use Rattle.ktm_object.specs.declared.entry.Entry.{Entry}
 use Rattle.ktm_object.specs.declared.name.Owner.{Owner}
 use Rattle.ktm_object.specs.Table.{handle_of}
 use Rattle.ktm_object.specs.Names.{label_bytes, label_name, owner_bytes}
-use Rattle.ktm_object.specs.Indexed.{entries_of, key_under, AreNamed, IsIndex}
+use Rattle.ktm_object.specs.Indexed.{entries_of, key_under, AreDistinct, AreNamed, IsIndex}
 use Rattle.ktm_object.proofs.Labels.{owner_tells, entry_at-index, object_at-entry}
 
-cases_key : (a b : Key) → (a ≡ b) ⊎ (a ≡ b → ⊥)
+pub cases_key : (a b : Key) → (a ≡ b) ⊎ (a ≡ b → ⊥)
 cases_key a b =
     elim (cases_Bool (same_key a b)) [
       | inl same ↦ inl (same_key-true a b same)
@@ -48,7 +48,7 @@ named_at name named (x ∷ xs) key e all is =
       | inr differs ↦ named_at name named xs key e all.1 (rw differs at is)
     ]
 
-cases_name : (a b : List ℕ) → (a ≡ b) ⊎ (a ≡ b → ⊥)
+pub cases_name : (a b : List ℕ) → (a ≡ b) ⊎ (a ≡ b → ⊥)
 cases_name a b =
     elim (cases_Bool (is_eq (name_cmp a b))) [
       | inl same ↦ inl (name_equal a b (from_is_eq (name_cmp a b) same))
@@ -100,10 +100,10 @@ name_key_free name items labels named process label owner q by_label index owner
     key_at-free named q (name_free name items labels named process label owner q by_label index owner_of name_is is free)
 
 -- ---- one more
-key_under-at : (named : List (NamedItem Key)) (q : List ℕ) (own key : Key) → at named q ≡ Some (own, key) → key_under named q ≡ Some key
+pub key_under-at : (named : List (NamedItem Key)) (q : List ℕ) (own key : Key) → at named q ≡ Some (own, key) → key_under named q ≡ Some key
 key_under-at named q own key is = ap (λ o. option_map (λ (e : Key × Key). e.1) o) is
 
-key_under-same : (named more : List (NamedItem Key)) (q : List ℕ) → at more q ≡ at named q → key_under more q ≡ key_under named q
+pub key_under-same : (named more : List (NamedItem Key)) (q : List ℕ) → at more q ≡ at named q → key_under more q ≡ key_under named q
 key_under-same named more q is = ap (λ o. option_map (λ (e : Key × Key). e.1) o) is
 
 AreNamed-other : (name : Entry → List ℕ) (named new : List (NamedItem Key)) (items : List (Item Entry)) (q : List ℕ) → AreNamed name named items
@@ -140,3 +140,36 @@ IsIndex-push name items new named more key own e q index is free items_are absen
             (at.0, kept k (λ same. absurd (let none = rw (← same) at absent in let some = at.1 in cc)) ∙ at.1, at.2)
       ];
     }
+
+-- ---- distinct keys
+pub AreDistinct-push : (xs : List (Item Entry)) (key : Key) (e : Entry) → AreDistinct xs → value_at xs key ≡ None → AreDistinct (xs ++ item key e ∷ [])
+AreDistinct-push [] key e distinct none = (refl, tt)
+AreDistinct-push (x ∷ xs) key e distinct none =
+    elim (cases_Bool (same_key x.key key)) [
+      | inl same ↦ absurd (let some = rw same at none in cc)
+      | inr differs ↦ (
+        value_at-push_other xs (item key e) x.key (λ same. absurd (let is = same_key-self x.key key same in cc)) ∙ distinct.0,
+        AreDistinct-push xs key e distinct.1 (rw differs at none),
+      )
+    ]
+
+pub AreDistinct-without : (xs : List (Item Entry)) (key : Key) → AreDistinct xs → AreDistinct (without xs key)
+AreDistinct-without [] key distinct = tt
+AreDistinct-without (x ∷ xs) key distinct =
+    elim (cases_Bool (same_key x.key key)) [
+      | inl same ↦ rw same distinct.1
+      | inr differs ↦
+          rw differs
+          ((
+            value_at-others xs key x.key (λ same. absurd (let is = same_key-self x.key key (sym same) in cc)) ∙ distinct.0,
+            AreDistinct-without xs key distinct.1,
+          ))
+    ]
+
+pub value_at-gone : (xs : List (Item Entry)) (key : Key) → AreDistinct xs → value_at (without xs key) key ≡ None
+value_at-gone [] key distinct = refl
+value_at-gone (x ∷ xs) key distinct =
+    elim (cases_Bool (same_key x.key key)) [
+      | inl same ↦ rw same (ap (value_at xs) (sym (same_key-true x.key key same)) ∙ distinct.0)
+      | inr differs ↦ rw (differs, differs) (value_at-gone xs key distinct.1)
+    ]

@@ -1,2 +1,7 @@
+pub mod Closing
+pub mod Ends
+pub mod Exits
 pub mod Indexes
 pub mod Labels
+pub mod NameOrder
+pub mod Owners

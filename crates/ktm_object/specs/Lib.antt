@@ -1,3 +1,4 @@
+pub mod Ending
 pub mod Indexed
 pub mod Names
 pub mod Table

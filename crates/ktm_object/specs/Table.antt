@@ -1,11 +1,15 @@
 -- What a contract sees of the handles.
-use Rattle.std.specs.Prelude.{ℕ, Bool, false, List, [], ◌∷◌, map, Option, Some, None, if◌then◌else◌}
+use Rattle.std.specs.Prelude.{ℕ, Bool, true, false, not, List, [], ◌∷◌, ◌++◌, map, filter, Option, Some, None, if◌then◌else◌}
+use Rattle.std.specs.Option.{option_map}
 use Rattle.ktm_base.specs.declared.id.Id.{Id}
 use Rattle.ktm_base.specs.declared.id.Label.{Label}
 use Rattle.ktm_base.specs.declared.id.Pid.{Pid}
 use Rattle.ktm_world.specs.declared.object.Handle.{Handle}
 use Rattle.ktm_world.specs.declared.object.Object.{Object}
-use Rattle.ktm_world.specs.HandleCalls.{is_handle}
+use Rattle.ktm_world.specs.Transactions.{is_of}
+use Rattle.ktm_world.specs.Handles.{object_at}
+use Rattle.ktm_world.specs.HandleCalls.{has_handle, is_handle, without_handle}
+use Rattle.ktm_object.specs.declared.entry.Closed.{Closed}
 use Rattle.ktm_object.specs.declared.entry.Entry.{Entry}
 
 -- the handles in the order in which they were bound, how many were ever bound, and how many can be bound without memory
@@ -40,3 +44,35 @@ is_dead_at entries process label = is_dead_entry (entry_at entries process label
 abbrev pub bound : Pid → Label → Object → Option Id → Entry
 bound process label object group =
     record { handle = record { process = process; label = label; object = object }; group = group; is_dead = false }
+
+-- the entries with one more, of a new label for what an entry names, if there is one
+abbrev pub with_duplicate : List Entry → Pid → Label → Option Entry → List Entry
+with_duplicate entries process label None = entries
+with_duplicate entries process label (Some e) =
+    entries ++ record e { handle = record { process = process; label = label; object = e.handle.object } } ∷ []
+
+-- the entries but that of this process with this label
+abbrev pub without_entry : List Entry → Pid → Label → List Entry
+without_entry entries process label = filter (λ e. not (is_handle process label e.handle)) entries
+
+-- what is told where the handle of an object is closed: whether no other handle names it, too
+abbrev pub closing : List Handle → Pid → Label → Object → Closed
+closing handles process label object =
+    record { label = label; object = object; is_last = not (has_handle (without_handle handles process label) object) }
+
+-- what is told where the label is closed, if it is bound
+abbrev pub closed_of : List Handle → Pid → Label → Option Closed
+closed_of handles process label = option_map (closing handles process label) (object_at handles process label)
+
+-- the first of the labels
+abbrev pub first_label : List Label → Option Label
+first_label [] = None
+first_label (l ∷ ls) = Some l
+
+-- the entry, dead where it is of the group
+abbrev pub ended : Id → Entry → Entry
+ended group e = if is_of group e.group then record e { is_dead = true } else e
+
+-- the entries, each of the group dead
+abbrev pub ended_group : List Entry → Id → List Entry
+ended_group entries group = map (ended group) entries

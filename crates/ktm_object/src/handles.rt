@@ -1,14 +1,19 @@
 // The handles of all processes.
-ghost use Rattle.std.specs.Prelude.{◌≡◌, ℕ, ◌<◌, ◌≤◌, ◌+◌, ◌++◌, ◌∷◌, [], length, false, None, IsOk, OnOk};
+ghost use Rattle.std.specs.Prelude.{◌≡◌, ℕ, ◌<◌, ◌≤◌, ◌+◌, ◌-◌, ◌^◌, ◌++◌, ◌∷◌, [], length, is_some, min, option_and_then, true, None, Some, IfNone, IfSome, IsOk, OnOk, OnSome};
 ghost use Rattle.std.specs.Option.{option_map};
 ghost use Rattle.ktm_world.specs.Handles.{no_handle_left, object_at};
-ghost use Rattle.ktm_world.specs.Labels.{holds_of, with_handle};
-ghost use Rattle.ktm_object.specs.Indexed.{key_under};
-ghost use Rattle.ktm_object.specs.Table.{bound, entry_at, handles_of, is_dead_at};
+ghost use Rattle.ktm_world.specs.HandleCalls.{labels_of, without_handle};
+ghost use Rattle.ktm_world.specs.Labels.{with_handle};
+ghost use Rattle.ktm_world.specs.Transactions.{is_of};
+ghost use Rattle.ktm_links.specs.Mapped.{Begins, IsNotBelow};
+ghost use Rattle.ktm_object.specs.Ending.{after, group_bytes, name_in, AreAllEnded, AreEnded, IsInRange};
+ghost use Rattle.ktm_object.specs.Indexed.{key_under, IsFirstUnder, IsNoneUnder};
+ghost use Rattle.ktm_object.specs.Table.{bound, closed_of, ended_group, entry_at, first_label, handles_of, is_dead_at, with_duplicate, without_entry};
 
-use crate::entry::Entry;
+use crate::entry::{Closed, Entry};
 use crate::name::{
-    LabelName, OwnerName, group_owner, label_bytes, label_name, object_owner, owner_name,
+    LabelName, OwnerName, after, group_owner, label_bytes, label_name, object_owner, owner_bytes,
+    owner_name,
 };
 use ktm_base::{Id, Label, NoMemory, Pid};
 use ktm_links::{Chains, Key, List, Name};
@@ -53,6 +58,38 @@ fn key_under<K: Name>(map: &Chains<K, Key>, name: &[u8]) -> Option<Key>
     match map.find(name) {
         Some(key) => map.get(key).copied(),
         None => None,
+    }
+}
+
+// The key under the first of the names that begin with these bytes.
+fn first_under<K: Name>(map: &Chains<K, Key>, prefix: &[u8]) -> Option<Key>
+    ensures first { IfSome result (λ key. IsFirstUnder (Begins prefix.now) map.now.entries key) }
+    ensures none { IfNone result (IsNoneUnder (Begins prefix.now) map.now.entries) }
+{
+    match map.first_with(prefix) {
+        Some(own) => map.get(own).copied(),
+        None => None,
+    }
+}
+
+// The key under the first of the names that are not below this one.
+fn first_from<K: Name>(map: &Chains<K, Key>, name: &[u8]) -> Option<Key>
+    ensures first { IfSome result (λ key. IsFirstUnder (λ q. IsNotBelow q name.now) map.now.entries key) }
+    ensures none { IfNone result (IsNoneUnder (λ q. IsNotBelow q name.now) map.now.entries) }
+{
+    match map.first_from(name) {
+        Some(own) => map.get(own).copied(),
+        None => None,
+    }
+}
+
+// Is the entry of the group.
+fn is_of(group: Id, entry: Entry) -> bool
+    ensures { result ≡ is_of group entry.group }
+{
+    match entry.group {
+        Some(other) => group == other,
+        None => false,
     }
 }
 
@@ -153,7 +190,7 @@ impl Handles {
         ensures ever { self.new.ever ≡ self.old.ever + 1 }
         ensures spare { self.new.spare + 1 ≡ self.old.spare }
     {
-        let key = self.entries.push_spare(Entry {
+        self.bind(Entry {
             handle: Handle {
                 process,
                 label,
@@ -162,11 +199,143 @@ impl Handles {
             group,
             is_dead: false,
         });
+    }
+
+    /// Binds a label that is not bound to what another label names, in the same group, and takes no memory.
+    pub fn duplicate(&mut self, to: Pid, new: Label, from: Pid, old: Label)
+        requires spare { 0 < self.old.spare }
+        requires free { object_at (handles_of self.old) to new ≡ None }
+        requires named { is_some (object_at (handles_of self.old) from old) ≡ true }
+        ensures entries { self.new.entries ≡ with_duplicate self.old.entries to new (entry_at self.old.entries from old) }
+        ensures handles { Some (handles_of self.new) ≡ option_map (with_handle (handles_of self.old) to new) (object_at (handles_of self.old) from old) }
+        ensures ever { self.new.ever ≡ self.old.ever + 1 }
+        ensures spare { self.new.spare + 1 ≡ self.old.spare }
+    {
+        let Some(entry) = self.entry(from, old) else {
+            unreachable!();
+        };
+        self.bind(Entry {
+            handle: Handle {
+                process: to,
+                label: new,
+                object: entry.handle.object,
+            },
+            ..entry
+        });
+    }
+
+    // Puts an entry, whose label is not bound, at the end.
+    fn bind(&mut self, entry: Entry)
+        requires spare { 0 < self.old.spare }
+        requires free { object_at (handles_of self.old) entry.handle.process entry.handle.label ≡ None }
+        ensures entries { self.new.entries ≡ self.old.entries ++ entry ∷ [] }
+        ensures ever { self.new.ever ≡ self.old.ever + 1 }
+        ensures spare { self.new.spare + 1 ≡ self.old.spare }
+    {
+        let process = entry.handle.process;
+        let label = entry.handle.label;
+        let key = self.entries.push_spare(entry);
         self.by_label.insert(label_name(process, label), key);
-        let owner = object_owner(object);
+        let object = object_owner(entry.handle.object);
         self.by_object
-            .insert(owner_name(owner, process, label), key);
-        let owner = group_owner(group);
-        self.by_group.insert(owner_name(owner, process, label), key);
+            .insert(owner_name(object, process, label), key);
+        let group = group_owner(entry.group);
+        self.by_group.insert(owner_name(group, process, label), key);
+    }
+
+    /// Unbinds a label, and gives its place back.
+    pub fn close(&mut self, process: Pid, label: Label) -> Option<Closed>
+        ensures closed { result ≡ closed_of (handles_of self.old) process label }
+        ensures entries { self.new.entries ≡ without_entry self.old.entries process label }
+        ensures handles { handles_of self.new ≡ without_handle (handles_of self.old) process label }
+        ensures ever { self.new.ever ≡ self.old.ever }
+        ensures spare { OnSome result (self.new.spare ≡ min (self.old.spare + 1) (2 ^ 64 - 1 - self.old.ever)) }
+        ensures kept { IfNone result (self.new.spare ≡ self.old.spare) }
+    {
+        let bytes = label_bytes(process, label);
+        let Some(key) = key_under(&self.by_label, &bytes) else {
+            return None;
+        };
+        let Some(entry) = self.entries.unlink(key) else {
+            unreachable!();
+        };
+        self.by_label.remove(&bytes);
+        let object = object_owner(entry.handle.object);
+        self.by_object
+            .remove(owner_name(object, process, label).as_slice());
+        let group = group_owner(entry.group);
+        self.by_group
+            .remove(owner_name(group, process, label).as_slice());
+        let other = first_under(&self.by_object, &owner_bytes(object));
+        Some(Closed {
+            label,
+            object: entry.handle.object,
+            is_last: other.is_none(),
+        })
+    }
+
+    /// Unbinds the least label of the process, if it has one.
+    pub fn exit_next(&mut self, process: Pid) -> Option<Closed>
+        ensures closed { result ≡ option_and_then (closed_of (handles_of self.old) process) (first_label (labels_of (handles_of self.old) process)) }
+        ensures labels { IfSome result (λ closed. labels_of (handles_of self.old) process ≡ closed.label ∷ labels_of (handles_of self.new) process) }
+        ensures entries { IfSome result (λ closed. self.new.entries ≡ without_entry self.old.entries process closed.label) }
+        ensures handles { IfSome result (λ closed. handles_of self.new ≡ without_handle (handles_of self.old) process closed.label) }
+        ensures ever { self.new.ever ≡ self.old.ever }
+        ensures spare { OnSome result (self.new.spare ≡ min (self.old.spare + 1) (2 ^ 64 - 1 - self.old.ever)) }
+        ensures none { IfNone result (labels_of (handles_of self.old) process ≡ []) }
+        ensures unchanged { IfNone result (self.new ≡ self.old) }
+    {
+        let Some(key) = first_under(&self.by_label, &[process.0]) else {
+            return None;
+        };
+        let Some(entry) = self.entries.get(key) else {
+            unreachable!();
+        };
+        let label = entry.handle.label;
+        self.close(process, label)
+    }
+
+    /// Tells each handle of the group, one after another, that the group has ended. They stay bound.
+    pub fn end_group(&mut self, group: Id)
+        ensures entries { self.new.entries ≡ ended_group self.old.entries group }
+        ensures handles { handles_of self.new ≡ handles_of self.old }
+        ensures ever { self.new.ever ≡ self.old.ever }
+        ensures spare { self.new.spare ≡ self.old.spare }
+    {
+        let mut last = self.end_next(group, &owner_bytes(group_owner(Some(group))));
+        while let Some(handle) = last {
+            last = self.end_next(group, &after(group, handle));
+        }
+    }
+
+    // Tells the first handle of the group whose name is not below this one, if there is one, that the group has ended.
+    fn end_next(&mut self, group: Id, from: &[u8]) -> Option<Handle>
+        requires begins { Begins (group_bytes group) from.now }
+        requires before { AreEnded group from.now self.old.entries }
+        ensures entries { ended_group self.new.entries group ≡ ended_group self.old.entries group }
+        ensures rises { IfSome result (λ h. IsNotBelow (name_in group h) from.now) }
+        ensures range { IfSome result IsInRange }
+        ensures some { IfSome result (λ h. AreEnded group (after group h) self.new.entries) }
+        ensures none { IfNone result (AreAllEnded group self.new.entries) }
+        ensures ever { self.new.ever ≡ self.old.ever }
+        ensures spare { self.new.spare ≡ self.old.spare }
+    {
+        let Some(key) = first_from(&self.by_group, from) else {
+            return None;
+        };
+        let Some(entry) = self.entries.get(key).copied() else {
+            unreachable!();
+        };
+        if !is_of(group, entry) {
+            return None;
+        }
+        let dead = Entry {
+            is_dead: true,
+            ..entry
+        };
+        if let Err(_) = self.entries.replace(key, dead) {
+            unreachable!();
+        }
+        Some(entry.handle)
     }
 }

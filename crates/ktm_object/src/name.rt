@@ -1,10 +1,11 @@
 // Names of handles, by which they are sorted.
 ghost use Rattle.std.specs.Prelude.{◌≡◌, []};
+ghost use Rattle.ktm_object.specs.Ending.{after};
 ghost use Rattle.ktm_object.specs.Names.{label_bytes, owner_bytes, object_owner, group_owner};
 
 use ktm_base::{Id, Label, Pid};
 use ktm_links::InlineName;
-use ktm_world::Object;
+use ktm_world::{Handle, Object};
 
 /// A name that begins with the process and the label.
 pub(crate) type LabelName = InlineName<3>;
@@ -82,4 +83,13 @@ pub(crate) fn owner_name(owner: Owner, process: Pid, label: Label) -> OwnerName
     let [kind, b3, b2, b1, b0, n3, n2, n1, n0] = owner_bytes(owner);
     let [process, high, low] = label_bytes(process, label);
     InlineName::new(&[kind, b3, b2, b1, b0, n3, n2, n1, n0, process, high, low])
+}
+
+/// Where the names begin that come after that of a handle of the group.
+pub(crate) fn after(group: Id, handle: Handle) -> [u8; 13]
+    ensures { result ≡ after group handle }
+{
+    let [kind, b3, b2, b1, b0, n3, n2, n1, n0] = owner_bytes(group_owner(Some(group)));
+    let [process, high, low] = label_bytes(handle.process, handle.label);
+    [kind, b3, b2, b1, b0, n3, n2, n1, n0, process, high, low, 0]
 }

@@ -1,0 +1,173 @@
+-- Lemmas on a handle that is gone.
+use Rattle.std.proofs.Common.{◌≡◌, ℕ, ◌+◌, ◌-◌, ◌^◌, Bool, true, false, not, min, List, [], ◌∷◌, map, Option, Some, None, refl, sym, ap, ◌∙◌, inl, inr, arith}
+use Rattle.std.specs.Prelude.{OnSome}
+use Rattle.std.specs.Option.{option_map}
+use Rattle.std.proofs.lemmas.Bool.{cases_Bool}
+use Rattle.std.proofs.lemmas.Option.{same_Some}
+use Rattle.ktm_base.specs.declared.id.Label.{Label}
+use Rattle.ktm_base.specs.declared.id.Pid.{Pid}
+use Rattle.ktm_world.specs.HandleCalls.{is_handle, without_handle}
+use Rattle.ktm_links.specs.declared.list.Key.{Key}
+use Rattle.ktm_links.specs.Items.{Item, same_key, value_at, without}
+use Rattle.ktm_links.specs.Mapped.{NamedItem, at}
+use Rattle.ktm_links.proofs.Keys.{on_some, same_key-true, same_key-self}
+use Rattle.ktm_object.specs.declared.entry.Entry.{Entry}
+use Rattle.ktm_object.specs.Table.{handle_of, entry_at, without_entry}
+use Rattle.ktm_object.specs.Names.{label_bytes, label_name}
+use Rattle.ktm_object.specs.Indexed.{entries_of, key_under, AreNamed, IsIndex}
+use Rattle.ktm_object.proofs.Indexes.{cases_name, named_at, key_under-same}
+use Rattle.ktm_object.proofs.Labels.{is_handle-from, is_handle-to}
+
+-- of each item, is it that of the key exactly where it is the handle of the process with the label
+abbrev pub TellsKey : Pid → Label → Key → List (Item Entry) → Type 0
+TellsKey process label key [] = Unit {0}
+TellsKey process label key (x ∷ xs) = (is_handle process label x.value.handle ≡ same_key x.key key) × TellsKey process label key xs
+
+pub tells : (items : List (Item Entry)) (named : List (NamedItem Key)) (process : Pid) (label : Label) (key : Key) → IsIndex label_name items named
+    → key_under named (label_bytes process label) ≡ Some key → (xs : List (Item Entry)) → AreNamed label_name named xs → TellsKey process label key xs
+tells items named process label key index under [] all = tt
+tells items named process label key index under (x ∷ xs) all = (
+  elim (cases_Bool (is_handle process label x.value.handle)) [
+    | inl here ↦
+        let x_under : key_under named (label_bytes process label) ≡ Some x.key = rw (is_handle-to process label x.value here) at all.0 in
+        here ∙ sym (same_key-self x.key key (same_Some x.key key (sym x_under ∙ under)))
+    | inr differs ↦
+        elim (cases_Bool (same_key x.key key)) [
+          | inl same ↦
+              let at = index.only (label_bytes process label) key under in
+              let at_x = index.only (label_name x.value) key (all.0 ∙ ap Some (same_key-true x.key key same)) in
+              let entry : at_x.0 ≡ at.0 = same_Some at_x.0 at.0 (sym at_x.1 ∙ at.1) in
+              absurd (let here = is_handle-from process label x.value (sym at_x.2 ∙ ap label_name entry ∙ at.2) in cc)
+          | inr other ↦ differs ∙ sym other
+        ]
+  ],
+  tells items named process label key index under xs all.1,
+)
+
+kept_all : (process : Pid) (label : Label) (key : Key) (xs : List (Item Entry)) → TellsKey process label key xs → value_at xs key ≡ None
+    → entries_of xs ≡ without_entry (entries_of xs) process label
+kept_all process label key [] told none = refl
+kept_all process label key (x ∷ xs) told none =
+    elim (cases_Bool (same_key x.key key)) [
+      | inl same ↦ absurd (let some = rw same at none in cc)
+      | inr other ↦
+          let differs : is_handle process label x.value.handle ≡ false = told.0 ∙ other in
+          rw differs (ap (λ es. x.value ∷ es) (kept_all process label key xs told.1 (rw other at none)))
+    ]
+
+kept_others : (process : Pid) (label : Label) (key : Key) (xs : List (Item Entry)) → TellsKey process label key xs → value_at (without xs key) key ≡ None
+    → entries_of (without xs key) ≡ without_entry (entries_of xs) process label
+kept_others process label key [] told none = refl
+kept_others process label key (x ∷ xs) told none =
+    elim (cases_Bool (same_key x.key key)) [
+      | inl same ↦
+          let here : is_handle process label x.value.handle ≡ true = told.0 ∙ same in
+          rw (same, here) (kept_all process label key xs told.1 (rw same at none))
+      | inr other ↦
+          let differs : is_handle process label x.value.handle ≡ false = told.0 ∙ other in
+          rw (other, differs) (ap (λ es. x.value ∷ es) (kept_others process label key xs told.1 (rw (other, other) at none)))
+    ]
+
+-- without the item of its key the entries are without the handle
+pub entries_of-without : (items new : List (Item Entry)) (named : List (NamedItem Key)) (process : Pid) (label : Label) (key : Key) → IsIndex label_name items named
+    → key_under named (label_bytes process label) ≡ Some key → new ≡ without items key → value_at new key ≡ None
+    → entries_of new ≡ without_entry (entries_of items) process label
+entries_of-without items new named process label key index under is gone =
+    ap entries_of is
+    ∙ kept_others process label key items (tells items named process label key index under items index.all) (ap (λ xs. value_at xs key) (sym is) ∙ gone)
+
+pub handles-without : (es : List Entry) (process : Pid) (label : Label) → map handle_of (without_entry es process label) ≡ without_handle (map handle_of es) process label
+handles-without [] process label = refl
+handles-without (e ∷ es) process label =
+    elim (cases_Bool (is_handle process label e.handle)) [
+      | inl here ↦ rw here (handles-without es process label)
+      | inr differs ↦ rw differs (ap (λ hs. e.handle ∷ hs) (handles-without es process label))
+    ]
+
+-- a label that names nothing takes nothing away
+pub without_entry-absent : (es : List Entry) (process : Pid) (label : Label) → None ≡ entry_at es process label → es ≡ without_entry es process label
+without_entry-absent [] process label none = refl
+without_entry-absent (e ∷ es) process label none =
+    elim (cases_Bool (is_handle process label e.handle)) [
+      | inl here ↦ absurd (let some = rw here at none in cc)
+      | inr differs ↦ rw differs (ap (λ l. e ∷ l) (without_entry-absent es process label (rw differs at none)))
+    ]
+
+-- ---- one less
+AreNamed-without : (name : Entry → List ℕ) (named : List (NamedItem Key)) (xs : List (Item Entry)) (key : Key) → AreNamed name named xs → AreNamed name named (without xs key)
+AreNamed-without name named [] key all = tt
+AreNamed-without name named (x ∷ xs) key all =
+    elim (cases_Bool (same_key x.key key)) [
+      | inl same ↦ rw same all.1
+      | inr other ↦ rw other ((all.0, AreNamed-without name named xs key all.1))
+    ]
+
+AreNamed-kept : (name : Entry → List ℕ) (named less : List (NamedItem Key)) (xs : List (Item Entry)) (key : Key) (q : List ℕ) → AreNamed name named xs
+    → value_at xs key ≡ None → key_under named q ≡ Some key → ((p : List ℕ) → (p ≡ q → ⊥) → key_under less p ≡ key_under named p) → AreNamed name less xs
+AreNamed-kept name named less [] key q all none under others = tt
+AreNamed-kept name named less (x ∷ xs) key q all none under others =
+    elim (cases_Bool (same_key x.key key)) [
+      | inl same ↦ absurd (let some = rw same at none in cc)
+      | inr other ↦ (
+        others (name x.value)
+            (λ is. absurd (let same = same_key-self x.key key (same_Some x.key key (sym all.0 ∙ ap (key_under named) is ∙ under)) in cc))
+            ∙ all.0,
+        AreNamed-kept name named less xs key q all.1 (rw other at none) under others,
+      )
+    ]
+
+-- an entry that goes with its name
+pub IsIndex-without : (name : Entry → List ℕ) (items new : List (Item Entry)) (named less : List (NamedItem Key)) (key : Key) (e : Entry) (q : List ℕ)
+    → IsIndex name items named → q ≡ name e → value_at items key ≡ Some e
+    → new ≡ without items key → value_at new key ≡ None → ((k : Key) → (k ≡ key → ⊥) → value_at new k ≡ value_at items k)
+    → at less q ≡ None → ((p : List ℕ) → (p ≡ q → ⊥) → at less p ≡ at named p)
+    → IsIndex name new less
+IsIndex-without name items new named less key e q index is there items_are gone kept at_q at_others =
+    let under : key_under named q ≡ Some key = ap (key_under named) is ∙ named_at name named items key e index.all there in
+    let others : (p : List ℕ) → (p ≡ q → ⊥) → key_under less p ≡ key_under named p = λ p differs. key_under-same named less p (at_others p differs) in
+    record {
+      all =
+          rw items_are
+          (AreNamed-kept name named less (without items key) key q (AreNamed-without name named items key index.all)
+          (ap (λ xs. value_at xs key) (sym items_are) ∙ gone) under others);
+      only = λ p k found. elim (cases_name p q) [
+        | inl same ↦
+            absurd (let none : key_under less p ≡ None = ap (λ o. option_map (λ (e : Key × Key). e.1) o) (ap (at less) same ∙ at_q) in cc)
+        | inr differs ↦
+            let at = index.only p k (sym (others p differs) ∙ found) in (
+              at.0,
+              kept k (λ same. differs (sym at.2 ∙ ap name (same_Some at.0 e (sym at.1 ∙ ap (value_at items) same ∙ there)) ∙ sym is)) ∙ at.1,
+              at.2,
+            )
+      ];
+    }
+
+-- the entry that a label finds has its name
+pub label_name-found : (items : List (Item Entry)) (named : List (NamedItem Key)) (process : Pid) (label : Label) (key : Key) (e : Entry) → IsIndex label_name items named
+    → Some key ≡ key_under named (label_bytes process label) → Some e ≡ value_at items key → label_name e ≡ label_bytes process label
+label_name-found items named process label key e index under there =
+    let at = index.only (label_bytes process label) key (sym under) in
+    ap label_name (same_Some e at.0 (there ∙ at.1)) ∙ at.2
+
+rises : (x y m : ℕ) → min (min (x + 1) m) (min (y + 1) m) ≡ min (min x y + 1) m
+rises x y m = omega arith
+
+-- where each of four numbers rises by one below a limit, so does the least
+pub spare_rises : (a b c d a' b' c' d' m : ℕ) → a' ≡ min (a + 1) m → b' ≡ min (b + 1) m → c' ≡ min (c + 1) m → d' ≡ min (d + 1) m
+    → min a' (min b' (min c' d')) ≡ min (min a (min b (min c d)) + 1) m
+spare_rises a b c d a' b' c' d' m first second third fourth =
+    rw (first, second, third, fourth, rises c d m, rises b (min c d) m) (rises a (min b (min c d)) m)
+
+pub not_flip : (a b : Bool) → a ≡ not b → b ≡ not a
+not_flip a true is = sym (ap not is)
+not_flip a false is = sym (ap not is)
+
+-- the name of an entry that is there
+pub name_taken : (name : Entry → List ℕ) (items : List (Item Entry)) (named : List (NamedItem Key)) (key : Key) (e : Entry) (q : List ℕ) → IsIndex name items named
+    → q ≡ name e → Some e ≡ value_at items key → key_under named q ≡ Some key
+name_taken name items named key e q index is there = ap (key_under named) is ∙ named_at name named items key e index.all (sym there)
+
+-- the place that a removal gives back
+pub spare_back : (o : Option Key) (key : Key) (old new next ever : ℕ) → o ≡ Some key → next ≡ ever → OnSome o (new ≡ min (old + 1) (2 ^ 64 - 1 - next))
+    → new ≡ min (old + 1) (2 ^ 64 - 1 - ever)
+spare_back o key old new next ever some same back = rw same at (on_some _ o key some back)
