@@ -7,6 +7,7 @@ pub mod Finishing
 pub mod Fitting
 pub mod Formed
 pub mod GoodStates
+pub mod Grammars
 pub mod Holding
 pub mod Lists
 pub mod Lookups

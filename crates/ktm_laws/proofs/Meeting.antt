@@ -10,7 +10,7 @@ use Rattle.ktm_world.specs.Durable.{act_of_node, acts_of, acts_of_all, is_made_i
 use Rattle.ktm_world.specs.Holds.{Place, Holds, holds_by, place, places_of, each_change, dropped_directory, moved_directory, directories_of, is_in, meet_in, is_place_in, same_place, Act, opens, deletes, moves_file, makes, drops_directory, moves_directory, nodes_changed, places_changed, directory_dropped, is_move_of_directory, changes_held, enters_dropped, drops_used, moves_too, meets}
 use Rattle.ktm_world.specs.Lawful.{are_apart}
 use Rattle.ktm_world.specs.Tree.{Tree, node_at, is_there, is_file, is_directory, content_of}
-use Rattle.ktm_laws.specs.Footprint.{IsIn, footprint, AreFootprintsApart}
+use Rattle.ktm_laws.specs.Footprint.{IsIn, footprint, AreFootprintsApart, MeetingLaw}
 use Rattle.ktm_laws.proofs.Lookups.{node_at-elsewhere}
 use Rattle.ktm_laws.proofs.Applying.{Applies, Applies-from, Fits-from, is_there-none}
 use Rattle.ktm_laws.proofs.Formed.{found-from, content-found}
@@ -177,11 +177,11 @@ Misses-from h a misses =
     let held = or_parts (meet_in (nodes_changed a) h.nodes) (list_any (is_place_in h.places) (places_changed a)) b.0 in
     record { nodes = held.0; places = held.1; dropped = b.1; uses = c.1; moves = d.1 }
 
-module _ (tree : Tree) (ds cs : List Change) (all : apply_all tree ds ≡ true) (all' : apply_all tree cs ≡ true)
-    (misses : list_any (meets (holds_by tree ds [])) (acts_of_all tree cs) ≡ false)
+module _ (tree : Tree) (ds cs : List Change) (writes : List ℕ) (all : apply_all tree ds ≡ true) (all' : apply_all tree cs ≡ true)
+    (misses : list_any (meets (holds_by tree ds writes)) (acts_of_all tree cs) ≡ false)
     (makes_apart : list_any (λ (c : Change). is_make c && is_made_in ds (node_of c)) cs ≡ false) where
-  act_misses : (a : Act) → IsIn a (acts_of_all tree cs) → Misses (holds_by tree ds []) a
-  act_misses a there = Misses-from (holds_by tree ds []) a (no_test (meets (holds_by tree ds [])) a (acts_of_all tree cs) misses there)
+  act_misses : (a : Act) → IsIn a (acts_of_all tree cs) → Misses (holds_by tree ds writes) a
+  act_misses a there = Misses-from (holds_by tree ds writes) a (no_test (meets (holds_by tree ds writes)) a (acts_of_all tree cs) misses there)
 
   -- a node of others that the changes find
   not_found : (n : ℕ) → IsIn n (map node_of ds) → (c : Change) → IsIn c cs → node_of c ≡ n → is_make c ≡ true
@@ -189,7 +189,7 @@ module _ (tree : Tree) (ds cs : List Change) (all : apply_all tree ds ≡ true) 
     | inl made ↦ made
     | inr other ↦
         let act = in_acts node_found (λ n a. IsIn n (nodes_changed a)) node_found-shown tree cs all' (node_of c) (found-in tree cs c there other) in
-        absurd (meets-not (nodes_changed act.0) (map node_of ds ++ []) (act_misses act.0 act.1).nodes (node_of c) act.2 (IsIn-left (node_of c) (map node_of ds) [] (subst (λ m. IsIn m (map node_of ds)) (sym at) held)))
+        absurd (meets-not (nodes_changed act.0) (map node_of ds ++ writes) (act_misses act.0 act.1).nodes (node_of c) act.2 (IsIn-left (node_of c) (map node_of ds) writes (subst (λ m. IsIn m (map node_of ds)) (sym at) held)))
   ]
 
   -- and others do not make what the changes make
@@ -214,7 +214,7 @@ module _ (tree : Tree) (ds cs : List Change) (all : apply_all tree ds ≡ true) 
   moved-act : (n : ℕ) → IsIn n (each_change moved_directory tree cs) → (a : Act) × IsIn a (acts_of_all tree cs) × (is_move_of_directory a ≡ true)
   moved-act = in_acts moved_directory (λ n a. is_move_of_directory a ≡ true) (λ t c is. (shown t c is).moved) tree cs all'
 
-  pub apart-from-misses : AreFootprintsApart (footprint tree ds) (footprint tree cs)
+  apart-from-misses : AreFootprintsApart (footprint tree ds) (footprint tree cs)
   apart-from-misses = record {
     nodes = nodes_apart;
     places = λ p q held here.
@@ -232,6 +232,9 @@ module _ (tree : Tree) (ds cs : List Change) (all : apply_all tree ds ≡ true) 
         let act = moved-act m here in
         true≢false (sym (and_from _ _ act.2 (list_any-from (λ (n : ℕ). true) (each_change moved_directory tree ds) n held refl)) ∙ (act_misses act.0 act.1).moves);
   }
+
+pub meeting_law : MeetingLaw
+meeting_law = apart-from-misses
 
 -- ---- holds that are apart, as tests and as facts
 

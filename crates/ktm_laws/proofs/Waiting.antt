@@ -19,7 +19,7 @@ use Rattle.ktm_laws.specs.Footprint.{IsIn, footprint, AreFootprintsApart, ListsL
 use Rattle.ktm_laws.specs.GoodState.{are_kept_changes, are_kept_settings}
 use Rattle.ktm_laws.proofs.Lists.{AreFootprintsApart-sym}
 use Rattle.ktm_laws.proofs.Elements.{IsIn-kept, list_all-at}
-use Rattle.ktm_laws.proofs.Meeting.{apart-from-misses}
+use Rattle.ktm_laws.proofs.Meeting.{meeting_law}
 use Rattle.ktm_laws.proofs.Parts.{gathered-none}
 use Rattle.ktm_laws.proofs.Tables.{same_id-equal}
 use Rattle.ktm_laws.proofs.Fitting.{waits}
@@ -96,7 +96,7 @@ changes_apply-apart s who cs apply u there all =
     let parts = and_parts (list_all (λ t. not (list_any (meets (holds_in s t)) (acts_of_all s.tree cs)) && not (list_any (λ change. is_make change && is_made_in (changes_of t) (node_of change)) cs)) (others s who)) (apply_all s.tree cs) apply in
     let both = and_parts (not (list_any (meets (holds_in s u)) (acts_of_all s.tree cs))) (not (list_any (λ change. is_make change && is_made_in (changes_of u) (node_of change)) cs)) (list_all-at _ (others s who) parts.0 u there) in
     AreFootprintsApart-sym (footprint s.tree (changes_of u)) (footprint s.tree cs)
-    (apart-from-misses s.tree (changes_of u) cs all parts.1 (not-true _ both.0) (not-true _ both.1))
+    (meeting_law s.tree (changes_of u) cs [] all parts.1 (not-true _ both.0) (not-true _ both.1))
 
 pub settings_apply-apart : (s : Durable) (who : Option Id) (ss : OwnSettings) → settings_apply s who ss ≡ true → (u : Recorded) → IsIn u (others s who) → set_both ss (settings_of u) ≡ false
 settings_apply-apart s who ss apply u there = not-true _ (list_all-at (λ t. not (set_both ss (settings_of t))) (others s who) apply u there)

@@ -1,5 +1,5 @@
 -- What the grammar asks of each event, beyond what applies to a state.
-use Rattle.std.specs.Prelude.{◌&&◌, Bool, List, [], ◌∷◌, nat_le}
+use Rattle.std.specs.Prelude.{◌≡◌, ℕ, ◌&&◌, Bool, true, List, [], ◌∷◌, nat_le}
 use Rattle.std.specs.List.{list_all}
 use Rattle.ktm_base.specs.declared.id.Id.{Id}
 use Rattle.ktm_world.specs.declared.change.Change.{Change}
@@ -9,6 +9,7 @@ use Rattle.ktm_world.specs.declared.event.Event.TheVariants.{Boot, MadeRm, Plain
 use Rattle.ktm_world.specs.declared.event.Part.{Part}
 use Rattle.ktm_world.specs.declared.event.Part.TheVariants.{Enlistment}
 use Rattle.ktm_world.specs.Durable.{changes_in}
+use Rattle.ktm_world.specs.EventGrammar.{IsEventOf, IsGroupOf}
 use Rattle.ktm_laws.specs.GoodState.{puts_some}
 
 -- do the boot and the number of an Id count from 1
@@ -47,3 +48,8 @@ changes_of_event _ = []
 -- the Ids of an event count from 1, and the contents that it puts are not empty
 abbrev pub is_grammatical : Event → Bool
 is_grammatical event = list_all counts_from_1 (ids_of event) && list_all puts_some (changes_of_event event)
+
+-- the grammar has it of each event that can be spelled, and so of each group
+abbrev pub GrammarLaw : Type 0
+GrammarLaw = ((event : Event) (bytes : List ℕ) → IsEventOf event bytes → is_grammatical event ≡ true)
+    × ((group : List Event) (bytes : List ℕ) → IsGroupOf group bytes → list_all is_grammatical group ≡ true)

@@ -4,5 +4,5 @@
 mod changes;
 mod states;
 
-pub use changes::{law_of_diamonds, law_of_forms, law_of_lists};
-pub use states::law_of_good_states;
+pub use changes::{law_of_diamonds, law_of_forms, law_of_lists, law_of_meetings};
+pub use states::{law_of_good_states, law_of_grammar};

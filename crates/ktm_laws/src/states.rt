@@ -1,5 +1,6 @@
 // Laws of durable states.
 ghost use Rattle.ktm_laws.specs.GoodStates.{GoodStatesLaw};
+ghost use Rattle.ktm_laws.specs.Grammatical.{GrammarLaw};
 
 use crate::{law_of_forms, law_of_lists};
 
@@ -10,3 +11,8 @@ pub fn law_of_good_states()
     law_of_forms();
     law_of_lists();
 }
+
+/// What an event must be for a good state to stay good, beside that it applies, every event is that stands in a log.
+pub fn law_of_grammar()
+    ensures { GrammarLaw }
+{}
