@@ -110,7 +110,7 @@ sole-from DonePart.Keys (Changes cs) other is = refl
 sole-from DonePart.Keys (Settings ss) other is = refl
 
 -- a part that is marked where it is of the participant
-abbrev marked : DonePart → RecordedPart → RecordedPart
+abbrev pub marked : DonePart → RecordedPart → RecordedPart
 marked done p = record p { is_done = p.is_done || is_part_of done p.part }
 
 lessened : (s : Durable) (t : Recorded) (done : DonePart) → Core s t → is_decided t.stage ≡ true → Lessened t (parts_done done t.parts)

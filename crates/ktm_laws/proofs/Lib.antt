@@ -9,9 +9,11 @@ pub mod Formed
 pub mod GoodStates
 pub mod Grammars
 pub mod Holding
+pub mod Limits
 pub mod Lists
 pub mod Lookups
 pub mod Meeting
+pub mod OwnGroups
 pub mod Parts
 pub mod Pigeons
 pub mod Recording

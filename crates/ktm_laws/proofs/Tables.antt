@@ -76,10 +76,10 @@ abbrev pub Rises : List Recorded → Type 0
 Rises ts = each_pair is_earlier ts ≡ true
 
 -- the transactions behind the first one
-rises-first : (a : Recorded) (ts : List Recorded) → Rises (a ∷ ts) → (u : Recorded) → IsIn u ts → is_before a.id u.id ≡ true
+pub rises-first : (a : Recorded) (ts : List Recorded) → Rises (a ∷ ts) → (u : Recorded) → IsIn u ts → is_before a.id u.id ≡ true
 rises-first a ts rises u there = list_all-at (is_earlier a) ts (and_parts (list_all (is_earlier a) ts) (each_pair is_earlier ts) rises).0 u there
 
-rises-rest : (a : Recorded) (ts : List Recorded) → Rises (a ∷ ts) → Rises ts
+pub rises-rest : (a : Recorded) (ts : List Recorded) → Rises (a ∷ ts) → Rises ts
 rises-rest a ts rises = (and_parts (list_all (is_earlier a) ts) (each_pair is_earlier ts) rises).1
 
 pub IsIn-with_recorded : (ts : List Recorded) (t x : Recorded) → Rises ts → IsIn x (with_recorded ts t) → (x ≡ t) ⊎ (IsIn x ts × (x.id ≡ t.id → ⊥))
@@ -106,6 +106,26 @@ IsIn-with_recorded (a ∷ ts) t x rises there = elim (cases_Bool (same_id a.id t
           | inl e ↦ inr (inl e, λ e'. other_id a.id t.id other (ap (λ (r : Recorded). r.id) e ∙ e'))
           | inr later ↦ elim (IsIn-with_recorded ts t x (rises-rest a ts rises) later) [ inl e ↦ inl e | inr (there, differs) ↦ inr (inr there, differs) ]
         ]
+  ]
+]
+
+pub IsIn-with_recorded-itself : (ts : List Recorded) (t : Recorded) → IsIn t (with_recorded ts t)
+IsIn-with_recorded-itself [] t = inl refl
+IsIn-with_recorded-itself (a ∷ ts) t = elim (cases_Bool (same_id a.id t.id)) [
+  | inl same ↦ rw same (inl refl)
+  | inr other ↦ elim (cases_Bool (is_before t.id a.id)) [
+    | inl before ↦ rw (other, before) (inl refl)
+    | inr behind ↦ rw (other, behind) (inr (IsIn-with_recorded-itself ts t))
+  ]
+]
+
+pub IsIn-with_recorded-other : (ts : List Recorded) (t u : Recorded) → IsIn u ts → (u.id ≡ t.id → ⊥) → IsIn u (with_recorded ts t)
+IsIn-with_recorded-other [] t u there differs = absurd there
+IsIn-with_recorded-other (a ∷ ts) t u there differs = elim (cases_Bool (same_id a.id t.id)) [
+  | inl same ↦ rw same (elim there [ inl e ↦ absurd (differs (ap (λ (r : Recorded). r.id) (sym e) ∙ same_id-equal a.id t.id same)) | inr later ↦ inr later ])
+  | inr other ↦ elim (cases_Bool (is_before t.id a.id)) [
+    | inl before ↦ rw (other, before) (inr there)
+    | inr behind ↦ rw (other, behind) (elim there [ inl e ↦ inl e | inr later ↦ inr (IsIn-with_recorded-other ts t u later differs) ])
   ]
 ]
 

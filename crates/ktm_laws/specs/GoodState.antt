@@ -101,14 +101,17 @@ is_good_entry x = not (is_bad_key x.key) && not (is_bad_value x.value)
 
 -- the durable state is good: what it names is there and stands once, each transaction is as its stage asks, what waits applies and is apart, and the limits hold
 pub record IsGoodState (s : Durable) : Type 0 where
-  -- transactions stand by rising Id, and so do resource managers
+  -- transactions stand by rising Id
   pub transactions_rise : each_pair (λ (t u : Recorded). is_before t.id u.id) s.transactions ≡ true
+  -- and so do resource managers
   pub managers_rise : each_pair is_before s.managers ≡ true
   -- no enlistment stands twice
   pub enlistments_differ : each_pair (λ a b. not (same_id a b)) (flat_map enlistments_of s.transactions) ≡ true
-  -- every Id was drawn in a boot that there was
+  -- the Id of each transaction was drawn in a boot that there was
   pub transactions_drawn : list_all (λ t. is_drawn s t.id) s.transactions ≡ true
+  -- and so was that of each resource manager
   pub managers_drawn : list_all (is_drawn s) s.managers ≡ true
+  -- and of each enlistment
   pub enlistments_drawn : list_all (λ e. is_drawn s e.enlistment) (flat_map enlisted s.transactions) ≡ true
   -- the resource manager of each enlistment is there
   pub managers_there : list_all (λ e. is_manager s e.manager) (flat_map enlisted s.transactions) ≡ true
@@ -116,9 +119,11 @@ pub record IsGoodState (s : Durable) : Type 0 where
   pub information_fits : list_all (λ e. nat_le (length e.information) most_information) (flat_map enlisted s.transactions) ≡ true
   -- a transaction has at most one part of the files, and one of the keys
   pub parts : list_all has_one_part_each s.transactions ≡ true
-  -- each transaction is as its stage asks
+  -- a transaction that is ready is of the present boot, and has a part, and no superior
   pub ready : list_all (is_ready_well s) s.transactions ≡ true
+  -- a transaction that is held has a superior
   pub held : list_all is_held_well s.transactions ≡ true
+  -- a decided transaction has a part that is not done
   pub decided : list_all is_decided_well s.transactions ≡ true
   -- what is done is a part of a decided transaction, and no enlistment
   pub done : list_all (λ t. list_all (is_done_well t) t.parts) s.transactions ≡ true
@@ -138,15 +143,19 @@ pub record IsGoodState (s : Durable) : Type 0 where
   pub keys_apart : each_pair set_no_key_both (waiting s) ≡ true
   -- the limits hold
   pub limits : is_within_limits s ≡ true
-  -- the counts of events and of boots have not come to their ends
+  -- the count of events has not come to its end
   pub events_left : s.events < 2 ^ 63
+  -- nor has that of boots
   pub boots_left : s.boots < 2 ^ 32 - 1
-  -- the committed files are well formed, and their numbers are below the next one
+  -- the committed files are well formed
   pub files : IsWellFormed s.tree
+  -- their numbers are below the next one
   pub nodes_below : list_all (λ node. nat_lt node.number s.next_node) s.tree ≡ true
-  -- node numbers begin behind the root's, and have not come to their end
+  -- node numbers begin behind the root's
   pub next_from : 2 ≤ s.next_node
+  -- and have not come to their end
   pub next_to : s.next_node ≤ 2 ^ 63
-  -- the committed keys rise, and are within the limits
+  -- the committed keys rise
   pub keys_rise : is_rising s.keys ≡ true
+  -- and are within the limits, with their values
   pub keys_good : list_all is_good_entry s.keys ≡ true

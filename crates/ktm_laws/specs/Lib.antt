@@ -4,3 +4,4 @@ pub mod Formed
 pub mod GoodState
 pub mod GoodStates
 pub mod Grammatical
+pub mod OwnGroup
