@@ -57,7 +57,7 @@ applies-from tree (Move node parent name) is =
 applies-from tree (Drop node) is = and_from _ _ (and_from _ _ (not_from_false _ is.0) is.1) (not_from_false _ is.2)
 
 -- a change that makes a node fits where it applies
-is_there-none : (tree : Tree) (number : ℕ) → is_there tree number ≡ false → node_at tree number ≡ None
+pub is_there-none : (tree : Tree) (number : ℕ) → is_there tree number ≡ false → node_at tree number ≡ None
 is_there-none tree number gone = go (node_at tree number) (or_parts (number == root) (is_some (node_at tree number)) gone).1
   where
     go : (o : Option Node) → is_some o ≡ false → o ≡ None

@@ -36,7 +36,7 @@ no_test p x (y ∷ ys) none (inr there) = no_test p x ys (or_parts (p y) (list_a
 apart-places : (ps qs : List Place) → list_any (λ p. list_any (same_place p) qs) ps ≡ false → (p q : Place) → IsIn p ps → IsIn q qs → same_place p q ≡ false
 apart-places ps qs apart p q p_there q_there = no_test (same_place p) q qs (no_test (λ p. list_any (same_place p) qs) p ps apart p_there) q_there
 
-meets-not : (ms ns : List ℕ) → meet_in ms ns ≡ false → (m : ℕ) → IsIn m ms → IsIn m ns → ⊥
+pub meets-not : (ms ns : List ℕ) → meet_in ms ns ≡ false → (m : ℕ) → IsIn m ms → IsIn m ns → ⊥
 meets-not ms ns apart m m_there n_there = eqb-false m m (no_test (λ n. n == m) m ns (no_test (is_in ns) m ms apart m_there) n_there) refl
 
 pub none-from : {X : Type 0} (p : X → Bool) (xs : List X) → ((x : X) → IsIn x xs → p x ≡ false) → list_any p xs ≡ false

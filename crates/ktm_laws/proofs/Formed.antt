@@ -18,14 +18,14 @@ use Rattle.ktm_laws.proofs.Pigeons.{short}
 
 -- ---- numbers
 
-found-from : (tree : Tree) (m : ℕ) → is_some (node_at tree m) ≡ true → (n : Node) × (node_at tree m ≡ Some n)
+pub found-from : (tree : Tree) (m : ℕ) → is_some (node_at tree m) ≡ true → (n : Node) × (node_at tree m ≡ Some n)
 found-from tree m there = go (node_at tree m) there
   where
     go : (o : Option Node) → is_some o ≡ true → (n : Node) × (o ≡ Some n)
     go None is = absurd (cc)
     go (Some n) is = (n, refl)
 
-content-found : (o : Option Node) → is_some (content_of o) ≡ true → is_some o ≡ true
+pub content-found : (o : Option Node) → is_some (content_of o) ≡ true → is_some o ≡ true
 content-found None is = is
 content-found (Some n) is = refl
 

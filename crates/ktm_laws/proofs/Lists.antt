@@ -20,7 +20,7 @@ IsIn-cases x [] ys there = inr there
 IsIn-cases x (y ∷ xs) ys (inl is) = inl (inl is)
 IsIn-cases x (y ∷ xs) ys (inr there) = elim (IsIn-cases x xs ys there) [ inl left ↦ inl (inr left) | inr right ↦ inr right ]
 
-IsIn-unmap : {X Y : Type 0} (f : X → Y) (y : Y) (xs : List X) → IsIn y (map f xs) → (x : X) × (f x ≡ y) × IsIn x xs
+pub IsIn-unmap : {X Y : Type 0} (f : X → Y) (y : Y) (xs : List X) → IsIn y (map f xs) → (x : X) × (f x ≡ y) × IsIn x xs
 IsIn-unmap f y [] there = absurd there
 IsIn-unmap f y (x ∷ xs) (inl is) = (x, is, inl refl)
 IsIn-unmap f y (x ∷ xs) (inr there) = let rest = IsIn-unmap f y xs there in (rest.0, rest.1, inr rest.2)

@@ -1,6 +1,6 @@
 // Laws of changes of a tree.
 ghost use Rattle.ktm_laws.specs.Diamond.{DiamondLaw};
-ghost use Rattle.ktm_laws.specs.Footprint.{ListsLaw};
+ghost use Rattle.ktm_laws.specs.Footprint.{ListsLaw, MeetingLaw};
 ghost use Rattle.ktm_laws.specs.Formed.{FormedLaw};
 
 use ktm_world::law_of_paths;
@@ -24,3 +24,8 @@ pub fn law_of_lists()
     law_of_diamonds();
     law_of_forms();
 }
+
+/// Changes that no hold of others refuses hold nothing that those hold.
+pub fn law_of_meetings()
+    ensures { MeetingLaw }
+{}
