@@ -13,12 +13,13 @@ ghost use Rattle.ktm_kernel.specs.Route.{outcome_of, IsReadyFor};
 
 use crate::route::Routed;
 use crate::settlement::{Decision, Settlement};
-use ktm_base::{Label, NoMemory, ObjectKind, Pid, Refusal, guid};
+use ktm_base::{Bytes, Label, NoMemory, ObjectKind, Pid, Refusal, guid};
 use ktm_event::Events;
 use ktm_journal::Journal;
 use ktm_object::Handles;
 use ktm_tm::Tm;
-use ktm_world::{Command, Entry, Object, Reply};
+use ktm_world::keyed::KeyedList;
+use ktm_world::{Command, Object, Reply};
 use kv_rm::{KvRm, Room};
 use std::alloc::Global;
 use std::marker::Model;
@@ -42,7 +43,7 @@ impl Model for Memory {
 
 impl Memory {
     /// What a machine that starts holds: its boot, and the committed keys.
-    pub(crate) fn start(alloc: Global, boot: u32, store: Vec<Entry>) -> Self
+    pub(crate) fn start(alloc: Global, boot: u32, store: KeyedList<Bytes>) -> Self
         ensures up { result.is_up ≡ true }
         ensures boot { result.tm.boot ≡ boot }
         ensures transactions { result.tm.now ≡ record { clock = 0; last_transaction = 0; last_manager = 0; last_enlistment = 0; items = []; enlistments = [] } }
