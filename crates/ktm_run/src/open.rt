@@ -67,7 +67,8 @@ pub fn open_kernel<D: Disk>(alloc: Global, disk: &mut D) -> Result<Kernel, OpenF
     if let Err(Down) = prepare(disk) {
         return Err(OpenFault::Down);
     }
-    match Kernel::restart(alloc, disk) {
+    let mut buffer = Vec::new(alloc);
+    match Kernel::restart(alloc, disk, &mut buffer) {
         Ok(Restarted { kernel, .. }) => Ok(kernel),
         Err(RestartFault::Down) => Err(OpenFault::Down),
         Err(RestartFault::Bad(offset)) => Err(OpenFault::BadImage(offset)),

@@ -30,8 +30,8 @@ pub returns-in-Err-Down-clause-cut : goal.returns-in-Err-Down-clause-cut
 returns-in-Err-Down-clause-cut g c = λ is base room tells.
     inr (cut_within base room _ _ (tells_base base room _ _ tells c.in_default.ensures.ok) (rw c.in-Err-Down.field-0-is at c.in-Err-Down.ensures.down))
 
-pub returns-in-Err-NoMemory-clause-not_recorded : goal.returns-in-Err-NoMemory-clause-not_recorded
-returns-in-Err-NoMemory-clause-not_recorded g c = λ is. rw (rw c.in-Err-NoMemory.field-0-is at c.in-Err-NoMemory.ensures.unwritten) c.in_default.ensures.ok
+pub returns-clause-not_recorded : goal.returns-clause-not_recorded
+returns-clause-not_recorded g c = λ is. rw (rw c.in-Err-NoMemory.field-0-is at c.in-Err-NoMemory.ensures.unwritten) c.in_default.ensures.ok
 
 pub returns-in-Err-Full-clause-full : goal.returns-in-Err-Full-clause-full
 returns-in-Err-Full-clause-full g c = λ is base room tells. no_room base room _ (tells_base base room _ _ tells c.in_default.ensures.ok) (rw c.in-Err-Full.field-0-is at c.in-Err-Full.ensures.full)
@@ -39,6 +39,6 @@ returns-in-Err-Full-clause-full g c = λ is base room tells. no_room base room _
 pub returns-in-Err-Full-clause-opens : goal.returns-in-Err-Full-clause-opens
 returns-in-Err-Full-clause-opens g c = opens_begin _ _ c.in_default.ensures.ok (rw c.in-Err-Full.field-0-is at c.in-Err-Full.ensures.found)
 
-pub returns-in-Err-NoMemory-clause-no_memory : goal.returns-in-Err-NoMemory-clause-no_memory
-returns-in-Err-NoMemory-clause-no_memory g c = λ is base room tells.
+pub returns-clause-no_memory : goal.returns-clause-no_memory
+returns-clause-no_memory g c = λ is base room tells.
     rw (rw c.in-Err-NoMemory.field-0-is at c.in-Err-NoMemory.ensures.unwritten) (left_begins base room _ (tells_base base room _ _ tells c.in_default.ensures.ok))
