@@ -1,5 +1,7 @@
 pub mod Alone
 pub mod Ids
+pub mod Found
+pub mod Rollbacks
 pub mod Forms
 pub mod Decided
 pub mod Machine

@@ -17,6 +17,7 @@ built_machine x is_up left built = record {
   last_manager = built.last_manager;
   last_enlistment = built.last_enlistment;
   files = built.files;
+  unrecorded = built.unrecorded;
   recorded = built.recorded;
 }
 

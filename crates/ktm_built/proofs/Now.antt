@@ -1,7 +1,9 @@
 -- Each built command keeps what the machine keeps of what is so now, and what it records applies.
 use Rattle.std.proofs.Common.{◌≡◌, ℕ, ◌+◌, ◌^◌, ◌<◌, ◌≤◌, ◌==◌, not, Bool, true, false, cond, List, [], ◌∷◌, ◌++◌, length, map, filter, nat_lt, count_by, is_some, is_none, Option, None, Some, refl, sym, ◌∙◌, ap, subst, arith, inl, inr, eq-eqb, ne_eqb, le-leb, lt-ltb, length-append}
+use Rattle.std.proofs.Math.Bool.{not-not}
 use Rattle.std.proofs.lemmas.Bool.{cases_Bool, and_from, or_parts, ltb-false}
 use Rattle.std.proofs.lemmas.List.Elements.{All-from_recursion, recursion_from_All, All-nil, All-cons, All-push, All-weaker}
+use Rattle.std.proofs.lemmas.List.Filters.{length-filter_both}
 use Rattle.std.proofs.lemmas.List.Sums.{sum_by-append}
 use Rattle.std.specs.List.{All, AllByRecursion, flat_map}
 use Rattle.ktm_base.specs.Bytes.{AreBytes}
@@ -11,10 +13,13 @@ use Rattle.ktm_base.specs.declared.id.Pid.{Pid}
 use Rattle.ktm_base.specs.declared.refusal.Refusal.{Refusal}
 use Rattle.ktm_base.specs.declared.refusal.Refusal.TheVariants.{MachineDown}
 use Rattle.ktm_world.specs.declared.command.Command.{Command}
-use Rattle.ktm_world.specs.declared.command.Command.TheVariants.{CreateTransaction, CommitTransaction, KvSet, KvUnset, KvGet, KvList}
+use Rattle.ktm_world.specs.declared.command.Command.TheVariants.{CreateTransaction, OpenTransaction, CommitTransaction, RollbackTransaction, GetTransactionInformation, KvSet, KvUnset, KvGet, KvList, CloseHandle, DuplicateHandle, Exit}
 use Rattle.ktm_world.specs.declared.event.Event.{Event}
 use Rattle.ktm_world.specs.declared.event.Event.TheVariants.{Single}
 use Rattle.ktm_world.specs.declared.event.Part.TheVariants.{Settings}
+use Rattle.ktm_world.specs.declared.object.Handle.{Handle}
+use Rattle.ktm_world.specs.declared.object.Object.{Object}
+use Rattle.ktm_world.specs.declared.object.Object.TheVariants.{Transaction as TransactionObject}
 use Rattle.ktm_world.specs.declared.object.Phase.{Phase}
 use Rattle.ktm_world.specs.declared.object.Transaction.{Transaction}
 use Rattle.ktm_world.specs.declared.object.TransactionOutcome.{TransactionOutcome}
@@ -24,29 +29,33 @@ use Rattle.ktm_world.specs.Built.{is_built_command, IsBuiltState}
 use Rattle.ktm_world.specs.Committed.{Work}
 use Rattle.ktm_world.specs.Decide.{decide, of_keys, command_tests, command_effect, refusal_of, with_room}
 use Rattle.ktm_world.specs.Durable.{Durable, events_apply, event_applies}
-use Rattle.ktm_world.specs.Handles.{no_handle_left}
+use Rattle.ktm_world.specs.HandleCalls.{is_handle, without_handle, bind_to, duplicate_handle, duplicate_handle_tests}
+use Rattle.ktm_world.specs.Handles.{object_at, no_handle_left}
 use Rattle.ktm_world.specs.KeyCalls.{keys_with, kv_set, kv_unset, kv_get, kv_list, kv_set_tests, kv_unset_tests}
 use Rattle.ktm_world.specs.Keys.{OwnSettings, own_settings, stored_all, is_bad_key, is_bad_value, keys_used, changes_pending, is_held_by_other, are_good_settings}
-use Rattle.ktm_world.specs.Labels.{transaction_named, transaction_tests, id_of_named, viewer}
+use Rattle.ktm_world.specs.Labels.{transaction_named, transaction_tests, id_of_named, viewer, with_handle}
 use Rattle.ktm_world.specs.Lawful.{Agrees, summary_of, summary_in, stage_in}
-use Rattle.ktm_world.specs.Limits.{most_live, most_number}
+use Rattle.ktm_world.specs.Limits.{most_live, most_handles, most_number}
 use Rattle.ktm_world.specs.Outcome.{Outcome, apply, only_reply, refuse_or, first_refusal, is_full}
 use Rattle.ktm_world.specs.Present.{Present}
 use Rattle.ktm_world.specs.Transactions.{same_id, transaction_at, change_at, is_live}
-use Rattle.ktm_world.specs.TransactionCalls.{create_transaction, create_transaction_tests, commit_transaction, no_transaction_left, new_id}
+use Rattle.ktm_world.specs.TransactionCalls.{create_transaction, create_transaction_tests, commit_transaction, no_transaction_left, new_id, rollback_transaction, get_transaction_information, transaction_with, open_to_transaction, open_transaction, open_transaction_tests, with_clock, tick}
 use Rattle.ktm_world.specs.Uses.{key_room}
+use Rattle.ktm_world.specs.World.{decide_tick}
 use Rattle.ktm_world.specs.Values.{IsCommand, IsText}
 use Rattle.ktm_world.proofs.KeyLemmas.{length-stored_all-le, counted-with_own-le, counted-without_own, length-own_settings-le}
 use Rattle.ktm_world.proofs.KeyedLemmas.{count_by-cons}
-use Rattle.ktm_built.specs.Forms.{with_transaction, with_commit, commit_events, commit_works, ended_committed}
+use Rattle.ktm_built.specs.Forms.{ComesTo, with_transaction, with_commit, commit_events, commit_works, ended_committed, with_bound, ended_aborted, with_rollback, with_unbound, with_handle_closed, with_process_gone, with_tick}
 use Rattle.ktm_built.specs.Laws.{EventsLaw, NowLaw}
 use Rattle.ktm_built.specs.Spelling.{IsShortEvent, IsShortWork}
-use Rattle.ktm_built.specs.Standing.{IsBuiltNow, IsSoundTransaction, IsSoundOwn, IsSoundNow, IsStandingNow}
+use Rattle.ktm_built.specs.Standing.{IsBuiltNow, IsOnCourse, IsSoundTransaction, IsSoundOwn, IsSoundNow, IsStandingNow}
 use Rattle.ktm_built.proofs.Outcomes.{decided_built, with_transaction_built, with_commit_built, with_keys_built}
-use Rattle.ktm_built.proofs.Decided.{full_log}
+use Rattle.ktm_built.proofs.Decided.{full_log, decided_law}
+use Rattle.ktm_built.proofs.Found.{transaction_at-of, All-change_at}
 use Rattle.ktm_built.proofs.Machine.{with_machine, built_machine, apply-full}
-use Rattle.ktm_built.proofs.Forms.{forms_law, named_law, commit_is, apply-only_reply}
+use Rattle.ktm_built.proofs.Forms.{forms_law, named_law, commit_is, apply-only_reply, handles_built, with_rollback_built, with_clock_built}
 use Rattle.ktm_built.proofs.Limits.{IsWithin, within_limits, limits_hold, room_for_keys, room_for_changes}
+use Rattle.ktm_built.proofs.Rollbacks.{keeps_closed, keeps_exit, keeps_tick}
 use Rattle.ktm_built.proofs.States.{state_law}
 use Rattle.ktm_built.proofs.Own.{IsSoundSetting, All-with_own, All-without_own, own_settings_sound, short_settings, once-with_own, once-without_own, apart-with_own, apart-without_own}
 
@@ -59,18 +68,17 @@ pub record IsPlain (x : Present) : Type 0 where
   pub keys : x.recorded.keys ≡ x.keys.store
 
 -- nothing is in the log of a transaction that is not recorded
-no_summaries : (x : Present) (boot last : ℕ) (ts : List Transaction) → AllByRecursion (IsSoundTransaction boot last) ts
-    → flat_map (λ t. cond t.is_recorded (summary_in x t (stage_in t.phase)) []) ts ≡ []
-no_summaries x boot last [] all = refl
-no_summaries x boot last (t ∷ ts) all = let none = all.0.unrecorded in rw none (no_summaries x boot last ts all.1)
+no_summaries : (x : Present) (ts : List Transaction) → AllByRecursion (λ t. t.is_recorded ≡ false) ts → flat_map (λ t. cond t.is_recorded (summary_in x t (stage_in t.phase)) []) ts ≡ []
+no_summaries x [] all = refl
+no_summaries x (t ∷ ts) all = let none = all.0 in rw none (no_summaries x ts all.1)
 
 -- it agrees with what was recorded
-agrees_of : (x : Present) → IsBuiltNow x → IsSoundNow x → x.recorded.keys ≡ x.keys.store → Agrees x
-agrees_of x built sound keys = record {
+agrees_of : (x : Present) → IsBuiltNow x → x.recorded.keys ≡ x.keys.store → Agrees x
+agrees_of x built keys = record {
   tree = ap (λ s. s.tree) built.recorded ∙ sym (ap (λ f. f.tree) built.files);
   keys = keys;
   managers = ap (λ s. s.managers) built.recorded ∙ sym (ap (λ ms. map (λ m. m.id) (filter (λ m. m.is_durable) ms)) built.managers);
-  transactions = ap (λ s. map summary_of s.transactions) built.recorded ∙ sym (no_summaries x x.recorded.boots x.transactions.last_transaction x.transactions.items (recursion_from_All _ _ sound.transactions));
+  transactions = ap (λ s. map summary_of s.transactions) built.recorded ∙ sym (no_summaries x x.transactions.items (recursion_from_All _ _ built.unrecorded));
   next_node =
       let recorded = ap (λ s. s.next_node) built.recorded in
       let now = ap (λ f. f.table.next_node) built.files in
@@ -90,7 +98,7 @@ standing_of x plain = record {
   built = plain.built;
   sound = plain.sound;
   limits = limits_hold x plain.built plain.sound.units_from plain.within;
-  agrees = agrees_of x plain.built plain.sound plain.keys;
+  agrees = agrees_of x plain.built plain.keys;
 }
 
 -- ---- what was not refused passed each test
@@ -107,15 +115,8 @@ passes_command x process command e = (passes (not x.machine.is_up, MachineDown) 
 
 -- ---- the transaction that is named is a sound one
 
-transaction_at-of : (P : Transaction → Type 0) (ts : List Transaction) (id : Id) (t : Transaction) → AllByRecursion P ts → transaction_at ts id ≡ Some t → P t
-transaction_at-of P [] id t all found = cc
-transaction_at-of P (u ∷ us) id t all found = elim (cases_Bool (same_id u.id id)) [
-  | inl same ↦ let is : u ≡ t = (let here = rw same at found in cc) in subst P is all.0
-  | inr other ↦ transaction_at-of P us id t all.1 (rw other at found)
-]
-
 pub sound_at : (x : Present) (t : Transaction) → IsSoundNow x → transaction_at x.transactions.items t.id ≡ Some t → IsSoundTransaction x.recorded.boots x.transactions.last_transaction t
-sound_at x t sound found = transaction_at-of (IsSoundTransaction x.recorded.boots x.transactions.last_transaction) x.transactions.items t.id t (recursion_from_All _ _ sound.transactions) found
+sound_at x t sound found = transaction_at-of (IsSoundTransaction x.recorded.boots x.transactions.last_transaction) x.transactions.items t.id t sound.transactions found
 
 -- ---- only the machine changes
 
@@ -165,8 +166,8 @@ create_plain x process label timeout plain e =
         units_from = plain.sound.units_from;
         transactions = All-push (IsSoundTransaction x.recorded.boots (last + 1)) x.transactions.items (new_transaction x timeout)
             (All-weaker (IsSoundTransaction x.recorded.boots last) (IsSoundTransaction x.recorded.boots (last + 1))
-            (λ t sound. record { boot_is = sound.boot_is; number_from = sound.number_from; number_to = omega (arith, sound.number_to); course = sound.course; unrecorded = sound.unrecorded }) x.transactions.items plain.sound.transactions)
-            (record { boot_is = refl; number_from = omega arith; number_to = omega arith; course = tt; unrecorded = refl });
+            (λ t sound. record { boot_is = sound.boot_is; number_from = sound.number_from; number_to = omega (arith, sound.number_to); course = sound.course }) x.transactions.items plain.sound.transactions)
+            (record { boot_is = refl; number_from = omega arith; number_to = omega arith; course = tt });
         own = plain.sound.own;
         once = plain.sound.once;
         apart = plain.sound.apart;
@@ -181,28 +182,33 @@ create_plain x process label timeout plain e =
       keys = plain.keys;
     }
 
--- ---- CommitTransaction
+-- ---- transactions that end
 
 -- a transaction that ends is live no more
-live-ended-le : (ts : List Transaction) (id : Id) → count_by is_live (change_at ts id ended_committed) ≤ count_by is_live ts
-live-ended-le [] id = omega arith
-live-ended-le (t ∷ ts) id =
+live-ended-le : (f : Transaction → Transaction) → ((t : Transaction) → is_live (f t) ≡ false) → (ts : List Transaction) (id : Id) → count_by is_live (change_at ts id f) ≤ count_by is_live ts
+live-ended-le f ends [] id = omega arith
+live-ended-le f ends (t ∷ ts) id =
     let old = count_by-cons is_live t ts in
     elim (cases_Bool (same_id t.id id)) [
-      | inl same ↦ let new = count_by-cons is_live (ended_committed t) ts in rw same (omega (arith, old, new))
+      | inl same ↦ let new = count_by-cons is_live (f t) ts in let none : cond {A = ℕ} (is_live (f t)) 1 0 ≡ 0 = ap (λ (b : Bool). cond {A = ℕ} b 1 0) (ends t) in rw same (omega (arith, old, new, none))
       | inr other ↦
-          let new = count_by-cons is_live t (change_at ts id ended_committed) in
-          let rest = live-ended-le ts id in
+          let new = count_by-cons is_live t (change_at ts id f) in
+          let rest = live-ended-le f ends ts id in
           rw other (omega (arith, old, new, rest))
     ]
 
-sound-ended : (boot last : ℕ) (ts : List Transaction) (id : Id) → AllByRecursion (IsSoundTransaction boot last) ts → AllByRecursion (IsSoundTransaction boot last) (change_at ts id ended_committed)
-sound-ended boot last [] id all = tt
-sound-ended boot last (t ∷ ts) id all =
-    let here : IsSoundTransaction boot last (ended_committed t) =
-    record { boot_is = all.0.boot_is; number_from = all.0.number_from; number_to = all.0.number_to; course = tt; unrecorded = all.0.unrecorded } in
-    let rest = sound-ended boot last ts id all.1 in
-    elim (cases_Bool (same_id t.id id)) [ inl same ↦ rw same (here, all.1) | inr other ↦ rw other (all.0, rest) ]
+-- a transaction that has ended, with this outcome
+abbrev pub ended_with : TransactionOutcome → Transaction → Transaction
+ended_with outcome t = record t { phase = Phase.Ended; outcome = outcome }
+
+-- the sound transactions are sound once one has ended
+pub sound-ended : (x : Present) (id : Id) (outcome : TransactionOutcome) → IsOnCourse Phase.Ended outcome → All (IsSoundTransaction x.recorded.boots x.transactions.last_transaction) x.transactions.items
+    → All (IsSoundTransaction x.recorded.boots x.transactions.last_transaction) (change_at x.transactions.items id (ended_with outcome))
+sound-ended x id outcome course all =
+    All-change_at (IsSoundTransaction x.recorded.boots x.transactions.last_transaction) (ended_with outcome)
+    (λ t sound. record { boot_is = sound.boot_is; number_from = sound.number_from; number_to = sound.number_to; course = course }) x.transactions.items id all
+
+-- ---- CommitTransaction
 
 -- the store and the keys that others set are within the units
 few_stored : (x : Present) (id : Id) → IsPlain x → length (stored_all x.keys.store (own_settings x.keys.own id)) ≤ x.recorded.units
@@ -218,13 +224,13 @@ commit_plain x t plain =
     let less = length-stored_all-le x.keys.store settings in
     let used = counted-without_own (λ s. is_some s.value) t.id x.keys.own in
     let pending = counted-without_own (λ s. is_none s.value) t.id x.keys.own in
-    let live = live-ended-le x.transactions.items t.id in
+    let live = live-ended-le ended_committed (λ u. refl) x.transactions.items t.id in
     record {
       built = with_commit_built x t plain.built;
       sound = record {
         boots_from = plain.sound.boots_from;
         units_from = plain.sound.units_from;
-        transactions = All-from_recursion _ _ (sound-ended x.recorded.boots x.transactions.last_transaction x.transactions.items t.id (recursion_from_All _ _ plain.sound.transactions));
+        transactions = sound-ended x t.id TransactionOutcome.Committed tt plain.sound.transactions;
         own = All-without_own x.recorded.boots t.id x.keys.own plain.sound.own;
         once = once-without_own x.keys.own t.id plain.sound.once;
         apart = apart-without_own x.keys.own t.id plain.sound.once plain.sound.apart;
@@ -238,6 +244,85 @@ commit_plain x t plain =
       };
       keys = ap (λ store. stored_all store settings) plain.keys;
     }
+
+-- ---- labels
+
+handles_plain : (x : Present) (handles : List Handle) → length handles ≤ most_handles → IsPlain x → IsPlain (record x { handles = handles })
+handles_plain x handles few plain = record {
+  built = handles_built x handles plain.built;
+  sound = record {
+    boots_from = plain.sound.boots_from;
+    units_from = plain.sound.units_from;
+    transactions = plain.sound.transactions;
+    own = plain.sound.own;
+    once = plain.sound.once;
+    apart = plain.sound.apart;
+  };
+  within = record { keys = plain.within.keys; changes = plain.within.changes; live = plain.within.live; handles = few; last = plain.within.last };
+  keys = plain.keys;
+}
+
+bound_plain : (x : Present) (process : Pid) (label : Label) (object : Object) → no_handle_left x.handles ≡ false → IsPlain x → IsPlain (with_bound x process label object)
+bound_plain x process label object left plain =
+    let room = ltb-false _ _ left in
+    let longer = length-append x.handles (record { process = process; label = label; object = object } ∷ []) in
+    handles_plain x (with_handle x.handles process label object) (omega (arith, room, longer)) plain
+
+unbound_plain : (x : Present) (process : Pid) (label : Label) → IsPlain x → IsPlain (with_unbound x process label)
+unbound_plain x process label plain =
+    let fewer = length-filter_both (λ h. not (is_handle process label h)) (λ h. is_handle process label h) (λ h. sym (not-not (is_handle process label h))) x.handles in
+    handles_plain x (without_handle x.handles process label) (omega (arith, fewer, plain.within.handles)) plain
+
+-- ---- rollbacks
+
+rollback_plain : (x : Present) (t : Transaction) → IsPlain x → IsPlain (with_rollback x t)
+rollback_plain x t plain =
+    let used = counted-without_own (λ s. is_some s.value) t.id x.keys.own in
+    let pending = counted-without_own (λ s. is_none s.value) t.id x.keys.own in
+    let live = live-ended-le ended_aborted (λ u. refl) x.transactions.items t.id in
+    record {
+      built = with_rollback_built x t plain.built;
+      sound = record {
+        boots_from = plain.sound.boots_from;
+        units_from = plain.sound.units_from;
+        transactions = sound-ended x t.id TransactionOutcome.Aborted tt plain.sound.transactions;
+        own = All-without_own x.recorded.boots t.id x.keys.own plain.sound.own;
+        once = once-without_own x.keys.own t.id plain.sound.once;
+        apart = apart-without_own x.keys.own t.id plain.sound.once plain.sound.apart;
+      };
+      within = record {
+        keys = omega (arith, used, plain.within.keys);
+        changes = omega (arith, pending, plain.within.changes);
+        live = omega (arith, live, plain.within.live);
+        handles = plain.within.handles;
+        last = plain.within.last;
+      };
+      keys = plain.keys;
+    }
+
+clock_plain : (x : Present) (ms : ℕ) → IsPlain x → IsPlain (with_clock x ms)
+clock_plain x ms plain = record {
+  built = with_clock_built x ms plain.built;
+  sound = record {
+    boots_from = plain.sound.boots_from;
+    units_from = plain.sound.units_from;
+    transactions = plain.sound.transactions;
+    own = plain.sound.own;
+    once = plain.sound.once;
+    apart = plain.sound.apart;
+  };
+  within = record { keys = plain.within.keys; changes = plain.within.changes; live = plain.within.live; handles = plain.within.handles; last = plain.within.last };
+  keys = plain.keys;
+}
+
+closed_plain : (x : Present) (process : Pid) (label : Label) → IsPlain x → IsPlain (with_handle_closed x process label)
+closed_plain = keeps_closed IsPlain (λ x t found may. rollback_plain x t) unbound_plain clock_plain
+
+exit_plain : (x : Present) (process : Pid) → IsPlain x → IsPlain (with_process_gone x process)
+exit_plain = keeps_exit IsPlain (λ x t found may. rollback_plain x t) unbound_plain clock_plain
+
+tick_plain : (x : Present) (ms : ℕ) → IsPlain x → IsPlain (with_tick x ms)
+tick_plain = keeps_tick IsPlain (λ x t found may. rollback_plain x t) unbound_plain clock_plain
 
 -- ---- KvSet and KvUnset
 
@@ -288,6 +373,43 @@ unfolding commit_transaction
 commit_effect x None at plain = replied_plain x Done plain
 commit_effect x (Some t) at plain = subst IsPlain (sym (forms_law.3 x t plain.built (at t refl))) (commit_plain x t plain)
 
+comes_to_plain : (x : Present) (o : Outcome) (reply : Reply) (y : Present) → ComesTo x o reply y → IsPlain y → IsPlain (apply x o)
+comes_to_plain x o reply y comes plain = subst IsPlain (sym comes.leaves) plain
+
+rollback_effect : (x : Present) (named : Option Transaction) → ((t : Transaction) → named ≡ Some t → transaction_at x.transactions.items t.id ≡ Some t) → IsPlain x → IsPlain (apply x (rollback_transaction x named))
+unfolding rollback_transaction
+rollback_effect x None at plain = replied_plain x Done plain
+rollback_effect x (Some t) at plain = comes_to_plain x _ Done (with_rollback x t) (forms_law.6 x t plain.built (at t refl)) (rollback_plain x t plain)
+
+open_effect : (x : Present) (process : Pid) (label : Label) (guid : List ℕ) → IsPlain x → first_refusal (open_transaction_tests x process label guid) ≡ None → IsPlain (apply x (open_transaction x process label guid))
+unfolding open_transaction open_transaction_tests
+open_effect x process label guid plain e = go (transaction_with x guid) refl
+  where
+    left : no_handle_left x.handles ≡ false
+    left = (passes_all (open_transaction_tests x process label guid) e).1.1.0
+
+    go : (named : Option Transaction) → transaction_with x guid ≡ named → IsPlain (apply x (open_to_transaction x process label named))
+    go None is = replied_plain x Done plain
+    go (Some t) is =
+        let y = with_bound x process label (TransactionObject t.id) in
+        subst (λ (named : Option Transaction). IsPlain (apply x (open_to_transaction x process label named))) is
+        (comes_to_plain x _ Done y (forms_law.8 x process label guid t plain.built is) (bound_plain x process label (TransactionObject t.id) left plain))
+
+duplicate_effect : (x : Present) (process : Pid) (label : Label) (from : Pid) (source : Label) → IsPlain x → first_refusal (duplicate_handle_tests x process label from source) ≡ None
+    → IsPlain (apply x (duplicate_handle x process label from source))
+unfolding duplicate_handle duplicate_handle_tests
+duplicate_effect x process label from source plain e = go (object_at x.handles from source) refl
+  where
+    left : no_handle_left x.handles ≡ false
+    left = (passes_all (duplicate_handle_tests x process label from source) e).1.1.1.0
+
+    go : (named : Option Object) → object_at x.handles from source ≡ named → IsPlain (apply x (bind_to x process label named))
+    go None is = replied_plain x Done plain
+    go (Some object) is =
+        let y = with_bound x process label object in
+        subst (λ (named : Option Object). IsPlain (apply x (bind_to x process label named))) is
+        (comes_to_plain x _ Done y (forms_law.9 x process label from source object plain.built is) (bound_plain x process label object left plain))
+
 set_effect : (x : Present) (named : Option Transaction) (key value : List ℕ) → ((t : Transaction) → named ≡ Some t → transaction_at x.transactions.items t.id ≡ Some t) → IsText key → AreBytes value → IsPlain x
     → first_refusal (transaction_tests named ++ kv_set_tests x.keys (key_room x) (id_of_named named) key value) ≡ None → IsPlain (apply x (of_keys x (kv_set x.keys (id_of_named named) key value)))
 set_effect x None key value at text bytes plain e = absurd (cc)
@@ -303,11 +425,17 @@ unset_effect x (Some t) key at text plain e =
 effect_plain : (x : Present) (process : Pid) (command : Command) → IsCommand command → is_built_command command ≡ true → IsPlain x → first_refusal (command_tests x process command) ≡ None
     → IsPlain (apply x (command_effect x process command))
 effect_plain x process (CreateTransaction label timeout) is built plain e = subst IsPlain (sym (forms_law.1 x process label timeout plain.built)) (create_plain x process label timeout plain e)
+effect_plain x process (OpenTransaction label guid) is built plain e = open_effect x process label guid plain e
+effect_plain x process (RollbackTransaction label) is built plain e = rollback_effect x (transaction_named x process label) (named_law x process label) plain
+effect_plain x process (GetTransactionInformation label) is built plain e = comes_to_plain x _ _ x (forms_law.7 x (transaction_named x process label) plain.built) plain
 effect_plain x process (CommitTransaction label) is built plain e = commit_effect x (transaction_named x process label) (named_law x process label) plain
 effect_plain x process (KvSet label key value) is built plain e = set_effect x (transaction_named x process label) key value (named_law x process label) is.1 is.2 plain e
 effect_plain x process (KvUnset label key) is built plain e = unset_effect x (transaction_named x process label) key (named_law x process label) is.1 plain e
 effect_plain x process (KvGet view key) is built plain e = replied_plain x (kv_get x.keys (viewer x process view) key).reply plain
 effect_plain x process (KvList view) is built plain e = replied_plain x (kv_list x.keys (viewer x process view)).reply plain
+effect_plain x process (CloseHandle label) is built plain e = comes_to_plain x _ Done (with_handle_closed x process label) (forms_law.11 x process label plain.built) (closed_plain x process label plain)
+effect_plain x process (DuplicateHandle label from source) is built plain e = duplicate_effect x process label from source plain e
+effect_plain x process Exit is built plain e = comes_to_plain x _ Done (with_process_gone x process) (forms_law.12 x process plain.built) (exit_plain x process plain)
 effect_plain x process _ is built plain e = absurd (cc)
 
 -- ---- every outcome
@@ -325,6 +453,14 @@ decided_plain x process command is built plain =
     logged_plain x (is_full x.machine.left (with_room x process command).events) (with_room x process command) plain
     (refused_plain x (refusal_of x process command) (command_effect x process command) plain
     (λ e. effect_plain x process command is built plain (passes_command x process command e)))
+
+-- the passing of time, whether the machine is up or down
+pub ticked_plain : (x : Present) (ms : ℕ) → IsPlain x → IsPlain (apply x (decide_tick x ms))
+ticked_plain x ms plain = elim (cases_Bool x.machine.is_up) [
+  | inl on ↦
+      subst (λ (o : Outcome). IsPlain (apply x o)) (sym (decided_law.6 x ms plain.built on)) (comes_to_plain x (tick x ms) Done (with_tick x ms) (forms_law.10 x ms plain.built) (tick_plain x ms plain))
+  | inr off ↦ subst (λ (o : Outcome). IsPlain (apply x o)) (sym (decided_law.5 x ms off)) (replied_plain x (Refused MachineDown) plain)
+]
 
 -- ---- what a command records
 
@@ -384,14 +520,40 @@ records-named x (Some t) at plain =
     (records-commit x t.id settings plain.built.recorded plain.sound.boots_from plain.sound.units_from sound.number_from
     (own_settings_sound x.recorded.boots t.id sound.boot_is x.keys.own plain.sound.own) work.few (omega (arith, same, room)))
 
+pub records-quiet : (x : Present) (o : Outcome) → (o.events ≡ []) × (o.works ≡ []) → Records x o.events o.works
+records-quiet x o none = subst (λ (works : List Work). Records x o.events works) (sym none.1) (subst (λ (events : List Event). Records x events []) (sym none.0) (records-none x))
+
+records-nothing : (x : Present) (o : Outcome) (reply : Reply) (y : Present) → ComesTo x o reply y → Records x o.events o.works
+records-nothing x o reply y comes = records-quiet x o (comes.records, comes.commits)
+
+records-rollback : (x : Present) (named : Option Transaction) → ((t : Transaction) → named ≡ Some t → transaction_at x.transactions.items t.id ≡ Some t) → IsPlain x
+    → Records x (rollback_transaction x named).events (rollback_transaction x named).works
+unfolding rollback_transaction
+records-rollback x None at plain = records-none x
+records-rollback x (Some t) at plain = records-nothing x _ Done (with_rollback x t) (forms_law.6 x t plain.built (at t refl))
+
+records-open : (x : Present) (process : Pid) (label : Label) (named : Option Transaction) → Records x (open_to_transaction x process label named).events (open_to_transaction x process label named).works
+records-open x process label None = records-none x
+records-open x process label (Some t) = records-none x
+
+records-bind : (x : Present) (process : Pid) (label : Label) (named : Option Object) → Records x (bind_to x process label named).events (bind_to x process label named).works
+records-bind x process label None = records-none x
+records-bind x process label (Some object) = records-none x
+
 records-effect : (x : Present) (process : Pid) (command : Command) → is_built_command command ≡ true → IsPlain x → Records x (command_effect x process command).events (command_effect x process command).works
-unfolding create_transaction
+unfolding create_transaction open_transaction get_transaction_information duplicate_handle
 records-effect x process (CreateTransaction label timeout) built plain = records-none x
+records-effect x process (OpenTransaction label guid) built plain = records-open x process label (transaction_with x guid)
+records-effect x process (RollbackTransaction label) built plain = records-rollback x (transaction_named x process label) (named_law x process label) plain
+records-effect x process (GetTransactionInformation label) built plain = records-none x
 records-effect x process (CommitTransaction label) built plain = records-named x (transaction_named x process label) (named_law x process label) plain
 records-effect x process (KvSet label key value) built plain = records-none x
 records-effect x process (KvUnset label key) built plain = records-none x
 records-effect x process (KvGet view key) built plain = records-none x
 records-effect x process (KvList view) built plain = records-none x
+records-effect x process (CloseHandle label) built plain = records-nothing x _ Done (with_handle_closed x process label) (forms_law.11 x process label plain.built)
+records-effect x process (DuplicateHandle label from source) built plain = records-bind x process label (object_at x.handles from source)
+records-effect x process Exit built plain = records-nothing x _ Done (with_process_gone x process) (forms_law.12 x process plain.built)
 records-effect x process _ built plain = absurd (cc)
 
 records-refuse_or : (x : Present) (tested : Option Refusal) (effect : Outcome) → Records x effect.events effect.works → Records x (refuse_or x tested effect).events (refuse_or x tested effect).works
@@ -407,14 +569,23 @@ records-decided x process command built plain =
     records-logged x (is_full x.machine.left (with_room x process command).events) (with_room x process command)
     (records-refuse_or x (refusal_of x process command) (command_effect x process command) (records-effect x process command built plain))
 
+-- the passing of time records and commits nothing
+pub ticked_nothing : (x : Present) (ms : ℕ) → IsBuiltNow x → ((decide_tick x ms).events ≡ []) × ((decide_tick x ms).works ≡ [])
+ticked_nothing x ms built = elim (cases_Bool x.machine.is_up) [
+  | inl on ↦ (let comes = forms_law.10 x ms built in let is = decided_law.6 x ms built on in (ap (λ (o : Outcome). o.events) is ∙ comes.records, ap (λ (o : Outcome). o.works) is ∙ comes.commits))
+  | inr off ↦ (let is = decided_law.5 x ms off in (ap (λ (o : Outcome). o.events) is, ap (λ (o : Outcome). o.works) is))
+]
+
 pub events_law : EventsLaw
 events_law = (
   λ x process command built standing. let records = records-decided x process command built (plain_of x standing) in ((decided_built x process command built standing.built).events, records.applies, records.short),
   λ x t standing found. short_work x t (plain_of x standing) found,
+  λ x ms built. (ticked_nothing x ms built).0,
 )
 
 pub now_law : NowLaw
 now_law = (
   λ x process command is built standing. standing_of _ (decided_plain x process command is built (plain_of x standing)),
   λ w standing on. record { built = standing.built.now; sound = standing.sound; limits = standing.lawful.limits; agrees = (standing.lawful.stands on).agrees },
+  λ x ms standing. standing_of _ (ticked_plain x ms (plain_of x standing)),
 )
