@@ -12,4 +12,5 @@ pub mod Limits
 pub mod Outcomes
 pub mod Now
 pub mod Worlds
+pub mod Told
 pub mod Tellings

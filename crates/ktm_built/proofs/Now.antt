@@ -2,7 +2,7 @@
 use Rattle.std.proofs.Common.{◌≡◌, ℕ, ◌+◌, ◌^◌, ◌<◌, ◌≤◌, ◌==◌, not, Bool, true, false, cond, List, [], ◌∷◌, ◌++◌, length, map, filter, nat_lt, count_by, is_some, is_none, Option, None, Some, refl, sym, ◌∙◌, ap, subst, arith, inl, inr, eq-eqb, ne_eqb, le-leb, lt-ltb, length-append}
 use Rattle.std.proofs.Math.Bool.{not-not}
 use Rattle.std.proofs.lemmas.Bool.{cases_Bool, and_from, or_parts, ltb-false}
-use Rattle.std.proofs.lemmas.List.Elements.{All-from_recursion, recursion_from_All, All-nil, All-cons, All-push, All-weaker}
+use Rattle.std.proofs.lemmas.List.Elements.{recursion_from_All, All-nil, All-cons, All-push, All-weaker}
 use Rattle.std.proofs.lemmas.List.Filters.{length-filter_both}
 use Rattle.std.proofs.lemmas.List.Sums.{sum_by-append}
 use Rattle.std.specs.List.{All, AllByRecursion, flat_map}
@@ -106,17 +106,21 @@ standing_of x plain = record {
 passes : (test : Bool × Refusal) (tests : List (Bool × Refusal)) → first_refusal (test ∷ tests) ≡ None → (test.0 ≡ false) × (first_refusal tests ≡ None)
 passes test tests e = elim (cases_Bool test.0) [ inl holds ↦ cc (rw holds at e) | inr fails ↦ (fails, rw fails at e) ]
 
-passes_all : (tests : List (Bool × Refusal)) → first_refusal tests ≡ None → AllByRecursion (λ test. test.0 ≡ false) tests
+pub passes_all : (tests : List (Bool × Refusal)) → first_refusal tests ≡ None → AllByRecursion (λ test. test.0 ≡ false) tests
 passes_all [] e = tt
 passes_all (test ∷ tests) e = let parts = passes test tests e in (parts.0, passes_all tests parts.1)
 
-passes_command : (x : Present) (process : Pid) (command : Command) → refusal_of x process command ≡ None → first_refusal (command_tests x process command) ≡ None
+pub passes_command : (x : Present) (process : Pid) (command : Command) → refusal_of x process command ≡ None → first_refusal (command_tests x process command) ≡ None
 passes_command x process command e = (passes (not x.machine.is_up, MachineDown) (command_tests x process command) e).1
 
 -- ---- the transaction that is named is a sound one
 
 pub sound_at : (x : Present) (t : Transaction) → IsSoundNow x → transaction_at x.transactions.items t.id ≡ Some t → IsSoundTransaction x.recorded.boots x.transactions.last_transaction t
 sound_at x t sound found = transaction_at-of (IsSoundTransaction x.recorded.boots x.transactions.last_transaction) x.transactions.items t.id t sound.transactions found
+
+-- all transactions are sound
+abbrev pub AreSound : Present → Type 0
+AreSound x = All (IsSoundTransaction x.recorded.boots x.transactions.last_transaction) x.transactions.items
 
 -- ---- only the machine changes
 
@@ -147,6 +151,14 @@ machine_plain x is_up left plain = record {
 abbrev new_transaction : Present → ℕ → Transaction
 new_transaction x timeout = record { id = new_id x x.transactions.last_transaction; timeout = timeout; created = x.transactions.clock; phase = Phase.Active; outcome = TransactionOutcome.Undetermined; is_recorded = false }
 
+pub sound-create : (x : Present) (timeout : ℕ) → AreSound x → All (IsSoundTransaction x.recorded.boots (x.transactions.last_transaction + 1)) (x.transactions.items ++ new_transaction x timeout ∷ [])
+sound-create x timeout all =
+    let last = x.transactions.last_transaction in
+    All-push (IsSoundTransaction x.recorded.boots (last + 1)) x.transactions.items (new_transaction x timeout)
+    (All-weaker (IsSoundTransaction x.recorded.boots last) (IsSoundTransaction x.recorded.boots (last + 1))
+    (λ t sound. record { boot_is = sound.boot_is; number_from = sound.number_from; number_to = omega (arith, sound.number_to); course = sound.course }) x.transactions.items all)
+    (record { boot_is = refl; number_from = omega arith; number_to = omega arith; course = tt })
+
 create_plain : (x : Present) (process : Pid) (label : Label) (timeout : ℕ) → IsPlain x → first_refusal (create_transaction_tests x process label) ≡ None
     → IsPlain (with_transaction x process label timeout)
 unfolding create_transaction_tests
@@ -164,10 +176,7 @@ create_plain x process label timeout plain e =
       sound = record {
         boots_from = plain.sound.boots_from;
         units_from = plain.sound.units_from;
-        transactions = All-push (IsSoundTransaction x.recorded.boots (last + 1)) x.transactions.items (new_transaction x timeout)
-            (All-weaker (IsSoundTransaction x.recorded.boots last) (IsSoundTransaction x.recorded.boots (last + 1))
-            (λ t sound. record { boot_is = sound.boot_is; number_from = sound.number_from; number_to = omega (arith, sound.number_to); course = sound.course }) x.transactions.items plain.sound.transactions)
-            (record { boot_is = refl; number_from = omega arith; number_to = omega arith; course = tt });
+        transactions = sound-create x timeout plain.sound.transactions;
         own = plain.sound.own;
         once = plain.sound.once;
         apart = plain.sound.apart;
@@ -202,7 +211,7 @@ abbrev pub ended_with : TransactionOutcome → Transaction → Transaction
 ended_with outcome t = record t { phase = Phase.Ended; outcome = outcome }
 
 -- the sound transactions are sound once one has ended
-pub sound-ended : (x : Present) (id : Id) (outcome : TransactionOutcome) → IsOnCourse Phase.Ended outcome → All (IsSoundTransaction x.recorded.boots x.transactions.last_transaction) x.transactions.items
+pub sound-ended : (x : Present) (id : Id) (outcome : TransactionOutcome) → IsOnCourse Phase.Ended outcome → AreSound x
     → All (IsSoundTransaction x.recorded.boots x.transactions.last_transaction) (change_at x.transactions.items id (ended_with outcome))
 sound-ended x id outcome course all =
     All-change_at (IsSoundTransaction x.recorded.boots x.transactions.last_transaction) (ended_with outcome)

@@ -1,7 +1,6 @@
 -- What holds after each rollback, and each time that a handle is closed or the clock is later, holds of whole calls that come to these.
-use Rattle.std.proofs.Common.{◌≡◌, ℕ, Bool, true, false, cond, List, [], ◌∷◌, fold, Option, Some, None, refl, sym, subst, inl, inr}
-use Rattle.std.proofs.lemmas.Bool.{cases_Bool, and_parts}
-use Rattle.ktm_base.specs.declared.id.Id.{Id}
+use Rattle.std.proofs.Common.{◌≡◌, ℕ, Bool, true, false, cond, List, [], ◌∷◌, fold, Option, Some, None, refl}
+use Rattle.std.proofs.lemmas.Bool.{and_parts}
 use Rattle.ktm_base.specs.declared.id.Label.{Label}
 use Rattle.ktm_base.specs.declared.id.Pid.{Pid}
 use Rattle.ktm_world.specs.declared.object.Object.{Object}
@@ -13,7 +12,7 @@ use Rattle.ktm_world.specs.HandleCalls.{has_handle, labels_of}
 use Rattle.ktm_world.specs.Handles.{object_at}
 use Rattle.ktm_world.specs.Present.{Present}
 use Rattle.ktm_world.specs.Transactions.{transaction_at, is_active}
-use Rattle.ktm_world.specs.TransactionCalls.{may_roll_back, is_due, with_clock, never_times_out}
+use Rattle.ktm_world.specs.TransactionCalls.{may_roll_back, is_due, with_clock}
 use Rattle.ktm_built.specs.Forms.{with_rollback, with_rollback_if_active, with_handle_gone, with_unbound, with_handle_closed, with_process_gone, with_rollback_if_due, with_tick}
 use Rattle.ktm_built.proofs.Found.{found_again}
 

@@ -59,7 +59,7 @@ no_first_opens w built = map-none (first_open_now w) w.first_opens (ap (λ f. f.
 no_table : (w : World) → IsBuiltNow (present w) → w.table ≡ no_files.table
 no_table w built = ap (λ f. f.table) built.files
 
-lie_within : (w : World) → IsBuiltNow (present w) → FirstOpensLieWithin w
+pub lie_within : (w : World) → IsBuiltNow (present w) → FirstOpensLieWithin w
 lie_within w built = record { works = λ k d within. absurd (no_place w.first_opens k (no_first_opens w built) within) }
 
 -- ---- no two transactions hold the same
@@ -106,7 +106,7 @@ unchanged_apply : (c : Committed) (ws : List Work) → AllByRecursion (λ (work 
 unchanged_apply c [] all = refl
 unchanged_apply c (w ∷ ws) all = and_from _ _ (ap (λ changes. apply_all c.tree changes) all.0) (unchanged_apply (with_work c w) ws all.1)
 
-kept_after-all : (kept : ℕ) (log : List Group) (events : List Event) → kept ≡ length log → kept_after kept log events ≡ length (log ++ as_groups events)
+pub kept_after-all : (kept : ℕ) (log : List Group) (events : List Event) → kept ≡ length log → kept_after kept log events ≡ length (log ++ as_groups events)
 kept_after-all kept log [] all = all ∙ ap length (sym (append-nil log))
 kept_after-all kept log (event ∷ events) all = sym (length-append log ((event ∷ events) ∷ []))
 
