@@ -62,22 +62,22 @@ released_says : (c : Course) (o : Outcome) → (released c o).reply ≡ o.reply
 released_says c o = elim (is_undecided c.transaction) as (λ b. (cond b o (record o { forgotten = c.transaction.id ∷ []; table = without_transaction o.table c.transaction.id; own = without_own o.own c.transaction.id })).reply ≡ o.reply) [ true ↦ refl | false ↦ refl ]
 
 -- an outcome answers that it is done, and the machine goes on
-record IsDone (o : Outcome) : Type 0 where
-  goes_on : o.stops ≡ false
-  says : o.reply ≡ Done
+pub record IsDone (o : Outcome) : Type 0 where
+  pub goes_on : o.stops ≡ false
+  pub says : o.reply ≡ Done
 
-done_open : (x : Present) (process : Pid) (label : Label) (named : Option Transaction) → IsDone (open_to_transaction x process label named)
+pub done_open : (x : Present) (process : Pid) (label : Label) (named : Option Transaction) → IsDone (open_to_transaction x process label named)
 done_open x process label None = record { goes_on = refl; says = refl }
 done_open x process label (Some t) = record { goes_on = refl; says = refl }
 
-done_bind : (x : Present) (process : Pid) (label : Label) (named : Option Object) → IsDone (bind_to x process label named)
+pub done_bind : (x : Present) (process : Pid) (label : Label) (named : Option Object) → IsDone (bind_to x process label named)
 done_bind x process label None = record { goes_on = refl; says = refl }
 done_bind x process label (Some object) = record { goes_on = refl; says = refl }
 
 done_aborted : (x : Present) (t : Transaction) → IsDone (aborted_by x t None Done)
 done_aborted x t = let c = aborting (course_of x t None) in record { goes_on = released_goes_on c _; says = released_says c _ }
 
-done_rollback : (x : Present) (named : Option Transaction) → IsDone (rollback_transaction x named)
+pub done_rollback : (x : Present) (named : Option Transaction) → IsDone (rollback_transaction x named)
 unfolding rollback_transaction
 done_rollback x None = record { goes_on = refl; says = refl }
 done_rollback x (Some t) = done_aborted x t
@@ -107,7 +107,7 @@ done_gone x (Some object) = go (has_handle x.handles object)
 done_then : (x : Present) (o : Outcome) (next : Present → Outcome) → IsDone o → ((y : Present) → IsDone (next y)) → IsDone (and_then x o next)
 done_then x o next first then = record { goes_on = or_from _ _ first.goes_on (then (apply x o)).goes_on; says = first.says }
 
-done_close : (x : Present) (process : Pid) (label : Label) → IsDone (close_handle x process label)
+pub done_close : (x : Present) (process : Pid) (label : Label) → IsDone (close_handle x process label)
 unfolding close_handle
 done_close x process label =
     let named = object_at x.handles process label in
@@ -117,7 +117,7 @@ done_closed : (x : Present) (process : Pid) (labels : List Label) → IsDone (cl
 done_closed x process [] = record { goes_on = refl; says = refl }
 done_closed x process (label ∷ labels) = done_then x (close_handle x process label) (λ next. closed_in_turn next process labels) (done_close x process label) (λ y. done_closed y process labels)
 
-done_exit : (x : Present) (process : Pid) → IsDone (exit x process)
+pub done_exit : (x : Present) (process : Pid) → IsDone (exit x process)
 unfolding exit
 done_exit x process = done_closed x process (labels_of x.handles process)
 

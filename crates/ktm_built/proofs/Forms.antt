@@ -4,19 +4,23 @@ use Rattle.std.proofs.Math.Bool.{and-true}
 use Rattle.ktm_base.specs.declared.id.Id.{Id}
 use Rattle.ktm_base.specs.declared.id.Label.{Label}
 use Rattle.ktm_base.specs.declared.id.Pid.{Pid}
+use Rattle.ktm_world.specs.declared.command.Command.{Command}
+use Rattle.ktm_world.specs.declared.command.Command.TheVariants.{CreateTransaction, OpenTransaction, CommitTransaction, RollbackTransaction, GetTransactionInformation, KvSet, KvUnset, KvGet, KvList, CloseHandle, DuplicateHandle, Exit}
 use Rattle.ktm_world.specs.declared.object.Handle.{Handle}
 use Rattle.ktm_world.specs.declared.object.Object.{Object}
 use Rattle.ktm_world.specs.declared.object.Object.TheVariants.{Transaction as TransactionObject, Manager as ManagerObject, Enlistment as EnlistmentObject, File as FileObject}
 use Rattle.ktm_world.specs.declared.object.Transaction.{Transaction}
 use Rattle.ktm_world.specs.declared.reply.Reply.{Reply}
 use Rattle.ktm_world.specs.declared.reply.Reply.TheVariants.{Done}
-use Rattle.ktm_world.specs.Decide.{of_keys}
+use Rattle.ktm_world.specs.Built.{is_built_command}
+use Rattle.ktm_world.specs.Decide.{of_keys, caller, command_effect}
 use Rattle.ktm_world.specs.Durable.{Durable, after_events}
 use Rattle.ktm_world.specs.Files.{FileTable, FilesNow}
 use Rattle.ktm_world.specs.HandleCalls.{has_handle, labels_of, closed_file, abort_active, handle_gone, close_handle, closed_in_turn, exit, bind_to, duplicate_handle}
 use Rattle.ktm_world.specs.Handles.{object_at, transaction_id}
-use Rattle.ktm_world.specs.KeyCalls.{keys_with, kv_set, kv_unset}
-use Rattle.ktm_world.specs.Keys.{OwnSettings, own_settings, without_own, stored_all}
+use Rattle.ktm_world.specs.KeyCalls.{keys_with, kv_set, kv_unset, kv_get, kv_list}
+use Rattle.ktm_world.specs.Keys.{KeysNow, OwnSettings, own_settings, without_own, stored_all}
+use Rattle.ktm_world.specs.Labels.{transaction_named, viewer, with_handle}
 use Rattle.ktm_world.specs.Logs.{as_groups}
 use Rattle.ktm_world.specs.Sizes.{log_size}
 use Rattle.ktm_world.specs.Outcome.{Outcome, apply, only_reply, joined, and_then}
@@ -28,7 +32,8 @@ use Rattle.ktm_built.specs.Forms.{ComesTo, with_transaction, ended_committed, co
 use Rattle.ktm_built.specs.Laws.{FormsLaw, NamedLaw}
 use Rattle.ktm_built.specs.Standing.{IsBuiltNow}
 use Rattle.ktm_built.proofs.Alone.{alone, alone_state, by_alone}
-use Rattle.ktm_built.proofs.Found.{found_again, transaction_at-of, change_at-found, All-change_at}
+use Rattle.ktm_built.proofs.Found.{found_again, transaction_at-of, change_at-found}
+use Rattle.ktm_built.proofs.Leaves.{with_opened, with_duplicate, with_named_rollback, left_by, built_aside, with_transaction_built, with_rollback_built}
 
 -- ---- calls that record nothing
 
@@ -153,20 +158,8 @@ comes_to x o reply y built quiet = record {
 quiet_reply : (x : Present) (reply : Reply) → IsBuiltNow x → IsQuiet x (only_reply x reply) reply x
 quiet_reply x reply built = record { forgotten = []; outcome = refl; parts = refl; built = built }
 
--- with other handles there is still only what built forms make
-pub handles_built : (x : Present) (handles : List Handle) → IsBuiltNow x → IsBuiltNow (record x { handles = handles })
-handles_built x handles built = record {
-  managers = built.managers;
-  enlistments = built.enlistments;
-  last_manager = built.last_manager;
-  last_enlistment = built.last_enlistment;
-  files = built.files;
-  unrecorded = built.unrecorded;
-  recorded = built.recorded;
-}
-
 quiet_handles : (x : Present) (handles : List Handle) → IsBuiltNow x → IsQuiet x (record (only_reply x Done) { handles = handles }) Done (record x { handles = handles })
-quiet_handles x handles built = record { forgotten = []; outcome = refl; parts = refl; built = handles_built x handles built }
+quiet_handles x handles built = record { forgotten = []; outcome = refl; parts = refl; built = built_aside x (record x { handles = handles }) built }
 
 -- a second one, on what the first one leaves
 quiet_then : (x : Present) (o : Outcome) (reply said : Reply) (y z : Present) (next : Present → Outcome) → IsBuiltNow x → IsQuiet x o reply y → IsQuiet y (next y) said z → IsQuiet x (and_then x o next) reply z
@@ -182,17 +175,6 @@ quiet_then x o reply said y z next built first second = record {
 }
 
 -- ---- a rollback
-
-pub with_rollback_built : (x : Present) (t : Transaction) → IsBuiltNow x → IsBuiltNow (with_rollback x t)
-with_rollback_built x t built = record {
-  managers = built.managers;
-  enlistments = built.enlistments;
-  last_manager = built.last_manager;
-  last_enlistment = built.last_enlistment;
-  files = built.files;
-  unrecorded = All-change_at (λ t. t.is_recorded ≡ false) ended_aborted (λ t none. none) x.transactions.items t.id built.unrecorded;
-  recorded = built.recorded;
-}
 
 -- the outcome of a rollback, with the transaction changed as found
 abbrev rolled_back : Present → Transaction → Reply → Outcome
@@ -212,10 +194,6 @@ aborted_is x t reply built found =
 
 quiet_rollback : (x : Present) (t : Transaction) → IsBuiltNow x → transaction_at x.transactions.items t.id ≡ Some t → IsQuiet x (aborted_by x t None Done) Done (with_rollback x t)
 quiet_rollback x t built found = record { forgotten = t.id ∷ []; outcome = aborted_is x t Done built found; parts = refl; built = with_rollback_built x t built }
-
-rollback_comes_to : (x : Present) (t : Transaction) → IsBuiltNow x → transaction_at x.transactions.items t.id ≡ Some t → ComesTo x (rollback_transaction x (Some t)) Done (with_rollback x t)
-unfolding rollback_transaction
-rollback_comes_to x t built found = comes_to x (aborted_by x t None Done) Done (with_rollback x t) built (quiet_rollback x t built found)
 
 -- a rollback, if there is to be one
 quiet_if : (x : Present) (t : Transaction) (b : Bool) → IsBuiltNow x → transaction_at x.transactions.items t.id ≡ Some t
@@ -262,7 +240,7 @@ quiet_gone x (Some (FileObject number)) built = go (has_handle x.handles (FileOb
     go true = quiet_reply x Done built
     go false = quiet_closed x number built
 
-pub quiet_close : (x : Present) (process : Pid) (label : Label) → IsBuiltNow x → IsQuiet x (close_handle x process label) Done (with_handle_closed x process label)
+quiet_close : (x : Present) (process : Pid) (label : Label) → IsBuiltNow x → IsQuiet x (close_handle x process label) Done (with_handle_closed x process label)
 unfolding close_handle
 quiet_close x process label built =
     let y = with_unbound x process label in
@@ -270,7 +248,7 @@ quiet_close x process label built =
     let first = quiet_handles x y.handles built in
     quiet_then x (record (only_reply x Done) { handles = y.handles }) Done Done y (with_handle_gone y named) (handle_gone named) built first (quiet_gone y named first.built)
 
-pub quiet_exit : (x : Present) (process : Pid) → IsBuiltNow x → IsQuiet x (exit x process) Done (with_process_gone x process)
+quiet_exit : (x : Present) (process : Pid) → IsBuiltNow x → IsQuiet x (exit x process) Done (with_process_gone x process)
 unfolding exit
 quiet_exit x process built = go x (labels_of x.handles process) built
   where
@@ -296,42 +274,88 @@ quiet_in_turn x (t ∷ ts) built =
     let y = with_rollback_if_due x found in
     quiet_then x (aborted_if_due x found) Done Done y (fold (λ y t. with_rollback_if_due y (transaction_at y.transactions.items t.id)) y ts) (λ next. aborted_in_turn next ts) built first (quiet_in_turn y ts first.built)
 
-pub with_clock_built : (x : Present) (ms : ℕ) → IsBuiltNow x → IsBuiltNow (with_clock x ms)
-with_clock_built x ms built = record {
-  managers = built.managers;
-  enlistments = built.enlistments;
-  last_manager = built.last_manager;
-  last_enlistment = built.last_enlistment;
-  files = built.files;
-  unrecorded = built.unrecorded;
-  recorded = built.recorded;
-}
-
 pub quiet_tick : (x : Present) (ms : ℕ) → IsBuiltNow x → IsQuiet x (tick x ms) Done (with_tick x ms)
 unfolding tick
 quiet_tick x ms built =
-    let later = quiet_in_turn (with_clock x ms) x.transactions.items (with_clock_built x ms built) in
+    let later = quiet_in_turn (with_clock x ms) x.transactions.items (built_aside x (with_clock x ms) built) in
     record { forgotten = later.forgotten; outcome = later.outcome; parts = later.parts; built = later.built }
 
--- ---- calls that bind a label, and one that tells of a transaction
+-- ---- every command that records nothing
+
+quiet_open : (x : Present) (process : Pid) (label : Label) (named : Option Transaction) → IsBuiltNow x → IsQuiet x (open_to_transaction x process label named) Done (with_opened x process label named)
+quiet_open x process label None built = quiet_reply x Done built
+quiet_open x process label (Some t) built = quiet_handles x (with_handle x.handles process label (TransactionObject t.id)) built
+
+quiet_bind : (x : Present) (process : Pid) (label : Label) (named : Option Object) → IsBuiltNow x → IsQuiet x (bind_to x process label named) Done (with_duplicate x process label named)
+quiet_bind x process label None built = quiet_reply x Done built
+quiet_bind x process label (Some object) built = quiet_handles x (with_handle x.handles process label object) built
+
+quiet_named : (x : Present) (named : Option Transaction) → ((t : Transaction) → named ≡ Some t → transaction_at x.transactions.items t.id ≡ Some t) → IsBuiltNow x → IsQuiet x (rollback_transaction x named) Done (with_named_rollback x named)
+unfolding rollback_transaction
+quiet_named x None at built = quiet_reply x Done built
+quiet_named x (Some t) at built = quiet_rollback x t built (at t refl)
+
+-- a call on keys, which makes these the keys
+quiet_keys : (x : Present) (reply : Reply) (keys : KeysNow) → keys.store ≡ x.keys.store → IsBuiltNow x → IsQuiet x (record (only_reply x reply) { own = keys.own }) reply (record x { keys = record x.keys { own = keys.own } })
+quiet_keys x reply keys same built = record { forgotten = []; outcome = refl; parts = refl; built = built_aside x (record x { keys = record x.keys { own = keys.own } }) built }
+
+-- does the command record nothing; every built one but a commit does
+abbrev pub is_quiet : Command → Bool
+is_quiet (CommitTransaction transaction) = false
+is_quiet command = is_built_command command
+
+-- what such a command leaves, whatever it answers
+quiet_effect : (x : Present) (process : Pid) (command : Command) → is_quiet command ≡ true → IsBuiltNow x → (reply : Reply) × IsQuiet x (command_effect x process command) reply (left_by x process command)
+unfolding create_transaction open_transaction get_transaction_information duplicate_handle
+quiet_effect x process (CreateTransaction label timeout) is built = (_, record { forgotten = []; outcome = refl; parts = refl; built = with_transaction_built x process label timeout built })
+quiet_effect x process (OpenTransaction label guid) is built = (Done, quiet_open x process label (transaction_with x guid) built)
+quiet_effect x process (RollbackTransaction label) is built = (Done, quiet_named x (transaction_named x process label) (named_law x process label) built)
+quiet_effect x process (GetTransactionInformation label) is built = (_, quiet_reply x (information_of x (transaction_named x process label)) built)
+quiet_effect x process (KvSet label key value) is built = (_, quiet_keys x Done (keys_with x.keys (caller x process label) key (Some value)) refl built)
+quiet_effect x process (KvUnset label key) is built = (_, quiet_keys x Done (keys_with x.keys (caller x process label) key None) refl built)
+quiet_effect x process (KvGet view key) is built = (_, quiet_reply x (kv_get x.keys (viewer x process view) key).reply built)
+quiet_effect x process (KvList view) is built = (_, quiet_reply x (kv_list x.keys (viewer x process view)).reply built)
+quiet_effect x process (CloseHandle label) is built = (Done, quiet_close x process label built)
+quiet_effect x process (DuplicateHandle label from source) is built = (Done, quiet_bind x process label (object_at x.handles from source) built)
+quiet_effect x process Exit is built = (Done, quiet_exit x process built)
+quiet_effect x process _ is built = absurd (cc)
+
+-- it records nothing, and leaves what has only what built forms make
+pub record IsQuietEffect (x : Present) (o : Outcome) (y : Present) : Type 0 where
+  pub nothing : (o.events ≡ []) × (o.works ≡ [])
+  pub leaves : apply x o ≡ y
+  pub built : IsBuiltNow y
+
+pub effect_leaves : (x : Present) (process : Pid) (command : Command) → is_quiet command ≡ true → IsBuiltNow x → IsQuietEffect x (command_effect x process command) (left_by x process command)
+effect_leaves x process command is built =
+    let (reply, quiet) = quiet_effect x process command is built in
+    let comes = comes_to x (command_effect x process command) reply (left_by x process command) built quiet in
+    record { nothing = (comes.records, comes.commits); leaves = comes.leaves; built = quiet.built }
+
+-- ---- the law of each form
+
+rollback_comes_to : (x : Present) (t : Transaction) → IsBuiltNow x → transaction_at x.transactions.items t.id ≡ Some t → ComesTo x (rollback_transaction x (Some t)) Done (with_rollback x t)
+unfolding rollback_transaction
+rollback_comes_to x t built found = comes_to x (aborted_by x t None Done) Done (with_rollback x t) built (quiet_rollback x t built found)
+
+information_comes_to : (x : Present) (t : Option Transaction) → IsBuiltNow x → ComesTo x (get_transaction_information x t) (information_of x t) x
+unfolding get_transaction_information
+information_comes_to x t built = comes_to x (only_reply x (information_of x t)) (information_of x t) x built (quiet_reply x (information_of x t) built)
 
 open_comes_to : (x : Present) (process : Pid) (label : Label) (guid : List ℕ) (t : Transaction) → IsBuiltNow x → transaction_with x guid ≡ Some t
     → ComesTo x (open_transaction x process label guid) Done (with_bound x process label (TransactionObject t.id))
 unfolding open_transaction
 open_comes_to x process label guid t built found =
-    let y = with_bound x process label (TransactionObject t.id) in
-    subst (λ (named : Option Transaction). ComesTo x (open_to_transaction x process label named) Done y) (sym found) (comes_to x (open_to_transaction x process label (Some t)) Done y built (quiet_handles x y.handles built))
+    subst (λ (named : Option Transaction). ComesTo x (open_to_transaction x process label (transaction_with x guid)) Done (with_opened x process label named)) found
+    (comes_to x (open_to_transaction x process label (transaction_with x guid)) Done (with_opened x process label (transaction_with x guid)) built (quiet_open x process label (transaction_with x guid) built))
 
 duplicate_comes_to : (x : Present) (process : Pid) (label : Label) (from : Pid) (source : Label) (object : Object) → IsBuiltNow x → object_at x.handles from source ≡ Some object
     → ComesTo x (duplicate_handle x process label from source) Done (with_bound x process label object)
 unfolding duplicate_handle
-duplicate_comes_to x process label from source object built named =
-    let y = with_bound x process label object in
-    subst (λ (named : Option Object). ComesTo x (bind_to x process label named) Done y) (sym named) (comes_to x (bind_to x process label (Some object)) Done y built (quiet_handles x y.handles built))
-
-information_comes_to : (x : Present) (t : Option Transaction) → IsBuiltNow x → ComesTo x (get_transaction_information x t) (information_of x t) x
-unfolding get_transaction_information
-information_comes_to x t built = comes_to x (only_reply x (information_of x t)) (information_of x t) x built (quiet_reply x (information_of x t) built)
+duplicate_comes_to x process label from source object built found =
+    let named = object_at x.handles from source in
+    subst (λ (named : Option Object). ComesTo x (bind_to x process label (object_at x.handles from source)) Done (with_duplicate x process label named)) found
+    (comes_to x (bind_to x process label named) Done (with_duplicate x process label named) built (quiet_bind x process label named built))
 
 pub forms_law : FormsLaw
 forms_law = (

@@ -2,6 +2,7 @@ pub mod Alone
 pub mod Ids
 pub mod Found
 pub mod Rollbacks
+pub mod Leaves
 pub mod Forms
 pub mod Decided
 pub mod Machine

@@ -13,11 +13,10 @@ use Rattle.ktm_base.specs.declared.id.Pid.{Pid}
 use Rattle.ktm_base.specs.declared.refusal.Refusal.{Refusal}
 use Rattle.ktm_base.specs.declared.refusal.Refusal.TheVariants.{MachineDown}
 use Rattle.ktm_world.specs.declared.command.Command.{Command}
-use Rattle.ktm_world.specs.declared.command.Command.TheVariants.{CreateTransaction, OpenTransaction, CommitTransaction, RollbackTransaction, GetTransactionInformation, KvSet, KvUnset, KvGet, KvList, CloseHandle, DuplicateHandle, Exit}
+use Rattle.ktm_world.specs.declared.command.Command.TheVariants.{CreateTransaction, OpenTransaction, CommitTransaction, RollbackTransaction, KvSet, KvUnset, CloseHandle, DuplicateHandle, Exit}
 use Rattle.ktm_world.specs.declared.event.Event.{Event}
 use Rattle.ktm_world.specs.declared.event.Event.TheVariants.{Single}
 use Rattle.ktm_world.specs.declared.event.Part.TheVariants.{Settings}
-use Rattle.ktm_world.specs.declared.object.Handle.{Handle}
 use Rattle.ktm_world.specs.declared.object.Object.{Object}
 use Rattle.ktm_world.specs.declared.object.Object.TheVariants.{Transaction as TransactionObject}
 use Rattle.ktm_world.specs.declared.object.Phase.{Phase}
@@ -27,33 +26,34 @@ use Rattle.ktm_world.specs.declared.reply.Reply.{Reply}
 use Rattle.ktm_world.specs.declared.reply.Reply.TheVariants.{Refused, Done}
 use Rattle.ktm_world.specs.Built.{is_built_command, IsBuiltState}
 use Rattle.ktm_world.specs.Committed.{Work}
-use Rattle.ktm_world.specs.Decide.{decide, of_keys, command_tests, command_effect, refusal_of, with_room}
+use Rattle.ktm_world.specs.Decide.{decide, command_tests, command_effect, refusal_of, with_room}
 use Rattle.ktm_world.specs.Durable.{Durable, events_apply, event_applies}
-use Rattle.ktm_world.specs.HandleCalls.{is_handle, without_handle, bind_to, duplicate_handle, duplicate_handle_tests}
+use Rattle.ktm_world.specs.HandleCalls.{is_handle, duplicate_handle_tests}
 use Rattle.ktm_world.specs.Handles.{object_at, no_handle_left}
-use Rattle.ktm_world.specs.KeyCalls.{keys_with, kv_set, kv_unset, kv_get, kv_list, kv_set_tests, kv_unset_tests}
-use Rattle.ktm_world.specs.Keys.{OwnSettings, own_settings, stored_all, is_bad_key, is_bad_value, keys_used, changes_pending, is_held_by_other, are_good_settings}
-use Rattle.ktm_world.specs.Labels.{transaction_named, transaction_tests, id_of_named, viewer, with_handle}
+use Rattle.ktm_world.specs.KeyCalls.{keys_with, kv_set_tests, kv_unset_tests}
+use Rattle.ktm_world.specs.Keys.{OwnSettings, own_settings, without_own, stored_all, is_bad_key, is_bad_value, keys_used, changes_pending, is_held_by_other, are_good_settings}
+use Rattle.ktm_world.specs.Labels.{transaction_named, transaction_tests, id_of_named}
 use Rattle.ktm_world.specs.Lawful.{Agrees, summary_of, summary_in, stage_in}
 use Rattle.ktm_world.specs.Limits.{most_live, most_handles, most_number}
 use Rattle.ktm_world.specs.Outcome.{Outcome, apply, only_reply, refuse_or, first_refusal, is_full}
 use Rattle.ktm_world.specs.Present.{Present}
 use Rattle.ktm_world.specs.Transactions.{same_id, transaction_at, change_at, is_live}
-use Rattle.ktm_world.specs.TransactionCalls.{create_transaction, create_transaction_tests, commit_transaction, no_transaction_left, new_id, rollback_transaction, get_transaction_information, transaction_with, open_to_transaction, open_transaction, open_transaction_tests, with_clock, tick}
+use Rattle.ktm_world.specs.TransactionCalls.{create_transaction_tests, commit_transaction, no_transaction_left, new_id, transaction_with, open_transaction_tests, with_clock}
 use Rattle.ktm_world.specs.Uses.{key_room}
 use Rattle.ktm_world.specs.World.{decide_tick}
 use Rattle.ktm_world.specs.Values.{IsCommand, IsText}
 use Rattle.ktm_world.proofs.KeyLemmas.{length-stored_all-le, counted-with_own-le, counted-without_own, length-own_settings-le}
 use Rattle.ktm_world.proofs.KeyedLemmas.{count_by-cons}
-use Rattle.ktm_built.specs.Forms.{ComesTo, with_transaction, with_commit, commit_events, commit_works, ended_committed, with_bound, ended_aborted, with_rollback, with_unbound, with_handle_closed, with_process_gone, with_tick}
+use Rattle.ktm_built.specs.Forms.{with_transaction, with_commit, commit_events, commit_works, with_bound, with_rollback, with_unbound, with_handle_closed, with_process_gone, with_tick}
 use Rattle.ktm_built.specs.Laws.{EventsLaw, NowLaw}
 use Rattle.ktm_built.specs.Spelling.{IsShortEvent, IsShortWork}
 use Rattle.ktm_built.specs.Standing.{IsBuiltNow, IsOnCourse, IsSoundTransaction, IsSoundOwn, IsSoundNow, IsStandingNow}
-use Rattle.ktm_built.proofs.Outcomes.{decided_built, with_transaction_built, with_commit_built, with_keys_built}
+use Rattle.ktm_built.proofs.Outcomes.{decided_built}
 use Rattle.ktm_built.proofs.Decided.{full_log, decided_law}
 use Rattle.ktm_built.proofs.Found.{transaction_at-of, All-change_at}
-use Rattle.ktm_built.proofs.Machine.{with_machine, built_machine, apply-full}
-use Rattle.ktm_built.proofs.Forms.{forms_law, named_law, commit_is, apply-only_reply, handles_built, with_rollback_built, with_clock_built}
+use Rattle.ktm_built.proofs.Machine.{with_machine, apply-full}
+use Rattle.ktm_built.proofs.Forms.{forms_law, named_law, commit_is, apply-only_reply, effect_leaves}
+use Rattle.ktm_built.proofs.Leaves.{with_opened, with_duplicate, with_named_rollback, left_by, built_aside, ended_with, with_transaction_built, with_commit_built, with_rollback_built}
 use Rattle.ktm_built.proofs.Limits.{IsWithin, within_limits, limits_hold, room_for_keys, room_for_changes}
 use Rattle.ktm_built.proofs.Rollbacks.{keeps_closed, keeps_exit, keeps_tick}
 use Rattle.ktm_built.proofs.States.{state_law}
@@ -122,10 +122,12 @@ sound_at x t sound found = transaction_at-of (IsSoundTransaction x.recorded.boot
 abbrev pub AreSound : Present → Type 0
 AreSound x = All (IsSoundTransaction x.recorded.boots x.transactions.last_transaction) x.transactions.items
 
--- ---- only the machine changes
+-- ---- only the machine, the clock or the handles are others
 
-pub sound_machine : (x : Present) (is_up : Bool) (left : ℕ) → IsSoundNow x → IsSoundNow (with_machine x is_up left)
-sound_machine x is_up left sound = record {
+-- the transactions, their settings, and how many boots and units there are, are the same
+pub sound_aside : (x y : Present) → IsSoundNow x
+    → IsSoundNow (record y { recorded = x.recorded; transactions = record y.transactions { last_transaction = x.transactions.last_transaction; items = x.transactions.items }; keys = record y.keys { own = x.keys.own } })
+sound_aside x y sound = record {
   boots_from = sound.boots_from;
   units_from = sound.units_from;
   transactions = sound.transactions;
@@ -134,16 +136,18 @@ sound_machine x is_up left sound = record {
   apart = sound.apart;
 }
 
-pub within_machine : (x : Present) (is_up : Bool) (left : ℕ) → IsWithin x → IsWithin (with_machine x is_up left)
-within_machine x is_up left within = record { keys = within.keys; changes = within.changes; live = within.live; handles = within.handles; last = within.last }
+plain_aside : (x y : Present) → length y.handles ≤ most_handles → IsPlain x → IsPlain (record x { machine = y.machine; transactions = record x.transactions { clock = y.transactions.clock }; handles = y.handles })
+plain_aside x y few plain =
+    let then = record x { machine = y.machine; transactions = record x.transactions { clock = y.transactions.clock }; handles = y.handles } in
+    record {
+      built = built_aside x then plain.built;
+      sound = sound_aside x then plain.sound;
+      within = record { keys = plain.within.keys; changes = plain.within.changes; live = plain.within.live; handles = few; last = plain.within.last };
+      keys = plain.keys;
+    }
 
-pub machine_plain : (x : Present) (is_up : Bool) (left : ℕ) → IsPlain x → IsPlain (with_machine x is_up left)
-machine_plain x is_up left plain = record {
-  built = built_machine x is_up left plain.built;
-  sound = sound_machine x is_up left plain.sound;
-  within = within_machine x is_up left plain.within;
-  keys = plain.keys;
-}
+machine_plain : (x : Present) (is_up : Bool) (left : ℕ) → IsPlain x → IsPlain (with_machine x is_up left)
+machine_plain x is_up left plain = plain_aside x (with_machine x is_up left) plain.within.handles plain
 
 -- ---- CreateTransaction
 
@@ -194,21 +198,17 @@ create_plain x process label timeout plain e =
 -- ---- transactions that end
 
 -- a transaction that ends is live no more
-live-ended-le : (f : Transaction → Transaction) → ((t : Transaction) → is_live (f t) ≡ false) → (ts : List Transaction) (id : Id) → count_by is_live (change_at ts id f) ≤ count_by is_live ts
-live-ended-le f ends [] id = omega arith
-live-ended-le f ends (t ∷ ts) id =
+live-ended-le : (outcome : TransactionOutcome) (ts : List Transaction) (id : Id) → count_by is_live (change_at ts id (ended_with outcome)) ≤ count_by is_live ts
+live-ended-le outcome [] id = omega arith
+live-ended-le outcome (t ∷ ts) id =
     let old = count_by-cons is_live t ts in
     elim (cases_Bool (same_id t.id id)) [
-      | inl same ↦ let new = count_by-cons is_live (f t) ts in let none : cond {A = ℕ} (is_live (f t)) 1 0 ≡ 0 = ap (λ (b : Bool). cond {A = ℕ} b 1 0) (ends t) in rw same (omega (arith, old, new, none))
+      | inl same ↦ let new = count_by-cons is_live (ended_with outcome t) ts in rw same (omega (arith, old, new))
       | inr other ↦
-          let new = count_by-cons is_live t (change_at ts id f) in
-          let rest = live-ended-le f ends ts id in
+          let new = count_by-cons is_live t (change_at ts id (ended_with outcome)) in
+          let rest = live-ended-le outcome ts id in
           rw other (omega (arith, old, new, rest))
     ]
-
--- a transaction that has ended, with this outcome
-abbrev pub ended_with : TransactionOutcome → Transaction → Transaction
-ended_with outcome t = record t { phase = Phase.Ended; outcome = outcome }
 
 -- the sound transactions are sound once one has ended
 pub sound-ended : (x : Present) (id : Id) (outcome : TransactionOutcome) → IsOnCourse Phase.Ended outcome → AreSound x
@@ -216,6 +216,22 @@ pub sound-ended : (x : Present) (id : Id) (outcome : TransactionOutcome) → IsO
 sound-ended x id outcome course all =
     All-change_at (IsSoundTransaction x.recorded.boots x.transactions.last_transaction) (ended_with outcome)
     (λ t sound. record { boot_is = sound.boot_is; number_from = sound.number_from; number_to = sound.number_to; course = course }) x.transactions.items id all
+
+-- once a transaction has ended, without its own settings, all is sound that was
+sound_once_ended : (x y : Present) (id : Id) (outcome : TransactionOutcome) → IsOnCourse Phase.Ended outcome → IsSoundNow x
+    → IsSoundNow (record y {
+      recorded = record y.recorded { boots = x.recorded.boots; units = x.recorded.units };
+      transactions = record x.transactions { items = change_at x.transactions.items id (ended_with outcome) };
+      keys = record y.keys { own = without_own x.keys.own id };
+    })
+sound_once_ended x y id outcome course sound = record {
+  boots_from = sound.boots_from;
+  units_from = sound.units_from;
+  transactions = sound-ended x id outcome course sound.transactions;
+  own = All-without_own x.recorded.boots id x.keys.own sound.own;
+  once = once-without_own x.keys.own id sound.once;
+  apart = apart-without_own x.keys.own id sound.once sound.apart;
+}
 
 -- ---- CommitTransaction
 
@@ -233,17 +249,10 @@ commit_plain x t plain =
     let less = length-stored_all-le x.keys.store settings in
     let used = counted-without_own (λ s. is_some s.value) t.id x.keys.own in
     let pending = counted-without_own (λ s. is_none s.value) t.id x.keys.own in
-    let live = live-ended-le ended_committed (λ u. refl) x.transactions.items t.id in
+    let live = live-ended-le TransactionOutcome.Committed x.transactions.items t.id in
     record {
       built = with_commit_built x t plain.built;
-      sound = record {
-        boots_from = plain.sound.boots_from;
-        units_from = plain.sound.units_from;
-        transactions = sound-ended x t.id TransactionOutcome.Committed tt plain.sound.transactions;
-        own = All-without_own x.recorded.boots t.id x.keys.own plain.sound.own;
-        once = once-without_own x.keys.own t.id plain.sound.once;
-        apart = apart-without_own x.keys.own t.id plain.sound.once plain.sound.apart;
-      };
+      sound = sound_once_ended x (with_commit x t) t.id TransactionOutcome.Committed tt plain.sound;
       within = record {
         keys = omega (arith, less, used, plain.within.keys);
         changes = omega (arith, pending, plain.within.changes);
@@ -256,31 +265,24 @@ commit_plain x t plain =
 
 -- ---- labels
 
-handles_plain : (x : Present) (handles : List Handle) → length handles ≤ most_handles → IsPlain x → IsPlain (record x { handles = handles })
-handles_plain x handles few plain = record {
-  built = handles_built x handles plain.built;
-  sound = record {
-    boots_from = plain.sound.boots_from;
-    units_from = plain.sound.units_from;
-    transactions = plain.sound.transactions;
-    own = plain.sound.own;
-    once = plain.sound.once;
-    apart = plain.sound.apart;
-  };
-  within = record { keys = plain.within.keys; changes = plain.within.changes; live = plain.within.live; handles = few; last = plain.within.last };
-  keys = plain.keys;
-}
-
 bound_plain : (x : Present) (process : Pid) (label : Label) (object : Object) → no_handle_left x.handles ≡ false → IsPlain x → IsPlain (with_bound x process label object)
 bound_plain x process label object left plain =
     let room = ltb-false _ _ left in
     let longer = length-append x.handles (record { process = process; label = label; object = object } ∷ []) in
-    handles_plain x (with_handle x.handles process label object) (omega (arith, room, longer)) plain
+    plain_aside x (with_bound x process label object) (omega (arith, room, longer)) plain
 
 unbound_plain : (x : Present) (process : Pid) (label : Label) → IsPlain x → IsPlain (with_unbound x process label)
 unbound_plain x process label plain =
     let fewer = length-filter_both (λ h. not (is_handle process label h)) (λ h. is_handle process label h) (λ h. sym (not-not (is_handle process label h))) x.handles in
-    handles_plain x (without_handle x.handles process label) (omega (arith, fewer, plain.within.handles)) plain
+    plain_aside x (with_unbound x process label) (omega (arith, fewer, plain.within.handles)) plain
+
+opened_plain : (x : Present) (process : Pid) (label : Label) (named : Option Transaction) → no_handle_left x.handles ≡ false → IsPlain x → IsPlain (with_opened x process label named)
+opened_plain x process label None left plain = plain
+opened_plain x process label (Some t) left plain = bound_plain x process label (TransactionObject t.id) left plain
+
+duplicate_plain : (x : Present) (process : Pid) (label : Label) (named : Option Object) → no_handle_left x.handles ≡ false → IsPlain x → IsPlain (with_duplicate x process label named)
+duplicate_plain x process label None left plain = plain
+duplicate_plain x process label (Some object) left plain = bound_plain x process label object left plain
 
 -- ---- rollbacks
 
@@ -288,17 +290,10 @@ rollback_plain : (x : Present) (t : Transaction) → IsPlain x → IsPlain (with
 rollback_plain x t plain =
     let used = counted-without_own (λ s. is_some s.value) t.id x.keys.own in
     let pending = counted-without_own (λ s. is_none s.value) t.id x.keys.own in
-    let live = live-ended-le ended_aborted (λ u. refl) x.transactions.items t.id in
+    let live = live-ended-le TransactionOutcome.Aborted x.transactions.items t.id in
     record {
       built = with_rollback_built x t plain.built;
-      sound = record {
-        boots_from = plain.sound.boots_from;
-        units_from = plain.sound.units_from;
-        transactions = sound-ended x t.id TransactionOutcome.Aborted tt plain.sound.transactions;
-        own = All-without_own x.recorded.boots t.id x.keys.own plain.sound.own;
-        once = once-without_own x.keys.own t.id plain.sound.once;
-        apart = apart-without_own x.keys.own t.id plain.sound.once plain.sound.apart;
-      };
+      sound = sound_once_ended x (with_rollback x t) t.id TransactionOutcome.Aborted tt plain.sound;
       within = record {
         keys = omega (arith, used, plain.within.keys);
         changes = omega (arith, pending, plain.within.changes);
@@ -309,20 +304,12 @@ rollback_plain x t plain =
       keys = plain.keys;
     }
 
+named_rollback_plain : (x : Present) (named : Option Transaction) → IsPlain x → IsPlain (with_named_rollback x named)
+named_rollback_plain x None plain = plain
+named_rollback_plain x (Some t) plain = rollback_plain x t plain
+
 clock_plain : (x : Present) (ms : ℕ) → IsPlain x → IsPlain (with_clock x ms)
-clock_plain x ms plain = record {
-  built = with_clock_built x ms plain.built;
-  sound = record {
-    boots_from = plain.sound.boots_from;
-    units_from = plain.sound.units_from;
-    transactions = plain.sound.transactions;
-    own = plain.sound.own;
-    once = plain.sound.once;
-    apart = plain.sound.apart;
-  };
-  within = record { keys = plain.within.keys; changes = plain.within.changes; live = plain.within.live; handles = plain.within.handles; last = plain.within.last };
-  keys = plain.keys;
-}
+clock_plain x ms plain = plain_aside x (with_clock x ms) plain.within.handles plain
 
 closed_plain : (x : Present) (process : Pid) (label : Label) → IsPlain x → IsPlain (with_handle_closed x process label)
 closed_plain = keeps_closed IsPlain (λ x t found may. rollback_plain x t) unbound_plain clock_plain
@@ -340,7 +327,7 @@ keys_plain : (x : Present) (t : Transaction) (key : List ℕ) (value : Option (L
     → is_held_by_other x.keys.own t.id key ≡ false → keys_used (keys_with x.keys (Some t.id) key value) ≤ x.recorded.units → changes_pending (keys_with x.keys (Some t.id) key value) ≤ x.recorded.units
     → IsPlain x → IsPlain (record x { keys = keys_with x.keys (Some t.id) key value })
 keys_plain x t key value setting of_boot free used pending plain = record {
-  built = with_keys_built x (keys_with x.keys (Some t.id) key value) plain.built;
+  built = built_aside x (record x { keys = keys_with x.keys (Some t.id) key value }) plain.built;
   sound = record {
     boots_from = plain.sound.boots_from;
     units_from = plain.sound.units_from;
@@ -382,70 +369,34 @@ unfolding commit_transaction
 commit_effect x None at plain = replied_plain x Done plain
 commit_effect x (Some t) at plain = subst IsPlain (sym (forms_law.3 x t plain.built (at t refl))) (commit_plain x t plain)
 
-comes_to_plain : (x : Present) (o : Outcome) (reply : Reply) (y : Present) → ComesTo x o reply y → IsPlain y → IsPlain (apply x o)
-comes_to_plain x o reply y comes plain = subst IsPlain (sym comes.leaves) plain
-
-rollback_effect : (x : Present) (named : Option Transaction) → ((t : Transaction) → named ≡ Some t → transaction_at x.transactions.items t.id ≡ Some t) → IsPlain x → IsPlain (apply x (rollback_transaction x named))
-unfolding rollback_transaction
-rollback_effect x None at plain = replied_plain x Done plain
-rollback_effect x (Some t) at plain = comes_to_plain x _ Done (with_rollback x t) (forms_law.6 x t plain.built (at t refl)) (rollback_plain x t plain)
-
-open_effect : (x : Present) (process : Pid) (label : Label) (guid : List ℕ) → IsPlain x → first_refusal (open_transaction_tests x process label guid) ≡ None → IsPlain (apply x (open_transaction x process label guid))
-unfolding open_transaction open_transaction_tests
-open_effect x process label guid plain e = go (transaction_with x guid) refl
-  where
-    left : no_handle_left x.handles ≡ false
-    left = (passes_all (open_transaction_tests x process label guid) e).1.1.0
-
-    go : (named : Option Transaction) → transaction_with x guid ≡ named → IsPlain (apply x (open_to_transaction x process label named))
-    go None is = replied_plain x Done plain
-    go (Some t) is =
-        let y = with_bound x process label (TransactionObject t.id) in
-        subst (λ (named : Option Transaction). IsPlain (apply x (open_to_transaction x process label named))) is
-        (comes_to_plain x _ Done y (forms_law.8 x process label guid t plain.built is) (bound_plain x process label (TransactionObject t.id) left plain))
-
-duplicate_effect : (x : Present) (process : Pid) (label : Label) (from : Pid) (source : Label) → IsPlain x → first_refusal (duplicate_handle_tests x process label from source) ≡ None
-    → IsPlain (apply x (duplicate_handle x process label from source))
-unfolding duplicate_handle duplicate_handle_tests
-duplicate_effect x process label from source plain e = go (object_at x.handles from source) refl
-  where
-    left : no_handle_left x.handles ≡ false
-    left = (passes_all (duplicate_handle_tests x process label from source) e).1.1.1.0
-
-    go : (named : Option Object) → object_at x.handles from source ≡ named → IsPlain (apply x (bind_to x process label named))
-    go None is = replied_plain x Done plain
-    go (Some object) is =
-        let y = with_bound x process label object in
-        subst (λ (named : Option Object). IsPlain (apply x (bind_to x process label named))) is
-        (comes_to_plain x _ Done y (forms_law.9 x process label from source object plain.built is) (bound_plain x process label object left plain))
-
 set_effect : (x : Present) (named : Option Transaction) (key value : List ℕ) → ((t : Transaction) → named ≡ Some t → transaction_at x.transactions.items t.id ≡ Some t) → IsText key → AreBytes value → IsPlain x
-    → first_refusal (transaction_tests named ++ kv_set_tests x.keys (key_room x) (id_of_named named) key value) ≡ None → IsPlain (apply x (of_keys x (kv_set x.keys (id_of_named named) key value)))
+    → first_refusal (transaction_tests named ++ kv_set_tests x.keys (key_room x) (id_of_named named) key value) ≡ None → IsPlain (record x { keys = keys_with x.keys (id_of_named named) key (Some value) })
 set_effect x None key value at text bytes plain e = absurd (cc)
-set_effect x (Some t) key value at text bytes plain e =
-    subst IsPlain (sym (forms_law.4 x t key value plain.built)) (set_plain x t key value text bytes (sound_at x t plain.sound (at t refl)) plain e)
+set_effect x (Some t) key value at text bytes plain e = set_plain x t key value text bytes (sound_at x t plain.sound (at t refl)) plain e
 
 unset_effect : (x : Present) (named : Option Transaction) (key : List ℕ) → ((t : Transaction) → named ≡ Some t → transaction_at x.transactions.items t.id ≡ Some t) → IsText key → IsPlain x
-    → first_refusal (transaction_tests named ++ kv_unset_tests x.keys (key_room x) (id_of_named named) key) ≡ None → IsPlain (apply x (of_keys x (kv_unset x.keys (id_of_named named) key)))
+    → first_refusal (transaction_tests named ++ kv_unset_tests x.keys (key_room x) (id_of_named named) key) ≡ None → IsPlain (record x { keys = keys_with x.keys (id_of_named named) key None })
 unset_effect x None key at text plain e = absurd (cc)
-unset_effect x (Some t) key at text plain e =
-    subst IsPlain (sym (forms_law.5 x t key plain.built)) (unset_plain x t key text (sound_at x t plain.sound (at t refl)) plain e)
+unset_effect x (Some t) key at text plain e = unset_plain x t key text (sound_at x t plain.sound (at t refl)) plain e
+
+-- what a command leaves that records nothing
+left_plain : (x : Present) (process : Pid) (command : Command) → IsCommand command → IsPlain x → first_refusal (command_tests x process command) ≡ None → IsPlain (left_by x process command)
+unfolding open_transaction_tests duplicate_handle_tests
+left_plain x process (CreateTransaction label timeout) is plain e = create_plain x process label timeout plain e
+left_plain x process (OpenTransaction label guid) is plain e = opened_plain x process label (transaction_with x guid) (passes_all (open_transaction_tests x process label guid) e).1.1.0 plain
+left_plain x process (RollbackTransaction label) is plain e = named_rollback_plain x (transaction_named x process label) plain
+left_plain x process (KvSet label key value) is plain e = set_effect x (transaction_named x process label) key value (named_law x process label) is.1 is.2 plain e
+left_plain x process (KvUnset label key) is plain e = unset_effect x (transaction_named x process label) key (named_law x process label) is.1 plain e
+left_plain x process (CloseHandle label) is plain e = closed_plain x process label plain
+left_plain x process (DuplicateHandle label from source) is plain e =
+    duplicate_plain x process label (object_at x.handles from source) (passes_all (duplicate_handle_tests x process label from source) e).1.1.1.0 plain
+left_plain x process Exit is plain e = exit_plain x process plain
+left_plain x process _ is plain e = plain
 
 effect_plain : (x : Present) (process : Pid) (command : Command) → IsCommand command → is_built_command command ≡ true → IsPlain x → first_refusal (command_tests x process command) ≡ None
     → IsPlain (apply x (command_effect x process command))
-effect_plain x process (CreateTransaction label timeout) is built plain e = subst IsPlain (sym (forms_law.1 x process label timeout plain.built)) (create_plain x process label timeout plain e)
-effect_plain x process (OpenTransaction label guid) is built plain e = open_effect x process label guid plain e
-effect_plain x process (RollbackTransaction label) is built plain e = rollback_effect x (transaction_named x process label) (named_law x process label) plain
-effect_plain x process (GetTransactionInformation label) is built plain e = comes_to_plain x _ _ x (forms_law.7 x (transaction_named x process label) plain.built) plain
 effect_plain x process (CommitTransaction label) is built plain e = commit_effect x (transaction_named x process label) (named_law x process label) plain
-effect_plain x process (KvSet label key value) is built plain e = set_effect x (transaction_named x process label) key value (named_law x process label) is.1 is.2 plain e
-effect_plain x process (KvUnset label key) is built plain e = unset_effect x (transaction_named x process label) key (named_law x process label) is.1 plain e
-effect_plain x process (KvGet view key) is built plain e = replied_plain x (kv_get x.keys (viewer x process view) key).reply plain
-effect_plain x process (KvList view) is built plain e = replied_plain x (kv_list x.keys (viewer x process view)).reply plain
-effect_plain x process (CloseHandle label) is built plain e = comes_to_plain x _ Done (with_handle_closed x process label) (forms_law.11 x process label plain.built) (closed_plain x process label plain)
-effect_plain x process (DuplicateHandle label from source) is built plain e = duplicate_effect x process label from source plain e
-effect_plain x process Exit is built plain e = comes_to_plain x _ Done (with_process_gone x process) (forms_law.12 x process plain.built) (exit_plain x process plain)
-effect_plain x process _ is built plain e = absurd (cc)
+effect_plain x process command is built plain e = subst IsPlain (sym (effect_leaves x process command built plain.built).leaves) (left_plain x process command is plain e)
 
 -- ---- every outcome
 
@@ -467,7 +418,7 @@ decided_plain x process command is built plain =
 pub ticked_plain : (x : Present) (ms : ℕ) → IsPlain x → IsPlain (apply x (decide_tick x ms))
 ticked_plain x ms plain = elim (cases_Bool x.machine.is_up) [
   | inl on ↦
-      subst (λ (o : Outcome). IsPlain (apply x o)) (sym (decided_law.6 x ms plain.built on)) (comes_to_plain x (tick x ms) Done (with_tick x ms) (forms_law.10 x ms plain.built) (tick_plain x ms plain))
+      subst (λ (o : Outcome). IsPlain (apply x o)) (sym (decided_law.6 x ms plain.built on)) (subst IsPlain (sym (forms_law.10 x ms plain.built).leaves) (tick_plain x ms plain))
   | inr off ↦ subst (λ (o : Outcome). IsPlain (apply x o)) (sym (decided_law.5 x ms off)) (replied_plain x (Refused MachineDown) plain)
 ]
 
@@ -532,38 +483,9 @@ records-named x (Some t) at plain =
 pub records-quiet : (x : Present) (o : Outcome) → (o.events ≡ []) × (o.works ≡ []) → Records x o.events o.works
 records-quiet x o none = subst (λ (works : List Work). Records x o.events works) (sym none.1) (subst (λ (events : List Event). Records x events []) (sym none.0) (records-none x))
 
-records-nothing : (x : Present) (o : Outcome) (reply : Reply) (y : Present) → ComesTo x o reply y → Records x o.events o.works
-records-nothing x o reply y comes = records-quiet x o (comes.records, comes.commits)
-
-records-rollback : (x : Present) (named : Option Transaction) → ((t : Transaction) → named ≡ Some t → transaction_at x.transactions.items t.id ≡ Some t) → IsPlain x
-    → Records x (rollback_transaction x named).events (rollback_transaction x named).works
-unfolding rollback_transaction
-records-rollback x None at plain = records-none x
-records-rollback x (Some t) at plain = records-nothing x _ Done (with_rollback x t) (forms_law.6 x t plain.built (at t refl))
-
-records-open : (x : Present) (process : Pid) (label : Label) (named : Option Transaction) → Records x (open_to_transaction x process label named).events (open_to_transaction x process label named).works
-records-open x process label None = records-none x
-records-open x process label (Some t) = records-none x
-
-records-bind : (x : Present) (process : Pid) (label : Label) (named : Option Object) → Records x (bind_to x process label named).events (bind_to x process label named).works
-records-bind x process label None = records-none x
-records-bind x process label (Some object) = records-none x
-
 records-effect : (x : Present) (process : Pid) (command : Command) → is_built_command command ≡ true → IsPlain x → Records x (command_effect x process command).events (command_effect x process command).works
-unfolding create_transaction open_transaction get_transaction_information duplicate_handle
-records-effect x process (CreateTransaction label timeout) built plain = records-none x
-records-effect x process (OpenTransaction label guid) built plain = records-open x process label (transaction_with x guid)
-records-effect x process (RollbackTransaction label) built plain = records-rollback x (transaction_named x process label) (named_law x process label) plain
-records-effect x process (GetTransactionInformation label) built plain = records-none x
 records-effect x process (CommitTransaction label) built plain = records-named x (transaction_named x process label) (named_law x process label) plain
-records-effect x process (KvSet label key value) built plain = records-none x
-records-effect x process (KvUnset label key) built plain = records-none x
-records-effect x process (KvGet view key) built plain = records-none x
-records-effect x process (KvList view) built plain = records-none x
-records-effect x process (CloseHandle label) built plain = records-nothing x _ Done (with_handle_closed x process label) (forms_law.11 x process label plain.built)
-records-effect x process (DuplicateHandle label from source) built plain = records-bind x process label (object_at x.handles from source)
-records-effect x process Exit built plain = records-nothing x _ Done (with_process_gone x process) (forms_law.12 x process plain.built)
-records-effect x process _ built plain = absurd (cc)
+records-effect x process command built plain = records-quiet x (command_effect x process command) (effect_leaves x process command built plain.built).nothing
 
 records-refuse_or : (x : Present) (tested : Option Refusal) (effect : Outcome) → Records x effect.events effect.works → Records x (refuse_or x tested effect).events (refuse_or x tested effect).works
 records-refuse_or x None effect records = records

@@ -1,12 +1,12 @@
 -- What a built command tells of the outcome of the transaction that it names is true then, and what was told stays true.
-use Rattle.std.proofs.Common.{◌≡◌, ℕ, not, cond, Bool, true, false, List, [], ◌∷◌, ◌++◌, Option, None, Some, option_and_then, refl, sym, ◌∙◌, ap, subst, inl, inr}
-use Rattle.std.proofs.lemmas.Bool.{cases_Bool}
-use Rattle.std.specs.List.{AllByRecursion}
+use Rattle.std.proofs.Common.{◌≡◌, ℕ, not, cond, Bool, true, false, List, [], ◌∷◌, ◌++◌, is_none, Option, None, Some, option_and_then, refl, sym, ◌∙◌, ap, subst, inl, inr}
+use Rattle.std.proofs.lemmas.Bool.{cases_Bool, and_parts}
+use Rattle.std.specs.List.{AllByRecursion, list_all}
 use Rattle.ktm_base.specs.declared.id.Id.{Id}
 use Rattle.ktm_base.specs.declared.id.Label.{Label}
 use Rattle.ktm_base.specs.declared.id.Pid.{Pid}
 use Rattle.ktm_base.specs.declared.refusal.Refusal.{Refusal}
-use Rattle.ktm_base.specs.declared.refusal.Refusal.TheVariants.{MachineDown, TransactionAlreadyCommitted, TransactionAlreadyAborted}
+use Rattle.ktm_base.specs.declared.refusal.Refusal.TheVariants.{MachineDown, TransactionNotActive, TransactionRequestNotValid}
 use Rattle.ktm_world.specs.declared.command.Command.{Command}
 use Rattle.ktm_world.specs.declared.command.Command.TheVariants.{CreateTransaction, OpenTransaction, CommitTransaction, RollbackTransaction, GetTransactionInformation, KvSet, KvUnset, KvGet, KvList, CloseHandle, DuplicateHandle, Exit}
 use Rattle.ktm_world.specs.declared.command.View.TheVariants.{Plain, Transaction as Through}
@@ -20,24 +20,27 @@ use Rattle.ktm_world.specs.declared.object.TransactionOutcome.TheVariants.{Undet
 use Rattle.ktm_world.specs.declared.reply.Reply.{Reply}
 use Rattle.ktm_world.specs.declared.reply.Reply.TheVariants.{Refused, Done, Notification}
 use Rattle.ktm_world.specs.Built.{is_built_command}
-use Rattle.ktm_world.specs.Decide.{decide, of_keys, command_tests, command_effect, refusal_of, with_room}
-use Rattle.ktm_world.specs.HandleCalls.{bind_to, duplicate_handle, duplicate_handle_tests}
+use Rattle.ktm_world.specs.Decide.{decide, caller, command_tests, command_effect, refusal_of, with_room}
+use Rattle.ktm_world.specs.HandleCalls.{close_handle_tests, duplicate_handle, duplicate_handle_tests}
 use Rattle.ktm_world.specs.Handles.{object_at, transaction_id}
-use Rattle.ktm_world.specs.KeyCalls.{reply_of_value, keys_with, kv_set, kv_unset, kv_list}
-use Rattle.ktm_world.specs.Labels.{transaction_named, transaction_tests, holds_of, id_of_named, viewer}
+use Rattle.ktm_world.specs.KeyCalls.{reply_of_value, kv_set_tests, kv_unset_tests, kv_get_tests}
+use Rattle.ktm_world.specs.Keys.{KeysNow}
+use Rattle.ktm_world.specs.Labels.{transaction_named, transaction_tests, outcome_tests, invalid_handle, holds_of, viewer}
 use Rattle.ktm_world.specs.OneOutcome.{Telling, telling, told_of_named, told_outcome, transaction_label}
 use Rattle.ktm_world.specs.Outcome.{Outcome, apply, only_reply, refuse_or, first_refusal, is_full}
 use Rattle.ktm_world.specs.Present.{Present}
-use Rattle.ktm_world.specs.Transactions.{same_id, transaction_at, change_at, is_committed, is_aborted}
-use Rattle.ktm_world.specs.TransactionCalls.{create_transaction, create_transaction_tests, commit_transaction, may_roll_back, rollback_transaction, rollback_transaction_tests, information_of, get_transaction_information, transaction_with, open_to_transaction, open_transaction, open_transaction_tests, with_clock}
+use Rattle.ktm_world.specs.Transactions.{same_id, transaction_at, change_at, is_active, is_committed, is_aborted}
+use Rattle.ktm_world.specs.TransactionCalls.{create_transaction, create_transaction_tests, commit_transaction, may_roll_back, rollback_transaction_tests, information_of, get_transaction_information, transaction_with, open_transaction, open_transaction_tests, with_clock}
+use Rattle.ktm_world.specs.Uses.{key_room}
 use Rattle.ktm_world.specs.World.{decide_tick}
-use Rattle.ktm_built.specs.Forms.{ComesTo, with_transaction, ended_committed, with_bound, with_rollback, with_unbound, with_handle_closed, with_process_gone, with_tick}
+use Rattle.ktm_built.specs.Forms.{with_bound, with_rollback, with_unbound, with_tick}
 use Rattle.ktm_built.specs.Standing.{IsBuiltNow, IsOnCourse, IsSoundTransaction}
-use Rattle.ktm_built.proofs.Decided.{full_log, decided_law}
-use Rattle.ktm_built.proofs.Forms.{forms_law, commit_is, apply-only_reply}
+use Rattle.ktm_built.proofs.Decided.{full_log, decided_law, IsDone, done_open, done_bind, done_rollback, done_close, done_exit}
+use Rattle.ktm_built.proofs.Forms.{forms_law, named_law, commit_is, apply-only_reply, effect_leaves}
 use Rattle.ktm_built.proofs.Found.{found_again, transaction_at-id, transaction_at-of}
+use Rattle.ktm_built.proofs.Leaves.{ended_with, with_opened, with_duplicate, with_named_rollback, left_by}
 use Rattle.ktm_built.proofs.Machine.{with_machine, apply-full}
-use Rattle.ktm_built.proofs.Now.{AreSound, passes_all, passes_command, ended_with, sound-ended, sound-create}
+use Rattle.ktm_built.proofs.Now.{AreSound, passes_all, passes_command, sound-ended, sound-create}
 use Rattle.ktm_built.proofs.Rollbacks.{keeps_closed, keeps_exit, keeps_tick}
 
 -- ---- what is told of a transaction
@@ -60,14 +63,11 @@ told_at ts (Some id) = told_in ts id
 abbrev pub AreTrue : List Transaction → List Telling → Type 0
 AreTrue ts told = AllByRecursion (λ a. told_in ts a.transaction ≡ Some a.has_committed) told
 
-silent : (ts : List Transaction) (id : Option Id) → AreTrue ts (telling id None)
-silent ts None = tt
-silent ts (Some id) = tt
-
-true_of : (ts : List Transaction) (id : Option Id) (told : Option Bool) → told_at ts id ≡ told → AreTrue ts (telling id told)
-true_of ts None told is = tt
-true_of ts (Some id) None is = tt
-true_of ts (Some id) (Some committed) is = (is, tt)
+-- what is told is so, where it is what the outcome tells
+true_of : (ts : List Transaction) (id : Option Id) (told : Option Bool) → ((committed : Bool) → told ≡ Some committed → told_at ts id ≡ Some committed) → AreTrue ts (telling id told)
+true_of ts None told so = tt
+true_of ts (Some id) None so = tt
+true_of ts (Some id) (Some committed) so = (so committed refl, tt)
 
 -- ---- what was told stays true
 
@@ -154,6 +154,41 @@ follows_unbound x y process label so = record { sound = so.sound; stays = so.sta
 follows_clock : (x y : Present) (ms : ℕ) → Follows x y → Follows x (with_clock y ms)
 follows_clock x y ms so = record { sound = so.sound; stays = so.stays; boots = so.boots }
 
+follows_bound : (x : Present) (process : Pid) (label : Label) (object : Object) → AreSound x → Follows x (with_bound x process label object)
+follows_bound x process label object sound = record { sound = sound; stays = λ id committed told. told; boots = refl }
+
+follows_opened : (x : Present) (process : Pid) (label : Label) (named : Option Transaction) → AreSound x → Follows x (with_opened x process label named)
+follows_opened x process label None sound = follows_self x sound
+follows_opened x process label (Some t) sound = follows_bound x process label (TransactionObject t.id) sound
+
+follows_duplicate : (x : Present) (process : Pid) (label : Label) (named : Option Object) → AreSound x → Follows x (with_duplicate x process label named)
+follows_duplicate x process label None sound = follows_self x sound
+follows_duplicate x process label (Some object) sound = follows_bound x process label object sound
+
+-- a transaction that is named and passed the tests on its outcome
+follows_named : (x : Present) (named : Option Transaction) → ((t : Transaction) → named ≡ Some t → transaction_at x.transactions.items t.id ≡ Some t) → AreSound x
+    → first_refusal (rollback_transaction_tests named) ≡ None → Follows x (with_named_rollback x named)
+follows_named x None at sound e = follows_self x sound
+follows_named x (Some t) at sound e =
+    let tests = passes_all (rollback_transaction_tests (Some t)) e in
+    follows_rollback x x t (at t refl) (undecided t tests.1.0 tests.1.1.0) (follows_self x sound)
+
+-- other keys are no other transactions
+follows_keys : (x : Present) (keys : KeysNow) → AreSound x → Follows x (record x { keys = keys })
+follows_keys x keys sound = record { sound = sound; stays = λ id committed told. told; boots = refl }
+
+-- what a command leaves that records nothing
+left_follows : (x : Present) (process : Pid) (command : Command) → AreSound x → first_refusal (command_tests x process command) ≡ None → Follows x (left_by x process command)
+left_follows x process (CreateTransaction label timeout) sound e = record { sound = sound-create x timeout sound; stays = stays-append x.transactions.items _; boots = refl }
+left_follows x process (OpenTransaction label guid) sound e = follows_opened x process label (transaction_with x guid) sound
+left_follows x process (RollbackTransaction label) sound e = follows_named x (transaction_named x process label) (named_law x process label) sound e
+left_follows x process (KvSet label key value) sound e = follows_keys x _ sound
+left_follows x process (KvUnset label key) sound e = follows_keys x _ sound
+left_follows x process (CloseHandle label) sound e = keeps_closed (Follows x) (follows_may x) (follows_unbound x) (follows_clock x) x process label (follows_self x sound)
+left_follows x process (DuplicateHandle label from source) sound e = follows_duplicate x process label (object_at x.handles from source) sound
+left_follows x process Exit sound e = keeps_exit (Follows x) (follows_may x) (follows_unbound x) (follows_clock x) x process (follows_self x sound)
+left_follows x process _ sound e = follows_self x sound
+
 follows_tick : (x : Present) (ms : ℕ) → AreSound x → Follows x (with_tick x ms)
 follows_tick x ms sound = keeps_tick (Follows x) (follows_may x) (follows_unbound x) (follows_clock x) x ms (follows_self x sound)
 
@@ -170,30 +205,36 @@ pub record Tells (x : Present) (o : Outcome) (id : Option Id) : Type 0 where
   pub truly : AreTrue o.transactions.items (telling id (told_of_named o.reply))
   pub plain : is_note o.reply ≡ false
 
-tells_nothing : (x : Present) (o : Outcome) (id : Option Id) (y : Present) → apply x o ≡ y → told_of_named o.reply ≡ None → is_note o.reply ≡ false → Follows x y → Tells x o id
-tells_nothing x o id y leaves none plain so = record {
+-- a reply that tells nothing of the transaction that is named
+record IsSilent (reply : Reply) : Type 0 where
+  none : told_of_named reply ≡ None
+  plain : is_note reply ≡ false
+
+tells_nothing : (x : Present) (o : Outcome) (id : Option Id) (y : Present) → apply x o ≡ y → IsSilent o.reply → Follows x y → Tells x o id
+tells_nothing x o id y leaves silent so = record {
   follows = subst (Follows x) (sym leaves) so;
-  truly = subst (λ (told : Option Bool). AreTrue o.transactions.items (telling id told)) (sym none) (silent o.transactions.items id);
+  truly = true_of o.transactions.items id (told_of_named o.reply) (λ committed e. let wrong = sym silent.none ∙ e in cc);
+  plain = silent.plain;
+}
+
+-- a reply that changes nothing
+tells_reply : (x : Present) (id : Option Id) (reply : Reply) → IsBuiltNow x → AreSound x → ((committed : Bool) → told_of_named reply ≡ Some committed → told_at x.transactions.items id ≡ Some committed) → is_note reply ≡ false
+    → Tells x (only_reply x reply) id
+tells_reply x id reply built sound so plain = record {
+  follows = subst (Follows x) (sym (apply-only_reply x reply built)) (follows_self x sound);
+  truly = true_of x.transactions.items id (told_of_named reply) so;
   plain = plain;
 }
 
-tells_done : (x : Present) (o : Outcome) (id : Option Id) (y : Present) → ComesTo x o Done y → Follows x y → Tells x o id
-tells_done x o id y comes so = tells_nothing x o id y comes.leaves (ap told_of_named comes.replies) (ap is_note comes.replies) so
-
-tells_reply : (x : Present) (id : Option Id) (reply : Reply) → IsBuiltNow x → AreSound x → AreTrue x.transactions.items (telling id (told_of_named reply)) → is_note reply ≡ false → Tells x (only_reply x reply) id
-tells_reply x id reply built sound truly plain = record { follows = subst (Follows x) (sym (apply-only_reply x reply built)) (follows_self x sound); truly = truly; plain = plain }
-
 -- it is done, and nothing changes
 tells_only_done : (x : Present) (id : Option Id) → IsBuiltNow x → AreSound x → Tells x (only_reply x Done) id
-tells_only_done x id built sound = tells_reply x id Done built sound (silent x.transactions.items id) refl
+tells_only_done x id built sound = tells_nothing x (only_reply x Done) id x (apply-only_reply x Done built) (record { none = refl; plain = refl }) (follows_self x sound)
 
 -- ---- refusals
 
--- a refusal that tells an outcome tells this one
+-- what a refusal tells is this
 abbrev Backed : Option Bool → Refusal → Type 0
-Backed told TransactionAlreadyCommitted = told ≡ Some true
-Backed told TransactionAlreadyAborted = told ≡ Some false
-Backed told _ = Unit {0}
+Backed told refusal = (committed : Bool) → told_of_named (Refused refusal) ≡ Some committed → told ≡ Some committed
 
 -- each test that holds is backed
 abbrev AllBacked : Option Bool → List (Bool × Refusal) → Type 0
@@ -206,60 +247,112 @@ first_backed told (test ∷ tests) refusal all e = elim (cases_Bool test.0) [
   | inr fails ↦ first_backed told tests refusal all.1 (rw fails at e)
 ]
 
-refused_true : (ts : List Transaction) (id : Option Id) (refusal : Refusal) → Backed (told_at ts id) refusal → AreTrue ts (telling id (told_of_named (Refused refusal)))
-refused_true ts id TransactionAlreadyCommitted backed = true_of ts id (Some true) backed
-refused_true ts id TransactionAlreadyAborted backed = true_of ts id (Some false) backed
-refused_true ts id _ backed = silent ts id
+-- tests whose refusals tell nothing
+abbrev are_silent : List (Bool × Refusal) → Bool
+are_silent tests = list_all (λ test. is_none (told_of_named (Refused test.1))) tests
 
--- the transaction that is named has committed, or has rolled back
-committed_at : (ts : List Transaction) (id : Option Id) → holds_of is_committed (option_and_then (transaction_at ts) id) ≡ true → told_at ts id ≡ Some true
-committed_at ts None holds = cc
-committed_at ts (Some id) holds = go (transaction_at ts id) holds
+silent_backed : (told : Option Bool) (tests : List (Bool × Refusal)) → are_silent tests ≡ true → AllBacked told tests
+silent_backed told [] silent = tt
+silent_backed told (test ∷ tests) silent =
+    let parts = and_parts (is_none (told_of_named (Refused test.1))) (are_silent tests) silent in
+    (λ holds. go (told_of_named (Refused test.1)) parts.0, silent_backed told tests parts.1)
   where
-    of_outcome : (t : Transaction) (outcome : TransactionOutcome) → is_committed (record t { outcome = outcome }) ≡ true → told_outcome outcome ≡ Some true
-    of_outcome t CommittedOutcome holds = refl
-    of_outcome t _ holds = cc
+    go : (says : Option Bool) → is_none says ≡ true → (committed : Bool) → says ≡ Some committed → told ≡ Some committed
+    go None none committed e = cc
+    go (Some says) none committed e = cc
 
-    go : (t : Option Transaction) → holds_of is_committed t ≡ true → told_of t ≡ Some true
+-- a test of the transaction that is named, by which its outcome tells this
+test_at : (test : Transaction → Bool) (committed : Bool) → ((t : Transaction) → test t ≡ true → told_outcome t.outcome ≡ Some committed) → (ts : List Transaction) (id : Option Id)
+    → holds_of test (option_and_then (transaction_at ts) id) ≡ true → told_at ts id ≡ Some committed
+test_at test committed tells ts None holds = cc
+test_at test committed tells ts (Some id) holds = go (transaction_at ts id) holds
+  where
+    go : (t : Option Transaction) → holds_of test t ≡ true → told_of t ≡ Some committed
     go None holds = cc
-    go (Some t) holds = of_outcome t t.outcome holds
+    go (Some t) holds = tells t holds
+
+committed_at : (ts : List Transaction) (id : Option Id) → holds_of is_committed (option_and_then (transaction_at ts) id) ≡ true → told_at ts id ≡ Some true
+committed_at = test_at is_committed true (λ t. go t t.outcome)
+  where
+    go : (t : Transaction) (outcome : TransactionOutcome) → is_committed (record t { outcome = outcome }) ≡ true → told_outcome outcome ≡ Some true
+    go t CommittedOutcome holds = refl
+    go t _ holds = cc
 
 aborted_at : (ts : List Transaction) (id : Option Id) → holds_of is_aborted (option_and_then (transaction_at ts) id) ≡ true → told_at ts id ≡ Some false
-aborted_at ts None holds = cc
-aborted_at ts (Some id) holds = go (transaction_at ts id) holds
+aborted_at = test_at is_aborted false (λ t. go t t.outcome)
   where
-    of_outcome : (t : Transaction) (outcome : TransactionOutcome) → is_aborted (record t { outcome = outcome }) ≡ true → told_outcome outcome ≡ Some false
-    of_outcome t Aborted holds = refl
-    of_outcome t _ holds = cc
+    go : (t : Transaction) (outcome : TransactionOutcome) → is_aborted (record t { outcome = outcome }) ≡ true → told_outcome outcome ≡ Some false
+    go t Aborted holds = refl
+    go t _ holds = cc
 
-    go : (t : Option Transaction) → holds_of is_aborted t ≡ true → told_of t ≡ Some false
-    go None holds = cc
-    go (Some t) holds = of_outcome t t.outcome holds
+-- the tests on the label of a transaction and on its outcome, and others that tell nothing
+outcome_backed : (ts : List Transaction) (id : Option Id) (more : List (Bool × Refusal)) → are_silent more ≡ true
+    → let named = option_and_then (transaction_at ts) id in AllBacked (told_at ts id) (invalid_handle named ∷ outcome_tests named ++ more)
+outcome_backed ts id more silent =
+    (λ holds committed e. cc, (λ holds committed e. committed_at ts id holds ∙ e, (λ holds committed e. aborted_at ts id holds ∙ e, silent_backed (told_at ts id) more silent)))
 
--- the Id that a label of the process is bound to, if there is a label
+-- the Id that a label of the process is bound to
+abbrev label_id : Present → Pid → Label → Option Id
+label_id x process label = transaction_id (object_at x.handles process label)
+
+-- the same, if there is a label
 abbrev pub named_id : Present → Pid → Option Label → Option Id
 named_id x process None = None
-named_id x process (Some label) = transaction_id (object_at x.handles process label)
+named_id x process (Some label) = label_id x process label
+
+-- the tests on the label of a transaction that is to be active, and others that tell nothing
+active_backed : (x : Present) (process : Pid) (label : Label) (more : List (Bool × Refusal)) → are_silent more ≡ true
+    → AllBacked (told_at x.transactions.items (label_id x process label)) (transaction_tests (transaction_named x process label) ++ more)
+active_backed x process label more silent =
+    outcome_backed x.transactions.items (label_id x process label) ((holds_of (λ t. not (is_active t)) (transaction_named x process label), TransactionNotActive) ∷ more) silent
 
 tests_backed : (x : Present) (process : Pid) (command : Command) → is_built_command command ≡ true → AllBacked (told_at x.transactions.items (named_id x process (transaction_label command))) (command_tests x process command)
 unfolding create_transaction_tests open_transaction_tests duplicate_handle_tests
-tests_backed x process (CreateTransaction label timeout) built = (λ e. tt, (λ e. tt, tt))
-tests_backed x process (OpenTransaction label guid) built = (λ e. tt, (λ e. tt, (λ e. tt, tt)))
-tests_backed x process (CommitTransaction label) built = let id = transaction_id (object_at x.handles process label) in (λ e. tt, (committed_at x.transactions.items id, (aborted_at x.transactions.items id, (λ e. tt, tt))))
-tests_backed x process (RollbackTransaction label) built = let id = transaction_id (object_at x.handles process label) in (λ e. tt, (committed_at x.transactions.items id, (aborted_at x.transactions.items id, (λ e. tt, tt))))
-tests_backed x process (GetTransactionInformation label) built = (λ e. tt, tt)
-tests_backed x process (KvSet label key value) built = let id = transaction_id (object_at x.handles process label) in (λ e. tt, (committed_at x.transactions.items id, (aborted_at x.transactions.items id, (λ e. tt, (λ e. tt, (λ e. tt, (λ e. tt, tt)))))))
-tests_backed x process (KvUnset label key) built = let id = transaction_id (object_at x.handles process label) in (λ e. tt, (committed_at x.transactions.items id, (aborted_at x.transactions.items id, (λ e. tt, (λ e. tt, (λ e. tt, (λ e. tt, (λ e. tt, tt))))))))
-tests_backed x process (KvGet Plain key) built = (λ e. tt, (λ e. tt, tt))
-tests_backed x process (KvGet (Through label) key) built = let id = transaction_id (object_at x.handles process label) in (λ e. tt, (committed_at x.transactions.items id, (aborted_at x.transactions.items id, (λ e. tt, (λ e. tt, (λ e. tt, tt))))))
+tests_backed x process (CreateTransaction label timeout) built = silent_backed None (create_transaction_tests x process label) refl
+tests_backed x process (OpenTransaction label guid) built = silent_backed None (open_transaction_tests x process label guid) refl
+tests_backed x process (CommitTransaction label) built = active_backed x process label [] refl
+tests_backed x process (RollbackTransaction label) built =
+    outcome_backed x.transactions.items (label_id x process label) ((holds_of (λ t. not (may_roll_back t)) (transaction_named x process label), TransactionRequestNotValid) ∷ []) refl
+tests_backed x process (GetTransactionInformation label) built = silent_backed _ (command_tests x process (GetTransactionInformation label)) refl
+tests_backed x process (KvSet label key value) built = active_backed x process label (kv_set_tests x.keys (key_room x) (caller x process label) key value) refl
+tests_backed x process (KvUnset label key) built = active_backed x process label (kv_unset_tests x.keys (key_room x) (caller x process label) key) refl
+tests_backed x process (KvGet Plain key) built = silent_backed None (kv_get_tests x.keys None key) refl
+tests_backed x process (KvGet (Through label) key) built = active_backed x process label (kv_get_tests x.keys (viewer x process (Through label)) key) refl
 tests_backed x process (KvList Plain) built = tt
-tests_backed x process (KvList (Through label)) built = let id = transaction_id (object_at x.handles process label) in (λ e. tt, (committed_at x.transactions.items id, (aborted_at x.transactions.items id, (λ e. tt, tt))))
-tests_backed x process (CloseHandle label) built = (λ e. tt, tt)
-tests_backed x process (DuplicateHandle label from source) built = (λ e. tt, (λ e. tt, (λ e. tt, (λ e. tt, tt))))
+tests_backed x process (KvList (Through label)) built = active_backed x process label [] refl
+tests_backed x process (CloseHandle label) built = silent_backed None (close_handle_tests x process label) refl
+tests_backed x process (DuplicateHandle label from source) built = silent_backed None (duplicate_handle_tests x process label from source) refl
 tests_backed x process Exit built = tt
 tests_backed x process _ built = absurd (cc)
 
 -- ---- what each command tells
+
+-- does the command tell nothing once it is not refused; every built one does so but a commit and a question
+abbrev is_silent : Command → Bool
+is_silent (CommitTransaction transaction) = false
+is_silent (GetTransactionInformation transaction) = false
+is_silent command = is_built_command command
+
+silent_done : (o : Outcome) → IsDone o → IsSilent o.reply
+silent_done o done = record { none = ap told_of_named done.says; plain = ap is_note done.says }
+
+silent_value : (value : Option (List ℕ)) → IsSilent (reply_of_value value)
+silent_value None = record { none = refl; plain = refl }
+silent_value (Some value) = record { none = refl; plain = refl }
+
+silence : (x : Present) (process : Pid) (command : Command) → is_silent command ≡ true → IsSilent (command_effect x process command).reply
+unfolding create_transaction open_transaction duplicate_handle
+silence x process (CreateTransaction label timeout) is = record { none = refl; plain = refl }
+silence x process (OpenTransaction label guid) is = silent_done _ (done_open x process label (transaction_with x guid))
+silence x process (RollbackTransaction label) is = silent_done _ (done_rollback x (transaction_named x process label))
+silence x process (KvSet label key value) is = record { none = refl; plain = refl }
+silence x process (KvUnset label key) is = record { none = refl; plain = refl }
+silence x process (KvGet view key) is = silent_value _
+silence x process (KvList view) is = record { none = refl; plain = refl }
+silence x process (CloseHandle label) is = silent_done _ (done_close x process label)
+silence x process (DuplicateHandle label from source) is = silent_done _ (done_bind x process label (object_at x.handles from source))
+silence x process Exit is = silent_done _ (done_exit x process)
+silence x process _ is = absurd (cc)
 
 -- the transaction that is found by an Id, or none
 abbrev found_by : Present → Option Id → Option Transaction
@@ -276,28 +369,14 @@ commit_tells x (Some id) built sound e = go (transaction_at x.transactions.items
         let found = found_again x.transactions.items id t is in
         let tests = passes_all (transaction_tests (Some t)) e in
         let none = undecided t tests.1.0 tests.1.1.0 in
-        let ended : told_in (change_at x.transactions.items t.id ended_committed) id ≡ Some true = ap (told_in (change_at x.transactions.items t.id ended_committed)) (sym (transaction_at-id x.transactions.items id t is)) ∙ told-ended CommittedOutcome x.transactions.items t.id t found in
+        let then = change_at x.transactions.items t.id (ended_with CommittedOutcome) in
+        let told : told_in then id ≡ Some true = ap (told_in then) (sym (transaction_at-id x.transactions.items id t is)) ∙ told-ended CommittedOutcome x.transactions.items t.id t found in
         record {
-          follows = subst (Follows x) (sym (forms_law.3 x t built found)) (record {
-            sound = sound-ended x t.id CommittedOutcome tt sound;
-            stays = stays-ended CommittedOutcome x.transactions.items t.id t found none;
-            boots = refl;
-          });
-          truly = subst (λ (o : Outcome). AreTrue o.transactions.items (telling (Some id) (told_of_named o.reply))) (sym (commit_is x t built found)) (ended, tt);
+          follows = subst (Follows x) (sym (forms_law.3 x t built found))
+              (record { sound = sound-ended x t.id CommittedOutcome tt sound; stays = stays-ended CommittedOutcome x.transactions.items t.id t found none; boots = refl });
+          truly = subst (λ (o : Outcome). AreTrue o.transactions.items (telling (Some id) (told_of_named o.reply))) (sym (commit_is x t built found)) (told, tt);
           plain = ap (λ (o : Outcome). is_note o.reply) (commit_is x t built found);
         }
-
-rollback_tells : (x : Present) (id : Option Id) → IsBuiltNow x → AreSound x → first_refusal (rollback_transaction_tests (found_by x id)) ≡ None → Tells x (rollback_transaction x (found_by x id)) id
-unfolding rollback_transaction
-rollback_tells x None built sound e = tells_only_done x None built sound
-rollback_tells x (Some id) built sound e = go (transaction_at x.transactions.items id) refl e
-  where
-    go : (found : Option Transaction) → transaction_at x.transactions.items id ≡ found → first_refusal (rollback_transaction_tests found) ≡ None → Tells x (rollback_transaction x found) (Some id)
-    go None is e = tells_only_done x (Some id) built sound
-    go (Some t) is e =
-        let found = found_again x.transactions.items id t is in
-        let tests = passes_all (rollback_transaction_tests (Some t)) e in
-        tells_done x _ (Some id) (with_rollback x t) (forms_law.6 x t built found) (follows_rollback x x t found (undecided t tests.1.0 tests.1.1.0) (follows_self x sound))
 
 information_tells : (x : Present) (id : Option Id) → IsBuiltNow x → AreSound x → Tells x (get_transaction_information x (found_by x id)) id
 unfolding get_transaction_information
@@ -306,74 +385,25 @@ information_tells x (Some id) built sound = go (transaction_at x.transactions.it
   where
     go : (found : Option Transaction) → transaction_at x.transactions.items id ≡ found → Tells x (get_transaction_information x found) (Some id)
     go None is = tells_only_done x (Some id) built sound
-    go (Some t) is = tells_reply x (Some id) (information_of x (Some t)) built sound (true_of x.transactions.items (Some id) (told_outcome t.outcome) (ap told_of is)) refl
-
-open_tells : (x : Present) (process : Pid) (label : Label) (guid : List ℕ) (id : Option Id) → IsBuiltNow x → AreSound x → Tells x (open_transaction x process label guid) id
-unfolding open_transaction
-open_tells x process label guid id built sound = go (transaction_with x guid) refl
-  where
-    go : (named : Option Transaction) → transaction_with x guid ≡ named → Tells x (open_to_transaction x process label named) id
-    go None is = tells_only_done x id built sound
-    go (Some t) is =
-        let y = with_bound x process label (TransactionObject t.id) in
-        subst (λ (named : Option Transaction). Tells x (open_to_transaction x process label named) id) is (tells_done x _ id y (forms_law.8 x process label guid t built is) (record { sound = sound; stays = λ i committed told. told; boots = refl }))
-
-duplicate_tells : (x : Present) (process : Pid) (label : Label) (from : Pid) (source : Label) (id : Option Id) → IsBuiltNow x → AreSound x → Tells x (duplicate_handle x process label from source) id
-unfolding duplicate_handle
-duplicate_tells x process label from source id built sound = go (object_at x.handles from source) refl
-  where
-    go : (named : Option Object) → object_at x.handles from source ≡ named → Tells x (bind_to x process label named) id
-    go None is = tells_only_done x id built sound
-    go (Some object) is =
-        let y = with_bound x process label object in
-        subst (λ (named : Option Object). Tells x (bind_to x process label named) id) is (tells_done x _ id y (forms_law.9 x process label from source object built is) (record { sound = sound; stays = λ i committed told. told; boots = refl }))
-
--- a call on keys changes the keys alone
-set_tells : (x : Present) (named : Option Transaction) (key value : List ℕ) (id : Option Id) → IsBuiltNow x → AreSound x → Tells x (of_keys x (kv_set x.keys (id_of_named named) key value)) id
-set_tells x None key value id built sound = tells_only_done x id built sound
-set_tells x (Some t) key value id built sound =
-    tells_nothing x _ id (record x { keys = keys_with x.keys (Some t.id) key (Some value) }) (forms_law.4 x t key value built) refl refl (record { sound = sound; stays = λ i committed told. told; boots = refl })
-
-unset_tells : (x : Present) (named : Option Transaction) (key : List ℕ) (id : Option Id) → IsBuiltNow x → AreSound x → Tells x (of_keys x (kv_unset x.keys (id_of_named named) key)) id
-unset_tells x None key id built sound = tells_only_done x id built sound
-unset_tells x (Some t) key id built sound =
-    tells_nothing x _ id (record x { keys = keys_with x.keys (Some t.id) key None }) (forms_law.5 x t key built) refl refl (record { sound = sound; stays = λ i committed told. told; boots = refl })
-
-value_tells : (x : Present) (value : Option (List ℕ)) (id : Option Id) → IsBuiltNow x → AreSound x → Tells x (only_reply x (reply_of_value value)) id
-value_tells x None id built sound = tells_reply x id (reply_of_value None) built sound (silent x.transactions.items id) refl
-value_tells x (Some value) id built sound = tells_reply x id (reply_of_value (Some value)) built sound (silent x.transactions.items id) refl
+    go (Some t) is = tells_reply x (Some id) (information_of x (Some t)) built sound (λ committed e. ap told_of is ∙ e) refl
 
 effect_tells : (x : Present) (process : Pid) (command : Command) → is_built_command command ≡ true → IsBuiltNow x → AreSound x → first_refusal (command_tests x process command) ≡ None
     → Tells x (command_effect x process command) (named_id x process (transaction_label command))
-unfolding create_transaction
-effect_tells x process (CreateTransaction label timeout) is built sound e =
-    tells_nothing x _ None (with_transaction x process label timeout) (forms_law.1 x process label timeout built) refl refl
-    (record { sound = sound-create x timeout sound; stays = stays-append x.transactions.items _; boots = refl })
-effect_tells x process (OpenTransaction label guid) is built sound e = open_tells x process label guid None built sound
-effect_tells x process (CommitTransaction label) is built sound e = commit_tells x (transaction_id (object_at x.handles process label)) built sound e
-effect_tells x process (RollbackTransaction label) is built sound e = rollback_tells x (transaction_id (object_at x.handles process label)) built sound e
-effect_tells x process (GetTransactionInformation label) is built sound e = information_tells x (transaction_id (object_at x.handles process label)) built sound
-effect_tells x process (KvSet label key value) is built sound e = set_tells x (transaction_named x process label) key value _ built sound
-effect_tells x process (KvUnset label key) is built sound e = unset_tells x (transaction_named x process label) key _ built sound
-effect_tells x process (KvGet view key) is built sound e = value_tells x _ _ built sound
-effect_tells x process (KvList view) is built sound e = tells_reply x _ (kv_list x.keys (viewer x process view)).reply built sound (silent x.transactions.items _) refl
-effect_tells x process (CloseHandle label) is built sound e =
-    tells_done x _ None (with_handle_closed x process label) (forms_law.11 x process label built) (keeps_closed (Follows x) (follows_may x) (follows_unbound x) (follows_clock x) x process label (follows_self x sound))
-effect_tells x process (DuplicateHandle label from source) is built sound e = duplicate_tells x process label from source None built sound
-effect_tells x process Exit is built sound e =
-    tells_done x _ None (with_process_gone x process) (forms_law.12 x process built) (keeps_exit (Follows x) (follows_may x) (follows_unbound x) (follows_clock x) x process (follows_self x sound))
-effect_tells x process _ is built sound e = absurd (cc)
+effect_tells x process (CommitTransaction label) is built sound e = commit_tells x (label_id x process label) built sound e
+effect_tells x process (GetTransactionInformation label) is built sound e = information_tells x (label_id x process label) built sound
+effect_tells x process command is built sound e =
+    tells_nothing x _ _ (left_by x process command) (effect_leaves x process command is built).leaves (silence x process command is) (left_follows x process command sound e)
 
 -- ---- every outcome
 
 refused_tells : (x : Present) (tested : Option Refusal) (effect : Outcome) (id : Option Id) → IsBuiltNow x → AreSound x → ((refusal : Refusal) → tested ≡ Some refusal → Backed (told_at x.transactions.items id) refusal)
     → (tested ≡ None → Tells x effect id) → Tells x (refuse_or x tested effect) id
 refused_tells x None effect id built sound backed then = then refl
-refused_tells x (Some refusal) effect id built sound backed then = tells_reply x id (Refused refusal) built sound (refused_true x.transactions.items id refusal (backed refusal refl)) refl
+refused_tells x (Some refusal) effect id built sound backed then = tells_reply x id (Refused refusal) built sound (backed refusal refl) refl
 
 logged_tells : (x : Present) (b : Bool) (o : Outcome) (id : Option Id) → IsBuiltNow x → AreSound x → Tells x o id → Tells x (cond b (full_log x) o) id
 logged_tells x true o id built sound then =
-    tells_nothing x (full_log x) id (with_machine x false x.machine.left) (apply-full x built) refl refl (record { sound = sound; stays = λ i committed told. told; boots = refl })
+    tells_nothing x (full_log x) id (with_machine x false x.machine.left) (apply-full x built) (record { none = refl; plain = refl }) (record { sound = sound; stays = λ i committed told. told; boots = refl })
 logged_tells x false o id built sound then = then
 
 pub decided_tells : (x : Present) (process : Pid) (command : Command) → is_built_command command ≡ true → IsBuiltNow x → AreSound x → Tells x (decide x process command) (named_id x process (transaction_label command))
@@ -382,7 +412,7 @@ decided_tells x process command is built sound =
     let up_test : Bool × Refusal = (not x.machine.is_up, MachineDown) in
     logged_tells x (is_full x.machine.left (with_room x process command).events) (with_room x process command) id built sound
     (refused_tells x (refusal_of x process command) (command_effect x process command) id built sound
-    (λ refusal e. first_backed (told_at x.transactions.items id) (up_test ∷ command_tests x process command) refusal (λ off. tt, tests_backed x process command is) e)
+    (λ refusal e. first_backed (told_at x.transactions.items id) (up_test ∷ command_tests x process command) refusal (λ off committed e. cc, tests_backed x process command is) e)
     (λ e. effect_tells x process command is built sound (passes_command x process command e)))
 
 -- the passing of time, on a machine that is up

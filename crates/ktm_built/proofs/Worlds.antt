@@ -39,7 +39,7 @@ use Rattle.ktm_built.proofs.Logs.{contains_passes, prefixes_built, groups_built,
 use Rattle.ktm_world.proofs.BuiltStates.{built_stand, own_is}
 use Rattle.ktm_world.proofs.Durables.{stand-append, stand-as_groups, log_applies-append, log_applies-as_groups}
 use Rattle.ktm_built.proofs.Machine.{with_machine, built_machine}
-use Rattle.ktm_built.proofs.Now.{IsPlain, plain_of, standing_of, sound_machine, within_machine, decided_plain, ticked_plain, Records, records-decided, records-quiet, ticked_nothing, now_law}
+use Rattle.ktm_built.proofs.Now.{IsPlain, plain_of, standing_of, sound_aside, decided_plain, ticked_plain, Records, records-decided, records-quiet, ticked_nothing, now_law}
 use Rattle.ktm_built.proofs.States.{state_law}
 use Rattle.ktm_built.proofs.Outcomes.{IsBuiltOutcome, decided_built, ticked_built}
 
@@ -288,8 +288,9 @@ power_falls w may logs standing =
     let x = present w in
     let left = x.machine.left in
     let built = built_falls w may logs standing.built in
-    let sound = sound_machine x false left standing.sound in
-    let within = within_machine x false left (within_limits x standing.built.now standing.sound.units_from standing.lawful.limits) in
+    let sound = sound_aside x (with_machine x false left) standing.sound in
+    let before = within_limits x standing.built.now standing.sound.units_from standing.lawful.limits in
+    let within : IsWithin (with_machine x false left) = record { keys = before.keys; changes = before.changes; live = before.live; handles = before.handles; last = before.last } in
     record {
       lawful = lawful_of (record w { power = down may }) built.now sound within standing.lawful.works (λ on. absurd (cc));
       built = built;
