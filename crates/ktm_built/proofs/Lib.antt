@@ -3,6 +3,8 @@ pub mod Ids
 pub mod Found
 pub mod Rollbacks
 pub mod Leaves
+pub mod Distinct
+pub mod Timeouts
 pub mod Forms
 pub mod Decided
 pub mod Machine

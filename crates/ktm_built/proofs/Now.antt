@@ -50,6 +50,7 @@ use Rattle.ktm_built.specs.Spelling.{IsShortEvent, IsShortWork}
 use Rattle.ktm_built.specs.Standing.{IsBuiltNow, IsOnCourse, IsSoundTransaction, IsSoundOwn, IsSoundNow, IsStandingNow}
 use Rattle.ktm_built.proofs.Outcomes.{decided_built}
 use Rattle.ktm_built.proofs.Decided.{full_log, decided_law}
+use Rattle.ktm_built.proofs.Distinct.{distinct-push, distinct-ended}
 use Rattle.ktm_built.proofs.Found.{transaction_at-of, All-change_at}
 use Rattle.ktm_built.proofs.Machine.{with_machine, apply-full}
 use Rattle.ktm_built.proofs.Forms.{forms_law, named_law, commit_is, apply-only_reply, effect_leaves}
@@ -131,6 +132,7 @@ sound_aside x y sound = record {
   boots_from = sound.boots_from;
   units_from = sound.units_from;
   transactions = sound.transactions;
+  distinct = sound.distinct;
   own = sound.own;
   once = sound.once;
   apart = sound.apart;
@@ -181,6 +183,7 @@ create_plain x process label timeout plain e =
         boots_from = plain.sound.boots_from;
         units_from = plain.sound.units_from;
         transactions = sound-create x timeout plain.sound.transactions;
+        distinct = distinct-push x.recorded.boots last x.transactions.items new (recursion_from_All _ _ plain.sound.transactions) refl plain.sound.distinct;
         own = plain.sound.own;
         once = plain.sound.once;
         apart = plain.sound.apart;
@@ -228,6 +231,7 @@ sound_once_ended x y id outcome course sound = record {
   boots_from = sound.boots_from;
   units_from = sound.units_from;
   transactions = sound-ended x id outcome course sound.transactions;
+  distinct = distinct-ended outcome x.transactions.items id sound.distinct;
   own = All-without_own x.recorded.boots id x.keys.own sound.own;
   once = once-without_own x.keys.own id sound.once;
   apart = apart-without_own x.keys.own id sound.once sound.apart;
@@ -332,6 +336,7 @@ keys_plain x t key value setting of_boot free used pending plain = record {
     boots_from = plain.sound.boots_from;
     units_from = plain.sound.units_from;
     transactions = plain.sound.transactions;
+    distinct = plain.sound.distinct;
     own = All-with_own x.recorded.boots t.id key value of_boot setting x.keys.own plain.sound.own;
     once = once-with_own x.keys.own t.id key value plain.sound.once;
     apart = apart-with_own x.keys.own t.id key value free plain.sound.apart;

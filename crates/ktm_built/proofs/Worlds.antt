@@ -220,7 +220,7 @@ fresh_built s left state = record {
 fresh_plain : (s : Durable) (left : ℕ) → IsBuiltState s → BootFits s → IsPlain (fresh s left)
 fresh_plain s left state fits = record {
   built = fresh_built s left state;
-  sound = record { boots_from = omega arith; units_from = fits.units; transactions = All-nil _; own = All-nil _; once = tt; apart = λ a b other. refl };
+  sound = record { boots_from = omega arith; units_from = fits.units; transactions = All-nil _; distinct = tt; own = All-nil _; once = tt; apart = λ a b other. refl };
   within = record { keys = omega (arith, fits.keys); changes = omega arith; live = omega arith; handles = omega arith; last = omega arith };
   keys = refl;
 }

@@ -1,5 +1,5 @@
 -- Laws of worlds that have only what built forms make.
-use Rattle.std.specs.Prelude.{◌≡◌, ℕ, ◌+◌, ◌-◌, ◌^◌, ◌==◌, ◌<◌, ◌&&◌, nat_lt, nat_le, true, false, List, [], length, All, Contains, Option, Some, None}
+use Rattle.std.specs.Prelude.{◌≡◌, ℕ, ◌+◌, ◌-◌, ◌^◌, ◌==◌, ◌<◌, ◌&&◌, nat_lt, nat_le, true, false, List, [], length, filter, fold, All, Contains, Option, Some, None}
 use Rattle.std.specs.List.{list_all}
 use Rattle.ktm_base.specs.declared.id.Id.{Id}
 use Rattle.ktm_base.specs.declared.id.Label.{Label}
@@ -29,13 +29,13 @@ use Rattle.ktm_world.specs.Outcome.{apply, only_reply}
 use Rattle.ktm_world.specs.Present.{Present}
 use Rattle.ktm_world.specs.Sizes.{frame_size, log_size}
 use Rattle.ktm_world.specs.Transactions.{transaction_at}
-use Rattle.ktm_world.specs.TransactionCalls.{create_transaction, commit_transaction, rollback_transaction, get_transaction_information, information_of, open_transaction, transaction_with, tick}
+use Rattle.ktm_world.specs.TransactionCalls.{create_transaction, commit_transaction, rollback_transaction, get_transaction_information, information_of, open_transaction, transaction_with, later, is_due, with_clock, tick}
 use Rattle.ktm_world.specs.Transcript.{Step, Transcript}
 use Rattle.ktm_world.specs.Values.{IsCommand}
 use Rattle.ktm_world.specs.World.{World, present, extend, after, decide_tick, crashed, interrupted_by, interrupted_restart, found_full, opened, own_group, possible_logs}
 use Rattle.ktm_built.specs.Forms.{ComesTo, with_transaction, commit_outcome, with_commit, with_rollback, with_bound, with_handle_closed, with_process_gone, with_tick}
 use Rattle.ktm_built.specs.Spelling.{IsShortEvent, IsShortWork}
-use Rattle.ktm_built.specs.Standing.{IsBuiltNow, IsStandingNow, IsStanding, fresh}
+use Rattle.ktm_built.specs.Standing.{IsBuiltNow, IsSoundNow, IsStandingNow, IsStanding, fresh}
 
 -- ---- what a built state takes
 
@@ -75,6 +75,11 @@ FormsLaw = ((x : Present) (reply : Reply) → IsBuiltNow x → apply x (only_rep
     × ((x : Present) (ms : ℕ) → IsBuiltNow x → ComesTo x (tick x ms) Done (with_tick x ms))
     × ((x : Present) (process : Pid) (label : Label) → IsBuiltNow x → ComesTo x (close_handle x process label) Done (with_handle_closed x process label))
     × ((x : Present) (process : Pid) → IsBuiltNow x → ComesTo x (exit x process) Done (with_process_gone x process))
+
+-- the passing of time rolls back the transactions that are due then, in order of creation
+abbrev pub TimeoutLaw : Type 0
+TimeoutLaw = (x : Present) (ms : ℕ) → IsSoundNow x
+    → with_tick x ms ≡ fold with_rollback (with_clock x ms) (filter (is_due (later x.transactions.clock ms)) x.transactions.items)
 
 -- the transaction that a label names is the one with its Id
 abbrev pub NamedLaw : Type 0

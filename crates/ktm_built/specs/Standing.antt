@@ -73,6 +73,11 @@ pub record IsSoundTransaction (boot last : ℕ) (t : Transaction) : Type 0 where
   pub number_to : t.id.number ≤ last
   pub course : IsOnCourse t.phase t.outcome
 
+-- no two transactions have the same Id
+abbrev pub AreDistinct : List Transaction → Type 0
+AreDistinct [] = Unit {0}
+AreDistinct (t ∷ ts) = (list_any (λ u. same_id u.id t.id) ts ≡ false) × AreDistinct ts
+
 -- a transaction's own settings: it is of this boot, their keys rise and are texts, their values have bytes, and each is within the limits
 pub record IsSoundOwn (boot : ℕ) (own : Own) : Type 0 where
   pub boot_is : own.transaction.boot ≡ boot
@@ -95,6 +100,7 @@ pub record IsSoundNow (x : Present) : Type 0 where
   pub boots_from : 1 ≤ x.recorded.boots
   pub units_from : 1 ≤ x.recorded.units
   pub transactions : All (IsSoundTransaction x.recorded.boots x.transactions.last_transaction) x.transactions.items
+  pub distinct : AreDistinct x.transactions.items
   pub own : All (IsSoundOwn x.recorded.boots) x.keys.own
   pub once : StandOnce x.keys.own
   pub apart : AreSetApart x.keys.own
