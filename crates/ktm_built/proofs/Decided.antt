@@ -1,29 +1,37 @@
 -- What holds of every outcome of a built command.
 use Rattle.std.proofs.Common.{◌≡◌, ℕ, Bool, true, false, not, ◌&&◌, cond, List, [], ◌∷◌, Option, Some, None, refl, sym, ◌∙◌, ap, inl, inr}
-use Rattle.std.proofs.lemmas.Bool.{cases_Bool, and_parts}
+use Rattle.std.proofs.lemmas.Bool.{cases_Bool, and_parts, or_from}
+use Rattle.ktm_base.specs.declared.id.Label.{Label}
 use Rattle.ktm_base.specs.declared.id.Pid.{Pid}
 use Rattle.ktm_base.specs.declared.refusal.Refusal.{Refusal}
 use Rattle.ktm_base.specs.declared.refusal.Refusal.TheVariants.{MachineDown, LogFull}
 use Rattle.ktm_world.specs.declared.command.Command.{Command}
-use Rattle.ktm_world.specs.declared.command.Command.TheVariants.{CreateTransaction, CommitTransaction, KvSet, KvUnset, KvGet, KvList}
+use Rattle.ktm_world.specs.declared.command.Command.TheVariants.{CreateTransaction, OpenTransaction, CommitTransaction, RollbackTransaction, GetTransactionInformation, KvSet, KvUnset, KvGet, KvList, CloseHandle, DuplicateHandle, Exit}
 use Rattle.ktm_world.specs.declared.command.View.TheVariants.{Plain, Transaction as Through}
 use Rattle.ktm_world.specs.declared.event.Event.{Event}
+use Rattle.ktm_world.specs.declared.object.Object.{Object}
+use Rattle.ktm_world.specs.declared.object.Object.TheVariants.{Transaction as TransactionObject, Manager as ManagerObject, Enlistment as EnlistmentObject, File as FileObject}
 use Rattle.ktm_world.specs.declared.object.Transaction.{Transaction}
 use Rattle.ktm_world.specs.declared.reply.Reply.{Reply}
-use Rattle.ktm_world.specs.declared.reply.Reply.TheVariants.{Refused}
+use Rattle.ktm_world.specs.declared.reply.Reply.TheVariants.{Refused, Done}
 use Rattle.ktm_world.specs.Built.{is_built_command}
 use Rattle.ktm_world.specs.Decide.{decide, with_room, refusal_of, command_tests, command_effect}
 use Rattle.ktm_world.specs.Enlistments.{is_ended}
-use Rattle.ktm_world.specs.Transactions.{is_undecided}
+use Rattle.ktm_world.specs.HandleCalls.{without_handle, has_handle, labels_of, abort_active, last_handle_gone, handle_gone, close_handle, closed_in_turn, exit, bind_to, duplicate_handle, duplicate_handle_tests}
+use Rattle.ktm_world.specs.Handles.{object_at}
+use Rattle.ktm_world.specs.Transactions.{transaction_at, is_active, is_undecided}
 use Rattle.ktm_world.specs.Files.{without_transaction}
 use Rattle.ktm_world.specs.Keys.{without_own}
 use Rattle.ktm_world.specs.KeyCalls.{reply_of_value}
 use Rattle.ktm_world.specs.Labels.{transaction_named}
-use Rattle.ktm_world.specs.Outcome.{Outcome, only_reply, refuse_or, first_refusal, is_full}
-use Rattle.ktm_world.specs.Phases.{Course, to_commit}
+use Rattle.ktm_world.specs.Outcome.{Outcome, apply, only_reply, and_then, refuse_or, first_refusal, is_full, within_log}
+use Rattle.ktm_world.specs.Phases.{Course, aborting, to_commit}
 use Rattle.ktm_world.specs.Present.{Present}
-use Rattle.ktm_world.specs.TransactionCalls.{course_of, released, commit_reply, create_transaction, create_transaction_tests, commit_transaction}
+use Rattle.ktm_world.specs.TransactionCalls.{course_of, released, commit_reply, create_transaction, create_transaction_tests, commit_transaction, aborted_by, rollback_transaction, information_of, get_transaction_information, transaction_with, open_to_transaction, open_transaction, open_transaction_tests, tick}
+use Rattle.ktm_world.specs.World.{decide_tick}
 use Rattle.ktm_built.specs.Laws.{DecidedLaw}
+use Rattle.ktm_built.specs.Standing.{IsBuiltNow}
+use Rattle.ktm_built.proofs.Forms.{forms_law}
 
 -- the outcome of a full log
 abbrev pub full_log : Present → Outcome
@@ -50,19 +58,88 @@ quiet_is x process command none =
 released_goes_on : (c : Course) (o : Outcome) → (released c o).stops ≡ o.stops
 released_goes_on c o = elim (is_undecided c.transaction) as (λ b. (cond b o (record o { forgotten = c.transaction.id ∷ []; table = without_transaction o.table c.transaction.id; own = without_own o.own c.transaction.id })).stops ≡ o.stops) [ true ↦ refl | false ↦ refl ]
 
+released_says : (c : Course) (o : Outcome) → (released c o).reply ≡ o.reply
+released_says c o = elim (is_undecided c.transaction) as (λ b. (cond b o (record o { forgotten = c.transaction.id ∷ []; table = without_transaction o.table c.transaction.id; own = without_own o.own c.transaction.id })).reply ≡ o.reply) [ true ↦ refl | false ↦ refl ]
+
+-- an outcome answers that it is done, and the machine goes on
+pub record IsDone (o : Outcome) : Type 0 where
+  pub goes_on : o.stops ≡ false
+  pub says : o.reply ≡ Done
+
+pub done_open : (x : Present) (process : Pid) (label : Label) (named : Option Transaction) → IsDone (open_to_transaction x process label named)
+done_open x process label None = record { goes_on = refl; says = refl }
+done_open x process label (Some t) = record { goes_on = refl; says = refl }
+
+pub done_bind : (x : Present) (process : Pid) (label : Label) (named : Option Object) → IsDone (bind_to x process label named)
+done_bind x process label None = record { goes_on = refl; says = refl }
+done_bind x process label (Some object) = record { goes_on = refl; says = refl }
+
+done_aborted : (x : Present) (t : Transaction) → IsDone (aborted_by x t None Done)
+done_aborted x t = let c = aborting (course_of x t None) in record { goes_on = released_goes_on c _; says = released_says c _ }
+
+pub done_rollback : (x : Present) (named : Option Transaction) → IsDone (rollback_transaction x named)
+unfolding rollback_transaction
+done_rollback x None = record { goes_on = refl; says = refl }
+done_rollback x (Some t) = done_aborted x t
+
+done_if : (x : Present) (b : Bool) (o : Outcome) → IsDone o → IsDone (cond b o (only_reply x Done))
+done_if x true o done = done
+done_if x false o done = record { goes_on = refl; says = refl }
+
+done_active : (x : Present) (found : Option Transaction) → IsDone (abort_active x found)
+done_active x None = record { goes_on = refl; says = refl }
+done_active x (Some t) = done_if x (is_active t) (aborted_by x t None Done) (done_aborted x t)
+
+done_last : (x : Present) (object : Object) → IsDone (last_handle_gone x object)
+done_last x (TransactionObject id) = done_active x (transaction_at x.transactions.items id)
+done_last x (ManagerObject id) = record { goes_on = refl; says = refl }
+done_last x (EnlistmentObject id) = record { goes_on = refl; says = refl }
+done_last x (FileObject number) = record { goes_on = refl; says = refl }
+
+done_gone : (x : Present) (named : Option Object) → IsDone (handle_gone named x)
+done_gone x None = record { goes_on = refl; says = refl }
+done_gone x (Some object) = go (has_handle x.handles object)
+  where
+    go : (b : Bool) → IsDone (cond b (only_reply x Done) (last_handle_gone x object))
+    go true = record { goes_on = refl; says = refl }
+    go false = done_last x object
+
+done_then : (x : Present) (o : Outcome) (next : Present → Outcome) → IsDone o → ((y : Present) → IsDone (next y)) → IsDone (and_then x o next)
+done_then x o next first then = record { goes_on = or_from _ _ first.goes_on (then (apply x o)).goes_on; says = first.says }
+
+pub done_close : (x : Present) (process : Pid) (label : Label) → IsDone (close_handle x process label)
+unfolding close_handle
+done_close x process label =
+    let named = object_at x.handles process label in
+    done_then x (record (only_reply x Done) { handles = without_handle x.handles process label }) (handle_gone named) (record { goes_on = refl; says = refl }) (λ y. done_gone y named)
+
+done_closed : (x : Present) (process : Pid) (labels : List Label) → IsDone (closed_in_turn x process labels)
+done_closed x process [] = record { goes_on = refl; says = refl }
+done_closed x process (label ∷ labels) = done_then x (close_handle x process label) (λ next. closed_in_turn next process labels) (done_close x process label) (λ y. done_closed y process labels)
+
+pub done_exit : (x : Present) (process : Pid) → IsDone (exit x process)
+unfolding exit
+done_exit x process = done_closed x process (labels_of x.handles process)
+
 commit_goes_on : (x : Present) (t : Option Transaction) → (commit_transaction x t).stops ≡ false
 unfolding commit_transaction
 commit_goes_on x None = refl
 commit_goes_on x (Some t) = released_goes_on (to_commit (course_of x t None)) _
 
 effect_goes_on : (x : Present) (process : Pid) (command : Command) → is_built_command command ≡ true → (command_effect x process command).stops ≡ false
-unfolding create_transaction
+unfolding create_transaction open_transaction get_transaction_information duplicate_handle
 effect_goes_on x process (CreateTransaction label timeout) built = refl
+effect_goes_on x process (OpenTransaction label guid) built = (done_open x process label (transaction_with x guid)).goes_on
 effect_goes_on x process (CommitTransaction label) built = commit_goes_on x (transaction_named x process label)
+effect_goes_on x process (RollbackTransaction label) built = (done_rollback x (transaction_named x process label)).goes_on
+effect_goes_on x process (GetTransactionInformation label) built = refl
 effect_goes_on x process (KvSet label key value) built = refl
 effect_goes_on x process (KvUnset label key) built = refl
 effect_goes_on x process (KvGet view key) built = refl
 effect_goes_on x process (KvList view) built = refl
+effect_goes_on x process (CloseHandle label) built = (done_close x process label).goes_on
+effect_goes_on x process (DuplicateHandle label from source) built = (done_bind x process label (object_at x.handles from source)).goes_on
+effect_goes_on x process Exit built = (done_exit x process).goes_on
 effect_goes_on x process _ built = absurd (cc)
 
 refused_goes_on : (x : Present) (tested : Option Refusal) (effect : Outcome) → effect.stops ≡ false → (refuse_or x tested effect).stops ≡ false
@@ -91,15 +168,21 @@ none_of_down [] = true
 none_of_down (test ∷ tests) = not (is_of_down test.1) && none_of_down tests
 
 tests_of_up : (x : Present) (process : Pid) (command : Command) → is_built_command command ≡ true → none_of_down (command_tests x process command) ≡ true
-unfolding is_of_down none_of_down create_transaction_tests
+unfolding is_of_down none_of_down create_transaction_tests open_transaction_tests duplicate_handle_tests
 tests_of_up x process (CreateTransaction label timeout) built = refl
+tests_of_up x process (OpenTransaction label guid) built = refl
 tests_of_up x process (CommitTransaction label) built = refl
+tests_of_up x process (RollbackTransaction label) built = refl
+tests_of_up x process (GetTransactionInformation label) built = refl
 tests_of_up x process (KvSet label key value) built = refl
 tests_of_up x process (KvUnset label key) built = refl
 tests_of_up x process (KvGet Plain key) built = refl
 tests_of_up x process (KvGet (Through label) key) built = refl
 tests_of_up x process (KvList Plain) built = refl
 tests_of_up x process (KvList (Through label)) built = refl
+tests_of_up x process (CloseHandle label) built = refl
+tests_of_up x process (DuplicateHandle label from source) built = refl
+tests_of_up x process Exit built = refl
 tests_of_up x process _ built = absurd (cc)
 
 first_not_down : (tests : List (Bool × Refusal)) → none_of_down tests ≡ true → first_refusal tests ≡ Some MachineDown → ⊥
@@ -116,9 +199,6 @@ value_not_down : (value : Option (List ℕ)) → reply_of_value value ≡ Refuse
 value_not_down None e = cc
 value_not_down (Some value) e = cc
 
-released_says : (c : Course) (o : Outcome) → (released c o).reply ≡ o.reply
-released_says c o = elim (is_undecided c.transaction) as (λ b. (cond b o (record o { forgotten = c.transaction.id ∷ []; table = without_transaction o.table c.transaction.id; own = without_own o.own c.transaction.id })).reply ≡ o.reply) [ true ↦ refl | false ↦ refl ]
-
 commit_reply_not_down : (c : Course) → commit_reply c ≡ Refused MachineDown → ⊥
 commit_reply_not_down c = go (is_ended c.transaction.phase)
   where
@@ -131,14 +211,27 @@ unfolding commit_transaction
 commit_not_down x None e = cc
 commit_not_down x (Some t) e = let c = to_commit (course_of x t None) in commit_reply_not_down c (sym (released_says c _) ∙ e)
 
+done_not_down : (o : Outcome) → IsDone o → o.reply ≡ Refused MachineDown → ⊥
+done_not_down o done e = let wrong = sym done.says ∙ e in cc
+
+information_not_down : (x : Present) (t : Option Transaction) → information_of x t ≡ Refused MachineDown → ⊥
+information_not_down x None e = cc
+information_not_down x (Some t) e = cc
+
 effect_not_down : (x : Present) (process : Pid) (command : Command) → is_built_command command ≡ true → (command_effect x process command).reply ≡ Refused MachineDown → ⊥
-unfolding create_transaction
+unfolding create_transaction open_transaction get_transaction_information duplicate_handle
 effect_not_down x process (CreateTransaction label timeout) built e = cc
+effect_not_down x process (OpenTransaction label guid) built e = done_not_down _ (done_open x process label (transaction_with x guid)) e
 effect_not_down x process (CommitTransaction label) built e = commit_not_down x (transaction_named x process label) e
+effect_not_down x process (RollbackTransaction label) built e = done_not_down _ (done_rollback x (transaction_named x process label)) e
+effect_not_down x process (GetTransactionInformation label) built e = information_not_down x (transaction_named x process label) e
 effect_not_down x process (KvSet label key value) built e = cc
 effect_not_down x process (KvUnset label key) built e = cc
 effect_not_down x process (KvGet view key) built e = value_not_down _ e
 effect_not_down x process (KvList view) built e = cc
+effect_not_down x process (CloseHandle label) built e = done_not_down _ (done_close x process label) e
+effect_not_down x process (DuplicateHandle label from source) built e = done_not_down _ (done_bind x process label (object_at x.handles from source)) e
+effect_not_down x process Exit built e = done_not_down _ (done_exit x process) e
 effect_not_down x process _ built e = absurd (cc)
 
 room_not_down : (x : Present) (tested : Option Refusal) (effect : Outcome) → (tested ≡ Some MachineDown → ⊥) → (effect.reply ≡ Refused MachineDown → ⊥) → (refuse_or x tested effect).reply ≡ Refused MachineDown → ⊥
@@ -155,5 +248,17 @@ up_not_down x process command built up =
     within_not_down x (is_full x.machine.left (with_room x process command).events) (with_room x process command)
     (room_not_down x (refusal_of x process command) (command_effect x process command) (λ e. first_not_down (command_tests x process command) (tests_of_up x process command built) (sym tested ∙ e)) (effect_not_down x process command built))
 
+-- ---- the passing of time
+
+-- whether time passes is decided by the power alone
+abbrev ticks : Present → ℕ → Bool → Outcome
+ticks x ms on = within_log x (refuse_or x (first_refusal ((not on, MachineDown) ∷ [])) (tick x ms))
+
+tick_down : (x : Present) (ms : ℕ) → x.machine.is_up ≡ false → decide_tick x ms ≡ only_reply x (Refused MachineDown)
+tick_down x ms off = ap (ticks x ms) off
+
+tick_up : (x : Present) (ms : ℕ) → IsBuiltNow x → x.machine.is_up ≡ true → decide_tick x ms ≡ tick x ms
+tick_up x ms built on = ap (ticks x ms) on ∙ ap (λ (es : List Event). cond (is_full x.machine.left es) (full_log x) (tick x ms)) (forms_law.10 x ms built).records
+
 pub decided_law : DecidedLaw
-decided_law = (refused_is, quiet_is, effect_goes_on, stopped_records_nothing, up_not_down)
+decided_law = (refused_is, quiet_is, effect_goes_on, stopped_records_nothing, up_not_down, tick_down, tick_up)

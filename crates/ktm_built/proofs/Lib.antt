@@ -1,5 +1,10 @@
 pub mod Alone
 pub mod Ids
+pub mod Found
+pub mod Rollbacks
+pub mod Leaves
+pub mod Distinct
+pub mod Timeouts
 pub mod Forms
 pub mod Decided
 pub mod Machine
@@ -10,4 +15,5 @@ pub mod Limits
 pub mod Outcomes
 pub mod Now
 pub mod Worlds
+pub mod Told
 pub mod Tellings

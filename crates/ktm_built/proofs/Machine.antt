@@ -6,19 +6,13 @@ use Rattle.ktm_world.specs.Present.{Present}
 use Rattle.ktm_built.specs.Standing.{IsBuiltNow}
 use Rattle.ktm_built.proofs.Alone.{alone, by_alone}
 use Rattle.ktm_built.proofs.Decided.{full_log}
+use Rattle.ktm_built.proofs.Leaves.{built_aside}
 
 abbrev pub with_machine : Present → Bool → ℕ → Present
 with_machine x is_up left = record x { machine = record { is_up = is_up; left = left } }
 
 pub built_machine : (x : Present) (is_up : Bool) (left : ℕ) → IsBuiltNow x → IsBuiltNow (with_machine x is_up left)
-built_machine x is_up left built = record {
-  managers = built.managers;
-  enlistments = built.enlistments;
-  last_manager = built.last_manager;
-  last_enlistment = built.last_enlistment;
-  files = built.files;
-  recorded = built.recorded;
-}
+built_machine x is_up left built = built_aside x (with_machine x is_up left) built
 
 -- a machine whose log is full is down
 pub apply-full : (x : Present) → IsBuiltNow x → apply x (full_log x) ≡ with_machine x false x.machine.left

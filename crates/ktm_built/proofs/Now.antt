@@ -1,7 +1,9 @@
 -- Each built command keeps what the machine keeps of what is so now, and what it records applies.
 use Rattle.std.proofs.Common.{◌≡◌, ℕ, ◌+◌, ◌^◌, ◌<◌, ◌≤◌, ◌==◌, not, Bool, true, false, cond, List, [], ◌∷◌, ◌++◌, length, map, filter, nat_lt, count_by, is_some, is_none, Option, None, Some, refl, sym, ◌∙◌, ap, subst, arith, inl, inr, eq-eqb, ne_eqb, le-leb, lt-ltb, length-append}
+use Rattle.std.proofs.Math.Bool.{not-not}
 use Rattle.std.proofs.lemmas.Bool.{cases_Bool, and_from, or_parts, ltb-false}
-use Rattle.std.proofs.lemmas.List.Elements.{All-from_recursion, recursion_from_All, All-nil, All-cons, All-push, All-weaker}
+use Rattle.std.proofs.lemmas.List.Elements.{recursion_from_All, All-nil, All-cons, All-push, All-weaker}
+use Rattle.std.proofs.lemmas.List.Filters.{length-filter_both}
 use Rattle.std.proofs.lemmas.List.Sums.{sum_by-append}
 use Rattle.std.specs.List.{All, AllByRecursion, flat_map}
 use Rattle.ktm_base.specs.Bytes.{AreBytes}
@@ -11,10 +13,12 @@ use Rattle.ktm_base.specs.declared.id.Pid.{Pid}
 use Rattle.ktm_base.specs.declared.refusal.Refusal.{Refusal}
 use Rattle.ktm_base.specs.declared.refusal.Refusal.TheVariants.{MachineDown}
 use Rattle.ktm_world.specs.declared.command.Command.{Command}
-use Rattle.ktm_world.specs.declared.command.Command.TheVariants.{CreateTransaction, CommitTransaction, KvSet, KvUnset, KvGet, KvList}
+use Rattle.ktm_world.specs.declared.command.Command.TheVariants.{CreateTransaction, OpenTransaction, CommitTransaction, RollbackTransaction, KvSet, KvUnset, CloseHandle, DuplicateHandle, Exit}
 use Rattle.ktm_world.specs.declared.event.Event.{Event}
 use Rattle.ktm_world.specs.declared.event.Event.TheVariants.{Single}
 use Rattle.ktm_world.specs.declared.event.Part.TheVariants.{Settings}
+use Rattle.ktm_world.specs.declared.object.Object.{Object}
+use Rattle.ktm_world.specs.declared.object.Object.TheVariants.{Transaction as TransactionObject}
 use Rattle.ktm_world.specs.declared.object.Phase.{Phase}
 use Rattle.ktm_world.specs.declared.object.Transaction.{Transaction}
 use Rattle.ktm_world.specs.declared.object.TransactionOutcome.{TransactionOutcome}
@@ -22,31 +26,37 @@ use Rattle.ktm_world.specs.declared.reply.Reply.{Reply}
 use Rattle.ktm_world.specs.declared.reply.Reply.TheVariants.{Refused, Done}
 use Rattle.ktm_world.specs.Built.{is_built_command, IsBuiltState}
 use Rattle.ktm_world.specs.Committed.{Work}
-use Rattle.ktm_world.specs.Decide.{decide, of_keys, command_tests, command_effect, refusal_of, with_room}
+use Rattle.ktm_world.specs.Decide.{decide, command_tests, command_effect, refusal_of, with_room}
 use Rattle.ktm_world.specs.Durable.{Durable, events_apply, event_applies}
-use Rattle.ktm_world.specs.Handles.{no_handle_left}
-use Rattle.ktm_world.specs.KeyCalls.{keys_with, kv_set, kv_unset, kv_get, kv_list, kv_set_tests, kv_unset_tests}
-use Rattle.ktm_world.specs.Keys.{OwnSettings, own_settings, stored_all, is_bad_key, is_bad_value, keys_used, changes_pending, is_held_by_other, are_good_settings}
-use Rattle.ktm_world.specs.Labels.{transaction_named, transaction_tests, id_of_named, viewer}
+use Rattle.ktm_world.specs.HandleCalls.{is_handle, duplicate_handle_tests}
+use Rattle.ktm_world.specs.Handles.{object_at, no_handle_left}
+use Rattle.ktm_world.specs.KeyCalls.{keys_with, kv_set_tests, kv_unset_tests}
+use Rattle.ktm_world.specs.Keys.{OwnSettings, own_settings, without_own, stored_all, is_bad_key, is_bad_value, keys_used, changes_pending, is_held_by_other, are_good_settings}
+use Rattle.ktm_world.specs.Labels.{transaction_named, transaction_tests, id_of_named}
 use Rattle.ktm_world.specs.Lawful.{Agrees, summary_of, summary_in, stage_in}
-use Rattle.ktm_world.specs.Limits.{most_live, most_number}
+use Rattle.ktm_world.specs.Limits.{most_live, most_handles, most_number}
 use Rattle.ktm_world.specs.Outcome.{Outcome, apply, only_reply, refuse_or, first_refusal, is_full}
 use Rattle.ktm_world.specs.Present.{Present}
 use Rattle.ktm_world.specs.Transactions.{same_id, transaction_at, change_at, is_live}
-use Rattle.ktm_world.specs.TransactionCalls.{create_transaction, create_transaction_tests, commit_transaction, no_transaction_left, new_id}
+use Rattle.ktm_world.specs.TransactionCalls.{create_transaction_tests, commit_transaction, no_transaction_left, new_id, transaction_with, open_transaction_tests, with_clock}
 use Rattle.ktm_world.specs.Uses.{key_room}
+use Rattle.ktm_world.specs.World.{decide_tick}
 use Rattle.ktm_world.specs.Values.{IsCommand, IsText}
 use Rattle.ktm_world.proofs.KeyLemmas.{length-stored_all-le, counted-with_own-le, counted-without_own, length-own_settings-le}
 use Rattle.ktm_world.proofs.KeyedLemmas.{count_by-cons}
-use Rattle.ktm_built.specs.Forms.{with_transaction, with_commit, commit_events, commit_works, ended_committed}
+use Rattle.ktm_built.specs.Forms.{with_transaction, with_commit, commit_events, commit_works, with_bound, with_rollback, with_unbound, with_handle_closed, with_process_gone, with_tick}
 use Rattle.ktm_built.specs.Laws.{EventsLaw, NowLaw}
 use Rattle.ktm_built.specs.Spelling.{IsShortEvent, IsShortWork}
-use Rattle.ktm_built.specs.Standing.{IsBuiltNow, IsSoundTransaction, IsSoundOwn, IsSoundNow, IsStandingNow}
-use Rattle.ktm_built.proofs.Outcomes.{decided_built, with_transaction_built, with_commit_built, with_keys_built}
-use Rattle.ktm_built.proofs.Decided.{full_log}
-use Rattle.ktm_built.proofs.Machine.{with_machine, built_machine, apply-full}
-use Rattle.ktm_built.proofs.Forms.{forms_law, named_law, commit_is, apply-only_reply}
+use Rattle.ktm_built.specs.Standing.{IsBuiltNow, IsOnCourse, IsSoundTransaction, IsSoundOwn, IsSoundNow, IsStandingNow}
+use Rattle.ktm_built.proofs.Outcomes.{decided_built}
+use Rattle.ktm_built.proofs.Decided.{full_log, decided_law}
+use Rattle.ktm_built.proofs.Distinct.{distinct-push, distinct-ended}
+use Rattle.ktm_built.proofs.Found.{transaction_at-of, All-change_at}
+use Rattle.ktm_built.proofs.Machine.{with_machine, apply-full}
+use Rattle.ktm_built.proofs.Forms.{forms_law, named_law, commit_is, apply-only_reply, effect_leaves}
+use Rattle.ktm_built.proofs.Leaves.{with_opened, with_duplicate, with_named_rollback, left_by, built_aside, ended_with, with_transaction_built, with_commit_built, with_rollback_built}
 use Rattle.ktm_built.proofs.Limits.{IsWithin, within_limits, limits_hold, room_for_keys, room_for_changes}
+use Rattle.ktm_built.proofs.Rollbacks.{keeps_closed, keeps_exit, keeps_tick}
 use Rattle.ktm_built.proofs.States.{state_law}
 use Rattle.ktm_built.proofs.Own.{IsSoundSetting, All-with_own, All-without_own, own_settings_sound, short_settings, once-with_own, once-without_own, apart-with_own, apart-without_own}
 
@@ -59,18 +69,17 @@ pub record IsPlain (x : Present) : Type 0 where
   pub keys : x.recorded.keys ≡ x.keys.store
 
 -- nothing is in the log of a transaction that is not recorded
-no_summaries : (x : Present) (boot last : ℕ) (ts : List Transaction) → AllByRecursion (IsSoundTransaction boot last) ts
-    → flat_map (λ t. cond t.is_recorded (summary_in x t (stage_in t.phase)) []) ts ≡ []
-no_summaries x boot last [] all = refl
-no_summaries x boot last (t ∷ ts) all = let none = all.0.unrecorded in rw none (no_summaries x boot last ts all.1)
+no_summaries : (x : Present) (ts : List Transaction) → AllByRecursion (λ t. t.is_recorded ≡ false) ts → flat_map (λ t. cond t.is_recorded (summary_in x t (stage_in t.phase)) []) ts ≡ []
+no_summaries x [] all = refl
+no_summaries x (t ∷ ts) all = let none = all.0 in rw none (no_summaries x ts all.1)
 
 -- it agrees with what was recorded
-agrees_of : (x : Present) → IsBuiltNow x → IsSoundNow x → x.recorded.keys ≡ x.keys.store → Agrees x
-agrees_of x built sound keys = record {
+agrees_of : (x : Present) → IsBuiltNow x → x.recorded.keys ≡ x.keys.store → Agrees x
+agrees_of x built keys = record {
   tree = ap (λ s. s.tree) built.recorded ∙ sym (ap (λ f. f.tree) built.files);
   keys = keys;
   managers = ap (λ s. s.managers) built.recorded ∙ sym (ap (λ ms. map (λ m. m.id) (filter (λ m. m.is_durable) ms)) built.managers);
-  transactions = ap (λ s. map summary_of s.transactions) built.recorded ∙ sym (no_summaries x x.recorded.boots x.transactions.last_transaction x.transactions.items (recursion_from_All _ _ sound.transactions));
+  transactions = ap (λ s. map summary_of s.transactions) built.recorded ∙ sym (no_summaries x x.transactions.items (recursion_from_All _ _ built.unrecorded));
   next_node =
       let recorded = ap (λ s. s.next_node) built.recorded in
       let now = ap (λ f. f.table.next_node) built.files in
@@ -90,7 +99,7 @@ standing_of x plain = record {
   built = plain.built;
   sound = plain.sound;
   limits = limits_hold x plain.built plain.sound.units_from plain.within;
-  agrees = agrees_of x plain.built plain.sound plain.keys;
+  agrees = agrees_of x plain.built plain.keys;
 }
 
 -- ---- what was not refused passed each test
@@ -98,53 +107,63 @@ standing_of x plain = record {
 passes : (test : Bool × Refusal) (tests : List (Bool × Refusal)) → first_refusal (test ∷ tests) ≡ None → (test.0 ≡ false) × (first_refusal tests ≡ None)
 passes test tests e = elim (cases_Bool test.0) [ inl holds ↦ cc (rw holds at e) | inr fails ↦ (fails, rw fails at e) ]
 
-passes_all : (tests : List (Bool × Refusal)) → first_refusal tests ≡ None → AllByRecursion (λ test. test.0 ≡ false) tests
+pub passes_all : (tests : List (Bool × Refusal)) → first_refusal tests ≡ None → AllByRecursion (λ test. test.0 ≡ false) tests
 passes_all [] e = tt
 passes_all (test ∷ tests) e = let parts = passes test tests e in (parts.0, passes_all tests parts.1)
 
-passes_command : (x : Present) (process : Pid) (command : Command) → refusal_of x process command ≡ None → first_refusal (command_tests x process command) ≡ None
+pub passes_command : (x : Present) (process : Pid) (command : Command) → refusal_of x process command ≡ None → first_refusal (command_tests x process command) ≡ None
 passes_command x process command e = (passes (not x.machine.is_up, MachineDown) (command_tests x process command) e).1
 
 -- ---- the transaction that is named is a sound one
 
-transaction_at-of : (P : Transaction → Type 0) (ts : List Transaction) (id : Id) (t : Transaction) → AllByRecursion P ts → transaction_at ts id ≡ Some t → P t
-transaction_at-of P [] id t all found = cc
-transaction_at-of P (u ∷ us) id t all found = elim (cases_Bool (same_id u.id id)) [
-  | inl same ↦ let is : u ≡ t = (let here = rw same at found in cc) in subst P is all.0
-  | inr other ↦ transaction_at-of P us id t all.1 (rw other at found)
-]
-
 pub sound_at : (x : Present) (t : Transaction) → IsSoundNow x → transaction_at x.transactions.items t.id ≡ Some t → IsSoundTransaction x.recorded.boots x.transactions.last_transaction t
-sound_at x t sound found = transaction_at-of (IsSoundTransaction x.recorded.boots x.transactions.last_transaction) x.transactions.items t.id t (recursion_from_All _ _ sound.transactions) found
+sound_at x t sound found = transaction_at-of (IsSoundTransaction x.recorded.boots x.transactions.last_transaction) x.transactions.items t.id t sound.transactions found
 
--- ---- only the machine changes
+-- all transactions are sound
+abbrev pub AreSound : Present → Type 0
+AreSound x = All (IsSoundTransaction x.recorded.boots x.transactions.last_transaction) x.transactions.items
 
-pub sound_machine : (x : Present) (is_up : Bool) (left : ℕ) → IsSoundNow x → IsSoundNow (with_machine x is_up left)
-sound_machine x is_up left sound = record {
+-- ---- only the machine, the clock or the handles are others
+
+-- the transactions, their settings, and how many boots and units there are, are the same
+pub sound_aside : (x y : Present) → IsSoundNow x
+    → IsSoundNow (record y { recorded = x.recorded; transactions = record y.transactions { last_transaction = x.transactions.last_transaction; items = x.transactions.items }; keys = record y.keys { own = x.keys.own } })
+sound_aside x y sound = record {
   boots_from = sound.boots_from;
   units_from = sound.units_from;
   transactions = sound.transactions;
+  distinct = sound.distinct;
   own = sound.own;
   once = sound.once;
   apart = sound.apart;
 }
 
-pub within_machine : (x : Present) (is_up : Bool) (left : ℕ) → IsWithin x → IsWithin (with_machine x is_up left)
-within_machine x is_up left within = record { keys = within.keys; changes = within.changes; live = within.live; handles = within.handles; last = within.last }
+plain_aside : (x y : Present) → length y.handles ≤ most_handles → IsPlain x → IsPlain (record x { machine = y.machine; transactions = record x.transactions { clock = y.transactions.clock }; handles = y.handles })
+plain_aside x y few plain =
+    let then = record x { machine = y.machine; transactions = record x.transactions { clock = y.transactions.clock }; handles = y.handles } in
+    record {
+      built = built_aside x then plain.built;
+      sound = sound_aside x then plain.sound;
+      within = record { keys = plain.within.keys; changes = plain.within.changes; live = plain.within.live; handles = few; last = plain.within.last };
+      keys = plain.keys;
+    }
 
-pub machine_plain : (x : Present) (is_up : Bool) (left : ℕ) → IsPlain x → IsPlain (with_machine x is_up left)
-machine_plain x is_up left plain = record {
-  built = built_machine x is_up left plain.built;
-  sound = sound_machine x is_up left plain.sound;
-  within = within_machine x is_up left plain.within;
-  keys = plain.keys;
-}
+machine_plain : (x : Present) (is_up : Bool) (left : ℕ) → IsPlain x → IsPlain (with_machine x is_up left)
+machine_plain x is_up left plain = plain_aside x (with_machine x is_up left) plain.within.handles plain
 
 -- ---- CreateTransaction
 
 -- the transaction that is made
 abbrev new_transaction : Present → ℕ → Transaction
 new_transaction x timeout = record { id = new_id x x.transactions.last_transaction; timeout = timeout; created = x.transactions.clock; phase = Phase.Active; outcome = TransactionOutcome.Undetermined; is_recorded = false }
+
+pub sound-create : (x : Present) (timeout : ℕ) → AreSound x → All (IsSoundTransaction x.recorded.boots (x.transactions.last_transaction + 1)) (x.transactions.items ++ new_transaction x timeout ∷ [])
+sound-create x timeout all =
+    let last = x.transactions.last_transaction in
+    All-push (IsSoundTransaction x.recorded.boots (last + 1)) x.transactions.items (new_transaction x timeout)
+    (All-weaker (IsSoundTransaction x.recorded.boots last) (IsSoundTransaction x.recorded.boots (last + 1))
+    (λ t sound. record { boot_is = sound.boot_is; number_from = sound.number_from; number_to = omega (arith, sound.number_to); course = sound.course }) x.transactions.items all)
+    (record { boot_is = refl; number_from = omega arith; number_to = omega arith; course = tt })
 
 create_plain : (x : Present) (process : Pid) (label : Label) (timeout : ℕ) → IsPlain x → first_refusal (create_transaction_tests x process label) ≡ None
     → IsPlain (with_transaction x process label timeout)
@@ -163,10 +182,8 @@ create_plain x process label timeout plain e =
       sound = record {
         boots_from = plain.sound.boots_from;
         units_from = plain.sound.units_from;
-        transactions = All-push (IsSoundTransaction x.recorded.boots (last + 1)) x.transactions.items (new_transaction x timeout)
-            (All-weaker (IsSoundTransaction x.recorded.boots last) (IsSoundTransaction x.recorded.boots (last + 1))
-            (λ t sound. record { boot_is = sound.boot_is; number_from = sound.number_from; number_to = omega (arith, sound.number_to); course = sound.course; unrecorded = sound.unrecorded }) x.transactions.items plain.sound.transactions)
-            (record { boot_is = refl; number_from = omega arith; number_to = omega arith; course = tt; unrecorded = refl });
+        transactions = sound-create x timeout plain.sound.transactions;
+        distinct = distinct-push x.recorded.boots last x.transactions.items new (recursion_from_All _ _ plain.sound.transactions) refl plain.sound.distinct;
         own = plain.sound.own;
         once = plain.sound.once;
         apart = plain.sound.apart;
@@ -181,28 +198,46 @@ create_plain x process label timeout plain e =
       keys = plain.keys;
     }
 
--- ---- CommitTransaction
+-- ---- transactions that end
 
 -- a transaction that ends is live no more
-live-ended-le : (ts : List Transaction) (id : Id) → count_by is_live (change_at ts id ended_committed) ≤ count_by is_live ts
-live-ended-le [] id = omega arith
-live-ended-le (t ∷ ts) id =
+live-ended-le : (outcome : TransactionOutcome) (ts : List Transaction) (id : Id) → count_by is_live (change_at ts id (ended_with outcome)) ≤ count_by is_live ts
+live-ended-le outcome [] id = omega arith
+live-ended-le outcome (t ∷ ts) id =
     let old = count_by-cons is_live t ts in
     elim (cases_Bool (same_id t.id id)) [
-      | inl same ↦ let new = count_by-cons is_live (ended_committed t) ts in rw same (omega (arith, old, new))
+      | inl same ↦ let new = count_by-cons is_live (ended_with outcome t) ts in rw same (omega (arith, old, new))
       | inr other ↦
-          let new = count_by-cons is_live t (change_at ts id ended_committed) in
-          let rest = live-ended-le ts id in
+          let new = count_by-cons is_live t (change_at ts id (ended_with outcome)) in
+          let rest = live-ended-le outcome ts id in
           rw other (omega (arith, old, new, rest))
     ]
 
-sound-ended : (boot last : ℕ) (ts : List Transaction) (id : Id) → AllByRecursion (IsSoundTransaction boot last) ts → AllByRecursion (IsSoundTransaction boot last) (change_at ts id ended_committed)
-sound-ended boot last [] id all = tt
-sound-ended boot last (t ∷ ts) id all =
-    let here : IsSoundTransaction boot last (ended_committed t) =
-    record { boot_is = all.0.boot_is; number_from = all.0.number_from; number_to = all.0.number_to; course = tt; unrecorded = all.0.unrecorded } in
-    let rest = sound-ended boot last ts id all.1 in
-    elim (cases_Bool (same_id t.id id)) [ inl same ↦ rw same (here, all.1) | inr other ↦ rw other (all.0, rest) ]
+-- the sound transactions are sound once one has ended
+pub sound-ended : (x : Present) (id : Id) (outcome : TransactionOutcome) → IsOnCourse Phase.Ended outcome → AreSound x
+    → All (IsSoundTransaction x.recorded.boots x.transactions.last_transaction) (change_at x.transactions.items id (ended_with outcome))
+sound-ended x id outcome course all =
+    All-change_at (IsSoundTransaction x.recorded.boots x.transactions.last_transaction) (ended_with outcome)
+    (λ t sound. record { boot_is = sound.boot_is; number_from = sound.number_from; number_to = sound.number_to; course = course }) x.transactions.items id all
+
+-- once a transaction has ended, without its own settings, all is sound that was
+sound_once_ended : (x y : Present) (id : Id) (outcome : TransactionOutcome) → IsOnCourse Phase.Ended outcome → IsSoundNow x
+    → IsSoundNow (record y {
+      recorded = record y.recorded { boots = x.recorded.boots; units = x.recorded.units };
+      transactions = record x.transactions { items = change_at x.transactions.items id (ended_with outcome) };
+      keys = record y.keys { own = without_own x.keys.own id };
+    })
+sound_once_ended x y id outcome course sound = record {
+  boots_from = sound.boots_from;
+  units_from = sound.units_from;
+  transactions = sound-ended x id outcome course sound.transactions;
+  distinct = distinct-ended outcome x.transactions.items id sound.distinct;
+  own = All-without_own x.recorded.boots id x.keys.own sound.own;
+  once = once-without_own x.keys.own id sound.once;
+  apart = apart-without_own x.keys.own id sound.once sound.apart;
+}
+
+-- ---- CommitTransaction
 
 -- the store and the keys that others set are within the units
 few_stored : (x : Present) (id : Id) → IsPlain x → length (stored_all x.keys.store (own_settings x.keys.own id)) ≤ x.recorded.units
@@ -218,17 +253,10 @@ commit_plain x t plain =
     let less = length-stored_all-le x.keys.store settings in
     let used = counted-without_own (λ s. is_some s.value) t.id x.keys.own in
     let pending = counted-without_own (λ s. is_none s.value) t.id x.keys.own in
-    let live = live-ended-le x.transactions.items t.id in
+    let live = live-ended-le TransactionOutcome.Committed x.transactions.items t.id in
     record {
       built = with_commit_built x t plain.built;
-      sound = record {
-        boots_from = plain.sound.boots_from;
-        units_from = plain.sound.units_from;
-        transactions = All-from_recursion _ _ (sound-ended x.recorded.boots x.transactions.last_transaction x.transactions.items t.id (recursion_from_All _ _ plain.sound.transactions));
-        own = All-without_own x.recorded.boots t.id x.keys.own plain.sound.own;
-        once = once-without_own x.keys.own t.id plain.sound.once;
-        apart = apart-without_own x.keys.own t.id plain.sound.once plain.sound.apart;
-      };
+      sound = sound_once_ended x (with_commit x t) t.id TransactionOutcome.Committed tt plain.sound;
       within = record {
         keys = omega (arith, less, used, plain.within.keys);
         changes = omega (arith, pending, plain.within.changes);
@@ -239,6 +267,63 @@ commit_plain x t plain =
       keys = ap (λ store. stored_all store settings) plain.keys;
     }
 
+-- ---- labels
+
+bound_plain : (x : Present) (process : Pid) (label : Label) (object : Object) → no_handle_left x.handles ≡ false → IsPlain x → IsPlain (with_bound x process label object)
+bound_plain x process label object left plain =
+    let room = ltb-false _ _ left in
+    let longer = length-append x.handles (record { process = process; label = label; object = object } ∷ []) in
+    plain_aside x (with_bound x process label object) (omega (arith, room, longer)) plain
+
+unbound_plain : (x : Present) (process : Pid) (label : Label) → IsPlain x → IsPlain (with_unbound x process label)
+unbound_plain x process label plain =
+    let fewer = length-filter_both (λ h. not (is_handle process label h)) (λ h. is_handle process label h) (λ h. sym (not-not (is_handle process label h))) x.handles in
+    plain_aside x (with_unbound x process label) (omega (arith, fewer, plain.within.handles)) plain
+
+opened_plain : (x : Present) (process : Pid) (label : Label) (named : Option Transaction) → no_handle_left x.handles ≡ false → IsPlain x → IsPlain (with_opened x process label named)
+opened_plain x process label None left plain = plain
+opened_plain x process label (Some t) left plain = bound_plain x process label (TransactionObject t.id) left plain
+
+duplicate_plain : (x : Present) (process : Pid) (label : Label) (named : Option Object) → no_handle_left x.handles ≡ false → IsPlain x → IsPlain (with_duplicate x process label named)
+duplicate_plain x process label None left plain = plain
+duplicate_plain x process label (Some object) left plain = bound_plain x process label object left plain
+
+-- ---- rollbacks
+
+rollback_plain : (x : Present) (t : Transaction) → IsPlain x → IsPlain (with_rollback x t)
+rollback_plain x t plain =
+    let used = counted-without_own (λ s. is_some s.value) t.id x.keys.own in
+    let pending = counted-without_own (λ s. is_none s.value) t.id x.keys.own in
+    let live = live-ended-le TransactionOutcome.Aborted x.transactions.items t.id in
+    record {
+      built = with_rollback_built x t plain.built;
+      sound = sound_once_ended x (with_rollback x t) t.id TransactionOutcome.Aborted tt plain.sound;
+      within = record {
+        keys = omega (arith, used, plain.within.keys);
+        changes = omega (arith, pending, plain.within.changes);
+        live = omega (arith, live, plain.within.live);
+        handles = plain.within.handles;
+        last = plain.within.last;
+      };
+      keys = plain.keys;
+    }
+
+named_rollback_plain : (x : Present) (named : Option Transaction) → IsPlain x → IsPlain (with_named_rollback x named)
+named_rollback_plain x None plain = plain
+named_rollback_plain x (Some t) plain = rollback_plain x t plain
+
+clock_plain : (x : Present) (ms : ℕ) → IsPlain x → IsPlain (with_clock x ms)
+clock_plain x ms plain = plain_aside x (with_clock x ms) plain.within.handles plain
+
+closed_plain : (x : Present) (process : Pid) (label : Label) → IsPlain x → IsPlain (with_handle_closed x process label)
+closed_plain = keeps_closed IsPlain (λ x t found may. rollback_plain x t) unbound_plain clock_plain
+
+exit_plain : (x : Present) (process : Pid) → IsPlain x → IsPlain (with_process_gone x process)
+exit_plain = keeps_exit IsPlain (λ x t found may. rollback_plain x t) unbound_plain clock_plain
+
+tick_plain : (x : Present) (ms : ℕ) → IsPlain x → IsPlain (with_tick x ms)
+tick_plain = keeps_tick IsPlain (λ x t found may. rollback_plain x t) unbound_plain clock_plain
+
 -- ---- KvSet and KvUnset
 
 -- the keys alone are others
@@ -246,11 +331,12 @@ keys_plain : (x : Present) (t : Transaction) (key : List ℕ) (value : Option (L
     → is_held_by_other x.keys.own t.id key ≡ false → keys_used (keys_with x.keys (Some t.id) key value) ≤ x.recorded.units → changes_pending (keys_with x.keys (Some t.id) key value) ≤ x.recorded.units
     → IsPlain x → IsPlain (record x { keys = keys_with x.keys (Some t.id) key value })
 keys_plain x t key value setting of_boot free used pending plain = record {
-  built = with_keys_built x (keys_with x.keys (Some t.id) key value) plain.built;
+  built = built_aside x (record x { keys = keys_with x.keys (Some t.id) key value }) plain.built;
   sound = record {
     boots_from = plain.sound.boots_from;
     units_from = plain.sound.units_from;
     transactions = plain.sound.transactions;
+    distinct = plain.sound.distinct;
     own = All-with_own x.recorded.boots t.id key value of_boot setting x.keys.own plain.sound.own;
     once = once-with_own x.keys.own t.id key value plain.sound.once;
     apart = apart-with_own x.keys.own t.id key value free plain.sound.apart;
@@ -289,26 +375,33 @@ commit_effect x None at plain = replied_plain x Done plain
 commit_effect x (Some t) at plain = subst IsPlain (sym (forms_law.3 x t plain.built (at t refl))) (commit_plain x t plain)
 
 set_effect : (x : Present) (named : Option Transaction) (key value : List ℕ) → ((t : Transaction) → named ≡ Some t → transaction_at x.transactions.items t.id ≡ Some t) → IsText key → AreBytes value → IsPlain x
-    → first_refusal (transaction_tests named ++ kv_set_tests x.keys (key_room x) (id_of_named named) key value) ≡ None → IsPlain (apply x (of_keys x (kv_set x.keys (id_of_named named) key value)))
+    → first_refusal (transaction_tests named ++ kv_set_tests x.keys (key_room x) (id_of_named named) key value) ≡ None → IsPlain (record x { keys = keys_with x.keys (id_of_named named) key (Some value) })
 set_effect x None key value at text bytes plain e = absurd (cc)
-set_effect x (Some t) key value at text bytes plain e =
-    subst IsPlain (sym (forms_law.4 x t key value plain.built)) (set_plain x t key value text bytes (sound_at x t plain.sound (at t refl)) plain e)
+set_effect x (Some t) key value at text bytes plain e = set_plain x t key value text bytes (sound_at x t plain.sound (at t refl)) plain e
 
 unset_effect : (x : Present) (named : Option Transaction) (key : List ℕ) → ((t : Transaction) → named ≡ Some t → transaction_at x.transactions.items t.id ≡ Some t) → IsText key → IsPlain x
-    → first_refusal (transaction_tests named ++ kv_unset_tests x.keys (key_room x) (id_of_named named) key) ≡ None → IsPlain (apply x (of_keys x (kv_unset x.keys (id_of_named named) key)))
+    → first_refusal (transaction_tests named ++ kv_unset_tests x.keys (key_room x) (id_of_named named) key) ≡ None → IsPlain (record x { keys = keys_with x.keys (id_of_named named) key None })
 unset_effect x None key at text plain e = absurd (cc)
-unset_effect x (Some t) key at text plain e =
-    subst IsPlain (sym (forms_law.5 x t key plain.built)) (unset_plain x t key text (sound_at x t plain.sound (at t refl)) plain e)
+unset_effect x (Some t) key at text plain e = unset_plain x t key text (sound_at x t plain.sound (at t refl)) plain e
+
+-- what a command leaves that records nothing
+left_plain : (x : Present) (process : Pid) (command : Command) → IsCommand command → IsPlain x → first_refusal (command_tests x process command) ≡ None → IsPlain (left_by x process command)
+unfolding open_transaction_tests duplicate_handle_tests
+left_plain x process (CreateTransaction label timeout) is plain e = create_plain x process label timeout plain e
+left_plain x process (OpenTransaction label guid) is plain e = opened_plain x process label (transaction_with x guid) (passes_all (open_transaction_tests x process label guid) e).1.1.0 plain
+left_plain x process (RollbackTransaction label) is plain e = named_rollback_plain x (transaction_named x process label) plain
+left_plain x process (KvSet label key value) is plain e = set_effect x (transaction_named x process label) key value (named_law x process label) is.1 is.2 plain e
+left_plain x process (KvUnset label key) is plain e = unset_effect x (transaction_named x process label) key (named_law x process label) is.1 plain e
+left_plain x process (CloseHandle label) is plain e = closed_plain x process label plain
+left_plain x process (DuplicateHandle label from source) is plain e =
+    duplicate_plain x process label (object_at x.handles from source) (passes_all (duplicate_handle_tests x process label from source) e).1.1.1.0 plain
+left_plain x process Exit is plain e = exit_plain x process plain
+left_plain x process _ is plain e = plain
 
 effect_plain : (x : Present) (process : Pid) (command : Command) → IsCommand command → is_built_command command ≡ true → IsPlain x → first_refusal (command_tests x process command) ≡ None
     → IsPlain (apply x (command_effect x process command))
-effect_plain x process (CreateTransaction label timeout) is built plain e = subst IsPlain (sym (forms_law.1 x process label timeout plain.built)) (create_plain x process label timeout plain e)
 effect_plain x process (CommitTransaction label) is built plain e = commit_effect x (transaction_named x process label) (named_law x process label) plain
-effect_plain x process (KvSet label key value) is built plain e = set_effect x (transaction_named x process label) key value (named_law x process label) is.1 is.2 plain e
-effect_plain x process (KvUnset label key) is built plain e = unset_effect x (transaction_named x process label) key (named_law x process label) is.1 plain e
-effect_plain x process (KvGet view key) is built plain e = replied_plain x (kv_get x.keys (viewer x process view) key).reply plain
-effect_plain x process (KvList view) is built plain e = replied_plain x (kv_list x.keys (viewer x process view)).reply plain
-effect_plain x process _ is built plain e = absurd (cc)
+effect_plain x process command is built plain e = subst IsPlain (sym (effect_leaves x process command built plain.built).leaves) (left_plain x process command is plain e)
 
 -- ---- every outcome
 
@@ -325,6 +418,14 @@ decided_plain x process command is built plain =
     logged_plain x (is_full x.machine.left (with_room x process command).events) (with_room x process command) plain
     (refused_plain x (refusal_of x process command) (command_effect x process command) plain
     (λ e. effect_plain x process command is built plain (passes_command x process command e)))
+
+-- the passing of time, whether the machine is up or down
+pub ticked_plain : (x : Present) (ms : ℕ) → IsPlain x → IsPlain (apply x (decide_tick x ms))
+ticked_plain x ms plain = elim (cases_Bool x.machine.is_up) [
+  | inl on ↦
+      subst (λ (o : Outcome). IsPlain (apply x o)) (sym (decided_law.6 x ms plain.built on)) (subst IsPlain (sym (forms_law.10 x ms plain.built).leaves) (tick_plain x ms plain))
+  | inr off ↦ subst (λ (o : Outcome). IsPlain (apply x o)) (sym (decided_law.5 x ms off)) (replied_plain x (Refused MachineDown) plain)
+]
 
 -- ---- what a command records
 
@@ -384,15 +485,12 @@ records-named x (Some t) at plain =
     (records-commit x t.id settings plain.built.recorded plain.sound.boots_from plain.sound.units_from sound.number_from
     (own_settings_sound x.recorded.boots t.id sound.boot_is x.keys.own plain.sound.own) work.few (omega (arith, same, room)))
 
+pub records-quiet : (x : Present) (o : Outcome) → (o.events ≡ []) × (o.works ≡ []) → Records x o.events o.works
+records-quiet x o none = subst (λ (works : List Work). Records x o.events works) (sym none.1) (subst (λ (events : List Event). Records x events []) (sym none.0) (records-none x))
+
 records-effect : (x : Present) (process : Pid) (command : Command) → is_built_command command ≡ true → IsPlain x → Records x (command_effect x process command).events (command_effect x process command).works
-unfolding create_transaction
-records-effect x process (CreateTransaction label timeout) built plain = records-none x
 records-effect x process (CommitTransaction label) built plain = records-named x (transaction_named x process label) (named_law x process label) plain
-records-effect x process (KvSet label key value) built plain = records-none x
-records-effect x process (KvUnset label key) built plain = records-none x
-records-effect x process (KvGet view key) built plain = records-none x
-records-effect x process (KvList view) built plain = records-none x
-records-effect x process _ built plain = absurd (cc)
+records-effect x process command built plain = records-quiet x (command_effect x process command) (effect_leaves x process command built plain.built).nothing
 
 records-refuse_or : (x : Present) (tested : Option Refusal) (effect : Outcome) → Records x effect.events effect.works → Records x (refuse_or x tested effect).events (refuse_or x tested effect).works
 records-refuse_or x None effect records = records
@@ -407,14 +505,23 @@ records-decided x process command built plain =
     records-logged x (is_full x.machine.left (with_room x process command).events) (with_room x process command)
     (records-refuse_or x (refusal_of x process command) (command_effect x process command) (records-effect x process command built plain))
 
+-- the passing of time records and commits nothing
+pub ticked_nothing : (x : Present) (ms : ℕ) → IsBuiltNow x → ((decide_tick x ms).events ≡ []) × ((decide_tick x ms).works ≡ [])
+ticked_nothing x ms built = elim (cases_Bool x.machine.is_up) [
+  | inl on ↦ (let comes = forms_law.10 x ms built in let is = decided_law.6 x ms built on in (ap (λ (o : Outcome). o.events) is ∙ comes.records, ap (λ (o : Outcome). o.works) is ∙ comes.commits))
+  | inr off ↦ (let is = decided_law.5 x ms off in (ap (λ (o : Outcome). o.events) is, ap (λ (o : Outcome). o.works) is))
+]
+
 pub events_law : EventsLaw
 events_law = (
   λ x process command built standing. let records = records-decided x process command built (plain_of x standing) in ((decided_built x process command built standing.built).events, records.applies, records.short),
   λ x t standing found. short_work x t (plain_of x standing) found,
+  λ x ms built. (ticked_nothing x ms built).0,
 )
 
 pub now_law : NowLaw
 now_law = (
   λ x process command is built standing. standing_of _ (decided_plain x process command is built (plain_of x standing)),
   λ w standing on. record { built = standing.built.now; sound = standing.sound; limits = standing.lawful.limits; agrees = (standing.lawful.stands on).agrees },
+  λ x ms standing. standing_of _ (ticked_plain x ms (plain_of x standing)),
 )

@@ -22,11 +22,11 @@ use Rattle.ktm_world.specs.Durable.{Durable, stand, after_event, after_events, e
 use Rattle.ktm_world.specs.Laws.{FirstOpensLieWithin}
 use Rattle.ktm_world.specs.Lawful.{IsLawful, StandsForLog, all_apart, hold_apart, works_apply}
 use Rattle.ktm_world.specs.Logs.{Group, Power, up, down, is_up, as_groups, kept_after, possible_by, prefixes_from}
-use Rattle.ktm_world.specs.Outcome.{Outcome, first_refusal}
+use Rattle.ktm_world.specs.Outcome.{Outcome, apply, first_refusal}
 use Rattle.ktm_world.specs.Present.{Present}
 use Rattle.ktm_world.specs.Sizes.{frame_size, log_size}
 use Rattle.ktm_world.specs.Tree.{IsWellFormed}
-use Rattle.ktm_world.specs.World.{World, committed, present, extend, after, power_after, possible_logs, opened, own_group, first_open_now}
+use Rattle.ktm_world.specs.World.{World, committed, present, extend, after, decide_tick, power_after, possible_logs, opened, own_group, first_open_now}
 use Rattle.ktm_world.specs.Values.{IsCommand}
 use Rattle.ktm_world.proofs.SizeLemmas.{log_size-append}
 use Rattle.ktm_world.proofs.Worlds.{present-extend, refusal_law}
@@ -39,9 +39,9 @@ use Rattle.ktm_built.proofs.Logs.{contains_passes, prefixes_built, groups_built,
 use Rattle.ktm_world.proofs.BuiltStates.{built_stand, own_is}
 use Rattle.ktm_world.proofs.Durables.{stand-append, stand-as_groups, log_applies-append, log_applies-as_groups}
 use Rattle.ktm_built.proofs.Machine.{with_machine, built_machine}
-use Rattle.ktm_built.proofs.Now.{IsPlain, plain_of, standing_of, sound_machine, within_machine, decided_plain, records-decided, now_law}
+use Rattle.ktm_built.proofs.Now.{IsPlain, plain_of, standing_of, sound_aside, decided_plain, ticked_plain, Records, records-decided, records-quiet, ticked_nothing, now_law}
 use Rattle.ktm_built.proofs.States.{state_law}
-use Rattle.ktm_built.proofs.Outcomes.{decided_built}
+use Rattle.ktm_built.proofs.Outcomes.{IsBuiltOutcome, decided_built, ticked_built}
 
 -- ---- a built world has no first opens, and no open files
 
@@ -59,7 +59,7 @@ no_first_opens w built = map-none (first_open_now w) w.first_opens (ap (λ f. f.
 no_table : (w : World) → IsBuiltNow (present w) → w.table ≡ no_files.table
 no_table w built = ap (λ f. f.table) built.files
 
-lie_within : (w : World) → IsBuiltNow (present w) → FirstOpensLieWithin w
+pub lie_within : (w : World) → IsBuiltNow (present w) → FirstOpensLieWithin w
 lie_within w built = record { works = λ k d within. absurd (no_place w.first_opens k (no_first_opens w built) within) }
 
 -- ---- no two transactions hold the same
@@ -106,7 +106,7 @@ unchanged_apply : (c : Committed) (ws : List Work) → AllByRecursion (λ (work 
 unchanged_apply c [] all = refl
 unchanged_apply c (w ∷ ws) all = and_from _ _ (ap (λ changes. apply_all c.tree changes) all.0) (unchanged_apply (with_work c w) ws all.1)
 
-kept_after-all : (kept : ℕ) (log : List Group) (events : List Event) → kept ≡ length log → kept_after kept log events ≡ length (log ++ as_groups events)
+pub kept_after-all : (kept : ℕ) (log : List Group) (events : List Event) → kept ≡ length log → kept_after kept log events ≡ length (log ++ as_groups events)
 kept_after-all kept log [] all = all ∙ ap length (sym (append-nil log))
 kept_after-all kept log (event ∷ events) all = sym (length-append log ((event ∷ events) ∷ []))
 
@@ -121,11 +121,9 @@ possible_after p kept log true w is built logs = logs
 possible_after up kept log false w is built logs = rw is (prefixes_built kept log built)
 possible_after (down may) kept log false w is built logs = rw is (rw is at logs)
 
--- a world stays built
-pub built_after : (w : World) (process : Pid) (command : Command) → is_built_command command ≡ true → IsBuiltWorld w → IsBuiltWorld (after w process command)
-built_after w process command is built =
-    let o = decide (present w) process command in
-    let outcome = decided_built (present w) process command is built.now in
+-- a world stays built after an outcome that leaves what built forms make
+pub built_extend : (w : World) (o : Outcome) → IsBuiltOutcome (present w) o → IsBuiltWorld w → IsBuiltWorld (extend w o)
+built_extend w o outcome built =
     let log = groups_built w.log o.events built.log outcome.events in
     record {
       base = built.base;
@@ -145,34 +143,49 @@ stands_after w o stands applies now = record {
 }
 
 -- on a machine that is up
-standing_up : (w : World) (process : Pid) (command : Command) → IsCommand command → is_built_command command ≡ true → (after w process command).recorded.events < 2 ^ 63
-    → is_up w.power ≡ true → IsStanding w → IsStanding (after w process command)
-standing_up w process command is built few on standing =
-    let o = decide (present w) process command in
-    let before = plain_of (present w) (now_law.1 w standing on) in
-    let plain : IsPlain (present (extend w o)) =
-    subst IsPlain (sym (present-extend w o (lie_within w standing.built.now))) (decided_plain (present w) process command is built before) in
-    let records = records-decided (present w) process command built before in
+standing_up : (w : World) (o : Outcome) → IsBuiltOutcome (present w) o → IsPlain (apply (present w) o) → Records (present w) o.events o.works → (extend w o).recorded.events < 2 ^ 63
+    → is_up w.power ≡ true → IsStanding w → IsStanding (extend w o)
+standing_up w o outcome after records few on standing =
+    let plain : IsPlain (present (extend w o)) = subst IsPlain (sym (present-extend w o (lie_within w standing.built.now))) after in
     let more = after_events-events w.recorded o.events in
     let applies = records.applies (omega (arith, more, few)) in
     let works = works_apply-append w.start w.works o.works ∙ and_from _ _ standing.lawful.works.1 (unchanged_apply (committed w) o.works records.unchanged) in
     record {
       lawful = lawful_of (extend w o) plain.built plain.sound plain.within (standing.lawful.works.0, works)
           (λ still. stands_after w o (standing.lawful.stands on) applies (standing_of (present (extend w o)) plain));
-      built = built_after w process command built standing.built;
+      built = built_extend w o outcome standing.built;
       sound = plain.sound;
       kept = λ still. kept_after-all w.kept w.log o.events (standing.kept on);
       few = few;
     }
 
-pub lawful_law : LawfulLaw
-lawful_law w process command is built few standing = elim (cases_Bool (is_up w.power)) [
-  | inl on ↦ standing_up w process command is built few on standing
-  | inr off ↦
-      (let refused : refusal_of (present w) process command ≡ Some MachineDown =
-      ap (λ on. cond (not on) (Some MachineDown) (first_refusal (command_tests (present w) process command))) off in
-      subst IsStanding (sym (refusal_law.0 w process command MachineDown refused)) standing)
+-- a machine that is down refuses every command
+pub down_refuses : (w : World) (process : Pid) (command : Command) → is_up w.power ≡ false → refusal_of (present w) process command ≡ Some MachineDown
+down_refuses w process command off = ap (λ on. cond (not on) (Some MachineDown) (first_refusal (command_tests (present w) process command))) off
+
+standing_after : (w : World) (process : Pid) (command : Command) → IsCommand command → is_built_command command ≡ true → (after w process command).recorded.events < 2 ^ 63
+    → IsStanding w → IsStanding (after w process command)
+standing_after w process command is built few standing = elim (cases_Bool (is_up w.power)) [
+  | inl on ↦
+      (let before = plain_of (present w) (now_law.1 w standing on) in
+      standing_up w (decide (present w) process command) (decided_built (present w) process command built standing.built.now) (decided_plain (present w) process command is built before)
+      (records-decided (present w) process command built before) few on standing)
+  | inr off ↦ subst IsStanding (sym (refusal_law.0 w process command MachineDown (down_refuses w process command off))) standing
 ]
+
+standing_later : (w : World) (ms : ℕ) → IsStanding w → IsStanding (extend w (decide_tick (present w) ms))
+standing_later w ms standing = elim (cases_Bool (is_up w.power)) [
+  | inl on ↦
+      (let o = decide_tick (present w) ms in
+      let nothing = ticked_nothing (present w) ms standing.built.now in
+      let same : (extend w o).recorded.events ≡ w.recorded.events = ap (λ events. (after_events w.recorded events).events) nothing.0 in
+      standing_up w o (ticked_built (present w) ms standing.built.now) (ticked_plain (present w) ms (plain_of (present w) (now_law.1 w standing on)))
+      (records-quiet (present w) o nothing) (omega (arith, same, standing.few)) on standing)
+  | inr off ↦ subst IsStanding (sym (refusal_law.1 w ms off)) standing
+]
+
+pub lawful_law : LawfulLaw
+lawful_law = (standing_after, standing_later)
 
 -- ---- where a restart opens it
 
@@ -200,13 +213,14 @@ fresh_built s left state = record {
   last_manager = refl;
   last_enlistment = refl;
   files = refl;
+  unrecorded = All-nil _;
   recorded = ap (λ (t : Durable). record t { events = s.events + 1; boots = s.boots + 1 }) state;
 }
 
 fresh_plain : (s : Durable) (left : ℕ) → IsBuiltState s → BootFits s → IsPlain (fresh s left)
 fresh_plain s left state fits = record {
   built = fresh_built s left state;
-  sound = record { boots_from = omega arith; units_from = fits.units; transactions = All-nil _; own = All-nil _; once = tt; apart = λ a b other. refl };
+  sound = record { boots_from = omega arith; units_from = fits.units; transactions = All-nil _; distinct = tt; own = All-nil _; once = tt; apart = λ a b other. refl };
   within = record { keys = omega (arith, fits.keys); changes = omega arith; live = omega arith; handles = omega arith; last = omega arith };
   keys = refl;
 }
@@ -274,8 +288,9 @@ power_falls w may logs standing =
     let x = present w in
     let left = x.machine.left in
     let built = built_falls w may logs standing.built in
-    let sound = sound_machine x false left standing.sound in
-    let within = within_machine x false left (within_limits x standing.built.now standing.sound.units_from standing.lawful.limits) in
+    let sound = sound_aside x (with_machine x false left) standing.sound in
+    let before = within_limits x standing.built.now standing.sound.units_from standing.lawful.limits in
+    let within : IsWithin (with_machine x false left) = record { keys = before.keys; changes = before.changes; live = before.live; handles = before.handles; last = before.last } in
     record {
       lawful = lawful_of (record w { power = down may }) built.now sound within standing.lawful.works (λ on. absurd (cc));
       built = built;
@@ -284,9 +299,8 @@ power_falls w may logs standing =
       few = standing.few;
     }
 
-pub interrupted_logs : (w : World) (process : Pid) (command : Command) → is_built_command command ≡ true → IsBuiltWorld w
-    → list_all is_built_log (prefixes_from w.kept (w.log ++ as_groups (decide (present w) process command).events)) ≡ true
-interrupted_logs w process command is built = prefixes_built w.kept _ (groups_built w.log _ built.log (decided_built (present w) process command is built.now).events)
+pub interrupted_logs : (w : World) (o : Outcome) → IsBuiltOutcome (present w) o → IsBuiltWorld w → list_all is_built_log (prefixes_from w.kept (w.log ++ as_groups o.events)) ≡ true
+interrupted_logs w o outcome built = prefixes_built w.kept _ (groups_built w.log o.events built.log outcome.events)
 
 pub restart_logs : (w : World) → IsBuiltWorld w → list_all is_built_log (possible_logs w ++ map (λ l. l ++ own_group (stand w.base l) ∷ []) (possible_logs w)) ≡ true
 restart_logs w built = list_all-append is_built_log (possible_logs w) _ ∙ and_from _ _ built.logs (logs_with_own w.base (possible_logs w) built.base built.logs)
@@ -297,7 +311,8 @@ full_logs w log possible built = and_from _ _ (contains_passes is_built_log (pos
 pub fallen_law : FallenLaw
 fallen_law = (
   λ w standing. power_falls w (possible_logs w) standing.built.logs standing,
-  λ w process command is standing. power_falls w _ (interrupted_logs w process command is standing.built) standing,
+  λ w process command is standing. power_falls w _ (interrupted_logs w (decide (present w) process command) (decided_built (present w) process command is standing.built.now) standing.built) standing,
   λ w standing. power_falls w _ (restart_logs w standing.built) standing,
   λ w log possible standing. power_falls w (log ∷ []) (full_logs w log possible standing.built) standing,
+  λ w ms standing. power_falls w _ (interrupted_logs w (decide_tick (present w) ms) (ticked_built (present w) ms standing.built.now) standing.built) standing,
 )

@@ -1,5 +1,5 @@
 -- Laws of worlds that have only what built forms make.
-use Rattle.std.specs.Prelude.{◌≡◌, ℕ, ◌+◌, ◌-◌, ◌^◌, ◌==◌, ◌<◌, ◌&&◌, nat_lt, nat_le, true, false, List, [], length, All, Contains, Option, Some, None}
+use Rattle.std.specs.Prelude.{◌≡◌, ℕ, ◌+◌, ◌-◌, ◌^◌, ◌==◌, ◌<◌, ◌&&◌, nat_lt, nat_le, true, false, List, [], length, filter, fold, All, Contains, Option, Some, None}
 use Rattle.std.specs.List.{list_all}
 use Rattle.ktm_base.specs.declared.id.Id.{Id}
 use Rattle.ktm_base.specs.declared.id.Label.{Label}
@@ -10,12 +10,16 @@ use Rattle.ktm_world.specs.declared.command.Command.{Command}
 use Rattle.ktm_world.specs.declared.command.Line.{Line}
 use Rattle.ktm_world.specs.declared.event.Event.TheVariants.{Boot, Single}
 use Rattle.ktm_world.specs.declared.event.Part.TheVariants.{Settings}
+use Rattle.ktm_world.specs.declared.object.Object.{Object}
+use Rattle.ktm_world.specs.declared.object.Object.TheVariants.{Transaction as TransactionObject}
 use Rattle.ktm_world.specs.declared.object.Transaction.{Transaction}
 use Rattle.ktm_world.specs.declared.reply.Reply.{Reply}
-use Rattle.ktm_world.specs.declared.reply.Reply.TheVariants.{Refused}
+use Rattle.ktm_world.specs.declared.reply.Reply.TheVariants.{Refused, Done}
 use Rattle.ktm_world.specs.Built.{is_built_command, is_built_event, is_built_log, is_built_line, IsBuiltState}
 use Rattle.ktm_world.specs.Decide.{decide, with_room, command_effect, refusal_of, of_keys}
 use Rattle.ktm_world.specs.Durable.{Durable, stand, after_event, event_applies, events_apply, log_applies}
+use Rattle.ktm_world.specs.HandleCalls.{close_handle, duplicate_handle, exit}
+use Rattle.ktm_world.specs.Handles.{object_at}
 use Rattle.ktm_world.specs.KeyCalls.{keys_with, kv_set, kv_unset}
 use Rattle.ktm_world.specs.Keys.{OwnSettings, own_settings, stored_all, are_good_settings}
 use Rattle.ktm_world.specs.Labels.{transaction_named}
@@ -25,13 +29,13 @@ use Rattle.ktm_world.specs.Outcome.{apply, only_reply}
 use Rattle.ktm_world.specs.Present.{Present}
 use Rattle.ktm_world.specs.Sizes.{frame_size, log_size}
 use Rattle.ktm_world.specs.Transactions.{transaction_at}
-use Rattle.ktm_world.specs.TransactionCalls.{create_transaction, commit_transaction}
+use Rattle.ktm_world.specs.TransactionCalls.{create_transaction, commit_transaction, rollback_transaction, get_transaction_information, information_of, open_transaction, transaction_with, later, is_due, with_clock, tick}
 use Rattle.ktm_world.specs.Transcript.{Step, Transcript}
 use Rattle.ktm_world.specs.Values.{IsCommand}
-use Rattle.ktm_world.specs.World.{World, present, after, crashed, interrupted_by, interrupted_restart, found_full, opened, own_group, possible_logs}
-use Rattle.ktm_built.specs.Forms.{with_transaction, commit_outcome, with_commit}
+use Rattle.ktm_world.specs.World.{World, present, extend, after, decide_tick, crashed, interrupted_by, interrupted_restart, found_full, opened, own_group, possible_logs}
+use Rattle.ktm_built.specs.Forms.{ComesTo, with_transaction, commit_outcome, with_commit, with_rollback, with_bound, with_handle_closed, with_process_gone, with_tick}
 use Rattle.ktm_built.specs.Spelling.{IsShortEvent, IsShortWork}
-use Rattle.ktm_built.specs.Standing.{IsBuiltNow, IsStandingNow, IsStanding, fresh}
+use Rattle.ktm_built.specs.Standing.{IsBuiltNow, IsSoundNow, IsStandingNow, IsStanding, fresh}
 
 -- ---- what a built state takes
 
@@ -51,7 +55,8 @@ StateLaw = ((s : Durable) (boot : ℕ) → IsBuiltState s
 
 -- ---- what the commands come to
 
--- where there are transactions and keys alone, each call changes its own part of what is so now, and nothing else
+-- where there are transactions and keys alone, each call changes its own part of what is so now, and nothing else, and so does the passing
+-- of time
 abbrev pub FormsLaw : Type 0
 FormsLaw = ((x : Present) (reply : Reply) → IsBuiltNow x → apply x (only_reply x reply) ≡ x)
     × ((x : Present) (process : Pid) (label : Label) (timeout : ℕ) → IsBuiltNow x → apply x (create_transaction x process label timeout) ≡ with_transaction x process label timeout)
@@ -61,41 +66,61 @@ FormsLaw = ((x : Present) (reply : Reply) → IsBuiltNow x → apply x (only_rep
     → apply x (of_keys x (kv_set x.keys (Some t.id) key value)) ≡ record x { keys = keys_with x.keys (Some t.id) key (Some value) })
     × ((x : Present) (t : Transaction) (key : List ℕ) → IsBuiltNow x
     → apply x (of_keys x (kv_unset x.keys (Some t.id) key)) ≡ record x { keys = keys_with x.keys (Some t.id) key None })
+    × ((x : Present) (t : Transaction) → IsBuiltNow x → transaction_at x.transactions.items t.id ≡ Some t → ComesTo x (rollback_transaction x (Some t)) Done (with_rollback x t))
+    × ((x : Present) (t : Option Transaction) → IsBuiltNow x → ComesTo x (get_transaction_information x t) (information_of x t) x)
+    × ((x : Present) (process : Pid) (label : Label) (guid : List ℕ) (t : Transaction) → IsBuiltNow x → transaction_with x guid ≡ Some t
+    → ComesTo x (open_transaction x process label guid) Done (with_bound x process label (TransactionObject t.id)))
+    × ((x : Present) (process : Pid) (label : Label) (from : Pid) (source : Label) (object : Object) → IsBuiltNow x → object_at x.handles from source ≡ Some object
+    → ComesTo x (duplicate_handle x process label from source) Done (with_bound x process label object))
+    × ((x : Present) (ms : ℕ) → IsBuiltNow x → ComesTo x (tick x ms) Done (with_tick x ms))
+    × ((x : Present) (process : Pid) (label : Label) → IsBuiltNow x → ComesTo x (close_handle x process label) Done (with_handle_closed x process label))
+    × ((x : Present) (process : Pid) → IsBuiltNow x → ComesTo x (exit x process) Done (with_process_gone x process))
+
+-- the passing of time rolls back the transactions that are due then, in order of creation
+abbrev pub TimeoutLaw : Type 0
+TimeoutLaw = (x : Present) (ms : ℕ) → IsSoundNow x
+    → with_tick x ms ≡ fold with_rollback (with_clock x ms) (filter (is_due (later x.transactions.clock ms)) x.transactions.items)
 
 -- the transaction that a label names is the one with its Id
 abbrev pub NamedLaw : Type 0
 NamedLaw = (x : Present) (process : Pid) (label : Label) (t : Transaction) → transaction_named x process label ≡ Some t → transaction_at x.transactions.items t.id ≡ Some t
 
 -- a refused command only replies; a command whose effect records nothing finds the log with room; an outcome that stops the machine
--- records nothing; and a machine that is up answers no built command that it is down
+-- records nothing; a machine that is up answers no built command that it is down; and time passes where the machine is up, and only there
 abbrev pub DecidedLaw : Type 0
 DecidedLaw = ((x : Present) (process : Pid) (command : Command) (refusal : Refusal) → refusal_of x process command ≡ Some refusal → decide x process command ≡ only_reply x (Refused refusal))
     × ((x : Present) (process : Pid) (command : Command) → (command_effect x process command).events ≡ [] → decide x process command ≡ with_room x process command)
     × ((x : Present) (process : Pid) (command : Command) → is_built_command command ≡ true → (command_effect x process command).stops ≡ false)
     × ((x : Present) (process : Pid) (command : Command) → is_built_command command ≡ true → (decide x process command).stops ≡ true → (decide x process command).events ≡ [])
     × ((x : Present) (process : Pid) (command : Command) → is_built_command command ≡ true → x.machine.is_up ≡ true → (decide x process command).reply ≡ Refused MachineDown → ⊥)
+    × ((x : Present) (ms : ℕ) → x.machine.is_up ≡ false → decide_tick x ms ≡ only_reply x (Refused MachineDown))
+    × ((x : Present) (ms : ℕ) → IsBuiltNow x → x.machine.is_up ≡ true → decide_tick x ms ≡ tick x ms)
 
 -- ---- what they record
 
 -- the events of a built command are built, apply to what was recorded where there are few enough, and can be spelled; so can a
--- transaction's own settings
+-- transaction's own settings; and the passing of time records nothing
 abbrev pub EventsLaw : Type 0
 EventsLaw = ((x : Present) (process : Pid) (command : Command) → is_built_command command ≡ true → IsStandingNow x
     → let events = (decide x process command).events in
     (list_all is_built_event events ≡ true) × (x.recorded.events + length events < 2 ^ 63 → events_apply x.recorded events ≡ true) × All (IsShortEvent x.recorded.units) events)
     × ((x : Present) (t : Transaction) → IsStandingNow x → transaction_at x.transactions.items t.id ≡ Some t → IsShortWork x.recorded.units t.id (own_settings x.keys.own t.id))
+    × ((x : Present) (ms : ℕ) → IsBuiltNow x → (decide_tick x ms).events ≡ [])
 
 -- ---- what they keep
 
--- a built command keeps what the machine keeps of what is so now; and that is kept of each world that stands, while its machine is up
+-- a built command keeps what the machine keeps of what is so now, and so does the passing of time; and that is kept of each world that
+-- stands, while its machine is up
 abbrev pub NowLaw : Type 0
 NowLaw = ((x : Present) (process : Pid) (command : Command) → IsCommand command → is_built_command command ≡ true → IsStandingNow x → IsStandingNow (apply x (decide x process command)))
     × ((w : World) → IsStanding w → is_up w.power ≡ true → IsStandingNow (present w))
+    × ((x : Present) (ms : ℕ) → IsStandingNow x → IsStandingNow (apply x (decide_tick x ms)))
 
--- after a built command a world stands that stood before, while there are fewer than 2^63 events
+-- after a built command a world stands that stood before, while there are fewer than 2^63 events; and so it does after the passing of time
 abbrev pub LawfulLaw : Type 0
-LawfulLaw = (w : World) (process : Pid) (command : Command) → IsCommand command → is_built_command command ≡ true → (after w process command).recorded.events < 2 ^ 63
-    → IsStanding w → IsStanding (after w process command)
+LawfulLaw = ((w : World) (process : Pid) (command : Command) → IsCommand command → is_built_command command ≡ true → (after w process command).recorded.events < 2 ^ 63
+    → IsStanding w → IsStanding (after w process command))
+    × ((w : World) (ms : ℕ) → IsStanding w → IsStanding (extend w (decide_tick (present w) ms)))
 
 -- a restart opens a world that stands, from a log of built events that applies, where its own group applies too
 abbrev pub OpenedLaw : Type 0
@@ -108,12 +133,14 @@ FreshLaw = ((base : Durable) (room : ℕ) (log : List Group) → IsBuiltState ba
     → let s = stand base log in present (opened base room log) ≡ fresh s (room - log_size log - frame_size (own_group s)))
     × ((s : Durable) (left : ℕ) → IsBuiltState s → events_apply s (own_group s) ≡ true → IsStandingNow (fresh s left))
 
--- a loss of power leaves a world that stands: by itself, in a built command or in a restart; and so does a restart that finds a full log
+-- a loss of power leaves a world that stands: by itself, in a built command, in a restart or while time passes; and so does a restart that
+-- finds a full log
 abbrev pub FallenLaw : Type 0
 FallenLaw = ((w : World) → IsStanding w → IsStanding (crashed w))
     × ((w : World) (process : Pid) (command : Command) → is_built_command command ≡ true → IsStanding w → IsStanding (interrupted_by w (decide (present w) process command)))
     × ((w : World) → IsStanding w → IsStanding (interrupted_restart w))
     × ((w : World) (log : List Group) → Contains (possible_logs w) log → IsStanding w → IsStanding (found_full w log))
+    × ((w : World) (ms : ℕ) → IsStanding w → IsStanding (interrupted_by w (decide_tick (present w) ms)))
 
 -- ---- what is told
 

@@ -7,7 +7,7 @@ use Rattle.ktm_world.specs.declared.object.Phase.{Phase}
 use Rattle.ktm_world.specs.declared.object.Phase.TheVariants.{Active, Ended}
 use Rattle.ktm_world.specs.declared.object.Transaction.{Transaction}
 use Rattle.ktm_world.specs.declared.object.TransactionOutcome.{TransactionOutcome}
-use Rattle.ktm_world.specs.declared.object.TransactionOutcome.TheVariants.{Undetermined, Committed}
+use Rattle.ktm_world.specs.declared.object.TransactionOutcome.TheVariants.{Undetermined, Committed, Aborted}
 use Rattle.ktm_world.specs.Built.{IsBuiltState, is_built_log}
 use Rattle.ktm_world.specs.Durable.{Durable}
 use Rattle.ktm_world.specs.Files.{FilesNow}
@@ -27,13 +27,15 @@ use Rattle.ktm_world.specs.World.{World, present, possible_logs}
 abbrev pub no_files : FilesNow
 no_files = record { tree = []; versions = []; first_opens = []; table = record { own = []; opens = []; last_open = 0; next_node = 2 } }
 
--- there are no resource managers, enlistments or files, and what was recorded has keys alone
+-- there are no resource managers, enlistments or files, nothing of a transaction is in the log before it commits, and what was recorded
+-- has keys alone
 pub record IsBuiltNow (x : Present) : Type 0 where
   pub managers : x.managers ≡ []
   pub enlistments : x.transactions.enlistments ≡ []
   pub last_manager : x.transactions.last_manager ≡ 0
   pub last_enlistment : x.transactions.last_enlistment ≡ 0
   pub files : x.files ≡ no_files
+  pub unrecorded : All (λ t. t.is_recorded ≡ false) x.transactions.items
   pub recorded : IsBuiltState x.recorded
 
 -- the world began with keys alone, has them alone now, and all logs that are or may be on its disk have built events
@@ -57,19 +59,24 @@ fresh s left = record {
 
 -- ---- what the limits and the log do not say of it
 
--- a transaction is active and undetermined, or it has committed and ended
+-- a transaction is active and undetermined, or it has committed or rolled back and ended
 abbrev pub IsOnCourse : Phase → TransactionOutcome → Type 0
 IsOnCourse Active Undetermined = Unit {0}
 IsOnCourse Ended Committed = Unit {0}
+IsOnCourse Ended Aborted = Unit {0}
 IsOnCourse _ _ = ⊥
 
--- a transaction was made in this boot, is on its course, and nothing of it is in the log before it commits
+-- a transaction was made in this boot, and is on its course
 pub record IsSoundTransaction (boot last : ℕ) (t : Transaction) : Type 0 where
   pub boot_is : t.id.boot ≡ boot
   pub number_from : 1 ≤ t.id.number
   pub number_to : t.id.number ≤ last
   pub course : IsOnCourse t.phase t.outcome
-  pub unrecorded : t.is_recorded ≡ false
+
+-- no two transactions have the same Id
+abbrev pub AreDistinct : List Transaction → Type 0
+AreDistinct [] = Unit {0}
+AreDistinct (t ∷ ts) = (list_any (λ u. same_id u.id t.id) ts ≡ false) × AreDistinct ts
 
 -- a transaction's own settings: it is of this boot, their keys rise and are texts, their values have bytes, and each is within the limits
 pub record IsSoundOwn (boot : ℕ) (own : Own) : Type 0 where
@@ -93,6 +100,7 @@ pub record IsSoundNow (x : Present) : Type 0 where
   pub boots_from : 1 ≤ x.recorded.boots
   pub units_from : 1 ≤ x.recorded.units
   pub transactions : All (IsSoundTransaction x.recorded.boots x.transactions.last_transaction) x.transactions.items
+  pub distinct : AreDistinct x.transactions.items
   pub own : All (IsSoundOwn x.recorded.boots) x.keys.own
   pub once : StandOnce x.keys.own
   pub apart : AreSetApart x.keys.own

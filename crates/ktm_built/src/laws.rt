@@ -1,5 +1,5 @@
 // Laws of worlds that have only what built forms make, each the contract of a function that does nothing.
-ghost use Rattle.ktm_built.specs.Laws.{StateLaw, FormsLaw, NamedLaw, DecidedLaw, EventsLaw, NowLaw, LawfulLaw, OpenedLaw, FreshLaw, FallenLaw, OutcomeLaw};
+ghost use Rattle.ktm_built.specs.Laws.{StateLaw, FormsLaw, TimeoutLaw, NamedLaw, DecidedLaw, EventsLaw, NowLaw, LawfulLaw, OpenedLaw, FreshLaw, FallenLaw, OutcomeLaw};
 
 /// What a built state takes, and what built events make of it.
 pub fn law_of_states()
@@ -9,6 +9,11 @@ pub fn law_of_states()
 /// Each call changes its own part of what is so now.
 pub fn law_of_forms()
     ensures { FormsLaw }
+{}
+
+/// Time rolls back the transactions that are due, each for itself.
+pub fn law_of_timeouts()
+    ensures { TimeoutLaw }
 {}
 
 /// A label names a transaction by its Id.

@@ -81,7 +81,7 @@ module _ (old new : KernelState) (process : Pid) (command : Command) (reply : Re
   ]
 
   standing_then : FewEvents old.now process command → IsStanding (after w process command)
-  standing_then few = lawful_law w process command is built (omega (arith, after_events-events w.recorded (decide (present w) process command).events, few_now few)) stands.standing
+  standing_then few = lawful_law.0 w process command is built (omega (arith, after_events-events w.recorded (decide (present w) process command).events, few_now few)) stands.standing
 
   applies_now : IsTrue (log_applies w.base w.log)
   applies_now = (stands.standing.lawful.stands (ap is_up on)).applies

@@ -1,6 +1,9 @@
 -- What is kept of a line stands for the whole line, and lines that are cut out of pieces.
-use Rattle.std.proofs.Common.{◌≡◌, ℕ, ◌+◌, ◌<◌, ◌≤◌, true, false, List, [], ◌∷◌, ◌++◌, length, get_or, take, drop, cond, eqb, Option, None, Some, refl, sym, ◌∙◌, ap, subst, arith, length-take, length-append}
-use Rattle.std.proofs.lemmas.List.{at_drop_more, take_all, take-append-le}
+use Rattle.std.proofs.Common.{◌≡◌, ℕ, ◌+◌, ◌-◌, ◌<◌, ◌≤◌, ◌==◌, zero, suc, min, inl, inr, true, false, List, [], ◌∷◌, ◌++◌, length, get_or, take, drop, cond, eqb, Option, None, Some, refl, sym, ◌∙◌, ap, subst, arith, append_assoc, length-take, length-append, length-drop}
+use Rattle.std.proofs.lemmas.Bool.{cases_lt}
+use Rattle.std.proofs.lemmas.List.{append-nil, take_all, take-append-le, take_min, length-take-le}
+use Rattle.std.proofs.Math.Nat.{min_comm}
+use Rattle.std.proofs.Math.Seq.{take-append-add}
 use Rattle.std.proofs.Math.Dec.{eqb-suc-zero}
 use Rattle.std.proofs.lemmas.Grind.{common_steps}
 use Rattle.ktm_run.specs.Script.{lines_from, part_from, last_line, has_reply, Means, kept_of}
@@ -22,33 +25,60 @@ Means-kept line None h = λ x is built e. h x is built (e ∙ sym (kept_whole 14
     short : (x : Line) → IsLine x → length (take 140001 (spelling x)) < 140001
     short x is = let brief = is.short in omega (arith, length-take {A = ℕ})
 
--- a byte more, where there is room for it
-pub kept_more : (kept part : List ℕ) (byte : ℕ) → length kept < 140001 → kept ≡ kept_of part → kept ++ byte ∷ [] ≡ kept_of (part ++ byte ∷ [])
-kept_more kept part byte room is =
-    let whole = kept_whole 140001 part (subst (λ (l : List ℕ). length l < 140001) is room) in
-    let same : kept ≡ part = is ∙ whole in
-    let short : length part < 140001 = subst (λ (l : List ℕ). length l < 140001) same room in
-    ap (λ (l : List ℕ). l ++ byte ∷ []) same ∙ sym (take_all 140001 (part ++ byte ∷ []) (simp length-append (omega arith)))
+-- bytes more, as far as there is room for them
+pub kept_with : (kept part bytes : List ℕ) (m : ℕ) → kept ≡ kept_of part → m ≡ min (length bytes) (140001 - length kept) → kept ++ take m bytes ≡ kept_of (part ++ bytes)
+kept_with kept part bytes m is many = elim (cases_lt (length part) 140001) [
+  | inl short ↦
+      (let whole : kept ≡ part = is ∙ take_all 140001 part (omega (arith, short)) in
+      let room : 140001 ≡ length part + (140001 - length kept) = omega (arith, ap (λ (l : List ℕ). length l) whole, short) in
+      ap (λ (l : List ℕ). l ++ take m bytes) whole
+      ∙ ap (λ (l : List ℕ). part ++ l) (ap (λ n. take n bytes) (many ∙ min_comm (length bytes) (140001 - length kept)) ∙ take_min (140001 - length kept) bytes)
+      ∙ sym (take-append-add part bytes (140001 - length kept))
+      ∙ ap (λ n. take n (part ++ bytes)) (sym room))
+  | inr long ↦
+      (let full : length kept ≡ 140001 = ap (λ (l : List ℕ). length l) is ∙ length-take-le 140001 part long in
+      let none : m ≡ 0 = omega (arith, many, full) in
+      ap (λ n. kept ++ take n bytes) none ∙ append-nil kept ∙ is ∙ sym (take-append-le 140001 part bytes long))
+]
 
--- and where there is none
-pub kept_full : (kept part : List ℕ) (byte : ℕ) → 140001 ≤ length kept → kept ≡ kept_of part → kept ≡ kept_of (part ++ byte ∷ [])
-kept_full kept part byte full is =
-    let long : 140001 ≤ length (take 140001 part) = subst (λ (l : List ℕ). 140001 ≤ length l) is full in
-    is ∙ sym (take-append-le 140001 part (byte ∷ []) (omega (arith, length-take {A = ℕ})))
+-- up to the first newline it is one line, and what is behind it begins the next
+pub cut_at : (now rest : List ℕ) (end : ℕ) → end < length rest → (get_or rest end 0 == 10) ≡ true → ((k : ℕ) → k < end → (get_or rest k 0 == 10) ≡ false)
+    → (lines_from now rest ≡ (now ++ take end rest) ∷ lines_from [] (drop (suc end) rest)) × (part_from now rest ≡ part_from [] (drop (suc end) rest))
+cut_at now [] end within ends others = absurd (omega (arith, within))
+cut_at now (b ∷ bs) zero within ends others = (
+  ap (λ t. cond t (now ∷ lines_from [] bs) (lines_from (now ++ b ∷ []) bs)) ends ∙ ap (λ (l : List ℕ). l ∷ lines_from [] bs) (sym (append-nil now)),
+  ap (λ t. cond t (part_from [] bs) (part_from (now ++ b ∷ []) bs)) ends,
+)
+cut_at now (b ∷ bs) (suc end) within ends others =
+    let other = others 0 (omega arith) in
+    let further = cut_at (now ++ b ∷ []) bs end (omega (arith, within)) ends (λ k below. others (suc k) (omega (arith, below))) in (
+      ap (λ t. cond t (now ∷ lines_from [] bs) (lines_from (now ++ b ∷ []) bs)) other
+      ∙ further.0
+      ∙ ap (λ (l : List ℕ). l ∷ lines_from [] (drop (suc end) bs)) (append_assoc now (b ∷ []) (take end bs)),
+      ap (λ t. cond t (part_from [] bs) (part_from (now ++ b ∷ []) bs)) other ∙ further.1,
+    )
 
--- at the end of a line
-pub lines_end : (part bytes : List ℕ) (i : ℕ) → i < length bytes → get_or bytes i 0 ≡ 10 → lines_from part (drop i bytes) ≡ part ∷ lines_from [] (drop (i + 1) bytes)
-lines_end part bytes i h nl = at_drop_more (λ (l : List ℕ). lines_from part l) bytes i 0 h ∙ ap (λ x. cond (eqb x 10) (part ∷ lines_from [] (drop (i + 1) bytes)) (lines_from (part ++ x ∷ []) (drop (i + 1) bytes))) nl
+drop_next : (n : ℕ) (bytes : List ℕ) → drop 1 (drop n bytes) ≡ drop (suc n) bytes
+drop_next zero bytes = refl
+drop_next (suc n) [] = refl
+drop_next (suc n) (b ∷ bs) = drop_next n bs
 
-pub part_end : (part bytes : List ℕ) (i : ℕ) → i < length bytes → get_or bytes i 0 ≡ 10 → part_from part (drop i bytes) ≡ part_from [] (drop (i + 1) bytes)
-part_end part bytes i h nl = at_drop_more (λ (l : List ℕ). part_from part l) bytes i 0 h ∙ ap (λ x. cond (eqb x 10) (part_from [] (drop (i + 1) bytes)) (part_from (part ++ x ∷ []) (drop (i + 1) bytes))) nl
+-- what is behind a newline, as two slices give it
+pub behind : (end : ℕ) (bytes : List ℕ) → take (length (take (length bytes - end) (drop end bytes)) - 1) (drop 1 (take (length bytes - end) (drop end bytes))) ≡ drop (suc end) bytes
+behind end bytes =
+    ap (λ (l : List ℕ). take (length l - 1) (drop 1 l)) (take_all (length bytes - end) (drop end bytes) (omega (arith, length-drop end bytes)))
+    ∙ take_all (length (drop end bytes) - 1) (drop 1 (drop end bytes)) (omega (arith, length-drop 1 (drop end bytes)))
+    ∙ drop_next end bytes
 
--- within a line
-pub lines_within : (part bytes : List ℕ) (i : ℕ) → i < length bytes → eqb (get_or bytes i 0) 10 ≡ false → lines_from part (drop i bytes) ≡ lines_from (part ++ get_or bytes i 0 ∷ []) (drop (i + 1) bytes)
-lines_within part bytes i h other = at_drop_more (λ (l : List ℕ). lines_from part l) bytes i 0 h ∙ ap (λ t. cond t (part ∷ lines_from [] (drop (i + 1) bytes)) (lines_from (part ++ get_or bytes i 0 ∷ []) (drop (i + 1) bytes))) other
-
-pub part_within : (part bytes : List ℕ) (i : ℕ) → i < length bytes → eqb (get_or bytes i 0) 10 ≡ false → part_from part (drop i bytes) ≡ part_from (part ++ get_or bytes i 0 ∷ []) (drop (i + 1) bytes)
-part_within part bytes i h other = at_drop_more (λ (l : List ℕ). part_from part l) bytes i 0 h ∙ ap (λ t. cond t (part_from [] (drop (i + 1) bytes)) (part_from (part ++ get_or bytes i 0 ∷ []) (drop (i + 1) bytes))) other
+-- without a newline it is a part of a line
+pub uncut : (now rest : List ℕ) → ((k : ℕ) → k < length rest → (get_or rest k 0 == 10) ≡ false) → (lines_from now rest ≡ []) × (part_from now rest ≡ now ++ rest)
+uncut now [] others = (refl, sym (append-nil now))
+uncut now (b ∷ bs) others =
+    let other = others 0 (omega arith) in
+    let further = uncut (now ++ b ∷ []) bs (λ k below. others (suc k) (omega (arith, below))) in (
+      ap (λ t. cond t (now ∷ lines_from [] bs) (lines_from (now ++ b ∷ []) bs)) other ∙ further.0,
+      ap (λ t. cond t (part_from [] bs) (part_from (now ++ b ∷ []) bs)) other ∙ further.1 ∙ append_assoc now (b ∷ []) bs,
+    )
 
 pub lines_from-append : (p xs ys : List ℕ) → lines_from p (xs ++ ys) ≡ lines_from p xs ++ lines_from (part_from p xs) ys
 lines_from-append p [] ys = refl

@@ -12,6 +12,7 @@ use crate::write::write_all;
 use ktm_base::{Failed, NoMemory, PowerDisk, Sink};
 use ktm_kernel::Kernel;
 use ktm_reply::write_reply;
+use memchr::memchr;
 use std::alloc::Global;
 
 /// The most bytes of a line that are kept. A line that has them all is in no grammar, whatever comes behind.
@@ -63,15 +64,15 @@ pub fn do_line<K: Sink, D: PowerDisk>(
     Ok(())
 }
 
-// Keeps a byte behind a part of a line, where that is not yet too long.
-fn keep(kept: &mut Vec<u8>, byte: u8)
+// Keeps bytes behind a part of a line, as far as that is not yet too long.
+fn keep(kept: &mut Vec<u8>, bytes: &[u8])
     requires { 140001 ≤ vec_capacity kept.old }
-    ensures kept { (part : List ℕ) → kept.old.items ≡ kept_of part → kept.new.items ≡ kept_of (part ++ byte ∷ []) }
+    ensures kept { (part : List ℕ) → kept.old.items ≡ kept_of part → kept.new.items ≡ kept_of (part ++ bytes.now) }
     ensures room { 140001 ≤ vec_capacity kept.new }
 {
-    if kept.len() < MOST_KEPT {
-        kept.push_reserved(byte);
-    }
+    let room = MOST_KEPT.saturating_sub(kept.len());
+    kept.extend_from_slice(&bytes[..bytes.len().min(room)])
+        .unwrap();
 }
 
 /// Answers the lines that end in these bytes, and keeps what is behind the last newline, in room that was taken before.
@@ -93,15 +94,15 @@ pub fn feed<K: Sink, D: PowerDisk>(
     ensures fault { IsErrOf result RunFault.SinkFault → Rose (K.faults sink.old) (K.faults sink.new) }
     ensures later { K.faults sink.old ≤ K.faults sink.new }
 {
-    for byte in bytes {
-        if *byte != b'\n' {
-            keep(kept, *byte);
-            continue;
-        }
+    let mut rest = bytes;
+    while let Some(end) = memchr(b'\n', rest) {
+        keep(kept, &rest[..end]);
         if let Err(fault) = do_line(alloc, kernel, disk, sink, kept) {
             return Err(fault);
         }
         kept.clear();
+        rest = &rest[end..][1..];
     }
+    keep(kept, rest);
     Ok(())
 }

@@ -1,9 +1,8 @@
-use Rattle.std.proofs.Common.{arith}
-use Rattle.ktm_run.proofs.Lines.{kept_more, kept_full}
+use Rattle.std.proofs.Common.{arith, ◌∙◌}
+use Rattle.ktm_run.proofs.Lines.{kept_with}
 use Rattle.ktm_run.proofs.line.keep.Goals as goal
 
-pub returns-then-len-lt-MOST_KEPT-clause-kept : goal.returns-then-len-lt-MOST_KEPT-clause-kept
-returns-then-len-lt-MOST_KEPT-clause-kept c = λ part is. rw c.push_reserved.ensures.items (kept_more c.args.kept.now.items part c.args.byte (omega arith) is)
-
-pub returns-else-len-lt-MOST_KEPT-clause-kept : goal.returns-else-len-lt-MOST_KEPT-clause-kept
-returns-else-len-lt-MOST_KEPT-clause-kept c = λ part is. kept_full _ part c.args.byte (omega arith) is
+pub returns-clause-kept : goal.returns-clause-kept
+returns-clause-kept c = λ part is.
+    (rw c.unwrap.ensures at c.extend_from_slice.ensures.items)
+    ∙ kept_with c.args.kept.now.items part c.args.bytes.now c.min.result is (omega (arith, c.min.ensures, c.saturating_sub-room.ensures, c.len.ensures))
