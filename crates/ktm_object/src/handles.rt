@@ -157,8 +157,8 @@ impl Handles {
         self.entries.spare().min(self.by_label.spare().min(maps))
     }
 
-    /// Makes room for so many more handles. It fails where the memory does not reach, or where more handles would have
-    /// been bound, from the first on, than a table can tell apart.
+    /// Makes room for so many more handles. It fails where the memory does not reach, or where fewer can be told from all
+    /// that were ever bound, which are at most 2^64 - 1.
     pub fn reserve(&mut self, n: usize) -> Result<(), NoMemory>
         ensures room { OnOk result (n ≤ self.new.spare) }
         ensures enough { n ≤ self.old.spare → IsOk result }
@@ -295,7 +295,8 @@ impl Handles {
         self.close(process, label)
     }
 
-    /// Tells each handle of the group, one after another, that the group has ended. They stay bound.
+    /// Tells each handle of the group, and no other, that the group has ended. They stay bound. One that is bound to the
+    /// group later is not told.
     pub fn end_group(&mut self, group: Id)
         ensures entries { self.new.entries ≡ ended_group self.old.entries group }
         ensures handles { handles_of self.new ≡ handles_of self.old }
