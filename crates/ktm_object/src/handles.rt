@@ -12,8 +12,7 @@ ghost use Rattle.ktm_object.specs.Table.{bound, closed_of, ended_group, entry_at
 
 use crate::entry::{Closed, Entry};
 use crate::name::{
-    LabelName, OwnerName, after, group_owner, label_bytes, label_name, object_owner, owner_bytes,
-    owner_name,
+    LabelName, OwnerName, after, group_owner, label_bytes, object_owner, owner_bytes, owner_name,
 };
 use ktm_base::{Id, Label, NoMemory, Pid};
 use ktm_links::{Chains, Key, List, Name};
@@ -235,7 +234,7 @@ impl Handles {
         let process = entry.handle.process;
         let label = entry.handle.label;
         let key = self.entries.push_spare(entry);
-        self.by_label.insert(label_name(process, label), key);
+        self.by_label.insert(label_bytes(process, label), key);
         let object = object_owner(entry.handle.object);
         self.by_object
             .insert(owner_name(object, process, label), key);
@@ -261,11 +260,9 @@ impl Handles {
         };
         self.by_label.remove(&bytes);
         let object = object_owner(entry.handle.object);
-        self.by_object
-            .remove(owner_name(object, process, label).as_slice());
+        self.by_object.remove(&owner_name(object, process, label));
         let group = group_owner(entry.group);
-        self.by_group
-            .remove(owner_name(group, process, label).as_slice());
+        self.by_group.remove(&owner_name(group, process, label));
         let other = first_under(&self.by_object, &owner_bytes(object));
         Some(Closed {
             label,
