@@ -187,7 +187,8 @@ impl<K: Name, T> Chains<K, T> {
         self.values.spare().min(places)
     }
 
-    /// Makes room for so many more values.
+    /// Makes room for so many more values. It fails where the memory does not reach, or where fewer keys are left: a map
+    /// gives out 2^64 - 1.
     pub fn reserve(&mut self, n: usize) -> Result<(), NoMemory>
         ensures room { OnOk result (n ≤ self.new.spare) }
         ensures enough { n ≤ self.old.spare → IsOk result }

@@ -33,7 +33,10 @@ mod tests {
         list.push_spare(4);
         assert!(&rt; list.spare() > 0);
         assert_eq!(&rt; list.get(two), None);
-        assert_eq!(&rt; list.pop_front(), Some(1));
+        assert_eq!(&rt; list.replace(one, 10), Ok(1));
+        assert_eq!(&rt; list.replace(two, 20), Err(20));
+        assert_eq!(&rt; list.len(), 3);
+        assert_eq!(&rt; list.pop_front(), Some(10));
         assert_eq!(&rt; list.pop_front(), Some(3));
         assert_eq!(&rt; list.pop_front(), Some(4));
         assert_eq!(&rt; list.pop_front(), None);
@@ -53,6 +56,9 @@ mod tests {
         assert_eq!(&rt; map.get(fig), Some(&2));
         assert_eq!(&rt; map.find(b"plum"), None);
         assert_eq!(&rt; map.first_from(b"f"), Some(fig));
+        assert_eq!(&rt; map.first_with(b"f"), Some(fig));
+        assert_eq!(&rt; map.first_with(b"g"), None);
+        assert!(&rt; map.name(fig) == Some(b"fig".as_slice()));
         assert_eq!(&rt; map.remove(b"fig"), Some(2));
         assert_eq!(&rt; map.find(b"fig"), None);
         assert_eq!(&rt; map.get(fig), None);

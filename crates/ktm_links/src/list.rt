@@ -115,7 +115,8 @@ impl<T> List<T> {
         places.min((u64::MAX - next) as usize)
     }
 
-    /// Makes room for so many more values.
+    /// Makes room for so many more values. It fails where the memory does not reach, or where fewer keys are left: a list
+    /// gives out 2^64 - 1.
     pub fn reserve(&mut self, n: usize) -> Result<(), NoMemory>
         ensures room { OnOk result (n ≤ self.new.spare) }
         ensures enough { n ≤ self.old.spare → IsOk result }

@@ -52,3 +52,12 @@ impl<const N: usize> Name for InlineName<N> {
         &self.room[..self.len]
     }
 }
+
+/// A name of one length alone is its bytes.
+impl<const N: usize> Name for [u8; N] {
+    ghost bytes = { λ n. n };
+
+    fn as_slice(&self) -> &[u8] {
+        self
+    }
+}

@@ -12,8 +12,7 @@ ghost use Rattle.ktm_object.specs.Table.{bound, closed_of, ended_group, entry_at
 
 use crate::entry::{Closed, Entry};
 use crate::name::{
-    LabelName, OwnerName, after, group_owner, label_bytes, label_name, object_owner, owner_bytes,
-    owner_name,
+    LabelName, OwnerName, after, group_owner, label_bytes, object_owner, owner_bytes, owner_name,
 };
 use ktm_base::{Id, Label, NoMemory, Pid};
 use ktm_links::{Chains, Key, List, Name};
@@ -157,8 +156,8 @@ impl Handles {
         self.entries.spare().min(self.by_label.spare().min(maps))
     }
 
-    /// Makes room for so many more handles. It fails where the memory does not reach, or where more handles would have
-    /// been bound, from the first on, than a table can tell apart.
+    /// Makes room for so many more handles. It fails where the memory does not reach, or where fewer can be told from all
+    /// that were ever bound, which are at most 2^64 - 1.
     pub fn reserve(&mut self, n: usize) -> Result<(), NoMemory>
         ensures room { OnOk result (n ≤ self.new.spare) }
         ensures enough { n ≤ self.old.spare → IsOk result }
@@ -235,7 +234,7 @@ impl Handles {
         let process = entry.handle.process;
         let label = entry.handle.label;
         let key = self.entries.push_spare(entry);
-        self.by_label.insert(label_name(process, label), key);
+        self.by_label.insert(label_bytes(process, label), key);
         let object = object_owner(entry.handle.object);
         self.by_object
             .insert(owner_name(object, process, label), key);
@@ -261,11 +260,9 @@ impl Handles {
         };
         self.by_label.remove(&bytes);
         let object = object_owner(entry.handle.object);
-        self.by_object
-            .remove(owner_name(object, process, label).as_slice());
+        self.by_object.remove(&owner_name(object, process, label));
         let group = group_owner(entry.group);
-        self.by_group
-            .remove(owner_name(group, process, label).as_slice());
+        self.by_group.remove(&owner_name(group, process, label));
         let other = first_under(&self.by_object, &owner_bytes(object));
         Some(Closed {
             label,
@@ -295,7 +292,8 @@ impl Handles {
         self.close(process, label)
     }
 
-    /// Tells each handle of the group, one after another, that the group has ended. They stay bound.
+    /// Tells each handle of the group, and no other, that the group has ended. They stay bound. One that is bound to the
+    /// group later is not told.
     pub fn end_group(&mut self, group: Id)
         ensures entries { self.new.entries ≡ ended_group self.old.entries group }
         ensures handles { handles_of self.new ≡ handles_of self.old }

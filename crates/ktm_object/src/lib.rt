@@ -42,10 +42,10 @@ mod tests {
         let mut handles = Handles::new(rt.alloc());
         bind(&rt, &mut handles, Label(1), None)?;
         bind(&rt, &mut handles, Label(2), Some(TRANSACTION))?;
-        assert_eq!(&rt; handles.len(), 2);
+        assert!(&rt; handles.len() == 2);
         assert!(&rt; !handles.is_full());
-        assert_eq!(&rt; handles.get(ONE, Label(2)), Some(FILE));
-        assert_eq!(&rt; handles.get(TWO, Label(2)), None);
+        assert!(&rt; handles.get(ONE, Label(2)) == Some(FILE));
+        assert!(&rt; handles.get(TWO, Label(2)).is_none());
         Ok(())
     }
 
@@ -71,9 +71,9 @@ mod tests {
         bind(&rt, &mut handles, Label(300), None)?;
         bind(&rt, &mut handles, Label(2), None)?;
         let closed = handles.exit_next(ONE).ok_or("no handle")?;
-        assert_eq!(&rt; closed.label, Label(2));
+        assert!(&rt; closed.label == Label(2));
         let closed = handles.exit_next(ONE).ok_or("no handle")?;
-        assert_eq!(&rt; closed.label, Label(300));
+        assert!(&rt; closed.label == Label(300));
         assert!(&rt; handles.exit_next(ONE).is_none());
         Ok(())
     }

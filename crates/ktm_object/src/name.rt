@@ -4,14 +4,13 @@ ghost use Rattle.ktm_object.specs.Ending.{after};
 ghost use Rattle.ktm_object.specs.Names.{label_bytes, owner_bytes, object_owner, group_owner};
 
 use ktm_base::{Id, Label, Pid};
-use ktm_links::InlineName;
 use ktm_world::{Handle, Object};
 
-/// A name that begins with the process and the label.
-pub(crate) type LabelName = InlineName<3>;
+/// The name of a handle by its label: the process, and then the label.
+pub(crate) type LabelName = [u8; 3];
 
-/// A name that begins with an owner, and ends with the process and the label.
-pub(crate) type OwnerName = InlineName<12>;
+/// The name of a handle by an owner: the owner, and then as by its label.
+pub(crate) type OwnerName = [u8; 12];
 
 /// What handles stand together by: an object, or a group.
 #[derive(Clone, Copy, Debug, PartialEq, Eq)]
@@ -45,18 +44,11 @@ pub(crate) fn group_owner(group: Option<Id>) -> Owner
     Owner { kind, boot, number }
 }
 
-/// The bytes of a label, which rise with the process and then with the label.
-pub(crate) fn label_bytes(process: Pid, label: Label) -> [u8; 3]
+/// The name of a handle by its label. Names rise with the process and then with the label.
+pub(crate) fn label_bytes(process: Pid, label: Label) -> LabelName
     ensures { result ≡ label_bytes process label }
 {
     [process.0, (label.0 / 256) as u8, (label.0 % 256) as u8]
-}
-
-/// How a handle stands under its label.
-pub(crate) fn label_name(process: Pid, label: Label) -> LabelName
-    ensures { result ≡ label_bytes process label }
-{
-    InlineName::new(&label_bytes(process, label))
 }
 
 /// The bytes that the names of an owner's handles begin with.
@@ -76,13 +68,13 @@ pub(crate) fn owner_bytes(owner: Owner) -> [u8; 9]
     ]
 }
 
-/// How a handle stands under its owner.
+/// The name of a handle under its owner.
 pub(crate) fn owner_name(owner: Owner, process: Pid, label: Label) -> OwnerName
     ensures { result ≡ owner_bytes owner (label_bytes process label) }
 {
     let [kind, b3, b2, b1, b0, n3, n2, n1, n0] = owner_bytes(owner);
     let [process, high, low] = label_bytes(process, label);
-    InlineName::new(&[kind, b3, b2, b1, b0, n3, n2, n1, n0, process, high, low])
+    [kind, b3, b2, b1, b0, n3, n2, n1, n0, process, high, low]
 }
 
 /// Where the names begin that come after that of a handle of the group.

@@ -5,7 +5,7 @@ use Rattle.ktm_object.proofs.handles.Handles.bind.Goals as goal
 
 pub insert-requires-clause-free : goal.insert-requires-clause-free
 insert-requires-clause-free c =
-    label_key_free _ _ c.args.entry.handle.process c.args.entry.handle.label _ c.self.invariant.by_label c.label_name.ensures (rw (← c.self.view_is) at c.requires.free)
+    label_key_free _ _ c.args.entry.handle.process c.args.entry.handle.label _ c.self.invariant.by_label c.label_bytes.ensures (rw (← c.self.view_is) at c.requires.free)
 
 pub insert-requires-2-clause-free : goal.insert-requires-2-clause-free
 insert-requires-2-clause-free c =
@@ -22,8 +22,8 @@ invariant_of-self c =
     let free = rw (← c.self.view_is) at c.requires.free in
     record {
       by_label =
-          IsIndex-push label_name _ _ _ _ _ _ c.args.entry _ c.self.invariant.by_label c.label_name.ensures
-          (rw c.label_name.ensures (label_free _ _ c.args.entry.handle.process c.args.entry.handle.label c.self.invariant.by_label free))
+          IsIndex-push label_name _ _ _ _ _ _ c.args.entry _ c.self.invariant.by_label c.label_bytes.ensures
+          (rw c.label_bytes.ensures (label_free _ _ c.args.entry.handle.process c.args.entry.handle.label c.self.invariant.by_label free))
           c.push_spare-key.ensures.items c.push_spare-key.ensures.absent c.push_spare-key.ensures.named c.push_spare-key.ensures.others
           c.insert.ensures.under c.insert.ensures.other_names;
       by_object =

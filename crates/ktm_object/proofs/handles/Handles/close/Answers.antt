@@ -43,13 +43,13 @@ invariant_of-self c =
           c.remove-other.ensures.gone c.remove-other.ensures.other_names;
       by_object =
           IsIndex-without object_name _ _ _ _ c.in-Some.key c.in-Some-unlink.entry _ c.self.invariant.by_object
-          (c.as_slice.ensures ∙ c.owner_name.ensures ∙ ap (λ o. owner_bytes o (label_bytes c.args.process c.args.label)) c.object_owner-object.ensures
+          (c.owner_name.ensures ∙ ap (λ o. owner_bytes o (label_bytes c.args.process c.args.label)) c.object_owner-object.ensures
           ∙ ap (owner_bytes (object_owner c.in-Some-unlink.entry.handle.object)) (sym name))
           (sym c.in-Some-unlink.ensures.value) c.in-Some-unlink.ensures.items gone c.in-Some-unlink.ensures.others
           c.remove-other-2.ensures.gone c.remove-other-2.ensures.other_names;
       by_group =
           IsIndex-without group_name _ _ _ _ c.in-Some.key c.in-Some-unlink.entry _ c.self.invariant.by_group
-          (c.as_slice-2.ensures ∙ c.owner_name-2.ensures ∙ ap (λ o. owner_bytes o (label_bytes c.args.process c.args.label)) c.group_owner-group.ensures
+          (c.owner_name-2.ensures ∙ ap (λ o. owner_bytes o (label_bytes c.args.process c.args.label)) c.group_owner-group.ensures
           ∙ ap (owner_bytes (group_owner c.in-Some-unlink.entry.group)) (sym name))
           (sym c.in-Some-unlink.ensures.value) c.in-Some-unlink.ensures.items gone c.in-Some-unlink.ensures.others
           c.remove-other-3.ensures.gone c.remove-other-3.ensures.other_names;
@@ -91,13 +91,13 @@ returns-clause-spare c =
     let name =
     label_name-found _ _ c.args.process c.args.label c.in-Some.key c.in-Some-unlink.entry c.self.invariant.by_label (rw c.label_bytes-bytes.ensures at c.in-Some.ensures)
     there in
-    let object : key_under c.self.inside.by_object.entries c.as_slice.result.now ≡ Some c.in-Some.key =
+    let object : key_under c.self.inside.by_object.entries c.owner_name.result ≡ Some c.in-Some.key =
     name_taken object_name _ _ c.in-Some.key c.in-Some-unlink.entry _ c.self.invariant.by_object
-    (c.as_slice.ensures ∙ c.owner_name.ensures ∙ ap (λ o. owner_bytes o (label_bytes c.args.process c.args.label)) c.object_owner-object.ensures
+    (c.owner_name.ensures ∙ ap (λ o. owner_bytes o (label_bytes c.args.process c.args.label)) c.object_owner-object.ensures
     ∙ ap (owner_bytes (object_owner c.in-Some-unlink.entry.handle.object)) (sym name)) there in
-    let group : key_under c.self.inside.by_group.entries c.as_slice-2.result.now ≡ Some c.in-Some.key =
+    let group : key_under c.self.inside.by_group.entries c.owner_name-2.result ≡ Some c.in-Some.key =
     name_taken group_name _ _ c.in-Some.key c.in-Some-unlink.entry _ c.self.invariant.by_group
-    (c.as_slice-2.ensures ∙ c.owner_name-2.ensures ∙ ap (λ o. owner_bytes o (label_bytes c.args.process c.args.label)) c.group_owner-group.ensures
+    (c.owner_name-2.ensures ∙ ap (λ o. owner_bytes o (label_bytes c.args.process c.args.label)) c.group_owner-group.ensures
     ∙ ap (owner_bytes (group_owner c.in-Some-unlink.entry.group)) (sym name)) there in
     rw (← c.self.view_is)
     (spare_rises _ _ _ _ _ _ _ _ (2 ^ 64 - 1 - c.self.inside.entries.next) c.in-Some-unlink.ensures.spare
