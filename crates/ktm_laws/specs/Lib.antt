@@ -5,3 +5,5 @@ pub mod GoodState
 pub mod GoodStates
 pub mod Grammatical
 pub mod OwnGroup
+pub mod SoundCourse
+pub mod SoundCourses
