@@ -177,6 +177,12 @@ Misses-from h a misses =
     let held = or_parts (meet_in (nodes_changed a) h.nodes) (list_any (is_place_in h.places) (places_changed a)) b.0 in
     record { nodes = held.0; places = held.1; dropped = b.1; uses = c.1; moves = d.1 }
 
+-- a node that a change finds is not held, where the change meets nothing
+pub found-missed : (tree : Tree) (c : Change) (h : Holds) → applies tree c ≡ true → list_any (meets h) (acts_of tree c) ≡ false → is_make c ≡ false → is_in h.nodes (node_of c) ≡ false
+found-missed tree c h is misses other =
+    let act = (shown tree c (Applies-from tree c is)).node other in
+    no_test (is_in h.nodes) (node_of c) (nodes_changed act.0) (Misses-from h act.0 (no_test (meets h) act.0 (acts_of tree c) misses act.1)).nodes act.2
+
 module _ (tree : Tree) (ds cs : List Change) (writes : List ℕ) (all : apply_all tree ds ≡ true) (all' : apply_all tree cs ≡ true)
     (misses : list_any (meets (holds_by tree ds writes)) (acts_of_all tree cs) ≡ false)
     (makes_apart : list_any (λ (c : Change). is_make c && is_made_in ds (node_of c)) cs ≡ false) where

@@ -1,9 +1,13 @@
 pub mod Diamond
+pub mod FilesKept
 pub mod Footprint
 pub mod Formed
 pub mod GoodState
 pub mod GoodStates
 pub mod Grammatical
 pub mod OwnGroup
+pub mod OwnKeys
+pub mod Reservations
 pub mod SoundCourse
 pub mod SoundCourses
+pub mod SoundFiles

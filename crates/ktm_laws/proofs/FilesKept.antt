@@ -1,0 +1,264 @@
+-- Calls that open and close no file, and change none but by the end of a transaction, keep sound what undecided transactions own of the files.
+use Rattle.std.proofs.Common.{true≢false, ◌≡◌, ℕ, not, Bool, true, false, if◌then◌else◌, List, [], ◌∷◌, Option, Some, None, refl, sym}
+use Rattle.std.proofs.lemmas.Option.{none-some}
+use Rattle.ktm_base.specs.declared.id.Id.{Id}
+use Rattle.ktm_base.specs.declared.id.Label.{Label}
+use Rattle.ktm_base.specs.declared.id.Pid.{Pid}
+use Rattle.ktm_base.specs.declared.refusal.Refusal.{Refusal}
+use Rattle.ktm_base.specs.declared.refusal.Refusal.TheVariants.{LogFull, MachineDown}
+use Rattle.std.specs.Prelude.{option_and_then}
+use Rattle.ktm_world.specs.declared.command.Command.{Command}
+use Rattle.ktm_world.specs.declared.command.Command.TheVariants.{Exit, CloseHandle, MoveFile, RemoveDirectory, CreateDirectory, DeleteFile, OpenTransaction, CommitTransaction, RollbackTransaction, GetTransactionInformation, CreateResourceManager, OpenResourceManager, RecoverResourceManager, GetNotificationResourceManager, CreateEnlistment, OpenEnlistment, RecoverEnlistment, PrePrepareComplete, PrepareComplete, ReadOnlyEnlistment, CommitComplete, RollbackComplete, SinglePhaseReject, RollbackEnlistment, PrePrepareEnlistment, PrepareEnlistment, CommitEnlistment, SetEnlistmentRecoveryInformation, GetEnlistmentRecoveryInformation, ReadFile, GetFileSizeEx, FlushFileBuffers, FindFiles, FindFilesTransacted, KvSet, KvUnset, KvGet, KvList, DuplicateHandle}
+use Rattle.ktm_world.specs.declared.object.Object.{Object}
+use Rattle.ktm_world.specs.declared.object.Transaction.{Transaction}
+use Rattle.ktm_world.specs.declared.options.Durability.{Durability}
+use Rattle.ktm_world.specs.declared.options.EnlistmentKind.{EnlistmentKind}
+use Rattle.ktm_world.specs.declared.reply.Reply.{Reply}
+use Rattle.ktm_world.specs.declared.reply.Reply.TheVariants.{Done, Refused}
+use Rattle.ktm_world.specs.Decide.{of_files, on_file, caller, refusal_of, command_effect, with_room}
+use Rattle.ktm_world.specs.Enlistments.{Enlistment, Manager, is_superior}
+use Rattle.ktm_world.specs.FileCalls.{read_file, get_size, flush_file, find_files}
+use Rattle.ktm_world.specs.Files.{OpenFile}
+use Rattle.ktm_world.specs.HandleCalls.{exit, close_handle, duplicate_handle, bind_to}
+use Rattle.ktm_world.specs.Handles.{object_at, transaction_id}
+use Rattle.ktm_world.specs.Labels.{transaction_named, manager_named, enlistment_named, file_named}
+use Rattle.ktm_world.specs.Outcome.{Outcome, only_reply, first_refusal, refuse_or, within_log, is_full}
+use Rattle.ktm_world.specs.Phases.{Course, to_commit, aborting, committing, to_pre_prepare, to_prepare, pre_prepare_answered, prepare_answered, read_only_answered, commit_answered, rollback_answered, single_phase_rejected, recovered}
+use Rattle.ktm_world.specs.Present.{Present}
+use Rattle.ktm_world.specs.TransactionCalls.{course_of, arrived, open_transaction, open_to_transaction, transaction_with, commit_transaction, commit_reply, rollback_transaction, get_transaction_information, information_of, information_in, create_resource_manager, open_resource_manager, open_to_manager, manager_with, recover_resource_manager, get_notification, create_enlistment, open_enlistment, open_to_enlistment, enlistment_with, goes_on, answering, transaction_in, pre_prepare_complete, prepare_complete, read_only_enlistment, commit_complete, rollback_complete, single_phase_reject, rollback_enlistment, pre_prepare_enlistment, prepare_enlistment, commit_enlistment, recover_enlistment, set_information, get_information, tick}
+use Rattle.ktm_world.specs.Transactions.{transaction_at}
+use Rattle.ktm_laws.specs.Footprint.{IsIn, ListsLaw}
+use Rattle.ktm_laws.proofs.CoursesKept.{Steps, to_commit-is, aborting-is, committing-is, to_pre_prepare-is, to_prepare-is, pre_prepare_answered-is, prepare_answered-is, read_only_answered-is, commit_answered-is, rollback_answered-is, single_phase_rejected-is, recovered-is}
+use Rattle.ktm_laws.specs.FilesKept.{is_sound_step, FilesKeptLaw}
+use Rattle.ktm_laws.specs.Formed.{FormedLaw}
+use Rattle.ktm_laws.proofs.Arriving.{Goes, course-goes, tick-sound}
+use Rattle.ktm_laws.proofs.Releasing.{transaction_at-in}
+use Rattle.ktm_laws.proofs.PlainCalls.{deletes-file, creates-directory, removes-directory, moves-file}
+use Rattle.ktm_laws.proofs.Closing.{close_handle-goes, exit-goes}
+use Rattle.ktm_laws.proofs.Leaving.{KeepsFiles, replies, leaves, labelled, more-handles, answers_file}
+
+-- a call opens no file, and changes none but by the end of a transaction
+module _ (lists : ListsLaw) (formed : FormedLaw) where
+  abbrev Keeps : Present → Outcome → Type 0
+  Keeps x o = KeepsFiles x o
+
+  by : (x : Present) (o : Outcome) → Goes lists formed x o → Keeps x o
+  by x o goes order sound = (goes.keeps order sound).1
+
+  step : (x : Present) (t : Transaction) (caller : Option Id) (f : Course → Course) (reply : Course → Reply) → IsIn t x.transactions.items → Steps f → Keeps x (arrived x (f (course_of x t caller)) (reply (f (course_of x t caller))))
+  step x t caller f reply there steps = by x _ (course-goes lists formed x t caller f reply there steps)
+
+  answers : (x : Present) (e : Option Enlistment) (f : Course → Enlistment → Course) → ((e : Enlistment) → Steps (λ c. f c e)) → Keeps x (answering x e f)
+  answers x None f steps = replies lists formed x Done
+  answers x (Some e) f steps = go (transaction_in x e) refl
+    where
+      go : (t : Option Transaction) → transaction_in x e ≡ t → Keeps x (goes_on x e t (if is_superior e then Some e.id else None) f)
+      go None found = replies lists formed x Done
+      go (Some t) found = step x t (if is_superior e then Some e.id else None) (λ c. f c e) (λ c. Done) (transaction_at-in x.transactions.items e.transaction t found) (steps e)
+
+  -- the transaction that a label names is there
+  named-there : (x : Present) (process : Pid) (label : Label) (t : Transaction) → transaction_named x process label ≡ Some t → IsIn t x.transactions.items
+  named-there x process label t is = go (transaction_id (object_at x.handles process label)) is
+    where
+      go : (id : Option Id) → option_and_then (transaction_at x.transactions.items) id ≡ Some t → IsIn t x.transactions.items
+      go None none = absurd (none-some t none)
+      go (Some id) found = transaction_at-in x.transactions.items id t found
+
+  commits : (x : Present) (t : Option Transaction) → ((u : Transaction) → t ≡ Some u → IsIn u x.transactions.items) → Keeps x (commit_transaction x t)
+  unfolding commit_transaction
+  commits x None there = replies lists formed x Done
+  commits x (Some t) there = step x t None to_commit commit_reply (there t refl) to_commit-is
+
+  rolls_back : (x : Present) (t : Option Transaction) → ((u : Transaction) → t ≡ Some u → IsIn u x.transactions.items) → Keeps x (rollback_transaction x t)
+  unfolding rollback_transaction
+  rolls_back x None there = replies lists formed x Done
+  rolls_back x (Some t) there = step x t None aborting (λ c. Done) (there t refl) aborting-is
+
+  opens_transaction : (x : Present) (process : Pid) (label : Label) (guid : List ℕ) → Keeps x (open_transaction x process label guid)
+  unfolding open_transaction
+  opens_transaction x process label guid = go (transaction_with x guid)
+    where
+      go : (t : Option Transaction) → Keeps x (open_to_transaction x process label t)
+      go None = replies lists formed x Done
+      go (Some t) = labelled lists formed x process label (Object.Transaction t.id) Done
+
+  tells : (x : Present) (t : Option Transaction) → Keeps x (get_transaction_information x t)
+  unfolding get_transaction_information
+  tells x t = replies lists formed x (information_of x t)
+
+  makes_manager : (x : Present) (process : Pid) (label : Label) (durability : Durability) → Keeps x (create_resource_manager x process label durability)
+  unfolding create_resource_manager
+  makes_manager x process label Durability.Volatile = leaves lists formed x (create_resource_manager x process label Durability.Volatile) refl refl refl refl refl (more-handles lists formed x.handles process label _) refl
+  makes_manager x process label Durability.Durable = leaves lists formed x (create_resource_manager x process label Durability.Durable) refl refl refl refl refl (more-handles lists formed x.handles process label _) refl
+
+  opens_manager : (x : Present) (process : Pid) (label : Label) (guid : List ℕ) → Keeps x (open_resource_manager x process label guid)
+  unfolding open_resource_manager
+  opens_manager x process label guid = go (manager_with x guid)
+    where
+      go : (m : Option Manager) → Keeps x (open_to_manager x process label m)
+      go None = replies lists formed x Done
+      go (Some m) = labelled lists formed x process label (Object.Manager m.id) Done
+
+  recovers_manager : (x : Present) (m : Option Manager) → Keeps x (recover_resource_manager x m)
+  unfolding recover_resource_manager
+  recovers_manager x None = replies lists formed x Done
+  recovers_manager x (Some m) = leaves lists formed x (recover_resource_manager x (Some m)) refl refl refl refl refl (λ object has. has) refl
+
+  takes : (x : Present) (m : Option Manager) → Keeps x (get_notification x m)
+  unfolding get_notification
+  takes x None = replies lists formed x Done
+  takes x (Some m) = leaves lists formed x (get_notification x (Some m)) refl refl refl refl refl (λ object has. has) refl
+
+  enlists : (x : Present) (process : Pid) (label : Label) (m : Option Manager) (t : Option Transaction) (kind : EnlistmentKind) → Keeps x (create_enlistment x process label m t kind)
+  unfolding create_enlistment
+  enlists x process label (Some m) (Some t) kind = leaves lists formed x (create_enlistment x process label (Some m) (Some t) kind) refl refl refl refl refl (more-handles lists formed x.handles process label _) refl
+  enlists x process label None t kind = replies lists formed x Done
+  enlists x process label (Some m) None kind = replies lists formed x Done
+
+  opens_enlistment : (x : Present) (process : Pid) (label : Label) (m : Option Manager) (guid : List ℕ) → Keeps x (open_enlistment x process label m guid)
+  unfolding open_enlistment
+  opens_enlistment x process label m guid = go (enlistment_with x m guid)
+    where
+      go : (e : Option Enlistment) → Keeps x (open_to_enlistment x process label e)
+      go None = replies lists formed x Done
+      go (Some e) = labelled lists formed x process label (Object.Enlistment e.id) Done
+
+  recovers : (x : Present) (e : Option Enlistment) → Keeps x (recover_enlistment x e)
+  unfolding recover_enlistment
+  recovers x e = answers x e recovered (λ e t cs ss c is. recovered-is t cs ss c e is)
+
+  pre_prepares : (x : Present) (e : Option Enlistment) → Keeps x (pre_prepare_complete x e)
+  unfolding pre_prepare_complete
+  pre_prepares x e = answers x e pre_prepare_answered (λ e t cs ss c is. pre_prepare_answered-is t cs ss c e is)
+
+  prepares : (x : Present) (e : Option Enlistment) → Keeps x (prepare_complete x e)
+  unfolding prepare_complete
+  prepares x e = answers x e prepare_answered (λ e t cs ss c is. prepare_answered-is t cs ss c e is)
+
+  reads_only : (x : Present) (e : Option Enlistment) → Keeps x (read_only_enlistment x e)
+  unfolding read_only_enlistment
+  reads_only x e = answers x e read_only_answered (λ e t cs ss c is. read_only_answered-is t cs ss c e is)
+
+  has_committed : (x : Present) (e : Option Enlistment) → Keeps x (commit_complete x e)
+  unfolding commit_complete
+  has_committed x e = answers x e commit_answered (λ e t cs ss c is. commit_answered-is t cs ss c e is)
+
+  has_rolled_back : (x : Present) (e : Option Enlistment) → Keeps x (rollback_complete x e)
+  unfolding rollback_complete
+  has_rolled_back x e = answers x e rollback_answered (λ e t cs ss c is. rollback_answered-is t cs ss c e is)
+
+  rejects : (x : Present) (e : Option Enlistment) → Keeps x (single_phase_reject x e)
+  unfolding single_phase_reject
+  rejects x e = answers x e single_phase_rejected (λ e t cs ss c is. single_phase_rejected-is t cs ss c e is)
+
+  rolls_back_by : (x : Present) (e : Option Enlistment) → Keeps x (rollback_enlistment x e)
+  unfolding rollback_enlistment
+  rolls_back_by x e = answers x e (λ c e. aborting c) (λ e. aborting-is)
+
+  asks_pre_prepare : (x : Present) (e : Option Enlistment) → Keeps x (pre_prepare_enlistment x e)
+  unfolding pre_prepare_enlistment
+  asks_pre_prepare x e = answers x e (λ c e. to_pre_prepare c) (λ e. to_pre_prepare-is)
+
+  asks_prepare : (x : Present) (e : Option Enlistment) → Keeps x (prepare_enlistment x e)
+  unfolding prepare_enlistment
+  asks_prepare x e = answers x e (λ c e. to_prepare c) (λ e. to_prepare-is)
+
+  decides : (x : Present) (e : Option Enlistment) → Keeps x (commit_enlistment x e)
+  unfolding commit_enlistment
+  decides x e = answers x e (λ c e. committing c) (λ e. committing-is)
+
+  keeps_information : (x : Present) (e : Option Enlistment) (information : List ℕ) → Keeps x (set_information x e information)
+  unfolding set_information
+  keeps_information x None information = replies lists formed x Done
+  keeps_information x (Some e) information = leaves lists formed x (set_information x (Some e) information) refl refl refl refl refl (λ object has. has) refl
+
+  tells_information : (x : Present) (e : Option Enlistment) → Keeps x (get_information x e)
+  unfolding get_information
+  tells_information x e = replies lists formed x (information_in e)
+
+  duplicates : (x : Present) (process : Pid) (label : Label) (from : Pid) (source : Label) → Keeps x (duplicate_handle x process label from source)
+  unfolding duplicate_handle
+  duplicates x process label from source = go (object_at x.handles from source)
+    where
+      go : (object : Option Object) → Keeps x (bind_to x process label object)
+      go None = replies lists formed x Done
+      go (Some object) = labelled lists formed x process label object Done
+
+  reads_file : (x : Present) (o : Option OpenFile) (offset many : ℕ) → Keeps x (on_file x o (λ o. read_file x.files o offset many))
+  unfolding read_file
+  reads_file x None offset many = replies lists formed x Done
+  reads_file x (Some o) offset many = answers_file lists formed x o.transaction (read_file x.files o offset many) refl refl refl
+
+  tells_size : (x : Present) (o : Option OpenFile) → Keeps x (on_file x o (λ o. get_size x.files o))
+  unfolding get_size
+  tells_size x None = replies lists formed x Done
+  tells_size x (Some o) = answers_file lists formed x o.transaction (get_size x.files o) refl refl refl
+
+  flushes : (x : Present) (o : Option OpenFile) → Keeps x (on_file x o (λ o. flush_file))
+  flushes x None = replies lists formed x Done
+  flushes x (Some o) = answers_file lists formed x o.transaction flush_file refl refl refl
+
+  finds : (x : Present) (who : Option Id) (searched : List ℕ) → Keeps x (of_files x who (find_files x.files who searched))
+  unfolding find_files
+  finds x who searched = answers_file lists formed x who (find_files x.files who searched) refl refl refl
+
+  -- ---- every such call
+
+  effect : (x : Present) (process : Pid) (command : Command) → is_sound_step command ≡ true → refusal_of x process command ≡ None → Keeps x (command_effect x process command)
+  effect x process (OpenTransaction label guid) is none = opens_transaction x process label guid
+  effect x process (CommitTransaction label) is none = commits x (transaction_named x process label) (named-there x process label)
+  effect x process (RollbackTransaction label) is none = rolls_back x (transaction_named x process label) (named-there x process label)
+  effect x process (GetTransactionInformation label) is none = tells x (transaction_named x process label)
+  effect x process (CreateResourceManager label durability) is none = makes_manager x process label durability
+  effect x process (OpenResourceManager label guid) is none = opens_manager x process label guid
+  effect x process (RecoverResourceManager label) is none = recovers_manager x (manager_named x process label)
+  effect x process (GetNotificationResourceManager label) is none = takes x (manager_named x process label)
+  effect x process (CreateEnlistment label manager transaction kind) is none = enlists x process label (manager_named x process manager) (transaction_named x process transaction) kind
+  effect x process (OpenEnlistment label manager guid) is none = opens_enlistment x process label (manager_named x process manager) guid
+  effect x process (RecoverEnlistment label) is none = recovers x (enlistment_named x process label)
+  effect x process (PrePrepareComplete label) is none = pre_prepares x (enlistment_named x process label)
+  effect x process (PrepareComplete label) is none = prepares x (enlistment_named x process label)
+  effect x process (ReadOnlyEnlistment label) is none = reads_only x (enlistment_named x process label)
+  effect x process (CommitComplete label) is none = has_committed x (enlistment_named x process label)
+  effect x process (RollbackComplete label) is none = has_rolled_back x (enlistment_named x process label)
+  effect x process (SinglePhaseReject label) is none = rejects x (enlistment_named x process label)
+  effect x process (RollbackEnlistment label) is none = rolls_back_by x (enlistment_named x process label)
+  effect x process (PrePrepareEnlistment label) is none = asks_pre_prepare x (enlistment_named x process label)
+  effect x process (PrepareEnlistment label) is none = asks_prepare x (enlistment_named x process label)
+  effect x process (CommitEnlistment label) is none = decides x (enlistment_named x process label)
+  effect x process (SetEnlistmentRecoveryInformation label information) is none = keeps_information x (enlistment_named x process label) information
+  effect x process (GetEnlistmentRecoveryInformation label) is none = tells_information x (enlistment_named x process label)
+  effect x process (ReadFile file offset many) is none = reads_file x (file_named x process file) offset many
+  effect x process (GetFileSizeEx file) is none = tells_size x (file_named x process file)
+  effect x process (FlushFileBuffers file) is none = flushes x (file_named x process file)
+  effect x process (FindFiles searched) is none = finds x None searched
+  effect x process (FindFilesTransacted searched transaction) is none = finds x (caller x process transaction) searched
+  effect x process (KvSet transaction key value) is none = leaves lists formed x (command_effect x process (KvSet transaction key value)) refl refl refl refl refl (λ object has. has) refl
+  effect x process (KvUnset transaction key) is none = leaves lists formed x (command_effect x process (KvUnset transaction key)) refl refl refl refl refl (λ object has. has) refl
+  effect x process (KvGet view key) is none = leaves lists formed x (command_effect x process (KvGet view key)) refl refl refl refl refl (λ object has. has) refl
+  effect x process (KvList view) is none = leaves lists formed x (command_effect x process (KvList view)) refl refl refl refl refl (λ object has. has) refl
+  effect x process (DuplicateHandle label from source) is none = duplicates x process label from source
+  effect x process (DeleteFile path) is none = deletes-file lists formed x path (not x.machine.is_up, MachineDown) none
+  effect x process (CreateDirectory path) is none = creates-directory lists formed x path (not x.machine.is_up, MachineDown) none
+  effect x process (RemoveDirectory path) is none = removes-directory lists formed x path (not x.machine.is_up, MachineDown) none
+  effect x process (MoveFile source target) is none = moves-file lists formed x source target (not x.machine.is_up, MachineDown) none
+  effect x process (CloseHandle label) is none = by x (close_handle x process label) (close_handle-goes lists formed x process label)
+  effect x process Exit is none = by x (exit x process) (exit-goes lists formed x process)
+  effect x process _ is none = absurd (true≢false (sym is))
+
+  refuse_or-keeps : (x : Present) (refusal : Option Refusal) (effect : Outcome) → (refusal ≡ None → Keeps x effect) → Keeps x (refuse_or x refusal effect)
+  refuse_or-keeps x (Some refusal) effect keeps = replies lists formed x (Refused refusal)
+  refuse_or-keeps x None effect keeps = keeps refl
+
+  within_log-keeps : (x : Present) (o : Outcome) → Keeps x o → Keeps x (within_log x o)
+  within_log-keeps x o keeps = go (is_full x.machine.left o.events)
+    where
+      go : (b : Bool) → Keeps x (if b then record (only_reply x (Refused LogFull)) { stops = true } else o)
+      go true = leaves lists formed x (record (only_reply x (Refused LogFull)) { stops = true }) refl refl refl refl refl (λ object has. has) refl
+      go false = keeps
+
+  pub files_kept_law : FilesKeptLaw
+  files_kept_law = (
+    λ x process command is. within_log-keeps x (with_room x process command) (refuse_or-keeps x (refusal_of x process command) (command_effect x process command) (effect x process command is)),
+    λ x ms. let refusal = first_refusal ((not x.machine.is_up, MachineDown) ∷ []) in within_log-keeps x (refuse_or x refusal (tick x ms)) (refuse_or-keeps x refusal (tick x ms) (λ none. tick-sound lists formed x ms)),
+  )
