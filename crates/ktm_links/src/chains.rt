@@ -215,7 +215,7 @@ impl<K: Name, T> Chains<K, T> {
         ensures next { self.new.next ≡ self.old.next + 1 }
         ensures spare { self.new.spare + 1 ≡ self.old.spare }
 
-        // Of each name and of each key, what it stands for now.
+        // Of each name and of each key, what it stands for behind the call.
         ensures under { at self.new.entries (K.bytes name) ≡ Some (result, value) }
         ensures other_names { (q : Seq ℕ) → q ≢ K.bytes name → at self.new.entries q ≡ at self.old.entries q }
         ensures named { value_of self.new.entries result ≡ Some value }
@@ -239,7 +239,7 @@ impl<K: Name, T> Chains<K, T> {
         ensures kept { IfNone result (self.new.spare ≡ self.old.spare) }
         ensures no_less { self.old.spare ≤ self.new.spare }
 
-        // Of each name and of each key, what it stands for now.
+        // Of each name and of each key, what it stands for behind the call.
         ensures gone { at self.new.entries name.now ≡ None }
         ensures other_names { (q : Seq ℕ) → q ≢ name.now → at self.new.entries q ≡ at self.old.entries q }
         ensures now_spent { (k : Key) → key_at self.old.entries name.now ≡ Some k → IsSpent self.new k }
