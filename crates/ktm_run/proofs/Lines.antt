@@ -53,8 +53,8 @@ cut_at now (b ∷ bs) (suc end) within ends others =
     let other = others 0 (omega arith) in
     let further = cut_at (now ++ b ∷ []) bs end (omega (arith, within)) ends (λ k below. others (suc k) (omega (arith, below))) in (
       ap (λ t. cond t (now ∷ lines_from [] bs) (lines_from (now ++ b ∷ []) bs)) other
-      ∙ further.0
-      ∙ ap (λ (l : List ℕ). l ∷ lines_from [] (drop (suc end) bs)) (append_assoc now (b ∷ []) (take end bs)),
+          ∙ further.0
+          ∙ ap (λ (l : List ℕ). l ∷ lines_from [] (drop (suc end) bs)) (append_assoc now (b ∷ []) (take end bs)),
       ap (λ t. cond t (part_from [] bs) (part_from (now ++ b ∷ []) bs)) other ∙ further.1,
     )
 
