@@ -1,12 +1,14 @@
 -- Lemmas on keys in order of their values' names.
-use Rattle.std.proofs.Common.{◌≡◌, ◌⊎◌, ℕ, zero, suc, ◌<◌, ◌≤◌, true, false, List, [], ◌∷◌, ◌++◌, length, get_or, take, drop, Option, Some, None, is_some, refl, sym, ap, ◌∙◌, inl, inr, arith}
+use Rattle.std.proofs.Common.{◌≡◌, ◌⊎◌, ℕ, zero, suc, ◌<◌, ◌≤◌, ◌-◌, true, false, List, [], ◌∷◌, ◌++◌, length, get_or, take, drop, Option, Some, None, is_some, refl, sym, ap, subst, ◌∙◌, inl, inr, arith}
 use Rattle.std.specs.Prelude.{Ok, Err, OnSome}
+use Rattle.std.specs.List.{slice_get}
 use Rattle.std.specs.Option.{option_map}
 use Rattle.std.specs.Ordering.{is_eq, is_lt, ordering_index}
+use Rattle.std.specs.declared.cmp.Ordering.{Ordering}
 use Rattle.std.specs.declared.cmp.Ordering.TheVariants.{Less, Equal, Greater}
 use Rattle.std.specs.List.Sorted.{IsBinarySearchResult, IsNonDecreasingBy, IsPartitionPoint}
 use Rattle.std.proofs.lemmas.Bool.{cases_lt, cases_Bool}
-use Rattle.std.proofs.lemmas.Option.{same_Some}
+use Rattle.std.proofs.lemmas.Option.{get_or_from_slice_get, same_Some}
 use Rattle.ktm_links.specs.declared.list.Key.{Key}
 use Rattle.ktm_links.specs.Items.{Listed, IsSpent as IsSpentKey, Item, item, same_key, value_at, without}
 use Rattle.ktm_links.specs.Mapped.{Mapped, IsSpent, NameAndValue, NamedItem, name_cmp, at, first_from, key_at, put, without_name, value_of}
@@ -66,6 +68,25 @@ module _ {T : Type 0} where
       let s = some_of (value_at items k) present.0 in
       let rising' = rw (entries_of-cons items k ks s.0 s.1) at rising in
       searchable items name ks present.1 rising'.1 i j d (omega arith) (omega arith)
+
+  -- where the last name is below, all names are
+  pub all_below : (items : List (Item (NameAndValue T))) (name : List ℕ) (ks : List Key) → IsInOrder items ks → (last : Key) → slice_get ks (length ks - 1) ≡ Some last
+      → order_at items name last ≡ Less → (i : ℕ) (d : Key) → i < length ks → order_at items name (get_or ks i d) ≡ Less
+  all_below items name ks ordered last is less i d within = elim (cases_lt i (length ks - 1)) [
+    | inl lower ↦
+        (let highest = get_or_from_slice_get ks (length ks - 1) last d is in
+        least (order_at items name (get_or ks i d))
+        (subst (λ o. ordering_index (order_at items name (get_or ks i d)) ≤ ordering_index o) (ap (λ k. order_at items name k) highest ∙ less)
+        (searchable items name ks ordered.present ordered.rising i (length ks - 1) d (omega (arith, lower)) (omega (arith, within)))))
+    | inr upper ↦
+        (let same : i ≡ length ks - 1 = omega (arith, upper, within) in
+        ap (λ n. order_at items name (get_or ks n d)) same ∙ ap (λ k. order_at items name k) (get_or_from_slice_get ks (length ks - 1) last d is) ∙ less)
+  ]
+    where
+      least : (o : Ordering) → ordering_index o ≤ ordering_index Less → o ≡ Less
+      least Less small = refl
+      least Equal small = absurd (omega (arith, small))
+      least Greater small = absurd (omega (arith, small))
 
   -- a key whose value has the name is what the look-up by recursion finds
   key_at-found : (items : List (Item (NameAndValue T))) (name : List ℕ) (ks : List Key) (i : ℕ) (d : Key) → ArePresent items ks → IsRising (entries_of items ks)

@@ -64,13 +64,18 @@ fn search<K: Name, T>(
     order.binary_search_by(|key| order_of(values, *key, name))
 }
 
-// Where a name that is not there goes.
+// Where a name that is not there goes. Names mostly rise as they come, so the last one is compared first.
 fn gap<K: Name, T>(values: &List<Named<K, T>>, order: &[Key], name: &[u8]) -> usize
     requires ordered { IsInOrder values.now.items order.now }
     requires free { key_at (entries_of values.now.items order.now) name.now ≡ None }
     ensures bound { result ≤ length order.now }
     ensures gap { IsPartitionPoint (λ k. order_at values.now.items name.now k ≡ Less) (λ k. order_at values.now.items name.now k ≡ Greater) order.now result }
 {
+    if let Some(last) = order.last() {
+        if let Ordering::Less = order_of(values, *last, name) {
+            return order.len();
+        }
+    }
     match search(values, order, name) {
         Ok(i) => i,
         Err(i) => i,
