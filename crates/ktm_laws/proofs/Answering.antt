@@ -3,6 +3,8 @@ use Rattle.std.specs.Prelude.{if◌then◌else◌}
 use Rattle.std.proofs.Common.{◌≡◌, ℕ, ◌==◌, ◌&&◌, ◌||◌, not, Bool, true, false, List, [], ◌∷◌, ◌++◌, nat_lt, Option, Some, None, is_some, is_none, refl, sym, ◌∙◌, ap, subst, inl, inr, ◌⊎◌}
 use Rattle.std.proofs.lemmas.Bool.{cases_Bool, and_parts, and_from, and_cases, and_left, and_right, or_cases, or_left, or_right, eqb-true, not-true, not_from_false, true≢false, false_from_ne_true}
 use Rattle.std.proofs.lemmas.List.Sums.{length-filter}
+use Rattle.std.specs.List.{list_any}
+use Rattle.ktm_base.specs.declared.id.Id.{Id}
 use Rattle.ktm_base.specs.declared.notify.Notify.{Notify}
 use Rattle.ktm_world.specs.declared.event.DonePart.{DonePart}
 use Rattle.ktm_world.specs.declared.event.Event.{Event}
@@ -12,18 +14,19 @@ use Rattle.ktm_world.specs.declared.object.Transaction.{Transaction}
 use Rattle.ktm_world.specs.declared.object.TransactionOutcome.{TransactionOutcome}
 use Rattle.ktm_world.specs.Enlistments.{has_id, Sent, Enlistment, Manager, Owed, pre_prepare, prepare, commit, rollback, is_superior, is_open_for_votes, asks_pre_prepare, allows_one_phase, owes_pre_prepare, owes_prepare, owes_commit, owes_rollback, takes_part, is_unfinished, is_durable_at, with_enlistments, superior_of}
 use Rattle.ktm_world.specs.Phases.{Course, changing_one, someone_owes, when_none_owes, pre_prepare_answered, enlistment_part, prepare_answered, without_its_answer, recovered as recovered_by, read_only_answered, single_phase_rejected, finished, is_single_phase, commit_answered, rollback_answered, brought_back, recovered_in, in_phase, recording, telling, owing, unchanged, superior, ended, ended_if_finished, event_if, aborting, all_ready, pre_prepared}
-use Rattle.ktm_world.specs.Transactions.{same_id}
+use Rattle.ktm_world.specs.Transactions.{same_id, is_undecided}
 use Rattle.ktm_laws.specs.Footprint.{IsIn}
 use Rattle.ktm_laws.specs.SoundCourse.{is_last_recover, is_phase_back, is_unrecovered_well, is_outcome_of, is_of_its_boot, is_superior_as, is_idle, is_waiting, owes_until_finished, is_part_as, has_part, is_awaited_as, is_recorded_as, has_durable_part}
 use Rattle.ktm_laws.proofs.Diamonds.{none-from}
 use Rattle.ktm_laws.proofs.Lists.{IsIn-unmap}
 use Rattle.ktm_laws.proofs.Elements.{list_any-at, list_any-from}
-use Rattle.ktm_laws.proofs.Moves.{same-by_id, if_parts, moved-changing, unrecovered-moved, if_cases, IsIn-map, IsSame, IsSame-refl, IsAlike, NoBoots-one, NoBoots-if, Moved, Moved-then, moved-transaction, moved-recording, moved-telling, Changes, stepped, with-unchanged, is_bystander, Stand, Stand-with, Stand-as}
+use Rattle.ktm_laws.proofs.Moves.{same-by_id, if_parts, moved-changing, unrecovered-moved, if_cases, IsIn-map, IsSame, IsSame-refl, IsAlike, Moved, Moved-then, moved-transaction, moved-recording, moved-telling, Changes, stepped, with-unchanged, is_bystander, Stand, Stand-with, Stand-as, AreOwn-one, AreOwn-if, Knows, knows-one, knows-moved}
 use Rattle.ktm_laws.proofs.Procedures.{is_backed-from, waiting-parts, over-part, arrives-if_finished, may_be_told, arrives-aborting, none-at, list_any-told, list_any-with, filter-with, superior-with, idle-parts, part-parts, unprepared-recovered, Arrives, Stands, arrives-then, alike-owing, Stand-nobody, only-one, arrives-ended, arrives-all_ready}
 use Rattle.ktm_world.specs.Durable.{is_before}
 use Rattle.ktm_world.specs.TransactionCalls.{is_voting}
 use Rattle.ktm_laws.specs.GoodState.{each_pair}
 use Rattle.ktm_laws.proofs.Tables.{same_id-equal, same_id-from}
+use Rattle.ktm_laws.proofs.Outcomes.{committed-outcome, aborted-outcome}
 use Rattle.ktm_laws.proofs.Preparing.{Fresh, arrives-pre_prepared}
 
 -- ---- enlistments by their Ids
@@ -209,6 +212,16 @@ arrives-rolled_back boot c stands brought can = arrives-aborting boot c (is_back
       | inr unrecovered ↦ or_right _ _ (unrecovered-parts boot c.managers e (brought e there) unrecovered).2
     ])))
 
+-- before that the outcome is not known
+pub undecided-rolls : (t : Transaction) → can_roll_back t.phase ≡ true → is_outcome_of t.phase t ≡ true → is_undecided t ≡ true
+undecided-rolls t = go t.phase
+  where
+    go : (phase : Phase) → can_roll_back phase ≡ true → is_outcome_of phase t ≡ true → is_undecided t ≡ true
+    go Committing can is = absurd (true≢false (sym can))
+    go Aborting can is = absurd (true≢false (sym can))
+    go Ended can is = absurd (true≢false (sym can))
+    go _ can is = is
+
 -- ---- one enlistment answers
 
 module _ (boot : ℕ) (c : Course) (stands : Stands boot c) (brought : (e : Enlistment) → IsIn e c.enlistments → is_unrecovered_well boot c.managers e ≡ true) (rise : RiseEnlistments c.enlistments)
@@ -257,6 +270,46 @@ module _ (boot : ℕ) (c : Course) (stands : Stands boot c) (brought : (e : Enli
   stand-one before after f stand part alike changed left = Stand-with c.enlistments (c.transaction).id before after (has_id e.id) f stand
       (λ x there' is. subst (λ y. takes_part (c.transaction).id y ≡ true) (sym (it x there' is)) part) alike
       (λ x there' part' passes is. subst (λ y. after (f y) ≡ true) (sym (it x there' is)) (changed (subst (λ y. before y ≡ true) (it x there' is) passes))) left
+
+  -- what it owes tells whether the outcome is known
+  pub undecided-pre_prepare : owes_pre_prepare e ≡ true → is_undecided c.transaction ≡ true
+  undecided-pre_prepare owes = undecided-rolls c.transaction
+      (subst (λ p. can_roll_back p ≡ true) (sym (is-pre_preparing (c.transaction).phase (phase-owing pre_prepare (owed-pre_prepare e owes)))) refl) stands.outcome
+
+  pub undecided-prepare : owes_prepare e ≡ true → is_undecided c.transaction ≡ true
+  undecided-prepare owes = undecided-rolls c.transaction (subst (λ p. can_roll_back p ≡ true) (sym (is-preparing (c.transaction).phase (phase-owing prepare (owed-prepare e owes)))) refl) stands.outcome
+
+  -- an end that is known already
+  if_finished-known : (d : Course) (outcome : TransactionOutcome) → (d.transaction).outcome ≡ (c.transaction).outcome → outcome ≡ (c.transaction).outcome → ((ended_if_finished d outcome).transaction).outcome ≡ (c.transaction).outcome
+  unfolding ended
+  if_finished-known d outcome same is = if_cases (λ (x : Course). (x.transaction).outcome ≡ (c.transaction).outcome) (list_any (is_unfinished (d.transaction).id) d.enlistments) d (ended d outcome) (λ some. same) (λ none. is)
+
+  pub known-commit_answered : owes_commit e ≡ true → is_undecided c.transaction ≡ false → ((commit_answered c e).transaction).outcome ≡ (c.transaction).outcome
+  unfolding commit_answered ended
+  known-commit_answered owes known = elim (is-committing (c.transaction).phase (phase-owing commit (owed-commit e owes))) [
+    | inr phase ↦ absurd (true≢false (sym (undecided-rolls c.transaction (subst (λ p. can_roll_back p ≡ true) (sym phase) refl) stands.outcome) ∙ known))
+    | inl phase ↦
+        let is : TransactionOutcome.Committed ≡ (c.transaction).outcome = committed-outcome c.transaction (stands-in boot c Committing phase stands).outcome in
+        if_cases (λ (x : Course). (x.transaction).outcome ≡ (c.transaction).outcome) (is_single_phase (c.transaction).phase) (ended (finished c e) TransactionOutcome.Committed)
+        (ended_if_finished (recording (finished c e) (event_if (is_durable_at c.managers e.manager) (Event.Done (c.transaction).id (DonePart.Enlistment e.id)))) TransactionOutcome.Committed)
+        (λ single. is) (λ several. if_finished-known (recording (finished c e) (event_if (is_durable_at c.managers e.manager) (Event.Done (c.transaction).id (DonePart.Enlistment e.id)))) TransactionOutcome.Committed refl is)
+  ]
+
+  pub known-rollback_answered : owes_rollback e ≡ true → ((rollback_answered c e).transaction).outcome ≡ (c.transaction).outcome
+  unfolding rollback_answered
+  known-rollback_answered owes = if_finished-known (finished c e) TransactionOutcome.Aborted refl
+      (aborted-outcome c.transaction (stands-in boot c Aborting (is-aborting (c.transaction).phase (phase-owing rollback (owed-rollback e owes))) stands).outcome)
+
+  pub known-recovered : ((recovered_by c e).transaction).outcome ≡ (c.transaction).outcome
+  unfolding recovered_by
+  known-recovered = if_cases (λ (x : Course). (x.transaction).outcome ≡ (c.transaction).outcome) (is_superior e) (telling (brought_back c e) (has_id e.id) Notify.RecoverQuery unchanged) (recovered_in (c.transaction).phase (brought_back c e) e)
+      (λ above. refl) (λ below. told (c.transaction).phase)
+    where
+      told : (phase : Phase) → ((recovered_in phase (brought_back c e) e).transaction).outcome ≡ (c.transaction).outcome
+      told InDoubt = refl
+      told Committing = refl
+      told Aborting = refl
+      told _ = refl
 
   -- ---- PrePrepareComplete
 
@@ -384,7 +437,7 @@ module _ (boot : ℕ) (c : Course) (stands : Stands boot c) (brought : (e : Enli
     arrives-prepare_answered = if_cases (λ d. Arrives boot c (when_none_owes d all_ready)) (is_durable_at c.managers e.manager)
         (c_prepared (c.events ++ (Event.Ready (c.transaction).id (enlistment_part e) ∷ [])) true) (c_prepared c.events (c.transaction).is_recorded)
         (λ durable. goes-on (c.events ++ (Event.Ready (c.transaction).id (enlistment_part e) ∷ [])) true
-        (Moved-then (Moved-then prepared-moved (moved-recording (changing_one c e.id prepared) _ c.works (NoBoots-one (Event.Ready (c.transaction).id (enlistment_part e)) refl)))
+        (Moved-then (Moved-then prepared-moved (moved-recording (changing_one c e.id prepared) _ c.works (AreOwn-one (changing_one c e.id prepared) (Event.Ready (c.transaction).id (enlistment_part e)) refl (λ id is. knows-moved c (changing_one c e.id prepared) prepared-moved id (knows-one c e there id is)))))
         (moved-transaction (recording (changing_one c e.id prepared) (Event.Ready (c.transaction).id (enlistment_part e) ∷ [])) (record c.transaction { is_recorded = true }) refl refl refl))
         (rw (list_any-from (λ x. takes_part (c.transaction).id x && (x.is_prepared && is_durable_at c.managers x.manager)) (with_enlistments (has_id e.id) prepared c.enlistments) (stepped (has_id e.id) prepared e)
         (IsIn-map (stepped (has_id e.id) prepared) e c.enlistments there) (rw it-itself (and_from _ _ part_preparing durable))) refl))
@@ -617,9 +670,14 @@ module _ (boot : ℕ) (c : Course) (stands : Stands boot c) (brought : (e : Enli
     abbrev done_event : List Event
     done_event = event_if (is_durable_at c.managers e.manager) (Event.Done (c.transaction).id (DonePart.Enlistment e.id))
 
+    knows-two : (id : Id) → IsIn id ((c.transaction).id ∷ e.id ∷ []) → Knows c id
+    knows-two id (inl own') = inl (sym own')
+    knows-two id (inr (inl its)) = inr (e, there, inl (sym its))
+    knows-two id (inr (inr none)) = absurd none
+
     -- it was one of many
     one-committed : (c.transaction).phase ≡ Committing → Stands boot (in_phase c Committing) → Arrives boot c (ended_if_finished (recording (finished c e) done_event) TransactionOutcome.Committed)
-    one-committed phase at = arrives-then boot (Moved-then (finished-moved commit is_commit) (moved-recording (finished c e) _ c.works (NoBoots-if (is_durable_at c.managers e.manager) (Event.Done (c.transaction).id (DonePart.Enlistment e.id)) refl)))
+    one-committed phase at = arrives-then boot (Moved-then (finished-moved commit is_commit) (moved-recording (finished c e) _ c.works (AreOwn-if (finished c e) (is_durable_at c.managers e.manager) (Event.Done (c.transaction).id (DonePart.Enlistment e.id)) refl (λ id is. knows-moved c (finished c e) (finished-moved commit is_commit) id (knows-two id is)))))
         (arrives-if_finished boot (recording (finished c e) done_event) TransactionOutcome.Committed (is_part_as Committing) refl (is_backed-from boot c.transaction stands.boots) stand
         (λ x fits over. over-part owes_commit x (and_parts x.is_prepared _ fits).1 over)
         (λ some. stands-back boot (recording (finished c e) done_event) Committing phase (record {

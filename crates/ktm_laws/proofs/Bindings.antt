@@ -2,6 +2,9 @@
 use Rattle.std.proofs.Common.{◌≡◌, ℕ, ◌+◌, ◌≤◌, ◌==◌, ◌&&◌, not, true, false, List, [], ◌∷◌, length, nat_lt, Option, Some, None, is_some, refl, sym, ◌∙◌, subst, inl, inr}
 use Rattle.std.proofs.lemmas.Bool.{cases_Bool, and_parts, and_from, and_cases, or_parts, or_left, or_right, ltb-false, true≢false, not_from_false}
 use Rattle.std.proofs.lemmas.Option.{none-some, same_Some}
+use Rattle.ktm_laws.specs.Numbers.{names_objects}
+use Rattle.std.proofs.lemmas.List.Folds.{list_all-append}
+use Rattle.std.specs.List.{list_all}
 use Rattle.ktm_base.specs.declared.id.Label.{Label}
 use Rattle.ktm_base.specs.declared.id.Pid.{Pid}
 use Rattle.ktm_base.specs.declared.id.ObjectKind.{ObjectKind}
@@ -29,12 +32,14 @@ use Rattle.ktm_laws.specs.SoundCourse.{IsSoundCourse, is_object_there, have_labe
 use Rattle.ktm_laws.proofs.Elements.{IsIn-filter, list_all-at, list_any-from, each_pair-filter}
 use Rattle.ktm_laws.proofs.Tables.{same_id-from}
 use Rattle.ktm_laws.proofs.Answering.{can_roll_back}
-use Rattle.ktm_laws.proofs.Moves.{if_cases, NoBoots, NoBoots-none, NoBoots-one}
+use Rattle.ktm_laws.proofs.Moves.{find-found, if_cases, NoBoots, NoBoots-none, NoBoots-one}
 use Rattle.ktm_laws.proofs.Views.{sound-alike, sound-served}
-use Rattle.ktm_laws.proofs.Settling.{settled, IsSoundOutcome, events-kept, sound-apply, sound-only_reply, sound-own, sound-joined, IsQuiet, quiet-only_reply, quiet-arrived, quiet-joined}
-use Rattle.ktm_laws.proofs.Makings.{list_any-last, next_id, sound-handles, sound-bound}
+use Rattle.ktm_laws.specs.Outcomes.{OutcomesStay}
+use Rattle.ktm_laws.proofs.Outcomes.{stay-refl, stay-then, stay-push}
+use Rattle.ktm_laws.proofs.Settling.{Keeps, settled, IsSoundOutcome, events-kept, sound-apply, sound-only_reply, sound-own, sound-joined, IsQuiet, quiet-only_reply, quiet-arrived, quiet-joined}
+use Rattle.ktm_laws.proofs.Makings.{list_any-last, next_id, sound-handles, sound-bound, counted-parts, counted-next}
 use Rattle.ktm_laws.proofs.Beginnings.{with_transaction, sound-with_transaction, with_manager, sound-with_manager, new_enlistment, with_new_enlistment, sound-with_enlistment, sound-clock, sound-with_information}
-use Rattle.ktm_laws.proofs.Calls.{Passes, passed, not-not, transaction_at-found, find-found, active-phase, may-roll, sound-aborted_by}
+use Rattle.ktm_laws.proofs.Calls.{Passes, passed, not-not, transaction_at-found, active-phase, may-roll, sound-aborted_by}
 
 -- ---- labels
 
@@ -45,6 +50,8 @@ sound-binding x process label object o sound free there = record {
   events = sound.events;
   made = sound.made;
   notes = sound.notes;
+  outcomes = sound.outcomes;
+  objects = sound.objects;
 }
 
 -- a label is bound to what is there
@@ -64,7 +71,7 @@ sound-create_transaction x process label timeout sound passes =
     let few = or_parts _ _ (or_parts _ _ quota.0).1 in
     let id = next_id (x.recorded).boots (x.transactions).last_transaction in
     sound-binding x process label (TransactionObject id) (record (only_reply x (Guid (guid_in x ObjectKind.Transaction id))) { transactions = (with_transaction x timeout).transactions })
-    (record { settled = sound-with_transaction x timeout sound (number-fits (x.transactions).last_transaction few.1); events = NoBoots-none; made = refl; notes = λ s none. absurd none })
+    (record { settled = sound-with_transaction x timeout sound (number-fits (x.transactions).last_transaction few.1); events = NoBoots-none; made = refl; outcomes = stay-push (x.transactions).items _; objects = refl; notes = λ s none. absurd none })
     free.0
     (list_any-last (λ (t : Transaction). same_id t.id id) (x.transactions).items _ (same_id-from id id refl))
 
@@ -77,7 +84,7 @@ sound-open_transaction x process label guid sound passes = go (transaction_with 
     go (Some t) is = sound-bound_only x process label (TransactionObject t.id) Done sound (passed passes).0
         (list_any-from (λ (u : Transaction). same_id u.id t.id) (x.transactions).items t (find-found _ (x.transactions).items t is).0 (same_id-from t.id t.id refl))
 
-pub sound-create_manager : (x : Present) (process : Pid) (label : Label) (durability : Durability) → IsSoundCourse x → Passes (create_resource_manager_tests x process label) → IsSoundCourse (apply x (create_resource_manager x process label durability))
+pub sound-create_manager : (x : Present) (process : Pid) (label : Label) (durability : Durability) → IsSoundCourse x → Passes (create_resource_manager_tests x process label) → Keeps x (create_resource_manager x process label durability)
 unfolding create_resource_manager create_resource_manager_tests
 sound-create_manager x process label durability sound passes =
     let free = passed passes in
@@ -87,10 +94,17 @@ sound-create_manager x process label durability sound passes =
     let durable = is_durable durability in
     let events = if_cases (λ events. NoBoots events) durable (MadeRm id ∷ []) [] (λ is. NoBoots-one (MadeRm id) refl) (λ is. NoBoots-none) in
     let kept = events-kept _ x.recorded events in
-    let made = sound-with_manager x durable sound (number-fits (x.transactions).last_manager few.1) in
+    let fits = number-fits (x.transactions).last_manager few.1 in
+    let made = sound-with_manager x durable sound fits in
+    let drawn = counted-parts (x.recorded).boots ((x.transactions).last_manager + 1) id (counted-next (x.recorded).boots (x.transactions).last_manager sound.booted fits) in
+    let named : list_all names_objects (MadeRm id ∷ []) ≡ true = and_from _ _ (and_from _ _ (and_from _ _ (and_from _ _ drawn.0 drawn.2) drawn.3) refl) refl in
     let bound = sound-bound (with_manager x durable) process label (ManagerObject id) made free.0 (list_any-last (λ (m : Manager). same_id m.id id) x.managers _ (same_id-from id id refl)) in
-    sound-alike _ (apply x (create_resource_manager x process label durability)) (record { boots = sym kept.0; image = sym kept.1; transactions = refl; managers = refl; handles = refl; own = refl; settings = refl })
-    (sound-served _ None [] bound (λ s none. absurd none))
+    record {
+      sound = sound-alike _ (apply x (create_resource_manager x process label durability)) (record { boots = sym kept.0; image = sym kept.1; transactions = refl; managers = refl; handles = refl; own = refl; settings = refl })
+          (sound-served _ None [] bound (λ s none. absurd none));
+      outcomes = stay-refl (x.transactions).items;
+      objects = if_cases (λ events. list_all names_objects events ≡ true) durable (MadeRm id ∷ []) [] (λ is. named) (λ is. refl);
+    }
 
 pub sound-open_manager : (x : Present) (process : Pid) (label : Label) (guid : List ℕ) → IsSoundCourse x → Passes (open_resource_manager_tests x process label guid) → IsSoundOutcome x (open_resource_manager x process label guid)
 unfolding open_resource_manager open_resource_manager_tests
@@ -129,6 +143,8 @@ sound-create_enlistment x process label (Some m) (Some t) kind sound manager tra
           (λ superior. elim (and_cases _ _ single.0) [ inl other ↦ absurd (true≢false (sym superior ∙ superior-kind x m t kind ∙ other)) | inr alone ↦ alone ]);
       events = NoBoots-none;
       made = refl;
+      outcomes = stay-refl (x.transactions).items;
+      objects = refl;
       notes = λ s none. absurd none;
     })
     free.0
@@ -170,6 +186,8 @@ sound-keep_information x (Some e) information sound passes = record {
   settled = sound-with_information x e.id information sound (ltb-false most_information (length information) (passed (passed (passed passes).1).1).0);
   events = NoBoots-none;
   made = refl;
+  outcomes = stay-refl (x.transactions).items;
+  objects = refl;
   notes = λ s none. absurd none;
 }
 
@@ -194,7 +212,7 @@ soundly-last x (TransactionObject id) sound = soundly-abort_active x (transactio
 soundly-last x (ManagerObject id) sound = soundly-reply x Done sound
 soundly-last x (EnlistmentObject id) sound = soundly-reply x Done sound
 soundly-last x (FileObject number) sound = record {
-  sound = record { settled = sound-own x (closed_file (x.files).table number) (x.keys).own sound (λ t there one. (refl, refl)); events = NoBoots-none; made = refl; notes = λ s none. absurd none };
+  sound = record { settled = sound-own x (closed_file (x.files).table number) (x.keys).own sound (λ t there one. (refl, refl)); events = NoBoots-none; made = refl; outcomes = stay-refl (x.transactions).items; objects = refl; notes = λ s none. absurd none };
   quiet = record { took = refl; made = refl };
 }
 
@@ -202,16 +220,21 @@ soundly-gone : (o : Option Object) (x : Present) → IsSoundCourse x → IsSound
 soundly-gone None x sound = soundly-reply x Done sound
 soundly-gone (Some object) x sound = if_cases (λ o. IsSoundly x o) (has_handle x.handles object) (only_reply x Done) (last_handle_gone x object) (λ has. soundly-reply x Done sound) (λ last. soundly-last x object sound)
 
--- a sound machine after an outcome that takes and makes nothing
+-- a sound machine after an outcome that takes and makes nothing, and with the outcomes that were known
 record StaysSound (x : Present) (o : Outcome) : Type 0 where
   sound : IsSoundCourse (apply x o)
   quiet : IsQuiet o
+  outcomes : OutcomesStay (x.transactions).items (o.transactions).items
+  objects : list_all names_objects o.events ≡ true
 
 stays-sound : (x : Present) (o : Outcome) → IsSoundly x o → StaysSound x o
-stays-sound x o soundly = record { sound = sound-apply x o soundly.sound; quiet = soundly.quiet }
+stays-sound x o soundly = record { sound = sound-apply x o soundly.sound; quiet = soundly.quiet; outcomes = (soundly.sound).outcomes; objects = (soundly.sound).objects }
+
+keeps-of : (x : Present) (o : Outcome) → StaysSound x o → Keeps x o
+keeps-of x o stays = record { sound = stays.sound; outcomes = stays.outcomes; objects = stays.objects }
 
 stays-then : (x : Present) (a : Outcome) (next : Present → Outcome) → StaysSound x a → (IsSoundCourse (apply x a) → StaysSound (apply x a) (next (apply x a))) → StaysSound x (and_then x a next)
-stays-then x a next first second = let rest = second first.sound in record { sound = sound-joined x a (next (apply x a)) rest.quiet rest.sound; quiet = quiet-joined a (next (apply x a)) first.quiet rest.quiet }
+stays-then x a next first second = let rest = second first.sound in record { sound = sound-joined x a (next (apply x a)) rest.quiet rest.sound; quiet = quiet-joined a (next (apply x a)) first.quiet rest.quiet; outcomes = stay-then (x.transactions).items (a.transactions).items ((next (apply x a)).transactions).items first.outcomes rest.outcomes; objects = list_all-append names_objects a.events (next (apply x a)).events ∙ and_from _ _ first.objects rest.objects }
 
 stays-closed : (x : Present) (process : Pid) (label : Label) → IsSoundCourse x → StaysSound x (close_handle x process label)
 unfolding close_handle
@@ -222,22 +245,24 @@ stays-closed x process label sound = stays-then x (record (only_reply x Done) { 
             (λ h there. list_all-at (λ (h : Handle). is_object_there x h.object) x.handles sound.objects_there h (IsIn-filter (λ h. not (is_handle process label h)) x.handles h there).0);
         events = NoBoots-none;
         made = refl;
+        outcomes = stay-refl (x.transactions).items;
+        objects = refl;
         notes = λ s none. absurd none;
       };
       quiet = record { took = refl; made = refl };
     }))
     (λ sound'. stays-sound _ _ (soundly-gone (object_at x.handles process label) _ sound'))
 
-pub sound-close_handle : (x : Present) (process : Pid) (label : Label) → IsSoundCourse x → IsSoundCourse (apply x (close_handle x process label))
-sound-close_handle x process label sound = (stays-closed x process label sound).sound
+pub sound-close_handle : (x : Present) (process : Pid) (label : Label) → IsSoundCourse x → Keeps x (close_handle x process label)
+sound-close_handle x process label sound = keeps-of x (close_handle x process label) (stays-closed x process label sound)
 
 stays-closed_all : (labels : List Label) (x : Present) (process : Pid) → IsSoundCourse x → StaysSound x (closed_in_turn x process labels)
 stays-closed_all [] x process sound = stays-sound x (only_reply x Done) (soundly-reply x Done sound)
 stays-closed_all (label ∷ labels) x process sound = stays-then x (close_handle x process label) (λ next. closed_in_turn next process labels) (stays-closed x process label sound) (λ sound'. stays-closed_all labels _ process sound')
 
-pub sound-exit : (x : Present) (process : Pid) → IsSoundCourse x → IsSoundCourse (apply x (exit x process))
+pub sound-exit : (x : Present) (process : Pid) → IsSoundCourse x → Keeps x (exit x process)
 unfolding exit
-sound-exit x process sound = (stays-closed_all (labels_of x.handles process) x process sound).sound
+sound-exit x process sound = keeps-of x (closed_in_turn x process (labels_of x.handles process)) (stays-closed_all (labels_of x.handles process) x process sound)
 
 -- ---- time
 
@@ -252,6 +277,6 @@ stays-in_turn [] x sound = stays-sound x (only_reply x Done) (soundly-reply x Do
 stays-in_turn (t ∷ ts) x sound = stays-then x (aborted_if_due x (transaction_at (x.transactions).items t.id)) (λ next. aborted_in_turn next ts)
     (stays-due x (transaction_at (x.transactions).items t.id) sound (λ u is. (transaction_at-found (x.transactions).items t.id u is).0)) (λ sound'. stays-in_turn ts _ sound')
 
-pub sound-tick : (x : Present) (ms : ℕ) → IsSoundCourse x → IsSoundCourse (apply x (tick x ms))
+pub sound-tick : (x : Present) (ms : ℕ) → IsSoundCourse x → Keeps x (tick x ms)
 unfolding tick
-sound-tick x ms sound = (stays-in_turn (x.transactions).items (with_clock x ms) (sound-clock x ms sound)).sound
+sound-tick x ms sound = let stays = stays-in_turn (x.transactions).items (with_clock x ms) (sound-clock x ms sound) in record { sound = stays.sound; outcomes = stays.outcomes; objects = stays.objects }

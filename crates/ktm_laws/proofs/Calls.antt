@@ -1,6 +1,6 @@
 -- The calls on transactions and enlistments that are there: what each comes to is sound.
 use Rattle.std.specs.Prelude.{if◌then◌else◌}
-use Rattle.std.proofs.Common.{◌≡◌, ℕ, ◌&&◌, not, Bool, true, false, List, [], ◌∷◌, map, filter, find, Option, Some, None, refl, sym, ◌∙◌, ap, subst, inl, inr, ◌⊎◌}
+use Rattle.std.proofs.Common.{◌≡◌, ℕ, ◌&&◌, not, Bool, true, false, List, [], ◌∷◌, map, filter, Option, Some, None, refl, sym, ◌∙◌, ap, subst, inl, inr, ◌⊎◌}
 use Rattle.std.specs.Prelude.{option_and_then}
 use Rattle.std.proofs.lemmas.Bool.{cases_Bool, and_parts, and_from, or_left, true≢false, not-true}
 use Rattle.std.proofs.lemmas.Option.{none-some, same_Some}
@@ -21,7 +21,7 @@ use Rattle.ktm_world.specs.Outcome.{first_refusal}
 use Rattle.ktm_world.specs.Phases.{Course, aborting, committing, to_commit, to_pre_prepare, to_prepare, pre_prepare_answered, prepare_answered, read_only_answered, commit_answered, rollback_answered, single_phase_rejected, recovered}
 use Rattle.ktm_world.specs.Present.{Present}
 use Rattle.ktm_world.specs.TransactionCalls.{course_of, commit_reply, commit_of, aborted_by, rollback_of, may_roll_back, rollback_transaction_tests, transaction_in, phase_passes, is_voting, lets_superior_roll_back, before_pre_prepare, before_prepare, waits_for_superior, is_one_phase, may_vote, may_roll_back_by, may_reject_one_phase, may_recover, enlistment_tests, superior_tests, goes_on, answering, is_to_recover, recover_notes, recover_all, take_first}
-use Rattle.ktm_world.specs.Transactions.{same_id, transaction_at, is_active}
+use Rattle.ktm_world.specs.Transactions.{same_id, transaction_at, is_active, is_undecided}
 use Rattle.ktm_laws.specs.Footprint.{IsIn}
 use Rattle.ktm_laws.specs.SoundCourse.{IsSoundCourse, is_note_of}
 use Rattle.ktm_laws.proofs.Lists.{IsIn-cases, IsIn-unmap}
@@ -29,10 +29,11 @@ use Rattle.ktm_laws.proofs.Elements.{IsIn-filter, list_any-from}
 use Rattle.ktm_laws.proofs.Tables.{same_id-equal, same_id-from}
 use Rattle.ktm_laws.proofs.Procedures.{Stands, Arrives, is_backed-from, arrives-committing}
 use Rattle.ktm_laws.proofs.Preparing.{Fresh, arrives-to_prepare, arrives-to_pre_prepare, arrives-to_commit}
-use Rattle.ktm_laws.proofs.Answering.{stands-in, here-from, fresh-from, can_roll_back, voting-rolls, arrives-rolled_back, arrives-pre_prepare_answered, arrives-prepare_answered, arrives-read_only_answered, arrives-single_phase_rejected, arrives-commit_answered, arrives-rollback_answered, arrives-recovered}
+use Rattle.ktm_laws.proofs.Answering.{stands-in, here-from, fresh-from, can_roll_back, voting-rolls, undecided-rolls, undecided-pre_prepare, undecided-prepare, known-commit_answered, known-rollback_answered, known-recovered, arrives-rolled_back, arrives-pre_prepare_answered, arrives-prepare_answered, arrives-read_only_answered, arrives-single_phase_rejected, arrives-commit_answered, arrives-rollback_answered, arrives-recovered}
 use Rattle.ktm_laws.proofs.Arrivals.{stands-now, brought-now}
+use Rattle.ktm_laws.proofs.Outcomes.{stay-refl, undecided-free}
 use Rattle.ktm_laws.proofs.Settling.{IsSoundOutcome, sound-only_reply, sound-arrived}
-use Rattle.ktm_laws.proofs.Moves.{NoBoots-none}
+use Rattle.ktm_laws.proofs.Moves.{NoBoots-none, find-found}
 
 -- ---- refusals
 
@@ -57,13 +58,6 @@ transaction_at-found [] id t found = absurd (none-some t found)
 transaction_at-found (a ∷ ts) id t found = elim (cases_Bool (same_id a.id id)) [
   | inl same ↦ let e : a ≡ t = same_Some a t (rw same at found) in (inl e, ap (λ (r : Transaction). r.id) (sym e) ∙ same_id-equal a.id id same)
   | inr other ↦ let rest = transaction_at-found ts id t (rw other at found) in (inr rest.0, rest.1)
-]
-
-pub find-found : {X : Type 0} (test : X → Bool) (xs : List X) (x : X) → find test xs ≡ Some x → IsIn x xs × (test x ≡ true)
-find-found test [] x found = absurd (none-some x found)
-find-found test (y ∷ ys) x found = elim (cases_Bool (test y)) [
-  | inl is ↦ let e : y ≡ x = same_Some y x (rw is at found) in (inl e, subst (λ z. test z ≡ true) e is)
-  | inr other ↦ let rest = find-found test ys x (rw other at found) in (inr rest.0, rest.1)
 ]
 
 -- what was found by way of something else
@@ -147,6 +141,7 @@ module _ (x : Present) (sound : IsSoundCourse x) (t : Transaction) (there : IsIn
 
   pub sound-aborted_by : (reply : Reply) → can_roll_back t.phase ≡ true → IsSoundOutcome x (aborted_by x t caller reply)
   sound-aborted_by reply can = sound-arrived x t caller (aborting c) reply sound there (arrives-rolled_back boot c stands (brought-now x t caller sound) can)
+      (undecided-free t (aborting c).transaction (undecided-rolls t can stands.outcome))
 
 pub sound-commit_of : (x : Present) (o : Option Transaction) → IsSoundCourse x → ((t : Transaction) → o ≡ Some t → IsIn t (x.transactions).items) → Passes (transaction_tests o) → IsSoundOutcome x (commit_of x o)
 sound-commit_of x None sound there tests = sound-only_reply x Done sound
@@ -155,6 +150,7 @@ sound-commit_of x (Some t) sound there tests =
     let is = active-phase t (not-not _ active.0) in
     sound-arrived x t None (to_commit (course_of x t None)) (commit_reply (to_commit (course_of x t None))) sound (there t refl)
     (arrives-to_commit (x.recorded).boots (course_of x t None) (fresh-active x sound t (there t refl) None is))
+    (undecided-free t (to_commit (course_of x t None)).transaction ((fresh-active x sound t (there t refl) None is).undecided))
 
 pub sound-rollback_of : (x : Present) (o : Option Transaction) → IsSoundCourse x → ((t : Transaction) → o ≡ Some t → IsIn t (x.transactions).items) → Passes (rollback_transaction_tests o) → IsSoundOutcome x (rollback_of x o)
 sound-rollback_of x None sound there tests = sound-only_reply x Done sound
@@ -164,15 +160,25 @@ sound-rollback_of x (Some t) sound there tests =
 
 -- ---- enlistments
 
+-- it has gone on and is sound again, and an outcome that was known is the same
+pub record Goes (boot : ℕ) (c d : Course) : Type 0 where
+  pub arrives : Arrives boot c d
+  pub known : is_undecided c.transaction ≡ false → (d.transaction).outcome ≡ (c.transaction).outcome
+
+-- a call that is made while the outcome is not known
+goes-undecided : (n : ℕ) (a b : Course) → Arrives n a b → is_undecided a.transaction ≡ true → Goes n a b
+goes-undecided n a b arrives is = record { arrives = arrives; known = undecided-free a.transaction b.transaction is }
+
 -- a transaction goes on by what an enlistment answers
 abbrev pub Answers : Present → (Course → Enlistment → Course) → Enlistment → Type 0
-Answers x step e = (t : Transaction) (caller : Option Id) → IsIn t (x.transactions).items → same_id e.transaction t.id ≡ true → transaction_in x e ≡ Some t → Arrives (x.recorded).boots (course_of x t caller) (step (course_of x t caller) e)
+Answers x step e = (t : Transaction) (caller : Option Id) → IsIn t (x.transactions).items → same_id e.transaction t.id ≡ true → transaction_in x e ≡ Some t → Goes (x.recorded).boots (course_of x t caller) (step (course_of x t caller) e)
 
 sound-goes_on : (x : Present) (e : Enlistment) (o : Option Transaction) (caller : Option Id) (step : Course → Enlistment → Course) → IsSoundCourse x → transaction_in x e ≡ o → Answers x step e → IsSoundOutcome x (goes_on x e o caller step)
 sound-goes_on x e None caller step sound is answers = sound-only_reply x Done sound
 sound-goes_on x e (Some t) caller step sound is answers =
     let found = transaction_at-found (x.transactions).items e.transaction t is in
-    sound-arrived x t caller (step (course_of x t caller) e) Done sound found.0 (answers t caller found.0 (same_id-from e.transaction t.id (sym found.1)) is)
+    let goes = answers t caller found.0 (same_id-from e.transaction t.id (sym found.1)) is in
+    sound-arrived x t caller (step (course_of x t caller) e) Done sound found.0 (goes.arrives) (goes.known)
 
 pub sound-answering : (x : Present) (o : Option Enlistment) (step : Course → Enlistment → Course) → IsSoundCourse x → ((e : Enlistment) → o ≡ Some e → Answers x step e) → IsSoundOutcome x (answering x o step)
 sound-answering x None step sound answers = sound-only_reply x Done sound
@@ -193,39 +199,62 @@ phase-passed : (x : Present) (test : Phase → Bool) (e : Enlistment) (t : Trans
 phase-passed x test e t is passes = subst (λ (o : Option Transaction). holds_of (λ t. test t.phase) o ≡ true) is passes
 
 module _ (x : Present) (sound : IsSoundCourse x) (o : Option Enlistment) (there : (e : Enlistment) → o ≡ Some e → IsIn e (x.transactions).enlistments) where
+  -- a call that is made while the outcome is not known, as the phase tells
+  goes : (t : Transaction) (caller : Option Id) → IsIn t (x.transactions).items → (d : Course) → Arrives (x.recorded).boots (course_of x t caller) d → can_roll_back t.phase ≡ true → Goes (x.recorded).boots (course_of x t caller) d
+  goes t caller at d arrives can = goes-undecided (x.recorded).boots (course_of x t caller) d arrives (undecided-rolls t can (stands-now x t caller sound at).outcome)
+
   pub sound-pre_prepare_complete : Passes (enlistment_tests o owes_pre_prepare) → IsSoundOutcome x (answering x o pre_prepare_answered)
-  sound-pre_prepare_complete tests = sound-answering x o pre_prepare_answered sound (λ e is t caller at own found. arrives-pre_prepare_answered (x.recorded).boots (course_of x t caller)
-      (stands-now x t caller sound at) (brought-now x t caller sound) sound.enlistments_rise e (there e is) own (enlistment-allowed o owes_pre_prepare e is tests))
+  sound-pre_prepare_complete tests = sound-answering x o pre_prepare_answered sound (λ e is t caller at own found.
+      let owes = enlistment-allowed o owes_pre_prepare e is tests in
+      goes-undecided (x.recorded).boots (course_of x t caller) (pre_prepare_answered (course_of x t caller) e)
+      (arrives-pre_prepare_answered (x.recorded).boots (course_of x t caller) (stands-now x t caller sound at) (brought-now x t caller sound) sound.enlistments_rise e (there e is) own owes)
+      (undecided-pre_prepare (x.recorded).boots (course_of x t caller) (stands-now x t caller sound at) (brought-now x t caller sound) sound.enlistments_rise e (there e is) own owes))
 
   pub sound-prepare_complete : Passes (enlistment_tests o owes_prepare) → IsSoundOutcome x (answering x o prepare_answered)
-  sound-prepare_complete tests = sound-answering x o prepare_answered sound (λ e is t caller at own found. arrives-prepare_answered (x.recorded).boots (course_of x t caller)
-      (stands-now x t caller sound at) (brought-now x t caller sound) sound.enlistments_rise e (there e is) own (enlistment-allowed o owes_prepare e is tests))
+  sound-prepare_complete tests = sound-answering x o prepare_answered sound (λ e is t caller at own found.
+      let owes = enlistment-allowed o owes_prepare e is tests in
+      goes-undecided (x.recorded).boots (course_of x t caller) (prepare_answered (course_of x t caller) e)
+      (arrives-prepare_answered (x.recorded).boots (course_of x t caller) (stands-now x t caller sound at) (brought-now x t caller sound) sound.enlistments_rise e (there e is) own owes)
+      (undecided-prepare (x.recorded).boots (course_of x t caller) (stands-now x t caller sound at) (brought-now x t caller sound) sound.enlistments_rise e (there e is) own owes))
 
   pub sound-read_only : Passes (enlistment_tests o (may_vote x)) → IsSoundOutcome x (answering x o read_only_answered)
   sound-read_only tests = sound-answering x o read_only_answered sound (λ e is t caller at own found.
       let may = enlistment-allowed o (may_vote x) e is tests in
       let phase = and_parts (not (is_superior e) && is_open_for_votes e) (phase_passes x is_voting e) may in
       let both = and_parts (not (is_superior e)) (is_open_for_votes e) phase.0 in
-      arrives-read_only_answered (x.recorded).boots (course_of x t caller) (stands-now x t caller sound at) (brought-now x t caller sound) sound.enlistments_rise e (there e is) own
-      (not-true _ both.0) both.1 (phase-passed x is_voting e t found phase.1))
+      let voting = phase-passed x is_voting e t found phase.1 in
+      goes t caller at (read_only_answered (course_of x t caller) e)
+      (arrives-read_only_answered (x.recorded).boots (course_of x t caller) (stands-now x t caller sound at) (brought-now x t caller sound) sound.enlistments_rise e (there e is) own (not-true _ both.0) both.1 voting)
+      (voting-rolls t.phase voting))
 
   pub sound-commit_complete : Passes (enlistment_tests o owes_commit) → IsSoundOutcome x (answering x o commit_answered)
-  sound-commit_complete tests = sound-answering x o commit_answered sound (λ e is t caller at own found. arrives-commit_answered (x.recorded).boots (course_of x t caller)
-      (stands-now x t caller sound at) (brought-now x t caller sound) sound.enlistments_rise e (there e is) own (enlistment-allowed o owes_commit e is tests))
+  sound-commit_complete tests = sound-answering x o commit_answered sound (λ e is t caller at own found.
+      let owes = enlistment-allowed o owes_commit e is tests in
+      record {
+        arrives = arrives-commit_answered (x.recorded).boots (course_of x t caller) (stands-now x t caller sound at) (brought-now x t caller sound) sound.enlistments_rise e (there e is) own owes;
+        known = known-commit_answered (x.recorded).boots (course_of x t caller) (stands-now x t caller sound at) (brought-now x t caller sound) sound.enlistments_rise e (there e is) own owes;
+      })
 
   pub sound-rollback_complete : Passes (enlistment_tests o owes_rollback) → IsSoundOutcome x (answering x o rollback_answered)
-  sound-rollback_complete tests = sound-answering x o rollback_answered sound (λ e is t caller at own found. arrives-rollback_answered (x.recorded).boots (course_of x t caller)
-      (stands-now x t caller sound at) (brought-now x t caller sound) sound.enlistments_rise e (there e is) own (enlistment-allowed o owes_rollback e is tests))
+  sound-rollback_complete tests = sound-answering x o rollback_answered sound (λ e is t caller at own found.
+      let owes = enlistment-allowed o owes_rollback e is tests in
+      record {
+        arrives = arrives-rollback_answered (x.recorded).boots (course_of x t caller) (stands-now x t caller sound at) (brought-now x t caller sound) sound.enlistments_rise e (there e is) own owes;
+        known = λ is_known. known-rollback_answered (x.recorded).boots (course_of x t caller) (stands-now x t caller sound at) (brought-now x t caller sound) sound.enlistments_rise e (there e is) own owes;
+      })
 
   pub sound-single_phase_reject : Passes (enlistment_tests o (may_reject_one_phase x)) → IsSoundOutcome x (answering x o single_phase_rejected)
   sound-single_phase_reject tests = sound-answering x o single_phase_rejected sound (λ e is t caller at own found.
       let both = and_parts (phase_passes x is_one_phase e) (owes_commit e) (enlistment-allowed o (may_reject_one_phase x) e is tests) in
-      arrives-single_phase_rejected (x.recorded).boots (course_of x t caller) (stands-now x t caller sound at) (brought-now x t caller sound) sound.enlistments_rise e (there e is) own
-      (single-phase t.phase (phase-passed x is_one_phase e t found both.0)) both.1)
+      let single = single-phase t.phase (phase-passed x is_one_phase e t found both.0) in
+      goes t caller at (single_phase_rejected (course_of x t caller) e)
+      (arrives-single_phase_rejected (x.recorded).boots (course_of x t caller) (stands-now x t caller sound at) (brought-now x t caller sound) sound.enlistments_rise e (there e is) own single both.1)
+      (subst (λ p. can_roll_back p ≡ true) (sym single) refl))
 
   pub sound-rollback_enlistment : Passes (enlistment_tests o (may_roll_back_by x)) → IsSoundOutcome x (answering x o (λ c e. aborting c))
   sound-rollback_enlistment tests = sound-answering x o (λ c e. aborting c) sound (λ e is t caller at own found.
-      arrives-rolled_back (x.recorded).boots (course_of x t caller) (stands-now x t caller sound at) (brought-now x t caller sound) (rolls e t found (enlistment-allowed o (may_roll_back_by x) e is tests)))
+      let can = rolls e t found (enlistment-allowed o (may_roll_back_by x) e is tests) in
+      goes t caller at (aborting (course_of x t caller)) (arrives-rolled_back (x.recorded).boots (course_of x t caller) (stands-now x t caller sound at) (brought-now x t caller sound) can) can)
     where
       if_either : (b p q : Bool) → (if b then p else q) ≡ true → (p ≡ true) ⊎ (q ≡ true)
       if_either true p q is = inl is
@@ -239,26 +268,37 @@ module _ (x : Present) (sound : IsSoundCourse x) (o : Option Enlistment) (there 
 
   pub sound-pre_prepare_enlistment : Passes (superior_tests x o before_pre_prepare) → IsSoundOutcome x (answering x o (λ c e. to_pre_prepare c))
   sound-pre_prepare_enlistment tests = sound-answering x o (λ c e. to_pre_prepare c) sound (λ e is t caller at own found.
-      arrives-to_pre_prepare (x.recorded).boots (course_of x t caller) (fresh-before_pre_prepare x sound t at caller t.phase refl (phase-passed x before_pre_prepare e t found (superior-allowed x o before_pre_prepare e is tests))))
+      let fresh = fresh-before_pre_prepare x sound t at caller t.phase refl (phase-passed x before_pre_prepare e t found (superior-allowed x o before_pre_prepare e is tests)) in
+      goes-undecided (x.recorded).boots (course_of x t caller) (to_pre_prepare (course_of x t caller)) (arrives-to_pre_prepare (x.recorded).boots (course_of x t caller) fresh) fresh.undecided)
 
   pub sound-prepare_enlistment : Passes (superior_tests x o before_prepare) → IsSoundOutcome x (answering x o (λ c e. to_prepare c))
   sound-prepare_enlistment tests = sound-answering x o (λ c e. to_prepare c) sound (λ e is t caller at own found.
-      arrives-to_prepare (x.recorded).boots (course_of x t caller) (fresh-before_prepare x sound t at caller t.phase refl (phase-passed x before_prepare e t found (superior-allowed x o before_prepare e is tests))))
+      let fresh = fresh-before_prepare x sound t at caller t.phase refl (phase-passed x before_prepare e t found (superior-allowed x o before_prepare e is tests)) in
+      goes-undecided (x.recorded).boots (course_of x t caller) (to_prepare (course_of x t caller)) (arrives-to_prepare (x.recorded).boots (course_of x t caller) fresh) fresh.undecided)
 
   pub sound-commit_enlistment : Passes (superior_tests x o waits_for_superior) → IsSoundOutcome x (answering x o (λ c e. committing c))
   sound-commit_enlistment tests = sound-answering x o (λ c e. committing c) sound (λ e is t caller at own found.
-      commits-waiting x sound t at caller t.phase refl (phase-passed x waits_for_superior e t found (superior-allowed x o waits_for_superior e is tests)))
+      let waits = phase-passed x waits_for_superior e t found (superior-allowed x o waits_for_superior e is tests) in
+      goes t caller at (committing (course_of x t caller)) (commits-waiting x sound t at caller t.phase refl waits) (waiting-rolls t.phase waits))
+    where
+      waiting-rolls : (phase : Phase) → waits_for_superior phase ≡ true → can_roll_back phase ≡ true
+      waiting-rolls Committing is = is
+      waiting-rolls Aborting is = is
+      waiting-rolls Ended is = is
+      waiting-rolls _ is = refl
 
   pub sound-recover_enlistment : Passes (enlistment_tests o (may_recover x)) → IsSoundOutcome x (answering x o recovered)
-  sound-recover_enlistment tests = sound-answering x o recovered sound (λ e is t caller at own found.
-      arrives-recovered (x.recorded).boots (course_of x t caller) (stands-now x t caller sound at) (brought-now x t caller sound) sound.enlistments_rise e (there e is) own
-      (not-true _ (and_parts (not e.is_recovered) _ (enlistment-allowed o (may_recover x) e is tests)).0))
+  sound-recover_enlistment tests = sound-answering x o recovered sound (λ e is t caller at own found. record {
+    arrives = arrives-recovered (x.recorded).boots (course_of x t caller) (stands-now x t caller sound at) (brought-now x t caller sound) sound.enlistments_rise e (there e is) own
+        (not-true _ (and_parts (not e.is_recovered) _ (enlistment-allowed o (may_recover x) e is tests)).0);
+    known = λ is_known. known-recovered (x.recorded).boots (course_of x t caller) (stands-now x t caller sound at) (brought-now x t caller sound) sound.enlistments_rise e (there e is) own;
+  })
 
 -- ---- queues
 
 pub sound-recover_all : (x : Present) (o : Option Manager) → IsSoundCourse x → IsSoundOutcome x (recover_all x o)
 sound-recover_all x None sound = sound-only_reply x Done sound
-sound-recover_all x (Some m) sound = record { settled = sound; events = NoBoots-none; made = refl; notes = notes }
+sound-recover_all x (Some m) sound = record { settled = sound; events = NoBoots-none; made = refl; notes = notes; outcomes = stay-refl (x.transactions).items; objects = refl }
   where
     recover : Enlistment → Sent
     recover e = record { manager = m.id; note = record { kind = Notify.Recover; enlistment = Some e.id } }
@@ -278,4 +318,4 @@ sound-recover_all x (Some m) sound = record { settled = sound; events = NoBoots-
 
 pub sound-take_first : (x : Present) (o : Option Manager) → IsSoundCourse x → IsSoundOutcome x (take_first x o)
 sound-take_first x None sound = sound-only_reply x Done sound
-sound-take_first x (Some m) sound = record { settled = sound; events = NoBoots-none; made = refl; notes = λ s none. absurd none }
+sound-take_first x (Some m) sound = record { settled = sound; events = NoBoots-none; made = refl; notes = λ s none. absurd none; outcomes = stay-refl (x.transactions).items; objects = refl }

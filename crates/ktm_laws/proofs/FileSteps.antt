@@ -3,6 +3,8 @@ use Rattle.std.proofs.Common.{◌≡◌, ℕ, not, Bool, true, false, List, [], 
 use Rattle.std.specs.Prelude.{option_and_then}
 use Rattle.std.proofs.lemmas.Bool.{cases_Bool, true≢false, false_from_ne_true}
 use Rattle.std.proofs.lemmas.Option.{none-some, same_Some}
+use Rattle.ktm_laws.specs.Numbers.{names_objects}
+use Rattle.std.specs.List.{list_all}
 use Rattle.ktm_base.specs.declared.id.Id.{Id}
 use Rattle.ktm_base.specs.declared.id.Label.{Label}
 use Rattle.ktm_base.specs.declared.id.Pid.{Pid}
@@ -27,6 +29,7 @@ use Rattle.ktm_laws.specs.Footprint.{IsIn}
 use Rattle.ktm_laws.specs.SoundCourse.{IsSoundCourse}
 use Rattle.ktm_laws.proofs.Tables.{same_id-equal, same_id-from}
 use Rattle.ktm_laws.proofs.Moves.{same-by_id, NoBoots, NoBoots-none, NoBoots-one}
+use Rattle.ktm_laws.proofs.Outcomes.{stay-refl}
 use Rattle.ktm_laws.proofs.Settling.{IsSoundOutcome, sound-only_reply, sound-own}
 use Rattle.ktm_laws.proofs.Calls.{Passes, passed, not-not, transaction-named, transaction_at-found, active-phase}
 use Rattle.ktm_laws.proofs.Bindings.{sound-binding}
@@ -88,6 +91,11 @@ events-plain None None = NoBoots-none
 events-plain None (Some change) = NoBoots-one (Plain change) refl
 events-plain (Some id) change = NoBoots-none
 
+objects-plain : (who : Option Id) (change : Option Change) → list_all names_objects (events_of who change) ≡ true
+objects-plain None None = refl
+objects-plain None (Some change) = refl
+objects-plain (Some id) change = refl
+
 -- a file that is opened changes nothing of what transactions own
 table-own : (files : FilesNow) (who : Option Id) (o : FileOutcome) → (table_after files who o).own ≡ own_after files who o.change
 table-own files who o = go o.opened
@@ -103,6 +111,8 @@ sound-of_files x who o sound is = record {
   events = events-plain who o.change;
   made = refl;
   notes = λ s none. absurd none;
+  outcomes = stay-refl (x.transactions).items;
+  objects = objects-plain who o.change;
 }
 
 pub sound-opening : (x : Present) (process : Pid) (label : Label) (who : Option Id) (o : FileOutcome) → IsSoundCourse x → IsActiveCaller x who → is_bound x process label ≡ false → IsSoundOutcome x (opening x process label who o)
@@ -171,6 +181,8 @@ sound-of_keys x o sound same = record {
   events = NoBoots-none;
   made = refl;
   notes = λ s none. absurd none;
+  outcomes = stay-refl (x.transactions).items;
+  objects = refl;
 }
 
 pub sound-with_setting : (x : Present) (who : Option Id) (key : List ℕ) (value : Option (List ℕ)) → IsSoundCourse x → IsActiveCaller x who → IsSoundOutcome x (of_keys x (record { reply = Done; own = with_setting (x.keys).own who key value }))

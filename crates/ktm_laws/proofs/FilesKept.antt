@@ -1,5 +1,5 @@
 -- Calls that open and close no file, and change none but by the end of a transaction, keep sound what undecided transactions own of the files.
-use Rattle.std.proofs.Common.{true≢false, ◌≡◌, ℕ, not, Bool, true, false, if◌then◌else◌, List, [], ◌∷◌, Option, Some, None, refl, sym}
+use Rattle.std.proofs.Common.{true≢false, ◌≡◌, ℕ, not, Bool, true, false, if◌then◌else◌, List, [], ◌∷◌, Option, Some, None, refl, sym, is_none, ◌∙◌, ◌++◌}
 use Rattle.std.proofs.lemmas.Option.{none-some}
 use Rattle.ktm_base.specs.declared.id.Id.{Id}
 use Rattle.ktm_base.specs.declared.id.Label.{Label}
@@ -8,7 +8,7 @@ use Rattle.ktm_base.specs.declared.refusal.Refusal.{Refusal}
 use Rattle.ktm_base.specs.declared.refusal.Refusal.TheVariants.{LogFull, MachineDown}
 use Rattle.std.specs.Prelude.{option_and_then}
 use Rattle.ktm_world.specs.declared.command.Command.{Command}
-use Rattle.ktm_world.specs.declared.command.Command.TheVariants.{Exit, CloseHandle, MoveFile, RemoveDirectory, CreateDirectory, DeleteFile, OpenTransaction, CommitTransaction, RollbackTransaction, GetTransactionInformation, CreateResourceManager, OpenResourceManager, RecoverResourceManager, GetNotificationResourceManager, CreateEnlistment, OpenEnlistment, RecoverEnlistment, PrePrepareComplete, PrepareComplete, ReadOnlyEnlistment, CommitComplete, RollbackComplete, SinglePhaseReject, RollbackEnlistment, PrePrepareEnlistment, PrepareEnlistment, CommitEnlistment, SetEnlistmentRecoveryInformation, GetEnlistmentRecoveryInformation, ReadFile, GetFileSizeEx, FlushFileBuffers, FindFiles, FindFilesTransacted, KvSet, KvUnset, KvGet, KvList, DuplicateHandle}
+use Rattle.ktm_world.specs.declared.command.Command.TheVariants.{Exit, CloseHandle, MoveFile, RemoveDirectory, CreateDirectory, DeleteFile, OpenTransaction, CommitTransaction, RollbackTransaction, GetTransactionInformation, CreateResourceManager, OpenResourceManager, RecoverResourceManager, GetNotificationResourceManager, CreateEnlistment, OpenEnlistment, RecoverEnlistment, PrePrepareComplete, PrepareComplete, ReadOnlyEnlistment, CommitComplete, RollbackComplete, SinglePhaseReject, RollbackEnlistment, PrePrepareEnlistment, PrepareEnlistment, CommitEnlistment, SetEnlistmentRecoveryInformation, GetEnlistmentRecoveryInformation, ReadFile, GetFileSizeEx, FlushFileBuffers, FindFiles, FindFilesTransacted, KvSet, KvUnset, KvGet, KvList, DuplicateHandle, CreateTransaction}
 use Rattle.ktm_world.specs.declared.object.Object.{Object}
 use Rattle.ktm_world.specs.declared.object.Transaction.{Transaction}
 use Rattle.ktm_world.specs.declared.options.Durability.{Durability}
@@ -22,20 +22,25 @@ use Rattle.ktm_world.specs.Files.{OpenFile}
 use Rattle.ktm_world.specs.HandleCalls.{exit, close_handle, duplicate_handle, bind_to}
 use Rattle.ktm_world.specs.Handles.{object_at, transaction_id}
 use Rattle.ktm_world.specs.Labels.{transaction_named, manager_named, enlistment_named, file_named}
-use Rattle.ktm_world.specs.Outcome.{Outcome, only_reply, first_refusal, refuse_or, within_log, is_full}
+use Rattle.ktm_world.specs.Outcome.{apply, Outcome, only_reply, first_refusal, refuse_or, within_log, is_full}
 use Rattle.ktm_world.specs.Phases.{Course, to_commit, aborting, committing, to_pre_prepare, to_prepare, pre_prepare_answered, prepare_answered, read_only_answered, commit_answered, rollback_answered, single_phase_rejected, recovered}
 use Rattle.ktm_world.specs.Present.{Present}
-use Rattle.ktm_world.specs.TransactionCalls.{course_of, arrived, open_transaction, open_to_transaction, transaction_with, commit_transaction, commit_reply, rollback_transaction, get_transaction_information, information_of, information_in, create_resource_manager, open_resource_manager, open_to_manager, manager_with, recover_resource_manager, get_notification, create_enlistment, open_enlistment, open_to_enlistment, enlistment_with, goes_on, answering, transaction_in, pre_prepare_complete, prepare_complete, read_only_enlistment, commit_complete, rollback_complete, single_phase_reject, rollback_enlistment, pre_prepare_enlistment, prepare_enlistment, commit_enlistment, recover_enlistment, set_information, get_information, tick}
+use Rattle.ktm_world.specs.TransactionCalls.{course_of, arrived, open_transaction, open_to_transaction, transaction_with, commit_transaction, commit_reply, rollback_transaction, get_transaction_information, information_of, information_in, create_resource_manager, open_resource_manager, open_to_manager, manager_with, recover_resource_manager, get_notification, create_enlistment, open_enlistment, open_to_enlistment, enlistment_with, goes_on, answering, transaction_in, pre_prepare_complete, prepare_complete, read_only_enlistment, commit_complete, rollback_complete, single_phase_reject, rollback_enlistment, pre_prepare_enlistment, prepare_enlistment, commit_enlistment, recover_enlistment, set_information, get_information, tick, new_id, create_transaction}
 use Rattle.ktm_world.specs.Transactions.{transaction_at}
 use Rattle.ktm_laws.specs.Footprint.{IsIn, ListsLaw}
 use Rattle.ktm_laws.proofs.CoursesKept.{Steps, to_commit-is, aborting-is, committing-is, to_pre_prepare-is, to_prepare-is, pre_prepare_answered-is, prepare_answered-is, read_only_answered-is, commit_answered-is, rollback_answered-is, single_phase_rejected-is, recovered-is}
 use Rattle.ktm_laws.specs.FilesKept.{is_sound_step, FilesKeptLaw}
 use Rattle.ktm_laws.specs.Formed.{FormedLaw}
-use Rattle.ktm_laws.proofs.Arriving.{Goes, course-goes, tick-sound}
-use Rattle.ktm_laws.proofs.Releasing.{transaction_at-in}
+use Rattle.ktm_laws.proofs.Arriving.{Goes, course-goes, tick-sound, named, only_reply-sound}
+use Rattle.ktm_laws.proofs.Releasing.{transaction_at-in, filter-true, unchanged}
 use Rattle.ktm_laws.proofs.PlainCalls.{deletes-file, creates-directory, removes-directory, moves-file}
 use Rattle.ktm_laws.proofs.Closing.{close_handle-goes, exit-goes}
 use Rattle.ktm_laws.proofs.Leaving.{KeepsFiles, replies, leaves, labelled, more-handles, answers_file}
+use Rattle.std.proofs.lemmas.List.{append-nil}
+use Rattle.ktm_world.specs.declared.object.Phase.{Phase}
+use Rattle.ktm_world.specs.declared.object.TransactionOutcome.{TransactionOutcome}
+use Rattle.ktm_laws.specs.SoundFiles.{IsSoundFiles}
+use Rattle.ktm_laws.proofs.Beginning.{begun-sound}
 
 -- a call opens no file, and changes none but by the end of a transaction
 module _ (lists : ListsLaw) (formed : FormedLaw) where
@@ -257,8 +262,31 @@ module _ (lists : ListsLaw) (formed : FormedLaw) where
       go true = leaves lists formed x (record (only_reply x (Refused LogFull)) { stops = true }) refl refl refl refl refl (λ object has. has) refl
       go false = keeps
 
+  begins : (x : Present) (process : Pid) (label : Label) (timeout : ℕ) → is_none (transaction_at x.transactions.items (new_id x x.transactions.last_transaction)) ≡ true → IsSoundFiles x → IsSoundFiles (apply x (create_transaction x process label timeout))
+  unfolding create_transaction
+  begins x process label timeout new sound =
+      let id = new_id x x.transactions.last_transaction in
+      let t : Transaction = record { id = id; timeout = timeout; created = x.transactions.clock; phase = Phase.Active; outcome = TransactionOutcome.Undetermined; is_recorded = false } in
+      let begun = begun-sound x sound t new in
+      unchanged lists formed (record x { transactions = record x.transactions { items = x.transactions.items ++ t ∷ [] } }) (apply x (create_transaction x process label timeout))
+      (λ i. record x.files { first_opens = (filter-true (x.files.first_opens ++ []) ∙ append-nil x.files.first_opens) i }) refl
+      (λ o there. more-handles lists formed x.handles process label (Object.Transaction id) (Object.File o.number) (named x sound o there)) (λ i was. was) (λ u there. (u, there, refl)) begun
+
+  begin-or-refuse : (x : Present) (process : Pid) (label : Label) (timeout : ℕ) → is_none (transaction_at x.transactions.items (new_id x x.transactions.last_transaction)) ≡ true → IsSoundFiles x → (refusal : Option Refusal)
+      → IsSoundFiles (apply x (refuse_or x refusal (create_transaction x process label timeout)))
+  begin-or-refuse x process label timeout new sound (Some refusal) = only_reply-sound lists formed x (Refused refusal) sound
+  begin-or-refuse x process label timeout new sound None = begins x process label timeout new sound
+
+  within : (o : Outcome) (x : Present) → IsSoundFiles x → IsSoundFiles (apply x o) → IsSoundFiles (apply x (within_log x o))
+  within o x sound after = go (is_full x.machine.left o.events)
+    where
+      go : (b : Bool) → IsSoundFiles (apply x (if b then record (only_reply x (Refused LogFull)) { stops = true } else o))
+      go true = unchanged lists formed x (apply x (record (only_reply x (Refused LogFull)) { stops = true })) (λ i. record x.files { first_opens = (filter-true (x.files.first_opens ++ []) ∙ append-nil x.files.first_opens) i }) refl (named x sound) (λ i was. was) (λ u there. (u, there, refl)) sound
+      go false = after
+
   pub files_kept_law : FilesKeptLaw
   files_kept_law = (
     λ x process command is. within_log-keeps x (with_room x process command) (refuse_or-keeps x (refusal_of x process command) (command_effect x process command) (effect x process command is)),
     λ x ms. let refusal = first_refusal ((not x.machine.is_up, MachineDown) ∷ []) in within_log-keeps x (refuse_or x refusal (tick x ms)) (refuse_or-keeps x refusal (tick x ms) (λ none. tick-sound lists formed x ms)),
+    λ x process label timeout new sound. within (with_room x process (CreateTransaction label timeout)) x sound (begin-or-refuse x process label timeout new sound (refusal_of x process (CreateTransaction label timeout))),
   )

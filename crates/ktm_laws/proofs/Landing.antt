@@ -1,13 +1,13 @@
 -- A plain change that meets nothing keeps sound what undecided transactions own of the files.
 use Rattle.std.proofs.Common.{◌≡◌, ℕ, ◌≤◌, ◌^◌, ◌==◌, ◌&&◌, true, false, is_none, is_some, filter, map, List, [], ◌∷◌, ◌++◌, Option, Some, None, refl, sym, ◌∙◌, ap, subst, arith, inl, inr}
-use Rattle.std.proofs.lemmas.Bool.{cases_Bool, ltb-true, and_parts, and_from, or_from, true≢false}
+use Rattle.std.proofs.lemmas.Bool.{or_parts, cases_Bool, ltb-true, and_parts, and_from, or_from, true≢false}
+use Rattle.ktm_world.specs.declared.change.Change.TheVariants.{Make, Put, Cut, Move, Drop}
 use Rattle.std.proofs.lemmas.List.{append-nil}
 use Rattle.std.specs.List.{list_any, flat_map}
 use Rattle.std.specs.Prelude.{nat_le}
 use Rattle.ktm_base.specs.declared.id.Id.{Id}
 use Rattle.ktm_world.specs.declared.change.Change.{Change}
-use Rattle.ktm_world.specs.declared.object.Transaction.{Transaction}
-use Rattle.ktm_world.specs.Changes.{changed, applies, is_drop, is_make, next_after, node_of}
+use Rattle.ktm_world.specs.Changes.{changes_bytes, changed, applies, is_drop, is_make, next_after, node_of}
 use Rattle.ktm_world.specs.Committed.{versions_after}
 use Rattle.ktm_world.specs.Conflicts.{conflicts, holds_now, opener, users, written_by, writes}
 use Rattle.ktm_world.specs.Decide.{of_files}
@@ -15,13 +15,13 @@ use Rattle.ktm_world.specs.Durable.{acts_of}
 use Rattle.ktm_world.specs.FileOutcome.{changing}
 use Rattle.ktm_world.specs.Files.{FilesNow, FirstOpen, OpenFile, OwnChanges, own_changes}
 use Rattle.ktm_world.specs.Holds.{Act, is_in, meets}
-use Rattle.ktm_world.specs.Lawful.{others}
 use Rattle.ktm_world.specs.Outcome.{apply}
 use Rattle.ktm_world.specs.Present.{Present}
 use Rattle.ktm_world.specs.Transactions.{is_of}
 use Rattle.ktm_world.specs.Tree.{content_of}
-use Rattle.ktm_laws.specs.Footprint.{IsIn, footprint, AreFootprintsApart, ListsLaw}
+use Rattle.ktm_laws.specs.Footprint.{IsIn, ListsLaw}
 use Rattle.ktm_laws.specs.Formed.{FormedLaw}
+use Rattle.ktm_laws.specs.PlainChange.{Lands, PlainChangeLaw}
 use Rattle.ktm_laws.specs.SoundFiles.{IsSoundFiles, is_drawn_node}
 use Rattle.ktm_laws.proofs.Applying.{Applies-from, Fits-from}
 use Rattle.ktm_laws.proofs.Arriving.{named}
@@ -32,18 +32,9 @@ use Rattle.ktm_laws.proofs.Lookups.{node_at-elsewhere}
 use Rattle.ktm_laws.proofs.Meeting.{found-missed}
 use Rattle.ktm_laws.proofs.Passing.{Spares, passed, passed-sound}
 use Rattle.ktm_laws.proofs.Releasing.{filter-true, spares-none}
-use Rattle.ktm_laws.proofs.Reserving.{own_changes-found, misses}
+use Rattle.ktm_laws.proofs.Reserving.{write-apart, writer-alone, own_changes-found, misses}
 use Rattle.ktm_laws.proofs.Tables.{same_id-equal}
 use Rattle.ktm_laws.proofs.Versions.{is_file-kept}
-
--- what a change has to be that a plain call commits
-pub record Lands (x : Present) (change : Change) : Type 0 where
-  pub applies : applies x.files.tree change ≡ true
-  pub apart : (v : Transaction) → IsIn v (others x.transactions.items None) → AreFootprintsApart (footprint x.files.tree (change ∷ [])) (footprint x.files.tree (own_changes x.files.table.own v.id))
-  pub clear : (v : Transaction) → IsIn v (others x.transactions.items None) → is_make change ≡ false → is_in (holds_now x.files v.id).nodes (node_of change) ≡ false
-  pub fresh : is_make change ≡ true → node_of change ≡ x.files.table.next_node
-  pub plain : is_drop change ≡ true → (o : OpenFile) → IsIn o x.files.table.opens → is_none o.transaction ≡ true → writes o.access ≡ true → node_of change ≡ o.node → ⊥
-  pub limit : next_after x.files.table.next_node change ≤ 2 ^ 63
 
 -- ---- users
 
@@ -123,3 +114,40 @@ module _ (lists : ListsLaw) (formed : FormedLaw) where
         first_opens = (filter-true (x.files.first_opens ++ []) ∙ append-nil x.files.first_opens ∙ sym (filter-true x.files.first_opens)) i;
         table = record x.files.table { own = sym (filter-true x.files.table.own) i; opens = sym (filter-true x.files.table.opens) i; next_node = next_after x.files.table.next_node change };
       }
+
+-- ---- what a plain handle writes
+
+no-make : (c : Change) → changes_bytes c ≡ true → is_make c ≡ false
+no-make (Make node parent kind name) bytes = absurd (true≢false (sym bytes))
+no-make (Put node offset contents) bytes = refl
+no-make (Cut node size pages) bytes = refl
+no-make (Move node parent name) bytes = absurd (true≢false (sym bytes))
+no-make (Drop node) bytes = absurd (true≢false (sym bytes))
+
+no-drop : (c : Change) → changes_bytes c ≡ true → is_drop c ≡ false
+no-drop (Make node parent kind name) bytes = absurd (true≢false (sym bytes))
+no-drop (Put node offset contents) bytes = refl
+no-drop (Cut node size pages) bytes = refl
+no-drop (Move node parent name) bytes = absurd (true≢false (sym bytes))
+no-drop (Drop node) bytes = absurd (true≢false (sym bytes))
+
+no-number : (next : ℕ) (c : Change) → changes_bytes c ≡ true → next_after next c ≡ next
+no-number next (Make node parent kind name) bytes = absurd (true≢false (sym bytes))
+no-number next (Put node offset contents) bytes = refl
+no-number next (Cut node size pages) bytes = refl
+no-number next (Move node parent name) bytes = absurd (true≢false (sym bytes))
+no-number next (Drop node) bytes = absurd (true≢false (sym bytes))
+
+write-lands : (x : Present) (change : Change) (o : OpenFile) → IsSoundFiles x → IsIn o x.files.table.opens → is_none o.transaction ≡ true → writes o.access ≡ true → applies x.files.tree change ≡ true → changes_bytes change ≡ true
+    → node_of change ≡ o.node → Lands x change
+write-lands x change o sound there plain may applies bytes at = record {
+  applies = applies;
+  apart = λ v v-there. write-apart x sound change o v v-there bytes there plain may at;
+  clear = λ v v-there found. subst (λ n. is_in (holds_now x.files v.id).nodes n ≡ false) (sym at) (or_parts (is_in (holds_now x.files v.id).nodes o.node) _ (writer-alone x sound o v there plain may v-there)).0;
+  fresh = λ make. absurd (true≢false (sym make ∙ no-make change bytes));
+  plain = λ drop. absurd (true≢false (sym drop ∙ no-drop change bytes));
+  limit = subst (λ n. n ≤ 2 ^ 63) (sym (no-number x.files.table.next_node change bytes)) sound.next_to;
+}
+
+pub plain_change_law : ListsLaw → FormedLaw → PlainChangeLaw
+plain_change_law lists formed = (lands-sound lists formed, write-lands)

@@ -2,6 +2,7 @@ pub mod Answering
 pub mod Applying
 pub mod Arrivals
 pub mod Arriving
+pub mod Beginning
 pub mod Beginnings
 pub mod Bindings
 pub mod Calls
@@ -14,6 +15,7 @@ pub mod Elements
 pub mod FileSteps
 pub mod FilesKept
 pub mod Finishing
+pub mod FirstOpening
 pub mod Fitting
 pub mod Formed
 pub mod GoodStates
@@ -29,8 +31,13 @@ pub mod Lookups
 pub mod Makings
 pub mod Meeting
 pub mod Moves
+pub mod NormalForms
+pub mod Numbers
+pub mod Opening
+pub mod Outcomes
 pub mod OwnGroups
 pub mod OwnSettings
+pub mod Owning
 pub mod Parts
 pub mod Passing
 pub mod Pigeons

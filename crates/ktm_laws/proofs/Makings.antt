@@ -57,7 +57,7 @@ each_pair-push test xs x pairs each = each_pair-append test xs (x ∷ []) pairs 
 abbrev pub next_id : ℕ → ℕ → Id
 next_id boot last = record { boot = boot; number = last + 1 }
 
-counted-parts : (boot last : ℕ) (id : Id) → is_counted boot last id ≡ true → (nat_le 1 id.boot ≡ true) × (nat_le id.boot boot ≡ true) × (nat_le 1 id.number ≡ true) × (nat_le id.number most_number ≡ true) × ((nat_lt id.boot boot || nat_le id.number last) ≡ true)
+pub counted-parts : (boot last : ℕ) (id : Id) → is_counted boot last id ≡ true → (nat_le 1 id.boot ≡ true) × (nat_le id.boot boot ≡ true) × (nat_le 1 id.number ≡ true) × (nat_le id.number most_number ≡ true) × ((nat_lt id.boot boot || nat_le id.number last) ≡ true)
 counted-parts boot last id is =
     let d = and_parts _ (nat_lt id.boot boot || nat_le id.number last) is in
     let c = and_parts _ (nat_le id.number most_number) d.0 in

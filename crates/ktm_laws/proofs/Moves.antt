@@ -1,8 +1,9 @@
 -- A transaction on its way: what its steps leave of the enlistments, and what they send and record.
-use Rattle.std.proofs.Common.{◌≡◌, ℕ, ◌&&◌, not, Bool, true, false, List, [], ◌∷◌, ◌++◌, map, filter, Some, refl, sym, ◌∙◌, ap, subst, inl, inr, ◌⊎◌}
+use Rattle.std.proofs.Common.{◌≡◌, ℕ, ◌&&◌, not, Bool, true, false, List, [], ◌∷◌, ◌++◌, map, filter, Some, refl, sym, ◌∙◌, ap, subst, inl, inr, ◌⊎◌, find}
 use Rattle.std.specs.Prelude.{if◌then◌else◌}
 use Rattle.std.proofs.lemmas.Bool.{cases_Bool, true≢false}
 use Rattle.std.proofs.lemmas.List.{map-id}
+use Rattle.std.proofs.lemmas.Option.{none-some, same_Some}
 use Rattle.std.proofs.lemmas.Simd.{map-map}
 use Rattle.ktm_base.specs.declared.id.Id.{Id}
 use Rattle.ktm_base.specs.declared.notify.Notify.{Notify}
@@ -14,6 +15,7 @@ use Rattle.ktm_world.specs.Enlistments.{Enlistment, Sent, is_superior, takes_par
 use Rattle.ktm_world.specs.Phases.{Course, event_if, telling, unchanged}
 use Rattle.ktm_world.specs.Transactions.{same_id}
 use Rattle.ktm_laws.specs.Footprint.{IsIn}
+use Rattle.ktm_laws.specs.Grammatical.{ids_of}
 use Rattle.ktm_laws.specs.SoundCourse.{is_last_recover, is_idle, is_unrecovered_well}
 use Rattle.ktm_laws.proofs.Lists.{IsIn-cases, IsIn-unmap}
 use Rattle.ktm_world.specs.Durable.{is_before}
@@ -43,6 +45,14 @@ pub IsIn-map : {A B : Type 0} (f : A → B) (x : A) (xs : List A) → IsIn x xs 
 IsIn-map f x [] there = absurd there
 IsIn-map f x (y ∷ ys) (inl e) = inl (ap f e)
 IsIn-map f x (y ∷ ys) (inr there) = inr (IsIn-map f x ys there)
+
+-- the first that passes a test is there, and passes
+pub find-found : {X : Type 0} (test : X → Bool) (xs : List X) (x : X) → find test xs ≡ Some x → IsIn x xs × (test x ≡ true)
+find-found test [] x found = absurd (none-some x found)
+find-found test (y ∷ ys) x found = elim (cases_Bool (test y)) [
+  | inl is ↦ let e : y ≡ x = same_Some y x (rw is at found) in (inl e, subst (λ z. test z ≡ true) e is)
+  | inr other ↦ let rest = find-found test ys x (rw other at found) in (inr rest.0, rest.1)
+]
 
 -- ---- by rising Ids
 
@@ -113,6 +123,48 @@ pub NoBoots-if : (b : Bool) (event : Event) → is_boot event ≡ false → NoBo
 NoBoots-if true event is = NoBoots-one event is
 NoBoots-if false event is = NoBoots-none
 
+-- ---- what it names
+
+-- the Id is the transaction's, or that of one of the enlistments or of its resource manager
+abbrev pub Knows : Course → Id → Type 0
+Knows c id = (id ≡ (c.transaction).id) ⊎ ((e : Enlistment) × IsIn e c.enlistments × ((id ≡ e.id) ⊎ (id ≡ e.manager)))
+
+-- events that are no boots, and name what is known
+pub record AreOwn (c : Course) (events : List Event) : Type 0 where
+  pub none : NoBoots events
+  pub named : (event : Event) → IsIn event events → (id : Id) → IsIn id (ids_of event) → Knows c id
+
+pub AreOwn-append : {c : Course} {a b : List Event} → AreOwn c a → AreOwn c b → AreOwn c (a ++ b)
+AreOwn-append {c} {a} {b} first second = record {
+  none = NoBoots-append first.none second.none;
+  named = λ event there. elim (IsIn-cases event a b there) [ inl left ↦ first.named event left | inr right ↦ second.named event right ];
+}
+
+pub AreOwn-none : (c : Course) → AreOwn c []
+AreOwn-none c = record { none = NoBoots-none; named = λ event there. absurd there }
+
+pub AreOwn-one : (c : Course) (event : Event) → is_boot event ≡ false → ((id : Id) → IsIn id (ids_of event) → Knows c id) → AreOwn c (event ∷ [])
+AreOwn-one c event is known = record {
+  none = NoBoots-one event is;
+  named = λ other there id is_named. elim there [ inl e ↦ known id (subst (λ x. IsIn id (ids_of x)) (sym e) is_named) | inr none ↦ absurd none ];
+}
+
+pub AreOwn-if : (c : Course) (b : Bool) (event : Event) → is_boot event ≡ false → ((id : Id) → IsIn id (ids_of event) → Knows c id) → AreOwn c (event_if b event)
+AreOwn-if c true event is known = AreOwn-one c event is known
+AreOwn-if c false event is known = AreOwn-none c
+
+-- the transaction alone
+pub knows-own : (c : Course) (id : Id) → IsIn id ((c.transaction).id ∷ []) → Knows c id
+knows-own c id (inl e) = inl (sym e)
+knows-own c id (inr none) = absurd none
+
+-- the transaction, and an enlistment of the course
+pub knows-one : (c : Course) (e : Enlistment) → IsIn e c.enlistments → (id : Id) → IsIn id ((c.transaction).id ∷ e.id ∷ e.manager ∷ []) → Knows c id
+knows-one c e there id (inl is) = inl (sym is)
+knows-one c e there id (inr (inl is)) = inr (e, there, inl (sym is))
+knows-one c e there id (inr (inr (inl is))) = inr (e, there, inr (sym is))
+knows-one c e there id (inr (inr (inr none))) = absurd none
+
 -- ---- steps
 
 -- a transaction has gone on: what it changed of enlistments is its own, and it sent and recorded what a transaction on its way does
@@ -129,7 +181,7 @@ pub record Moved (c d : Course) : Type 0 where
   pub changes : d.changes ≡ c.changes
   pub settings : d.settings ≡ c.settings
   pub sent : (s : Sent) → IsIn s d.sent → IsIn s c.sent ⊎ IsTold c.enlistments s
-  pub events : NoBoots c.events → NoBoots d.events
+  pub events : AreOwn c c.events → AreOwn c d.events
 
 pub Moved-refl : (c : Course) → Moved c c
 Moved-refl c = record {
@@ -160,6 +212,34 @@ IsTold-back es step same s told =
       kind = told.kind;
     }
 
+pub knows-moved : (c d : Course) → Moved c d → (id : Id) → Knows c id → Knows d id
+knows-moved c d moved id (inl is) = inl (is ∙ sym moved.id)
+knows-moved c d moved id (inr (e, there, is)) = inr (
+  moved.step e,
+  subst (λ es. IsIn (moved.step e) es) (sym moved.enlistments) (IsIn-map moved.step e c.enlistments there),
+  elim is [ inl own ↦ inl (own ∙ sym (moved.same e).id) | inr manager ↦ inr (manager ∙ sym (moved.same e).manager) ],
+)
+
+knows-before : (c d : Course) → Moved c d → (id : Id) → Knows d id → Knows c id
+knows-before c d moved id (inl is) = inl (is ∙ moved.id)
+knows-before c d moved id (inr (e, there, is)) =
+    let from = IsIn-unmap moved.step e c.enlistments (subst (λ es. IsIn e es) moved.enlistments there) in
+    inr (
+      from.0,
+      from.2,
+      elim is [
+        | inl own ↦ inl (own ∙ ap (λ (f : Enlistment). f.id) (sym from.1) ∙ (moved.same from.0).id)
+        | inr manager ↦ inr (manager ∙ ap (λ (f : Enlistment). f.manager) (sym from.1) ∙ (moved.same from.0).manager)
+      ],
+    )
+
+-- what is named by one course is by the other
+own-moved : (c d : Course) (events : List Event) → Moved c d → AreOwn c events → AreOwn d events
+own-moved c d events moved own = record { none = own.none; named = λ event there id is. knows-moved c d moved id (own.named event there id is) }
+
+own-before : (c d : Course) (events : List Event) → Moved c d → AreOwn d events → AreOwn c events
+own-before c d events moved own = record { none = own.none; named = λ event there id is. knows-before c d moved id (own.named event there id is) }
+
 pub Moved-then : {c d e : Course} → Moved c d → Moved d e → Moved c e
 Moved-then {c} {d} {e} a b = record {
   step = λ x. b.step (a.step x);
@@ -182,7 +262,7 @@ Moved-then {c} {d} {e} a b = record {
     | inl before ↦ a.sent s before
     | inr told ↦ inr (IsTold-back c.enlistments a.step a.same s (subst (λ es. IsTold es s) a.enlistments told))
   ];
-  events = λ none. b.events (a.events none);
+  events = λ own. own-before c d e.events a (b.events (own-moved c d d.events a (a.events own)));
 }
   where
     in_d : (x : Enlistment) → IsIn x c.enlistments → IsIn (a.step x) d.enlistments
@@ -207,7 +287,7 @@ moved-transaction c t id timeout created = record {
 }
 
 -- it recorded events, and committed works
-pub moved-recording : (c : Course) (events : List Event) (works : List Work) → NoBoots events → Moved c (record c { events = c.events ++ events; works = works })
+pub moved-recording : (c : Course) (events : List Event) (works : List Work) → AreOwn c events → Moved c (record c { events = c.events ++ events; works = works })
 moved-recording c events works none = record {
   step = λ e. e;
   enlistments = sym (map-id c.enlistments);
@@ -221,7 +301,7 @@ moved-recording c events works none = record {
   changes = refl;
   settings = refl;
   sent = λ s there. inl there;
-  events = λ before. NoBoots-append before none;
+  events = λ before. AreOwn-append before none;
 }
 
 -- enlistments that pass a test are changed

@@ -77,7 +77,7 @@ made-node cs n there =
     let from = IsIn-unflat (λ change. filter (λ n. is_make change) (node_of change ∷ [])) cs n there in
     elim (IsIn-filter (λ n. is_make from.0) (node_of from.0 ∷ []) n from.2).0 [ inl e ↦ subst (λ m. IsIn m (map node_of cs)) e (IsIn-map node_of from.0 cs from.1) | inr none ↦ absurd none ]
 
-IsIn-with_number : (ms : List ℕ) (n m : ℕ) → IsIn m (with_number ms n) → IsIn m ms ⊎ (n ≡ m)
+pub IsIn-with_number : (ms : List ℕ) (n m : ℕ) → IsIn m (with_number ms n) → IsIn m ms ⊎ (n ≡ m)
 IsIn-with_number [] n m (inl e) = inr e
 IsIn-with_number [] n m (inr none) = absurd none
 IsIn-with_number (k ∷ ks) n m there = elim (cases_Bool (k == n)) [
@@ -92,7 +92,7 @@ IsIn-with_number (k ∷ ks) n m there = elim (cases_Bool (k == n)) [
   ]
 ]
 
-written_after-node : (files : List ℕ) (c : Change) (m : ℕ) → IsIn m (written_after files c) → IsIn m files ⊎ (node_of c ≡ m)
+pub written_after-node : (files : List ℕ) (c : Change) (m : ℕ) → IsIn m (written_after files c) → IsIn m files ⊎ (node_of c ≡ m)
 written_after-node files c m = go (changes_bytes c || is_make_of_file c) (is_drop c)
   where
     go : (b d : Bool) → IsIn m (if b then with_number files (node_of c) else (if d then without_number files (node_of c) else files)) → IsIn m files ⊎ (node_of c ≡ m)

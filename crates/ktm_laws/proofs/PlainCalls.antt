@@ -24,12 +24,13 @@ use Rattle.ktm_world.specs.Tree.{Tree, IsWellFormed, root, node_at, is_there, is
 use Rattle.ktm_world.specs.Uses.{file_room}
 use Rattle.ktm_laws.specs.Footprint.{IsIn, ListsLaw}
 use Rattle.ktm_laws.specs.Formed.{FormedLaw}
+use Rattle.ktm_laws.specs.PlainChange.{Lands}
 use Rattle.ktm_laws.specs.SoundFiles.{IsSoundFiles, is_drawn_node}
 use Rattle.ktm_laws.proofs.Applying.{applies-from}
 use Rattle.ktm_laws.proofs.Diamonds.{no_test, none-from}
 use Rattle.ktm_laws.proofs.Elements.{IsIn-kept, list_all-at}
 use Rattle.ktm_laws.proofs.KeysKept.{not_refused}
-use Rattle.ktm_laws.proofs.Landing.{Lands, call-clear, lands-sound}
+use Rattle.ktm_laws.proofs.Landing.{call-clear, lands-sound}
 use Rattle.ktm_laws.proofs.Leading.{Leads, find_path-leads}
 use Rattle.ktm_laws.proofs.Leaving.{KeepsFiles, answers_file}
 use Rattle.ktm_laws.proofs.Passing.{All-in}

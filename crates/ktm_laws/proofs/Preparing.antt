@@ -17,7 +17,8 @@ use Rattle.ktm_laws.specs.SoundCourse.{is_last_recover, is_unrecovered_well, is_
 use Rattle.ktm_laws.proofs.Diamonds.{none-from}
 use Rattle.ktm_laws.proofs.Lists.{IsIn-unmap}
 use Rattle.ktm_laws.proofs.Elements.{list_any-at, list_any-from}
-use Rattle.ktm_laws.proofs.Moves.{if_cases, IsIn-map, IsSame, IsSame-refl, NoBoots-one, Moved, Moved-then, moved-transaction, moved-recording, moved-telling, Changes, changes-none, stepped, with-unchanged, Stand, Stand-with}
+use Rattle.ktm_laws.specs.Grammatical.{ids_in}
+use Rattle.ktm_laws.proofs.Moves.{if_cases, IsIn-map, IsSame, IsSame-refl, Moved, Moved-then, moved-transaction, moved-recording, moved-telling, Changes, changes-none, stepped, with-unchanged, Stand, Stand-with, AreOwn-one, knows-own}
 use Rattle.ktm_laws.proofs.Procedures.{none-at, filter-with, superior-with, idle-parts, part-parts, unprepared-recovered, Arrives, arrives-then, its-own, arrives-ended, alike-owing, no-parts, Stand-nobody, only-one, arrives-all_ready}
 
 -- nothing of the transaction is prepared, and the outcome is not known
@@ -129,10 +130,10 @@ module _ (boot : ℕ) (c : Course) (fresh : Fresh boot c) where
 
   -- ---- one participant alone
 
-  arrives-single : (part : Part) → length (taking_part c) ≡ 0 → Arrives boot c (single c part)
-  arrives-single part none =
+  arrives-single : (part : Part) → ids_in part ≡ [] → length (taking_part c) ≡ 0 → Arrives boot c (single c part)
+  arrives-single part nobody none =
       let d = record (recording c (Event.Single (c.transaction).id part ∷ [])) { works = c.works ++ work_of c } in
-      arrives-then boot (moved-recording c _ (c.works ++ work_of c) (NoBoots-one (Event.Single (c.transaction).id part) refl))
+      arrives-then boot (moved-recording c _ (c.works ++ work_of c) (AreOwn-one c (Event.Single (c.transaction).id part) refl (λ id is. knows-own c id (subst (λ ids. IsIn id ((c.transaction).id ∷ ids)) nobody is))))
       (arrives-ended boot d Committed refl (rw fresh.here refl) (Stand-nobody c.enlistments (c.transaction).id is_idle (is_part_as Ended) fresh.stand (no-parts c none)))
 
   abbrev c_single : Course
@@ -172,9 +173,9 @@ module _ (boot : ℕ) (c : Course) (fresh : Fresh boot c) where
 
   arrives-one_participant : participants c ≡ 1 → is_some (superior c) ≡ false → Arrives boot c (one_participant c)
   arrives-one_participant one alone = if_cases (λ d. Arrives boot c d) (has_changes c.changes) (single c (Part.Changes c.changes)) _
-      (λ changes. let counted = one_if-true _ changes in arrives-single (Part.Changes c.changes) (omega arith))
+      (λ changes. let counted = one_if-true _ changes in arrives-single (Part.Changes c.changes) refl (omega arith))
       (λ no_changes. if_cases (λ d. Arrives boot c d) (has_settings c.settings) (single c (Part.Settings c.settings)) (one_phase c)
-      (λ settings. let counted = one_if-true _ settings in arrives-single (Part.Settings c.settings) (omega arith))
+      (λ settings. let counted = one_if-true _ settings in arrives-single (Part.Settings c.settings) refl (omega arith))
       (λ no_settings.
       let none = one_if-false _ no_changes in
       let none' = one_if-false _ no_settings in

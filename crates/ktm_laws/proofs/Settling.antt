@@ -1,7 +1,11 @@
 -- What an outcome makes of a machine, as far as the soundness of courses reads it.
-use Rattle.std.proofs.Common.{◌≡◌, ◌&&◌, ◌||◌, not, true, false, List, [], ◌∷◌, ◌++◌, map, filter, drop, Option, Some, None, refl, sym, ◌∙◌, ap, subst, inl, inr, append_assoc}
-use Rattle.std.proofs.lemmas.Bool.{cases_Bool, or_left, not_from_false, true≢false}
+use Rattle.std.proofs.Common.{◌≡◌, ◌&&◌, ◌||◌, not, true, false, List, [], ◌∷◌, ◌++◌, map, filter, drop, Option, Some, None, refl, sym, ◌∙◌, ap, subst, inl, inr, append_assoc, ℕ}
+use Rattle.std.proofs.lemmas.Bool.{cases_Bool, or_left, not_from_false, true≢false, and_from}
 use Rattle.std.proofs.lemmas.List.{append-nil}
+use Rattle.ktm_laws.specs.Numbers.{has_number, names_objects}
+use Rattle.ktm_laws.specs.Grammatical.{counts_from_1, ids_of}
+use Rattle.ktm_laws.proofs.Makings.{counted-parts}
+use Rattle.std.specs.List.{list_all}
 use Rattle.ktm_base.specs.declared.id.Id.{Id}
 use Rattle.ktm_world.specs.declared.event.Event.{Event}
 use Rattle.ktm_world.specs.declared.event.Event.TheVariants.{Boot, MadeRm, Plain, Ready, Single, Held, Decide, Undo, Done}
@@ -14,7 +18,7 @@ use Rattle.ktm_world.specs.declared.object.Phase.{Phase}
 use Rattle.ktm_world.specs.declared.object.Phase.TheVariants.{SinglePhase}
 use Rattle.ktm_world.specs.declared.reply.Reply.{Reply}
 use Rattle.ktm_world.specs.Durable.{Durable, Recorded, after_event, after_events, decide_recorded, finish_recorded, recorded_at}
-use Rattle.ktm_world.specs.Enlistments.{Manager, Sent, notes_for, taken_count}
+use Rattle.ktm_world.specs.Enlistments.{Manager, Sent, notes_for, taken_count, Enlistment}
 use Rattle.ktm_world.specs.Files.{FileTable, OwnChanges, own_changes, without_transaction}
 use Rattle.ktm_world.specs.Keys.{Own, own_settings, without_own}
 use Rattle.ktm_world.specs.Outcome.{Outcome, only_reply, served, apply, joined}
@@ -24,10 +28,12 @@ use Rattle.ktm_world.specs.TransactionCalls.{course_of, arrived, is_one_phase}
 use Rattle.ktm_world.specs.Transactions.{same_id, is_undecided}
 use Rattle.ktm_world.proofs.Durables.{after_events-append}
 use Rattle.ktm_laws.specs.Footprint.{IsIn}
-use Rattle.ktm_laws.specs.SoundCourse.{IsSoundCourse, is_object_there, is_note_of, is_outcome_of, is_alone_in_one_phase}
-use Rattle.ktm_laws.proofs.Elements.{list_all-at, list_all-from}
+use Rattle.ktm_laws.specs.SoundCourse.{IsSoundCourse, is_object_there, is_note_of, is_outcome_of, is_alone_in_one_phase, is_counted, has_manager}
+use Rattle.ktm_laws.specs.Outcomes.{OutcomesStay}
+use Rattle.ktm_laws.proofs.Outcomes.{stay-refl, stay-changed}
+use Rattle.ktm_laws.proofs.Elements.{list_all-at, list_all-from, list_any-at}
 use Rattle.ktm_laws.proofs.Tables.{same_id-equal, same_id-sym}
-use Rattle.ktm_laws.proofs.Moves.{if_cases, is_boot, NoBoots, NoBoots-none}
+use Rattle.ktm_laws.proofs.Moves.{if_cases, is_boot, NoBoots, NoBoots-none, AreOwn-none, AreOwn, Knows}
 use Rattle.ktm_laws.proofs.Procedures.{Arrives}
 use Rattle.ktm_laws.proofs.Views.{sound-alike, sound-served}
 use Rattle.ktm_laws.proofs.Arrivals.{with_course, changed_to, IsIn-changed, sound-course, notes-course}
@@ -72,6 +78,8 @@ pub record IsSoundOutcome (x : Present) (o : Outcome) : Type 0 where
   pub events : NoBoots o.events
   pub made : o.made ≡ []
   pub notes : (s : Sent) → IsIn s o.sent → is_note_of (o.transactions).enlistments s.manager s.note ≡ true
+  pub outcomes : OutcomesStay (x.transactions).items (o.transactions).items
+  pub objects : list_all names_objects o.events ≡ true
 
 pub sound-apply : (x : Present) (o : Outcome) → IsSoundOutcome x o → IsSoundCourse (apply x o)
 sound-apply x o sound =
@@ -86,8 +94,17 @@ sound-apply x o sound =
       settings = refl;
     }) (sound-served (settled x o) o.took o.sent sound.settled sound.notes)
 
+-- a machine is sound after the outcome, and the outcomes of its transactions are what they were
+pub record Keeps (x : Present) (o : Outcome) : Type 0 where
+  pub sound : IsSoundCourse (apply x o)
+  pub outcomes : OutcomesStay (x.transactions).items (o.transactions).items
+  pub objects : list_all names_objects o.events ≡ true
+
+pub keeps-from : (x : Present) (o : Outcome) → IsSoundOutcome x o → Keeps x o
+keeps-from x o sound = record { sound = sound-apply x o sound; outcomes = sound.outcomes; objects = sound.objects }
+
 pub sound-only_reply : (x : Present) (reply : Reply) → IsSoundCourse x → IsSoundOutcome x (only_reply x reply)
-sound-only_reply x reply sound = record { settled = sound; events = NoBoots-none; made = refl; notes = λ s there. absurd there }
+sound-only_reply x reply sound = record { settled = sound; events = NoBoots-none; made = refl; notes = λ s there. absurd there; outcomes = stay-refl (x.transactions).items; objects = refl }
 
 -- ---- own changes and settings
 
@@ -164,11 +181,25 @@ undecided-one : (phase : Phase) (t : Transaction) → is_one_phase phase ≡ tru
 undecided-one SinglePhase t one is = is
 undecided-one _ t one is = absurd (true≢false (sym one))
 
+-- what was drawn can be the Id of an object
+object-counted : (boot last : ℕ) (id : Id) → is_counted boot last id ≡ true → (counts_from_1 id && has_number id) ≡ true
+object-counted boot last id is = let parts = counted-parts boot last id is in and_from _ _ (and_from _ _ parts.0 parts.2) parts.3
+
+object-known : (x : Present) (t : Transaction) (caller : Option Id) → IsSoundCourse x → IsIn t (x.transactions).items → (id : Id) → Knows (course_of x t caller) id → (counts_from_1 id && has_number id) ≡ true
+object-known x t caller sound there id (inl is) = subst (λ id. (counts_from_1 id && has_number id) ≡ true) (sym is)
+    (object-counted _ _ t.id (list_all-at (λ (t : Transaction). is_counted (x.recorded).boots (x.transactions).last_transaction t.id) (x.transactions).items sound.transactions_counted t there))
+object-known x t caller sound there id (inr (e, in_es, inl is)) = subst (λ id. (counts_from_1 id && has_number id) ≡ true) (sym is)
+    (object-counted _ _ e.id (list_all-at (λ (e : Enlistment). is_counted (x.recorded).boots (x.transactions).last_enlistment e.id) (x.transactions).enlistments sound.enlistments_counted e in_es))
+object-known x t caller sound there id (inr (e, in_es, inr is)) =
+    let m = list_any-at (λ (m : Manager). same_id m.id e.manager) x.managers (list_all-at (λ (e : Enlistment). has_manager x.managers e.manager) (x.transactions).enlistments sound.managers_there e in_es) in
+    subst (λ id. (counts_from_1 id && has_number id) ≡ true) (same_id-equal (m.0).id e.manager m.2 ∙ sym is)
+    (object-counted _ _ (m.0).id (list_all-at (λ (m : Manager). is_counted (x.recorded).boots (x.transactions).last_manager m.id) x.managers sound.managers_counted m.0 m.1))
+
 pub sound-arrived : (x : Present) (t : Transaction) (caller : Option Id) (d : Course) (reply : Reply) → IsSoundCourse x → IsIn t (x.transactions).items → Arrives (x.recorded).boots (course_of x t caller) d
-    → IsSoundOutcome x (arrived x d reply)
-sound-arrived x t caller d reply sound there arrives =
+    → (is_undecided t ≡ false → (d.transaction).outcome ≡ t.outcome) → IsSoundOutcome x (arrived x d reply)
+sound-arrived x t caller d reply sound there arrives known =
     if_cases (λ o. IsSoundOutcome x o) (is_undecided d.transaction) on_its_way _
-    (λ undecided. record { settled = went; events = events; made = refl; notes = notes })
+    (λ undecided. record { settled = went; events = events; made = refl; notes = notes; outcomes = outcomes; objects = objects })
     (λ decided. record {
       settled = sound-own (with_course x d) (without_transaction (x.files).table (d.transaction).id) (without_own (x.keys).own (d.transaction).id) went (λ v is one.
           elim (IsIn-changed (x.transactions).items d.transaction v sound.transactions_rise is) [
@@ -178,6 +209,8 @@ sound-arrived x t caller d reply sound there arrives =
       events = events;
       made = refl;
       notes = notes;
+      outcomes = outcomes;
+      objects = objects;
     })
   where
     on_its_way : Outcome
@@ -191,8 +224,17 @@ sound-arrived x t caller d reply sound there arrives =
     went : IsSoundCourse (with_course x d)
     went = sound-course x sound t there caller d arrives
 
+    own : AreOwn (course_of x t caller) d.events
+    own = (arrives.moved).events (AreOwn-none (course_of x t caller))
+
+    objects : list_all names_objects d.events ≡ true
+    objects = list_all-from names_objects d.events (λ event is. list_all-from (λ id. counts_from_1 id && has_number id) (ids_of event) (λ id named. object-known x t caller sound there id (own.named event is id named)))
+
     events : NoBoots d.events
-    events = (arrives.moved).events NoBoots-none
+    events = own.none
+
+    outcomes : OutcomesStay (x.transactions).items (changed_to (x.transactions).items d.transaction)
+    outcomes = stay-changed (x.transactions).items t d.transaction sound.transactions_rise there (arrives.moved).id known
 
     notes : (s : Sent) → IsIn s d.sent → is_note_of d.enlistments s.manager s.note ≡ true
     notes = notes-course x sound t there caller d arrives

@@ -1,5 +1,6 @@
 -- Every command leaves a machine sound, and so does the passing of time.
 use Rattle.std.proofs.Common.{◌≡◌, ℕ, Bool, List, [], ◌∷◌, Option, Some, None, refl, not, sym, subst}
+use Rattle.ktm_laws.specs.Numbers.{NamedLaw}
 use Rattle.ktm_base.specs.declared.id.Pid.{Pid}
 use Rattle.ktm_base.specs.declared.refusal.Refusal.{Refusal}
 use Rattle.ktm_base.specs.declared.refusal.Refusal.TheVariants.{LogFull, MachineDown}
@@ -18,9 +19,11 @@ use Rattle.ktm_world.specs.TransactionCalls.{commit_transaction, rollback_transa
 use Rattle.ktm_world.specs.World.{present, decide_tick}
 use Rattle.ktm_laws.specs.SoundCourse.{IsSoundCourse}
 use Rattle.ktm_laws.specs.SoundCourses.{CoursesLaw}
+use Rattle.ktm_laws.specs.Outcomes.{OutcomesLaw}
+use Rattle.ktm_laws.proofs.Outcomes.{stay-refl}
 use Rattle.ktm_laws.proofs.Moves.{if_cases}
 use Rattle.ktm_laws.proofs.Views.{sound-alike}
-use Rattle.ktm_laws.proofs.Settling.{IsSoundOutcome, sound-apply, sound-only_reply}
+use Rattle.ktm_laws.proofs.Settling.{IsSoundOutcome, sound-only_reply, Keeps, keeps-from}
 use Rattle.ktm_laws.proofs.Calls.{Passes, passed, transaction-named, manager-named, enlistment-named, sound-commit_of, sound-rollback_of, sound-pre_prepare_complete, sound-prepare_complete, sound-read_only, sound-commit_complete, sound-rollback_complete, sound-single_phase_reject, sound-rollback_enlistment, sound-pre_prepare_enlistment, sound-prepare_enlistment, sound-commit_enlistment, sound-recover_enlistment, sound-recover_all, sound-take_first}
 use Rattle.ktm_laws.proofs.Bindings.{sound-create_transaction, sound-open_transaction, sound-create_manager, sound-open_manager, sound-create_enlistment, sound-open_enlistment, sound-duplicate, sound-keep_information, sound-close_handle, sound-exit, sound-tick}
 use Rattle.ktm_laws.proofs.SoundRestarts.{sound-opened}
@@ -28,13 +31,13 @@ use Rattle.ktm_laws.proofs.FileSteps.{plain-caller, caller-active, passes-left, 
 
 module _ (x : Present) (sound : IsSoundCourse x) where
   -- an outcome of this machine
-  go : (o : Outcome) → IsSoundOutcome x o → IsSoundCourse (apply x o)
-  go o is = sound-apply x o is
+  go : (o : Outcome) → IsSoundOutcome x o → Keeps x o
+  go o is = keeps-from x o is
 
-  replies : (reply : Reply) → IsSoundCourse (apply x (only_reply x reply))
-  replies reply = sound-apply x (only_reply x reply) (sound-only_reply x reply sound)
+  replies : (reply : Reply) → Keeps x (only_reply x reply)
+  replies reply = keeps-from x (only_reply x reply) (sound-only_reply x reply sound)
 
-  sound-command : (process : Pid) (command : Command) → Passes (command_tests x process command) → IsSoundCourse (apply x (command_effect x process command))
+  sound-command : (process : Pid) (command : Command) → Passes (command_tests x process command) → Keeps x (command_effect x process command)
   unfolding commit_transaction rollback_transaction get_transaction_information recover_resource_manager get_notification pre_prepare_complete prepare_complete read_only_enlistment commit_complete rollback_complete single_phase_reject rollback_enlistment pre_prepare_enlistment prepare_enlistment commit_enlistment recover_enlistment set_information get_information
   sound-command process (CreateTransaction label timeout) passes = go _ (sound-create_transaction x process label timeout sound passes)
   sound-command process (OpenTransaction label guid) passes = go _ (sound-open_transaction x process label guid sound passes)
@@ -95,35 +98,49 @@ module _ (x : Present) (sound : IsSoundCourse x) where
   sound-command process Exit passes = sound-exit x process sound
 
   -- refused or not
-  sound-refuse_or : (tests : List (Bool × Refusal)) (effect : Outcome) → (Passes tests → IsSoundCourse (apply x effect)) → IsSoundCourse (apply x (refuse_or x (first_refusal tests) effect))
+  sound-refuse_or : (tests : List (Bool × Refusal)) (effect : Outcome) → (Passes tests → Keeps x effect) → Keeps x (refuse_or x (first_refusal tests) effect)
   sound-refuse_or tests effect is = or_refused (first_refusal tests) refl
     where
-      or_refused : (refusal : Option Refusal) → first_refusal tests ≡ refusal → IsSoundCourse (apply x (refuse_or x refusal effect))
+      or_refused : (refusal : Option Refusal) → first_refusal tests ≡ refusal → Keeps x (refuse_or x refusal effect)
       or_refused (Some refusal) refused = replies (Refused refusal)
       or_refused None none = is (record { none = none })
 
-  sound-with_room : (process : Pid) (command : Command) → IsSoundCourse (apply x (with_room x process command))
+  sound-with_room : (process : Pid) (command : Command) → Keeps x (with_room x process command)
   sound-with_room process command = sound-refuse_or ((not (x.machine).is_up, MachineDown) ∷ command_tests x process command) (command_effect x process command) (λ passes. sound-command process command (passed passes).1)
 
   -- with room in the log or without
-  sound-within_log : (o : Outcome) → IsSoundCourse (apply x o) → IsSoundCourse (apply x (within_log x o))
-  sound-within_log o is = if_cases (λ o. IsSoundCourse (apply x o)) (is_full (x.machine).left o.events) _ o
-      (λ full. sound-alike (apply x (only_reply x (Refused LogFull))) _ (record { boots = refl; image = refl; transactions = refl; managers = refl; handles = refl; own = refl; settings = refl }) (replies (Refused LogFull)))
+  sound-within_log : (o : Outcome) → Keeps x o → Keeps x (within_log x o)
+  sound-within_log o is = if_cases (λ o. Keeps x o) (is_full (x.machine).left o.events) _ o
+      (λ full. record {
+        sound = sound-alike (apply x (only_reply x (Refused LogFull))) _ (record { boots = refl; image = refl; transactions = refl; managers = refl; handles = refl; own = refl; settings = refl }) (replies (Refused LogFull)).sound;
+        outcomes = stay-refl (x.transactions).items;
+        objects = refl;
+      })
       (λ room. is)
 
-  sound-decided : (process : Pid) (command : Command) → IsSoundCourse (apply x (decide x process command))
+  sound-decided : (process : Pid) (command : Command) → Keeps x (decide x process command)
   sound-decided process command = sound-within_log (with_room x process command) (sound-with_room process command)
 
-  sound-decide_tick : (ms : ℕ) → IsSoundCourse (apply x (decide_tick x ms))
+  sound-decide_tick : (ms : ℕ) → Keeps x (decide_tick x ms)
   sound-decide_tick ms = sound-within_log _ (sound-refuse_or ((not (x.machine).is_up, MachineDown) ∷ []) (tick x ms) (λ passes. sound-tick x ms sound))
 
 pub courses_law : StepLaw → CoursesLaw
 courses_law step = record {
-  commands = λ x process command sound. sound-with_room x sound process command;
-  decided = λ x process command sound. sound-decided x sound process command;
-  ticks = λ x ms sound. sound-decide_tick x sound ms;
+  commands = λ x process command sound. (sound-with_room x sound process command).sound;
+  decided = λ x process command sound. (sound-decided x sound process command).sound;
+  ticks = λ x ms sound. (sound-decide_tick x sound ms).sound;
   falls = λ w power sound. sound-alike (present w) (present (record w { power = power })) (record { boots = refl; image = refl; transactions = refl; managers = refl; handles = refl; own = refl; settings = refl }) sound;
-  worlds = λ w process command within sound. subst IsSoundCourse (sym (step.1 w process command within)) (sound-decided (present w) sound process command);
-  later_worlds = λ w ms within sound. subst IsSoundCourse (sym (step.2 w ms within)) (sound-decide_tick (present w) sound ms);
+  worlds = λ w process command within sound. subst IsSoundCourse (sym (step.1 w process command within)) ((sound-decided (present w) sound process command).sound);
+  later_worlds = λ w ms within sound. subst IsSoundCourse (sym (step.2 w ms within)) ((sound-decide_tick (present w) sound ms).sound);
   restarts = sound-opened;
 }
+
+pub outcomes_law : OutcomesLaw
+outcomes_law = record {
+  commands = λ x process command sound. (sound-with_room x sound process command).outcomes;
+  decided = λ x process command sound. (sound-decided x sound process command).outcomes;
+  ticks = λ x ms sound. (sound-decide_tick x sound ms).outcomes;
+}
+
+pub named_law : NamedLaw
+named_law = record { commands = λ x process command sound. (sound-decided x sound process command).objects; ticks = λ x ms sound. (sound-decide_tick x sound ms).objects }

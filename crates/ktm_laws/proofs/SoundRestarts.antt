@@ -26,7 +26,7 @@ use Rattle.ktm_world.specs.World.{ManagerPast, manager_now, present, opened, own
 use Rattle.ktm_laws.specs.Footprint.{IsIn}
 use Rattle.ktm_laws.specs.GoodState.{each_pair, is_drawn, enlisted_in, superiors_in, enlisted, is_held_well, IsGoodState}
 use Rattle.ktm_laws.specs.SoundCourse.{IsSoundCourse, is_note_of, is_idle, is_waiting, is_part_as, is_counted, has_transaction, has_manager, are_not_both_superiors, is_superior_durable, is_unrecovered_well, is_outcome_of, is_of_its_boot, has_superior_as_asked, is_enlistment_as, are_enlistments_as_asked, is_awaited, is_recorded_as_asked, is_alone_in_one_phase}
-use Rattle.ktm_laws.specs.SoundCourses.{has_number, has_numbers}
+use Rattle.ktm_laws.specs.Numbers.{has_number, has_numbers}
 use Rattle.ktm_laws.proofs.Diamonds.{IsIn-right}
 use Rattle.ktm_laws.proofs.Lists.{IsIn-left, IsIn-cases, IsIn-unmap}
 use Rattle.ktm_laws.proofs.Elements.{IsIn-filter, IsIn-kept, IsIn-flat_map, IsIn-unflat, list_all-at, list_all-from, list_any-at, list_any-from, each_pair-filter, each_pair-from, each_pair-append, each_pair-left, each_pair-right, each_pair-across}

@@ -1,27 +1,17 @@
 -- What is so of transactions, enlistments and resource managers stays so, whatever a machine does.
-use Rattle.std.specs.Prelude.{◌≡◌, ℕ, ◌<◌, ◌^◌, ◌&&◌, Bool, true, List, nat_le}
-use Rattle.std.specs.List.{list_all, flat_map}
-use Rattle.ktm_base.specs.declared.id.Id.{Id}
+use Rattle.std.specs.Prelude.{◌≡◌, ℕ, ◌<◌, ◌^◌, true, List}
 use Rattle.ktm_base.specs.declared.id.Pid.{Pid}
 use Rattle.ktm_world.specs.declared.command.Command.{Command}
 use Rattle.ktm_world.specs.Decide.{with_room, decide}
 use Rattle.ktm_world.specs.Durable.{Durable, stand}
 use Rattle.ktm_world.specs.Laws.{FirstOpensLieWithin}
-use Rattle.ktm_world.specs.Limits.{most_number}
 use Rattle.ktm_world.specs.Logs.{Group, Power}
 use Rattle.ktm_world.specs.Outcome.{apply}
 use Rattle.ktm_world.specs.Present.{Present}
 use Rattle.ktm_world.specs.World.{World, present, extend, after, opened, decide_tick}
-use Rattle.ktm_laws.specs.GoodState.{enlisted, IsGoodState}
+use Rattle.ktm_laws.specs.GoodState.{IsGoodState}
+use Rattle.ktm_laws.specs.Numbers.{has_numbers}
 use Rattle.ktm_laws.specs.SoundCourse.{IsSoundCourse}
-
--- has the Id a number that an object can have
-abbrev pub has_number : Id → Bool
-has_number id = nat_le id.number most_number
-
--- has every Id of the state such a number
-abbrev pub has_numbers : Durable → Bool
-has_numbers s = list_all (λ t. has_number t.id) s.transactions && list_all has_number s.managers && list_all (λ e. has_number e.enlistment) (flat_map enlisted s.transactions)
 
 -- a machine stays sound, whatever command it is given, whatever time passes, and where it falls; and a restart of a good state whose numbers are in range makes a sound one
 pub record CoursesLaw : Type 0 where
@@ -31,8 +21,9 @@ pub record CoursesLaw : Type 0 where
   pub decided : (x : Present) (process : Pid) (command : Command) → IsSoundCourse x → IsSoundCourse (apply x (decide x process command))
   -- by the passing of time
   pub ticks : (x : Present) (ms : ℕ) → IsSoundCourse x → IsSoundCourse (apply x (decide_tick x ms))
-  -- so it is in worlds
+  -- so it is in worlds, by a command
   pub worlds : (w : World) (process : Pid) (command : Command) → FirstOpensLieWithin w → IsSoundCourse (present w) → IsSoundCourse (present (after w process command))
+  -- and by the passing of time
   pub later_worlds : (w : World) (ms : ℕ) → FirstOpensLieWithin w → IsSoundCourse (present w) → IsSoundCourse (present (extend w (decide_tick (present w) ms)))
   -- by the loss of power
   pub falls : (w : World) (power : Power) → IsSoundCourse (present w) → IsSoundCourse (present (record w { power = power }))

@@ -1,5 +1,6 @@
 // Laws of changes of a tree.
 ghost use Rattle.ktm_laws.specs.Diamond.{DiamondLaw};
+ghost use Rattle.ktm_laws.specs.FinalChanges.{FinalChangesLaw};
 ghost use Rattle.ktm_laws.specs.Footprint.{ListsLaw, MeetingLaw};
 ghost use Rattle.ktm_laws.specs.Formed.{FormedLaw};
 
@@ -28,4 +29,9 @@ pub fn law_of_lists()
 /// Changes that no hold of others refuses hold nothing that those hold.
 pub fn law_of_meetings()
     ensures { MeetingLaw }
+{}
+
+/// A transaction's changes are kept in the form in which they are committed, which stays so by each change more.
+pub fn law_of_final_changes()
+    ensures { FinalChangesLaw }
 {}

@@ -1,4 +1,6 @@
 // Laws of transactions with their enlistments, resource managers, notifications and handles.
+ghost use Rattle.ktm_laws.specs.Numbers.{NamedLaw, NumbersLaw};
+ghost use Rattle.ktm_laws.specs.Outcomes.{OutcomesLaw};
 ghost use Rattle.ktm_laws.specs.SoundCourses.{CoursesLaw};
 
 use ktm_world::law_of_step;
@@ -9,3 +11,18 @@ pub fn law_of_courses()
 {
     law_of_step();
 }
+
+/// The numbers of Ids stay in range, where those that events name are.
+pub fn law_of_numbers()
+    ensures { NumbersLaw }
+{}
+
+/// An outcome that is known never changes, and no transaction is lost before a restart.
+pub fn law_of_kept_outcomes()
+    ensures { OutcomesLaw }
+{}
+
+/// What a machine records names Ids of objects, which the grammar can spell.
+pub fn law_of_named_objects()
+    ensures { NamedLaw }
+{}
