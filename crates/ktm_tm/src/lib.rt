@@ -30,9 +30,7 @@ mod tests {
         assert!(rt; !tm.is_full());
         let id = tm.create(500);
         assert_eq!(rt; id, Id { boot: 3, number: 1 });
-        let Some(t) = tm.find(id) else {
-            return Err(Fail);
-        };
+        let t = tm.find(id).ok_or("not found")?;
         assert_eq!(rt; t.timeout, 500);
         assert_eq!(rt; active_refusal(&t), None);
         tm.arrive(ended(t));
