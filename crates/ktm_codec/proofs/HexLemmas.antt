@@ -1,11 +1,58 @@
 -- What is read in hexadecimal digits is what is spelled in them.
-use Rattle.std.proofs.Common.{◌≡◌, ℕ, ◌+◌, ◌*◌, ◌/◌, ◌%◌, ◌<◌, List, [], ◌∷◌, ◌++◌, Option, Some, None, refl, ap, ◌∙◌, arith, option_map, option_and_then, append_assoc, subst, codes, bytes_eq, nat_eq, false, inl, inr}
+use Rattle.std.proofs.Common.{◌≡◌, ℕ, zero, suc, ◌&&◌, Bool, true, cond, length, get_or, nat_lt, sym, ◌+◌, ◌*◌, ◌/◌, ◌%◌, ◌<◌, ◌≤◌, List, [], ◌∷◌, ◌++◌, Option, Some, None, refl, ap, ◌∙◌, arith, option_map, option_and_then, append_assoc, subst, codes, bytes_eq, nat_eq, false, inl, inr}
 use Rattle.std.proofs.lemmas.Option.{option_and_then_some, same_Some, some_pair_parts}
-use Rattle.std.proofs.lemmas.Bool.{cases_Bool}
+use Rattle.std.proofs.lemmas.Bool.{and_parts, cases_Bool, eqb-true, le-ltb, lt-ltb}
 use Rattle.std.proofs.lemmas.Grind.{common_steps}
 use Rattle.std.proofs.lemmas.Slice.Eq.{bytes_eq-Decides}
 use Rattle.ktm_base.specs.Bytes.{AreBytes}
 use Rattle.ktm_codec.specs.Hex.{digit_value, first_pair, hex_digit, hex_of, hex_or_dash, pair_value, unhex, unhex_or_dash}
+
+-- ---- a table of what bytes stand for
+
+abbrev pub number_in : ℕ → Option ℕ
+number_in v = cond (nat_lt v 16) (Some v) None
+
+abbrev pub same_number : Option ℕ → Option ℕ → Bool
+same_number None None = true
+same_number (Some a) (Some b) = nat_eq a b
+same_number None (Some b) = false
+same_number (Some a) None = false
+
+same_number-is : (a b : Option ℕ) → same_number a b ≡ true → a ≡ b
+same_number-is None None same = refl
+same_number-is (Some a) (Some b) same = ap Some (eqb-true a b same)
+same_number-is None (Some b) same = let wrong : false ≡ true = same in cc
+same_number-is (Some a) None same = let wrong : false ≡ true = same in cc
+
+-- has the table, from this byte on, what each byte stands for
+abbrev pub has_numbers : ℕ → List ℕ → Bool
+has_numbers n [] = true
+has_numbers n (v ∷ vs) = same_number (number_in v) (digit_value n) && has_numbers (suc n) vs
+
+number_at-from : (n : ℕ) (vs : List ℕ) (k d : ℕ) → has_numbers n vs ≡ true → k < length vs → number_in (get_or vs k d) ≡ digit_value (n + k)
+number_at-from n [] k d has within = absurd (omega (arith, within))
+number_at-from n (v ∷ vs) zero d has within =
+    let same : n ≡ n + 0 = omega arith in
+    same_number-is _ _ (and_parts (same_number (number_in v) (digit_value n)) (has_numbers (suc n) vs) has).0 ∙ ap digit_value same
+number_at-from n (v ∷ vs) (suc k) d has within =
+    let same : suc n + k ≡ n + suc k = omega arith in
+    number_at-from (suc n) vs k d (and_parts (same_number (number_in v) (digit_value n)) (has_numbers (suc n) vs) has).1 (omega (arith, within)) ∙ ap digit_value same
+
+number_at : (vs : List ℕ) (k d : ℕ) → has_numbers 0 vs ≡ true → k < length vs → number_in (get_or vs k d) ≡ digit_value k
+number_at vs k d has within =
+    let same : 0 + k ≡ k = omega arith in
+    number_at-from 0 vs k d has within ∙ ap digit_value same
+
+-- the number that stands in such a table at a digit, and 16 or more where it is none
+pub number_small : (vs : List ℕ) (k d : ℕ) → has_numbers 0 vs ≡ true → k < length vs → get_or vs k d < 16 → Some (get_or vs k d) ≡ digit_value k
+number_small vs k d has within small =
+    let test : nat_lt (get_or vs k d) 16 ≡ true = lt-ltb _ _ small in
+    ap (λ t. cond t (Some (get_or vs k d)) None) (sym test) ∙ number_at vs k d has within
+
+pub number_great : (vs : List ℕ) (k d : ℕ) → has_numbers 0 vs ≡ true → k < length vs → 16 ≤ get_or vs k d → ◌≡◌ {A = Option ℕ} None (digit_value k)
+number_great vs k d has within great =
+    let test : nat_lt (get_or vs k d) 16 ≡ false = le-ltb _ _ great in
+    ap (λ t. cond t (Some (get_or vs k d)) None) (sym test) ∙ number_at vs k d has within
 
 map-front : (front : List ℕ) (b : ℕ) (r : Option (List ℕ)) → option_map (λ bs. (front ++ b ∷ []) ++ bs) r ≡ option_map (λ bs. front ++ bs) (option_map (λ bs. b ∷ bs) r)
 map-front front b None = refl

@@ -1,5 +1,5 @@
 -- What is read as a word is spelled so, and what is spelled so is read.
-use Rattle.std.proofs.Common.{◌≡◌, ℕ, Bool, true, not, List, [], ◌∷◌, ◌++◌, Some, codes, bytes_eq, refl, sym, ◌∙◌, ap, inl, inr, append_assoc, nat_eq}
+use Rattle.std.proofs.Common.{◌≡◌, ◌<◌, ◌==◌, ℕ, zero, suc, Bool, true, false, cond, length, get_or, take, drop, arith, not, List, [], ◌∷◌, ◌++◌, Some, codes, bytes_eq, refl, sym, ◌∙◌, ap, inl, inr, append_assoc, nat_eq}
 use Rattle.std.specs.List.{list_all}
 use Rattle.std.proofs.lemmas.Bool.{cases_Bool}
 use Rattle.std.proofs.lemmas.List.{append-nil}
@@ -11,6 +11,29 @@ use Rattle.ktm_codec.proofs.Steps.{bind_some}
 use Rattle.ktm_script.specs.Reading.{word_from, by_word, one_of}
 use Rattle.ktm_script.specs.Spelling.{space}
 use Rattle.ktm_script.proofs.Readers.{Reads, ends_part}
+
+-- a word ends at the first space
+pub word_ends : (front text : List ℕ) (end : ℕ) → end < length text → (get_or text end 0 == space) ≡ true → ((k : ℕ) → k < end → (get_or text k 0 == space) ≡ false)
+    → word_from front text ≡ (front ++ take end text, drop end text)
+unfolding word_from
+word_ends front [] end within ends others = absurd (omega (arith, within))
+word_ends front (c ∷ cs) zero within ends others =
+    ap (λ t. cond t (front, c ∷ cs) (word_from (front ++ c ∷ []) cs)) ends ∙ ap (λ (l : List ℕ). (l, c ∷ cs)) (sym (append-nil front))
+word_ends front (c ∷ cs) (suc end) within ends others =
+    let other = others 0 (omega arith) in
+    ap (λ t. cond t (front, c ∷ cs) (word_from (front ++ c ∷ []) cs)) other
+    ∙ word_ends (front ++ c ∷ []) cs end (omega (arith, within)) ends (λ k below. others (suc k) (omega (arith, below)))
+    ∙ ap (λ (l : List ℕ). (l, drop end cs)) (append_assoc front (c ∷ []) (take end cs))
+
+-- without a space it is all of the text
+pub word_is_all : (front text : List ℕ) → ((k : ℕ) → k < length text → (get_or text k 0 == space) ≡ false) → word_from front text ≡ (front ++ text, [])
+unfolding word_from
+word_is_all front [] others = ap (λ (l : List ℕ). (l, [])) (sym (append-nil front))
+word_is_all front (c ∷ cs) others =
+    let other = others 0 (omega arith) in
+    ap (λ t. cond t (front, c ∷ cs) (word_from (front ++ c ∷ []) cs)) other
+    ∙ word_is_all (front ++ c ∷ []) cs (λ k below. others (suc k) (omega (arith, below)))
+    ∙ ap (λ (l : List ℕ). (l, [])) (append_assoc front (c ∷ []) cs)
 
 -- no space is in it
 abbrev pub is_word : List ℕ → Bool

@@ -6,6 +6,7 @@ ghost use Rattle.ktm_script.specs.Spelling.{access_spelling, disposition_spellin
 use ktm_base::NoMemory;
 use ktm_codec::strip_word;
 use ktm_world::{Access, Disposition, Durability, EnlistmentKind, ShareMode};
+use memchr::memchr;
 
 /// A value that is spelled by a word.
 pub trait Word: Copy {
@@ -81,17 +82,14 @@ impl Word for EnlistmentKind {
 }
 
 // The characters before the first space, and what follows them.
-#[tactic(auto, unfolding(crate::specs::Reading::word_from))]
 pub fn split_word(text: &[u8]) -> (&[u8], &[u8])
     ensures word { result.0.now ≡ (word_from [] text.now).0 }
     ensures rest { result.1.now ≡ (word_from [] text.now).1 }
 {
-    for (index, byte) in text.iter().enumerate() {
-        if *byte == b' ' {
-            return text.split_at(index);
-        }
+    match memchr(b' ', text) {
+        Some(end) => text.split_at(end),
+        None => (text, &[]),
     }
-    (text, &[])
 }
 
 // The value that has this word.

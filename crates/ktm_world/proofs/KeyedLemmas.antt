@@ -21,7 +21,7 @@ pub comes_before-total : (a b : List ℕ) → bytes_eq a b ≡ false → comes_b
 comes_before-total a b other behind =
     after_by (slice_cmp nat_cmp b a) (slice_cmp nat_cmp a b) (nat_list_cmp_total.antisymm a b) (is_eq-slice_cmp b a ∙ nat_list_eq_equiv.symm b a ∙ other) behind
 
-comes_before-less : (a b : List ℕ) → comes_before a b ≡ true → slice_cmp nat_cmp a b ≡ Less
+pub comes_before-less : (a b : List ℕ) → comes_before a b ≡ true → slice_cmp nat_cmp a b ≡ Less
 comes_before-less a b before = by_order (slice_cmp nat_cmp a b) before
   where
     by_order : (o : Ordering) → is_lt o ≡ true → o ≡ Less

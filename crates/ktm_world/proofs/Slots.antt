@@ -1,8 +1,9 @@
 -- What a search by halves finds in a list whose keys rise.
-use Rattle.std.proofs.Common.{◌≡◌, ℕ, zero, suc, ◌<◌, ◌≤◌, true, false, List, [], ◌∷◌, length, get_or, drop, refl, sym, ◌∙◌, ap, arith, add-one, drop-cons, is_lt, nat_cmp, Less, Equal, Greater}
-use Rattle.std.specs.Prelude.{Ok, Err}
+use Rattle.std.proofs.Common.{◌≡◌, ℕ, zero, suc, ◌-◌, ◌<◌, ◌≤◌, true, false, List, [], ◌∷◌, length, get_or, drop, Some, refl, sym, ◌∙◌, ap, subst, arith, add-one, drop-cons, is_lt, nat_cmp, Ordering, Less, Equal, Greater}
+use Rattle.std.specs.Prelude.{Ok, Err, slice_get}
 use Rattle.std.proofs.lemmas.Bool.{and_parts}
 use Rattle.std.proofs.lemmas.Cmp.{nat_list_cmp_total, nat_list_eq_equiv}
+use Rattle.std.proofs.lemmas.Option.{get_or_from_slice_get}
 use Rattle.std.proofs.lemmas.List.Sorted.{searchable_from_sorted}
 use Rattle.std.proofs.lemmas.Map.Lookups.{exact_bytes}
 use Rattle.std.proofs.lemmas.Map.Text.{is_eq-slice_cmp}
@@ -13,7 +14,7 @@ use Rattle.std.specs.Str.{bytes_eq}
 use Rattle.ktm_world.specs.declared.event.Keyed.{Keyed}
 use Rattle.ktm_world.specs.Keyed.{comes_before, comes_first, is_rising, key_order}
 use Rattle.ktm_world.specs.Slot.{IsHere, IsFree}
-use Rattle.ktm_world.proofs.KeyedLemmas.{comes_before-differs, comes_before-after, comes_first-trans, comes_first-at}
+use Rattle.ktm_world.proofs.KeyedLemmas.{comes_before-less, comes_before-differs, comes_before-after, comes_first-trans, comes_first-at}
 
 -- the rest begins with what is at the index
 pub rest_is : {X : Type 0} (xs : List X) (i : ℕ) (x : X) → i < length xs → x ≡ get_or xs i x → drop i xs ≡ x ∷ drop (suc i) xs
@@ -109,3 +110,19 @@ module _ {V : Type 0} where
   absent xs key i rises within result =
       let point = result (searchable xs key rises) in
       free_at xs key i rises within (λ k d below. point.0 k d (omega arith) below) point.1
+
+  -- a key behind the last one has its place at the end
+  pub behind_last : (xs : List (Keyed V)) (key : List ℕ) (last : Keyed V) → is_rising xs ≡ true → slice_get xs (length xs - 1) ≡ Some last
+      → comes_before last.key key ≡ true → IsFree xs key (length xs)
+  behind_last xs key last rises is before =
+      free_at xs key (length xs) rises (omega arith)
+      (λ k d below. least (key_order key (get_or xs k d))
+      (subst (λ o. ordering_index (key_order key (get_or xs k d)) ≤ ordering_index o)
+      (ap (λ x. key_order key x) (get_or_from_slice_get xs (length xs - 1) last d is) ∙ comes_before-less last.key key before)
+      (searchable xs key rises k (length xs - 1) d (omega (arith, below)) (omega (arith, below)))))
+      (λ k d above inside. absurd (omega (arith, above, inside)))
+    where
+      least : (o : Ordering) → ordering_index o ≤ ordering_index Less → o ≡ Less
+      least Less small = refl
+      least Equal small = absurd (omega (arith, small))
+      least Greater small = absurd (omega (arith, small))

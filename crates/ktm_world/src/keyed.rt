@@ -74,11 +74,16 @@ fn search<V>(items: &[Keyed<V>], key: &[u8]) -> Result<usize, usize>
     items.binary_search_by(|item| item.key.as_slice().cmp(key))
 }
 
-/// Where the key stands in a list by rising key.
+/// Where the key stands in a list by rising key. Keys mostly come by rising key too, so the last one is compared first.
 pub fn slot_of<V>(items: &[Keyed<V>], key: &[u8]) -> Slot
     requires { is_rising items.now ≡ true }
     ensures { IsSlot items.now key.now result }
 {
+    if let Some(last) = items.last() {
+        if is_before(last.key.as_slice(), key) {
+            return Slot::Free(items.len());
+        }
+    }
     match search(items, key) {
         Ok(i) => Slot::Here(i),
         Err(i) => Slot::Free(i),
