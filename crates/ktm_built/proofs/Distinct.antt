@@ -3,8 +3,8 @@ use Rattle.std.proofs.Common.{◌≡◌, ℕ, ◌+◌, false, List, [], ◌∷�
 use Rattle.std.proofs.lemmas.Bool.{cases_Bool, and_right, or_from, or_parts}
 use Rattle.std.specs.List.{AllByRecursion, list_any}
 use Rattle.ktm_base.specs.declared.id.Id.{Id}
-use Rattle.ktm_world.specs.declared.object.Transaction.{Transaction}
-use Rattle.ktm_world.specs.declared.object.TransactionOutcome.{TransactionOutcome}
+use Rattle.ktm_types.specs.declared.object.Transaction.{Transaction}
+use Rattle.ktm_types.specs.declared.object.TransactionOutcome.{TransactionOutcome}
 use Rattle.ktm_world.specs.Transactions.{same_id, transaction_at, change_at}
 use Rattle.ktm_built.specs.Standing.{IsSoundTransaction, AreDistinct}
 use Rattle.ktm_built.proofs.Ids.{same_id-equal, same_id-self, same_id-turned}

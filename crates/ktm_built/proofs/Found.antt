@@ -4,7 +4,7 @@ use Rattle.std.proofs.lemmas.Bool.{cases_Bool}
 use Rattle.std.proofs.lemmas.List.Elements.{All-from_recursion, recursion_from_All}
 use Rattle.std.specs.List.{All, AllByRecursion}
 use Rattle.ktm_base.specs.declared.id.Id.{Id}
-use Rattle.ktm_world.specs.declared.object.Transaction.{Transaction}
+use Rattle.ktm_types.specs.declared.object.Transaction.{Transaction}
 use Rattle.ktm_world.specs.Transactions.{same_id, transaction_at, change_at}
 use Rattle.ktm_built.proofs.Ids.{same_id-equal}
 

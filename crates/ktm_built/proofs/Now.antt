@@ -12,18 +12,18 @@ use Rattle.ktm_base.specs.declared.id.Label.{Label}
 use Rattle.ktm_base.specs.declared.id.Pid.{Pid}
 use Rattle.ktm_base.specs.declared.refusal.Refusal.{Refusal}
 use Rattle.ktm_base.specs.declared.refusal.Refusal.TheVariants.{MachineDown}
-use Rattle.ktm_world.specs.declared.command.Command.{Command}
-use Rattle.ktm_world.specs.declared.command.Command.TheVariants.{CreateTransaction, OpenTransaction, CommitTransaction, RollbackTransaction, KvSet, KvUnset, CloseHandle, DuplicateHandle, Exit}
-use Rattle.ktm_world.specs.declared.event.Event.{Event}
-use Rattle.ktm_world.specs.declared.event.Event.TheVariants.{Single}
-use Rattle.ktm_world.specs.declared.event.Part.TheVariants.{Settings}
-use Rattle.ktm_world.specs.declared.object.Object.{Object}
-use Rattle.ktm_world.specs.declared.object.Object.TheVariants.{Transaction as TransactionObject}
-use Rattle.ktm_world.specs.declared.object.Phase.{Phase}
-use Rattle.ktm_world.specs.declared.object.Transaction.{Transaction}
-use Rattle.ktm_world.specs.declared.object.TransactionOutcome.{TransactionOutcome}
-use Rattle.ktm_world.specs.declared.reply.Reply.{Reply}
-use Rattle.ktm_world.specs.declared.reply.Reply.TheVariants.{Refused, Done}
+use Rattle.ktm_types.specs.declared.command.Command.{Command}
+use Rattle.ktm_types.specs.declared.command.Command.TheVariants.{CreateTransaction, OpenTransaction, CommitTransaction, RollbackTransaction, KvSet, KvUnset, CloseHandle, DuplicateHandle, Exit}
+use Rattle.ktm_types.specs.declared.event.Event.{Event}
+use Rattle.ktm_types.specs.declared.event.Event.TheVariants.{Single}
+use Rattle.ktm_types.specs.declared.event.Part.TheVariants.{Settings}
+use Rattle.ktm_types.specs.declared.object.Object.{Object}
+use Rattle.ktm_types.specs.declared.object.Object.TheVariants.{Transaction as TransactionObject}
+use Rattle.ktm_types.specs.declared.object.Phase.{Phase}
+use Rattle.ktm_types.specs.declared.object.Transaction.{Transaction}
+use Rattle.ktm_types.specs.declared.object.TransactionOutcome.{TransactionOutcome}
+use Rattle.ktm_types.specs.declared.reply.Reply.{Reply}
+use Rattle.ktm_types.specs.declared.reply.Reply.TheVariants.{Refused, Done}
 use Rattle.ktm_world.specs.Built.{is_built_command, IsBuiltState}
 use Rattle.ktm_world.specs.Committed.{Work}
 use Rattle.ktm_world.specs.Decide.{decide, command_tests, command_effect, refusal_of, with_room}
@@ -41,9 +41,9 @@ use Rattle.ktm_world.specs.Transactions.{same_id, transaction_at, change_at, is_
 use Rattle.ktm_world.specs.TransactionCalls.{create_transaction_tests, commit_transaction, no_transaction_left, new_id, transaction_with, open_transaction_tests, with_clock}
 use Rattle.ktm_world.specs.Uses.{key_room}
 use Rattle.ktm_world.specs.World.{decide_tick}
-use Rattle.ktm_world.specs.Values.{IsCommand, IsText}
+use Rattle.ktm_types.specs.Values.{IsCommand, IsText}
 use Rattle.ktm_world.proofs.KeyLemmas.{length-stored_all-le, counted-with_own-le, counted-without_own, length-own_settings-le}
-use Rattle.ktm_world.proofs.KeyedLemmas.{count_by-cons}
+use Rattle.ktm_keyed.proofs.KeyedLemmas.{count_by-cons}
 use Rattle.ktm_built.specs.Forms.{with_transaction, with_commit, commit_events, commit_works, with_bound, with_rollback, with_unbound, with_handle_closed, with_process_gone, with_tick}
 use Rattle.ktm_built.specs.Laws.{EventsLaw, NowLaw}
 use Rattle.ktm_built.specs.Spelling.{IsShortEvent, IsShortWork}

@@ -6,11 +6,11 @@ use Rattle.ktm_base.specs.declared.id.Id.{Id}
 use Rattle.ktm_base.specs.declared.id.Pid.{Pid}
 use Rattle.ktm_base.specs.declared.refusal.Refusal.{Refusal}
 use Rattle.ktm_base.specs.declared.refusal.Refusal.TheVariants.{MachineDown}
-use Rattle.ktm_world.specs.declared.command.Command.{Command}
-use Rattle.ktm_world.specs.declared.command.Command.TheVariants.{CommitTransaction}
-use Rattle.ktm_world.specs.declared.object.Transaction.{Transaction}
-use Rattle.ktm_world.specs.declared.reply.Reply.{Reply}
-use Rattle.ktm_world.specs.declared.reply.Reply.TheVariants.{Refused, Done}
+use Rattle.ktm_types.specs.declared.command.Command.{Command}
+use Rattle.ktm_types.specs.declared.command.Command.TheVariants.{CommitTransaction}
+use Rattle.ktm_types.specs.declared.object.Transaction.{Transaction}
+use Rattle.ktm_types.specs.declared.reply.Reply.{Reply}
+use Rattle.ktm_types.specs.declared.reply.Reply.TheVariants.{Refused, Done}
 use Rattle.ktm_world.specs.Built.{is_built_command, is_built_event}
 use Rattle.ktm_world.specs.Decide.{decide, command_effect, refusal_of, with_room}
 use Rattle.ktm_world.specs.Keys.{OwnSettings, own_settings}

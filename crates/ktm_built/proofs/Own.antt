@@ -7,13 +7,13 @@ use Rattle.std.proofs.lemmas.Slice.Eq.{bytes_eq-Decides}
 use Rattle.std.specs.List.{All, AllByRecursion, list_all, list_any}
 use Rattle.ktm_base.specs.Bytes.{AreBytes}
 use Rattle.ktm_base.specs.declared.id.Id.{Id}
-use Rattle.ktm_world.specs.declared.event.Keyed.{Keyed}
+use Rattle.ktm_keyed.specs.declared.keyed.Keyed.{Keyed}
 use Rattle.ktm_world.specs.Keys.{is_good_setting, is_bad_set_to, is_bad_key, OwnSettings, Own, own_settings, with_own, without_own, is_held_by_other}
-use Rattle.ktm_world.specs.Keyed.{comes_before, put, value_at}
+use Rattle.ktm_keyed.specs.Keyed.{comes_before, put, value_at}
 use Rattle.ktm_world.specs.Lawful.{set_both}
 use Rattle.ktm_world.specs.Transactions.{same_id}
-use Rattle.ktm_world.specs.Values.{IsText}
-use Rattle.ktm_world.proofs.KeyedLemmas.{is_rising-put, list_all-put, AllByRecursion-put}
+use Rattle.ktm_types.specs.Values.{IsText}
+use Rattle.ktm_keyed.proofs.KeyedLemmas.{is_rising-put, list_all-put, AllByRecursion-put}
 use Rattle.ktm_built.specs.Spelling.{IsShortSetting}
 use Rattle.ktm_built.specs.Standing.{IsSoundOwn, StandOnce, AreSetApart}
 use Rattle.ktm_built.proofs.Ids.{same_id-equal, same_id-self, same_id-turned}

@@ -2,8 +2,8 @@
 use Rattle.std.proofs.Common.{◌≡◌, ℕ, ◌+◌, ◌-◌, ◌^◌, ◌==◌, ◌&&◌, nat_lt, nat_le, length, refl, arith, le-leb, add-zero}
 use Rattle.std.proofs.Math.Bool.{and-true}
 use Rattle.ktm_base.specs.declared.id.Id.{Id}
-use Rattle.ktm_world.specs.declared.event.Event.TheVariants.{Boot, Single}
-use Rattle.ktm_world.specs.declared.event.Part.TheVariants.{Settings}
+use Rattle.ktm_types.specs.declared.event.Event.TheVariants.{Boot, Single}
+use Rattle.ktm_types.specs.declared.event.Part.TheVariants.{Settings}
 use Rattle.ktm_world.specs.Durable.{Durable, event_applies, after_event, is_within_limits}
 use Rattle.ktm_world.specs.Keys.{OwnSettings, are_good_settings, stored_all}
 use Rattle.ktm_built.specs.Laws.{StateLaw}

@@ -9,10 +9,10 @@ use Rattle.std.proofs.lemmas.List.Folds.{list_all-append}
 use Rattle.std.specs.List.{AllByRecursion, list_all}
 use Rattle.ktm_base.specs.declared.id.Pid.{Pid}
 use Rattle.ktm_base.specs.declared.refusal.Refusal.TheVariants.{MachineDown}
-use Rattle.ktm_world.specs.declared.command.Command.{Command}
-use Rattle.ktm_world.specs.declared.event.Event.{Event}
-use Rattle.ktm_world.specs.declared.event.Event.TheVariants.{Boot}
-use Rattle.ktm_world.specs.declared.object.Transaction.{Transaction}
+use Rattle.ktm_types.specs.declared.command.Command.{Command}
+use Rattle.ktm_types.specs.declared.event.Event.{Event}
+use Rattle.ktm_types.specs.declared.event.Event.TheVariants.{Boot}
+use Rattle.ktm_types.specs.declared.object.Transaction.{Transaction}
 use Rattle.ktm_world.specs.Built.{is_built_command, is_built_log, IsBuiltState}
 use Rattle.ktm_world.specs.Changes.{apply_all}
 use Rattle.ktm_world.specs.Committed.{Committed, Work, with_work, committed_with}
@@ -24,10 +24,10 @@ use Rattle.ktm_world.specs.Lawful.{IsLawful, StandsForLog, all_apart, hold_apart
 use Rattle.ktm_world.specs.Logs.{Group, Power, up, down, is_up, as_groups, kept_after, possible_by, prefixes_from}
 use Rattle.ktm_world.specs.Outcome.{Outcome, apply, first_refusal}
 use Rattle.ktm_world.specs.Present.{Present}
-use Rattle.ktm_world.specs.Sizes.{frame_size, log_size}
+use Rattle.ktm_types.specs.Sizes.{frame_size, log_size}
 use Rattle.ktm_world.specs.Tree.{IsWellFormed}
 use Rattle.ktm_world.specs.World.{World, committed, present, extend, after, decide_tick, power_after, possible_logs, opened, own_group, first_open_now}
-use Rattle.ktm_world.specs.Values.{IsCommand}
+use Rattle.ktm_types.specs.Values.{IsCommand}
 use Rattle.ktm_world.proofs.SizeLemmas.{log_size-append}
 use Rattle.ktm_world.proofs.Worlds.{present-extend, refusal_law}
 use Rattle.ktm_built.specs.Laws.{LawfulLaw, OpenedLaw, FreshLaw, FallenLaw}

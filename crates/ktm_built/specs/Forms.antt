@@ -3,16 +3,16 @@ use Rattle.std.specs.Prelude.{◌≡◌, ℕ, ◌+◌, ◌-◌, List, [], ◌∷
 use Rattle.ktm_base.specs.declared.id.Id.{Id}
 use Rattle.ktm_base.specs.declared.id.Label.{Label}
 use Rattle.ktm_base.specs.declared.id.Pid.{Pid}
-use Rattle.ktm_world.specs.declared.event.Event.{Event}
-use Rattle.ktm_world.specs.declared.event.Event.TheVariants.{Single}
-use Rattle.ktm_world.specs.declared.event.Part.TheVariants.{Settings}
-use Rattle.ktm_world.specs.declared.object.Object.{Object}
-use Rattle.ktm_world.specs.declared.object.Object.TheVariants.{Transaction as TransactionObject}
-use Rattle.ktm_world.specs.declared.object.Phase.TheVariants.{Active, Ended}
-use Rattle.ktm_world.specs.declared.object.Transaction.{Transaction}
-use Rattle.ktm_world.specs.declared.object.TransactionOutcome.TheVariants.{Undetermined, Committed, Aborted}
-use Rattle.ktm_world.specs.declared.reply.Reply.{Reply}
-use Rattle.ktm_world.specs.declared.reply.Reply.TheVariants.{Committed as CommittedReply}
+use Rattle.ktm_types.specs.declared.event.Event.{Event}
+use Rattle.ktm_types.specs.declared.event.Event.TheVariants.{Single}
+use Rattle.ktm_types.specs.declared.event.Part.TheVariants.{Settings}
+use Rattle.ktm_types.specs.declared.object.Object.{Object}
+use Rattle.ktm_types.specs.declared.object.Object.TheVariants.{Transaction as TransactionObject}
+use Rattle.ktm_types.specs.declared.object.Phase.TheVariants.{Active, Ended}
+use Rattle.ktm_types.specs.declared.object.Transaction.{Transaction}
+use Rattle.ktm_types.specs.declared.object.TransactionOutcome.TheVariants.{Undetermined, Committed, Aborted}
+use Rattle.ktm_types.specs.declared.reply.Reply.{Reply}
+use Rattle.ktm_types.specs.declared.reply.Reply.TheVariants.{Committed as CommittedReply}
 use Rattle.ktm_world.specs.Committed.{Work}
 use Rattle.ktm_world.specs.HandleCalls.{without_handle, has_handle, labels_of}
 use Rattle.ktm_world.specs.Handles.{object_at}
@@ -21,7 +21,7 @@ use Rattle.ktm_world.specs.Labels.{with_handle}
 use Rattle.ktm_world.specs.Logs.{as_groups}
 use Rattle.ktm_world.specs.Outcome.{Outcome, apply, only_reply}
 use Rattle.ktm_world.specs.Present.{Present}
-use Rattle.ktm_world.specs.Sizes.{log_size}
+use Rattle.ktm_types.specs.Sizes.{log_size}
 use Rattle.ktm_world.specs.Transactions.{transaction_at, change_at, is_active}
 use Rattle.ktm_world.specs.TransactionCalls.{new_id, is_due, with_clock}
 

@@ -2,13 +2,13 @@
 use Rattle.std.specs.Prelude.{◌≡◌, ℕ, true, ◌+◌, ◌≤◌, List, length, All, Option, IfSome}
 use Rattle.ktm_base.specs.declared.id.Id.{Id}
 use Rattle.ktm_base.specs.Bytes.{AreBytes}
-use Rattle.ktm_world.specs.declared.event.Event.{Event}
-use Rattle.ktm_world.specs.declared.event.Event.TheVariants.{Boot, Single}
-use Rattle.ktm_world.specs.declared.event.Keyed.{Keyed}
-use Rattle.ktm_world.specs.declared.event.Part.TheVariants.{Settings}
-use Rattle.ktm_world.specs.Keyed.{is_rising}
+use Rattle.ktm_types.specs.declared.event.Event.{Event}
+use Rattle.ktm_types.specs.declared.event.Event.TheVariants.{Boot, Single}
+use Rattle.ktm_keyed.specs.declared.keyed.Keyed.{Keyed}
+use Rattle.ktm_types.specs.declared.event.Part.TheVariants.{Settings}
+use Rattle.ktm_keyed.specs.Keyed.{is_rising}
 use Rattle.ktm_world.specs.Keys.{OwnSettings}
-use Rattle.ktm_world.specs.Values.{IsText}
+use Rattle.ktm_types.specs.Values.{IsText}
 
 -- a setting of a text of 1 to 64 bytes, to a value of at most 960
 pub record IsShortSetting (setting : Keyed (Option (List ℕ))) : Type 0 where

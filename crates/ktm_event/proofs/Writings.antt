@@ -6,10 +6,10 @@ use Rattle.ktm_base.specs.Grammar.{IsU8, IsBytesOf, Then, Tagged}
 use Rattle.ktm_codec.specs.Spans.{Adds}
 use Rattle.ktm_codec.proofs.Adding.{adds_then, adds_tagged}
 use Rattle.ktm_codec.proofs.SpansLemmas.{then_tagged}
-use Rattle.ktm_world.specs.declared.change.Contents.TheVariants.{Whole}
-use Rattle.ktm_world.specs.declared.event.Part.{Part}
-use Rattle.ktm_world.specs.declared.event.Part.TheVariants.{Enlistment, Changes, Settings}
-use Rattle.ktm_world.specs.EventGrammar.{IsIdOf, IsPutOf, IsPartOf, IsSoleOf, IsEventOf}
+use Rattle.ktm_types.specs.declared.change.Contents.TheVariants.{Whole}
+use Rattle.ktm_types.specs.declared.event.Part.{Part}
+use Rattle.ktm_types.specs.declared.event.Part.TheVariants.{Enlistment, Changes, Settings}
+use Rattle.ktm_types.specs.EventGrammar.{IsIdOf, IsPutOf, IsPartOf, IsSoleOf, IsEventOf}
 use Rattle.ktm_event.specs.Spelling.{IsSpellablePart, IsSpellableSole, IsSpellableEvent}
 use Rattle.ktm_event.specs.Work.{stage_tag, work_event}
 use Rattle.ktm_event.specs.declared.work.Stage.{Stage}

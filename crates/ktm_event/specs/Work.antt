@@ -1,9 +1,9 @@
 -- What a transaction has to record of its work.
 use Rattle.std.specs.Prelude.{ℕ}
 use Rattle.ktm_base.specs.declared.id.Id.{Id}
-use Rattle.ktm_world.specs.declared.event.Part.{Part}
-use Rattle.ktm_world.specs.declared.event.Event.{Event}
-use Rattle.ktm_world.specs.declared.event.Event.TheVariants.{Ready, Single}
+use Rattle.ktm_types.specs.declared.event.Part.{Part}
+use Rattle.ktm_types.specs.declared.event.Event.{Event}
+use Rattle.ktm_types.specs.declared.event.Event.TheVariants.{Ready, Single}
 use Rattle.ktm_event.specs.declared.work.Work.{Work}
 use Rattle.ktm_event.specs.declared.work.Work.TheVariants.{Changes, Settings}
 use Rattle.ktm_event.specs.declared.work.Stage.{Stage}

@@ -3,9 +3,9 @@ ghost use Rattle.std.specs.Prelude.{◌≡◌, ◌↔◌, ℕ, ◌+◌, ◌*◌,
 ghost use Rattle.std.specs.Int.{to_le_bytes, w32};
 ghost use Rattle.ktm_base.specs.Bytes.{written};
 ghost use Rattle.ktm_log.specs.Settle.{IsBodyOf, behind_gate};
-ghost use Rattle.ktm_world.specs.EventGrammar.{IsGroupOf};
-ghost use Rattle.ktm_world.specs.Sizes.{event_size, frame_size};
-ghost use Rattle.ktm_world.specs.declared.event.Event.{Event};
+ghost use Rattle.ktm_types.specs.EventGrammar.{IsGroupOf};
+ghost use Rattle.ktm_types.specs.Sizes.{event_size, frame_size};
+ghost use Rattle.ktm_types.specs.declared.event.Event.{Event};
 ghost use Rattle.ktm_event.specs.Kept.{Holds};
 ghost use Rattle.ktm_event.specs.Spelling.{IsSpellableEvent};
 ghost use Rattle.ktm_event.specs.Work.{part_of, work_event};
@@ -13,7 +13,7 @@ ghost use Rattle.ktm_event.specs.Work.{part_of, work_event};
 use crate::event::{put_work, write_event};
 use crate::{Stage, Work};
 use ktm_base::{Id, NoMemory};
-use ktm_world::Event;
+use ktm_types::Event;
 use std::alloc::Global;
 use std::marker::Model;
 

@@ -1,9 +1,9 @@
 // Parts, each a tag and an enlistment or a list, and who is done.
 ghost use Rattle.std.specs.Prelude.{◌≡◌, ◌+◌, ◌<◌, ◌≤◌, sum_by, OnErr, OnOk, vec_len, vec_capacity};
 ghost use Rattle.ktm_codec.specs.Spans.{Adds};
-ghost use Rattle.ktm_world.specs.EventGrammar.{IsDoneOf, IsPartOf, IsRecordOf, IsSoleOf};
-ghost use Rattle.ktm_world.specs.Sizes.{change_size, done_size, part_size, record_size, setting_size};
-ghost use Rattle.ktm_world.specs.declared.event.Part.TheVariants.{Changes, Enlistment, Settings};
+ghost use Rattle.ktm_types.specs.EventGrammar.{IsDoneOf, IsPartOf, IsRecordOf, IsSoleOf};
+ghost use Rattle.ktm_types.specs.Sizes.{change_size, done_size, part_size, record_size, setting_size};
+ghost use Rattle.ktm_types.specs.declared.event.Part.TheVariants.{Changes, Enlistment, Settings};
 ghost use Rattle.ktm_event.specs.Reading.{Gives, IsRecordedOf};
 ghost use Rattle.ktm_event.specs.Spelling.{AreSpellableChanges, AreSpellableSettings, IsSpellableDone, IsSpellablePart, IsSpellableRecord};
 
@@ -13,7 +13,7 @@ use crate::field::{id_at, information_at, put_id, tag_at};
 use crate::setting::{put_settings, settings_at};
 use ktm_base::{Bytes, Id, NoMemory};
 use ktm_codec::{put_text, put_u8};
-use ktm_world::{Change, DonePart, Part, Setting};
+use ktm_types::{Change, DonePart, Part, Setting};
 use std::alloc::Global;
 
 const ENLISTMENT: u8 = 1;

@@ -2,13 +2,13 @@
 // greatest number.
 ghost use Rattle.std.specs.Prelude.{◌≡◌, ◌-◌, ◌^◌, min, sum_by};
 ghost use Rattle.ktm_base.specs.declared.id.Id.{Id};
-ghost use Rattle.ktm_world.specs.Sizes.{change_size, done_size, event_size, part_size, put_size, record_size, set_to_size, setting_size};
+ghost use Rattle.ktm_types.specs.Sizes.{change_size, done_size, event_size, part_size, put_size, record_size, set_to_size, setting_size};
 ghost use Rattle.ktm_event.specs.Work.{part_of, work_event};
 ghost use Rattle.ktm_event.specs.declared.work.Stage.{Stage};
 
 use crate::Work;
 use ktm_base::Bytes;
-use ktm_world::{Change, Contents, DonePart, Event, Part, Setting};
+use ktm_types::{Change, Contents, DonePart, Event, Part, Setting};
 
 fn set_to_size(value: &Option<Bytes>) -> usize
     ensures { result ≡ min (set_to_size value.now) (2 ^ 64 - 1) }

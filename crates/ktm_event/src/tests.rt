@@ -8,7 +8,7 @@ use crate::{
     work_size, write_event,
 };
 use ktm_base::{Bytes, Id, NoMemory, Text};
-use ktm_world::{Change, DonePart, Event, NodeKind, Part, Setting, Settings};
+use ktm_types::{Change, DonePart, Event, NodeKind, Part, Setting, Settings};
 use std::alloc::{AllocError, Global};
 use std::test::Fail;
 

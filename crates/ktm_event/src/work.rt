@@ -3,7 +3,7 @@ ghost use Rattle.std.specs.Prelude.{◌≡◌};
 ghost use Rattle.ktm_event.specs.Work.{stage_tag};
 
 use crate::event::{READY, SINGLE};
-use ktm_world::{Change, Setting};
+use ktm_types::{Change, Setting};
 
 /// What one participant has to record of a transaction.
 #[derive(Clone, Copy)]

@@ -10,8 +10,8 @@ use Rattle.ktm_event.proofs.OneEvent.{one_group}
 use Rattle.ktm_world.specs.Built.{is_built_event, is_built_log}
 use Rattle.ktm_world.specs.Logs.{Group}
 use Rattle.ktm_world.specs.Durable.{Durable, empty_state, stand, events_apply, log_applies}
-use Rattle.ktm_world.specs.EventGrammar.{IsGroupOf}
-use Rattle.ktm_world.specs.Sizes.{log_size}
+use Rattle.ktm_types.specs.EventGrammar.{IsGroupOf}
+use Rattle.ktm_types.specs.Sizes.{log_size}
 use Rattle.ktm_world.proofs.Durables.{log_applies-append}
 use Rattle.ktm_journal.specs.Image.{IsHeaded, HoldGroups, HoldsLog, StandsFor, log_area}
 use Rattle.ktm_journal.specs.Bad.{IsBadFrame, IsBadAt}

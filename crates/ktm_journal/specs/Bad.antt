@@ -5,8 +5,8 @@ use Rattle.std.specs.List.{list_all}
 use Rattle.ktm_world.specs.Built.{is_built_event, is_built_log}
 use Rattle.ktm_world.specs.Logs.{Group}
 use Rattle.ktm_world.specs.Durable.{Durable, empty_state, stand, events_apply, log_applies}
-use Rattle.ktm_world.specs.EventGrammar.{IsGroupOf}
-use Rattle.ktm_world.specs.Sizes.{log_size}
+use Rattle.ktm_types.specs.EventGrammar.{IsGroupOf}
+use Rattle.ktm_types.specs.Sizes.{log_size}
 use Rattle.ktm_journal.specs.declared.fault.LoadFault.{LoadFault}
 use Rattle.ktm_journal.specs.declared.fault.LoadFault.TheVariants.{Down, Bad, NoMemory}
 use Rattle.ktm_journal.specs.Image.{IsHeaded, IsFormatted, HoldGroups, empty_snapshot, snapshot_of, log_area}

@@ -6,9 +6,9 @@ use Rattle.ktm_log.specs.declared.area.Area.{Area}
 use Rattle.ktm_log.specs.Log.{LogState, IsLog, Rests, area_bytes}
 use Rattle.ktm_world.specs.Built.{is_built_log}
 use Rattle.ktm_world.specs.Logs.{Group}
-use Rattle.ktm_world.specs.EventGrammar.{IsGroupOf}
+use Rattle.ktm_types.specs.EventGrammar.{IsGroupOf}
 use Rattle.ktm_world.specs.Durable.{Durable, empty_state, stand, log_applies}
-use Rattle.ktm_world.specs.Sizes.{log_size}
+use Rattle.ktm_types.specs.Sizes.{log_size}
 
 -- how many bytes an area has
 abbrev pub area_len : ℕ → ℕ

@@ -6,8 +6,9 @@ ghost use Rattle.ktm_world.specs.Durable.{Durable, empty_state, fact_of, fact_ap
 ghost use Rattle.ktm_world.specs.Keys.{are_good_settings, stored_all};
 
 use ktm_base::{Bytes, Id, NoMemory};
-use ktm_world::keyed::KeyedList;
-use ktm_world::{Event, Part, Setting, are_good_settings, make_all};
+use ktm_keyed::KeyedList;
+use ktm_types::{Event, Part, Setting};
+use ktm_world::{are_good_settings, make_all};
 use std::alloc::Global;
 use std::marker::Model;
 
@@ -107,8 +108,8 @@ impl Durable {
         self.is_within_limits()
     }
 
-    ghost use Rattle.ktm_world.specs.declared.event.Event.TheVariants.{Boot, Single};
-    ghost use Rattle.ktm_world.specs.declared.event.Part.TheVariants.{Settings};
+    ghost use Rattle.ktm_types.specs.declared.event.Event.TheVariants.{Boot, Single};
+    ghost use Rattle.ktm_types.specs.declared.event.Part.TheVariants.{Settings};
 
     // Makes the settings of a transaction in the store.
     fn commit(&mut self, transaction: Id, settings: Vec<Setting>) -> Result<bool, NoMemory>

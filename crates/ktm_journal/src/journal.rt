@@ -6,7 +6,7 @@ ghost use Rattle.ktm_log.specs.Fault.{IfAppendDown, append_went_down};
 ghost use Rattle.ktm_world.specs.Built.{IsBuiltState};
 ghost use Rattle.ktm_world.specs.Logs.{Group};
 ghost use Rattle.ktm_world.specs.Outcome.{is_full};
-ghost use Rattle.ktm_world.specs.Sizes.{frame_size};
+ghost use Rattle.ktm_types.specs.Sizes.{frame_size};
 ghost use Rattle.ktm_event.specs.Kept.{Holds};
 ghost use Rattle.ktm_journal.specs.Image.{AreInLog, HoldsLog, IsFormatted, IsHeaded, JournalAt, LeavesGroupOrNot, StandsFor, log_area};
 ghost use Rattle.ktm_journal.specs.Bad.{IfBad, IsBadAt, load_went_down};

@@ -8,7 +8,7 @@ ghost use Rattle.ktm_world.specs.Durable.{after_events, events_apply};
 ghost use Rattle.std.specs.List.{list_all};
 ghost use Rattle.ktm_world.specs.Built.{is_built_event, IsBuiltState};
 ghost use Rattle.ktm_world.specs.Logs.{Group};
-ghost use Rattle.ktm_world.specs.EventGrammar.{IsGroupOf};
+ghost use Rattle.ktm_types.specs.EventGrammar.{IsGroupOf};
 ghost use Rattle.ktm_journal.specs.Image.{AreInLog, IsFormatted, IsHeaded, empty_snapshot, snapshot_of};
 ghost use Rattle.ktm_journal.specs.Format.{IsHeader};
 ghost use Rattle.ktm_journal.specs.Bad.{IfBad, IsBadAt, IsBadPayload, load_went_down};

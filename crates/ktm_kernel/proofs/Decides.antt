@@ -15,12 +15,12 @@ use Rattle.ktm_event.specs.Kept.{EventsState, Holds}
 use Rattle.ktm_event.specs.Spelling.{IsSpellableId, IsSpellableSetting, AreSpellableSettings}
 use Rattle.ktm_journal.specs.Image.{JournalState, area_len}
 use Rattle.ktm_tm.specs.TmState.{next_id}
-use Rattle.ktm_world.specs.declared.event.Event.{Event}
-use Rattle.ktm_world.specs.declared.event.Event.TheVariants.{Single}
-use Rattle.ktm_world.specs.declared.event.Part.TheVariants.{Settings}
-use Rattle.ktm_world.specs.declared.object.Transaction.{Transaction}
-use Rattle.ktm_world.specs.declared.reply.Reply.{Reply}
-use Rattle.ktm_world.specs.declared.reply.Reply.TheVariants.{Committed, Guid, Refused}
+use Rattle.ktm_types.specs.declared.event.Event.{Event}
+use Rattle.ktm_types.specs.declared.event.Event.TheVariants.{Single}
+use Rattle.ktm_types.specs.declared.event.Part.TheVariants.{Settings}
+use Rattle.ktm_types.specs.declared.object.Transaction.{Transaction}
+use Rattle.ktm_types.specs.declared.reply.Reply.{Reply}
+use Rattle.ktm_types.specs.declared.reply.Reply.TheVariants.{Committed, Guid, Refused}
 use Rattle.ktm_world.specs.Decide.{of_keys}
 use Rattle.ktm_world.specs.FileUses.{file_changes_waiting}
 use Rattle.ktm_world.specs.KeyCalls.{KeyOutcome}
@@ -28,7 +28,7 @@ use Rattle.ktm_world.specs.Handles.{no_handle_left}
 use Rattle.ktm_world.specs.Keys.{OwnSettings, own_settings}
 use Rattle.ktm_world.specs.Outcome.{Outcome, only_reply, refuse_or}
 use Rattle.ktm_world.specs.Present.{Present}
-use Rattle.ktm_world.specs.Sizes.{event_size, setting_size}
+use Rattle.ktm_types.specs.Sizes.{event_size, setting_size}
 use Rattle.ktm_world.specs.Transactions.{change_at, same_id, transaction_at}
 use Rattle.ktm_world.specs.TransactionCalls.{commit_transaction, create_transaction, no_transaction_left}
 use Rattle.ktm_world.specs.Uses.{key_room}

@@ -16,15 +16,15 @@ use Rattle.ktm_log.specs.declared.area.Area.{Area}
 use Rattle.ktm_log.specs.declared.fault.AppendFault.{AppendFault}
 use Rattle.ktm_log.specs.declared.fault.AppendFault.TheVariants.{Down, Full}
 use Rattle.ktm_log.specs.Fault.{IfAppendDown}
-use Rattle.ktm_world.specs.declared.command.Command.{Command}
-use Rattle.ktm_world.specs.declared.event.Event.{Event}
-use Rattle.ktm_world.specs.declared.reply.Reply.{Reply}
-use Rattle.ktm_world.specs.declared.reply.Reply.TheVariants.{Refused}
+use Rattle.ktm_types.specs.declared.command.Command.{Command}
+use Rattle.ktm_types.specs.declared.event.Event.{Event}
+use Rattle.ktm_types.specs.declared.reply.Reply.{Reply}
+use Rattle.ktm_types.specs.declared.reply.Reply.TheVariants.{Refused}
 use Rattle.ktm_world.specs.Decide.{decide, with_room}
 use Rattle.ktm_world.specs.Logs.{Group, as_groups}
 use Rattle.ktm_world.specs.Outcome.{Outcome, apply, is_full, only_reply}
 use Rattle.ktm_world.specs.Present.{Present}
-use Rattle.ktm_world.specs.Sizes.{event_size, frame_size, log_size}
+use Rattle.ktm_types.specs.Sizes.{event_size, frame_size, log_size}
 use Rattle.ktm_built.specs.Standing.{IsBuiltNow}
 use Rattle.ktm_built.proofs.Forms.{forms_law}
 use Rattle.ktm_kernel.specs.declared.settlement.Settlement.{Settlement}

@@ -9,12 +9,12 @@ use Rattle.ktm_base.proofs.ToldSteps.{Tells-map, Tells-step}
 use Rattle.ktm_journal.specs.Bad.{IsBadAt}
 use Rattle.ktm_journal.specs.Image.{IsHeaded, HoldsLog}
 use Rattle.ktm_journal.proofs.OneImage.{not_bad}
-use Rattle.ktm_world.specs.declared.command.Line.TheVariants.{Restart}
-use Rattle.ktm_world.specs.declared.reply.Reply.{Reply}
-use Rattle.ktm_world.specs.declared.reply.Reply.TheVariants.{Refused, Restarted}
+use Rattle.ktm_types.specs.declared.command.Line.TheVariants.{Restart}
+use Rattle.ktm_types.specs.declared.reply.Reply.{Reply}
+use Rattle.ktm_types.specs.declared.reply.Reply.TheVariants.{Refused, Restarted}
 use Rattle.ktm_world.specs.Durable.{Durable, empty_state, stand}
 use Rattle.ktm_world.specs.Outcome.{is_full}
-use Rattle.ktm_world.specs.Sizes.{log_size}
+use Rattle.ktm_types.specs.Sizes.{log_size}
 use Rattle.ktm_world.specs.World.{World, present, own_group, opened, in_doubt, possible_logs, interrupted_restart, found_full, is_full_to_open}
 use Rattle.ktm_world.specs.Built.{is_built_log}
 use Rattle.ktm_world.proofs.BuiltStates.{built_stand}

@@ -11,16 +11,16 @@ use Rattle.ktm_base.specs.Told.{Tells}
 use Rattle.ktm_base.proofs.ToldSteps.{Tells-map}
 use Rattle.ktm_journal.specs.Image.{JournalState, JournalAt, IsImage, HoldsLog}
 use Rattle.ktm_journal.proofs.Images.{what_is_left}
-use Rattle.ktm_world.specs.declared.command.Command.{Command}
-use Rattle.ktm_world.specs.declared.command.Line.TheVariants.{Crash, Process}
-use Rattle.ktm_world.specs.declared.event.Event.{Event}
-use Rattle.ktm_world.specs.declared.reply.Reply.{Reply}
-use Rattle.ktm_world.specs.declared.reply.Reply.TheVariants.{Refused, Done}
+use Rattle.ktm_types.specs.declared.command.Command.{Command}
+use Rattle.ktm_types.specs.declared.command.Line.TheVariants.{Crash, Process}
+use Rattle.ktm_types.specs.declared.event.Event.{Event}
+use Rattle.ktm_types.specs.declared.reply.Reply.{Reply}
+use Rattle.ktm_types.specs.declared.reply.Reply.TheVariants.{Refused, Done}
 use Rattle.ktm_world.specs.Outcome.{Outcome, only_reply, refuse_or, within_log}
 use Rattle.ktm_world.specs.Outcome.{first_refusal}
 use Rattle.ktm_world.specs.Decide.{decide, refusal_of, command_tests, command_effect}
 use Rattle.ktm_world.specs.Built.{is_built_command}
-use Rattle.ktm_world.specs.Values.{IsCommand}
+use Rattle.ktm_types.specs.Values.{IsCommand}
 use Rattle.ktm_world.specs.Outcome.{apply}
 use Rattle.ktm_world.specs.Durable.{Durable, events_apply, log_applies, stand}
 use Rattle.ktm_world.specs.World.{World, OpenedAfter, first_open_now, present, after, power_after, crashed, interrupted_by}

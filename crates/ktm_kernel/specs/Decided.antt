@@ -3,8 +3,8 @@ use Rattle.std.specs.Prelude.{◌≡◌, ◌≢◌, []}
 use Rattle.ktm_base.specs.declared.refusal.Refusal.{Refusal}
 use Rattle.ktm_event.specs.Kept.{EventsState, Holds}
 use Rattle.ktm_journal.specs.Image.{JournalState}
-use Rattle.ktm_world.specs.declared.reply.Reply.{Reply}
-use Rattle.ktm_world.specs.declared.reply.Reply.TheVariants.{Refused}
+use Rattle.ktm_types.specs.declared.reply.Reply.{Reply}
+use Rattle.ktm_types.specs.declared.reply.Reply.TheVariants.{Refused}
 use Rattle.ktm_world.specs.Outcome.{Outcome, apply}
 use Rattle.ktm_kernel.specs.declared.settlement.Settlement.{Settlement}
 use Rattle.ktm_kernel.specs.Memory.{Held, MemoryState, MaySettle, appended, held, now_of, settled}

@@ -6,9 +6,9 @@ use Rattle.ktm_base.specs.declared.refusal.Refusal.TheVariants.{MachineDown}
 use Rattle.ktm_base.specs.Disk.{DiskState, MayLeave}
 use Rattle.ktm_base.specs.Told.{Tells}
 use Rattle.ktm_journal.specs.Image.{JournalState, JournalAt, IsImage}
-use Rattle.ktm_world.specs.declared.command.Command.{Command}
-use Rattle.ktm_world.specs.declared.reply.Reply.{Reply}
-use Rattle.ktm_world.specs.declared.reply.Reply.TheVariants.{Refused}
+use Rattle.ktm_types.specs.declared.command.Command.{Command}
+use Rattle.ktm_types.specs.declared.reply.Reply.{Reply}
+use Rattle.ktm_types.specs.declared.reply.Reply.TheVariants.{Refused}
 use Rattle.ktm_world.specs.Present.{Present}
 use Rattle.ktm_world.specs.Decide.{decide}
 use Rattle.ktm_world.specs.Logs.{Group, as_groups}

@@ -5,16 +5,16 @@ use Rattle.ktm_event.specs.Kept.{EventsState}
 use Rattle.ktm_journal.specs.Image.{JournalState, area_len}
 use Rattle.ktm_object.specs.Table.{HandleTable, handles_of}
 use Rattle.ktm_tm.specs.TmState.{TmState, next_id, with_new}
-use Rattle.ktm_world.specs.declared.event.Event.{Event}
-use Rattle.ktm_world.specs.declared.object.Handle.{Handle}
-use Rattle.ktm_world.specs.declared.object.Object.TheVariants.{Transaction as TransactionObject}
+use Rattle.ktm_types.specs.declared.event.Event.{Event}
+use Rattle.ktm_types.specs.declared.object.Handle.{Handle}
+use Rattle.ktm_types.specs.declared.object.Object.TheVariants.{Transaction as TransactionObject}
 use Rattle.ktm_world.specs.Built.{built_state}
 use Rattle.ktm_world.specs.Handles.{object_at}
 use Rattle.ktm_world.specs.Keys.{KeysNow, own_settings, stored_all, without_own}
 use Rattle.ktm_world.specs.Labels.{with_handle}
 use Rattle.ktm_world.specs.Logs.{as_groups}
 use Rattle.ktm_world.specs.Present.{Present, Transactions}
-use Rattle.ktm_world.specs.Sizes.{log_size}
+use Rattle.ktm_types.specs.Sizes.{log_size}
 use Rattle.ktm_world.specs.TransactionCalls.{no_transaction_left}
 use Rattle.ktm_world.specs.Transactions.{change_at}
 use Rattle.kv_rm.specs.KvState.{KvState}

@@ -4,10 +4,10 @@ use Rattle.ktm_base.specs.Disk.{DiskState, MayLeave, IsSafe}
 use Rattle.ktm_journal.specs.Image.{HoldsLog, left_after}
 use Rattle.ktm_world.specs.Durable.{Durable, empty_state, stand}
 use Rattle.ktm_world.specs.Outcome.{is_full}
-use Rattle.ktm_world.specs.Sizes.{log_size}
+use Rattle.ktm_types.specs.Sizes.{log_size}
 use Rattle.ktm_world.specs.Logs.{Group}
-use Rattle.ktm_world.specs.declared.reply.Reply.{Reply}
-use Rattle.ktm_world.specs.declared.reply.Reply.TheVariants.{BadImage, Refused}
+use Rattle.ktm_types.specs.declared.reply.Reply.{Reply}
+use Rattle.ktm_types.specs.declared.reply.Reply.TheVariants.{BadImage, Refused}
 use Rattle.ktm_base.specs.declared.refusal.Refusal.TheVariants.{LogFull}
 use Rattle.ktm_world.specs.World.{own_group, opened}
 use Rattle.ktm_kernel.specs.declared.restart.RestartFault.{RestartFault}

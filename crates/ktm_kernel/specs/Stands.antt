@@ -4,8 +4,8 @@ use Rattle.ktm_base.specs.Disk.{DiskState, DiskStatus, MayLeave, IsSafe}
 use Rattle.ktm_base.specs.Power.{Restored, NotRestored}
 use Rattle.ktm_base.specs.Told.{Tells, IfTold, Goes}
 use Rattle.ktm_journal.specs.Image.{JournalState, JournalAt, HoldsLog, IsFormatted, StandsFor, left_after}
-use Rattle.ktm_world.specs.declared.command.Line.{Line}
-use Rattle.ktm_world.specs.declared.reply.Reply.{Reply}
+use Rattle.ktm_types.specs.declared.command.Line.{Line}
+use Rattle.ktm_types.specs.declared.reply.Reply.{Reply}
 use Rattle.ktm_world.specs.Present.{Present}
 use Rattle.ktm_world.specs.Durable.{empty_state, stand, log_applies}
 use Rattle.ktm_world.specs.World.{World, present, possible_logs, interrupted_restart}

@@ -2,9 +2,9 @@
 ghost use Rattle.std.specs.Prelude.{◌≡◌, ◌+◌, ◌≤◌, true, Some, None, [], IfOk, OnErr, length};
 ghost use Rattle.ktm_event.specs.Kept.{Holds};
 ghost use Rattle.ktm_event.specs.Spelling.{IsSpellableId, AreSpellableSettings};
-ghost use Rattle.ktm_world.specs.declared.event.Event.TheVariants.{Single};
-ghost use Rattle.ktm_world.specs.declared.event.Part.TheVariants.{Settings};
-ghost use Rattle.ktm_world.specs.Sizes.{event_size};
+ghost use Rattle.ktm_types.specs.declared.event.Event.TheVariants.{Single};
+ghost use Rattle.ktm_types.specs.declared.event.Part.TheVariants.{Settings};
+ghost use Rattle.ktm_types.specs.Sizes.{event_size};
 ghost use Rattle.ktm_built.specs.Forms.{commit_events, ended_committed};
 ghost use Rattle.ktm_world.specs.TransactionCalls.{commit_transaction};
 ghost use Rattle.ktm_world.specs.Transactions.{transaction_at};
@@ -17,7 +17,7 @@ use crate::settlement::{Decision, Settlement};
 use ktm_base::{Id, NoMemory};
 use ktm_event::{Events, Stage, Work};
 use ktm_journal::Journal;
-use ktm_world::{Phase, Reply, Setting, Transaction, TransactionOutcome};
+use ktm_types::{Phase, Reply, Setting, Transaction, TransactionOutcome};
 
 // The transaction once it has committed, and all are told.
 fn committed(t: Transaction) -> Transaction

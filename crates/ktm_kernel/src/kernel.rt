@@ -3,10 +3,10 @@ ghost use Rattle.std.specs.Prelude.{◌≡◌, ◌⊎◌, true, false, Option, S
 ghost use Rattle.ktm_base.specs.Count.{Rose};
 ghost use Rattle.ktm_base.specs.Disk.{DeviceCalls, DiskState};
 ghost use Rattle.ktm_base.specs.declared.refusal.Refusal.TheVariants.{MachineDown};
-ghost use Rattle.ktm_world.specs.declared.command.Line.TheVariants.{Crash, Process};
-ghost use Rattle.ktm_world.specs.declared.reply.Reply.TheVariants.{Refused, Done};
+ghost use Rattle.ktm_types.specs.declared.command.Line.TheVariants.{Crash, Process};
+ghost use Rattle.ktm_types.specs.declared.reply.Reply.TheVariants.{Refused, Done};
 ghost use Rattle.ktm_world.specs.Built.{is_built_command};
-ghost use Rattle.ktm_world.specs.Values.{IsCommand};
+ghost use Rattle.ktm_types.specs.Values.{IsCommand};
 ghost use Rattle.ktm_world.specs.World.{World};
 ghost use Rattle.ktm_kernel.specs.Done.{Ends, TouchesNothing, fallen};
 ghost use Rattle.ktm_kernel.specs.Stands.{KernelAt, DoesLine, IsPowered, IsReady};
@@ -17,7 +17,7 @@ use crate::settlement::Decision;
 use ktm_base::{Disk, NoMemory, Pid, Refusal};
 use ktm_event::Events;
 use ktm_journal::{AppendFault, Journal};
-use ktm_world::{Command, Reply};
+use ktm_types::{Command, Reply};
 use std::alloc::Global;
 use std::marker::Model;
 

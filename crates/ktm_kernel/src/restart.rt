@@ -3,8 +3,8 @@ ghost use Rattle.std.specs.Prelude.{◌≡◌, ◌+◌, ◌*◌, ◌≤◌, ℕ,
 ghost use Rattle.ktm_event.specs.Kept.{Holds};
 ghost use Rattle.ktm_base.specs.Count.{Rose};
 ghost use Rattle.ktm_base.specs.declared.refusal.Refusal.TheVariants.{MachineDown, MachineUp};
-ghost use Rattle.ktm_world.specs.declared.command.Line.TheVariants.{Restart};
-ghost use Rattle.ktm_world.specs.declared.reply.Reply.TheVariants.{Refused};
+ghost use Rattle.ktm_types.specs.declared.command.Line.TheVariants.{Restart};
+ghost use Rattle.ktm_types.specs.declared.reply.Reply.TheVariants.{Refused};
 ghost use Rattle.ktm_base.specs.Told.{IfTold, Tells};
 ghost use Rattle.ktm_base.specs.Disk.{DeviceCalls};
 ghost use Rattle.ktm_journal.specs.Bad.{IsBadAt};
@@ -20,7 +20,7 @@ use crate::memory::Memory;
 use ktm_base::{Disk, NoMemory, Refusal};
 use ktm_event::Events;
 use ktm_journal::{AppendFault, Journal, LoadFault, Loaded};
-use ktm_world::{Event, Reply};
+use ktm_types::{Event, Reply};
 use std::alloc::Global;
 use std::mem::replace;
 

@@ -1,7 +1,7 @@
 // From labels to objects, with the tests of their handles.
 ghost use Rattle.std.specs.Prelude.{◌≡◌, true, Some, None, IfOk, IfErr, is_some};
 ghost use Rattle.ktm_journal.specs.Image.{JournalState};
-ghost use Rattle.ktm_world.specs.declared.reply.Reply.TheVariants.{Refused};
+ghost use Rattle.ktm_types.specs.declared.reply.Reply.TheVariants.{Refused};
 ghost use Rattle.ktm_world.specs.Built.{is_built_command};
 ghost use Rattle.ktm_world.specs.Decide.{with_room};
 ghost use Rattle.ktm_world.specs.Handles.{transaction_id};
@@ -13,7 +13,7 @@ ghost use Rattle.ktm_kernel.specs.Route.{outcome_of, IsReadyFor};
 use crate::memory::Memory;
 use ktm_base::{Id, Label, Pid, Refusal};
 use ktm_tm::active_refusal;
-use ktm_world::{Command, Object, Transaction, View};
+use ktm_types::{Command, Object, Transaction, View};
 use kv_rm::KvCall;
 
 /// A call whose labels have become objects, which passed the tests of their handles.

@@ -3,7 +3,7 @@ ghost use Rattle.std.specs.Prelude.{◌≡◌};
 ghost use Rattle.ktm_kernel.specs.declared.settlement.Settlement.TheVariants.{Nothing};
 
 use ktm_base::{Label, Pid};
-use ktm_world::{Reply, Transaction};
+use ktm_types::{Reply, Transaction};
 
 /// What is left to do in memory once the events of a command are recorded. It takes no memory.
 #[derive(Clone, Copy)]

@@ -6,12 +6,12 @@ use Rattle.std.proofs.lemmas.List.Sums.{length-filter}
 use Rattle.std.specs.List.{list_any}
 use Rattle.ktm_base.specs.declared.id.Id.{Id}
 use Rattle.ktm_base.specs.declared.notify.Notify.{Notify}
-use Rattle.ktm_world.specs.declared.event.DonePart.{DonePart}
-use Rattle.ktm_world.specs.declared.event.Event.{Event}
-use Rattle.ktm_world.specs.declared.object.Phase.{Phase}
-use Rattle.ktm_world.specs.declared.object.Phase.TheVariants.{Active, Requested, PrePreparing, PrePrepared, Preparing, SinglePhase, Held, InDoubt, Committing, Aborting, Ended}
-use Rattle.ktm_world.specs.declared.object.Transaction.{Transaction}
-use Rattle.ktm_world.specs.declared.object.TransactionOutcome.{TransactionOutcome}
+use Rattle.ktm_types.specs.declared.event.DonePart.{DonePart}
+use Rattle.ktm_types.specs.declared.event.Event.{Event}
+use Rattle.ktm_types.specs.declared.object.Phase.{Phase}
+use Rattle.ktm_types.specs.declared.object.Phase.TheVariants.{Active, Requested, PrePreparing, PrePrepared, Preparing, SinglePhase, Held, InDoubt, Committing, Aborting, Ended}
+use Rattle.ktm_types.specs.declared.object.Transaction.{Transaction}
+use Rattle.ktm_types.specs.declared.object.TransactionOutcome.{TransactionOutcome}
 use Rattle.ktm_world.specs.Enlistments.{has_id, Sent, Enlistment, Manager, Owed, pre_prepare, prepare, commit, rollback, is_superior, is_open_for_votes, asks_pre_prepare, allows_one_phase, owes_pre_prepare, owes_prepare, owes_commit, owes_rollback, takes_part, is_unfinished, is_durable_at, with_enlistments, superior_of}
 use Rattle.ktm_world.specs.Phases.{Course, changing_one, someone_owes, when_none_owes, pre_prepare_answered, enlistment_part, prepare_answered, without_its_answer, recovered as recovered_by, read_only_answered, single_phase_rejected, finished, is_single_phase, commit_answered, rollback_answered, brought_back, recovered_in, in_phase, recording, telling, owing, unchanged, superior, ended, ended_if_finished, event_if, aborting, all_ready, pre_prepared}
 use Rattle.ktm_world.specs.Transactions.{same_id, is_undecided}

@@ -8,15 +8,15 @@ use Rattle.std.specs.List.{list_all}
 use Rattle.ktm_base.specs.declared.id.Label.{Label}
 use Rattle.ktm_base.specs.declared.id.Pid.{Pid}
 use Rattle.ktm_base.specs.declared.id.ObjectKind.{ObjectKind}
-use Rattle.ktm_world.specs.declared.event.Event.TheVariants.{MadeRm}
-use Rattle.ktm_world.specs.declared.object.Handle.{Handle}
-use Rattle.ktm_world.specs.declared.object.Object.{Object}
-use Rattle.ktm_world.specs.declared.object.Object.TheVariants.{Transaction as TransactionObject, Manager as ManagerObject, Enlistment as EnlistmentObject, File as FileObject}
-use Rattle.ktm_world.specs.declared.object.Transaction.{Transaction}
-use Rattle.ktm_world.specs.declared.options.Durability.{Durability}
-use Rattle.ktm_world.specs.declared.options.EnlistmentKind.{EnlistmentKind}
-use Rattle.ktm_world.specs.declared.reply.Reply.{Reply}
-use Rattle.ktm_world.specs.declared.reply.Reply.TheVariants.{Done, Guid}
+use Rattle.ktm_types.specs.declared.event.Event.TheVariants.{MadeRm}
+use Rattle.ktm_types.specs.declared.object.Handle.{Handle}
+use Rattle.ktm_types.specs.declared.object.Object.{Object}
+use Rattle.ktm_types.specs.declared.object.Object.TheVariants.{Transaction as TransactionObject, Manager as ManagerObject, Enlistment as EnlistmentObject, File as FileObject}
+use Rattle.ktm_types.specs.declared.object.Transaction.{Transaction}
+use Rattle.ktm_types.specs.declared.options.Durability.{Durability}
+use Rattle.ktm_types.specs.declared.options.EnlistmentKind.{EnlistmentKind}
+use Rattle.ktm_types.specs.declared.reply.Reply.{Reply}
+use Rattle.ktm_types.specs.declared.reply.Reply.TheVariants.{Done, Guid}
 use Rattle.ktm_world.specs.Enlistments.{Enlistment, Manager, is_superior}
 use Rattle.ktm_world.specs.Handles.{object_at}
 use Rattle.ktm_world.specs.HandleCalls.{is_handle, without_handle, has_handle, closed_file, abort_active, last_handle_gone, handle_gone, close_handle, closed_in_turn, exit, labels_of, bind_to, duplicate_handle, duplicate_handle_tests}

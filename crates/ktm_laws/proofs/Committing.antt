@@ -3,12 +3,12 @@ use Rattle.std.proofs.Common.{◌≡◌, ℕ, ◌+◌, ◌<◌, ◌≤◌, ◌^�
 use Rattle.std.proofs.lemmas.Bool.{cases_Bool, and_parts, and_from, or_cases, or_left, or_right, le-leb, leb-true, ltb-true, lt-ltb, not-true, not_from_false, true≢false}
 use Rattle.std.specs.List.{list_all}
 use Rattle.ktm_base.specs.declared.id.Id.{Id}
-use Rattle.ktm_world.specs.declared.change.Change.{Change}
-use Rattle.ktm_world.specs.declared.change.Change.TheVariants.{Make, Put, Cut, Move, Drop}
-use Rattle.ktm_world.specs.declared.durable.Node.{Node}
+use Rattle.ktm_types.specs.declared.change.Change.{Change}
+use Rattle.ktm_types.specs.declared.change.Change.TheVariants.{Make, Put, Cut, Move, Drop}
+use Rattle.ktm_types.specs.declared.recorded.Node.{Node}
 use Rattle.ktm_world.specs.Changes.{changed, changed_all, applies, apply_all, node_of, is_make, next_after}
 use Rattle.ktm_world.specs.Durable.{Durable, Recorded, is_ready, is_manager, has_part, changes_of, next_after_all, is_within_limits}
-use Rattle.ktm_world.specs.Keyed.{is_rising}
+use Rattle.ktm_keyed.specs.Keyed.{is_rising}
 use Rattle.ktm_world.specs.Keys.{Store}
 use Rattle.ktm_world.specs.Tree.{Tree, has_number, with_node, with_changed, without_node, IsWellFormed}
 use Rattle.ktm_laws.specs.Footprint.{footprint, AreFootprintsApart}

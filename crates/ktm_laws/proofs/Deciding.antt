@@ -3,12 +3,12 @@ use Rattle.std.proofs.Common.{◌≡◌, ◌+◌, ◌<◌, ◌^◌, ◌&&◌, �
 use Rattle.std.proofs.lemmas.Bool.{cases_Bool, and_parts, or_left, not-true, not_from_false, true≢false}
 use Rattle.std.specs.List.{list_any}
 use Rattle.ktm_base.specs.declared.id.Id.{Id}
-use Rattle.ktm_world.specs.declared.durable.RecordedPart.{RecordedPart}
-use Rattle.ktm_world.specs.declared.durable.Stage.{Stage}
-use Rattle.ktm_world.specs.declared.event.DonePart.{DonePart}
-use Rattle.ktm_world.specs.declared.event.Event.TheVariants.{Decide}
-use Rattle.ktm_world.specs.declared.event.Part.{Part}
-use Rattle.ktm_world.specs.declared.event.Part.TheVariants.{Enlistment, Changes, Settings}
+use Rattle.ktm_types.specs.declared.recorded.RecordedPart.{RecordedPart}
+use Rattle.ktm_types.specs.declared.recorded.Stage.{Stage}
+use Rattle.ktm_types.specs.declared.event.DonePart.{DonePart}
+use Rattle.ktm_types.specs.declared.event.Event.TheVariants.{Decide}
+use Rattle.ktm_types.specs.declared.event.Part.{Part}
+use Rattle.ktm_types.specs.declared.event.Part.TheVariants.{Enlistment, Changes, Settings}
 use Rattle.ktm_world.specs.Changes.{changed_all}
 use Rattle.ktm_world.specs.Durable.{Durable, Recorded, is_ready, is_held, is_decided, is_part_of, changes_in, settings_in, enlistments_in, changes_of, settings_of, enlistments_of, superior_ids, has_part, emptied, emptied_part, stage_passes, recorded_at, while_not_done, decide_recorded, next_after_all, is_within_limits}
 use Rattle.ktm_world.specs.Keys.{stored_all}

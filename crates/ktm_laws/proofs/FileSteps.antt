@@ -9,13 +9,13 @@ use Rattle.ktm_base.specs.declared.id.Id.{Id}
 use Rattle.ktm_base.specs.declared.id.Label.{Label}
 use Rattle.ktm_base.specs.declared.id.Pid.{Pid}
 use Rattle.ktm_base.specs.declared.refusal.Refusal.{Refusal}
-use Rattle.ktm_world.specs.declared.change.Change.{Change}
-use Rattle.ktm_world.specs.declared.event.Event.TheVariants.{Plain}
-use Rattle.ktm_world.specs.declared.object.Object.TheVariants.{File as FileObject}
-use Rattle.ktm_world.specs.declared.object.Phase.{Phase}
-use Rattle.ktm_world.specs.declared.object.Phase.TheVariants.{Active}
-use Rattle.ktm_world.specs.declared.object.Transaction.{Transaction}
-use Rattle.ktm_world.specs.declared.reply.Reply.TheVariants.{Done}
+use Rattle.ktm_types.specs.declared.change.Change.{Change}
+use Rattle.ktm_types.specs.declared.event.Event.TheVariants.{Plain}
+use Rattle.ktm_types.specs.declared.object.Object.TheVariants.{File as FileObject}
+use Rattle.ktm_types.specs.declared.object.Phase.{Phase}
+use Rattle.ktm_types.specs.declared.object.Phase.TheVariants.{Active}
+use Rattle.ktm_types.specs.declared.object.Transaction.{Transaction}
+use Rattle.ktm_types.specs.declared.reply.Reply.TheVariants.{Done}
 use Rattle.ktm_world.specs.Decide.{caller, of_keys, events_of, of_files, bound_file, opening, on_file, transacted}
 use Rattle.ktm_world.specs.FileOutcome.{FileOutcome, own_after, table_after}
 use Rattle.ktm_world.specs.Files.{FilesNow, OwnChanges, OpenFile, own_changes, with_own_changes, changes_with}

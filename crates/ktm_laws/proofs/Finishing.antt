@@ -3,13 +3,13 @@ use Rattle.std.proofs.Common.{◌≡◌, ◌+◌, ◌<◌, ◌≤◌, ◌^◌, �
 use Rattle.std.proofs.lemmas.Bool.{cases_Bool, and_parts, and_from, or_cases, or_from, or_left, or_right, le-leb, leb-true, not-true, not_from_false, true≢false}
 use Rattle.std.specs.List.{list_all, list_any}
 use Rattle.ktm_base.specs.declared.id.Id.{Id}
-use Rattle.ktm_world.specs.declared.durable.RecordedPart.{RecordedPart}
-use Rattle.ktm_world.specs.declared.durable.Stage.{Stage}
-use Rattle.ktm_world.specs.declared.durable.Superior.{Superior}
-use Rattle.ktm_world.specs.declared.event.DonePart.{DonePart}
-use Rattle.ktm_world.specs.declared.event.Event.TheVariants.{Done}
-use Rattle.ktm_world.specs.declared.event.Part.{Part}
-use Rattle.ktm_world.specs.declared.event.Part.TheVariants.{Enlistment, Changes, Settings}
+use Rattle.ktm_types.specs.declared.recorded.RecordedPart.{RecordedPart}
+use Rattle.ktm_types.specs.declared.recorded.Stage.{Stage}
+use Rattle.ktm_types.specs.declared.recorded.Superior.{Superior}
+use Rattle.ktm_types.specs.declared.event.DonePart.{DonePart}
+use Rattle.ktm_types.specs.declared.event.Event.TheVariants.{Done}
+use Rattle.ktm_types.specs.declared.event.Part.{Part}
+use Rattle.ktm_types.specs.declared.event.Part.TheVariants.{Enlistment, Changes, Settings}
 use Rattle.ktm_world.specs.Durable.{Durable, Recorded, is_ready, is_decided, is_sole, is_part_of, is_of_enlistment, changes_in, settings_in, enlistments_in, enlistments_of, superior_ids, has_undone, parts_done, while_not_done, finish_recorded, is_within_limits}
 use Rattle.ktm_laws.specs.Footprint.{IsIn}
 use Rattle.ktm_laws.specs.GoodState.{each_pair, enlisted_in, superiors_in, is_done_well, IsGoodState}

@@ -3,10 +3,10 @@ use Rattle.std.proofs.Common.{◌≡◌, ◌-◌, ◌<◌, ◌≤◌, ◌^◌, n
 use Rattle.std.proofs.lemmas.Bool.{and_parts, and_from, not-true, not_from_false}
 use Rattle.std.specs.List.{list_all, flat_map}
 use Rattle.ktm_base.specs.declared.id.Id.{Id}
-use Rattle.ktm_world.specs.declared.durable.Superior.{Superior}
+use Rattle.ktm_types.specs.declared.recorded.Superior.{Superior}
 use Rattle.ktm_world.specs.Changes.{apply_all}
 use Rattle.ktm_world.specs.Durable.{Durable, Recorded, is_decided, is_manager, is_before, changes_of, settings_of, enlistments_of, holds_in, is_within_limits, waiting}
-use Rattle.ktm_world.specs.Keyed.{is_rising}
+use Rattle.ktm_keyed.specs.Keyed.{is_rising}
 use Rattle.ktm_world.specs.Lawful.{are_apart, set_both}
 use Rattle.ktm_world.specs.Limits.{most_information}
 use Rattle.ktm_world.specs.Transactions.{same_id}

@@ -4,9 +4,9 @@ use Rattle.std.proofs.lemmas.Bool.{and_parts, and_from, le-leb, ltb-true}
 use Rattle.std.proofs.lemmas.List.Elements.{All-nil}
 use Rattle.std.specs.List.{list_all}
 use Rattle.ktm_base.specs.Names.{IsName}
-use Rattle.ktm_world.specs.declared.durable.Node.{Node}
-use Rattle.ktm_world.specs.declared.event.Event.{Event}
-use Rattle.ktm_world.specs.declared.event.Event.TheVariants.{Boot, MadeRm, Plain, Ready, Single, Held, Decide, Undo, Done}
+use Rattle.ktm_types.specs.declared.recorded.Node.{Node}
+use Rattle.ktm_types.specs.declared.event.Event.{Event}
+use Rattle.ktm_types.specs.declared.event.Event.TheVariants.{Boot, MadeRm, Plain, Ready, Single, Held, Decide, Undo, Done}
 use Rattle.ktm_world.specs.Durable.{Durable, empty_state, after_event, after_events, stand, fact_of, fact_applies, event_applies, events_apply, log_applies, is_within_limits}
 use Rattle.ktm_world.specs.Tree.{IsWellFormed, is_directory, is_at_or_below, child_of, root}
 use Rattle.ktm_laws.specs.Footprint.{ListsLaw}

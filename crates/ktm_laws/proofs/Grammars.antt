@@ -4,17 +4,17 @@ use Rattle.std.proofs.lemmas.Bool.{and_from, le-leb}
 use Rattle.std.specs.List.{list_all}
 use Rattle.ktm_base.specs.declared.id.Id.{Id}
 use Rattle.ktm_base.specs.Grammar.{IsRow}
-use Rattle.ktm_world.specs.declared.change.Change.{Change}
-use Rattle.ktm_world.specs.declared.change.Change.TheVariants.{Make, Put, Cut, Move, Drop}
-use Rattle.ktm_world.specs.declared.change.Contents.{Contents}
-use Rattle.ktm_world.specs.declared.change.Contents.TheVariants.{Whole, Paged}
-use Rattle.ktm_world.specs.declared.event.DonePart.{DonePart}
-use Rattle.ktm_world.specs.declared.event.Event.{Event}
-use Rattle.ktm_world.specs.declared.event.Event.TheVariants.{Boot, MadeRm, Plain, Ready, Single, Held, Decide, Undo, Done}
-use Rattle.ktm_world.specs.declared.event.Part.{Part}
-use Rattle.ktm_world.specs.declared.event.Part.TheVariants.{Enlistment, Changes, Settings}
+use Rattle.ktm_types.specs.declared.change.Change.{Change}
+use Rattle.ktm_types.specs.declared.change.Change.TheVariants.{Make, Put, Cut, Move, Drop}
+use Rattle.ktm_types.specs.declared.change.Contents.{Contents}
+use Rattle.ktm_types.specs.declared.change.Contents.TheVariants.{Whole, Paged}
+use Rattle.ktm_types.specs.declared.event.DonePart.{DonePart}
+use Rattle.ktm_types.specs.declared.event.Event.{Event}
+use Rattle.ktm_types.specs.declared.event.Event.TheVariants.{Boot, MadeRm, Plain, Ready, Single, Held, Decide, Undo, Done}
+use Rattle.ktm_types.specs.declared.event.Part.{Part}
+use Rattle.ktm_types.specs.declared.event.Part.TheVariants.{Enlistment, Changes, Settings}
 use Rattle.ktm_world.specs.Durable.{changes_in}
-use Rattle.ktm_world.specs.EventGrammar.{IsIdOf, IsPutOf, IsChangeOf, IsPartOf, IsSoleOf, IsDoneOf, IsEventOf, IsGroupOf}
+use Rattle.ktm_types.specs.EventGrammar.{IsIdOf, IsPutOf, IsChangeOf, IsPartOf, IsSoleOf, IsDoneOf, IsEventOf, IsGroupOf}
 use Rattle.ktm_laws.specs.GoodState.{puts_some}
 use Rattle.ktm_laws.specs.Grammatical.{counts_from_1, ids_in, ids_done, is_grammatical, GrammarLaw}
 

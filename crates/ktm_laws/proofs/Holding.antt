@@ -3,10 +3,10 @@ use Rattle.std.proofs.Common.{◌≡◌, ℕ, ◌+◌, ◌<◌, ◌^◌, ◌&&�
 use Rattle.std.proofs.lemmas.Bool.{and_parts, and_from, or_cases, or_left, not-true, not_from_false, true≢false}
 use Rattle.std.specs.List.{list_all}
 use Rattle.ktm_base.specs.declared.id.Id.{Id}
-use Rattle.ktm_world.specs.declared.durable.RecordedPart.{RecordedPart}
-use Rattle.ktm_world.specs.declared.durable.Stage.{Stage}
-use Rattle.ktm_world.specs.declared.durable.Superior.{Superior}
-use Rattle.ktm_world.specs.declared.event.Event.TheVariants.{Held}
+use Rattle.ktm_types.specs.declared.recorded.RecordedPart.{RecordedPart}
+use Rattle.ktm_types.specs.declared.recorded.Stage.{Stage}
+use Rattle.ktm_types.specs.declared.recorded.Superior.{Superior}
+use Rattle.ktm_types.specs.declared.event.Event.TheVariants.{Held}
 use Rattle.ktm_world.specs.Durable.{Durable, Recorded, is_decided, is_sole, is_new_enlistment, enlistments_in, enlistments_of, superior_ids, may_get_ready, recorded_or_new, with_recorded, fact_of, is_within_limits}
 use Rattle.ktm_world.specs.Transactions.{same_id}
 use Rattle.ktm_laws.specs.Footprint.{IsIn}

@@ -10,8 +10,8 @@ use Rattle.ktm_world.specs.Tree.{units_of, bytes_or_none}
 use Rattle.std.specs.List.{list_any}
 use Rattle.std.specs.Prelude.{is_some, is_none}
 use Rattle.ktm_base.specs.declared.id.Id.{Id}
-use Rattle.ktm_world.specs.declared.durable.Node.{Node}
-use Rattle.ktm_world.specs.declared.durable.RecordedPart.{RecordedPart}
+use Rattle.ktm_types.specs.declared.recorded.Node.{Node}
+use Rattle.ktm_types.specs.declared.recorded.RecordedPart.{RecordedPart}
 use Rattle.ktm_laws.specs.Footprint.{IsIn}
 use Rattle.ktm_laws.proofs.Tables.{same_id-from, same_id-equal, Rises, rises-first, rises-rest, before_other, is_before-then}
 use Rattle.ktm_laws.proofs.Fitting.{waits}

@@ -5,9 +5,9 @@ use Rattle.std.specs.List.{list_any, list_all}
 use Rattle.ktm_base.specs.declared.id.Id.{Id}
 use Rattle.ktm_base.specs.declared.id.Label.{Label}
 use Rattle.ktm_base.specs.declared.id.Pid.{Pid}
-use Rattle.ktm_world.specs.declared.object.Handle.{Handle}
-use Rattle.ktm_world.specs.declared.object.Object.{Object}
-use Rattle.ktm_world.specs.declared.object.Object.TheVariants.{Transaction as TransactionObject, Manager as ManagerObject, Enlistment as EnlistmentObject, File as FileObject}
+use Rattle.ktm_types.specs.declared.object.Handle.{Handle}
+use Rattle.ktm_types.specs.declared.object.Object.{Object}
+use Rattle.ktm_types.specs.declared.object.Object.TheVariants.{Transaction as TransactionObject, Manager as ManagerObject, Enlistment as EnlistmentObject, File as FileObject}
 use Rattle.ktm_world.specs.Durable.{is_before}
 use Rattle.ktm_world.specs.Enlistments.{Enlistment, is_superior, superior_of}
 use Rattle.ktm_world.specs.Handles.{object_at}

@@ -3,14 +3,14 @@ use Rattle.std.proofs.Common.{◌≡◌, ◌&&◌, not, Bool, true, false, List,
 use Rattle.std.proofs.lemmas.Bool.{cases_Bool, and_parts, and_from}
 use Rattle.std.specs.List.{list_all, list_any, flat_map}
 use Rattle.ktm_base.specs.declared.id.Id.{Id}
-use Rattle.ktm_world.specs.declared.durable.RecordedPart.{RecordedPart}
-use Rattle.ktm_world.specs.declared.durable.Stage.{Stage}
-use Rattle.ktm_world.specs.declared.durable.Superior.{Superior}
-use Rattle.ktm_world.specs.declared.event.DonePart.{DonePart}
-use Rattle.ktm_world.specs.declared.event.Event.{Event}
-use Rattle.ktm_world.specs.declared.event.Event.TheVariants.{Boot, MadeRm, Plain, Ready, Single, Held, Decide, Undo, Done}
-use Rattle.ktm_world.specs.declared.event.Part.{Part}
-use Rattle.ktm_world.specs.declared.event.Part.TheVariants.{Enlistment, Changes, Settings}
+use Rattle.ktm_types.specs.declared.recorded.RecordedPart.{RecordedPart}
+use Rattle.ktm_types.specs.declared.recorded.Stage.{Stage}
+use Rattle.ktm_types.specs.declared.recorded.Superior.{Superior}
+use Rattle.ktm_types.specs.declared.event.DonePart.{DonePart}
+use Rattle.ktm_types.specs.declared.event.Event.{Event}
+use Rattle.ktm_types.specs.declared.event.Event.TheVariants.{Boot, MadeRm, Plain, Ready, Single, Held, Decide, Undo, Done}
+use Rattle.ktm_types.specs.declared.event.Part.{Part}
+use Rattle.ktm_types.specs.declared.event.Part.TheVariants.{Enlistment, Changes, Settings}
 use Rattle.ktm_world.specs.Durable.{Durable, Recorded, after_event, after_events, stand, fact_of, is_before, is_part_of, is_of_enlistment, parts_done, emptied_part, with_manager, with_recorded, recorded_at, recorded_or_new, while_not_done, decide_recorded, finish_recorded}
 use Rattle.ktm_world.specs.Transactions.{same_id}
 use Rattle.ktm_laws.specs.Footprint.{IsIn}

@@ -3,12 +3,12 @@ use Rattle.std.proofs.Common.{◌≡◌, ℕ, ◌==◌, ◌&&◌, not, Bool, tru
 use Rattle.std.proofs.lemmas.Bool.{cases_Bool, ne_eqb, and_parts, and_from, or_parts, not-true, not_from_false, true≢false}
 use Rattle.std.specs.List.{list_all}
 use Rattle.ktm_base.specs.declared.id.Id.{Id}
-use Rattle.ktm_world.specs.declared.event.Keyed.{Keyed}
-use Rattle.ktm_world.specs.Keyed.{value_at, put, is_rising, comes_before}
+use Rattle.ktm_keyed.specs.declared.keyed.Keyed.{Keyed}
+use Rattle.ktm_keyed.specs.Keyed.{value_at, put, is_rising, comes_before}
 use Rattle.ktm_world.specs.Keys.{Own, OwnSettings, own_settings, with_own, without_own, is_held_by_other, are_good_settings, is_good_setting}
 use Rattle.ktm_world.specs.Lawful.{set_both}
 use Rattle.ktm_world.specs.Transactions.{same_id}
-use Rattle.ktm_world.proofs.KeyedLemmas.{is_rising-put, list_all-put}
+use Rattle.ktm_keyed.proofs.KeyedLemmas.{is_rising-put, list_all-put}
 use Rattle.ktm_laws.specs.Footprint.{IsIn}
 use Rattle.ktm_laws.specs.GoodState.{each_pair}
 use Rattle.ktm_laws.specs.SoundFiles.{set_by_two, set_no_key}

@@ -5,8 +5,8 @@ use Rattle.std.proofs.lemmas.List.{append-nil}
 use Rattle.std.proofs.lemmas.List.Sums.{sum_by-cons, sum_by-append}
 use Rattle.std.proofs.lemmas.Grind.{flat_map-append}
 use Rattle.std.specs.List.{list_any, flat_map}
-use Rattle.ktm_world.specs.declared.durable.RecordedPart.{RecordedPart}
-use Rattle.ktm_world.specs.declared.event.Part.{Part}
+use Rattle.ktm_types.specs.declared.recorded.RecordedPart.{RecordedPart}
+use Rattle.ktm_types.specs.declared.event.Part.{Part}
 use Rattle.ktm_laws.specs.Footprint.{IsIn}
 use Rattle.ktm_laws.specs.GoodState.{each_pair}
 use Rattle.ktm_laws.proofs.Elements.{IsIn-filter, IsIn-unflat, IsIn-flat_map, each_pair-append, each_pair-left, each_pair-right, each_pair-across}

@@ -3,11 +3,11 @@ use Rattle.std.proofs.Common.{◌≡◌, ℕ, ◌&&◌, not, Bool, true, false, 
 use Rattle.std.proofs.lemmas.Bool.{cases_Bool, and_parts, and_from, or_left, eq-eqb, not-true, not_from_false, true≢false}
 use Rattle.std.proofs.lemmas.List.Sums.{length-filter}
 use Rattle.ktm_base.specs.declared.notify.Notify.{Notify}
-use Rattle.ktm_world.specs.declared.event.Event.{Event}
-use Rattle.ktm_world.specs.declared.event.Part.{Part}
-use Rattle.ktm_world.specs.declared.object.Phase.{Phase}
-use Rattle.ktm_world.specs.declared.object.Phase.TheVariants.{Requested, PrePreparing, PrePrepared, Preparing, SinglePhase, Ended}
-use Rattle.ktm_world.specs.declared.object.TransactionOutcome.TheVariants.{Committed}
+use Rattle.ktm_types.specs.declared.event.Event.{Event}
+use Rattle.ktm_types.specs.declared.event.Part.{Part}
+use Rattle.ktm_types.specs.declared.object.Phase.{Phase}
+use Rattle.ktm_types.specs.declared.object.Phase.TheVariants.{Requested, PrePreparing, PrePrepared, Preparing, SinglePhase, Ended}
+use Rattle.ktm_types.specs.declared.object.TransactionOutcome.TheVariants.{Committed}
 use Rattle.ktm_world.specs.Enlistments.{Enlistment, Owed, pre_prepare, prepare, commit, asks_pre_prepare, allows_one_phase, takes_part, is_durable_at, superior_of}
 use Rattle.ktm_world.specs.Phases.{Course, in_phase, recording, telling, owing, unchanged, superior, is_its_superior, some_enlistment, has_changes, has_settings, one_if, taking_part, participants, work_of, all_ready, preparing, single, one_phase, one_participant, prepare_alone, to_prepare, pre_prepared, to_pre_prepare, to_commit}
 use Rattle.ktm_world.specs.Transactions.{is_undecided}

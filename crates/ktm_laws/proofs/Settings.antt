@@ -5,11 +5,11 @@ use Rattle.std.proofs.lemmas.Cmp.{nat_list_cmp_total}
 use Rattle.std.proofs.lemmas.Slice.Eq.{bytes_eq-Decides}
 use Rattle.std.specs.Cmp.Lexicographic.{slice_cmp}
 use Rattle.std.specs.List.{list_all}
-use Rattle.ktm_world.specs.declared.event.Keyed.{Keyed}
-use Rattle.ktm_world.specs.Keyed.{value_at, put, without, comes_before, comes_first, is_rising}
+use Rattle.ktm_keyed.specs.declared.keyed.Keyed.{Keyed}
+use Rattle.ktm_keyed.specs.Keyed.{value_at, put, without, comes_before, comes_first, is_rising}
 use Rattle.ktm_world.specs.Keys.{Store, OwnSettings, stored, stored_all, is_bad_key, is_bad_set_to, is_good_setting}
 use Rattle.ktm_world.specs.Lawful.{set_both}
-use Rattle.ktm_world.proofs.KeyedLemmas.{is_rising-put, list_all-put}
+use Rattle.ktm_keyed.proofs.KeyedLemmas.{is_rising-put, list_all-put}
 use Rattle.ktm_laws.specs.Footprint.{IsIn}
 use Rattle.ktm_laws.specs.GoodState.{is_good_entry}
 use Rattle.ktm_laws.proofs.Diamonds.{none-from, no_test}

@@ -7,16 +7,16 @@ use Rattle.ktm_laws.specs.Grammatical.{counts_from_1, ids_of}
 use Rattle.ktm_laws.proofs.Makings.{counted-parts}
 use Rattle.std.specs.List.{list_all}
 use Rattle.ktm_base.specs.declared.id.Id.{Id}
-use Rattle.ktm_world.specs.declared.event.Event.{Event}
-use Rattle.ktm_world.specs.declared.event.Event.TheVariants.{Boot, MadeRm, Plain, Ready, Single, Held, Decide, Undo, Done}
-use Rattle.ktm_world.specs.declared.event.DonePart.{DonePart}
-use Rattle.ktm_world.specs.declared.object.Handle.{Handle}
-use Rattle.ktm_world.specs.declared.object.Transaction.{Transaction}
-use Rattle.ktm_world.specs.declared.object.Object.{Object}
-use Rattle.ktm_world.specs.declared.object.Object.TheVariants.{Transaction as TransactionObject, Manager as ManagerObject, Enlistment as EnlistmentObject, File as FileObject}
-use Rattle.ktm_world.specs.declared.object.Phase.{Phase}
-use Rattle.ktm_world.specs.declared.object.Phase.TheVariants.{SinglePhase}
-use Rattle.ktm_world.specs.declared.reply.Reply.{Reply}
+use Rattle.ktm_types.specs.declared.event.Event.{Event}
+use Rattle.ktm_types.specs.declared.event.Event.TheVariants.{Boot, MadeRm, Plain, Ready, Single, Held, Decide, Undo, Done}
+use Rattle.ktm_types.specs.declared.event.DonePart.{DonePart}
+use Rattle.ktm_types.specs.declared.object.Handle.{Handle}
+use Rattle.ktm_types.specs.declared.object.Transaction.{Transaction}
+use Rattle.ktm_types.specs.declared.object.Object.{Object}
+use Rattle.ktm_types.specs.declared.object.Object.TheVariants.{Transaction as TransactionObject, Manager as ManagerObject, Enlistment as EnlistmentObject, File as FileObject}
+use Rattle.ktm_types.specs.declared.object.Phase.{Phase}
+use Rattle.ktm_types.specs.declared.object.Phase.TheVariants.{SinglePhase}
+use Rattle.ktm_types.specs.declared.reply.Reply.{Reply}
 use Rattle.ktm_world.specs.Durable.{Durable, Recorded, after_event, after_events, decide_recorded, finish_recorded, recorded_at}
 use Rattle.ktm_world.specs.Enlistments.{Manager, Sent, notes_for, taken_count, Enlistment}
 use Rattle.ktm_world.specs.Files.{FileTable, OwnChanges, own_changes, without_transaction}

@@ -6,16 +6,16 @@ use Rattle.std.proofs.lemmas.List.{map-append}
 use Rattle.std.proofs.lemmas.Option.{same_Some}
 use Rattle.std.specs.List.{list_any, list_all, flat_map}
 use Rattle.ktm_base.specs.declared.id.Id.{Id}
-use Rattle.ktm_world.specs.declared.durable.RecordedPart.{RecordedPart}
-use Rattle.ktm_world.specs.declared.durable.Superior.{Superior}
-use Rattle.ktm_world.specs.declared.event.DonePart.{DonePart}
-use Rattle.ktm_world.specs.declared.event.Event.TheVariants.{Boot, Done}
-use Rattle.ktm_world.specs.declared.event.Part.{Part}
-use Rattle.ktm_world.specs.declared.event.Part.TheVariants.{Enlistment as EnlistmentPart, Changes, Settings}
-use Rattle.ktm_world.specs.declared.object.Phase.TheVariants.{InDoubt, Committing}
-use Rattle.ktm_world.specs.declared.object.Transaction.{Transaction}
-use Rattle.ktm_world.specs.declared.object.TransactionOutcome.{TransactionOutcome}
-use Rattle.ktm_world.specs.declared.options.EnlistmentKind.{EnlistmentKind}
+use Rattle.ktm_types.specs.declared.recorded.RecordedPart.{RecordedPart}
+use Rattle.ktm_types.specs.declared.recorded.Superior.{Superior}
+use Rattle.ktm_types.specs.declared.event.DonePart.{DonePart}
+use Rattle.ktm_types.specs.declared.event.Event.TheVariants.{Boot, Done}
+use Rattle.ktm_types.specs.declared.event.Part.{Part}
+use Rattle.ktm_types.specs.declared.event.Part.TheVariants.{Enlistment as EnlistmentPart, Changes, Settings}
+use Rattle.ktm_types.specs.declared.object.Phase.TheVariants.{InDoubt, Committing}
+use Rattle.ktm_types.specs.declared.object.Transaction.{Transaction}
+use Rattle.ktm_types.specs.declared.object.TransactionOutcome.{TransactionOutcome}
+use Rattle.ktm_types.specs.declared.options.EnlistmentKind.{EnlistmentKind}
 use Rattle.ktm_world.specs.Durable.{Durable, Recorded, after_event, enlistments_in, enlistments_of, superior_ids, has_undone, is_before, is_decided, is_held, is_manager, stand}
 use Rattle.ktm_world.specs.Enlistments.{Enlistment, Manager, is_superior, is_unfinished, is_durable_at, superior_of}
 use Rattle.ktm_world.specs.Limits.{most_information}

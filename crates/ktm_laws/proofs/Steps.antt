@@ -3,11 +3,11 @@ use Rattle.std.proofs.Common.{◌≡◌, ℕ, ◌+◌, ◌-◌, ◌<◌, ◌≤�
 use Rattle.std.proofs.lemmas.Bool.{cases_Bool, and_parts, and_from, or_left, le-leb, ltb-true, eqb-true, not-true, true≢false, false_from_ne_true}
 use Rattle.std.specs.List.{list_all, list_any}
 use Rattle.ktm_base.specs.declared.id.Id.{Id}
-use Rattle.ktm_world.specs.declared.change.Change.{Change}
-use Rattle.ktm_world.specs.declared.event.Event.{Event}
-use Rattle.ktm_world.specs.declared.event.Event.TheVariants.{Boot, MadeRm, Plain, Single, Undo}
-use Rattle.ktm_world.specs.declared.event.Part.{Part}
-use Rattle.ktm_world.specs.declared.event.Part.TheVariants.{Enlistment, Changes, Settings}
+use Rattle.ktm_types.specs.declared.change.Change.{Change}
+use Rattle.ktm_types.specs.declared.event.Event.{Event}
+use Rattle.ktm_types.specs.declared.event.Event.TheVariants.{Boot, MadeRm, Plain, Single, Undo}
+use Rattle.ktm_types.specs.declared.event.Part.{Part}
+use Rattle.ktm_types.specs.declared.event.Part.TheVariants.{Enlistment, Changes, Settings}
 use Rattle.ktm_world.specs.Changes.{changed_all, apply_all}
 use Rattle.ktm_world.specs.Durable.{Durable, Recorded, is_ready, is_decided, is_before, is_manager, is_sole, with_manager, without_recorded, recorded_at, recorded_or_new, has_changes_part, has_settings_part, are_recorded_changes, changes_of, changes_apply, settings_apply, part_applies, next_after_all, fact_of, after_event, fact_applies, is_within_limits}
 use Rattle.ktm_world.specs.Keys.{OwnSettings, stored_all, is_good_setting, are_good_settings}

@@ -2,10 +2,10 @@
 use Rattle.std.specs.Prelude.{◌≡◌, ℕ, not, Bool, true, false, is_none}
 use Rattle.ktm_base.specs.declared.id.Label.{Label}
 use Rattle.ktm_base.specs.declared.id.Pid.{Pid}
-use Rattle.ktm_world.specs.declared.command.Command.{Command}
-use Rattle.ktm_world.specs.declared.command.Command.TheVariants.{CreateTransaction, CreateFile, CreateFileTransacted, WriteFile, SetEndOfFile, DeleteFileTransacted, CreateDirectoryTransacted, RemoveDirectoryTransacted, MoveFileTransacted}
-use Rattle.ktm_world.specs.declared.object.Handle.{Handle}
-use Rattle.ktm_world.specs.declared.object.Transaction.{Transaction}
+use Rattle.ktm_types.specs.declared.command.Command.{Command}
+use Rattle.ktm_types.specs.declared.command.Command.TheVariants.{CreateTransaction, CreateFile, CreateFileTransacted, WriteFile, SetEndOfFile, DeleteFileTransacted, CreateDirectoryTransacted, RemoveDirectoryTransacted, MoveFileTransacted}
+use Rattle.ktm_types.specs.declared.object.Handle.{Handle}
+use Rattle.ktm_types.specs.declared.object.Transaction.{Transaction}
 use Rattle.ktm_world.specs.Decide.{decide}
 use Rattle.ktm_world.specs.Durable.{is_before}
 use Rattle.ktm_world.specs.HandleCalls.{is_handle}

@@ -1,7 +1,7 @@
 -- Good durable states stay good.
 use Rattle.std.specs.Prelude.{◌≡◌, ℕ, ◌≤◌, true, List}
 use Rattle.std.specs.List.{list_all}
-use Rattle.ktm_world.specs.declared.event.Event.{Event}
+use Rattle.ktm_types.specs.declared.event.Event.{Event}
 use Rattle.ktm_world.specs.Durable.{Durable, empty_state, after_event, after_events, stand, event_applies, events_apply, log_applies}
 use Rattle.ktm_laws.specs.GoodState.{IsGoodState}
 use Rattle.ktm_laws.specs.Grammatical.{is_grammatical}

@@ -2,14 +2,14 @@
 use Rattle.std.specs.Prelude.{◌≡◌, ℕ, ◌&&◌, Bool, true, List, [], ◌∷◌, nat_le}
 use Rattle.std.specs.List.{list_all}
 use Rattle.ktm_base.specs.declared.id.Id.{Id}
-use Rattle.ktm_world.specs.declared.change.Change.{Change}
-use Rattle.ktm_world.specs.declared.event.DonePart.{DonePart}
-use Rattle.ktm_world.specs.declared.event.Event.{Event}
-use Rattle.ktm_world.specs.declared.event.Event.TheVariants.{Boot, MadeRm, Plain, Ready, Single, Held, Decide, Undo, Done}
-use Rattle.ktm_world.specs.declared.event.Part.{Part}
-use Rattle.ktm_world.specs.declared.event.Part.TheVariants.{Enlistment}
+use Rattle.ktm_types.specs.declared.change.Change.{Change}
+use Rattle.ktm_types.specs.declared.event.DonePart.{DonePart}
+use Rattle.ktm_types.specs.declared.event.Event.{Event}
+use Rattle.ktm_types.specs.declared.event.Event.TheVariants.{Boot, MadeRm, Plain, Ready, Single, Held, Decide, Undo, Done}
+use Rattle.ktm_types.specs.declared.event.Part.{Part}
+use Rattle.ktm_types.specs.declared.event.Part.TheVariants.{Enlistment}
 use Rattle.ktm_world.specs.Durable.{changes_in}
-use Rattle.ktm_world.specs.EventGrammar.{IsEventOf, IsGroupOf}
+use Rattle.ktm_types.specs.EventGrammar.{IsEventOf, IsGroupOf}
 use Rattle.ktm_laws.specs.GoodState.{puts_some}
 
 -- do the boot and the number of an Id count from 1

@@ -1,7 +1,7 @@
 -- What a restart records by itself.
 use Rattle.std.specs.Prelude.{◌≡◌, ◌+◌, ◌<◌, ◌^◌, ◌&&◌, not, Bool, true, length}
 use Rattle.std.specs.List.{list_all}
-use Rattle.ktm_world.specs.declared.event.DonePart.{DonePart}
+use Rattle.ktm_types.specs.declared.event.DonePart.{DonePart}
 use Rattle.ktm_world.specs.Durable.{Durable, Recorded, is_ready, has_undone, after_events, events_apply}
 use Rattle.ktm_world.specs.World.{own_group}
 use Rattle.ktm_laws.specs.GoodState.{IsGoodState}

@@ -1,7 +1,7 @@
 -- What transactions set of the keys stays sound.
 use Rattle.std.specs.Prelude.{◌≡◌, ℕ, true}
 use Rattle.ktm_base.specs.declared.id.Pid.{Pid}
-use Rattle.ktm_world.specs.declared.command.Command.{Command}
+use Rattle.ktm_types.specs.declared.command.Command.{Command}
 use Rattle.ktm_world.specs.Decide.{decide}
 use Rattle.ktm_world.specs.Outcome.{apply}
 use Rattle.ktm_world.specs.Present.{Present}

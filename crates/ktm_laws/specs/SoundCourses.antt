@@ -1,7 +1,7 @@
 -- What is so of transactions, enlistments and resource managers stays so, whatever a machine does.
 use Rattle.std.specs.Prelude.{◌≡◌, ℕ, ◌<◌, ◌^◌, true, List}
 use Rattle.ktm_base.specs.declared.id.Pid.{Pid}
-use Rattle.ktm_world.specs.declared.command.Command.{Command}
+use Rattle.ktm_types.specs.declared.command.Command.{Command}
 use Rattle.ktm_world.specs.Decide.{with_room, decide}
 use Rattle.ktm_world.specs.Durable.{Durable, stand}
 use Rattle.ktm_world.specs.Laws.{FirstOpensLieWithin}

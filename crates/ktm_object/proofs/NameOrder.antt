@@ -7,7 +7,7 @@ use Rattle.std.proofs.lemmas.Cmp.{nat_cmp_total, nat_list_cmp_total, ranked, tie
 use Rattle.ktm_base.specs.declared.id.Id.{Id}
 use Rattle.ktm_base.specs.declared.id.Label.{Label}
 use Rattle.ktm_base.specs.declared.id.Pid.{Pid}
-use Rattle.ktm_world.specs.declared.object.Handle.{Handle}
+use Rattle.ktm_types.specs.declared.object.Handle.{Handle}
 use Rattle.ktm_links.specs.Mapped.{name_cmp, IsNotBelow}
 use Rattle.ktm_object.specs.Ending.{after, labels_after, name_in, IsInRange}
 use Rattle.ktm_object.specs.declared.name.Owner.{Owner}

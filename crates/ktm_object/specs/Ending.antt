@@ -1,7 +1,7 @@
 -- How far the end of a group has come. No public clause cites this module.
 use Rattle.std.specs.Prelude.{◌≡◌, ◌⊎◌, ℕ, ◌+◌, ◌-◌, ◌*◌, ◌^◌, ◌<◌, true, List, [], ◌∷◌, ◌++◌, Option, Some, None}
 use Rattle.ktm_base.specs.declared.id.Id.{Id}
-use Rattle.ktm_world.specs.declared.object.Handle.{Handle}
+use Rattle.ktm_types.specs.declared.object.Handle.{Handle}
 use Rattle.ktm_world.specs.Transactions.{is_of}
 use Rattle.ktm_links.specs.Mapped.{IsNotBelow}
 use Rattle.ktm_object.specs.declared.entry.Entry.{Entry}

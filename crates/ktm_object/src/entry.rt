@@ -1,6 +1,6 @@
 // A handle in the table.
 use ktm_base::{Id, Label};
-use ktm_world::{Handle, Object};
+use ktm_types::{Handle, Object};
 
 /// A handle, its group, and whether that has ended.
 #[derive(Clone, Copy, Debug, PartialEq, Eq)]

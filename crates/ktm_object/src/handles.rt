@@ -16,7 +16,7 @@ use crate::name::{
 };
 use ktm_base::{Id, Label, NoMemory, Pid};
 use ktm_links::{Chains, Key, List, Name};
-use ktm_world::{Handle, Object};
+use ktm_types::{Handle, Object};
 use std::alloc::Global;
 use std::marker::Model;
 

@@ -12,7 +12,7 @@ pub use handles::Handles;
 mod tests {
     use super::*;
     use ktm_base::{Id, Label, Pid};
-    use ktm_world::Object;
+    use ktm_types::Object;
     use std::process::Abort;
     use std::test::Fail;
 

@@ -4,7 +4,7 @@ ghost use Rattle.ktm_object.specs.Ending.{after};
 ghost use Rattle.ktm_object.specs.Names.{label_bytes, owner_bytes, object_owner, group_owner};
 
 use ktm_base::{Id, Label, Pid};
-use ktm_world::{Handle, Object};
+use ktm_types::{Handle, Object};
 
 /// The name of a handle by its label: the process, and then the label.
 pub(crate) type LabelName = [u8; 3];

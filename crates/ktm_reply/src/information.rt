@@ -5,7 +5,7 @@ ghost use Rattle.ktm_reply.specs.States.{outcome_name, state_name};
 
 use crate::word::first_word;
 use ktm_codec::strip_word;
-use ktm_world::{Reply, TransactionOutcome, TransactionState};
+use ktm_types::{Reply, TransactionOutcome, TransactionState};
 use uuid::Uuid;
 
 const STATES: [TransactionState; 3] = [

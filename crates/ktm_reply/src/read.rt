@@ -12,7 +12,7 @@ use crate::word::first_word;
 use crate::write::write_reply;
 use ktm_base::Notify;
 use ktm_codec::{read_guid, read_hex_or_dash, read_last_number, read_number, strip_word};
-use ktm_world::Reply;
+use ktm_types::Reply;
 use std::alloc::Global;
 
 // Behind `ok`, where the reply has no values.

@@ -10,7 +10,7 @@ use crate::refusal::refusal_name;
 use crate::texts::put_texts;
 use ktm_base::{Bytes, NoMemory, Notify};
 use ktm_codec::{put_guid, put_hex_or_dash, put_number};
-use ktm_world::{Reply, TransactionOutcome, TransactionState};
+use ktm_types::{Reply, TransactionOutcome, TransactionState};
 use std::alloc::Global;
 use uuid::Uuid;
 

@@ -17,11 +17,11 @@ use Rattle.ktm_run.proofs.Counting.{RoseBy-none}
 use Rattle.ktm_run.specs.Plan.{plan_of, falls_of, RoseBy}
 use Rattle.ktm_run.specs.Progress.{Scene, Counts, Answers, Unanswered}
 use Rattle.ktm_run.specs.Script.{Means}
-use Rattle.ktm_world.specs.declared.command.Command.{Command}
-use Rattle.ktm_world.specs.declared.command.Line.{Line}
-use Rattle.ktm_world.specs.declared.command.Line.TheVariants.{Crash, Restart, Process}
-use Rattle.ktm_world.specs.declared.reply.Reply.{Reply}
-use Rattle.ktm_world.specs.declared.reply.Reply.TheVariants.{Refused, Done}
+use Rattle.ktm_types.specs.declared.command.Command.{Command}
+use Rattle.ktm_types.specs.declared.command.Line.{Line}
+use Rattle.ktm_types.specs.declared.command.Line.TheVariants.{Crash, Restart, Process}
+use Rattle.ktm_types.specs.declared.reply.Reply.{Reply}
+use Rattle.ktm_types.specs.declared.reply.Reply.TheVariants.{Refused, Done}
 use Rattle.ktm_world.specs.Present.{Present}
 use Rattle.ktm_world.specs.Transcript.{Step, answered, interrupted, found, full, CrashDoes, StartDoes, RestartDoes, Does}
 use Rattle.ktm_world.specs.World.{World, present, interrupted_restart}

@@ -11,9 +11,9 @@ use Rattle.ktm_run.proofs.Counting.{RoseBy-none}
 use Rattle.ktm_run.proofs.Lines.{Means-kept}
 use Rattle.ktm_run.specs.Progress.{Scene, Counts, Did, Answers, Unanswered, HalfWritten}
 use Rattle.ktm_run.specs.Script.{AppendsPart, Means, kept_of, reply_line}
-use Rattle.ktm_world.specs.declared.command.Line.{Line}
-use Rattle.ktm_world.specs.declared.command.Line.TheVariants.{Restart}
-use Rattle.ktm_world.specs.declared.reply.Reply.{Reply}
+use Rattle.ktm_types.specs.declared.command.Line.{Line}
+use Rattle.ktm_types.specs.declared.command.Line.TheVariants.{Restart}
+use Rattle.ktm_types.specs.declared.reply.Reply.{Reply}
 use Rattle.ktm_world.specs.World.{World}
 
 -- a line that was not executed at all

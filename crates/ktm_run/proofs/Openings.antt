@@ -16,7 +16,7 @@ use Rattle.ktm_world.specs.Durable.{Durable, empty_state, stand}
 use Rattle.ktm_world.proofs.Durables.{stand-append, stand-units, stand-image}
 use Rattle.ktm_world.proofs.SizeLemmas.{log_size-append}
 use Rattle.ktm_world.specs.Outcome.{is_full}
-use Rattle.ktm_world.specs.Sizes.{log_size}
+use Rattle.ktm_types.specs.Sizes.{log_size}
 use Rattle.ktm_world.specs.Logs.{Group}
 use Rattle.ktm_world.specs.World.{opened, own_group}
 

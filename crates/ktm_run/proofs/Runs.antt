@@ -14,8 +14,8 @@ use Rattle.ktm_run.proofs.Counting.{Counts-none, Counts-then, keeps_base, Transc
 use Rattle.ktm_run.specs.Plan.{plan_of, plans, falls_of, falls}
 use Rattle.ktm_run.specs.Progress.{Scene, Now, Counts, Answers, Ran, Progress, Broke, Stops}
 use Rattle.ktm_run.specs.Script.{has_reply, Means, MeanAll, reply_line}
-use Rattle.ktm_world.specs.declared.command.Line.{Line}
-use Rattle.ktm_world.specs.declared.reply.Reply.{Reply}
+use Rattle.ktm_types.specs.declared.command.Line.{Line}
+use Rattle.ktm_types.specs.declared.reply.Reply.{Reply}
 use Rattle.ktm_world.specs.World.{World}
 
 MeanAll-append : (xs : List (List ℕ)) (ys : List (List ℕ)) (ms ns : List (Option Line)) → MeanAll xs ms → MeanAll ys ns → MeanAll (xs ++ ys) (ms ++ ns)

@@ -19,8 +19,8 @@ use Rattle.ktm_run.specs.Progress.{Scene, Now, Counts, Ran, Progress, Broke, Sto
 use Rattle.ktm_run.specs.Script.{has_reply, Means, MeanAll, cut_lines, lines_from, most_script}
 use Rattle.ktm_run.specs.Early.{Outside, Ends, FoundDown}
 use Rattle.ktm_run.specs.Theorem.{HoldsStates, Moment, moment_of, RunCounts, LineCounts, Replied, RunTheorem, EndedBetween, Unanswered, HalfWritten, EndedWithin, EndedEarly}
-use Rattle.ktm_world.specs.declared.command.Line.{Line}
-use Rattle.ktm_world.specs.declared.command.Line.TheVariants.{Restart}
+use Rattle.ktm_types.specs.declared.command.Line.{Line}
+use Rattle.ktm_types.specs.declared.command.Line.TheVariants.{Restart}
 use Rattle.ktm_world.specs.Built.{is_built_line}
 use Rattle.ktm_world.specs.Durable.{Durable}
 use Rattle.ktm_world.specs.Logs.{is_up}

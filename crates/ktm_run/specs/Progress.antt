@@ -9,9 +9,9 @@ use Rattle.ktm_base.specs.Told.{IfTold, Tells}
 use Rattle.ktm_kernel.specs.Stands.{KernelState, KernelAt, LeavesStates}
 use Rattle.ktm_run.specs.Plan.{plan_of, plans, falls_of, falls, RoseBy, most_calls}
 use Rattle.ktm_run.specs.Script.{has_reply, Means, MeanAll, AppendsPart, reply_line, written_replies}
-use Rattle.ktm_world.specs.declared.command.Line.{Line}
-use Rattle.ktm_world.specs.declared.command.Line.TheVariants.{Restart}
-use Rattle.ktm_world.specs.declared.reply.Reply.{Reply}
+use Rattle.ktm_types.specs.declared.command.Line.{Line}
+use Rattle.ktm_types.specs.declared.command.Line.TheVariants.{Restart}
+use Rattle.ktm_types.specs.declared.reply.Reply.{Reply}
 use Rattle.ktm_world.specs.Transcript.{Step, Does, Transcript}
 use Rattle.ktm_world.specs.World.{World}
 use Rattle.ktm_world.specs.Logs.{is_up}

@@ -7,7 +7,7 @@ use crate::LineFault::{self, BadLine};
 use crate::command::command;
 use crate::parts::{end, read_count, read_process};
 use ktm_codec::strip_word;
-use ktm_world::Line;
+use ktm_types::Line;
 use std::alloc::Global;
 
 const MOST_BYTES: usize = 140_000;

@@ -4,10 +4,10 @@ use Rattle.std.proofs.lemmas.List.Sums.{sum_by_push, sum_by-set, get_or-le-sum_b
 use Rattle.std.specs.Prelude.{count_by, if◌then◌else◌}
 use Rattle.std.proofs.lemmas.Bool.{and_from, and_right, and_parts, eqb-true, leb-true, le-leb, false_from_ne_true}
 use Rattle.ktm_base.specs.declared.id.Id.{Id}
-use Rattle.ktm_world.specs.declared.object.Transaction.{Transaction}
+use Rattle.ktm_types.specs.declared.object.Transaction.{Transaction}
 use Rattle.ktm_world.specs.Transactions.{same_id, is_live}
-use Rattle.ktm_world.specs.declared.object.Phase.TheVariants.{Active}
-use Rattle.ktm_world.specs.declared.object.TransactionOutcome.TheVariants.{Undetermined}
+use Rattle.ktm_types.specs.declared.object.Phase.TheVariants.{Active}
+use Rattle.ktm_types.specs.declared.object.TransactionOutcome.TheVariants.{Undetermined}
 use Rattle.ktm_world.specs.Present.{Transactions}
 use Rattle.ktm_tm.specs.TmState.{AreNumbered, IsPlace, IsAbsent, is_given, next_id, with_new}
 

@@ -1,9 +1,9 @@
 -- The transactions that the manager keeps.
 use Rattle.std.specs.Prelude.{◌≡◌, ℕ, ◌+◌, ◌<◌, ◌==◌, ◌&&◌, Bool, false, nat_le, List, [], ◌∷◌, ◌++◌, length, Some, None, slice_index_or, slice_set}
 use Rattle.ktm_base.specs.declared.id.Id.{Id}
-use Rattle.ktm_world.specs.declared.object.Phase.TheVariants.{Active}
-use Rattle.ktm_world.specs.declared.object.Transaction.{Transaction}
-use Rattle.ktm_world.specs.declared.object.TransactionOutcome.TheVariants.{Undetermined}
+use Rattle.ktm_types.specs.declared.object.Phase.TheVariants.{Active}
+use Rattle.ktm_types.specs.declared.object.Transaction.{Transaction}
+use Rattle.ktm_types.specs.declared.object.TransactionOutcome.TheVariants.{Undetermined}
 use Rattle.ktm_world.specs.Present.{Transactions}
 use Rattle.ktm_world.specs.Transactions.{transaction_at, change_at}
 

@@ -11,7 +11,7 @@ pub use tm::Tm;
 mod tests {
     use super::*;
     use ktm_base::{Id, Refusal};
-    use ktm_world::{Phase, Transaction, TransactionOutcome};
+    use ktm_types::{Phase, Transaction, TransactionOutcome};
     use std::process::Abort;
     use std::test::Fail;
 

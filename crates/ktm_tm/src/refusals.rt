@@ -5,7 +5,7 @@ ghost use Rattle.ktm_world.specs.Outcome.{first_refusal};
 ghost use Rattle.ktm_world.specs.Transactions.{is_active};
 
 use ktm_base::Refusal;
-use ktm_world::{Phase, Transaction, TransactionOutcome};
+use ktm_types::{Phase, Transaction, TransactionOutcome};
 
 /// Why a call that wants an active transaction is refused, if it is.
 pub fn active_refusal(t: &Transaction) -> Option<Refusal>

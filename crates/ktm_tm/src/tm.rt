@@ -5,7 +5,7 @@ ghost use Rattle.ktm_world.specs.TransactionCalls.{no_transaction_left};
 ghost use Rattle.ktm_tm.specs.TmState.{next_id, with_new, is_given, IsPlace, IsAbsent};
 
 use ktm_base::{Id, NoMemory};
-use ktm_world::{Phase, Transaction, TransactionOutcome};
+use ktm_types::{Phase, Transaction, TransactionOutcome};
 use std::alloc::Global;
 use std::marker::Model;
 

@@ -3,11 +3,11 @@ use Rattle.std.proofs.Common.{◌≡◌, ℕ, ◌+◌, ◌≤◌, Bool, false, c
 use Rattle.std.proofs.lemmas.Bool.{cases_Bool}
 use Rattle.std.proofs.lemmas.List.Sums.{sum_by-cons}
 use Rattle.ktm_base.specs.declared.id.Id.{Id}
-use Rattle.ktm_world.specs.declared.event.Keyed.{Keyed}
-use Rattle.ktm_world.specs.Keyed.{put}
+use Rattle.ktm_keyed.specs.declared.keyed.Keyed.{Keyed}
+use Rattle.ktm_keyed.specs.Keyed.{put}
 use Rattle.ktm_world.specs.Keys.{Store, OwnSettings, Own, KeysNow, keys_used, changes_pending, own_settings, with_own, without_own, stored, stored_all}
 use Rattle.ktm_world.specs.Transactions.{same_id}
-use Rattle.ktm_world.proofs.KeyedLemmas.{length-put-le, length-without-le, count_by-cons, count_by-put-le}
+use Rattle.ktm_keyed.proofs.KeyedLemmas.{length-put-le, length-without-le, count_by-cons, count_by-put-le}
 
 -- ---- the store
 

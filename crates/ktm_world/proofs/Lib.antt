@@ -1,9 +1,7 @@
 pub mod SizeLemmas
-pub mod KeyedLemmas
 pub mod BuiltStates
 pub mod Durables
 pub mod KeyLemmas
-pub mod Slots
 pub mod Stores
 pub mod Worlds
 mod FileLaws

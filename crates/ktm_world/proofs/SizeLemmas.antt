@@ -3,22 +3,22 @@ use Rattle.std.proofs.Common.{◌≡◌, ℕ, ◌+◌, List, [], ◌∷◌, ◌+
 use Rattle.std.proofs.lemmas.List.Sums.{sum_by-append, sum_by-cons}
 use Rattle.ktm_base.specs.Grammar.{IsU32, Then, Tagged, IsTextOf, IsRow, IsListOf}
 use Rattle.ktm_base.specs.declared.id.Id.{Id}
-use Rattle.ktm_world.specs.declared.event.Keyed.{Keyed}
-use Rattle.ktm_world.specs.declared.event.Part.{Part}
-use Rattle.ktm_world.specs.declared.event.Part.TheVariants.{Enlistment, Changes, Settings}
-use Rattle.ktm_world.specs.declared.event.DonePart.{DonePart}
-use Rattle.ktm_world.specs.declared.event.DonePart.TheVariants.{Files, Keys}
-use Rattle.ktm_world.specs.declared.event.Event.{Event}
-use Rattle.ktm_world.specs.declared.event.Event.TheVariants.{Boot, MadeRm, Plain, Ready, Single, Held, Decide, Undo}
-use Rattle.ktm_world.specs.declared.change.Change.{Change}
-use Rattle.ktm_world.specs.declared.change.Change.TheVariants.{Make, Put, Cut, Move, Drop}
-use Rattle.ktm_world.specs.declared.change.Contents.{Contents}
-use Rattle.ktm_world.specs.declared.change.Contents.TheVariants.{Whole, Paged}
-use Rattle.ktm_world.specs.declared.change.NodeKind.{NodeKind}
-use Rattle.ktm_world.specs.declared.change.NodeKind.TheVariants.{File, Directory}
-use Rattle.ktm_world.specs.EventGrammar.{IsIdOf, IsSetTo, IsSettingOf, AreSettingsOf, IsKindOf, IsPutOf, IsCutOf, IsChangeOf, IsRecordOf, IsPartOf, IsSoleOf, IsDoneOf, IsEventOf}
+use Rattle.ktm_keyed.specs.declared.keyed.Keyed.{Keyed}
+use Rattle.ktm_types.specs.declared.event.Part.{Part}
+use Rattle.ktm_types.specs.declared.event.Part.TheVariants.{Enlistment, Changes, Settings}
+use Rattle.ktm_types.specs.declared.event.DonePart.{DonePart}
+use Rattle.ktm_types.specs.declared.event.DonePart.TheVariants.{Files, Keys}
+use Rattle.ktm_types.specs.declared.event.Event.{Event}
+use Rattle.ktm_types.specs.declared.event.Event.TheVariants.{Boot, MadeRm, Plain, Ready, Single, Held, Decide, Undo}
+use Rattle.ktm_types.specs.declared.change.Change.{Change}
+use Rattle.ktm_types.specs.declared.change.Change.TheVariants.{Make, Put, Cut, Move, Drop}
+use Rattle.ktm_types.specs.declared.change.Contents.{Contents}
+use Rattle.ktm_types.specs.declared.change.Contents.TheVariants.{Whole, Paged}
+use Rattle.ktm_types.specs.declared.change.NodeKind.{NodeKind}
+use Rattle.ktm_types.specs.declared.change.NodeKind.TheVariants.{File, Directory}
+use Rattle.ktm_types.specs.EventGrammar.{IsIdOf, IsSetTo, IsSettingOf, AreSettingsOf, IsKindOf, IsPutOf, IsCutOf, IsChangeOf, IsRecordOf, IsPartOf, IsSoleOf, IsDoneOf, IsEventOf}
 use Rattle.ktm_world.specs.SizeLaw.{SizeLaw}
-use Rattle.ktm_world.specs.Sizes.{set_to_size, setting_size, put_size, change_size, record_size, part_size, done_size, event_size, frame_size, log_size}
+use Rattle.ktm_types.specs.Sizes.{set_to_size, setting_size, put_size, change_size, record_size, part_size, done_size, event_size, frame_size, log_size}
 
 pub log_size-append : (gs hs : List (List Event)) → log_size (gs ++ hs) ≡ log_size gs + log_size hs
 log_size-append gs hs = sum_by-append frame_size gs hs

@@ -2,13 +2,13 @@
 -- bad image, until it is built.
 use Rattle.std.specs.Prelude.{◌≡◌, ℕ, Bool, true, false, List, [], Option, Some, None}
 use Rattle.std.specs.List.{list_all}
-use Rattle.ktm_world.specs.declared.command.Command.{Command}
-use Rattle.ktm_world.specs.declared.command.Command.TheVariants.{CreateTransaction, CommitTransaction, KvSet, KvUnset, KvGet, KvList}
-use Rattle.ktm_world.specs.declared.command.Line.{Line}
-use Rattle.ktm_world.specs.declared.command.Line.TheVariants.{Tick, Cut, Crash, Restart, Process}
-use Rattle.ktm_world.specs.declared.event.Event.{Event}
-use Rattle.ktm_world.specs.declared.event.Event.TheVariants.{Boot, Single}
-use Rattle.ktm_world.specs.declared.event.Part.TheVariants.{Settings}
+use Rattle.ktm_types.specs.declared.command.Command.{Command}
+use Rattle.ktm_types.specs.declared.command.Command.TheVariants.{CreateTransaction, CommitTransaction, KvSet, KvUnset, KvGet, KvList}
+use Rattle.ktm_types.specs.declared.command.Line.{Line}
+use Rattle.ktm_types.specs.declared.command.Line.TheVariants.{Tick, Cut, Crash, Restart, Process}
+use Rattle.ktm_types.specs.declared.event.Event.{Event}
+use Rattle.ktm_types.specs.declared.event.Event.TheVariants.{Boot, Single}
+use Rattle.ktm_types.specs.declared.event.Part.TheVariants.{Settings}
 use Rattle.ktm_world.specs.Durable.{Durable}
 use Rattle.ktm_world.specs.Keys.{Store}
 use Rattle.ktm_world.specs.Logs.{Group}

@@ -1,10 +1,4 @@
-pub mod Keyed
-pub mod Slot
-pub mod Values
-pub mod Completions
 pub mod Built
-pub mod EventGrammar
-pub mod Sizes
 pub mod SizeLaw
 pub mod Handles
 pub mod Transactions
@@ -38,11 +32,3 @@ pub mod Lawful
 pub mod OneOutcome
 pub mod Scripts
 pub mod Laws
-pub mod RowsOfViews
-pub mod RowsOfConflicts
-pub mod RowsOfFiles
-pub mod RowsOfLimits
-pub mod RowsOfTransactions
-pub mod RowsOfRestarts
-pub mod RowsOfHandles
-pub mod RowsOfKeys

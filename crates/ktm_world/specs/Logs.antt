@@ -1,6 +1,6 @@
 -- Logs of groups of events, and what a loss of power may leave of one.
 use Rattle.std.specs.Prelude.{ℕ, ◌+◌, Bool, true, false, List, [], ◌∷◌, length, map, drop}
-use Rattle.ktm_world.specs.declared.event.Event.{Event}
+use Rattle.ktm_types.specs.declared.event.Event.{Event}
 
 -- the events of one command
 abbrev pub Group : Type 0

@@ -2,7 +2,7 @@
 ghost use Rattle.std.specs.Prelude.{◌≡◌};
 ghost use Rattle.ktm_world.specs.Built.{is_built, is_built_command};
 
-use crate::{Command, Line};
+use ktm_types::{Command, Line};
 
 fn is_built_command(command: &Command) -> bool
     ensures { result ≡ is_built_command command.now }

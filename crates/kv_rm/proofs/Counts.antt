@@ -5,13 +5,13 @@ use Rattle.std.specs.Prelude.{count_by, MatchOption}
 use Rattle.std.specs.List.{insert}
 use Rattle.std.specs.Option.{option_map}
 use Rattle.ktm_base.specs.declared.id.Id.{Id}
-use Rattle.ktm_world.specs.declared.event.Keyed.{Keyed}
-use Rattle.ktm_world.specs.declared.keyed.Slot.{Slot}
-use Rattle.ktm_world.specs.declared.keyed.Slot.TheVariants.{Here, Free}
-use Rattle.ktm_world.specs.Keyed.{put, value_at}
+use Rattle.ktm_keyed.specs.declared.keyed.Keyed.{Keyed}
+use Rattle.ktm_keyed.specs.declared.keyed.Slot.{Slot}
+use Rattle.ktm_keyed.specs.declared.keyed.Slot.TheVariants.{Here, Free}
+use Rattle.ktm_keyed.specs.Keyed.{put, value_at}
 use Rattle.ktm_world.specs.Keys.{Own, OwnSettings, own_settings, with_own, without_own}
 use Rattle.ktm_world.proofs.KeyLemmas.{counted-without_own}
-use Rattle.ktm_world.specs.Slot.{IsSlot}
+use Rattle.ktm_keyed.specs.Slot.{IsSlot}
 use Rattle.kv_rm.specs.Count.{kind_of, is_of_kind, one_of, own_count, AreCounts}
 use Rattle.kv_rm.specs.declared.count.Counts.{Counts}
 use Rattle.kv_rm.specs.Place.{IsPlace, IsAbsent, IsSeat}

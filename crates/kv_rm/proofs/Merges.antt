@@ -1,11 +1,11 @@
 -- Settings by rising key are made in a store entry after entry, from one of their keys to the next.
 use Rattle.std.proofs.Common.{◌≡◌, ℕ, suc, ◌+◌, ◌<◌, true, List, [], ◌∷◌, ◌++◌, length, get_or, drop, Option, None, Some, refl, sym, ◌∙◌, ap, add-one, append_assoc}
 use Rattle.std.proofs.lemmas.Bool.{and_parts}
-use Rattle.ktm_world.specs.declared.event.Keyed.{Keyed}
-use Rattle.ktm_world.specs.Keyed.{comes_before, comes_first, is_rising}
+use Rattle.ktm_keyed.specs.declared.keyed.Keyed.{Keyed}
+use Rattle.ktm_keyed.specs.Keyed.{comes_before, comes_first, is_rising}
 use Rattle.ktm_world.specs.Keys.{Store, OwnSettings, stored, stored_all, keys_of}
-use Rattle.ktm_world.proofs.KeyedLemmas.{comes_before-differs, comes_before-after, comes_before-trans, comes_first-trans, is_rising-put}
-use Rattle.ktm_world.proofs.Slots.{rest_is}
+use Rattle.ktm_keyed.proofs.KeyedLemmas.{comes_before-differs, comes_before-after, comes_before-trans, comes_first-trans, is_rising-put}
+use Rattle.ktm_keyed.proofs.Slots.{rest_is}
 use Rattle.kv_rm.specs.Split.{IsSplit}
 
 -- ---- behind the entries whose keys come before all settings

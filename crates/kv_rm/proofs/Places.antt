@@ -2,11 +2,11 @@
 use Rattle.std.proofs.Common.{◌≡◌, ℕ, ◌<◌, true, List, ◌∷◌, ◌++◌, length, suc, get_or, set, take, drop, Option, refl, sym, ◌∙◌, ap}
 use Rattle.std.proofs.lemmas.List.{set_split, get_or_read}
 use Rattle.ktm_base.specs.declared.id.Id.{Id}
-use Rattle.ktm_world.specs.Keyed.{put}
+use Rattle.ktm_keyed.specs.Keyed.{put}
 use Rattle.ktm_world.specs.Keys.{Own, own_settings, with_own, without_own}
 use Rattle.ktm_world.specs.Transactions.{same_id}
 use Rattle.kv_rm.specs.Place.{IsPlace}
-use Rattle.ktm_world.proofs.Slots.{rest_is}
+use Rattle.ktm_keyed.proofs.Slots.{rest_is}
 
 own_settings_same : (o : Own) (os : List Own) (id : Id) → same_id o.transaction id ≡ true → own_settings (o ∷ os) id ≡ o.settings
 own_settings_same o os id same = rw same refl

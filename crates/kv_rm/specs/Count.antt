@@ -1,6 +1,6 @@
 -- How many settings of each kind transactions have.
 use Rattle.std.specs.Prelude.{◌≡◌, ℕ, ◌<◌, ◌^◌, Bool, List, Option, None, Some, is_some, is_none, sum_by, count_by}
-use Rattle.ktm_world.specs.declared.event.Keyed.{Keyed}
+use Rattle.ktm_keyed.specs.declared.keyed.Keyed.{Keyed}
 use Rattle.ktm_world.specs.Keys.{Own}
 use Rattle.kv_rm.specs.declared.count.Counts.{Counts}
 use Rattle.kv_rm.specs.declared.count.Kind.{Kind}

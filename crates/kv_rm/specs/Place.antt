@@ -3,9 +3,9 @@ use Rattle.std.specs.Prelude.{◌≡◌, ℕ, ◌<◌, List, [], ◌∷◌, ◌+
 use Rattle.std.specs.List.{remove}
 use Rattle.std.specs.Option.{option_map}
 use Rattle.ktm_base.specs.declared.id.Id.{Id}
-use Rattle.ktm_world.specs.Keyed.{put, value_at}
+use Rattle.ktm_keyed.specs.Keyed.{put, value_at}
 use Rattle.ktm_world.specs.Keys.{Own, own_settings, with_own, without_own}
-use Rattle.ktm_world.specs.Slot.{IsSlot}
+use Rattle.ktm_keyed.specs.Slot.{IsSlot}
 use Rattle.kv_rm.specs.Count.{kind_of}
 use Rattle.kv_rm.specs.declared.own.Seat.{Seat}
 

@@ -1,7 +1,7 @@
 -- A list of values under keys, apart at a key.
 use Rattle.std.specs.Prelude.{◌≡◌, ℕ, List, ◌∷◌, ◌++◌}
-use Rattle.ktm_world.specs.declared.event.Keyed.{Keyed}
-use Rattle.ktm_world.specs.Keyed.{put, without}
+use Rattle.ktm_keyed.specs.declared.keyed.Keyed.{Keyed}
+use Rattle.ktm_keyed.specs.Keyed.{put, without}
 
 -- a value under the key would stand between the two parts, which are all that is under other keys
 pub record IsSplit {V : Type 0} (items : List (Keyed V)) (key : List ℕ) (before after : List (Keyed V)) : Type 0 where

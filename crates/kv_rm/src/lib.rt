@@ -14,8 +14,8 @@ pub use rm::KvRm;
 mod tests {
     use super::*;
     use ktm_base::{Bytes, Id, Refusal, Text};
-    use ktm_world::Reply;
-    use ktm_world::keyed::KeyedList;
+    use ktm_types::Reply;
+    use ktm_keyed::KeyedList;
     use std::alloc::Global;
     use std::process::Abort;
     use std::test::Fail;

@@ -1,12 +1,12 @@
 // The keys that are seen, out of those that are stored and those that are set, with no copy of the values.
 ghost use Rattle.std.specs.Prelude.{◌≡◌, ◌++◌, [], true, IfOk, OnOk};
-ghost use Rattle.ktm_world.specs.Keyed.{is_rising};
+ghost use Rattle.ktm_keyed.specs.Keyed.{is_rising};
 ghost use Rattle.ktm_world.specs.Keys.{stored, stored_all, keys_of};
 ghost use Rattle.kv_rm.specs.Split.{IsSplit};
 
 use ktm_base::{NoMemory, Text, TextList};
-use ktm_world::keyed::{Slot, slot_of};
-use ktm_world::{Entry, Setting};
+use ktm_keyed::{Slot, slot_of};
+use ktm_types::{Entry, Setting};
 use std::alloc::Global;
 
 // The entries whose keys come before this one, and those whose keys come after it.

@@ -1,18 +1,18 @@
 // What each undecided transaction has set.
 ghost use Rattle.std.specs.Prelude.{◌≡◌, ℕ, List, [], MatchOption, IfOk, OnOk, OnErr, true};
 ghost use Rattle.std.specs.Option.{option_copied, option_map};
-ghost use Rattle.ktm_world.specs.Keyed.{is_rising, value_at, put};
+ghost use Rattle.ktm_keyed.specs.Keyed.{is_rising, value_at, put};
 ghost use Rattle.ktm_world.specs.KeyCalls.{with_setting};
 ghost use Rattle.ktm_world.specs.Keys.{Store, own_settings, with_own, without_own, is_held_by_other, store_seen, stored_all};
-ghost use Rattle.ktm_world.specs.Slot.{IsSlot};
+ghost use Rattle.ktm_keyed.specs.Slot.{IsSlot};
 ghost use Rattle.ktm_world.specs.Transactions.{same_id};
 ghost use Rattle.kv_rm.specs.Count.{kind_of};
 ghost use Rattle.kv_rm.specs.Place.{IsPlace, IsAbsent, IsSeat, IsSeatOf};
 
 use crate::count::{Kind, kind_of};
 use ktm_base::{Bytes, Id, NoMemory, Text};
-use ktm_world::Setting;
-use ktm_world::keyed::{KeyedList, Slot};
+use ktm_types::Setting;
+use ktm_keyed::{KeyedList, Slot};
 use std::alloc::Global;
 use std::marker::Model;
 

@@ -2,7 +2,7 @@
 ghost use Rattle.std.specs.Prelude.{◌≡◌, ◌+◌, ◌^◌, ◌<◌, ◌≤◌, ℕ, List, [], Option, IfOk, OnOk, OnErr, IsOk, is_none, length, nat_lt};
 ghost use Rattle.std.specs.Option.{option_copied};
 ghost use Rattle.ktm_base.specs.declared.id.Id.{Id};
-ghost use Rattle.ktm_world.specs.declared.reply.Reply.TheVariants.{Done};
+ghost use Rattle.ktm_types.specs.declared.reply.Reply.TheVariants.{Done};
 ghost use Rattle.ktm_world.specs.KeyCalls.{KeyRoom, is_key_held, keys_with, with_setting};
 ghost use Rattle.ktm_world.specs.Keys.{Own, own_settings, without_own, value_seen, stored_all, store_seen, keys_of};
 ghost use Rattle.ktm_world.specs.Phases.{has_settings};
@@ -19,8 +19,9 @@ use crate::own::{
     OwnKeys, Seat, is_held, own_value, seat_of, set_for, settings_before, settings_of, take_own,
 };
 use ktm_base::{Bytes, Id, NoMemory, Refusal, Text, TextList};
-use ktm_world::keyed::KeyedList;
-use ktm_world::{Reply, Setting, is_bad_key, is_bad_value, make_all};
+use ktm_keyed::KeyedList;
+use ktm_types::{Reply, Setting};
+use ktm_world::{is_bad_key, is_bad_value, make_all};
 use std::alloc::Global;
 use std::marker::Model;
 

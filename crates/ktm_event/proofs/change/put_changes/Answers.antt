@@ -1,8 +1,8 @@
 use Rattle.std.proofs.Common.{arith}
 use Rattle.std.proofs.lemmas.Result.{err_from_is_err_and}
 use Rattle.ktm_codec.proofs.Adding.{adds_item}
-use Rattle.ktm_world.specs.EventGrammar.{IsChangeOf}
-use Rattle.ktm_world.specs.Sizes.{change_size}
+use Rattle.ktm_types.specs.EventGrammar.{IsChangeOf}
+use Rattle.ktm_types.specs.Sizes.{change_size}
 use Rattle.ktm_event.proofs.Writings.{size_more, size_within}
 use Rattle.ktm_event.proofs.change.put_changes.Goals as goal
 

@@ -1,4 +1,4 @@
-use Rattle.ktm_world.specs.declared.event.Part.TheVariants.{Changes, Settings}
+use Rattle.ktm_types.specs.declared.event.Part.TheVariants.{Changes, Settings}
 use Rattle.ktm_event.proofs.Writings.{work}
 use Rattle.ktm_event.proofs.event.put_work.Goals as goal
 

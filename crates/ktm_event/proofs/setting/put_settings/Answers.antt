@@ -1,8 +1,8 @@
 use Rattle.std.proofs.Common.{arith}
 use Rattle.std.proofs.lemmas.Result.{err_from_is_err_and}
 use Rattle.ktm_codec.proofs.Adding.{adds_item}
-use Rattle.ktm_world.specs.EventGrammar.{IsSettingOf}
-use Rattle.ktm_world.specs.Sizes.{setting_size}
+use Rattle.ktm_types.specs.EventGrammar.{IsSettingOf}
+use Rattle.ktm_types.specs.Sizes.{setting_size}
 use Rattle.ktm_event.proofs.Writings.{size_more, size_within}
 use Rattle.ktm_event.proofs.setting.put_settings.Goals as goal
 

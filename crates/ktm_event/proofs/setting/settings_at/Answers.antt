@@ -1,5 +1,5 @@
 use Rattle.std.proofs.Common.{sym, ◌∙◌, ap}
-use Rattle.ktm_world.specs.Keyed.{is_rising}
+use Rattle.ktm_keyed.specs.Keyed.{is_rising}
 use Rattle.ktm_event.proofs.PartReadings.{no_list, not_rising, settings_read}
 use Rattle.ktm_event.proofs.Readings.{passes}
 use Rattle.ktm_event.proofs.setting.settings_at.Goals as goal

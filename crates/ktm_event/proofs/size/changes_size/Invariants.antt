@@ -1,5 +1,5 @@
 use Rattle.std.proofs.Common.{◌≡◌, ◌-◌, ◌^◌, min, take, sum_by}
-use Rattle.ktm_world.specs.Sizes.{change_size}
+use Rattle.ktm_types.specs.Sizes.{change_size}
 use Rattle.ktm_event.proofs.size.changes_size.Given as goal
 
 abbrev pub invariant-loop-change : goal.invariant-loop-change

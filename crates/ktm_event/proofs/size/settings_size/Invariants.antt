@@ -1,5 +1,5 @@
 use Rattle.std.proofs.Common.{◌≡◌, ◌-◌, ◌^◌, min, take, sum_by}
-use Rattle.ktm_world.specs.Sizes.{setting_size}
+use Rattle.ktm_types.specs.Sizes.{setting_size}
 use Rattle.ktm_event.proofs.size.settings_size.Given as goal
 
 abbrev pub invariant-loop-setting : goal.invariant-loop-setting

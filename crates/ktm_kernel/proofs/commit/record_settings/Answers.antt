@@ -1,5 +1,5 @@
 use Rattle.std.proofs.Common.{List, [], sym, ◌∙◌, subst, arith}
-use Rattle.ktm_world.specs.declared.event.Event.{Event}
+use Rattle.ktm_types.specs.declared.event.Event.{Event}
 use Rattle.ktm_event.specs.Kept.{Holds}
 use Rattle.ktm_kernel.proofs.Decides.{some_recorded, none_recorded}
 use Rattle.ktm_kernel.proofs.commit.record_settings.Goals as goal

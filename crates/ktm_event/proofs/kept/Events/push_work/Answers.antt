@@ -1,5 +1,5 @@
 use Rattle.std.proofs.Common.{arith, vec_len}
-use Rattle.ktm_world.specs.declared.event.Event.{Event}
+use Rattle.ktm_types.specs.declared.event.Event.{Event}
 use Rattle.ktm_event.specs.Work.{part_of, work_event}
 use Rattle.ktm_event.proofs.KeptLemmas.{Grew, kept_more, holds_more}
 use Rattle.ktm_event.proofs.kept.Events.push_work.Goals as goal

@@ -1,7 +1,7 @@
 use Rattle.std.proofs.Common.{is_some, [], sym, refl, ◌∙◌, ap}
 use Rattle.std.proofs.lemmas.List.{append-nil}
 use Rattle.ktm_journal.specs.Image.{JournalState}
-use Rattle.ktm_world.specs.declared.command.Command.TheVariants.{CommitTransaction, KvSet, KvUnset, KvGet, KvList}
+use Rattle.ktm_types.specs.declared.command.Command.TheVariants.{CommitTransaction, KvSet, KvUnset, KvGet, KvList}
 use Rattle.ktm_world.specs.Labels.{transaction_named, transaction_tests, view_tests}
 use Rattle.ktm_object.specs.Table.{handles_of}
 use Rattle.ktm_world.specs.Handles.{object_at}

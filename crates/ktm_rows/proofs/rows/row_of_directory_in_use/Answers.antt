@@ -1,0 +1,7 @@
+use Rattle.std.proofs.Common.{refl}
+use Rattle.ktm_world.proofs.Computing.{computed}
+use Rattle.ktm_rows.proofs.rows.row_of_directory_in_use.Goals as goal
+
+pub returns : goal.returns
+unfolding computed
+returns c = refl

@@ -1,0 +1,4 @@
+pub mod Values
+pub mod Completions
+pub mod EventGrammar
+pub mod Sizes

@@ -1,7 +1,0 @@
-use Rattle.std.proofs.Common.{refl}
-use Rattle.ktm_world.proofs.Computing.{computed}
-use Rattle.ktm_world.proofs.rows.row_of_open_in_transaction.Goals as goal
-
-pub returns : goal.returns
-unfolding computed
-returns c = refl
