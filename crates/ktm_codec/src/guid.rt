@@ -50,35 +50,3 @@ pub fn law_of_guids()
         → (length guid ≡ 16) × AreBytes guid × (text ≡ guid_spelling guid ++ rest) }
     ensures every { (guid rest : List ℕ) → length guid ≡ 16 → AreBytes guid → guid_at (guid_spelling guid ++ rest) ≡ Some (guid, rest) }
 {}
-
-#[cfg(test)]
-mod tests {
-    use super::*;
-    use std::test::Fail;
-
-    #[test]
-    fn guids(rt: HostRuntime) -> Result<(), Fail> {
-        let guid = Uuid::from_fields(1, 2, 0xab, &[0, 1, 2, 3, 4, 5, 0xcd, 0xef]);
-        let mut out = Vec::new(rt.alloc());
-        put_guid(&mut out, &guid)?;
-        out.extend_from_slice(b" x")?;
-        assert_eq!(rt;
-            out.as_slice(),
-            b"00000001-0002-00ab-0001-02030405cdef x".as_slice()
-        );
-        assert_eq!(rt; read_guid(out.as_slice()), Some((guid, b" x".as_slice())));
-        for text in [
-            "",
-            "00000001-0002-00ab-0001-02030405cde",
-            "00000001-0002-00AB-0001-02030405CDEF",
-            "00000001-0002-00ab-0001-02030405cdeg",
-            "0000000100-0200ab-0001-02030405cdef0",
-            "00000001000200ab000102030405cdef",
-            "{00000001-0002-00ab-0001-02030405cdef}",
-            "urn:uuid:00000001-0002-00ab-0001-02030405cdef",
-        ] {
-            assert_eq!(rt; read_guid(text.as_bytes()), None, "{text}");
-        }
-        Ok(())
-    }
-}

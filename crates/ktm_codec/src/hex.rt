@@ -116,33 +116,3 @@ pub fn law_of_hex()
     ensures found { (text bytes : List ℕ) → unhex_or_dash text ≡ Some bytes → AreBytes bytes × (text ≡ hex_or_dash bytes) }
     ensures every { (bytes : List ℕ) → AreBytes bytes → unhex_or_dash (hex_or_dash bytes) ≡ Some bytes }
 {}
-
-#[cfg(test)]
-mod tests {
-    use super::*;
-    use std::test::Fail;
-
-    #[test]
-    fn texts_of_bytes(rt: HostRuntime) -> Result<(), Fail> {
-        let alloc = rt.alloc();
-        let cases: [(&[u8], &str); 3] = [
-            (&[], "-"),
-            (&[0], "00"),
-            (&[0x9a, 0xbc, 0xff, 0x10], "9abcff10"),
-        ];
-        for (bytes, text) in cases {
-            let mut out = Vec::new(alloc);
-            put_hex_or_dash(&mut out, bytes)?;
-            assert_eq!(rt; out.as_slice(), text.as_bytes(), "{text}");
-            let read = read_hex_or_dash(alloc, text.as_bytes())?.ok_or("not read")?;
-            assert_eq!(rt; read.as_slice(), bytes, "{text}");
-        }
-        for text in ["", "0", "0A", "-00", "00-", "0g", "--"] {
-            assert!(rt;
-                read_hex_or_dash(alloc, text.as_bytes())?.is_none(),
-                "{text}"
-            );
-        }
-        Ok(())
-    }
-}

@@ -74,37 +74,3 @@ pub fn law_of_numbers()
     ensures last_found { (most : ℕ) (text : List ℕ) (n : ℕ) → most < 2 ^ 64 → last_number_at most text ≡ Some n → (n ≤ most) × (text ≡ decimal n) }
     ensures last_every { (most n : ℕ) → most < 2 ^ 64 → n ≤ most → last_number_at most (decimal n) ≡ Some n }
 {}
-
-#[cfg(test)]
-mod tests {
-    use super::*;
-
-    #[test]
-    fn numbers(rt: HostRuntime) {
-        for (most, text, number, rest) in [
-            (9, "0", 0, ""),
-            (9, "00", 0, "0"),
-            (64, "64", 64, ""),
-            (64, "7 h", 7, " h"),
-            (u64::MAX, "18446744073709551615", u64::MAX, ""),
-        ] {
-            assert_eq!(rt;
-                read_number(most, text.as_bytes()),
-                Some((number, rest.as_bytes())),
-                "{text}"
-            );
-        }
-        for (most, text) in [
-            (64, ""),
-            (64, "x"),
-            (64, "65"),
-            (64, "-1"),
-            (u64::MAX, "18446744073709551616"),
-            (u64::MAX, "99999999999999999999"),
-        ] {
-            assert_eq!(rt; read_number(most, text.as_bytes()), None, "{text}");
-        }
-        assert_eq!(rt; read_last_number(64, b"64"), Some(64));
-        assert_eq!(rt; read_last_number(64, b"64 "), None);
-    }
-}

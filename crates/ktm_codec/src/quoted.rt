@@ -45,32 +45,3 @@ pub fn law_of_quoted()
     ensures found { (text t rest : List ℕ) → quoted_at text ≡ Some (t, rest) → AreTextBytes t × (text ≡ quoted t ++ rest) }
     ensures every { (t rest : List ℕ) → AreTextBytes t → quoted_at (quoted t ++ rest) ≡ Some (t, rest) }
 {}
-
-#[cfg(test)]
-mod tests {
-    use super::*;
-    use std::test::Fail;
-
-    #[test]
-    fn quoted_texts(rt: HostRuntime) -> Result<(), Fail> {
-        for (text, quoted) in [("", "\"\""), ("a b", "\"a b\""), ("~", "\"~\"")] {
-            let mut out = Vec::new(rt.alloc());
-            put_quoted(&mut out, text.as_bytes())?;
-            assert_eq!(rt; out.as_slice(), quoted.as_bytes(), "{text}");
-            assert_eq!(rt;
-                read_quoted(quoted.as_bytes()),
-                Some((text.as_bytes(), b"".as_slice())),
-                "{text}"
-            );
-        }
-        assert_eq!(rt;
-            read_quoted(b"\"k\"\" \""),
-            Some((b"k".as_slice(), b"\" \"".as_slice())),
-            "up to the next mark"
-        );
-        for text in ["", "k\"", "\"", "\"k", "\"k\t\"", "\"\x7f\""] {
-            assert_eq!(rt; read_quoted(text.as_bytes()), None, "{text}");
-        }
-        Ok(())
-    }
-}

@@ -15,15 +15,3 @@ pub fn law_of_words()
     ensures found { (word text rest : List ℕ) → after_word word text ≡ Some rest → text ≡ word ++ rest }
     ensures every { (word rest : List ℕ) → after_word word (word ++ rest) ≡ Some rest }
 {}
-
-#[cfg(test)]
-mod tests {
-    use super::*;
-
-    #[test]
-    fn words(rt: HostRuntime) {
-        assert_eq!(rt; strip_word(b"ok 1", b"ok "), Some(b"1".as_slice()));
-        assert_eq!(rt; strip_word(b"ok", b"ok "), None);
-        assert_eq!(rt; strip_word(b"OK 1", b"ok "), None);
-    }
-}

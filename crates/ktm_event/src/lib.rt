@@ -12,8 +12,6 @@ mod laws;
 mod part;
 mod setting;
 mod size;
-#[cfg(test)]
-mod tests;
 mod work;
 
 pub use event::{read_event, write_event};

@@ -7,8 +7,6 @@ mod information;
 mod notification;
 mod read;
 mod refusal;
-#[cfg(test)]
-mod tests;
 mod texts;
 mod word;
 mod write;

@@ -9,8 +9,6 @@ mod form;
 mod line;
 mod parts;
 mod put;
-#[cfg(test)]
-mod tests;
 mod word;
 mod write;
 

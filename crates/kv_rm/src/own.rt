@@ -11,8 +11,8 @@ ghost use Rattle.kv_rm.specs.Place.{IsPlace, IsAbsent, IsSeat, IsSeatOf};
 
 use crate::count::{Kind, kind_of};
 use ktm_base::{Bytes, Id, NoMemory, Text};
-use ktm_types::Setting;
 use ktm_keyed::{KeyedList, Slot};
+use ktm_types::Setting;
 use std::alloc::Global;
 use std::marker::Model;
 

@@ -3,11 +3,11 @@ ghost use Rattle.std.specs.Prelude.{IfOk};
 ghost use Rattle.ktm_event.specs.Spelling.{AreSpellableSettings, IsSpellableEvent};
 ghost use Rattle.ktm_event.specs.Work.{part_of, work_event};
 
-use crate::{
+use ktm_base::{Bytes, Id, NoMemory, Text};
+use ktm_event::{
     EventFault, Events, Stage, Work, event_size, law_of_round_trip, read_event, read_group,
     work_size, write_event,
 };
-use ktm_base::{Bytes, Id, NoMemory, Text};
 use ktm_types::{Change, DonePart, Event, NodeKind, Part, Setting, Settings};
 use std::alloc::{AllocError, Global};
 use std::test::Fail;

@@ -1,6 +1,6 @@
 // Lines that are read and written, and lines that are not in the grammar.
-use crate::{LineFault, law_of_round_trip, read_line, write_line};
 use ktm_base::{Label, NoMemory, Pid};
+use ktm_script::{LineFault, law_of_round_trip, read_line, write_line};
 use ktm_types::{Command, Line};
 use std::alloc::Global;
 use std::test::Fail;

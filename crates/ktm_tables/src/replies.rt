@@ -1,6 +1,6 @@
 // Replies that are written and read, and lines that are no reply.
-use crate::{ReplyFault, law_of_round_trip, read_reply, write_reply};
 use ktm_base::{Bytes, NoMemory, Notify, Refusal, Text, TextList};
+use ktm_reply::{ReplyFault, law_of_round_trip, read_reply, write_reply};
 use ktm_types::{Reply, TransactionOutcome, TransactionState};
 use std::alloc::Global;
 use std::test::Fail;
