@@ -10,8 +10,6 @@ mod image_file;
 mod late_file;
 mod sink;
 mod source;
-#[cfg(test)]
-mod tests;
 
 pub use block::FileBlock;
 pub use image_file::ImageFile;

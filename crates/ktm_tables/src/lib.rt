@@ -6,6 +6,8 @@ mod codec;
 #[cfg(test)]
 mod events;
 #[cfg(test)]
+mod files;
+#[cfg(test)]
 mod guids;
 #[cfg(test)]
 mod handles;

@@ -1,8 +1,9 @@
+// A block over a file that counts its calls, and over a real one.
 ghost use Rattle.std.specs.Prelude.{◌≡◌, Some, OnOk, OnErr};
 ghost use Rattle.ktm_base.specs.Count.{raised};
 
-use crate::{FileBlock, FileSource, ImageFile};
 use ktm_base::{Block, Failed, Source};
+use ktm_os::{FileBlock, FileSource, ImageFile};
 use std::alloc::Global;
 use std::test::Fail;
 use std::{fs, io};
