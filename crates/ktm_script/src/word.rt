@@ -114,5 +114,6 @@ pub fn put_word<W: Word>(out: &mut Vec<u8>, value: W) -> Result<(), NoMemory>
     ensures { OnOk result (out.new.items ≡ out.old.items ++ space ∷ W.spelled value) }
 {
     out.push(b' ')?;
-    Ok(out.extend_from_slice(value.word())?)
+    out.extend_from_slice(value.word())?;
+    Ok(())
 }

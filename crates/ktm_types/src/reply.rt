@@ -14,7 +14,7 @@ pub enum TransactionState {
 }
 
 /// The answer to a line.
-#[derive(Clone, PartialEq, Debug, Drop)]
+#[derive(PartialEq, Debug, Drop)]
 pub enum Reply {
     Refused(Refusal),
     /// It is done, and there is nothing to tell.
