@@ -23,3 +23,5 @@ mod paths;
 mod patterns;
 #[cfg(test)]
 mod replies;
+#[cfg(test)]
+mod transactions;
