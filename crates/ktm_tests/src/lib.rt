@@ -8,6 +8,8 @@ mod cut;
 #[cfg(test)]
 mod devices;
 #[cfg(test)]
+mod endings;
+#[cfg(test)]
 mod first;
 #[cfg(test)]
 mod full;
