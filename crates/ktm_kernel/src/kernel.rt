@@ -7,6 +7,7 @@ ghost use Rattle.ktm_types.specs.declared.command.Line.TheVariants.{Crash, Proce
 ghost use Rattle.ktm_types.specs.declared.reply.Reply.TheVariants.{Refused, Done};
 ghost use Rattle.ktm_world.specs.Built.{is_built_command};
 ghost use Rattle.ktm_types.specs.Values.{IsCommand};
+ghost use Rattle.ktm_world.specs.Decide.{decide};
 ghost use Rattle.ktm_world.specs.World.{World};
 ghost use Rattle.ktm_kernel.specs.Done.{Ends, TouchesNothing, fallen};
 ghost use Rattle.ktm_kernel.specs.Stands.{KernelAt, DoesLine, IsPowered, IsReady};
@@ -79,7 +80,7 @@ impl Kernel {
             → (self.old.now.machine.is_up ≡ false) ⊎ Rose (D.status disk.old).downs (D.status disk.new).downs) }
         ensures ready { OnOk result (IsReady self.new (D.told disk.new) (D.status disk.new)) }
         ensures calls { OnOk result (DeviceCalls 4 (D.status disk.old) (D.status disk.new) (D.status disk.new).is_down) }
-        ensures untouched { IfOk result (λ reply. TouchesNothing self.old.now process command reply → (D.told disk.new ≡ D.told disk.old) × (D.status disk.new ≡ D.status disk.old)) }
+        ensures untouched { IfOk result (λ reply. TouchesNothing (decide self.old.now process command) reply → (D.told disk.new ≡ D.told disk.old) × (D.status disk.new ≡ D.status disk.old)) }
         ensures no_memory { OnErr result ((D.told disk.new ≡ D.told disk.old) × (D.status disk.new ≡ D.status disk.old)) }
     {
         if !self.is_up() {
@@ -98,10 +99,10 @@ impl Kernel {
         requires up { self.old.now.machine.is_up ≡ true }
         requires ready { IsReady self.old (D.told disk.old) (D.status disk.old) }
         requires built { is_built_command command ≡ true }
-        ensures ends { IfOk result (λ reply. Ends (D.status disk.new).is_down self.old process command reply self.new (D.told disk.old) (D.told disk.new)) }
+        ensures ends { IfOk result (λ reply. Ends (D.status disk.new).is_down self.old (decide self.old.now process command) reply self.new (D.told disk.old) (D.told disk.new)) }
         ensures powered { OnOk result (IsPowered self.new (D.told disk.new) (D.status disk.new)) }
         ensures calls { OnOk result (DeviceCalls 4 (D.status disk.old) (D.status disk.new) (D.status disk.new).is_down) }
-        ensures untouched { IfOk result (λ reply. TouchesNothing self.old.now process command reply → (D.told disk.new ≡ D.told disk.old) × (D.status disk.new ≡ D.status disk.old)) }
+        ensures untouched { IfOk result (λ reply. TouchesNothing (decide self.old.now process command) reply → (D.told disk.new ≡ D.told disk.old) × (D.status disk.new ≡ D.status disk.old)) }
         ensures no_memory { OnErr result ((D.told disk.new ≡ D.told disk.old) × (D.status disk.new ≡ D.status disk.old)) }
     {
         self.events.clear();
