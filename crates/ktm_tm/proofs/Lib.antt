@@ -1,1 +1,2 @@
+pub mod LiveNumbers
 pub mod Numbers

@@ -37,7 +37,8 @@ place_of ts boot id place numbered given is =
     (ap (λ (b : ℕ). record id { boot = b }) (eqb-true _ _ parts.0) ∙ ap (λ (n : ℕ). record { boot = boot; number = n }) (omega (arith, is)))
     (omega (arith, is, leb-true _ _ numbers.1))
 
-absent_from : (ts : List Transaction) (boot before : ℕ) (id : Id) → AreNumbered boot before ts
+-- no transaction has an Id that differs from the Ids of all
+pub absent_from : (ts : List Transaction) (boot before : ℕ) (id : Id) → AreNumbered boot before ts
     → ((k : ℕ) → before < k → k ≤ before + length ts → same_id (record { boot = boot; number = k }) id ≡ false) → IsAbsent ts id
 absent_from [] boot before id numbered others = record { absent = refl; keeps = λ f. refl }
 absent_from (t ∷ ts) boot before id numbered others =

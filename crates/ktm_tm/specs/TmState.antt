@@ -1,11 +1,11 @@
 -- The transactions that the manager keeps.
-use Rattle.std.specs.Prelude.{◌≡◌, ℕ, ◌+◌, ◌<◌, ◌==◌, ◌&&◌, Bool, false, nat_le, List, [], ◌∷◌, ◌++◌, length, Some, None, slice_index_or, slice_set}
+use Rattle.std.specs.Prelude.{◌≡◌, ℕ, ◌+◌, ◌<◌, ◌==◌, ◌&&◌, Bool, false, nat_le, List, [], ◌∷◌, ◌++◌, filter, length, map, nat_lt, Option, Some, None, slice_index_or, slice_set, if◌then◌else◌}
 use Rattle.ktm_base.specs.declared.id.Id.{Id}
 use Rattle.ktm_types.specs.declared.object.Phase.TheVariants.{Active}
 use Rattle.ktm_types.specs.declared.object.Transaction.{Transaction}
 use Rattle.ktm_types.specs.declared.object.TransactionOutcome.TheVariants.{Undetermined}
 use Rattle.ktm_world.specs.Present.{Transactions}
-use Rattle.ktm_world.specs.Transactions.{transaction_at, change_at}
+use Rattle.ktm_world.specs.Transactions.{transaction_at, change_at, is_live}
 
 -- what the manager shows
 pub record TmState : Type 0 where
@@ -14,6 +14,26 @@ pub record TmState : Type 0 where
   pub now : Transactions
   -- how many transactions can be made with no more memory
   pub room : ℕ
+
+-- the numbers of the live ones
+abbrev pub live_numbers : List Transaction → List ℕ
+live_numbers ts = map (λ t. t.id.number) (filter is_live ts)
+
+-- each number is above this one, and above those before it
+abbrev pub IsRising : ℕ → List ℕ → Type 0
+IsRising before [] = Unit {0}
+IsRising before (n ∷ ns) = (before < n) × IsRising n ns
+
+-- the numbers, which rise, with this one among them or without it
+abbrev pub with_number : List ℕ → ℕ → Bool → List ℕ
+with_number [] number is_in = if is_in then number ∷ [] else []
+with_number (n ∷ ns) number is_in =
+    if nat_lt n number then n ∷ with_number ns number is_in else
+    (if n == number then (if is_in then n ∷ ns else ns) else (if is_in then number ∷ n ∷ ns else n ∷ ns))
+
+-- the transaction, unless it has ended
+abbrev pub if_live : Transaction → Option Transaction
+if_live t = if is_live t then Some t else None
 
 -- the transactions are of this boot, and their numbers follow one another, from the one behind this
 abbrev pub AreNumbered : ℕ → ℕ → List Transaction → Type 0

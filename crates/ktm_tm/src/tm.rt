@@ -1,9 +1,11 @@
 // The transactions of a boot.
-ghost use Rattle.std.specs.Prelude.{◌≡◌, ◌+◌, ◌-◌, ◌≤◌, MatchOption, OnOk, Some, false, [], length, vec_len, if◌then◌else◌};
-ghost use Rattle.ktm_world.specs.Transactions.{transaction_at, change_at, is_live};
-ghost use Rattle.ktm_world.specs.TransactionCalls.{no_transaction_left};
-ghost use Rattle.ktm_tm.specs.TmState.{next_id, with_new, is_given, IsPlace, IsAbsent};
+ghost use Rattle.std.specs.Prelude.{◌≡◌, ◌+◌, ◌-◌, ◌≤◌, ◌&&◌, MatchOption, OnOk, Some, false, [], count_by, filter, find, length, nat_le, option_and_then, slice_get};
+ghost use Rattle.ktm_world.specs.Transactions.{transaction_at, change_at, is_live, same_id};
+ghost use Rattle.ktm_world.specs.TransactionCalls.{is_due, later, never_times_out, no_transaction_left};
+ghost use Rattle.ktm_tm.specs.TmState.{if_live, next_id, with_new, is_given, IsPlace, IsAbsent};
 
+use crate::live::{if_live, is_live, put_number};
+use crate::refusals::may_roll_back;
 use ktm_base::{Id, NoMemory};
 use ktm_types::{Phase, Transaction, TransactionOutcome};
 use std::alloc::Global;
@@ -20,24 +22,23 @@ pub struct Tm {
     clock: u64,
     // By rising number, from 1 on; those that have ended too.
     items: Vec<Transaction>,
-    // How many have not ended.
-    live: usize,
+    // The numbers of those that have not ended, which rise. It has room for the numbers of all.
+    live: Vec<u32>,
 }
 
 impl Model for Tm {
-    ghost use Rattle.std.specs.Prelude.{◌≡◌, ◌-◌, [], length, count_by, vec_len, vec_capacity};
-    ghost use Rattle.ktm_world.specs.Transactions.{is_live};
-    ghost use Rattle.ktm_tm.specs.TmState.{TmState, AreNumbered};
+    ghost use Rattle.std.specs.Prelude.{◌≡◌, ◌-◌, ◌≤◌, [], length, min, vec_len, vec_capacity};
+    ghost use Rattle.ktm_tm.specs.TmState.{TmState, AreNumbered, live_numbers};
 
     ghost Value = { TmState };
 
     ghost view = { λ tm. record {
       boot = tm.boot;
       now = record { clock = tm.clock; last_transaction = length tm.items.items; last_manager = 0; last_enlistment = 0; items = tm.items.items; enlistments = [] };
-      room = vec_capacity tm.items - vec_len tm.items;
+      room = min (vec_capacity tm.items) (vec_capacity tm.live) - vec_len tm.items;
     } };
 
-    ghost invariant = { λ tm. AreNumbered tm.boot 0 tm.items.items × (tm.live ≡ count_by is_live tm.items.items) };
+    ghost invariant = { λ tm. AreNumbered tm.boot 0 tm.items.items × (tm.live.items ≡ live_numbers tm.items.items) × (vec_len tm.items ≤ vec_capacity tm.live) };
 }
 
 // Is it the Id of one of these transactions, which were made in this boot.
@@ -47,14 +48,18 @@ fn is_given(boot: u32, items: &[Transaction], id: Id) -> bool
     id.boot == boot && 1 <= id.number && id.number as usize <= items.len()
 }
 
-// How many live transactions this one counts for: one, until it has ended.
-fn live_share(t: &Transaction) -> usize
-    ensures { result ≡ if is_live t.now then 1 else 0 }
+// Is it one of the two timeouts that mean none.
+fn never_times_out(timeout: u32) -> bool
+    ensures { result ≡ never_times_out timeout }
 {
-    match t.phase {
-        Phase::Ended => 0,
-        _ => 1,
-    }
+    timeout == 0 || timeout == u32::MAX
+}
+
+// Is the clock at the time of creation and the timeout, or later.
+fn is_reached(created: u64, timeout: u32, clock: u64) -> bool
+    ensures { result ≡ nat_le (created + timeout) clock }
+{
+    created <= clock && timeout as u64 <= clock - created
 }
 
 impl Tm {
@@ -67,7 +72,7 @@ impl Tm {
             boot,
             clock: 0,
             items: Vec::new(alloc),
-            live: 0,
+            live: Vec::new(alloc),
         }
     }
 
@@ -99,11 +104,57 @@ impl Tm {
         }
     }
 
+    /// The transaction with this Id, if it has not ended.
+    pub fn find_live(&self, id: Id) -> Option<Transaction>
+        ensures found { result ≡ option_and_then if_live (transaction_at self.now.now.items id) }
+        ensures first { result ≡ find (λ t. is_live t && same_id t.id id) self.now.now.items }
+    {
+        match self.place(id) {
+            Some(place) => if_live(self.items[place]),
+            None => None,
+        }
+    }
+
+    /// The live transaction that stands at this place among them, in the order of creation.
+    pub fn live_at(&self, i: usize) -> Option<Transaction>
+        ensures { result ≡ slice_get (filter is_live self.now.now.items) i }
+    {
+        match self.live.get(i) {
+            Some(number) => Some(self.items[*number as usize - 1]),
+            None => None,
+        }
+    }
+
+    /// Has its timeout been reached, in a phase in which that rolls it back.
+    pub fn is_due(&self, t: &Transaction) -> bool
+        ensures { result ≡ is_due self.now.now.clock t.now }
+    {
+        !never_times_out(t.timeout)
+            && is_reached(t.created, t.timeout, self.clock)
+            && may_roll_back(t)
+    }
+
+    /// So many milliseconds pass. The clock stays at its greatest value.
+    pub fn advance(&mut self, ms: u64)
+        ensures boot { self.new.boot ≡ self.old.boot }
+        ensures now { self.new.now ≡ record self.old.now { clock = later self.old.now.clock ms } }
+        ensures room { self.new.room ≡ self.old.room }
+    {
+        self.clock = self.clock.saturating_add(ms);
+    }
+
+    // How many are live.
+    fn live_count(&self) -> usize
+        ensures { result ≡ count_by is_live self.now.now.items }
+    {
+        self.live.len()
+    }
+
     /// Would one transaction more pass the limit of 64 live ones, or the greatest number.
     pub fn is_full(&self) -> bool
         ensures { result ≡ no_transaction_left self.now.now }
     {
-        self.live >= MOST_LIVE || self.items.len() >= u32::MAX as usize
+        self.live_count() >= MOST_LIVE || self.items.len() >= u32::MAX as usize
     }
 
     /// Takes the memory that one transaction more needs.
@@ -113,6 +164,7 @@ impl Tm {
         ensures room { OnOk result (1 ≤ self.new.room) }
     {
         self.items.reserve(1)?;
+        self.live.reserve(self.items.len() - self.live.len() + 1)?;
         Ok(())
     }
 
@@ -146,7 +198,7 @@ impl Tm {
             outcome: TransactionOutcome::Undetermined,
             is_recorded: false,
         });
-        self.live += 1;
+        self.live.push_reserved(id.number);
         id
     }
 
@@ -159,8 +211,7 @@ impl Tm {
         let Some(place) = self.place(t.id) else {
             return;
         };
-        self.live -= live_share(&self.items[place]);
-        self.live += live_share(&t);
+        put_number(&mut self.live, t.id.number, is_live(&t));
         self.items[place] = t;
     }
 }

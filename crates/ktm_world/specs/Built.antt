@@ -3,7 +3,7 @@
 use Rattle.std.specs.Prelude.{◌≡◌, ℕ, Bool, true, false, List, [], Option, Some, None}
 use Rattle.std.specs.List.{list_all}
 use Rattle.ktm_types.specs.declared.command.Command.{Command}
-use Rattle.ktm_types.specs.declared.command.Command.TheVariants.{CreateTransaction, CommitTransaction, KvSet, KvUnset, KvGet, KvList}
+use Rattle.ktm_types.specs.declared.command.Command.TheVariants.{CreateTransaction, OpenTransaction, CommitTransaction, RollbackTransaction, GetTransactionInformation, KvSet, KvUnset, KvGet, KvList, CloseHandle, DuplicateHandle, Exit}
 use Rattle.ktm_types.specs.declared.command.Line.{Line}
 use Rattle.ktm_types.specs.declared.command.Line.TheVariants.{Tick, Cut, Crash, Restart, Process}
 use Rattle.ktm_types.specs.declared.event.Event.{Event}
@@ -16,16 +16,22 @@ use Rattle.ktm_world.specs.Logs.{Group}
 -- is the call built
 abbrev pub is_built_command : Command → Bool
 is_built_command (CreateTransaction label timeout) = true
+is_built_command (OpenTransaction label guid) = true
 is_built_command (CommitTransaction transaction) = true
+is_built_command (RollbackTransaction transaction) = true
+is_built_command (GetTransactionInformation transaction) = true
 is_built_command (KvSet transaction key value) = true
 is_built_command (KvUnset transaction key) = true
 is_built_command (KvGet view key) = true
 is_built_command (KvList view) = true
+is_built_command (CloseHandle label) = true
+is_built_command (DuplicateHandle label process source) = true
+is_built_command Exit = true
 is_built_command _ = false
 
 -- is the line built
 abbrev pub is_built : Line → Bool
-is_built (Tick ms) = false
+is_built (Tick ms) = true
 is_built (Cut calls) = true
 is_built Crash = true
 is_built (Restart pick) = true

@@ -9,11 +9,17 @@ fn is_built_command(command: &Command) -> bool
 {
     match command {
         Command::CreateTransaction { .. }
+        | Command::OpenTransaction { .. }
         | Command::CommitTransaction { .. }
+        | Command::RollbackTransaction { .. }
+        | Command::GetTransactionInformation { .. }
         | Command::KvSet { .. }
         | Command::KvUnset { .. }
         | Command::KvGet { .. }
-        | Command::KvList { .. } => true,
+        | Command::KvList { .. }
+        | Command::CloseHandle { .. }
+        | Command::DuplicateHandle { .. }
+        | Command::Exit => true,
         _ => false,
     }
 }
@@ -23,8 +29,7 @@ pub fn is_built(line: &Line) -> bool
     ensures { result ≡ is_built line.now }
 {
     match line {
-        Line::Cut(_) | Line::Crash | Line::Restart(_) => true,
+        Line::Tick(_) | Line::Cut(_) | Line::Crash | Line::Restart(_) => true,
         Line::Process(_, command) => is_built_command(command),
-        Line::Tick(_) => false,
     }
 }

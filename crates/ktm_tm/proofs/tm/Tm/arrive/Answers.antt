@@ -1,13 +1,26 @@
-use Rattle.std.proofs.Common.{sym, arith, subst, length-set, refl}
+use Rattle.std.proofs.Common.{◌∙◌, sym, arith, set, subst, length-set, refl}
 use Rattle.ktm_tm.specs.TmState.{IsPlace}
-use Rattle.ktm_tm.proofs.Numbers.{numbered_set, live_set, live_within}
+use Rattle.ktm_tm.proofs.Numbers.{numbered_set}
+use Rattle.ktm_tm.proofs.LiveNumbers.{arrived, live_within, rising}
 use Rattle.ktm_tm.proofs.tm.Tm.arrive.Goals as goal
+
+pub put_number-requires-clause-rising : goal.put_number-requires-clause-rising
+put_number-requires-clause-rising c = rw c.self.invariant.1 (rising c.self.inside.items.items c.self.inside.boot 0 c.self.invariant.0)
+
+pub put_number-requires-clause-room : goal.put_number-requires-clause-room
+put_number-requires-clause-room c =
+    let items = c.self.inside.items.items in
+    let place : IsPlace items c.args.t.id c.in-Some.place = subst (λ s. IsPlace s.now.items c.args.t.id c.in-Some.place) (sym c.self.view_is) c.in-Some.ensures in
+    rw (c.is_live.ensures, arrived items c.self.inside.boot c.in-Some.place c.args.t c.self.inside.live.items c.self.invariant.0 c.self.invariant.1 place)
+    (omega (arith, live_within (set items c.in-Some.place c.args.t), length-set items c.in-Some.place c.args.t, c.self.invariant.2))
 
 pub invariant_of-self : goal.invariant_of-self
 invariant_of-self c =
-    let place : IsPlace c.self.inside.items.items c.args.t.id c.in-Some.place = subst (λ s. IsPlace s.now.items c.args.t.id c.in-Some.place) (sym c.self.view_is) c.in-Some.ensures in (
+    let items = c.self.inside.items.items in
+    let place : IsPlace items c.args.t.id c.in-Some.place = subst (λ s. IsPlace s.now.items c.args.t.id c.in-Some.place) (sym c.self.view_is) c.in-Some.ensures in (
       numbered_set _ _ 0 _ _ c.self.invariant.0 place.within (place.named _),
-      omega (arith, live_set c.self.inside.items.items c.in-Some.place c.args.t c.index.result.now place.within c.index.ensures, live_within c.self.inside.items.items c.in-Some.place c.index.result.now place.within c.index.ensures, c.live_share.ensures, c.live_share-2.ensures, c.self.invariant.1),
+      c.put_number.ensures.items ∙ rw c.is_live.ensures (arrived items c.self.inside.boot c.in-Some.place c.args.t c.self.inside.live.items c.self.invariant.0 c.self.invariant.1 place),
+      rw c.put_number.ensures.capacity c.self.invariant.2,
     )
 
 pub returns-clause-now : goal.returns-clause-now
