@@ -106,7 +106,7 @@ module _ (j : JournalState) (h : Held) (o : Outcome) (reply : Reply) (then : Set
   -- the group was recorded, where there is one, and memory has settled
   pub done : (k : JournalState) (m : MemoryState) (before now : Option DiskState)
       → j.units ≤ 1024 → j.log.area ≡ log_area j.units → 5 * j.events ≤ j.log.end
-      → ((group : Group) → Holds events group → k ≡ appended j group) → held m ≡ settled (held n) then
+      → ((group : Group) → Holds events group → k ≡ appended j group) → ((i : JournalState) → now_of i (held m) ≡ settled (now_of i (held n)) then)
       → ((group : Group) → Holds events group → is_full (j.log.area.len - j.log.end) group ≡ false)
       → ((log : List Group) (group : Group) → Holds events group → Tells before (JournalAt j log) → Tells now (JournalAt k (log ++ as_groups group)))
       → IsDone (record { now = x; journal = j }) (within_log x o) reply (record { now = now_of k (held m); journal = k }) before now
@@ -115,7 +115,7 @@ module _ (j : JournalState) (h : Held) (o : Outcome) (reply : Reply) (then : Set
       let grown = grows o.events decided.records in
       record {
         says = decided.says ∙ ap (λ (d : Outcome). d.reply) (sym same);
-        state = ap (λ i. now_of i (held m)) grown ∙ ap (now_of (appended j o.events)) settles ∙ decided.comes_to ∙ ap (apply x) (sym same);
+        state = ap (λ i. now_of i (held m)) grown ∙ settles (appended j o.events) ∙ decided.comes_to ∙ ap (apply x) (sym same);
         few = few_events most area counted (room o.events decided.records);
         units = ap (λ (i : JournalState). i.units) grown;
         image = ap (λ (i : JournalState). i.image) grown;

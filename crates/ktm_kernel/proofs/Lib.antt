@@ -1,5 +1,9 @@
 pub mod Routes
+pub mod Opens
 pub mod Decides
+pub mod Closings
+pub mod Ticks
+pub mod Settles
 pub mod Possible
 pub mod Left
 pub mod Worlds

@@ -31,7 +31,7 @@ use Rattle.ktm_built.proofs.Decided.{decided_law}
 use Rattle.ktm_built.proofs.Now.{events_law, now_law}
 use Rattle.ktm_built.proofs.Worlds.{lawful_law, fallen_law, lie_within, down_refuses}
 use Rattle.ktm_kernel.specs.Stands.{KernelState, Began, Stands, HasFallen, StandsBy, KernelAt, LeavesPossible, DoesLine}
-use Rattle.ktm_kernel.specs.Done.{FewEvents, IsDone, IsCutOff, Ends, LeavesWithOr, fallen}
+use Rattle.ktm_kernel.specs.Done.{FewEvents, IsDone, IsCutOff, Ends, fallen}
 use Rattle.ktm_kernel.proofs.Left.{both_apply, both_built, log_is_possible, left_up}
 use Rattle.ktm_kernel.proofs.Possible.{log_possible, groups_possible}
 
