@@ -17,3 +17,4 @@ pub mod Now
 pub mod Worlds
 pub mod Told
 pub mod Tellings
+pub mod Guids

@@ -12,7 +12,7 @@ use Rattle.ktm_built.specs.Standing.{AreDistinct}
 use Rattle.ktm_built.proofs.Distinct.{AreFound, distinct_found, found-once_ended}
 
 -- one after another, where each is found as it was
-in_turn : (x : Present) (ts : List Transaction) → AreDistinct ts → AreFound x.transactions.items ts
+pub in_turn : (x : Present) (ts : List Transaction) → AreDistinct ts → AreFound x.transactions.items ts
     → fold (λ y t. with_rollback_if_due y (transaction_at y.transactions.items t.id)) x ts ≡ fold with_rollback x (filter (is_due x.transactions.clock) ts)
 in_turn x [] distinct found = refl
 in_turn x (t ∷ ts) distinct found =

@@ -1,8 +1,10 @@
 -- Laws of worlds that have only what built forms make.
-use Rattle.std.specs.Prelude.{◌≡◌, ℕ, ◌+◌, ◌-◌, ◌^◌, ◌==◌, ◌<◌, ◌&&◌, nat_lt, nat_le, true, false, List, [], length, filter, fold, All, Contains, Option, Some, None}
+use Rattle.std.specs.Prelude.{◌≡◌, ℕ, ◌+◌, ◌-◌, ◌^◌, ◌==◌, ◌<◌, ◌&&◌, nat_lt, nat_le, true, false, List, [], length, filter, find, fold, All, Contains, IfSome, Option, Some, None, option_and_then}
 use Rattle.std.specs.List.{list_all}
 use Rattle.ktm_base.specs.declared.id.Id.{Id}
+use Rattle.ktm_base.specs.Guid.{IsId, guid_of}
 use Rattle.ktm_base.specs.declared.id.Label.{Label}
+use Rattle.ktm_base.specs.declared.id.ObjectKind.{ObjectKind}
 use Rattle.ktm_base.specs.declared.id.Pid.{Pid}
 use Rattle.ktm_base.specs.declared.refusal.Refusal.{Refusal}
 use Rattle.ktm_base.specs.declared.refusal.Refusal.TheVariants.{MachineDown}
@@ -28,7 +30,7 @@ use Rattle.ktm_world.specs.OneOutcome.{HasOneOutcome, tellings}
 use Rattle.ktm_world.specs.Outcome.{apply, only_reply}
 use Rattle.ktm_world.specs.Present.{Present}
 use Rattle.ktm_types.specs.Sizes.{frame_size, log_size}
-use Rattle.ktm_world.specs.Transactions.{transaction_at}
+use Rattle.ktm_world.specs.Transactions.{same_id, transaction_at, is_live}
 use Rattle.ktm_world.specs.TransactionCalls.{create_transaction, commit_transaction, rollback_transaction, get_transaction_information, information_of, open_transaction, transaction_with, later, is_due, with_clock, tick}
 use Rattle.ktm_world.specs.Transcript.{Step, Transcript}
 use Rattle.ktm_types.specs.Values.{IsCommand}
@@ -84,6 +86,16 @@ TimeoutLaw = (x : Present) (ms : ℕ) → IsSoundNow x
 -- the transaction that a label names is the one with its Id
 abbrev pub NamedLaw : Type 0
 NamedLaw = (x : Present) (process : Pid) (label : Label) (t : Transaction) → transaction_named x process label ≡ Some t → transaction_at x.transactions.items t.id ≡ Some t
+
+-- what a GUID leads to: the Id of the system that has it as an object of the kind, if one has
+pub record LeadsTo (kind : ObjectKind) (image : ℕ) (guid : List ℕ) (found : Option Id) : Type 0 where
+  pub has : IfSome found (λ id. guid_of kind image id ≡ guid)
+  pub every : (id : Id) → IsId id → guid_of kind image id ≡ guid → found ≡ Some id
+
+-- the live transaction with a GUID is the live one with the Id that the GUID leads to, and none where it leads to none
+abbrev pub GuidLaw : Type 0
+GuidLaw = (x : Present) (guid : List ℕ) (found : Option Id) → IsStandingNow x → x.recorded.boots < 2 ^ 32 → LeadsTo ObjectKind.Transaction x.recorded.image guid found
+    → transaction_with x guid ≡ option_and_then (λ id. find (λ t. is_live t && same_id t.id id) x.transactions.items) found
 
 -- a refused command only replies; a command whose effect records nothing finds the log with room; an outcome that stops the machine
 -- records nothing; a machine that is up answers no built command that it is down; and time passes where the machine is up, and only there

@@ -1,5 +1,5 @@
 // Laws of worlds that have only what built forms make, each the contract of a function that does nothing.
-ghost use Rattle.ktm_built.specs.Laws.{StateLaw, FormsLaw, TimeoutLaw, NamedLaw, DecidedLaw, EventsLaw, NowLaw, LawfulLaw, OpenedLaw, FreshLaw, FallenLaw, OutcomeLaw};
+ghost use Rattle.ktm_built.specs.Laws.{StateLaw, FormsLaw, TimeoutLaw, NamedLaw, GuidLaw, DecidedLaw, EventsLaw, NowLaw, LawfulLaw, OpenedLaw, FreshLaw, FallenLaw, OutcomeLaw};
 
 /// What a built state takes, and what built events make of it.
 pub fn law_of_states()
@@ -19,6 +19,11 @@ pub fn law_of_timeouts()
 /// A label names a transaction by its Id.
 pub fn law_of_named()
     ensures { NamedLaw }
+{}
+
+/// A GUID leads to a live transaction by its Id.
+pub fn law_of_guids()
+    ensures { GuidLaw }
 {}
 
 /// What holds of every outcome of a command.
