@@ -1,5 +1,4 @@
 pub mod Routes
-pub mod Opens
 pub mod Decides
 pub mod Closings
 pub mod Ticks

@@ -6,13 +6,13 @@ use Rattle.ktm_base.specs.declared.id.Id.{Id}
 use Rattle.ktm_types.specs.declared.object.Phase.{Phase}
 use Rattle.ktm_types.specs.declared.object.Phase.TheVariants.{Ended}
 use Rattle.ktm_types.specs.declared.object.Transaction.{Transaction}
-use Rattle.ktm_types.specs.declared.object.TransactionOutcome.{TransactionOutcome}
 use Rattle.ktm_world.specs.Present.{Present}
 use Rattle.ktm_world.specs.Transactions.{same_id, transaction_at, change_at, is_live}
 use Rattle.ktm_world.specs.TransactionCalls.{is_due, later, may_roll_back, with_clock}
-use Rattle.ktm_built.specs.Forms.{ended_aborted, with_rollback, with_rollback_if_due, with_tick}
+use Rattle.ktm_built.specs.Forms.{ended_aborted, with_rollback, with_tick}
 use Rattle.ktm_built.specs.Standing.{AreDistinct}
-use Rattle.ktm_built.proofs.Distinct.{AreFound, distinct_found, found-once_ended}
+use Rattle.ktm_built.proofs.Distinct.{distinct_found}
+use Rattle.ktm_built.proofs.Timeouts.{in_turn}
 use Rattle.ktm_built.proofs.Ids.{same_id-self, same_id-turned}
 
 -- ---- which are due
@@ -34,19 +34,6 @@ due_live clock (t ∷ ts) = elim (cases_Bool (is_live t)) [
   | inl live ↦ rw live (elim (cases_Bool (is_due clock t)) [ inl due ↦ rw due (ap (λ (l : List Transaction). t ∷ l) (due_live clock ts)) | inr later ↦ rw later (due_live clock ts) ])
   | inr ended ↦ (let not_due = ended_not_due clock t ended in rw ended (rw not_due (due_live clock ts)))
 ]
-
--- one after another, where each is found as it was
-in_turn : (x : Present) (ts : List Transaction) → AreDistinct ts → AreFound x.transactions.items ts
-    → fold (λ y t. with_rollback_if_due y (transaction_at y.transactions.items t.id)) x ts ≡ fold with_rollback x (filter (is_due x.transactions.clock) ts)
-in_turn x [] distinct found = refl
-in_turn x (t ∷ ts) distinct found =
-    ap (λ y. fold (λ y t. with_rollback_if_due y (transaction_at y.transactions.items t.id)) y ts) (ap (with_rollback_if_due x) found.0)
-    ∙ elim (cases_Bool (is_due x.transactions.clock t)) [
-      | inl due ↦
-          (let then = in_turn (with_rollback x t) ts distinct.1 (found-once_ended TransactionOutcome.Aborted x.transactions.items ts t.id distinct.0 found.1) in
-          rw due then)
-      | inr later ↦ (let then = in_turn x ts distinct.1 found.1 in rw later then)
-    ]
 
 -- ---- the live one at a place
 
