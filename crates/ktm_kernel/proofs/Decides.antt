@@ -1,6 +1,6 @@
 -- Decisions of the layers.
-use Rattle.std.proofs.Common.{◌≡◌, ℕ, ◌+◌, ◌^◌, ◌<◌, ◌≤◌, ◌||◌, true, false, cond, eqb, List, [], ◌∷◌, length, Option, Some, None, IfSome, Result, Ok, Err, IfOk, refl, sym, ◌∙◌, ap, subst, arith, inl, inr}
-use Rattle.std.proofs.lemmas.Bool.{cases_Bool, or_from, eqb-true}
+use Rattle.std.proofs.Common.{◌≡◌, ℕ, ◌+◌, ◌^◌, ◌<◌, ◌≤◌, true, false, eqb, List, [], ◌∷◌, length, Option, Some, None, is_some, IfSome, Result, Ok, Err, IfOk, refl, sym, ◌∙◌, ap, subst, arith}
+use Rattle.std.proofs.lemmas.Bool.{eqb-true}
 use Rattle.std.proofs.lemmas.List.Elements.{All-weaker}
 use Rattle.std.proofs.lemmas.List.Sums.{sum_by-le}
 use Rattle.std.specs.Prelude.{All}
@@ -9,8 +9,6 @@ use Rattle.ktm_base.specs.declared.id.Label.{Label}
 use Rattle.ktm_base.specs.declared.id.ObjectKind.{ObjectKind}
 use Rattle.ktm_base.specs.declared.id.Pid.{Pid}
 use Rattle.ktm_base.specs.Guid.{guid_of}
-use Rattle.ktm_base.specs.declared.refusal.Refusal.{Refusal}
-use Rattle.ktm_base.specs.declared.refusal.Refusal.TheVariants.{NotEnoughQuota}
 use Rattle.ktm_event.specs.Kept.{EventsState, Holds}
 use Rattle.ktm_event.specs.Spelling.{IsSpellableId, IsSpellableSetting, AreSpellableSettings}
 use Rattle.ktm_journal.specs.Image.{JournalState, area_len}
@@ -18,30 +16,36 @@ use Rattle.ktm_tm.specs.TmState.{next_id}
 use Rattle.ktm_types.specs.declared.event.Event.{Event}
 use Rattle.ktm_types.specs.declared.event.Event.TheVariants.{Single}
 use Rattle.ktm_types.specs.declared.event.Part.TheVariants.{Settings}
+use Rattle.ktm_types.specs.declared.object.Object.{Object}
 use Rattle.ktm_types.specs.declared.object.Transaction.{Transaction}
 use Rattle.ktm_types.specs.declared.reply.Reply.{Reply}
-use Rattle.ktm_types.specs.declared.reply.Reply.TheVariants.{Committed, Guid, Refused}
+use Rattle.ktm_types.specs.declared.reply.Reply.TheVariants.{Committed, Done, Guid}
 use Rattle.ktm_world.specs.Decide.{of_keys}
 use Rattle.ktm_world.specs.FileUses.{file_changes_waiting}
 use Rattle.ktm_world.specs.KeyCalls.{KeyOutcome}
-use Rattle.ktm_world.specs.Handles.{no_handle_left}
+use Rattle.ktm_world.specs.HandleCalls.{duplicate_handle}
+use Rattle.ktm_world.specs.Handles.{object_at}
+use Rattle.ktm_world.specs.Labels.{with_handle}
 use Rattle.ktm_world.specs.Keys.{OwnSettings, own_settings}
-use Rattle.ktm_world.specs.Outcome.{Outcome, only_reply, refuse_or}
+use Rattle.ktm_world.specs.Outcome.{Outcome, only_reply}
 use Rattle.ktm_world.specs.Present.{Present}
 use Rattle.ktm_types.specs.Sizes.{event_size, setting_size}
-use Rattle.ktm_world.specs.Transactions.{change_at, same_id, transaction_at}
-use Rattle.ktm_world.specs.TransactionCalls.{commit_transaction, create_transaction, no_transaction_left}
+use Rattle.ktm_world.specs.Transactions.{transaction_at}
+use Rattle.ktm_world.specs.TransactionCalls.{commit_transaction, create_transaction, get_transaction_information, information_of, opened_object, tick}
 use Rattle.ktm_world.specs.Uses.{key_room}
-use Rattle.ktm_built.specs.Forms.{commit_events, commit_outcome, ended_committed, with_commit}
+use Rattle.ktm_built.specs.Forms.{ComesTo, commit_events, commit_outcome, with_bound, with_tick, with_transaction}
 use Rattle.ktm_built.specs.Spelling.{IsShortSetting}
 use Rattle.ktm_built.specs.Standing.{IsBuiltNow, IsStandingNow}
 use Rattle.ktm_built.proofs.Forms.{forms_law}
 use Rattle.ktm_built.proofs.Now.{events_law}
-use Rattle.ktm_kernel.specs.declared.settlement.Settlement.TheVariants.{Nothing, Create, Commit}
-use Rattle.ktm_kernel.specs.declared.route.Routed.TheVariants.{Create as Begin}
-use Rattle.ktm_kernel.specs.Route.{outcome_of}
+use Rattle.ktm_kernel.specs.declared.settlement.Settlement.{Settlement}
+use Rattle.ktm_kernel.specs.declared.settlement.Settlement.TheVariants.{Nothing, Create, Commit, Tick}
+use Rattle.ktm_built.proofs.Limits.{within_limits}
+use Rattle.ktm_kernel.specs.declared.decide.Asked.{Asked}
+use Rattle.ktm_kernel.specs.Route.{asked_outcome}
+use Rattle.ktm_kernel.proofs.Routes.{up_or}
 use Rattle.ktm_kernel.specs.Decided.{Decides}
-use Rattle.ktm_kernel.specs.Memory.{Held, MemoryState, MaySettle, appended, held, now_of, settled}
+use Rattle.ktm_kernel.specs.Memory.{Held, MemoryState, MaySettle, appended, held, now_of, settled, with_bound_to}
 
 pub IfOk-map : {T E : Type 0} (r : Result T E) (P Q : T → Type 0) → ((x : T) → P x → Q x) → IfOk r P → IfOk r Q
 IfOk-map (Ok x) P Q f p = f x p
@@ -53,18 +57,28 @@ nothing_appended j h =
     ap (λ (n : ℕ). now_of (record j { events = n; log = record j.log { end = j.log.end + 0 } }) h) (omega arith)
     ∙ ap (λ (n : ℕ). now_of (record j { log = record j.log { end = n } }) h) (omega arith)
 
--- ---- refusals
+-- ---- what records nothing
 
-pub refused : (j : JournalState) (m : MemoryState) (o : Outcome) (refusal : Refusal) (events : EventsState) → IsBuiltNow (now_of j (held m)) → o ≡ only_reply (now_of j (held m)) (Refused refusal) → Holds events []
-    → Decides j (held m) o (Refused refusal) Nothing events m
-refused j m o refusal events built is holds = subst (λ o. Decides j (held m) o (Refused refusal) Nothing events m) (sym is) (record {
-  says = refl;
-  records = holds;
-  comes_to = nothing_appended j (held m) ∙ sym (forms_law.0 (now_of j (held m)) (Refused refusal) built);
-  may = tt;
-  waits = λ some. absurd (some refl);
-  answers = λ some. absurd (some refl);
-})
+-- what is left to do comes to what the outcome comes to
+pub quiet_decided : (j : JournalState) (h : Held) (n : MemoryState) (o : Outcome) (reply : Reply) (y : Present) (then : Settlement) (events : EventsState) → ComesTo (now_of j h) o reply y
+    → settled (now_of j h) then ≡ y → held n ≡ h → MaySettle n then → Holds events [] → Decides j h o reply then events n
+quiet_decided j h n o reply y then events comes is same may holds = record {
+  says = sym comes.replies;
+  records = subst (Holds events) (sym comes.records) holds;
+  comes_to = ap (λ (es : List Event). settled (now_of (appended j es) (held n)) then) comes.records ∙ ap (λ x. settled x then) (nothing_appended j (held n) ∙ ap (now_of j) same) ∙ is ∙ sym comes.leaves;
+  may = may;
+  waits = λ some. absurd (some comes.records);
+  answers = λ some. absurd (some comes.records);
+}
+
+only_comes : (x : Present) (reply : Reply) → IsBuiltNow x → ComesTo x (only_reply x reply) reply x
+only_comes x reply built = record { replies = refl; records = refl; commits = refl; goes_on = refl; leaves = forms_law.0 x reply built }
+
+-- a reply, and nothing left to do
+pub only_decided : (j : JournalState) (m : MemoryState) (o : Outcome) (reply : Reply) (events : EventsState) → IsBuiltNow (now_of j (held m)) → o ≡ only_reply (now_of j (held m)) reply → Holds events []
+    → Decides j (held m) o reply Nothing events m
+only_decided j m o reply events built is holds =
+    subst (λ o. Decides j (held m) o reply Nothing events m) (sym is) (quiet_decided j (held m) m (only_reply (now_of j (held m)) reply) reply (now_of j (held m)) Nothing events (only_comes (now_of j (held m)) reply built) refl refl tt holds)
 
 -- ---- calls on keys
 
@@ -85,23 +99,38 @@ keys_decided j h n o reply events built says same holds = record {
   answers = λ some. absurd (some refl);
 }
 
+-- ---- GetTransactionInformation
+
+pub information_is : (x : Present) (t : Transaction) (reply : Reply) → reply ≡ information_of x (Some t) → get_transaction_information x (Some t) ≡ only_reply x reply
+unfolding get_transaction_information
+information_is x t reply is = ap (only_reply x) (sym is)
+
+-- ---- time
+
+-- what is to be for the passing of time
+pub tick_decided : (j : JournalState) (m : MemoryState) (ms : ℕ) (events : EventsState) → m.is_up ≡ true → IsStandingNow (now_of j (held m)) → Holds events []
+    → Decides j (held m) (asked_outcome (now_of j (held m)) (Asked.Tick ms)) Done (Tick ms) events m
+tick_decided j m ms events up standing holds =
+    let x = now_of j (held m) in
+    subst (λ o. Decides j (held m) o Done (Tick ms) events m) (sym (up_or x [] (tick x ms) up))
+    (quiet_decided j (held m) m (tick x ms) Done (with_tick x ms) (Tick ms) events (forms_law.10 x ms standing.built) refl refl
+    (standing.sound.distinct, (within_limits x standing.built standing.sound.units_from standing.limits).live) holds)
+
 -- ---- CreateTransaction
+
+pub create_comes : (x : Present) (process : Pid) (label : Label) (timeout : ℕ) → IsBuiltNow x
+    → ComesTo x (create_transaction x process label timeout) (create_transaction x process label timeout).reply (with_transaction x process label timeout)
+unfolding create_transaction
+create_comes x process label timeout built = record { replies = refl; records = refl; commits = refl; goes_on = refl; leaves = forms_law.1 x process label timeout built }
 
 pub create_decided : (j : JournalState) (h : Held) (n : MemoryState) (process : Pid) (label : Label) (timeout : ℕ) (reply : Reply) (events : EventsState) → IsBuiltNow (now_of j h)
     → reply ≡ (create_transaction (now_of j h) process label timeout).reply → held n ≡ h → MaySettle n (Create process label timeout) → Holds events []
     → (o : Outcome) → o ≡ create_transaction (now_of j h) process label timeout → Decides j h o reply (Create process label timeout) events n
-unfolding create_transaction
-create_decided j h n process label timeout reply events built says same may holds o is = subst (λ o. Decides j h o reply (Create process label timeout) events n) (sym is) (record {
-  says = says;
-  records = holds;
-  comes_to =
-      nothing_appended j (settled (held n) (Create process label timeout))
-      ∙ ap (λ g. now_of j (settled g (Create process label timeout))) same
-      ∙ sym (forms_law.1 (now_of j h) process label timeout built);
-  may = may;
-  waits = λ some. absurd (some refl);
-  answers = λ some. absurd (some refl);
-})
+create_decided j h n process label timeout reply events built says same may holds o is =
+    let made = create_transaction (now_of j h) process label timeout in
+    subst (λ o. Decides j h o reply (Create process label timeout) events n) (sym is)
+    (subst (λ r. Decides j h made r (Create process label timeout) events n) (sym says)
+    (quiet_decided j h n made made.reply (with_transaction (now_of j h) process label timeout) (Create process label timeout) events (create_comes (now_of j h) process label timeout built) refl same may holds))
 
 -- the reply tells the GUID of that Id
 pub create_says : (j : JournalState) (h : Held) (process : Pid) (label : Label) (timeout : ℕ) (guid : List ℕ) (image : ℕ) (id : Id)
@@ -109,41 +138,41 @@ pub create_says : (j : JournalState) (h : Held) (process : Pid) (label : Label) 
 unfolding create_transaction
 create_says j h process label timeout guid image id is image_is id_is = rw (is, image_is, id_is) refl
 
--- a quota is passed, or not
-pub quota_passed : (x : Present) (process : Pid) (label : Label) (timeout : ℕ) → (no_handle_left x.handles || no_transaction_left x.transactions) ≡ true
-    → outcome_of x process (Begin label timeout) ≡ only_reply x (Refused NotEnoughQuota)
-quota_passed x process label timeout passed = ap (λ b. refuse_or x (cond b (Some NotEnoughQuota) None) (create_transaction x process label timeout)) passed
+-- ---- labels
 
-pub quota_left : (x : Present) (process : Pid) (label : Label) (timeout : ℕ) → no_handle_left x.handles ≡ false → no_transaction_left x.transactions ≡ false
-    → outcome_of x process (Begin label timeout) ≡ create_transaction x process label timeout
-quota_left x process label timeout handles transactions = ap (λ b. refuse_or x (cond b (Some NotEnoughQuota) None) (create_transaction x process label timeout)) (or_from _ _ handles transactions)
+-- a label bound to an object
+pub bound_comes : (x : Present) (process : Pid) (label : Label) (object : Object) → IsBuiltNow x → ComesTo x (opened_object x process label object) Done (with_bound x process label object)
+bound_comes x process label object built = record {
+  replies = refl;
+  records = refl;
+  commits = refl;
+  goes_on = refl;
+  leaves = ap (λ (y : Present). record y { handles = with_handle x.handles process label object }) (forms_law.0 x Done built);
+}
+
+-- a label bound to what another one names
+pub duplicated_comes : (x : Present) (process : Pid) (label : Label) (from : Pid) (source : Label) → IsBuiltNow x → is_some (object_at x.handles from source) ≡ true
+    → ComesTo x (duplicate_handle x process label from source) Done (with_bound_to x process label (object_at x.handles from source))
+duplicated_comes x process label from source built there = go (object_at x.handles from source) refl there
+  where
+    go : (named : Option Object) → object_at x.handles from source ≡ named → is_some named ≡ true → ComesTo x (duplicate_handle x process label from source) Done (with_bound_to x process label named)
+    go None is there = absurd (cc)
+    go (Some object) is there = forms_law.9 x process label from source object built is
 
 -- ---- CommitTransaction
 
--- the one with its Id is changed as it is, once it is found
-changed_as_found : (ts : List Transaction) (t : Transaction) (f : Transaction → Transaction) → transaction_at ts t.id ≡ Some t → change_at ts t.id (λ other. f t) ≡ change_at ts t.id f
-changed_as_found [] t f is = refl
-changed_as_found (x ∷ xs) t f is = elim (cases_Bool (same_id x.id t.id)) [
-  | inl same ↦ (let it : Some x ≡ Some t = rw same at is in rw same (ap (λ (y : Transaction). f y ∷ xs) (some_same it)))
-  | inr other ↦ rw other (ap (λ (l : List Transaction). x ∷ l) (changed_as_found xs t f (rw other at is)))
-]
-  where
-    some_same : {a b : Transaction} → Some a ≡ Some b → b ≡ a
-    some_same e = cc
-
 pub commit_decided : (j : JournalState) (h : Held) (n : MemoryState) (t : Transaction) (events : EventsState) → IsBuiltNow (now_of j h) → transaction_at h.transactions.items t.id ≡ Some t
     → held n ≡ h → length (own_settings n.keys.keys.own t.id) ≤ n.keys.room → Holds events (commit_events t.id (own_settings h.keys.own t.id))
-    → Decides j h (commit_transaction (now_of j h) (Some t)) Committed (Commit (ended_committed t)) events n
+    → Decides j h (commit_transaction (now_of j h) (Some t)) Committed (Commit t) events n
 commit_decided j h n t events built there same may holds = record {
   says = ap (λ (o : Outcome). o.reply) (sym is);
   records = subst (λ (es : List Event). Holds events es) (ap (λ (o : Outcome). o.events) (sym is)) holds;
   comes_to =
-      ap (λ (es : List Event). now_of (appended j es) (settled (held n) (Commit (ended_committed t)))) (ap (λ (o : Outcome). o.events) is)
-      ∙ ap (λ g. now_of (appended j events_then) (settled g (Commit (ended_committed t)))) same
-      ∙ ap (λ (left : ℕ). record (now_of (appended j events_then) (settled h (Commit (ended_committed t)))) { machine = record { is_up = h.is_up; left = left } }) (omega arith)
-      ∙ ap (λ (ts : List Transaction). record (with_commit x t) { transactions = record x.transactions { items = ts } }) (changed_as_found x.transactions.items t ended_committed there)
+      ap (λ (es : List Event). settled (now_of (appended j es) (held n)) (Commit t)) (ap (λ (o : Outcome). o.events) is)
+      ∙ ap (λ g. settled (now_of (appended j events_then) g) (Commit t)) same
+      ∙ ap (λ (left : ℕ). record (settled (now_of (appended j events_then) h) (Commit t)) { machine = record { is_up = h.is_up; left = left } }) (omega arith)
       ∙ sym (forms_law.3 x t built there);
-  may = may;
+  may = (may, subst (λ g. transaction_at g.transactions.items t.id ≡ Some t) (sym same) there);
   waits = λ some. same;
   answers = λ some refusal e. absurd (cc);
 }

@@ -1,11 +1,10 @@
--- How a call ends: recorded, refused by a full log, or cut off.
+-- How an outcome ends: recorded, refused by a full log, or cut off.
 use Rattle.std.proofs.Common.{◌≡◌, ◌≢◌, ◌⊎◌, ℕ, ◌+◌, ◌-◌, ◌*◌, ◌^◌, ◌<◌, ◌≤◌, ◌&&◌, Bool, true, false, cond, List, [], ◌∷◌, ◌++◌, length, Option, Result, Ok, Err, refl, sym, ◌∙◌, ap, subst, arith, inl, inr}
 use Rattle.std.proofs.Math.Bool.{and-false}
 use Rattle.std.proofs.lemmas.Bool.{ltb-false, cases_eq, both_ways}
 use Rattle.std.proofs.lemmas.List.{append-nil}
 use Rattle.std.proofs.lemmas.List.Sums.{sum_by-cons}
 use Rattle.std.specs.Prelude.{IsTrue, sum_by}
-use Rattle.ktm_base.specs.declared.id.Pid.{Pid}
 use Rattle.ktm_base.specs.declared.refusal.Refusal.TheVariants.{LogFull, MachineDown}
 use Rattle.ktm_base.specs.Disk.{DiskState}
 use Rattle.ktm_base.specs.Told.{Tells}
@@ -16,30 +15,29 @@ use Rattle.ktm_log.specs.declared.area.Area.{Area}
 use Rattle.ktm_log.specs.declared.fault.AppendFault.{AppendFault}
 use Rattle.ktm_log.specs.declared.fault.AppendFault.TheVariants.{Down, Full}
 use Rattle.ktm_log.specs.Fault.{IfAppendDown}
-use Rattle.ktm_types.specs.declared.command.Command.{Command}
 use Rattle.ktm_types.specs.declared.event.Event.{Event}
 use Rattle.ktm_types.specs.declared.reply.Reply.{Reply}
 use Rattle.ktm_types.specs.declared.reply.Reply.TheVariants.{Refused}
-use Rattle.ktm_world.specs.Decide.{decide, with_room}
 use Rattle.ktm_world.specs.Logs.{Group, as_groups}
-use Rattle.ktm_world.specs.Outcome.{Outcome, apply, is_full, only_reply}
+use Rattle.ktm_world.specs.Outcome.{Outcome, apply, is_full, only_reply, within_log}
 use Rattle.ktm_world.specs.Present.{Present}
 use Rattle.ktm_types.specs.Sizes.{event_size, frame_size, log_size}
 use Rattle.ktm_built.specs.Standing.{IsBuiltNow}
 use Rattle.ktm_built.proofs.Forms.{forms_law}
 use Rattle.ktm_kernel.specs.declared.settlement.Settlement.{Settlement}
 use Rattle.ktm_kernel.specs.Decided.{Decides}
-use Rattle.ktm_kernel.specs.Done.{FewEvents, IsDone, IsCutOff, LeavesWithOr, TouchesNothing, fallen}
+use Rattle.ktm_kernel.specs.Done.{Ends, FewEvents, IsDone, IsCutOff, LeavesWithOr, TouchesNothing, fallen}
+use Rattle.ktm_kernel.specs.Stands.{KernelState}
 use Rattle.ktm_kernel.specs.Memory.{Held, IsRoomy, MemoryState, appended, held, now_of, settled}
 
 -- ---- whether the log has room
 
 -- where it has, the outcome is as it is with room
-pub with_room_done : (x : Present) (process : Pid) (command : Command) → is_full x.machine.left (with_room x process command).events ≡ false → decide x process command ≡ with_room x process command
-with_room_done x process command room = ap (λ b. cond b (record (only_reply x (Refused LogFull)) { stops = true }) (with_room x process command)) room
+pub with_room_done : (x : Present) (o : Outcome) → is_full x.machine.left o.events ≡ false → within_log x o ≡ o
+with_room_done x o room = ap (λ b. cond b (record (only_reply x (Refused LogFull)) { stops = true }) o) room
 
-with_full_log : (x : Present) (process : Pid) (command : Command) → is_full x.machine.left (with_room x process command).events ≡ true → decide x process command ≡ record (only_reply x (Refused LogFull)) { stops = true }
-with_full_log x process command full = ap (λ b. cond b (record (only_reply x (Refused LogFull)) { stops = true }) (with_room x process command)) full
+with_full_log : (x : Present) (o : Outcome) → is_full x.machine.left o.events ≡ true → within_log x o ≡ record (only_reply x (Refused LogFull)) { stops = true }
+with_full_log x o full = ap (λ b. cond b (record (only_reply x (Refused LogFull)) { stops = true }) o) full
 
 -- each event has five bytes at least
 all_sized : (es : List Event) → 5 * length es ≤ sum_by event_size es
@@ -92,31 +90,32 @@ some_full : (left : ℕ) (es : List Event) → is_full left es ≡ true → es �
 some_full left [] full is = absurd (cc)
 some_full left (e ∷ es) full is = cc
 
-module _ (j : JournalState) (h : Held) (process : Pid) (command : Command) (reply : Reply) (then : Settlement) (events : EventsState) (n : MemoryState)
-    (decided : Decides j h (with_room (now_of j h) process command) reply then events n) where
+-- what is decided on what the machine shows
+pub as_shown : (f : Present → Outcome) (is_down down : Bool) (k old : KernelState) (reply : Reply) (new : KernelState) (before now : Option DiskState) → is_down ≡ down → k ≡ old
+    → Ends down k (f k.now) reply new before now → Ends is_down old (f old.now) reply new before now
+as_shown f is_down down k old reply new before now same is ends = subst (λ d. Ends d old (f old.now) reply new before now) (sym same) (subst (λ l. Ends down l (f l.now) reply new before now) is ends)
+
+module _ (j : JournalState) (h : Held) (o : Outcome) (reply : Reply) (then : Settlement) (events : EventsState) (n : MemoryState) (decided : Decides j h o reply then events n) where
   abbrev pub x : Present
   x = now_of j h
 
-  abbrev pub o : Outcome
-  o = with_room (now_of j h) process command
-
-  few_events : j.units ≤ 1024 → j.log.area ≡ log_area j.units → 5 * j.events ≤ j.log.end → is_full (j.log.area.len - j.log.end) o.events ≡ false → FewEvents x process command
+  few_events : j.units ≤ 1024 → j.log.area ≡ log_area j.units → 5 * j.events ≤ j.log.end → is_full (j.log.area.len - j.log.end) o.events ≡ false → FewEvents x (within_log x o)
   few_events most area counted room =
-      subst (λ (d : Outcome). d.events ≡ [] ⊎ (x.recorded.events + length d.events < 2 ^ 63)) (sym (with_room_done x process command room)) (few j o.events most area counted room)
+      subst (λ (d : Outcome). FewEvents x d) (sym (with_room_done x o room)) (few j o.events most area counted room)
 
   -- the group was recorded, where there is one, and memory has settled
   pub done : (k : JournalState) (m : MemoryState) (before now : Option DiskState)
       → j.units ≤ 1024 → j.log.area ≡ log_area j.units → 5 * j.events ≤ j.log.end
-      → ((group : Group) → Holds events group → k ≡ appended j group) → held m ≡ settled (held n) then
+      → ((group : Group) → Holds events group → k ≡ appended j group) → ((i : JournalState) → now_of i (held m) ≡ settled (now_of i (held n)) then)
       → ((group : Group) → Holds events group → is_full (j.log.area.len - j.log.end) group ≡ false)
       → ((log : List Group) (group : Group) → Holds events group → Tells before (JournalAt j log) → Tells now (JournalAt k (log ++ as_groups group)))
-      → IsDone (record { now = x; journal = j }) process command reply (record { now = now_of k (held m); journal = k }) before now
+      → IsDone (record { now = x; journal = j }) (within_log x o) reply (record { now = now_of k (held m); journal = k }) before now
   done k m before now most area counted grows settles room log =
-      let same = with_room_done x process command (room o.events decided.records) in
+      let same = with_room_done x o (room o.events decided.records) in
       let grown = grows o.events decided.records in
       record {
         says = decided.says ∙ ap (λ (d : Outcome). d.reply) (sym same);
-        state = ap (λ i. now_of i (held m)) grown ∙ ap (now_of (appended j o.events)) settles ∙ decided.comes_to ∙ ap (apply x) (sym same);
+        state = ap (λ i. now_of i (held m)) grown ∙ settles (appended j o.events) ∙ decided.comes_to ∙ ap (apply x) (sym same);
         few = few_events most area counted (room o.events decided.records);
         units = ap (λ (i : JournalState). i.units) grown;
         image = ap (λ (i : JournalState). i.image) grown;
@@ -127,9 +126,9 @@ module _ (j : JournalState) (h : Held) (process : Pid) (command : Command) (repl
   pub stopped : (k : JournalState) (m : MemoryState) (before now : Option DiskState) → IsBuiltNow x
       → k ≡ j → held m ≡ record (held n) { is_up = false }
       → ((group : Group) → Holds events group → is_full (j.log.area.len - j.log.end) group ≡ true) → now ≡ before
-      → IsDone (record { now = x; journal = j }) process command (Refused LogFull) (record { now = now_of k (held m); journal = k }) before now
+      → IsDone (record { now = x; journal = j }) (within_log x o) (Refused LogFull) (record { now = now_of k (held m); journal = k }) before now
   stopped k m before now built same falls full told =
-      let stops = with_full_log x process command (full o.events decided.records) in
+      let stops = with_full_log x o (full o.events decided.records) in
       let was = decided.waits (some_full (j.log.area.len - j.log.end) o.events (full o.events decided.records)) in
       record {
         says = ap (λ (d : Outcome). d.reply) (sym stops);
@@ -152,9 +151,9 @@ module _ (j : JournalState) (h : Held) (process : Pid) (command : Command) (repl
       → k ≡ j → held m ≡ record (held n) { is_up = false } → (Holds events [] → ⊥)
       → ((group : Group) → Holds events group → is_full (j.log.area.len - j.log.end) group ≡ false)
       → ((log : List Group) (group : Group) → Holds events group → Tells before (JournalAt j log) → Tells now (LeavesWithOr j log (as_groups group)))
-      → IsCutOff (record { now = x; journal = j }) process command (Refused MachineDown) (record { now = now_of k (held m); journal = k }) before now
+      → IsCutOff (record { now = x; journal = j }) (within_log x o) (Refused MachineDown) (record { now = now_of k (held m); journal = k }) before now
   cut k m before now most area counted same falls some room left =
-      let is = with_room_done x process command (room o.events decided.records) in
+      let is = with_room_done x o (room o.events decided.records) in
       let was = decided.waits (λ none. some (subst (Holds events) none decided.records)) in
       record {
         says = refl;
@@ -165,17 +164,17 @@ module _ (j : JournalState) (h : Held) (process : Pid) (command : Command) (repl
       }
 
   -- what was recorded was not refused, and its command records something
-  pub done_touches : ((group : Group) → Holds events group → is_full (j.log.area.len - j.log.end) group ≡ false) → (P : Type 0) → (Holds events [] → P) → TouchesNothing x process command reply → P
+  pub done_touches : ((group : Group) → Holds events group → is_full (j.log.area.len - j.log.end) group ≡ false) → (P : Type 0) → (Holds events [] → P) → TouchesNothing (within_log x o) reply → P
   done_touches room P none touches = elim (some_or_none o.events) [
     | inl is ↦ none (subst (Holds events) is decided.records)
     | inr some ↦ (elim touches [
       | inl (refusal, is, other) ↦ absurd (decided.answers some refusal is)
-      | inr nothing ↦ absurd (some (ap (λ (d : Outcome). d.events) (sym (with_room_done x process command (room o.events decided.records))) ∙ nothing))
+      | inr nothing ↦ absurd (some (ap (λ (d : Outcome). d.events) (sym (with_room_done x o (room o.events decided.records))) ∙ nothing))
     ])
   ]
 
-  pub cut_touches : ((group : Group) → Holds events group → is_full (j.log.area.len - j.log.end) group ≡ false) → (Holds events [] → ⊥) → TouchesNothing x process command (Refused MachineDown) → ⊥
+  pub cut_touches : ((group : Group) → Holds events group → is_full (j.log.area.len - j.log.end) group ≡ false) → (Holds events [] → ⊥) → TouchesNothing (within_log x o) (Refused MachineDown) → ⊥
   cut_touches room some touches = elim touches [
     | inl (refusal, is, other) ↦ (let same : refusal ≡ MachineDown = cc in other same)
-    | inr nothing ↦ some (subst (Holds events) (ap (λ (d : Outcome). d.events) (sym (with_room_done x process command (room o.events decided.records))) ∙ nothing) decided.records)
+    | inr nothing ↦ some (subst (Holds events) (ap (λ (d : Outcome). d.events) (sym (with_room_done x o (room o.events decided.records))) ∙ nothing) decided.records)
   ]

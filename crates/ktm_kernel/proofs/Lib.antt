@@ -1,5 +1,8 @@
 pub mod Routes
 pub mod Decides
+pub mod Closings
+pub mod Ticks
+pub mod Settles
 pub mod Possible
 pub mod Left
 pub mod Worlds

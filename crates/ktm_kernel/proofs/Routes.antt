@@ -1,23 +1,29 @@
 -- From the tests of a command to those of its layer.
-use Rattle.std.proofs.Common.{◌≡◌, ℕ, not, cond, Bool, true, false, List, [], ◌∷◌, ◌++◌, Option, Some, None, refl, sym, ◌∙◌, ap, inl, inr}
+use Rattle.std.proofs.Common.{◌≡◌, ℕ, not, cond, Bool, true, false, List, [], ◌∷◌, ◌++◌, Option, Some, None, is_some, is_none, refl, sym, ◌∙◌, ap, inl, inr}
 use Rattle.std.proofs.lemmas.Bool.{cases_Bool}
 use Rattle.ktm_base.specs.declared.id.Id.{Id}
 use Rattle.ktm_base.specs.declared.id.Label.{Label}
 use Rattle.ktm_base.specs.declared.id.Pid.{Pid}
 use Rattle.ktm_base.specs.declared.refusal.Refusal.{Refusal}
-use Rattle.ktm_base.specs.declared.refusal.Refusal.TheVariants.{MachineDown, InvalidHandle, InvalidParameter}
+use Rattle.ktm_base.specs.declared.refusal.Refusal.TheVariants.{HandleNoLongerValid, MachineDown, InvalidHandle, InvalidParameter, TransactionNotFound}
 use Rattle.ktm_types.specs.declared.command.Command.{Command}
-use Rattle.ktm_types.specs.declared.command.Command.TheVariants.{CommitTransaction, CreateTransaction, KvSet, KvUnset, KvGet, KvList}
+use Rattle.ktm_types.specs.declared.command.Command.TheVariants.{CloseHandle, CommitTransaction, CreateTransaction, DuplicateHandle, Exit, GetTransactionInformation, OpenTransaction, RollbackTransaction, KvSet, KvUnset, KvGet, KvList}
 use Rattle.ktm_types.specs.declared.command.View.{View}
 use Rattle.ktm_types.specs.declared.command.View.TheVariants.{Transaction as Through}
+use Rattle.ktm_types.specs.declared.object.Object.{Object}
+use Rattle.ktm_types.specs.declared.object.Object.TheVariants.{Transaction as TransactionObject}
 use Rattle.ktm_types.specs.declared.object.Transaction.{Transaction}
 use Rattle.ktm_types.specs.declared.reply.Reply.TheVariants.{Refused}
 use Rattle.ktm_world.specs.Decide.{caller, command_effect, command_tests, of_keys, transacted, with_room}
 use Rattle.ktm_world.specs.KeyCalls.{KeyOutcome, kv_set_tests, kv_set, kv_unset_tests, kv_unset, kv_get_tests, kv_get, kv_list}
-use Rattle.ktm_world.specs.Labels.{id_of_named, is_bound, transaction_named, transaction_tests, view_tests, viewer}
+use Rattle.ktm_world.specs.Labels.{file_number, holds_of, id_of_named, invalid_handle, is_bound, is_dead, transaction_named, transaction_tests, view_tests, viewer}
 use Rattle.ktm_world.specs.Outcome.{Outcome, first_refusal, only_reply, refuse_or}
 use Rattle.ktm_world.specs.Present.{Present}
-use Rattle.ktm_world.specs.TransactionCalls.{commit_transaction, create_transaction, create_transaction_tests, no_transaction_left, quota_test}
+use Rattle.ktm_world.specs.TransactionCalls.{bound_test, commit_transaction, create_transaction, create_transaction_tests, get_transaction_information, handle_test, no_transaction_left, open_to_transaction, open_transaction, open_transaction_tests, opened_object, quota_test, rollback_transaction, rollback_transaction_tests, transaction_with}
+use Rattle.ktm_world.specs.HandleCalls.{close_handle, close_handle_tests, duplicate_handle, duplicate_handle_tests, exit}
+use Rattle.ktm_world.specs.Handles.{object_at}
+use Rattle.ktm_built.specs.Standing.{no_files}
+use Rattle.ktm_kernel.specs.Route.{source_tests}
 use Rattle.ktm_world.specs.Uses.{key_room}
 use Rattle.kv_rm.specs.declared.call.KvCall.TheVariants.{Set, Unset, Get, List as Listing}
 use Rattle.kv_rm.specs.Calls.{key_outcome, unless_refused}
@@ -41,7 +47,7 @@ first_of-passed (test ∷ tests) more e = elim (cases_Bool test.0) [
 ]
 
 -- a machine that is up goes by the tests of the command
-up_or : (x : Present) (tests : List (Bool × Refusal)) (effect : Outcome) → x.machine.is_up ≡ true
+pub up_or : (x : Present) (tests : List (Bool × Refusal)) (effect : Outcome) → x.machine.is_up ≡ true
     → refuse_or x (first_refusal ((not x.machine.is_up, MachineDown) ∷ tests)) effect ≡ refuse_or x (first_refusal tests) effect
 up_or x tests effect up = ap (λ u. refuse_or x (cond (not u) (Some MachineDown) (first_refusal tests)) effect) up
 
@@ -125,25 +131,140 @@ module _ (x : Present) (process : Pid) (up : x.machine.is_up ≡ true) where
     pub list_routed : with_room x process (KvList view) ≡ of_keys x (key_outcome x.keys (key_room x) who Listing)
     list_routed = keys_listed x process view who (λ w. kv_list x.keys w) up is passed
 
--- ---- calls on transactions
+-- ---- tests, one after another
 
-pub commit_routed : (x : Present) (process : Pid) (label : Label) (t : Transaction) → x.machine.is_up ≡ true → transaction_named x process label ≡ Some t → first_refusal (transaction_tests (Some t)) ≡ None
-    → with_room x process (CommitTransaction label) ≡ commit_transaction x (Some t)
-commit_routed x process label t up named passed =
-    up_or x (transaction_tests (transaction_named x process label)) (commit_transaction x (transaction_named x process label)) up
-    ∙ ap (λ (n : Option Transaction). refuse_or x (first_refusal (transaction_tests n)) (commit_transaction x n)) named
-    ∙ ap (λ r. refuse_or x r (commit_transaction x (Some t))) passed
+-- a test that holds refuses
+pub test_refuses : (x : Present) (b : Bool) (refusal : Refusal) (more : List (Bool × Refusal)) (o : Outcome) → b ≡ true → refuse_or x (first_refusal ((b, refusal) ∷ more)) o ≡ only_reply x (Refused refusal)
+test_refuses x b refusal more o holds = ap (λ b. refuse_or x (cond b (Some refusal) (first_refusal more)) o) holds
 
-pub create_routed : (x : Present) (process : Pid) (label : Label) (timeout : ℕ) → x.machine.is_up ≡ true → is_bound x process label ≡ false
-    → with_room x process (CreateTransaction label timeout) ≡ refuse_or x (first_refusal (quota_test x (no_transaction_left x.transactions) ∷ [])) (create_transaction x process label timeout)
-unfolding create_transaction_tests
-create_routed x process label timeout up free =
-    up_or x (create_transaction_tests x process label) (create_transaction x process label timeout) up
-    ∙ ap (λ b. refuse_or x (cond b (Some InvalidParameter) (first_refusal (quota_test x (no_transaction_left x.transactions) ∷ []))) (create_transaction x process label timeout)) free
+-- one that does not leaves the others
+pub test_passes : (x : Present) (b : Bool) (refusal : Refusal) (more : List (Bool × Refusal)) (o : Outcome) → b ≡ false → refuse_or x (first_refusal ((b, refusal) ∷ more)) o ≡ refuse_or x (first_refusal more) o
+test_passes x b refusal more o fails = ap (λ b. refuse_or x (cond b (Some refusal) (first_refusal more)) o) fails
 
-pub create_bound : (x : Present) (process : Pid) (label : Label) (timeout : ℕ) → x.machine.is_up ≡ true → is_bound x process label ≡ true
-    → with_room x process (CreateTransaction label timeout) ≡ only_reply x (Refused InvalidParameter)
-unfolding create_transaction_tests
-create_bound x process label timeout up bound =
-    up_or x (create_transaction_tests x process label) (create_transaction x process label timeout) up
-    ∙ ap (λ b. refuse_or x (cond b (Some InvalidParameter) (first_refusal (quota_test x (no_transaction_left x.transactions) ∷ []))) (create_transaction x process label timeout)) bound
+-- ---- calls on transactions and handles
+
+module _ (x : Present) (process : Pid) (up : x.machine.is_up ≡ true) where
+  module _ (label : Label) (timeout : ℕ) where
+    pub create_bound : is_bound x process label ≡ true → with_room x process (CreateTransaction label timeout) ≡ only_reply x (Refused InvalidParameter)
+    unfolding create_transaction_tests
+    create_bound bound =
+        up_or x (create_transaction_tests x process label) (create_transaction x process label timeout) up
+        ∙ test_refuses x (is_bound x process label) InvalidParameter (quota_test x (no_transaction_left x.transactions) ∷ []) (create_transaction x process label timeout) bound
+
+    pub create_routed : is_bound x process label ≡ false
+        → with_room x process (CreateTransaction label timeout) ≡ refuse_or x (first_refusal (quota_test x (no_transaction_left x.transactions) ∷ [])) (create_transaction x process label timeout)
+    unfolding create_transaction_tests
+    create_routed free =
+        up_or x (create_transaction_tests x process label) (create_transaction x process label timeout) up
+        ∙ test_passes x (is_bound x process label) InvalidParameter (quota_test x (no_transaction_left x.transactions) ∷ []) (create_transaction x process label timeout) free
+
+  module _ (label : Label) (guid : List ℕ) where
+    pub open_bound : is_bound x process label ≡ true → with_room x process (OpenTransaction label guid) ≡ only_reply x (Refused InvalidParameter)
+    unfolding open_transaction_tests
+    open_bound bound =
+        up_or x (open_transaction_tests x process label guid) (open_transaction x process label guid) up
+        ∙ test_refuses x (is_bound x process label) InvalidParameter ((is_none (transaction_with x guid), TransactionNotFound) ∷ handle_test x ∷ []) (open_transaction x process label guid) bound
+
+    -- a label that is not bound, and the transaction with the GUID
+    opens : (found : Option Transaction) → is_bound x process label ≡ false → transaction_with x guid ≡ found
+        → with_room x process (OpenTransaction label guid) ≡ refuse_or x (first_refusal ((is_none found, TransactionNotFound) ∷ handle_test x ∷ [])) (open_to_transaction x process label found)
+    unfolding open_transaction_tests open_transaction
+    opens found free is =
+        up_or x (open_transaction_tests x process label guid) (open_transaction x process label guid) up
+        ∙ test_passes x (is_bound x process label) InvalidParameter ((is_none (transaction_with x guid), TransactionNotFound) ∷ handle_test x ∷ []) (open_transaction x process label guid) free
+        ∙ ap (λ (n : Option Transaction). refuse_or x (first_refusal ((is_none n, TransactionNotFound) ∷ handle_test x ∷ [])) (open_to_transaction x process label n)) is
+
+    pub open_unknown : is_bound x process label ≡ false → transaction_with x guid ≡ None → with_room x process (OpenTransaction label guid) ≡ only_reply x (Refused TransactionNotFound)
+    open_unknown free none = opens None free none
+
+    pub open_routed : (t : Transaction) → is_bound x process label ≡ false → transaction_with x guid ≡ Some t
+        → with_room x process (OpenTransaction label guid) ≡ refuse_or x (first_refusal (handle_test x ∷ [])) (opened_object x process label (TransactionObject t.id))
+    open_routed t free found = opens (Some t) free found
+
+  module _ (label : Label) where
+    -- the transaction that the label names
+    commits : (named : Option Transaction) → transaction_named x process label ≡ named → with_room x process (CommitTransaction label) ≡ refuse_or x (first_refusal (transaction_tests named)) (commit_transaction x named)
+    commits named is =
+        up_or x (transaction_tests (transaction_named x process label)) (commit_transaction x (transaction_named x process label)) up
+        ∙ ap (λ (n : Option Transaction). refuse_or x (first_refusal (transaction_tests n)) (commit_transaction x n)) is
+
+    pub commit_routed : (t : Transaction) → transaction_named x process label ≡ Some t → first_refusal (transaction_tests (Some t)) ≡ None → with_room x process (CommitTransaction label) ≡ commit_transaction x (Some t)
+    commit_routed t named passed = commits (Some t) named ∙ ap (λ r. refuse_or x r (commit_transaction x (Some t))) passed
+
+    pub commit_refused : (refusal : Refusal) → first_refusal (transaction_tests (transaction_named x process label)) ≡ Some refusal → with_room x process (CommitTransaction label) ≡ only_reply x (Refused refusal)
+    commit_refused refusal is = commits (transaction_named x process label) refl ∙ ap (λ r. refuse_or x r (commit_transaction x (transaction_named x process label))) is
+
+    rolls_back : (named : Option Transaction) → transaction_named x process label ≡ named
+        → with_room x process (RollbackTransaction label) ≡ refuse_or x (first_refusal (rollback_transaction_tests named)) (rollback_transaction x named)
+    rolls_back named is =
+        up_or x (rollback_transaction_tests (transaction_named x process label)) (rollback_transaction x (transaction_named x process label)) up
+        ∙ ap (λ (n : Option Transaction). refuse_or x (first_refusal (rollback_transaction_tests n)) (rollback_transaction x n)) is
+
+    pub rollback_unnamed : transaction_named x process label ≡ None → with_room x process (RollbackTransaction label) ≡ only_reply x (Refused InvalidHandle)
+    rollback_unnamed none = rolls_back None none
+
+    pub rollback_routed : (t : Transaction) → transaction_named x process label ≡ Some t → first_refusal (rollback_transaction_tests (Some t)) ≡ None → with_room x process (RollbackTransaction label) ≡ rollback_transaction x (Some t)
+    rollback_routed t named passed = rolls_back (Some t) named ∙ ap (λ r. refuse_or x r (rollback_transaction x (Some t))) passed
+
+    pub rollback_refused : (t : Transaction) (refusal : Refusal) → transaction_named x process label ≡ Some t → first_refusal (rollback_transaction_tests (Some t)) ≡ Some refusal
+        → with_room x process (RollbackTransaction label) ≡ only_reply x (Refused refusal)
+    rollback_refused t refusal named is = rolls_back (Some t) named ∙ ap (λ r. refuse_or x r (rollback_transaction x (Some t))) is
+
+    tells : (named : Option Transaction) → transaction_named x process label ≡ named
+        → with_room x process (GetTransactionInformation label) ≡ refuse_or x (first_refusal (invalid_handle named ∷ [])) (get_transaction_information x named)
+    tells named is =
+        up_or x (invalid_handle (transaction_named x process label) ∷ []) (get_transaction_information x (transaction_named x process label)) up
+        ∙ ap (λ (n : Option Transaction). refuse_or x (first_refusal (invalid_handle n ∷ [])) (get_transaction_information x n)) is
+
+    pub information_unnamed : transaction_named x process label ≡ None → with_room x process (GetTransactionInformation label) ≡ only_reply x (Refused InvalidHandle)
+    information_unnamed none = tells None none
+
+    pub information_routed : (t : Transaction) → transaction_named x process label ≡ Some t → with_room x process (GetTransactionInformation label) ≡ get_transaction_information x (Some t)
+    information_routed t named = tells (Some t) named
+
+    pub close_unbound : is_none (object_at x.handles process label) ≡ true → with_room x process (CloseHandle label) ≡ only_reply x (Refused InvalidHandle)
+    close_unbound none = up_or x (close_handle_tests x process label) (close_handle x process label) up ∙ test_refuses x (is_none (object_at x.handles process label)) InvalidHandle [] (close_handle x process label) none
+
+    pub close_routed : is_none (object_at x.handles process label) ≡ false → with_room x process (CloseHandle label) ≡ close_handle x process label
+    close_routed some = up_or x (close_handle_tests x process label) (close_handle x process label) up ∙ test_passes x (is_none (object_at x.handles process label)) InvalidHandle [] (close_handle x process label) some
+
+  pub exit_routed : with_room x process Exit ≡ exit x process
+  exit_routed = up_or x [] (exit x process) up
+
+  module _ (label : Label) (from : Pid) (source : Label) (files : x.files ≡ no_files) where
+    -- the tests of the handle come first
+    duplicates : with_room x process (DuplicateHandle label from source)
+        ≡ refuse_or x (first_refusal (source_tests (object_at x.handles from source) ++ bound_test x process label ∷ handle_test x ∷ [])) (duplicate_handle x process label from source)
+    unfolding duplicate_handle_tests
+    duplicates =
+        up_or x (duplicate_handle_tests x process label from source) (duplicate_handle x process label from source) up
+        ∙ ap (λ f. refuse_or x (first_refusal (invalid_handle (object_at x.handles from source) ∷ (holds_of (is_dead f) (file_number (object_at x.handles from source)), HandleNoLongerValid) ∷ bound_test x process label ∷ handle_test x ∷ []))
+        (duplicate_handle x process label from source)) files
+
+    pub duplicate_refused : (refusal : Refusal) → first_refusal (source_tests (object_at x.handles from source)) ≡ Some refusal → with_room x process (DuplicateHandle label from source) ≡ only_reply x (Refused refusal)
+    duplicate_refused refusal is =
+        duplicates
+        ∙ ap (λ r. refuse_or x r (duplicate_handle x process label from source)) (first_of-append (source_tests (object_at x.handles from source)) (bound_test x process label ∷ handle_test x ∷ []) refusal is)
+
+    passes_source : first_refusal (source_tests (object_at x.handles from source)) ≡ None
+        → with_room x process (DuplicateHandle label from source) ≡ refuse_or x (first_refusal (bound_test x process label ∷ handle_test x ∷ [])) (duplicate_handle x process label from source)
+    passes_source passed =
+        duplicates
+        ∙ ap (λ r. refuse_or x r (duplicate_handle x process label from source)) (first_of-passed (source_tests (object_at x.handles from source)) (bound_test x process label ∷ handle_test x ∷ []) passed)
+
+    pub duplicate_bound : first_refusal (source_tests (object_at x.handles from source)) ≡ None → is_bound x process label ≡ true → with_room x process (DuplicateHandle label from source) ≡ only_reply x (Refused InvalidParameter)
+    duplicate_bound passed bound = passes_source passed ∙ test_refuses x (is_bound x process label) InvalidParameter (handle_test x ∷ []) (duplicate_handle x process label from source) bound
+
+    pub duplicate_routed : first_refusal (source_tests (object_at x.handles from source)) ≡ None → is_bound x process label ≡ false
+        → with_room x process (DuplicateHandle label from source) ≡ refuse_or x (first_refusal (handle_test x ∷ [])) (duplicate_handle x process label from source)
+    duplicate_routed passed free = passes_source passed ∙ test_passes x (is_bound x process label) InvalidParameter (handle_test x ∷ []) (duplicate_handle x process label from source) free
+
+-- a handle that passes is bound
+pub source_named : (named : Option Object) → first_refusal (source_tests named) ≡ None → is_some named ≡ true
+source_named None passed = absurd (cc)
+source_named (Some object) passed = refl
+
+-- a label that is not bound names nothing
+pub unbound_names : (named : Option Object) → is_some named ≡ false → named ≡ None
+unbound_names None free = refl
+unbound_names (Some object) free = absurd (cc)

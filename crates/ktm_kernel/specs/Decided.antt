@@ -14,7 +14,7 @@ use Rattle.ktm_kernel.specs.Memory.{Held, MemoryState, MaySettle, appended, held
 pub record Decides (j : JournalState) (old : Held) (o : Outcome) (reply : Reply) (then : Settlement) (events : EventsState) (new : MemoryState) : Type 0 where
   pub says : reply ≡ o.reply
   pub records : Holds events o.events
-  pub comes_to : now_of (appended j o.events) (settled (held new) then) ≡ apply (now_of j old) o
+  pub comes_to : settled (now_of (appended j o.events) (held new)) then ≡ apply (now_of j old) o
   pub may : MaySettle new then
   pub waits : o.events ≢ [] → held new ≡ old
   -- what records something is not refused

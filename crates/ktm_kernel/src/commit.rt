@@ -5,7 +5,7 @@ ghost use Rattle.ktm_event.specs.Spelling.{IsSpellableId, AreSpellableSettings};
 ghost use Rattle.ktm_types.specs.declared.event.Event.TheVariants.{Single};
 ghost use Rattle.ktm_types.specs.declared.event.Part.TheVariants.{Settings};
 ghost use Rattle.ktm_types.specs.Sizes.{event_size};
-ghost use Rattle.ktm_built.specs.Forms.{commit_events, ended_committed};
+ghost use Rattle.ktm_built.specs.Forms.{commit_events};
 ghost use Rattle.ktm_world.specs.TransactionCalls.{commit_transaction};
 ghost use Rattle.ktm_world.specs.Transactions.{transaction_at};
 ghost use Rattle.ktm_built.specs.Standing.{IsStandingNow};
@@ -17,18 +17,7 @@ use crate::settlement::{Decision, Settlement};
 use ktm_base::{Id, NoMemory};
 use ktm_event::{Events, Stage, Work};
 use ktm_journal::Journal;
-use ktm_types::{Phase, Reply, Setting, Transaction, TransactionOutcome};
-
-// The transaction once it has committed, and all are told.
-fn committed(t: Transaction) -> Transaction
-    ensures { result ≡ ended_committed t }
-{
-    Transaction {
-        phase: Phase::Ended,
-        outcome: TransactionOutcome::Committed,
-        ..t
-    }
-}
+use ktm_types::{Reply, Setting, Transaction};
 
 // What a transaction that commits records: nothing, where it set nothing.
 fn record_settings(events: &mut Events, id: Id, settings: &[Setting])
@@ -65,7 +54,7 @@ impl Memory {
         record_settings(events, t.id, self.keys.own_settings(t.id));
         Ok(Decision {
             reply: Reply::Committed,
-            settlement: Settlement::Commit(committed(t)),
+            settlement: Settlement::Commit(t),
         })
     }
 }

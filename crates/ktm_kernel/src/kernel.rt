@@ -3,14 +3,17 @@ ghost use Rattle.std.specs.Prelude.{◌≡◌, ◌⊎◌, true, false, Option, S
 ghost use Rattle.ktm_base.specs.Count.{Rose};
 ghost use Rattle.ktm_base.specs.Disk.{DeviceCalls, DiskState};
 ghost use Rattle.ktm_base.specs.declared.refusal.Refusal.TheVariants.{MachineDown};
-ghost use Rattle.ktm_types.specs.declared.command.Line.TheVariants.{Crash, Process};
+ghost use Rattle.ktm_types.specs.declared.command.Line.TheVariants.{Crash, Process, Tick};
 ghost use Rattle.ktm_types.specs.declared.reply.Reply.TheVariants.{Refused, Done};
 ghost use Rattle.ktm_world.specs.Built.{is_built_command};
 ghost use Rattle.ktm_types.specs.Values.{IsCommand};
+ghost use Rattle.ktm_world.specs.Decide.{decide};
 ghost use Rattle.ktm_world.specs.World.{World};
 ghost use Rattle.ktm_kernel.specs.Done.{Ends, TouchesNothing, fallen};
+ghost use Rattle.ktm_kernel.specs.Route.{IsBuiltAsked, decided};
 ghost use Rattle.ktm_kernel.specs.Stands.{KernelAt, DoesLine, IsPowered, IsReady};
 
+use crate::decide::Asked;
 use crate::memory::Memory;
 use crate::record::record;
 use crate::settlement::Decision;
@@ -79,35 +82,47 @@ impl Kernel {
             → (self.old.now.machine.is_up ≡ false) ⊎ Rose (D.status disk.old).downs (D.status disk.new).downs) }
         ensures ready { OnOk result (IsReady self.new (D.told disk.new) (D.status disk.new)) }
         ensures calls { OnOk result (DeviceCalls 4 (D.status disk.old) (D.status disk.new) (D.status disk.new).is_down) }
-        ensures untouched { IfOk result (λ reply. TouchesNothing self.old.now process command reply → (D.told disk.new ≡ D.told disk.old) × (D.status disk.new ≡ D.status disk.old)) }
+        ensures untouched { IfOk result (λ reply. TouchesNothing (decide self.old.now process command) reply → (D.told disk.new ≡ D.told disk.old) × (D.status disk.new ≡ D.status disk.old)) }
         ensures no_memory { OnErr result ((D.told disk.new ≡ D.told disk.old) × (D.status disk.new ≡ D.status disk.old)) }
     {
         if !self.is_up() {
             return Ok(Reply::Refused(Refusal::MachineDown));
         }
-        self.answer(disk, process, command)
+        self.answer(disk, Asked::Call(process, command))
     }
 
-    // Answers a call while the machine is up: it is decided, what it records is appended, and then memory settles.
-    fn answer<D: Disk>(
-        &mut self,
-        disk: &mut D,
-        process: Pid,
-        command: Command,
-    ) -> Result<Reply, NoMemory>
+    /// So many milliseconds pass, and the transactions roll back whose timeouts are reached then, in order of creation. While
+    /// the machine is down no time passes. No device call is made.
+    pub fn tick<D: Disk>(&mut self, disk: &mut D, ms: u64) -> Result<Reply, NoMemory>
+        requires ready { IsReady self.old (D.told disk.old) (D.status disk.old) }
+        ensures does { IfOk result (λ reply. (w : World) → KernelAt self.old (D.told disk.old) w
+            → DoesLine w (Some (Tick ms)) reply self.new (D.told disk.new)) }
+        ensures cause { IfOk result (λ reply. reply ≡ Refused MachineDown → self.old.now.machine.is_up ≡ false) }
+        ensures ready { OnOk result (IsReady self.new (D.told disk.new) (D.status disk.new)) }
+        ensures untouched { OnOk result ((D.told disk.new ≡ D.told disk.old) × (D.status disk.new ≡ D.status disk.old)) }
+        ensures no_memory { OnErr result ((D.told disk.new ≡ D.told disk.old) × (D.status disk.new ≡ D.status disk.old)) }
+    {
+        if !self.is_up() {
+            return Ok(Reply::Refused(Refusal::MachineDown));
+        }
+        self.answer(disk, Asked::Tick(ms))
+    }
+
+    // Answers what is asked while the machine is up: it is decided, what it records is appended, and then memory settles.
+    fn answer<D: Disk>(&mut self, disk: &mut D, asked: Asked) -> Result<Reply, NoMemory>
         requires up { self.old.now.machine.is_up ≡ true }
         requires ready { IsReady self.old (D.told disk.old) (D.status disk.old) }
-        requires built { is_built_command command ≡ true }
-        ensures ends { IfOk result (λ reply. Ends (D.status disk.new).is_down self.old process command reply self.new (D.told disk.old) (D.told disk.new)) }
+        requires built { IsBuiltAsked asked }
+        ensures ends { IfOk result (λ reply. Ends (D.status disk.new).is_down self.old (decided self.old.now asked) reply self.new (D.told disk.old) (D.told disk.new)) }
         ensures powered { OnOk result (IsPowered self.new (D.told disk.new) (D.status disk.new)) }
         ensures calls { OnOk result (DeviceCalls 4 (D.status disk.old) (D.status disk.new) (D.status disk.new).is_down) }
-        ensures untouched { IfOk result (λ reply. TouchesNothing self.old.now process command reply → (D.told disk.new ≡ D.told disk.old) × (D.status disk.new ≡ D.status disk.old)) }
+        ensures untouched { IfOk result (λ reply. TouchesNothing (decided self.old.now asked) reply → (D.told disk.new ≡ D.told disk.old) × (D.status disk.new ≡ D.status disk.old)) }
         ensures no_memory { OnErr result ((D.told disk.new ≡ D.told disk.old) × (D.status disk.new ≡ D.status disk.old)) }
     {
         self.events.clear();
         let Decision { reply, settlement } = self
             .memory
-            .decide(&self.journal, process, command, &mut self.events)?;
+            .decide(&self.journal, asked, &mut self.events)?;
         match record(&mut self.journal, disk, &self.events) {
             Ok(()) => {
                 self.memory.settle(settlement);

@@ -3,12 +3,14 @@
 #![tactic(auto)]
 
 mod commit;
+mod decide;
 mod kernel;
 mod laws;
 mod memory;
 mod record;
 mod restart;
 mod route;
+mod settle;
 mod settlement;
 
 pub use kernel::Kernel;

@@ -1,9 +1,10 @@
 // What is left to do once a command is decided.
 ghost use Rattle.std.specs.Prelude.{◌≡◌};
 ghost use Rattle.ktm_kernel.specs.declared.settlement.Settlement.TheVariants.{Nothing};
+ghost use Rattle.ktm_types.specs.declared.reply.Reply.TheVariants.{Done};
 
 use ktm_base::{Label, Pid};
-use ktm_types::{Reply, Transaction};
+use ktm_types::{Object, Reply, Transaction};
 
 /// What is left to do in memory once the events of a command are recorded. It takes no memory.
 #[derive(Clone, Copy)]
@@ -15,8 +16,32 @@ pub(crate) enum Settlement {
         label: Label,
         timeout: u32,
     },
-    /// The transaction has committed, and is this now: what it set is in the store.
+    /// The transaction commits: it has ended, and what it set is in the store.
     Commit(Transaction),
+    /// The transaction rolls back: it has ended, and what it set is forgotten.
+    Rollback(Transaction),
+    /// The label is bound to the object.
+    Bind {
+        process: Pid,
+        label: Label,
+        object: Object,
+    },
+    /// The label is bound to what a label of a process names.
+    Duplicate {
+        process: Pid,
+        label: Label,
+        from: Pid,
+        source: Label,
+    },
+    /// The label is unbound, and an active transaction rolls back that has no other handle.
+    Close {
+        process: Pid,
+        label: Label,
+    },
+    /// So it is with each label of the process, by rising label.
+    Exit(Pid),
+    /// So many milliseconds pass, and the transactions that are due then roll back.
+    Tick(u64),
 }
 
 /// A command that was decided.
@@ -35,6 +60,17 @@ impl Decision {
         Decision {
             reply,
             settlement: Settlement::Nothing,
+        }
+    }
+
+    /// A call that answers nothing but that it is done, and this left to do.
+    pub(crate) fn done(settlement: Settlement) -> Self
+        ensures reply { result.reply ≡ Done }
+        ensures settlement { result.settlement ≡ settlement }
+    {
+        Decision {
+            reply: Reply::Done,
+            settlement,
         }
     }
 }

@@ -19,7 +19,7 @@ use Rattle.ktm_run.specs.Progress.{Scene, Counts, Answers, Unanswered}
 use Rattle.ktm_run.specs.Script.{Means}
 use Rattle.ktm_types.specs.declared.command.Command.{Command}
 use Rattle.ktm_types.specs.declared.command.Line.{Line}
-use Rattle.ktm_types.specs.declared.command.Line.TheVariants.{Crash, Restart, Process}
+use Rattle.ktm_types.specs.declared.command.Line.TheVariants.{Crash, Restart, Process, Tick}
 use Rattle.ktm_types.specs.declared.reply.Reply.{Reply}
 use Rattle.ktm_types.specs.declared.reply.Reply.TheVariants.{Refused, Done}
 use Rattle.ktm_world.specs.Present.{Present}
@@ -83,6 +83,30 @@ called k n before now a b process command reply does cause calls = λ w at.
           (call_rose k before w new a b process command step reply at done cause calls.later)
           (calls.plan ∙ sym (append-nil a.plan))
           (let few = calls.few in omega arith);
+    }
+
+-- ---- the passing of time
+
+-- it makes no call of the disk, and so the power does not go in it
+tick_counts : (k n : KernelState) (before now : Option DiskState) (w new : World) (a b : DiskStatus) (ms : ℕ) (step : Step) (reply : Reply)
+    → KernelAt k before w → Does w (Some (Tick ms)) step reply new → (reply ≡ Refused MachineDown → k.now.machine.is_up ≡ false) → b ≡ a
+    → Counts w (record { machine = k; disk = before; status = a }) (record { machine = n; disk = now; status = b }) 1 [] (falls_of (Some (Tick ms)) step reply)
+tick_counts k n before now w new a b ms answered reply at does cause same = quiet w k n before now a b same
+tick_counts k n before now w new a b ms interrupted reply at (on, says, is) cause same = let wrong : true ≡ false = sym on ∙ off_of k before w (cause says) at in absurd (cc)
+tick_counts k n before now w new a b ms (found log) reply at none cause same = absurd none
+tick_counts k n before now w new a b ms (full log) reply at none cause same = absurd none
+
+pub ticked : (k n : KernelState) (before now : Option DiskState) (a b : DiskStatus) (ms : ℕ) (reply : Reply)
+    → ((w : World) → KernelAt k before w → DoesLine w (Some (Tick ms)) reply n now)
+    → (reply ≡ Refused MachineDown → k.now.machine.is_up ≡ false) → b ≡ a
+    → Answers (record { machine = k; disk = before; status = a }) (record { machine = n; disk = now; status = b }) (Some (Tick ms)) reply
+ticked k n before now a b ms reply does cause same = λ w at.
+    let (step, new, done, stands) = does w at in record {
+      step = step;
+      world = new;
+      does = done;
+      stands = stands;
+      counts = tick_counts k n before now w new a b ms step reply at done cause same;
     }
 
 -- a line that changed nothing

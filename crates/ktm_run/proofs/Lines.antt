@@ -1,5 +1,5 @@
 -- What is kept of a line stands for the whole line, and lines that are cut out of pieces.
-use Rattle.std.proofs.Common.{◌≡◌, ℕ, ◌+◌, ◌-◌, ◌<◌, ◌≤◌, ◌==◌, zero, suc, min, inl, inr, true, false, List, [], ◌∷◌, ◌++◌, length, get_or, take, drop, cond, eqb, Option, None, Some, refl, sym, ◌∙◌, ap, subst, arith, append_assoc, length-take, length-append, length-drop}
+use Rattle.std.proofs.Common.{◌≡◌, ℕ, ◌+◌, ◌-◌, ◌<◌, ◌==◌, zero, suc, min, inl, inr, true, false, List, [], ◌∷◌, ◌++◌, length, get_or, take, drop, cond, eqb, Option, None, Some, refl, sym, ◌∙◌, ap, subst, arith, append_assoc, length-take, length-drop}
 use Rattle.std.proofs.lemmas.Bool.{cases_lt}
 use Rattle.std.proofs.lemmas.List.{append-nil, take_all, take-append-le, take_min, length-take-le}
 use Rattle.std.proofs.Math.Nat.{min_comm}

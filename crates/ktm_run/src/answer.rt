@@ -7,7 +7,7 @@ ghost use Rattle.ktm_world.specs.Built.{is_built_command};
 ghost use Rattle.ktm_types.specs.Values.{IsCommand};
 ghost use Rattle.ktm_world.specs.World.{World};
 ghost use Rattle.ktm_types.specs.declared.command.Line.{Line};
-ghost use Rattle.ktm_types.specs.declared.command.Line.TheVariants.{Cut, Crash, Restart, Process};
+ghost use Rattle.ktm_types.specs.declared.command.Line.TheVariants.{Cut, Crash, Restart, Process, Tick};
 
 use ktm_base::{Down, NoMemory, Pid, PowerDisk, Refusal};
 use ktm_kernel::Kernel;
@@ -44,6 +44,19 @@ fn call<D: PowerDisk>(
     ensures no_memory { OnErr result ((line : List ℕ) (w : World) → KernelAt kernel.old (D.told disk.old) w → Unanswered w (record { machine = kernel.old; disk = D.told disk.old; status = D.status disk.old }) (record { machine = kernel.new; disk = D.told disk.new; status = D.status disk.new }) line) }
 {
     match kernel.call(disk, process, command) {
+        Ok(reply) => Ok(reply),
+        Err(NoMemory) => Err(NoMemory),
+    }
+}
+
+// So many milliseconds pass.
+fn tick<D: PowerDisk>(kernel: &mut Kernel, disk: &mut D, ms: u32) -> Result<Reply, NoMemory>
+    requires ready { IsReady kernel.old (D.told disk.old) (D.status disk.old) }
+    ensures does { IfOk result (λ reply. Answers (record { machine = kernel.old; disk = D.told disk.old; status = D.status disk.old }) (record { machine = kernel.new; disk = D.told disk.new; status = D.status disk.new }) (Some (Tick ms)) reply) }
+    ensures ready { OnOk result (IsReady kernel.new (D.told disk.new) (D.status disk.new)) }
+    ensures no_memory { OnErr result ((line : List ℕ) (w : World) → KernelAt kernel.old (D.told disk.old) w → Unanswered w (record { machine = kernel.old; disk = D.told disk.old; status = D.status disk.old }) (record { machine = kernel.new; disk = D.told disk.new; status = D.status disk.new }) line) }
+{
+    match kernel.tick(disk, ms as u64) {
         Ok(reply) => Ok(reply),
         Err(NoMemory) => Err(NoMemory),
     }
@@ -115,9 +128,9 @@ pub fn answer<D: PowerDisk>(
     };
     match meant {
         Line::Process(process, command) => call(kernel, disk, process, command),
+        Line::Tick(ms) => tick(kernel, disk, ms),
         Line::Cut(calls) => Ok(cut(kernel, disk, calls)),
         Line::Crash => Ok(crash(kernel, disk)),
         Line::Restart(pick) => restart(kernel, disk, pick),
-        Line::Tick(_) => unreachable!(),
     }
 }

@@ -1,8 +1,11 @@
 use Rattle.std.proofs.lemmas.Bool.{or_right}
-use Rattle.std.proofs.Common.{true, refl, ap, sym, ◌∙◌, subst}
+use Rattle.std.proofs.Common.{true, false, refl, ap, sym, ◌∙◌, subst}
 use Rattle.ktm_kernel.specs.Done.{TouchesNothing}
-use Rattle.ktm_kernel.specs.Memory.{held}
-use Rattle.ktm_kernel.proofs.Ends.{done, cut, done_touches, kept}
+use Rattle.ktm_kernel.specs.Memory.{held, now_of}
+use Rattle.ktm_base.specs.declared.refusal.Refusal.TheVariants.{MachineDown}
+use Rattle.ktm_types.specs.declared.reply.Reply.TheVariants.{Refused}
+use Rattle.ktm_kernel.specs.Route.{decided}
+use Rattle.ktm_kernel.proofs.Ends.{as_shown, done, cut, done_touches, kept}
 use Rattle.ktm_kernel.proofs.kernel.Kernel.answer.Goals as goal
 
 pub invariant_of-self-in-Ok : goal.invariant_of-self-in-Ok
@@ -12,20 +15,25 @@ invariant_of-self-in-Ok g c =
 
 pub returns-in-Ok-clause-ends : goal.returns-in-Ok-clause-ends
 returns-in-Ok-clause-ends g c =
-    rw (c.in-Ok.ensures.up, ← c.self.view_is) (done c.self.inside.journal (held c.self.inside.memory) c.args.process c.args.command c.in_ok-reply.field-0.reply c.in_ok-reply.field-0.settlement c.decide.new.events c.decide.new.self c.in_ok-reply.ensures.ok
+    as_shown (λ x. decided x c.args.asked) (g.D.Disk.status c.record.new.disk).is_down false
+    (record { now = now_of c.self.inside.journal (held c.self.inside.memory); journal = c.self.inside.journal }) c.args.self.now c.in_ok-reply.field-0.reply
+    (record { now = now_of c.record.new.journal (held c.settle.new.self); journal = c.record.new.journal }) (g.D.Disk.told c.args.disk.now) (g.D.Disk.told c.record.new.disk)
+    c.in-Ok.ensures.up c.self.view_is (done c.self.inside.journal (held c.self.inside.memory) _ c.in_ok-reply.field-0.reply c.in_ok-reply.field-0.settlement c.decide.new.events c.decide.new.self c.in_ok-reply.ensures.ok
     c.record.new.journal c.settle.new.self (g.D.Disk.told c.args.disk.now) (g.D.Disk.told c.record.new.disk)
     c.self.invariant.0.most c.self.invariant.1 c.self.invariant.2 c.in-Ok.ensures.grows c.settle.ensures c.in-Ok.ensures.room c.in-Ok.ensures.log)
 
 pub returns-in-Ok-clause-untouched : goal.returns-in-Ok-clause-untouched
 returns-in-Ok-clause-untouched g c = λ touches.
-    done_touches c.self.inside.journal (held c.self.inside.memory) c.args.process c.args.command c.in_ok-reply.field-0.reply c.in_ok-reply.field-0.settlement c.decide.new.events c.decide.new.self c.in_ok-reply.ensures.ok c.in-Ok.ensures.room _ c.in-Ok.ensures.none
-    (subst (λ k. TouchesNothing k.now c.args.process c.args.command c.in_ok-reply.field-0.reply) (sym c.self.view_is) touches)
+    done_touches c.self.inside.journal (held c.self.inside.memory) _ c.in_ok-reply.field-0.reply c.in_ok-reply.field-0.settlement c.decide.new.events c.decide.new.self c.in_ok-reply.ensures.ok c.in-Ok.ensures.room _ c.in-Ok.ensures.none
+    (subst (λ k. TouchesNothing (decided k.now c.args.asked) c.in_ok-reply.field-0.reply) (sym c.self.view_is) touches)
 
 pub returns-in-Err-Down-clause-ends : goal.returns-in-Err-Down-clause-ends
 returns-in-Err-Down-clause-ends g c =
     let calls = rw c.in-Err-Down.field-0-is at c.in-Err-Down.ensures.calls in
-    let down = calls.down ∙ or_right _ true refl in
-    rw (down, ← c.self.view_is) (cut c.self.inside.journal (held c.self.inside.memory) c.args.process c.args.command c.in_ok-reply.field-0.reply c.in_ok-reply.field-0.settlement c.decide.new.events c.decide.new.self c.in_ok-reply.ensures.ok
+    as_shown (λ x. decided x c.args.asked) (g.D.Disk.status c.record.new.disk).is_down true
+    (record { now = now_of c.self.inside.journal (held c.self.inside.memory); journal = c.self.inside.journal }) c.args.self.now (Refused MachineDown)
+    (record { now = now_of c.record.new.journal (held c.fall.new.self); journal = c.record.new.journal }) (g.D.Disk.told c.args.disk.now) (g.D.Disk.told c.record.new.disk)
+    (calls.down ∙ or_right _ true refl) c.self.view_is (cut c.self.inside.journal (held c.self.inside.memory) _ c.in_ok-reply.field-0.reply c.in_ok-reply.field-0.settlement c.decide.new.events c.decide.new.self c.in_ok-reply.ensures.ok
     c.record.new.journal c.fall.new.self (g.D.Disk.told c.args.disk.now) (g.D.Disk.told c.record.new.disk)
     c.self.invariant.0.most c.self.invariant.1 c.self.invariant.2 c.in-Err-Down.ensures.refused (ap held c.fall.ensures) c.in-Err-Down.ensures.some
     (rw c.in-Err-Down.field-0-is at c.in-Err-Down.ensures.cut_room) (rw c.in-Err-Down.field-0-is at c.in-Err-Down.ensures.cut))

@@ -1,5 +1,6 @@
-use Rattle.ktm_kernel.proofs.Decides.{refused}
+use Rattle.ktm_kernel.proofs.Decides.{tick_decided}
 use Rattle.ktm_kernel.proofs.memory.Memory.decide.Goals as goal
 
-pub returns-in-Err-clause-ok : goal.returns-in-Err-clause-ok
-returns-in-Err-clause-ok c = rw (c.only.ensures.reply, c.only.ensures.settlement) (refused c.args.journal.now c.args.self.now _ c.in-Err.refusal c.args.events.now c.requires.standing.built (c.in-Err.ensures.err c.args.journal.now) c.requires.empty)
+pub returns-in-Tick-clause-ok : goal.returns-in-Tick-clause-ok
+returns-in-Tick-clause-ok c =
+    rw (c.in-Tick.is, c.done.ensures.reply, c.done.ensures.settlement) (tick_decided c.args.journal.now c.args.self.now c.in-Tick.ms c.args.events.now c.requires.up c.requires.standing c.requires.empty)

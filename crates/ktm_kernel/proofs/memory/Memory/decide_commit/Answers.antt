@@ -23,7 +23,7 @@ record_settings-requires-clause-fits c =
 pub returns-clause-ok : goal.returns-clause-ok
 returns-clause-ok c =
     let own = c.own_settings.ensures ∙ ap (λ k. own_settings k.own c.args.t.id) c.in_ok-reserve.ensures.keys ∙ ap (λ m. own_settings m.keys.keys.own c.args.t.id) c.self.view_is in
-    rw c.committed.ensures (commit_decided c.args.journal.now (held c.args.self.now) _ c.args.t c.record_settings.new.events c.requires.standing.built c.requires.there
+    (commit_decided c.args.journal.now (held c.args.self.now) _ c.args.t c.record_settings.new.events c.requires.standing.built c.requires.there
     (rw (← c.self.view_is) (rw c.in_ok-reserve.ensures.keys refl))
     (rw c.in_ok-reserve.ensures.keys c.in_ok-reserve.ensures.room)
     (subst (λ (settings : OwnSettings). Holds c.record_settings.new.events (commit_events c.args.t.id settings)) own c.record_settings.ensures.holds))

@@ -1,0 +1,20 @@
+use Rattle.std.proofs.Common.{◌≡◌, ◌-◌, ◌≤◌, filter, length}
+use Rattle.ktm_built.specs.Forms.{with_tick}
+use Rattle.ktm_built.specs.Standing.{AreDistinct}
+use Rattle.ktm_journal.specs.Image.{JournalState}
+use Rattle.ktm_kernel.specs.Memory.{held, now_of}
+use Rattle.ktm_world.specs.Limits.{most_live}
+use Rattle.ktm_world.specs.Transactions.{is_live}
+use Rattle.ktm_kernel.proofs.Ticks.{ticked_from}
+use Rattle.ktm_kernel.proofs.memory.Memory.tick.Given as goal
+
+abbrev pub invariant-loop-t : goal.invariant-loop-t
+invariant-loop-t l = record {
+  distinct : AreDistinct l.self.tm.now.items;
+  few : length (filter is_live l.self.tm.now.items) ≤ most_live;
+  -- what is left to roll back is what stands from this place on
+  ticked : (j : JournalState) → ticked_from (now_of j (held l.self)) l.place ≡ with_tick (now_of j (held l.fn.self)) l.ms;
+}
+
+abbrev pub decreases-loop-t : goal.decreases-loop-t
+decreases-loop-t l = length (filter is_live l.self.tm.now.items) - l.place

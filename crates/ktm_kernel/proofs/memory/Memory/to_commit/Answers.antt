@@ -1,0 +1,12 @@
+use Rattle.ktm_built.proofs.Forms.{named_law}
+use Rattle.ktm_kernel.specs.Memory.{held, now_of}
+use Rattle.ktm_kernel.proofs.Routes.{commit_refused, commit_routed}
+use Rattle.ktm_kernel.proofs.memory.Memory.to_commit.Goals as goal
+
+pub returns-in-Ok : goal.returns-in-Ok
+returns-in-Ok c =
+    let (named, passed) = c.in-Ok.ensures.ok c.args.journal.now in
+    (commit_routed (now_of c.args.journal.now (held c.args.self.now)) c.args.process c.requires c.args.label c.in-Ok.t named passed, named_law (now_of c.args.journal.now (held c.args.self.now)) c.args.process c.args.label c.in-Ok.t named)
+
+pub returns-in-Err : goal.returns-in-Err
+returns-in-Err c = commit_refused (now_of c.args.journal.now (held c.args.self.now)) c.args.process c.requires c.args.label c.in-Err.refusal (c.in-Err.ensures.err c.args.journal.now)

@@ -1,0 +1,200 @@
+// Deciding what a command comes to.
+ghost use Rattle.std.specs.Prelude.{◌≡◌, ◌≤◌, ◌∷◌, true, None, Some, [], IfOk, OnErr};
+ghost use Rattle.ktm_built.specs.Forms.{ComesTo};
+ghost use Rattle.ktm_built.specs.Standing.{IsBuiltNow, IsStandingNow};
+ghost use Rattle.ktm_event.specs.Kept.{EventsState, Holds};
+ghost use Rattle.ktm_kernel.specs.Decided.{Decides};
+ghost use Rattle.ktm_kernel.specs.Memory.{Held, IsRoomy, MaySettle, MemoryState, held, now_of, settled};
+ghost use Rattle.ktm_kernel.specs.Route.{asked_outcome, outcome_of, IsBuiltAsked, IsReadyFor};
+ghost use Rattle.ktm_kernel.specs.declared.route.Routed.TheVariants.{Create};
+ghost use Rattle.ktm_object.specs.Table.{handles_of};
+ghost use Rattle.ktm_types.specs.declared.reply.Reply.TheVariants.{Done};
+ghost use Rattle.ktm_world.specs.Built.{is_built_command};
+ghost use Rattle.ktm_world.specs.Decide.{with_room};
+ghost use Rattle.ktm_world.specs.Handles.{object_at};
+ghost use Rattle.ktm_world.specs.Outcome.{Outcome, first_refusal, refuse_or};
+ghost use Rattle.ktm_world.specs.TransactionCalls.{handle_test, information_of};
+
+use crate::memory::Memory;
+use crate::route::Routed;
+use crate::settlement::{Decision, Settlement};
+use ktm_base::{Label, NoMemory, ObjectKind, Pid, Refusal, guid};
+use ktm_event::Events;
+use ktm_journal::Journal;
+use ktm_tm::state_of;
+use ktm_types::{Command, Reply, Transaction};
+use kv_rm::Room;
+
+/// What the machine is to decide.
+#[derive(Drop)]
+pub(crate) enum Asked {
+    /// A process calls.
+    Call(Pid, Command),
+    /// So many milliseconds pass.
+    Tick(u64),
+}
+
+// How a transaction stands.
+fn information(journal: &Journal, t: &Transaction) -> Reply
+    ensures { (h : Held) → result ≡ information_of (now_of journal.now h) (Some t.now) }
+{
+    Reply::Information {
+        transaction: guid(ObjectKind::Transaction, journal.image(), t.id),
+        state: state_of(t),
+        outcome: t.outcome,
+    }
+}
+
+impl Memory {
+    // A transaction is to begin, if there is room for it and its handle.
+    fn decide_create(
+        &mut self,
+        journal: &Journal,
+        process: Pid,
+        label: Label,
+        timeout: u32,
+    ) -> Result<Decision, NoMemory>
+        requires up { self.old.is_up ≡ true }
+        requires standing { IsStandingNow (now_of journal.now (held self.old)) }
+        requires free { object_at (handles_of self.old.handles) process label ≡ None }
+        ensures ok { IfOk result (λ d. (events : _) → Holds events [] → Decides journal.now (held self.old) (outcome_of (now_of journal.now (held self.old)) process (Create label timeout)) d.reply d.settlement events self.new) }
+        ensures no_memory { OnErr result (held self.new ≡ held self.old) }
+    {
+        if self.handles.is_full() || self.tm.is_full() {
+            return Ok(Decision::only(Reply::Refused(Refusal::NotEnoughQuota)));
+        }
+        self.tm.reserve()?;
+        self.handles.reserve(1)?;
+        let id = self.tm.next_id();
+        Ok(Decision {
+            reply: Reply::Guid(guid(ObjectKind::Transaction, journal.image(), id)),
+            settlement: Settlement::Create {
+                process,
+                label,
+                timeout,
+            },
+        })
+    }
+
+    // A label is to be bound by this settlement, if there is room for a handle more.
+    fn decide_handle(
+        &mut self,
+        journal: &Journal,
+        settlement: Settlement,
+    ) -> Result<Decision, NoMemory>
+        requires built { IsBuiltNow (now_of journal.now (held self.old)) }
+        requires may { (m : MemoryState) → held m ≡ held self.old → 1 ≤ m.handles.spare → MaySettle m settlement }
+        ensures ok { IfOk result (λ d. (o : Outcome) → ComesTo (now_of journal.now (held self.old)) o Done (settled (now_of journal.now (held self.old)) settlement)
+            → (events : EventsState) → Holds events [] → Decides journal.now (held self.old) (refuse_or (now_of journal.now (held self.old)) (first_refusal (handle_test (now_of journal.now (held self.old)) ∷ [])) o) d.reply d.settlement events self.new) }
+        ensures no_memory { OnErr result (held self.new ≡ held self.old) }
+    {
+        if self.handles.is_full() {
+            return Ok(Decision::only(Reply::Refused(Refusal::NotEnoughQuota)));
+        }
+        self.handles.reserve(1)?;
+        Ok(Decision::done(settlement))
+    }
+
+    // A call whose labels are known is decided by its layer.
+    fn decide_routed(
+        &mut self,
+        journal: &Journal,
+        process: Pid,
+        routed: Routed,
+        events: &mut Events,
+    ) -> Result<Decision, NoMemory>
+        requires up { self.old.is_up ≡ true }
+        requires standing { IsStandingNow (now_of journal.now (held self.old)) }
+        requires ready { IsReadyFor (held self.old) process routed }
+        requires empty { Holds events.old [] }
+        requires roomy { IsRoomy journal.now events.old }
+        ensures ok { IfOk result (λ d. Decides journal.now (held self.old) (outcome_of (now_of journal.now (held self.old)) process routed) d.reply d.settlement events.new self.new) }
+        ensures room { events.new.room ≡ events.old.room }
+        ensures no_memory { OnErr result (held self.new ≡ held self.old) }
+    {
+        match routed {
+            Routed::Create { label, timeout } => self.decide_create(
+                journal, process, label, timeout,
+            ),
+            Routed::Bind { label, object } => self.decide_handle(
+                journal,
+                Settlement::Bind {
+                    process,
+                    label,
+                    object,
+                },
+            ),
+            Routed::Duplicate {
+                label,
+                from,
+                source,
+            } => self.decide_handle(
+                journal,
+                Settlement::Duplicate {
+                    process,
+                    label,
+                    from,
+                    source,
+                },
+            ),
+            Routed::Commit(t) => self.decide_commit(journal, t, events),
+            Routed::Rollback(t) => Ok(Decision::done(Settlement::Rollback(t))),
+            Routed::Information(t) => Ok(Decision::only(information(journal, &t))),
+            Routed::Close(label) => Ok(Decision::done(Settlement::Close { process, label })),
+            Routed::Exit => Ok(Decision::done(Settlement::Exit(process))),
+            Routed::Keys { who, call } => {
+                let room = Room {
+                    keys: journal.units(),
+                    changes: journal.units(),
+                };
+                Ok(Decision::only(self.keys.call(who, call, room)?))
+            }
+        }
+    }
+
+    // A call is decided.
+    fn decide_call(
+        &mut self,
+        journal: &Journal,
+        process: Pid,
+        command: Command,
+        events: &mut Events,
+    ) -> Result<Decision, NoMemory>
+        requires up { self.old.is_up ≡ true }
+        requires built { is_built_command command ≡ true }
+        requires standing { IsStandingNow (now_of journal.now (held self.old)) }
+        requires empty { Holds events.old [] }
+        requires roomy { IsRoomy journal.now events.old }
+        ensures ok { IfOk result (λ d. Decides journal.now (held self.old) (with_room (now_of journal.now (held self.old)) process command) d.reply d.settlement events.new self.new) }
+        ensures room { events.new.room ≡ events.old.room }
+        ensures no_memory { OnErr result (held self.new ≡ held self.old) }
+    {
+        match self.route(journal, process, command) {
+            Ok(routed) => self.decide_routed(journal, process, routed, events),
+            Err(refusal) => Ok(Decision::only(Reply::Refused(refusal))),
+        }
+    }
+
+    /// What is asked is decided: its reply, its events, which are put into the list, and what is left to do once they are
+    /// recorded. Nothing that is recorded changes before that.
+    pub(crate) fn decide(
+        &mut self,
+        journal: &Journal,
+        asked: Asked,
+        events: &mut Events,
+    ) -> Result<Decision, NoMemory>
+        requires up { self.old.is_up ≡ true }
+        requires built { IsBuiltAsked asked }
+        requires standing { IsStandingNow (now_of journal.now (held self.old)) }
+        requires empty { Holds events.old [] }
+        requires roomy { IsRoomy journal.now events.old }
+        ensures ok { IfOk result (λ d. Decides journal.now (held self.old) (asked_outcome (now_of journal.now (held self.old)) asked) d.reply d.settlement events.new self.new) }
+        ensures room { events.new.room ≡ events.old.room }
+        ensures no_memory { OnErr result (held self.new ≡ held self.old) }
+    {
+        match asked {
+            Asked::Call(process, command) => self.decide_call(journal, process, command, events),
+            Asked::Tick(ms) => Ok(Decision::done(Settlement::Tick(ms))),
+        }
+    }
+}
