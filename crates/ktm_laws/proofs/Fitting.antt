@@ -64,6 +64,7 @@ Beside-sym s t u sides = record {
 
 -- what is so of a state beside its transactions
 pub record Rest (s : Durable) : Type 0 where
+  pub image_fits : s.image < 2 ^ 16
   pub managers_rise : each_pair is_before s.managers ≡ true
   pub managers_drawn : list_all (is_drawn s) s.managers ≡ true
   pub limits : is_within_limits s ≡ true
@@ -85,6 +86,7 @@ waits t = not (is_decided t.stage)
 
 pub good-from : (s : Durable) → TableOf s s.transactions → Rest s → IsGoodState s
 good-from s table rest = record {
+  image_fits = rest.image_fits;
   transactions_rise = table.rises;
   managers_rise = rest.managers_rise;
   enlistments_differ = each_pair-flat is_earlier differ enlistments_of s.transactions table.rises (λ t there. (table.fit t there).core.differ)
@@ -180,6 +182,7 @@ table-of s good = record {
 
 pub rest-of : (s : Durable) → IsGoodState s → Rest s
 rest-of s good = record {
+  image_fits = good.image_fits;
   managers_rise = good.managers_rise;
   managers_drawn = good.managers_drawn;
   limits = good.limits;

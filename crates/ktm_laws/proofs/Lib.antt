@@ -32,7 +32,6 @@ pub mod Makings
 pub mod Meeting
 pub mod Moves
 pub mod NormalForms
-pub mod Numbers
 pub mod Opening
 pub mod Outcomes
 pub mod OwnGroups

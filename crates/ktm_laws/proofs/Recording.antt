@@ -19,8 +19,8 @@ use Rattle.ktm_world.specs.Lawful.{set_both}
 use Rattle.ktm_world.specs.Limits.{most_information}
 use Rattle.ktm_world.specs.Transactions.{same_id}
 use Rattle.ktm_laws.specs.Footprint.{IsIn, footprint, AreFootprintsApart}
-use Rattle.ktm_laws.specs.GoodState.{each_pair, enlisted_in, superiors_in, enlisted, has_one_part_each, is_done_well, are_kept_changes, are_kept_settings, is_made_below, puts_some, IsGoodState}
-use Rattle.ktm_laws.specs.Grammatical.{counts_from_1, ids_in}
+use Rattle.ktm_laws.specs.GoodState.{each_pair, is_of_object, enlisted_in, superiors_in, enlisted, has_one_part_each, is_done_well, are_kept_changes, are_kept_settings, is_made_below, puts_some, IsGoodState}
+use Rattle.ktm_laws.specs.Grammatical.{ids_in}
 use Rattle.ktm_laws.proofs.Diamonds.{IsIn-right, no_test}
 use Rattle.ktm_laws.proofs.Lists.{IsIn-cases}
 use Rattle.ktm_laws.proofs.Elements.{list_any-from, each_pair-append}
@@ -51,7 +51,7 @@ none-is : (o : Option Superior) → is_none o ≡ true → o ≡ None
 none-is None is = refl
 none-is (Some superior) is = absurd (true≢false (sym is))
 
-begun-fresh : (s : Durable) (id : Id) → counts_from_1 id ≡ true → id.boot ≡ s.boots → Begun s id (fresh id)
+begun-fresh : (s : Durable) (id : Id) → is_of_object id ≡ true → id.boot ≡ s.boots → Begun s id (fresh id)
 begun-fresh s id counts now = record {
   core = record {
     drawn = is_drawn-now s id counts now;
@@ -79,7 +79,7 @@ begun-fresh s id counts now = record {
   whose = λ a none. absurd none;
 }
 
-pub begun : (s : Durable) (id : Id) → IsGoodState s → counts_from_1 id ≡ true → may_get_ready s id ≡ true → Begun s id (recorded_or_new s.transactions id)
+pub begun : (s : Durable) (id : Id) → IsGoodState s → is_of_object id ≡ true → may_get_ready s id ≡ true → Begun s id (recorded_or_new s.transactions id)
 begun s id good counts may = go (recorded_or_new s.transactions id) (and_parts (id.boot == s.boots) (is_ready (recorded_or_new s.transactions id).stage) may).1 (recorded_or_new-cases s.transactions id)
   where
     now : id.boot ≡ s.boots
@@ -113,7 +113,7 @@ new-enlistment s enlistment manager information new u there a has =
     no_test (λ other. same_id other enlistment) a (enlistments_of u) (no_test (λ (t : Recorded). list_any (λ other. same_id other enlistment) (enlistments_of t)) u s.transactions (not-true _ a'.1) there) has
 
 -- and it may be enlisted
-pub new-enlisted : (s : Durable) (e : Superior) → counts_from_1 e.enlistment ≡ true → is_new_enlistment s e.enlistment e.manager e.information ≡ true → IsEnlisted s e
+pub new-enlisted : (s : Durable) (e : Superior) → is_of_object e.enlistment ≡ true → is_new_enlistment s e.enlistment e.manager e.information ≡ true → IsEnlisted s e
 new-enlisted s e counts new =
     let c = and_parts _ (nat_le (length e.information) most_information) new in
     let b = and_parts _ (is_manager s e.manager) c.0 in
@@ -264,7 +264,7 @@ module _ (s : Durable) (id : Id) (t : Recorded) (start : Begun s id t) where
   old_keys : (part : Part) → settings_in part ≡ [] → (u : Recorded) → IsIn u s.transactions → (u.id ≡ id → ⊥) → is_decided u.stage ≡ false → set_both (settings_of (pushed t part)) (settings_of u) ≡ false
   old_keys part none u there other waits = subst (λ ss. set_both ss (settings_of u) ≡ false) (same_settings part none) ((start.beside u there other).keys waiting waits)
 
-  adds-enlistment : (e : Superior) → counts_from_1 e.enlistment ≡ true → is_new_enlistment s e.enlistment e.manager e.information ≡ true → Adds s id t (Enlistment e.enlistment e.manager e.information)
+  adds-enlistment : (e : Superior) → is_of_object e.enlistment ≡ true → is_new_enlistment s e.enlistment e.manager e.information ≡ true → Adds s id t (Enlistment e.enlistment e.manager e.information)
   adds-enlistment e counted is_new = let part = Enlistment e.enlistment e.manager e.information in record {
     enlisted = λ e' there. elim there [ inl is ↦ subst (IsEnlisted s) is (new-enlisted s e counted is_new) | inr none ↦ absurd none ];
     differ = refl;
@@ -321,24 +321,24 @@ module _ (s : Durable) (id : Id) (t : Recorded) (start : Begun s id t) where
       are = gathered-push settings_in t.parts (record { is_done = false; part = Settings ss }) ∙ ap (λ xs. xs ++ ss) (no_settings_part t first)
 
 pub ready-keeps : (s : Durable) (transaction : Id) (part : Part) → Keeps s (Ready transaction part)
-ready-keeps s transaction part good spelled applies limits few = go part (and_parts (list_all counts_from_1 (transaction ∷ ids_in part)) (list_all puts_some (changes_in part)) spelled).0
-    (and_parts (list_all counts_from_1 (transaction ∷ ids_in part)) (list_all puts_some (changes_in part)) spelled).1 (and_parts (may_get_ready s transaction) (part_applies s transaction part) applies).1 limits
+ready-keeps s transaction part good spelled applies limits few = go part (and_parts (list_all is_of_object (transaction ∷ ids_in part)) (list_all puts_some (changes_in part)) spelled).0
+    (and_parts (list_all is_of_object (transaction ∷ ids_in part)) (list_all puts_some (changes_in part)) spelled).1 (and_parts (may_get_ready s transaction) (part_applies s transaction part) applies).1 limits
   where
     t : Recorded
     t = recorded_or_new s.transactions transaction
 
     start : Begun s transaction t
-    start = begun s transaction good (and_parts (counts_from_1 transaction) (list_all counts_from_1 (ids_in part)) (and_parts (list_all counts_from_1 (transaction ∷ ids_in part)) (list_all puts_some (changes_in part)) spelled).0).0
+    start = begun s transaction good (and_parts (is_of_object transaction) (list_all is_of_object (ids_in part)) (and_parts (list_all is_of_object (transaction ∷ ids_in part)) (list_all puts_some (changes_in part)) spelled).0).0
         (and_parts (may_get_ready s transaction) (part_applies s transaction part) applies).0
 
     add : (part : Part) → Adds s transaction t part → is_within_limits (fact_of s (Ready transaction part)) ≡ true → IsGoodState (after_event s (Ready transaction part))
     add part adds limits = pushed-good s transaction t start part adds good (limits-counted (fact_of s (Ready transaction part)) (s.events + 1) limits) few
 
-    go : (part : Part) → list_all counts_from_1 (transaction ∷ ids_in part) ≡ true → list_all puts_some (changes_in part) ≡ true → part_applies s transaction part ≡ true
+    go : (part : Part) → list_all is_of_object (transaction ∷ ids_in part) ≡ true → list_all puts_some (changes_in part) ≡ true → part_applies s transaction part ≡ true
         → is_within_limits (fact_of s (Ready transaction part)) ≡ true → IsGoodState (after_event s (Ready transaction part))
     go (Enlistment enlistment manager information) counted some fits limits =
         add (Enlistment enlistment manager information) (adds-enlistment s transaction t start (record { enlistment = enlistment; manager = manager; information = information })
-        (and_parts (counts_from_1 enlistment) (list_all counts_from_1 (manager ∷ [])) (and_parts (counts_from_1 transaction) (list_all counts_from_1 (enlistment ∷ manager ∷ [])) counted).1).0 fits) limits
+        (and_parts (is_of_object enlistment) (list_all is_of_object (manager ∷ [])) (and_parts (is_of_object transaction) (list_all is_of_object (enlistment ∷ manager ∷ [])) counted).1).0 fits) limits
     go (Changes cs) counted some fits limits =
         let parts = and_parts (not (has_changes_part t) && are_recorded_changes cs) (changes_apply s (Some transaction) cs) fits in
         let first = and_parts (not (has_changes_part t)) (are_recorded_changes cs) parts.0 in

@@ -14,8 +14,8 @@ use Rattle.ktm_world.specs.Keys.{OwnSettings, stored_all, is_good_setting, are_g
 use Rattle.ktm_world.specs.Transactions.{same_id}
 use Rattle.ktm_laws.specs.Footprint.{IsIn, footprint, AreFootprintsApart, ListsLaw}
 use Rattle.ktm_laws.specs.Formed.{FormedLaw}
-use Rattle.ktm_laws.specs.GoodState.{each_pair, is_drawn, IsGoodState}
-use Rattle.ktm_laws.specs.Grammatical.{counts_from_1, is_grammatical}
+use Rattle.ktm_laws.specs.GoodState.{each_pair, is_of_object, is_drawn, IsGoodState}
+use Rattle.ktm_laws.specs.Grammatical.{is_grammatical}
 use Rattle.ktm_laws.proofs.Diamonds.{no_test}
 use Rattle.ktm_laws.proofs.Elements.{list_all-at, list_all-from, list_any-at, list_any-from}
 use Rattle.ktm_laws.proofs.Settings.{stored_all-rises, stored_all-good}
@@ -29,9 +29,8 @@ abbrev pub Keeps : Durable → Event → Type 0
 Keeps s event = IsGoodState s → is_grammatical event ≡ true → fact_applies s event ≡ true → is_within_limits (fact_of s event) ≡ true → s.events + 1 < 2 ^ 63 → IsGoodState (after_event s event)
 
 -- an Id of the present boot that counts from 1
-pub is_drawn-now : (s : Durable) (id : Id) → counts_from_1 id ≡ true → id.boot ≡ s.boots → is_drawn s id ≡ true
-is_drawn-now s id counts now =
-    let parts = and_parts (nat_le 1 id.boot) (nat_le 1 id.number) counts in and_from _ _ (and_from _ _ parts.0 (le-leb _ _ (omega (arith, now)))) parts.1
+pub is_drawn-now : (s : Durable) (id : Id) → is_of_object id ≡ true → id.boot ≡ s.boots → is_drawn s id ≡ true
+is_drawn-now s id counts now = and_from _ _ counts (le-leb _ _ (omega (arith, now)))
 
 -- ---- boots
 
@@ -39,6 +38,7 @@ pub boot-keeps : (s : Durable) (boot : ℕ) → Keeps s (Boot boot)
 boot-keeps s boot good spelled applies limits few = good-from s' (Table-filter (Fitting s) (Beside s) (Fitting s') (Beside s') (λ t. not (is_ready t.stage)) s.transactions (table-of s good)
     (λ t there keep fits. record { core = Core-carried s s' t later (λ m is. is) (omega arith) fits.core.apply fits.core; ready = or_left _ _ keep })
     (λ t u there there' keep keep' other sides. Beside-carried s s' t u refl sides)) record {
+      image_fits = rest.image_fits;
       managers_rise = rest.managers_rise;
       managers_drawn = list_all-from (is_drawn s') s.managers (λ id there. is_drawn-later s s' id later (list_all-at (is_drawn s) s.managers rest.managers_drawn id there));
       limits = limits-counted (fact_of s (Boot boot)) (s.events + 1) limits;
@@ -105,6 +105,7 @@ pub made-keeps : (s : Durable) (manager : Id) → Keeps s (MadeRm manager)
 made-keeps s manager good spelled applies limits few = good-from s' (Table-map (Fitting s) (Beside s) (Fitting s') (Beside s') s.transactions (table-of s good)
     (λ t there fits. Fitting-carried s s' t refl managers (omega arith) fits.core.apply fits)
     (λ t u there there' other sides. Beside-carried s s' t u refl sides)) record {
+      image_fits = rest.image_fits;
       managers_rise = rises-with_manager s.managers manager rest.managers_rise (not-true _ parts.1);
       managers_drawn = list_all-from (is_drawn s') (with_manager s.managers manager) (λ id there. elim (IsIn-with_manager s.managers manager id there) [
         | inl e ↦ subst (λ (x : Id). is_drawn s x ≡ true) (sym e) (is_drawn-now s manager counts (eqb-true _ _ parts.0))
@@ -130,8 +131,8 @@ made-keeps s manager good spelled applies limits few = good-from s' (Table-map (
     parts : ((manager.boot == s.boots) ≡ true) × (not (is_manager s manager) ≡ true)
     parts = and_parts (manager.boot == s.boots) (not (is_manager s manager)) applies
 
-    counts : counts_from_1 manager ≡ true
-    counts = (and_parts (counts_from_1 manager) true (and_parts (list_all counts_from_1 (manager ∷ [])) true spelled).0).0
+    counts : is_of_object manager ≡ true
+    counts = (and_parts (is_of_object manager) true (and_parts (list_all is_of_object (manager ∷ [])) true spelled).0).0
 
     managers : (m : Id) → is_manager s m ≡ true → is_manager s' m ≡ true
     managers m is =

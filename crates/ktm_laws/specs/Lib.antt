@@ -7,7 +7,7 @@ pub mod Formed
 pub mod GoodState
 pub mod GoodStates
 pub mod Grammatical
-pub mod Numbers
+pub mod NamedObjects
 pub mod Openings
 pub mod Outcomes
 pub mod OwnChange
