@@ -32,6 +32,7 @@ use Rattle.ktm_laws.proofs.CoursesKept.{Steps, to_commit-is, aborting-is, commit
 use Rattle.ktm_laws.specs.FilesKept.{is_sound_step, FilesKeptLaw}
 use Rattle.ktm_laws.specs.Formed.{FormedLaw}
 use Rattle.ktm_laws.proofs.Arriving.{Goes, course-goes, tick-sound, named, only_reply-sound}
+use Rattle.ktm_laws.proofs.Restarting.{files-opened}
 use Rattle.ktm_laws.proofs.Releasing.{transaction_at-in, filter-true, unchanged}
 use Rattle.ktm_laws.proofs.PlainCalls.{deletes-file, creates-directory, removes-directory, moves-file}
 use Rattle.ktm_laws.proofs.Closing.{close_handle-goes, exit-goes}
@@ -289,4 +290,5 @@ module _ (lists : ListsLaw) (formed : FormedLaw) where
     λ x process command is. within_log-keeps x (with_room x process command) (refuse_or-keeps x (refusal_of x process command) (command_effect x process command) (effect x process command is)),
     λ x ms. let refusal = first_refusal ((not x.machine.is_up, MachineDown) ∷ []) in within_log-keeps x (refuse_or x refusal (tick x ms)) (refuse_or-keeps x refusal (tick x ms) (λ none. tick-sound lists formed x ms)),
     λ x process label timeout new sound. within (with_room x process (CreateTransaction label timeout)) x sound (begin-or-refuse x process label timeout new sound (refusal_of x process (CreateTransaction label timeout))),
+    files-opened,
   )

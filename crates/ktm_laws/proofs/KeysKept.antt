@@ -49,6 +49,7 @@ use Rattle.ktm_laws.proofs.OwnSettings.{own_settings-found, own_settings-good, o
 use Rattle.ktm_laws.proofs.Settings.{stored_all-rises, stored_all-good, set_both-sym}
 use Rattle.ktm_laws.proofs.Tables.{same_id-sym}
 use Rattle.ktm_laws.proofs.Undecided.{transaction_at-id, undecided-from, undecided-other, undecided-itself, undecided-added}
+use Rattle.ktm_laws.proofs.Restarting.{keys-opened}
 
 -- an outcome keeps the keys sound
 abbrev Keeps : Present → Outcome → Type 0
@@ -506,5 +507,6 @@ pub own_keys_law : OwnKeysLaw
 own_keys_law = (
   λ x process command. within_log-keeps x (with_room x process command) (refuse_or-keeps x (refusal_of x process command) (command_effect x process command) (effect-keeps x process command)),
   λ x ms. let refusal = first_refusal ((not x.machine.is_up, MachineDown) ∷ []) in within_log-keeps x (refuse_or x refusal (tick x ms)) (refuse_or-keeps x refusal (tick x ms) (λ none. tick-keeps x ms)),
+  keys-opened,
   all_set-apart,
 )

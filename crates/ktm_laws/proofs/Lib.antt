@@ -46,6 +46,8 @@ pub mod Procedures
 pub mod Recording
 pub mod Releasing
 pub mod Reserving
+pub mod Restarting
+pub mod Restored
 pub mod Settings
 pub mod Settling
 pub mod SoundCommands

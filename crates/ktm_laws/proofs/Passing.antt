@@ -71,11 +71,15 @@ own_changes-of (p ∷ ps) once o (inr there) =
     let parts = and_parts (list_all (changed_by_two p) ps) (each_pair changed_by_two ps) once in
     rw (not-true _ (list_all-at (changed_by_two p) ps parts.0 o there)) (own_changes-of ps parts.1 o there)
 
--- a number that changes make is the node of one of them
-pub made-node : (cs : List Change) (n : ℕ) → IsIn n (numbers_made cs) → IsIn n (map node_of cs)
-made-node cs n there =
+-- a number that changes make is the node of one of them that makes it
+pub made-by : (cs : List Change) (n : ℕ) → IsIn n (numbers_made cs) → (c : Change) × IsIn c cs × (is_make c ≡ true) × (node_of c ≡ n)
+made-by cs n there =
     let from = IsIn-unflat (λ change. filter (λ n. is_make change) (node_of change ∷ [])) cs n there in
-    elim (IsIn-filter (λ n. is_make from.0) (node_of from.0 ∷ []) n from.2).0 [ inl e ↦ subst (λ m. IsIn m (map node_of cs)) e (IsIn-map node_of from.0 cs from.1) | inr none ↦ absurd none ]
+    let kept = IsIn-filter (λ n. is_make from.0) (node_of from.0 ∷ []) n from.2 in
+    elim kept.0 [ inl e ↦ (from.0, from.1, kept.1, e) | inr none ↦ absurd none ]
+
+pub made-node : (cs : List Change) (n : ℕ) → IsIn n (numbers_made cs) → IsIn n (map node_of cs)
+made-node cs n there = let by = made-by cs n there in subst (λ m. IsIn m (map node_of cs)) by.3 (IsIn-map node_of by.0 cs by.1)
 
 pub IsIn-with_number : (ms : List ℕ) (n m : ℕ) → IsIn m (with_number ms n) → IsIn m ms ⊎ (n ≡ m)
 IsIn-with_number [] n m (inl e) = inr e
@@ -111,7 +115,7 @@ written-from (c ∷ cs) files m there = elim (written-from cs (written_after fil
 pub written-node : (cs : List Change) (m : ℕ) → IsIn m (written_files cs) → IsIn m (map node_of cs)
 written-node cs m there = elim (written-from cs [] m there) [ inl none ↦ absurd none | inr is ↦ is ]
 
-flat_map-same : (f g : ℕ → List Change) (ns : List ℕ) → ((n : ℕ) → IsIn n ns → f n ≡ g n) → flat_map f ns ≡ flat_map g ns
+pub flat_map-same : (f g : ℕ → List Change) (ns : List ℕ) → ((n : ℕ) → IsIn n ns → f n ≡ g n) → flat_map f ns ≡ flat_map g ns
 flat_map-same f g [] same = refl
 flat_map-same f g (n ∷ ns) same = ap (λ cs. cs ++ flat_map f ns) (same n (inl refl)) ∙ ap (λ cs. g n ++ cs) (flat_map-same f g ns (λ m there. same m (inr there)))
 

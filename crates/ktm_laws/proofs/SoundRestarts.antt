@@ -1,6 +1,6 @@
 -- What a restart of a good state makes is sound.
 use Rattle.std.specs.Prelude.{if◌then◌else◌}
-use Rattle.std.proofs.Common.{◌≡◌, ℕ, ◌+◌, ◌<◌, ◌≤◌, ◌^◌, ◌&&◌, ◌||◌, not, Bool, true, false, List, [], ◌∷◌, ◌++◌, length, map, filter, nat_lt, nat_le, Option, Some, None, is_some, is_none, refl, sym, ◌∙◌, ap, subst, arith, inl, inr, ◌⊎◌}
+use Rattle.std.proofs.Common.{◌≡◌, ℕ, ◌+◌, ◌≤◌, ◌&&◌, ◌||◌, not, Bool, true, false, List, [], ◌∷◌, ◌++◌, length, map, filter, nat_lt, nat_le, Option, Some, None, is_some, is_none, refl, sym, ◌∙◌, ap, subst, arith, inl, inr, ◌⊎◌}
 use Rattle.std.proofs.lemmas.Bool.{cases_Bool, and_parts, and_from, and_left, or_cases, or_left, or_right, lt-ltb, le-leb, leb-true, true≢false, not-true, not_from_false, false_from_ne_true}
 use Rattle.std.proofs.lemmas.List.{map-append}
 use Rattle.std.proofs.lemmas.Option.{same_Some}
@@ -16,13 +16,13 @@ use Rattle.ktm_types.specs.declared.object.Phase.TheVariants.{InDoubt, Committin
 use Rattle.ktm_types.specs.declared.object.Transaction.{Transaction}
 use Rattle.ktm_types.specs.declared.object.TransactionOutcome.{TransactionOutcome}
 use Rattle.ktm_types.specs.declared.options.EnlistmentKind.{EnlistmentKind}
-use Rattle.ktm_world.specs.Durable.{Durable, Recorded, after_event, enlistments_in, enlistments_of, superior_ids, has_undone, is_before, is_decided, is_held, is_manager, stand}
+use Rattle.ktm_world.specs.Durable.{Durable, Recorded, after_event, after_events, enlistments_in, enlistments_of, superior_ids, has_undone, is_before, is_decided, is_held, is_manager, stand}
 use Rattle.ktm_world.specs.Enlistments.{Enlistment, Manager, is_superior, is_unfinished, is_durable_at, superior_of}
 use Rattle.ktm_world.specs.Limits.{most_information, most_number}
 use Rattle.ktm_world.specs.Logs.{Group}
 use Rattle.ktm_world.specs.Present.{Present}
 use Rattle.ktm_world.specs.Transactions.{same_id}
-use Rattle.ktm_world.specs.World.{ManagerPast, manager_now, present, opened, own_events, done_if, enlistment_back, superior_back, enlistments_back, with_enlistment, by_rising_id, is_enlistment_part, is_brought_back, transaction_back, back}
+use Rattle.ktm_world.specs.World.{ManagerPast, manager_now, present, opened, own_events, own_group, done_if, enlistment_back, superior_back, enlistments_back, with_enlistment, by_rising_id, is_enlistment_part, is_brought_back, transaction_back, back}
 use Rattle.ktm_laws.specs.Footprint.{IsIn}
 use Rattle.ktm_laws.specs.GoodState.{each_pair, is_of_object, is_drawn, enlisted_in, superiors_in, enlisted, is_held_well, IsGoodState}
 use Rattle.ktm_laws.specs.SoundCourse.{IsSoundCourse, is_note_of, is_idle, is_waiting, is_part_as, is_counted, has_transaction, has_manager, are_not_both_superiors, is_superior_durable, is_unrecovered_well, is_outcome_of, is_of_its_boot, has_superior_as_asked, is_enlistment_as, are_enlistments_as_asked, is_awaited, is_recorded_as_asked, is_alone_in_one_phase}
@@ -194,6 +194,19 @@ bool_cases P true on off = on refl
 bool_cases P false on off = off refl
 
 -- ---- the machine
+
+-- what the restart records is its boot, and that participants are done
+no-boots : (rs : List Recorded) → NoBoots (flat_map own_events rs)
+no-boots [] = NoBoots-none
+no-boots (t ∷ rs) = NoBoots-append (NoBoots-append (done (has_undone DonePart.Files t) t.id DonePart.Files) (done (has_undone DonePart.Keys t) t.id DonePart.Keys)) (no-boots rs)
+  where
+    done : (b : Bool) (id : Id) (part : DonePart) → NoBoots (done_if b id part)
+    done true id part = NoBoots-one (Done id part) refl
+    done false id part = NoBoots-none
+
+-- with one boot more than the state that was found
+pub booted : (s : Durable) → ((after_events s (own_group s)).boots ≡ s.boots + 1) × ((after_events s (own_group s)).image ≡ s.image)
+booted s = events-kept (flat_map own_events s.transactions) (after_event s (Boot (s.boots + 1))) (no-boots s.transactions)
 
 module _ (base : Durable) (room : ℕ) (log : List Group) (good : IsGoodState (stand base log)) where
   abbrev s : Durable
@@ -392,16 +405,7 @@ module _ (base : Durable) (room : ℕ) (log : List Group) (good : IsGoodState (s
       rises : RiseEnlistments es
       rises = Rises-by_rising_id (flat_map enlistments_back (back s)) differ
 
-  -- what the restart records is its boot, and that participants are done
-  no-boots : (rs : List Recorded) → NoBoots (flat_map own_events rs)
-  no-boots [] = NoBoots-none
-  no-boots (t ∷ rs) = NoBoots-append (NoBoots-append (done (has_undone DonePart.Files t) t.id DonePart.Files) (done (has_undone DonePart.Keys t) t.id DonePart.Keys)) (no-boots rs)
-    where
-      done : (b : Bool) (id : Id) (part : DonePart) → NoBoots (done_if b id part)
-      done true id part = NoBoots-one (Done id part) refl
-      done false id part = NoBoots-none
-
   pub sound-opened : IsSoundCourse (present (opened base room log))
   sound-opened =
-      let kept = events-kept (flat_map own_events s.transactions) (after_event s (Boot (s.boots + 1))) (no-boots s.transactions) in
+      let kept = booted s in
       sound-alike y x (record { boots = sym kept.0; image = sym kept.1; transactions = refl; managers = refl; handles = refl; own = refl; settings = refl }) sound-y

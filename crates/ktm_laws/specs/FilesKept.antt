@@ -1,5 +1,5 @@
 -- What undecided transactions own and hold of the files stays sound.
-use Rattle.std.specs.Prelude.{◌≡◌, ℕ, not, Bool, true, false, is_none}
+use Rattle.std.specs.Prelude.{◌≡◌, ℕ, not, Bool, true, false, List, is_none}
 use Rattle.ktm_base.specs.declared.id.Label.{Label}
 use Rattle.ktm_base.specs.declared.id.Pid.{Pid}
 use Rattle.ktm_types.specs.declared.command.Command.{Command}
@@ -7,14 +7,15 @@ use Rattle.ktm_types.specs.declared.command.Command.TheVariants.{CreateTransacti
 use Rattle.ktm_types.specs.declared.object.Handle.{Handle}
 use Rattle.ktm_types.specs.declared.object.Transaction.{Transaction}
 use Rattle.ktm_world.specs.Decide.{decide}
-use Rattle.ktm_world.specs.Durable.{is_before}
+use Rattle.ktm_world.specs.Durable.{Durable, is_before, stand}
 use Rattle.ktm_world.specs.HandleCalls.{is_handle}
+use Rattle.ktm_world.specs.Logs.{Group}
 use Rattle.ktm_world.specs.Outcome.{apply}
 use Rattle.ktm_world.specs.Present.{Present}
 use Rattle.ktm_world.specs.TransactionCalls.{new_id}
 use Rattle.ktm_world.specs.Transactions.{transaction_at}
-use Rattle.ktm_world.specs.World.{decide_tick}
-use Rattle.ktm_laws.specs.GoodState.{each_pair}
+use Rattle.ktm_world.specs.World.{present, opened, decide_tick}
+use Rattle.ktm_laws.specs.GoodState.{each_pair, waits_for_new, IsGoodState}
 use Rattle.ktm_laws.specs.SoundFiles.{IsSoundFiles}
 
 -- does the first transaction come before the second
@@ -45,9 +46,10 @@ is_sound_step (RemoveDirectoryTransacted path transaction) = false
 is_sound_step (MoveFileTransacted source target transaction) = false
 is_sound_step _ = true
 
--- where transactions and handles stand once, each such command keeps sound what undecided transactions own and hold of the files, and so does the passing of time, and the begin of a transaction whose Id is new
+-- where transactions and handles stand once, each such command keeps sound what undecided transactions own and hold of the files, and so does the passing of time, and the begin of a transaction whose Id is new; a restart of a good state, of which nothing that waits makes a node that the tree has, makes all this so
 abbrev pub FilesKeptLaw : Type 0
 FilesKeptLaw = ((x : Present) (process : Pid) (command : Command) → is_sound_step command ≡ true → AreInOrder x → IsSoundFiles x → IsSoundFiles (apply x (decide x process command)))
     × ((x : Present) (ms : ℕ) → AreInOrder x → IsSoundFiles x → IsSoundFiles (apply x (decide_tick x ms)))
     × ((x : Present) (process : Pid) (label : Label) (timeout : ℕ) → is_none (transaction_at x.transactions.items (new_id x x.transactions.last_transaction)) ≡ true → IsSoundFiles x
     → IsSoundFiles (apply x (decide x process (CreateTransaction label timeout))))
+    × ((base : Durable) (room : ℕ) (log : List Group) → IsGoodState (stand base log) → waits_for_new (stand base log) ≡ true → AreInOrder (present (opened base room log)) × IsSoundFiles (present (opened base room log)))

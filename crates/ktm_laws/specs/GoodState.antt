@@ -17,7 +17,7 @@ use Rattle.ktm_world.specs.Keys.{are_good_settings, is_bad_key, is_bad_value}
 use Rattle.ktm_world.specs.Lawful.{are_apart, set_both}
 use Rattle.ktm_world.specs.Limits.{most_information, most_number}
 use Rattle.ktm_world.specs.Transactions.{same_id}
-use Rattle.ktm_world.specs.Tree.{IsWellFormed}
+use Rattle.ktm_world.specs.Tree.{Tree, IsWellFormed, node_at}
 
 -- do each two of the list, in their order, pass the test
 abbrev pub each_pair : {X : Type 0} → (X → X → Bool) → List X → Bool
@@ -100,6 +100,14 @@ set_no_key_both t u = not (set_both (settings_of t) (settings_of u))
 -- is a committed key with its value within the limits
 abbrev pub is_good_entry : Keyed (List ℕ) → Bool
 is_good_entry x = not (is_bad_key x.key) && not (is_bad_value x.value)
+
+-- does the change make no node that the tree has
+abbrev pub is_new_in : Tree → Change → Bool
+is_new_in tree change = not (is_make change) || is_none (node_at tree (node_of change))
+
+-- does no transaction that waits make a node that the tree has
+abbrev pub waits_for_new : Durable → Bool
+waits_for_new s = list_all (λ t. list_all (is_new_in s.tree) (changes_of t)) s.transactions
 
 -- ---- all of it
 
