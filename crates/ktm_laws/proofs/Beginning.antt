@@ -120,6 +120,8 @@ module _ (x : Present) (sound : IsSoundFiles x) (t : Transaction) (new : is_none
     first_versions = sound.first_versions;
     first_bytes = sound.first_bytes;
     first_last = sound.first_last;
+    first_files = sound.first_files;
+    opens_files = sound.opens_files;
     formed = sound.formed;
     tree_drawn = sound.tree_drawn;
     next_from = sound.next_from;

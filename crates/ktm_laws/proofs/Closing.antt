@@ -30,7 +30,7 @@ use Rattle.ktm_laws.specs.FilesKept.{AreInOrder, is_created_before, is_labelled_
 use Rattle.ktm_laws.specs.Footprint.{IsIn, ListsLaw}
 use Rattle.ktm_laws.specs.Formed.{FormedLaw}
 use Rattle.ktm_laws.specs.GoodState.{each_pair}
-use Rattle.ktm_laws.specs.SoundFiles.{IsSoundFiles, is_undecided_in, opens_rise, made_or_opened, is_change_of_opened, has_dropped, is_open_last, is_plain_well, is_own_well, may_use, files_apart, all_files_apart}
+use Rattle.ktm_laws.specs.SoundFiles.{IsSoundFiles, is_undecided_in, opens_rise, made_or_opened, is_change_of_opened, has_dropped, is_open_last, is_plain_well, is_own_well, may_use, files_apart, all_files_apart, opens_no_directory}
 use Rattle.ktm_laws.proofs.Arriving.{Goes, named, only_reply-goes, and_then-goes, either-goes, course-goes}
 use Rattle.ktm_laws.proofs.CoursesKept.{aborting-is}
 use Rattle.ktm_laws.proofs.Diamonds.{IsIn-map, IsIn-right, no_test, none-from}
@@ -136,6 +136,8 @@ module _ (x y : Present) (keep : OpenFile → Bool) (sound : IsSoundFiles x) (st
     first_versions = sound.first_versions;
     first_bytes = sound.first_bytes;
     first_last = list_all-from _ x.files.first_opens (λ o there. last-still o (list_all-at (is_open_last x.files) x.files.first_opens sound.first_last o there));
+    first_files = sound.first_files;
+    opens_files = list_all-left (λ o. opens_no_directory x.files o.node o.transaction) keep x.files.table.opens sound.opens_files;
     formed = sound.formed;
     tree_drawn = sound.tree_drawn;
     next_from = sound.next_from;

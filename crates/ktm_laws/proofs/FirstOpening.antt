@@ -15,7 +15,7 @@ use Rattle.ktm_world.specs.Transactions.{same_id}
 use Rattle.ktm_world.specs.Tree.{bytes_of, has_number, is_file, node_at}
 use Rattle.ktm_laws.specs.FirstOpening.{with_first, MayOpenFirst, FirstOpeningLaw}
 use Rattle.ktm_laws.specs.Footprint.{IsIn}
-use Rattle.ktm_laws.specs.SoundFiles.{IsSoundFiles, is_undecided_in, opened_apart, numbers_made, is_drawn_node, made_or_opened, is_change_of_opened, has_dropped, is_open_last, is_own_well, may_use}
+use Rattle.ktm_laws.specs.SoundFiles.{IsSoundFiles, is_undecided_in, opened_apart, numbers_made, is_drawn_node, made_or_opened, is_change_of_opened, has_dropped, is_open_last, is_own_well, may_use, is_no_directory}
 use Rattle.ktm_laws.proofs.Diamonds.{none-from}
 use Rattle.ktm_laws.proofs.Elements.{list_all-at, list_all-from, each_pair-append}
 use Rattle.ktm_laws.proofs.Formed.{found-from, content-found}
@@ -125,6 +125,8 @@ module _ (x : Present) (id : Id) (file : ℕ) (sound : IsSoundFiles x) (may : Ma
       | inr e ↦ subst (λ (o : FirstOpen). is_last_version x.files o ≡ true → o.bytes ≡ bytes_of x.files.tree o.file) e (λ last. refl)
     ]);
     first_last = each (is_open_last x.files) sound.first_last (or_right _ _ (and_from _ _ may.there (eq-eqb first.version first.version refl)));
+    first_files = each (λ o. is_no_directory x.files o.file o.transaction) sound.first_files may.seen;
+    opens_files = sound.opens_files;
     formed = sound.formed;
     tree_drawn = sound.tree_drawn;
     next_from = sound.next_from;

@@ -31,6 +31,7 @@ pub mod Lookups
 pub mod Makings
 pub mod Meeting
 pub mod Moves
+pub mod NodeKinds
 pub mod NormalForms
 pub mod Opening
 pub mod Outcomes

@@ -20,21 +20,22 @@ use Rattle.ktm_world.specs.Holds.{Place, Holds, holds_by, each_change, places_of
 use Rattle.ktm_world.specs.Lawful.{are_apart, is_alone, is_touched_by, others, undecided}
 use Rattle.ktm_world.specs.Present.{Present}
 use Rattle.ktm_world.specs.Transactions.{is_of, is_undecided, same_id}
-use Rattle.ktm_world.specs.Tree.{Tree, content_of, is_file, node_at}
+use Rattle.ktm_world.specs.Tree.{Tree, content_of, is_directory, is_file, node_at}
 use Rattle.ktm_laws.specs.FinalChanges.{names_of, IsFinal}
 use Rattle.ktm_laws.specs.Footprint.{IsIn}
 use Rattle.ktm_laws.specs.GoodState.{each_pair, puts_some}
 use Rattle.ktm_laws.specs.OwnChange.{HoldsNothing, Owns, owned, OwnChangeLaw}
-use Rattle.ktm_laws.specs.SoundFiles.{IsSoundFiles, is_undecided_in, changed_by_two, make_apart, numbers_made, is_drawn_node, made_or_opened, is_change_of_opened, has_dropped, is_open_last, is_plain_well, is_own_well, may_use, files_apart, all_files_apart}
+use Rattle.ktm_laws.specs.SoundFiles.{IsSoundFiles, is_undecided_in, changed_by_two, make_apart, numbers_made, is_drawn_node, made_or_opened, is_change_of_opened, has_dropped, is_open_last, is_plain_well, is_own_well, may_use, files_apart, all_files_apart, is_no_directory, opens_no_directory}
 use Rattle.ktm_laws.proofs.Diamonds.{same_place-sym, IsIn-right, IsIn-map, no_test, none-from, meets-not}
 use Rattle.ktm_laws.proofs.Elements.{each_pair-either, IsIn-filter, IsIn-kept, IsIn-flat_map, IsIn-unflat, list_all-at, list_all-from, list_any-at, list_any-from}
 use Rattle.ktm_laws.proofs.Lists.{IsIn-left, IsIn-cases, IsIn-unmap, IsIn-first}
 use Rattle.ktm_laws.proofs.NormalForms.{IsIn-with_number-new, names-final, filter-append, names_only, is-final, final-applies, each_change-append, Silent, silent-places, silent-dropped, silent-moved, held-names}
 use Rattle.ktm_laws.proofs.Applying.{Applies-from, Fits-from, is_there-none}
+use Rattle.ktm_laws.proofs.NodeKinds.{directory-was}
 use Rattle.ktm_laws.proofs.Lookups.{node_at-elsewhere}
 use Rattle.ktm_laws.proofs.PlainCalls.{next-free}
 use Rattle.ktm_laws.proofs.Versions.{is_file-kept}
-use Rattle.ktm_laws.proofs.Passing.{IsIn-with_number, All-in, All-by, own-final, written-node, drawn-made}
+use Rattle.ktm_laws.proofs.Passing.{IsIn-with_number, All-in, All-by, own-final, written-node, drawn-made, drawn-node}
 use Rattle.ktm_laws.proofs.Reserving.{own_changes-found, writer-alone, own-apply, own_changes-by}
 use Rattle.ktm_laws.proofs.Tables.{same_id-equal, same_id-from, same_id-sym}
 
@@ -585,6 +586,28 @@ module _ (x : Present) (id : Id) (c : Change) (sound : IsSoundFiles x) (owns : O
             | inr file ↦ or_right _ _ (file-still o.node (λ drop. owns.kept drop o there of') file)
           ])) of
 
+  -- a file that it made or first opened becomes no directory in what a transaction sees
+  no-directory : (i : Id) (n : ℕ) → is_drawn_node x.files n ≡ true → is_no_directory x.files n i ≡ true → is_no_directory z.files n i ≡ true
+  no-directory i n drawn was = elim (cases_Bool (same_id id i)) [
+    | inr other ↦ ap (λ ds. not (is_directory (changed_all x.files.tree (names_of ds)) n)) (own-other i other) ∙ was
+    | inl is ↦ mine i (same_id-equal id i is) was
+  ]
+    where
+      one : (b : Bool) → is_directory (changed_all seen (cond b (c ∷ []) [])) n ≡ true → is_directory seen n ≡ true
+      one true = directory-was seen c owns.applies n (λ make at. omega (arith, below n drawn, owns.fresh make, at))
+      one false = λ dir. dir
+
+      mine : (i : Id) → id ≡ i → is_no_directory x.files n i ≡ true → is_no_directory z.files n i ≡ true
+      mine i same = subst (λ (i : Id). is_no_directory x.files n i ≡ true → is_no_directory z.files n i ≡ true) same
+          (λ was. not_from_false _ (false_from_ne_true _ (λ dir. true≢false (sym (one (names_only c) (subst (λ t. is_directory t n ≡ true) (seen-after tt) dir)) ∙ not-true _ was))))
+
+  opened-file : (o : OpenFile) → IsIn o x.files.table.opens → (t : Option Id) → opens_no_directory x.files o.node t ≡ true → may_use x o t ≡ true → opens_no_directory z.files o.node t ≡ true
+  opened-file o there None was well = refl
+  opened-file o there (Some i) was well =
+      let e = and_parts _ (not (writes o.access) || is_file (tree_seen x.files (Some i)) o.node) well in
+      let d = and_parts _ (not (has_dropped (own_changes x.files.table.own i) o.node)) e.0 in
+      no-directory i o.node (drawn-node x sound i o.node (and_parts _ (made_or_opened x.files i o.node) d.0).1) was
+
   alone-still : (o : OpenFile) → IsIn o x.files.table.opens → is_alone z o ≡ true
   alone-still o there = go (is_none o.transaction) (writes o.access) refl refl
     where
@@ -650,6 +673,10 @@ module _ (x : Present) (id : Id) (c : Change) (sound : IsSoundFiles x) (owns : O
     first_versions = sound.first_versions;
     first_bytes = sound.first_bytes;
     first_last = list_all-from _ x.files.first_opens last-still;
+    first_files = list_all-from _ x.files.first_opens (λ o there. no-directory o.transaction o.file (list_all-at (λ (p : FirstOpen). is_drawn_node x.files p.file) x.files.first_opens sound.first_drawn o there)
+        (list_all-at (λ (p : FirstOpen). is_no_directory x.files p.file p.transaction) x.files.first_opens sound.first_files o there));
+    opens_files = list_all-from _ x.files.table.opens (λ o there. opened-file o there o.transaction (list_all-at (λ (p : OpenFile). opens_no_directory x.files p.node p.transaction) x.files.table.opens sound.opens_files o there)
+        (list_all-at (is_own_well x) x.files.table.opens sound.opens_own o there));
     formed = sound.formed;
     tree_drawn = list_all-from _ x.files.tree (λ n there. drawn-more n.number (list_all-at (λ (n : Node). is_drawn_node x.files n.number) x.files.tree sound.tree_drawn n there));
     next_from = omega (arith, sound.next_from, more);

@@ -1,6 +1,6 @@
 -- What undecided transactions own stays sound while changes of others are committed.
 use Rattle.std.proofs.Common.{◌≡◌, ℕ, ◌+◌, ◌≤◌, ◌<◌, ◌^◌, ◌==◌, ◌&&◌, ◌||◌, not, Bool, true, false, is_none, is_some, All, cond, if◌then◌else◌, filter, fold, max, List, [], ◌∷◌, ◌++◌, map, Option, Some, None, refl, sym, ◌∙◌, ap, subst, arith, inl, inr, ◌⊎◌}
-use Rattle.std.proofs.lemmas.Bool.{cases_Bool, eq-eqb, eqb-true, ltb-true, leb-true, le-leb, lt-ltb, and_parts, and_from, or_cases, or_left, or_right, or_parts, or_from, not-true, not_from_false, true≢false}
+use Rattle.std.proofs.lemmas.Bool.{cases_Bool, eq-eqb, eqb-true, ltb-true, leb-true, le-leb, lt-ltb, and_parts, and_from, or_cases, or_left, or_right, or_parts, or_from, not-true, not_from_false, true≢false, eqb-false, false_from_ne_true}
 use Rattle.std.proofs.lemmas.List.Elements.{All-head, All-tail, All-cons, All-nil}
 use Rattle.std.specs.List.{list_all, list_any, flat_map}
 use Rattle.std.specs.Prelude.{nat_lt, nat_le}
@@ -20,16 +20,18 @@ use Rattle.ktm_world.specs.Holds.{is_in}
 use Rattle.ktm_world.specs.Lawful.{are_apart, is_alone, is_touched_by, others, undecided}
 use Rattle.ktm_world.specs.Present.{Present}
 use Rattle.ktm_world.specs.Transactions.{is_of, is_undecided, same_id}
-use Rattle.ktm_world.specs.Tree.{Tree, IsWellFormed, bytes_of, content_of, is_file, node_at}
+use Rattle.ktm_world.specs.Tree.{Tree, IsWellFormed, bytes_of, content_of, is_directory, is_file, node_at}
 use Rattle.ktm_laws.specs.Footprint.{IsIn, footprint, AreFootprintsApart, ListsLaw}
 use Rattle.ktm_laws.specs.Formed.{FormedLaw}
 use Rattle.ktm_laws.specs.GoodState.{each_pair, puts_some}
 use Rattle.ktm_laws.specs.Reservations.{IsLeft}
-use Rattle.ktm_laws.specs.SoundFiles.{IsSoundFiles, is_undecided_in, changed_by_two, make_apart, opened_apart, opens_rise, numbers_made, is_drawn_node, made_or_opened, is_change_of_opened, has_dropped, is_open_last, is_plain_well, is_own_well, files_apart, all_files_apart, may_use}
+use Rattle.ktm_laws.specs.SoundFiles.{IsSoundFiles, is_undecided_in, changed_by_two, make_apart, opened_apart, opens_rise, numbers_made, is_drawn_node, made_or_opened, is_change_of_opened, has_dropped, is_open_last, is_plain_well, is_own_well, files_apart, all_files_apart, may_use, is_no_directory, opens_no_directory}
 use Rattle.ktm_laws.proofs.Applying.{Applies-from, Fits-from}
 use Rattle.ktm_laws.proofs.Committing.{next-rises, below-changed_all}
 use Rattle.ktm_laws.proofs.Diamonds.{IsIn-right, IsIn-map, no_test, none-from}
 use Rattle.ktm_laws.proofs.Elements.{IsIn-filter, IsIn-kept, IsIn-flat_map, IsIn-unflat, list_all-at, list_all-from, list_any-at, list_any-from, each_pair-filter}
+use Rattle.ktm_laws.proofs.NodeKinds.{MakesNot, is_directory_at, directories-were}
+use Rattle.ktm_laws.proofs.Lists.{IsIn-left, IsIn-unmap}
 use Rattle.ktm_laws.proofs.Lookups.{remade, node_at-changed}
 use Rattle.ktm_laws.proofs.Reserving.{own_changes-by, own_changes-left, first_open_of-left, written_by-left, own-apply, holds-apart, tree-of, bytes-elsewhere, left-by}
 use Rattle.ktm_laws.proofs.Tables.{same_id-equal, same_id-from, same_id-sym}
@@ -412,6 +414,46 @@ module _ (lists : ListsLaw) (formed : FormedLaw) (x y : Present) (cs : List Chan
             | inr not' ↦ or_left _ _ (not_from_false _ not')
           ])
 
+  -- a file that a transaction made or first opened becomes no directory in what it sees
+  no-directory : (id : Id) → Kept id → (n : ℕ) → is_drawn_node x.files n ≡ true → ((c : Change) → IsIn c cs → (IsIn n (map node_of (own_changes x.files.table.own id)) → ⊥) → MakesNot c n)
+      → is_no_directory x.files n id ≡ true → is_no_directory z.files n id ≡ true
+  no-directory id kept n drawn others was =
+      let mine = own_changes x.files.table.own id in
+      let names = filter (λ change. not (changes_bytes change)) mine in
+      let applies : apply_all x.files.tree names ≡ true = names-apply x.files.tree mine (bytes_seen x.files (Some id)) (own-final x sound id) (own-apply x sound id) in
+      let applies' : apply_all z.files.tree names ≡ true = names-apply z.files.tree mine (bytes_seen x.files (Some id)) (own-final x sound id) (subst (λ ds. apply_all z.files.tree ds ≡ true) (own-left id kept.0) (left id kept).applies) in
+      ap (λ ds. not (is_directory (changed_all z.files.tree (filter (λ change. not (changes_bytes change)) ds)) n)) (own-left id kept.0)
+      ∙ elim (cases_Bool (is_in (map node_of mine) n)) [
+        | inl held ↦ ap (λ o. not (is_directory_at n o)) (node_at-changed_all names x.files.tree z.files.tree n applies applies' (ap (λ t. node_at t n) tree-is ∙ bytes-elsewhere cs x.files.tree n spares.all (clear-of id kept n drawn (or-in (map node_of mine) (written_by x.files.table.opens id) n held)))) ∙ was
+        | inr free ↦
+            let outside : IsIn n (map node_of mine) → ⊥ = λ there. eqb-false n n (no_test (λ m. m == n) n (map node_of mine) free there) refl in
+            let beside : IsIn n (map node_of names) → ⊥ = λ there. let from = IsIn-unmap node_of n names there in outside (subst (λ m. IsIn m (map node_of mine)) from.1 (IsIn-map node_of from.0 mine (IsIn-filter (λ change. not (changes_bytes change)) mine from.0 from.2).0)) in
+            ap (λ o. not (is_directory_at n o)) (bytes-elsewhere names z.files.tree n applies' beside) ∙ not_from_false _ (false_from_ne_true _ (λ dir.
+            true≢false (sym (directories-were cs x.files.tree spares.all n (λ c there. others c there outside) (subst (λ t. is_directory t n ≡ true) tree-is dir)) ∙ ap (is_directory_at n) (sym (bytes-elsewhere names x.files.tree n applies beside)) ∙ not-true _ was)))
+      ]
+    where
+      or-in : (ns ms : List ℕ) (n : ℕ) → is_in ns n ≡ true → is_in (ns ++ ms) n ≡ true
+      or-in ns ms n has = let found = list_any-at (λ m. m == n) ns has in list_any-from (λ m. m == n) (ns ++ ms) found.0 (IsIn-left found.0 ns ms found.1) found.2
+
+  -- a file of an open file in a transaction stays no directory there
+  opened-file : (o : OpenFile) → IsIn o x.files.table.opens → keep o.transaction ≡ true → opens_no_directory z.files o.node o.transaction ≡ true
+  opened-file o there stays = go o.transaction refl stays (list_all-at (λ (p : OpenFile). opens_no_directory x.files p.node p.transaction) x.files.table.opens sound.opens_files o there) (list_all-at (is_own_well x) x.files.table.opens sound.opens_own o there)
+    where
+      go : (t : Option Id) → o.transaction ≡ t → keep t ≡ true → opens_no_directory x.files o.node t ≡ true → may_use x o t ≡ true → opens_no_directory z.files o.node t ≡ true
+      go None of kept was well = refl
+      go (Some id) of kept was well =
+          let d = and_parts _ (not (writes o.access) || is_file (tree_seen x.files (Some id)) o.node) well in
+          let c = and_parts _ (not (has_dropped (own_changes x.files.table.own id) o.node)) d.0 in
+          let b = and_parts _ (made_or_opened x.files id o.node) c.0 in
+          let a = and_parts (is_undecided_in x.transactions.items id) (id.boot == x.recorded.boots) b.0 in
+          no-directory id (kept, undecided-entry x.transactions.items id a.0) o.node (drawn-node x sound id o.node b.1) (λ c' in_cs outside make at.
+          elim (or_cases (has_made (own_changes x.files.table.own id) o.node) (is_some (first_open_of x.files.first_opens id o.node)) b.1) [
+            | inl made ↦ outside (made-node (own_changes x.files.table.own id) o.node (made-in (own_changes x.files.table.own id) o.node made))
+            | inr opened ↦
+                let f = first_open-found x.files.first_opens id o.node opened in
+                spares.fresh f.0 f.1 (subst (λ i. keep (Some i) ≡ true) (sym f.2) kept) c' in_cs make (at ∙ sym f.3)
+          ]) was
+
   -- ---- all of it
 
   those-kept : (u : Transaction) → IsIn u (undecided z) → Kept u.id
@@ -470,6 +512,10 @@ module _ (lists : ListsLaw) (formed : FormedLaw) (x y : Present) (cs : List Chan
     ]);
     first_bytes = All-by (λ (o : FirstOpen). is_last_version z.files o ≡ true → o.bytes ≡ bytes_of z.files.tree o.file) z.files.first_opens (λ o there last. let parts = and_parts (is_file z.files.tree o.file) (o.version == version_of z.files.versions o.file) last in (shows-now o there).bytes parts.0 (eqb-true _ _ parts.1));
     first_last = list_all-from _ z.files.first_opens first-last;
+    first_files = list_all-from _ z.files.first_opens (λ o there.
+        let kept = first-kept o there in
+        no-directory o.transaction kept.1 o.file (list_all-at (λ (p : FirstOpen). is_drawn_node x.files p.file) x.files.first_opens sound.first_drawn o kept.0)
+        (λ c in_cs outside make at. spares.fresh o kept.0 kept.1.0 c in_cs make at) (list_all-at (λ (p : FirstOpen). is_no_directory x.files p.file p.transaction) x.files.first_opens sound.first_files o kept.0));
     formed = subst IsWellFormed (sym tree-is) (formed.1 x.files.tree cs sound.formed spares.all);
     tree_drawn = list_all-from _ z.files.tree numbers-drawn;
     next_from = omega (arith, sound.next_from, more);
@@ -481,6 +527,7 @@ module _ (lists : ListsLaw) (formed : FormedLaw) (x y : Present) (cs : List Chan
     opens_named = list_all-from _ z.files.table.opens (λ o there. let kept = open-kept o there in step.handles o kept.0 kept.1);
     opens_plain = list_all-from _ z.files.table.opens (λ o there. plain-well o (open-kept o there).0);
     opens_own = list_all-from _ z.files.table.opens (λ o there. let kept = open-kept o there in own-well o kept.0 kept.1);
+    opens_files = list_all-from _ z.files.table.opens (λ o there. let kept = open-kept o there in opened-file o kept.0 kept.1);
     apart = apart-now;
     writers = list_all-from _ z.files.table.opens (λ o there. alone-now o (open-kept o there).0);
   }

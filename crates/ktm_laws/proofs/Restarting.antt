@@ -234,6 +234,7 @@ module _ (base : Durable) (room : ℕ) (log : List Group) (good : IsGoodState (s
     first_versions = refl;
     first_bytes = All-nil _;
     first_last = refl;
+    first_files = refl;
     formed = good.files;
     tree_drawn = list_all-from (λ (node : Node). is_drawn_node x.files node.number) s.tree (λ node there. and_from _ _ (le-leb _ _ (All-in (λ (n : Node). 2 ≤ n.number) s.tree good.files.numbers node there))
         (list_all-at (λ (n : Node). nat_lt n.number s.next_node) s.tree good.nodes_below node there));
@@ -246,6 +247,7 @@ module _ (base : Durable) (room : ℕ) (log : List Group) (good : IsGoodState (s
     opens_named = refl;
     opens_plain = refl;
     opens_own = refl;
+    opens_files = refl;
     apart = list_all-from _ (undecided x) (λ t there. list_all-from (files_apart x t) (others x.transactions.items (Some t.id)) (λ u there'.
         let filtered = IsIn-filter (λ (v : Transaction). is_undecided v && not (is_of v.id (Some t.id))) x.transactions.items u there' in
         let parts = and_parts (is_undecided u) (not (is_of u.id (Some t.id))) filtered.1 in
