@@ -397,7 +397,7 @@ set-keeps x (Some t) key value o own items works is_there fine free = λ sound.
     })
 
 -- the transaction that a label names is there, and undecided where the call is not refused
-named-undecided : (x : Present) (process : Pid) (label : Label) (t : Transaction) → transaction_named x process label ≡ Some t
+pub named-undecided : (x : Present) (process : Pid) (label : Label) (t : Transaction) → transaction_named x process label ≡ Some t
     → holds_of is_committed (transaction_named x process label) ≡ false → holds_of is_aborted (transaction_named x process label) ≡ false → is_undecided_in x.transactions.items t.id ≡ true
 named-undecided x process label t named committed aborted = go (transaction_id (object_at x.handles process label)) named
   where

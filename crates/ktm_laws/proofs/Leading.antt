@@ -39,7 +39,7 @@ Leads tree (free directory name) = (is_directory tree directory ≡ true) × (is
 Leads tree (at_node node) = (node_at tree node.number ≡ Some node) × (2 ≤ node.number)
 Leads tree _ = Unit {0}
 
-directory-of : (tree : Tree) (node : Node) → node_at tree node.number ≡ Some node → is_some node.content ≡ false → is_directory tree node.number ≡ true
+pub directory-of : (tree : Tree) (node : Node) → node_at tree node.number ≡ Some node → is_some node.content ≡ false → is_directory tree node.number ≡ true
 directory-of tree node found dir =
     and_from _ _ (ap (λ o. node.number == root || is_some o) found ∙ or-true (node.number == root)) (not_from_false _ (ap (λ o. is_some (content_of o)) found ∙ dir))
   where

@@ -35,6 +35,7 @@ pub mod NodeKinds
 pub mod NormalForms
 pub mod Opening
 pub mod Outcomes
+pub mod OwnCalls
 pub mod OwnGroups
 pub mod OwnSettings
 pub mod Owning
@@ -49,6 +50,7 @@ pub mod Releasing
 pub mod Reserving
 pub mod Restarting
 pub mod Restored
+pub mod Seeing
 pub mod Settings
 pub mod Settling
 pub mod SoundCommands

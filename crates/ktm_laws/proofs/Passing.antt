@@ -142,7 +142,7 @@ node_at-changed_all (d ∷ ds) tree tree' n all all' same =
     (node_at-changed tree' d (Fits-from tree' d (Applies-from tree' d parts'.0)) n ∙ ap (λ o. cond (node_of d == n) (remade d o) o) same ∙ sym (node_at-changed tree d (Fits-from tree d (Applies-from tree d parts.0)) n))
 
 -- names that were changed apply before the bytes do
-names-apply : (tree : Tree) (cs : List Change) (by : ℕ → List ℕ) → changes_to_commit cs by ≡ cs → apply_all tree cs ≡ true → apply_all tree (filter (λ change. not (changes_bytes change)) cs) ≡ true
+pub names-apply : (tree : Tree) (cs : List Change) (by : ℕ → List ℕ) → changes_to_commit cs by ≡ cs → apply_all tree cs ≡ true → apply_all tree (filter (λ change. not (changes_bytes change)) cs) ≡ true
 names-apply tree cs by final all =
     apply_all-first tree (filter (λ change. not (changes_bytes change)) cs) (flat_map (λ file. final_bytes file (by file)) (written_files cs)) (subst (λ ds. apply_all tree ds ≡ true) (sym final) all)
 
@@ -165,6 +165,10 @@ made-in cs n made =
     let is = and_parts (is_make found.0) (node_of found.0 == n) found.2 in
     subst (λ m. IsIn m (numbers_made cs)) (eqb-true _ _ is.1) (IsIn-flat_map (λ change. filter (λ n. is_make change) (node_of change ∷ [])) cs found.0 (node_of found.0) found.1
     (IsIn-kept (λ n. is_make found.0) (node_of found.0 ∷ []) (node_of found.0) (inl refl) is.0))
+
+-- a change makes its node
+pub made-number : (cs : List Change) (c : Change) → IsIn c cs → is_make c ≡ true → IsIn (node_of c) (numbers_made cs)
+made-number cs c there make = made-in cs (node_of c) (list_any-from (λ change. is_make change && node_of change == node_of c) cs c there (and_from _ _ make (eq-eqb (node_of c) (node_of c) refl)))
 
 -- the first open of a file that a transaction has
 pub first_open-found : (fs : List FirstOpen) (id : Id) (file : ℕ) → is_some (first_open_of fs id file) ≡ true → (f : FirstOpen) × IsIn f fs × (f.transaction ≡ id) × (f.file ≡ file) × (first_open_of fs id file ≡ Some f)

@@ -39,7 +39,7 @@ use Rattle.ktm_laws.proofs.Reserving.{call-apart}
 
 -- ---- what is at a path
 
-some-from : (o : Option (List ℕ)) → is_none o ≡ false → is_some o ≡ true
+pub some-from : (o : Option (List ℕ)) → is_none o ≡ false → is_some o ≡ true
 some-from None is = absurd (true≢false is)
 some-from (Some bytes) is = refl
 
@@ -89,10 +89,10 @@ pub move-applies : (tree : Tree) (node : Node) (directory : ℕ) (name : List �
 move-applies tree node directory name leads leads' outside =
     applies-from tree (Move node.number directory name) (not-root node.number leads.1, there-at tree node leads.0, leads'.0, outside, leads'.1, leads'.2)
 
-delete-acts : (tree : Tree) (node : Node) → Leads tree (at_node node) → is_some node.content ≡ true → acts_of tree (Drop node.number) ≡ deletes node.number (place node.parent node.name) ∷ []
+pub delete-acts : (tree : Tree) (node : Node) → Leads tree (at_node node) → is_some node.content ≡ true → acts_of tree (Drop node.number) ≡ deletes node.number (place node.parent node.name) ∷ []
 delete-acts tree node leads file = acts-at tree node (Drop node.number) leads.0 refl refl ∙ ap (λ b. (if b then deletes node.number (place node.parent node.name) else drops_directory node.number (place node.parent node.name)) ∷ []) file
 
-remove-acts : (tree : Tree) (node : Node) → Leads tree (at_node node) → is_some node.content ≡ false → acts_of tree (Drop node.number) ≡ drops_directory node.number (place node.parent node.name) ∷ []
+pub remove-acts : (tree : Tree) (node : Node) → Leads tree (at_node node) → is_some node.content ≡ false → acts_of tree (Drop node.number) ≡ drops_directory node.number (place node.parent node.name) ∷ []
 remove-acts tree node leads dir = acts-at tree node (Drop node.number) leads.0 refl refl ∙ ap (λ b. (if b then deletes node.number (place node.parent node.name) else drops_directory node.number (place node.parent node.name)) ∷ []) dir
 
 -- the numbers of nodes have not come to their end

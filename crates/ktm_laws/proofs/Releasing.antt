@@ -30,7 +30,7 @@ use Rattle.ktm_laws.proofs.CoursesKept.{is_no_boot}
 use Rattle.ktm_laws.proofs.Diamonds.{no_test, meets-not}
 use Rattle.ktm_laws.proofs.Elements.{IsIn-kept, list_all-at, list_all-from, list_any-at, list_any-from}
 use Rattle.ktm_laws.proofs.Lists.{IsIn-left}
-use Rattle.ktm_laws.proofs.Passing.{Spares, passed, passed-sound, next-enough, drawn-made, made-in}
+use Rattle.ktm_laws.proofs.Passing.{Spares, passed, passed-sound, next-enough, drawn-made, made-number}
 use Rattle.ktm_laws.proofs.Reserving.{own_changes-found, own-apply, own-apart, holds-apart, bytes-elsewhere, writer-alone}
 use Rattle.ktm_laws.proofs.Tables.{same_id-equal, same_id-from, same_id-sym, before_other}
 use Rattle.ktm_laws.proofs.Waiting.{apart-from-none}
@@ -142,10 +142,6 @@ tree-store (change ∷ cs) c d trees versions = tree-store cs (with_change c cha
 pub versions-store : (cs : List Change) (c d : Committed) → c.tree ≡ d.tree → c.versions ≡ d.versions → (fold with_change c cs).versions ≡ (fold with_change d cs).versions
 versions-store [] c d trees versions = versions
 versions-store (change ∷ cs) c d trees versions = versions-store cs (with_change c change) (with_change d change) (ap (λ t. changed t change) trees) (ap (λ vs. versions_after vs change) versions)
-
--- a change makes its node
-made-number : (cs : List Change) (c : Change) → IsIn c cs → is_make c ≡ true → IsIn (node_of c) (numbers_made cs)
-made-number cs c there make = made-in cs (node_of c) (list_any-from (λ change. is_make change && node_of change == node_of c) cs c there (and_from _ _ make (eq-eqb (node_of c) (node_of c) refl)))
 
 -- ---- nothing is committed
 
