@@ -114,6 +114,7 @@ module _ (x : Present) (sound : IsSoundFiles x) (t : Transaction) (new : is_none
     own_drawn = sound.own_drawn;
     own_new = sound.own_new;
     own_differ = sound.own_differ;
+    own_gone = sound.own_gone;
     first_once = sound.first_once;
     first_not_made = sound.first_not_made;
     first_drawn = sound.first_drawn;

@@ -15,7 +15,7 @@ use Rattle.ktm_types.specs.declared.object.Transaction.{Transaction}
 use Rattle.ktm_types.specs.declared.reply.Reply.TheVariants.{Done}
 use Rattle.ktm_world.specs.Changes.{changes_bytes, node_of}
 use Rattle.ktm_world.specs.Conflicts.{holds_now, written_by, writes}
-use Rattle.ktm_world.specs.Files.{FirstOpen, OpenFile, OwnChanges, own_changes, is_last_version, tree_seen}
+use Rattle.ktm_world.specs.Files.{FirstOpen, OpenFile, OwnChanges, own_changes, is_last_version, tree_seen, tree_of}
 use Rattle.ktm_world.specs.HandleCalls.{is_handle, without_handle, same_object, has_handle, closed_file, abort_active, last_handle_gone, handle_gone, close_handle, labels_of, closed_in_turn, exit}
 use Rattle.ktm_world.specs.Handles.{object_at}
 use Rattle.ktm_world.specs.Holds.{is_in, meet_in}
@@ -30,7 +30,7 @@ use Rattle.ktm_laws.specs.FilesKept.{AreInOrder, is_created_before, is_labelled_
 use Rattle.ktm_laws.specs.Footprint.{IsIn, ListsLaw}
 use Rattle.ktm_laws.specs.Formed.{FormedLaw}
 use Rattle.ktm_laws.specs.GoodState.{each_pair}
-use Rattle.ktm_laws.specs.SoundFiles.{IsSoundFiles, is_undecided_in, opens_rise, made_or_opened, is_change_of_opened, has_dropped, is_open_last, is_plain_well, is_own_well, may_use, files_apart, all_files_apart, opens_no_directory}
+use Rattle.ktm_laws.specs.SoundFiles.{IsSoundFiles, is_undecided_in, opens_rise, made_or_opened, is_change_of_opened, has_dropped, is_open_last, is_plain_well, is_own_well, may_use, files_apart, all_files_apart, opens_no_directory, is_gone}
 use Rattle.ktm_laws.proofs.Arriving.{Goes, named, only_reply-goes, and_then-goes, either-goes, course-goes}
 use Rattle.ktm_laws.proofs.CoursesKept.{aborting-is}
 use Rattle.ktm_laws.proofs.Diamonds.{IsIn-map, IsIn-right, no_test, none-from}
@@ -126,6 +126,8 @@ module _ (x y : Present) (keep : OpenFile → Bool) (sound : IsSoundFiles x) (st
     own_drawn = sound.own_drawn;
     own_new = sound.own_new;
     own_differ = sound.own_differ;
+    own_gone = list_all-from _ x.files.table.own (λ o there. ap (λ b. not (o.transaction.boot == b) || list_all (is_gone (tree_of x.files o.transaction)) o.changes) step.boots
+        ∙ list_all-at (λ (p : OwnChanges). not (p.transaction.boot == x.recorded.boots) || list_all (is_gone (tree_of x.files p.transaction)) p.changes) x.files.table.own sound.own_gone o there);
     first_once = sound.first_once;
     first_undecided = list_all-from _ x.files.first_opens (λ o there.
         let parts = and_parts (is_undecided_in x.transactions.items o.transaction) (o.transaction.boot == x.recorded.boots)

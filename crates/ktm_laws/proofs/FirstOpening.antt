@@ -17,9 +17,8 @@ use Rattle.ktm_laws.specs.FirstOpening.{with_first, MayOpenFirst, FirstOpeningLa
 use Rattle.ktm_laws.specs.Footprint.{IsIn}
 use Rattle.ktm_laws.specs.SoundFiles.{IsSoundFiles, is_undecided_in, opened_apart, numbers_made, is_drawn_node, made_or_opened, is_change_of_opened, has_dropped, is_open_last, is_own_well, may_use, is_no_directory}
 use Rattle.ktm_laws.proofs.Diamonds.{none-from}
-use Rattle.ktm_laws.proofs.Elements.{list_all-at, list_all-from, each_pair-append}
+use Rattle.ktm_laws.proofs.Elements.{find-in, list_all-at, list_all-from, each_pair-append}
 use Rattle.ktm_laws.proofs.Formed.{found-from, content-found}
-use Rattle.ktm_laws.proofs.Leading.{find-in}
 use Rattle.ktm_laws.proofs.Lists.{IsIn-cases}
 use Rattle.ktm_laws.proofs.Passing.{All-in, All-by, to_commit-same}
 
@@ -109,6 +108,7 @@ module _ (x : Present) (id : Id) (file : ℕ) (sound : IsSoundFiles x) (may : Ma
     own_drawn = sound.own_drawn;
     own_new = sound.own_new;
     own_differ = sound.own_differ;
+    own_gone = sound.own_gone;
     first_once = each_pair-append opened_apart x.files.first_opens (first ∷ []) sound.first_once refl (λ f g there there'. elim there' [
       | inl e ↦ subst (λ h. opened_apart f h ≡ true) e (not_from_false _ (not-found (λ (o : FirstOpen). same_id o.transaction id && o.file == file) x.files.first_opens unopened f there))
       | inr none ↦ absurd none

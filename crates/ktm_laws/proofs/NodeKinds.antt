@@ -5,7 +5,7 @@ use Rattle.ktm_types.specs.declared.change.Change.{Change}
 use Rattle.ktm_types.specs.declared.change.Change.TheVariants.{Make, Put, Cut, Move, Drop}
 use Rattle.ktm_types.specs.declared.recorded.Node.{Node}
 use Rattle.ktm_world.specs.Changes.{changed, changed_all, applies, apply_all, is_make, node_of}
-use Rattle.ktm_world.specs.Tree.{Tree, root, node_at, content_of, is_file, is_directory}
+use Rattle.ktm_world.specs.Tree.{Tree, root, node_at, content_of, is_file, is_directory, is_there}
 use Rattle.ktm_laws.specs.Footprint.{IsIn}
 use Rattle.ktm_laws.proofs.Applying.{Applies-from, Fits-from}
 use Rattle.ktm_laws.proofs.Lookups.{remade, node_at-elsewhere, node_at-there}
@@ -18,10 +18,15 @@ is_file_at o = is_some (content_of o)
 abbrev pub is_directory_at : ℕ → Option Node → Bool
 is_directory_at n o = (n == root || is_some o) && not (is_file_at o)
 
+-- is a node there that a lookup finds, or is it the root's
+abbrev pub is_there_at : ℕ → Option Node → Bool
+is_there_at n o = n == root || is_some o
+
 -- a change leaves a node that it does not make of its kind, or drops it
 record Kept (c : Change) (o : Option Node) : Type 0 where
   file : is_file_at (remade c o) ≡ true → is_file_at o ≡ true
   directory : is_directory_at (node_of c) (remade c o) ≡ true → is_directory_at (node_of c) o ≡ true
+  there : is_there_at (node_of c) (remade c o) ≡ true → is_there_at (node_of c) o ≡ true
 
 kept-there : (tree : Tree) (c : Change) → applies tree c ≡ true → is_make c ≡ false → Kept c (node_at tree (node_of c))
 kept-there tree (Make node parent kind name) is other = absurd (true≢false other)
@@ -29,21 +34,21 @@ kept-there tree (Put node offset contents) is other = written (node_at tree node
   where
     written : (o : Option Node) → is_file_at o ≡ true → Kept (Put node offset contents) o
     written None file = absurd (true≢false (sym file))
-    written (Some n) file = record { file = λ after. file; directory = λ after. absurd (true≢false (sym (and_parts _ false after).1)) }
+    written (Some n) file = record { file = λ after. file; directory = λ after. absurd (true≢false (sym (and_parts _ false after).1)); there = λ after. after }
 kept-there tree (Cut node size pages) is other = written (node_at tree node) (Applies-from tree (Cut node size pages) is).0
   where
     written : (o : Option Node) → is_file_at o ≡ true → Kept (Cut node size pages) o
     written None file = absurd (true≢false (sym file))
-    written (Some n) file = record { file = λ after. file; directory = λ after. absurd (true≢false (sym (and_parts _ false after).1)) }
+    written (Some n) file = record { file = λ after. file; directory = λ after. absurd (true≢false (sym (and_parts _ false after).1)); there = λ after. after }
 kept-there tree (Move node parent name) is other = moved (node_at tree node)
   where
     moved : (o : Option Node) → Kept (Move node parent name) o
-    moved None = record { file = λ after. after; directory = λ after. after }
-    moved (Some n) = record { file = λ after. after; directory = λ after. after }
-kept-there tree (Drop node) is other = record { file = λ after. absurd (true≢false (sym after)); directory = λ after. absurd (true≢false (sym (gone after) ∙ (Applies-from tree (Drop node) is).0)) }
+    moved None = record { file = λ after. after; directory = λ after. after; there = λ after. after }
+    moved (Some n) = record { file = λ after. after; directory = λ after. after; there = λ after. after }
+kept-there tree (Drop node) is other = record { file = λ after. absurd (true≢false (sym after)); directory = λ after. absurd (true≢false (sym (gone (and_parts (node == root || false) true after).0) ∙ (Applies-from tree (Drop node) is).0)); there = λ after. absurd (true≢false (sym (gone after) ∙ (Applies-from tree (Drop node) is).0)) }
   where
-    gone : ((node == root || false) && true) ≡ true → (node == root) ≡ true
-    gone both = go (node == root) (and_parts (node == root || false) true both).0
+    gone : (node == root || false) ≡ true → (node == root) ≡ true
+    gone = go (node == root)
       where
         go : (b : Bool) → (b || false) ≡ true → b ≡ true
         go true is = refl
@@ -71,6 +76,9 @@ module _ (tree : Tree) (c : Change) (is : applies tree c ≡ true) (n : ℕ) (ot
 
   pub directory-was : is_directory (changed tree c) n ≡ true → is_directory tree n ≡ true
   directory-was after = was (is_directory_at n) (λ at. subst (λ m. is_directory_at m (remade c (node_at tree (node_of c))) ≡ true → is_directory_at m (node_at tree (node_of c)) ≡ true) at (kept-there tree c is (not-made at)).directory) after
+
+  pub there-was : is_there (changed tree c) n ≡ true → is_there tree n ≡ true
+  there-was after = was (is_there_at n) (λ at. subst (λ m. is_there_at m (remade c (node_at tree (node_of c))) ≡ true → is_there_at m (node_at tree (node_of c)) ≡ true) at (kept-there tree c is (not-made at)).there) after
 
 -- the same of changes in order
 pub files-were : (cs : List Change) (tree : Tree) → apply_all tree cs ≡ true → (n : ℕ) → ((c : Change) → IsIn c cs → MakesNot c n) → is_file (changed_all tree cs) n ≡ true → is_file tree n ≡ true

@@ -158,6 +158,7 @@ module _ (x : Present) (o : OpenFile) (handles : List Handle) (sound : IsSoundFi
     own_drawn = sound.own_drawn;
     own_new = sound.own_new;
     own_differ = sound.own_differ;
+    own_gone = sound.own_gone;
     first_once = sound.first_once;
     first_undecided = sound.first_undecided;
     first_not_made = sound.first_not_made;

@@ -1,15 +1,14 @@
 -- Calls in a transaction that make, drop and move names, and what is written there, keep sound what undecided transactions own of the files.
 use Rattle.std.proofs.Common.{◌≡◌, ℕ, ◌≤◌, ◌^◌, ◌==◌, ◌&&◌, not, Bool, true, false, is_none, is_some, if◌then◌else◌, filter, map, List, [], ◌∷◌, ◌++◌, Option, Some, None, refl, sym, ◌∙◌, ap, subst, arith, inl, inr, ◌⊎◌}
-use Rattle.std.proofs.lemmas.Bool.{cases_Bool, eq-eqb, eqb-false, ltb-true, ltb-false, lt-ltb, le-leb, leb-true, and_parts, and_from, or_parts, or_cases, not-true, not_from_false, true≢false, false_from_ne_true}
+use Rattle.std.proofs.lemmas.Bool.{cases_Bool, eq-eqb, ltb-false, lt-ltb, le-leb, leb-true, and_parts, and_from, or_parts, or_cases, not-true, true≢false}
 use Rattle.std.proofs.lemmas.List.{append-nil}
-use Rattle.std.specs.List.{list_any}
-use Rattle.std.specs.Prelude.{nat_lt, nat_le}
+use Rattle.std.specs.Prelude.{nat_lt}
 use Rattle.ktm_base.specs.declared.id.Id.{Id}
 use Rattle.ktm_base.specs.declared.id.Label.{Label}
 use Rattle.ktm_base.specs.declared.id.Pid.{Pid}
 use Rattle.ktm_base.specs.declared.refusal.Refusal.{Refusal}
 use Rattle.ktm_types.specs.declared.change.Change.{Change}
-use Rattle.ktm_types.specs.declared.change.Change.TheVariants.{Make, Put, Cut, Move, Drop}
+use Rattle.ktm_types.specs.declared.change.Change.TheVariants.{Make, Move, Drop}
 use Rattle.ktm_types.specs.declared.change.NodeKind.{NodeKind}
 use Rattle.ktm_types.specs.declared.change.NodeKind.TheVariants.{Directory}
 use Rattle.ktm_types.specs.declared.object.Phase.TheVariants.{Active}
@@ -23,13 +22,13 @@ use Rattle.ktm_world.specs.Durable.{acts_of}
 use Rattle.ktm_world.specs.FileCalls.{Whereabouts, no_path, no_way, free, at_root, at_node, find_path, conflict_test, delete_act, make_act, remove_act, move_act, drop_at, make_at, move_at, is_open_at, is_into_itself, is_at_directory, is_at_file, is_not_empty, delete_file, delete_file_tests, create_directory, create_directory_tests, remove_directory, remove_directory_tests, move_file, move_file_tests}
 use Rattle.ktm_world.specs.FileOutcome.{FileRoom, answering, changing, lacks_quota}
 use Rattle.ktm_world.specs.Files.{FirstOpen, OpenFile, own_changes, is_last_version, tree_seen}
-use Rattle.ktm_world.specs.Holds.{Act, place, file_touched, is_in, makes, deletes, drops_directory, moves_file, moves_directory}
+use Rattle.ktm_world.specs.Holds.{Act, place, is_in, makes, deletes, drops_directory, moves_file, moves_directory}
 use Rattle.ktm_world.specs.Labels.{holds_of, id_of_named, transaction_named, transaction_tests}
 use Rattle.ktm_world.specs.Lawful.{are_apart, undecided}
-use Rattle.ktm_world.specs.Outcome.{Outcome, apply, first_refusal}
+use Rattle.ktm_world.specs.Outcome.{apply}
 use Rattle.ktm_world.specs.Present.{Present}
 use Rattle.ktm_world.specs.Transactions.{is_committed, is_aborted, is_of, same_id}
-use Rattle.ktm_world.specs.Tree.{Tree, is_directory, is_file, is_there}
+use Rattle.ktm_world.specs.Tree.{Tree, is_directory, is_file}
 use Rattle.ktm_world.specs.Uses.{file_room}
 use Rattle.ktm_laws.specs.FilesKept.{AreInOrder}
 use Rattle.ktm_laws.specs.Footprint.{IsIn, ListsLaw}
@@ -54,7 +53,7 @@ use Rattle.ktm_laws.proofs.PlainCalls.{some-from, acts-at, delete-applies, delet
 use Rattle.ktm_laws.proofs.Releasing.{filter-true, spares-none, unchanged}
 use Rattle.ktm_laws.proofs.Reserving.{holds-apart, writer-alone}
 use Rattle.ktm_laws.proofs.Seeing.{Used, not-written, still-last, used-in, transaction-of, below-next, seen-formed, directory-no-file, next-unseen, holds-nothing}
-use Rattle.ktm_laws.proofs.Tables.{same_id-equal, same_id-from}
+use Rattle.ktm_laws.proofs.Tables.{same_id-from}
 use Rattle.ktm_laws.proofs.Passing.{undecided-entry}
 
 -- ---- who makes the call

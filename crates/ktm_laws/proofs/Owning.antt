@@ -11,31 +11,31 @@ use Rattle.ktm_types.specs.declared.change.Change.TheVariants.{Make, Put, Cut, M
 use Rattle.ktm_types.specs.declared.change.NodeKind.TheVariants.{File, Directory}
 use Rattle.ktm_types.specs.declared.recorded.Node.{Node}
 use Rattle.ktm_types.specs.declared.object.Transaction.{Transaction}
-use Rattle.ktm_world.specs.Changes.{changed, changed_all, apply_all, changes_bytes, is_drop, is_make, next_after, node_of}
+use Rattle.ktm_world.specs.Changes.{changed, changed_all, applies, apply_all, changes_bytes, is_drop, is_make, next_after, node_of}
 use Rattle.ktm_world.specs.Committed.{with_number, changes_to_commit, written_files, written_after, final_bytes}
 use Rattle.ktm_world.specs.Conflicts.{holds_now, written_by, writes}
 use Rattle.ktm_world.specs.Durable.{is_some_change}
-use Rattle.ktm_world.specs.Files.{FirstOpen, OpenFile, OwnChanges, own_changes, with_own_changes, has_made, first_open_of, is_last_version, tree_seen, first_bytes, bytes_seen, bytes_with}
+use Rattle.ktm_world.specs.Files.{FirstOpen, OpenFile, OwnChanges, own_changes, with_own_changes, has_made, first_open_of, is_last_version, tree_of, tree_seen, first_bytes, bytes_seen, bytes_with}
 use Rattle.ktm_world.specs.Holds.{Place, Holds, holds_by, each_change, places_of, dropped_directory, moved_directory, directories_of, is_in, is_place_in, meet_in, same_place}
 use Rattle.ktm_world.specs.Lawful.{are_apart, is_alone, is_touched_by, others, undecided}
 use Rattle.ktm_world.specs.Present.{Present}
 use Rattle.ktm_world.specs.Transactions.{is_of, is_undecided, same_id}
-use Rattle.ktm_world.specs.Tree.{Tree, content_of, is_directory, is_file, node_at}
+use Rattle.ktm_world.specs.Tree.{Tree, content_of, is_directory, is_file, is_there, node_at}
 use Rattle.ktm_laws.specs.FinalChanges.{names_of, IsFinal}
 use Rattle.ktm_laws.specs.Footprint.{IsIn}
 use Rattle.ktm_laws.specs.GoodState.{each_pair, puts_some}
 use Rattle.ktm_laws.specs.OwnChange.{HoldsNothing, Owns, owned, OwnChangeLaw}
-use Rattle.ktm_laws.specs.SoundFiles.{IsSoundFiles, is_undecided_in, changed_by_two, make_apart, numbers_made, is_drawn_node, made_or_opened, is_change_of_opened, has_dropped, is_open_last, is_plain_well, is_own_well, may_use, files_apart, all_files_apart, is_no_directory, opens_no_directory}
+use Rattle.ktm_laws.specs.SoundFiles.{IsSoundFiles, is_undecided_in, changed_by_two, make_apart, numbers_made, is_drawn_node, made_or_opened, is_change_of_opened, has_dropped, is_open_last, is_plain_well, is_own_well, may_use, files_apart, all_files_apart, is_gone, is_no_directory, opens_no_directory}
 use Rattle.ktm_laws.proofs.Diamonds.{same_place-sym, IsIn-right, IsIn-map, no_test, none-from, meets-not}
 use Rattle.ktm_laws.proofs.Elements.{each_pair-either, IsIn-filter, IsIn-kept, IsIn-flat_map, IsIn-unflat, list_all-at, list_all-from, list_any-at, list_any-from}
 use Rattle.ktm_laws.proofs.Lists.{IsIn-left, IsIn-cases, IsIn-unmap, IsIn-first}
 use Rattle.ktm_laws.proofs.NormalForms.{IsIn-with_number-new, names-final, filter-append, names_only, is-final, final-applies, each_change-append, Silent, silent-places, silent-dropped, silent-moved, held-names}
 use Rattle.ktm_laws.proofs.Applying.{Applies-from, Fits-from, is_there-none}
-use Rattle.ktm_laws.proofs.NodeKinds.{directory-was}
-use Rattle.ktm_laws.proofs.Lookups.{node_at-elsewhere}
+use Rattle.ktm_laws.proofs.NodeKinds.{directory-was, there-was}
+use Rattle.ktm_laws.proofs.Lookups.{node_at-elsewhere, node_at-there}
 use Rattle.ktm_laws.proofs.PlainCalls.{next-free}
 use Rattle.ktm_laws.proofs.Versions.{is_file-kept}
-use Rattle.ktm_laws.proofs.Passing.{IsIn-with_number, All-in, All-by, own-final, written-node, drawn-made, drawn-node}
+use Rattle.ktm_laws.proofs.Passing.{IsIn-with_number, All-in, All-by, own-final, written-node, drawn-made, drawn-node, own-drawn}
 use Rattle.ktm_laws.proofs.Reserving.{own_changes-found, writer-alone, own-apply, own_changes-by}
 use Rattle.ktm_laws.proofs.Tables.{same_id-equal, same_id-from, same_id-sym}
 
@@ -601,6 +601,40 @@ module _ (x : Present) (id : Id) (c : Change) (sound : IsSoundFiles x) (owns : O
       mine i same = subst (λ (i : Id). is_no_directory x.files n i ≡ true → is_no_directory z.files n i ≡ true) same
           (λ was. not_from_false _ (false_from_ne_true _ (λ dir. true≢false (sym (one (names_only c) (subst (λ t. is_directory t n ≡ true) (seen-after tt) dir)) ∙ not-true _ was))))
 
+  -- what it dropped is gone, and stays so
+  gone-mine : list_all (is_gone seen) ms ≡ true → list_all (is_gone (tree_seen z.files (Some id))) new ≡ true
+  gone-mine was = list_all-from (is_gone (tree_seen z.files (Some id))) new (λ d there. elim (cases_Bool (is_drop d)) [
+    | inr other ↦ or_left _ _ (not_from_false _ other)
+    | inl drop ↦ or_right _ _ (not_from_false _ (false_from_ne_true _ (λ here. go d drop (subst (λ t. is_there t (node_of d) ≡ true) (seen-after tt) here) (elim (final-change cs by d there) [
+      | inl (has, name) ↦ of-two d has
+      | inr rest ↦ absurd (true≢false (sym drop ∙ rest.4))
+    ]))))
+  ])
+    where
+      before : (d : Change) → IsIn d ms → is_drop d ≡ true → is_there seen (node_of d) ≡ false
+      before d old drop = elim (or_cases (not (is_drop d)) (not (is_there seen (node_of d))) (list_all-at (is_gone seen) ms was d old)) [ inl other ↦ absurd (true≢false (sym drop ∙ not-true _ other)) | inr gone ↦ not-true _ gone ]
+
+      now-gone : (k : Change) → applies seen k ≡ true → is_drop k ≡ true → is_there (changed seen k) (node_of k) ≡ true → ⊥
+      now-gone (Drop node) is drop here =
+          let at = Applies-from seen (Drop node) is in
+          true≢false (sym here ∙ or_from _ _ at.0 (ap is_some (node_at-there seen (Drop node) (Fits-from seen (Drop node) at))))
+      now-gone (Make node parent kind name) is drop here = true≢false (sym drop)
+      now-gone (Put node offset contents) is drop here = true≢false (sym drop)
+      now-gone (Cut node size pages) is drop here = true≢false (sym drop)
+      now-gone (Move node parent name) is drop here = true≢false (sym drop)
+
+      go : (d : Change) → is_drop d ≡ true → is_there (changed_all seen (names_of (c ∷ []))) (node_of d) ≡ true → IsIn d ms ⊎ (c ≡ d) → ⊥
+      go d drop here (inl old) = one (names_only c) here
+        where
+          one : (b : Bool) → is_there (changed_all seen (cond b (c ∷ []) [])) (node_of d) ≡ true → ⊥
+          one true here = true≢false (sym (there-was seen c owns.applies (node_of d) (λ make at. omega (arith, below (node_of d) (own-drawn x sound id (node_of d) (IsIn-map node_of d ms old)), owns.fresh make, at)) here) ∙ before d old drop)
+          one false here = true≢false (sym here ∙ before d old drop)
+      go d drop here (inr same) = two (names_only c) (names-if-drop c (ap is_drop same ∙ drop)) here
+        where
+          two : (b : Bool) → b ≡ true → is_there (changed_all seen (cond b (c ∷ []) [])) (node_of d) ≡ true → ⊥
+          two true name here = now-gone c owns.applies (ap is_drop same ∙ drop) (subst (λ n. is_there (changed seen c) n ≡ true) (sym (ap node_of same)) here)
+          two false name here = true≢false (sym name)
+
   opened-file : (o : OpenFile) → IsIn o x.files.table.opens → (t : Option Id) → opens_no_directory x.files o.node t ≡ true → may_use x o t ≡ true → opens_no_directory z.files o.node t ≡ true
   opened-file o there None was well = refl
   opened-file o there (Some i) was well =
@@ -664,6 +698,10 @@ module _ (x : Present) (id : Id) (c : Change) (sound : IsSoundFiles x) (owns : O
       not_from_false _ (none-from (is_in (numbers_made new)) (numbers_made u.changes) (λ n theirs. none-from (λ m. m == n) (numbers_made new) (λ m mine'. ne_eqb m n (λ e. others-number u there differ n (subst (λ k. IsIn k (numbers_made new)) e mine') theirs)))),
       not_from_false _ (none-from (is_in (numbers_made u.changes)) (numbers_made new) (λ n mine'. none-from (λ m. m == n) (numbers_made u.changes) (λ m theirs. ne_eqb m n (λ e. others-number u there differ n mine' (subst (λ k. IsIn k (numbers_made u.changes)) e theirs))))),
     ));
+    own_gone = list_all-from _ z.files.table.own (each (λ o. (not (o.transaction.boot == x.recorded.boots) || list_all (is_gone (tree_of z.files o.transaction)) o.changes) ≡ true)
+        (elim (or_cases (not (id.boot == x.recorded.boots)) (list_all (is_gone seen) ms) gone-before) [ inl back ↦ or_left _ _ back | inr gone ↦ or_right _ _ (gone-mine gone) ])
+        (λ o there differ. ap (λ ds. not (o.transaction.boot == x.recorded.boots) || list_all (is_gone (changed_all x.files.tree (names_of ds))) o.changes) (own-other o.transaction differ)
+        ∙ list_all-at (λ (p : OwnChanges). not (p.transaction.boot == x.recorded.boots) || list_all (is_gone (tree_of x.files p.transaction)) p.changes) x.files.table.own sound.own_gone o there));
     first_once = sound.first_once;
     first_undecided = sound.first_undecided;
     first_not_made = list_all-from _ x.files.first_opens (λ o there. list_all-from _ z.files.table.own (each (λ p. not (is_in (numbers_made p.changes) o.file) ≡ true)
@@ -695,6 +733,15 @@ module _ (x : Present) (id : Id) (c : Change) (sound : IsSoundFiles x) (owns : O
     writers = list_all-from _ x.files.table.opens alone-still;
   }
     where
+      gone-before : (not (id.boot == x.recorded.boots) || list_all (is_gone seen) ms) ≡ true
+      gone-before = elim (own_changes-found x.files.table.own id) [
+        | inl none ↦ or_right _ _ (subst (λ ds. list_all (is_gone seen) ds ≡ true) (sym none) refl)
+        | inr (o, has, is, changes) ↦
+            ap (λ ds. not (id.boot == x.recorded.boots) || list_all (is_gone seen) ds) (sym changes)
+            ∙ ap (λ i. not (i.boot == x.recorded.boots) || list_all (is_gone (tree_of x.files i)) o.changes) (sym is)
+            ∙ list_all-at (λ (p : OwnChanges). not (p.transaction.boot == x.recorded.boots) || list_all (is_gone (tree_of x.files p.transaction)) p.changes) x.files.table.own sound.own_gone o has
+      ]
+
       some-change : is_some_change new ≡ true
       some-change = elim (cases_Bool (changes_bytes c)) [
         | inr name ↦ some-from new c (name-final cs by c (IsIn-right c ms (c ∷ []) (inl refl)) (not_from_false _ name))

@@ -14,22 +14,23 @@ use Rattle.ktm_world.specs.Changes.{changed, changed_all, applies, apply_all, ch
 use Rattle.ktm_world.specs.Committed.{Version, version_of, with_change, changes_to_commit, written_files, written_after, with_number, without_number, final_bytes}
 use Rattle.ktm_world.specs.Conflicts.{holds_now, written_by, writes}
 use Rattle.ktm_world.specs.Durable.{is_some_change, next_after_all}
-use Rattle.ktm_world.specs.Files.{FilesNow, FirstOpen, OpenFile, OwnChanges, own_changes, has_made, first_open_of, is_last_version, tree_seen, bytes_seen, committed_files}
+use Rattle.ktm_world.specs.Files.{FilesNow, FirstOpen, OpenFile, OwnChanges, own_changes, has_made, first_open_of, is_last_version, tree_of, tree_seen, bytes_seen, committed_files}
 use Rattle.ktm_world.specs.HandleCalls.{has_handle}
 use Rattle.ktm_world.specs.Holds.{is_in}
 use Rattle.ktm_world.specs.Lawful.{are_apart, is_alone, is_touched_by, others, undecided}
 use Rattle.ktm_world.specs.Present.{Present}
 use Rattle.ktm_world.specs.Transactions.{is_of, is_undecided, same_id}
-use Rattle.ktm_world.specs.Tree.{Tree, IsWellFormed, bytes_of, content_of, is_directory, is_file, node_at}
+use Rattle.ktm_world.specs.Tree.{Tree, IsWellFormed, root, has_number, bytes_of, content_of, is_directory, is_file, node_at}
 use Rattle.ktm_laws.specs.Footprint.{IsIn, footprint, AreFootprintsApart, ListsLaw}
 use Rattle.ktm_laws.specs.Formed.{FormedLaw}
 use Rattle.ktm_laws.specs.GoodState.{each_pair, puts_some}
 use Rattle.ktm_laws.specs.Reservations.{IsLeft}
-use Rattle.ktm_laws.specs.SoundFiles.{IsSoundFiles, is_undecided_in, changed_by_two, make_apart, opened_apart, opens_rise, numbers_made, is_drawn_node, made_or_opened, is_change_of_opened, has_dropped, is_open_last, is_plain_well, is_own_well, files_apart, all_files_apart, may_use, is_no_directory, opens_no_directory}
+use Rattle.ktm_laws.specs.SoundFiles.{IsSoundFiles, is_undecided_in, changed_by_two, make_apart, opened_apart, opens_rise, numbers_made, is_drawn_node, made_or_opened, is_change_of_opened, has_dropped, is_open_last, is_plain_well, is_own_well, files_apart, all_files_apart, may_use, is_gone, is_no_directory, opens_no_directory}
 use Rattle.ktm_laws.proofs.Applying.{Applies-from, Fits-from}
 use Rattle.ktm_laws.proofs.Committing.{next-rises, below-changed_all}
 use Rattle.ktm_laws.proofs.Diamonds.{IsIn-right, IsIn-map, no_test, none-from}
-use Rattle.ktm_laws.proofs.Elements.{IsIn-filter, IsIn-kept, IsIn-flat_map, IsIn-unflat, list_all-at, list_all-from, list_any-at, list_any-from, each_pair-filter}
+use Rattle.ktm_laws.proofs.Elements.{find-in, IsIn-filter, IsIn-kept, IsIn-flat_map, IsIn-unflat, list_all-at, list_all-from, list_any-at, list_any-from, each_pair-filter}
+use Rattle.ktm_laws.proofs.Meeting.{found-or-made}
 use Rattle.ktm_laws.proofs.NodeKinds.{MakesNot, is_directory_at, directories-were}
 use Rattle.ktm_laws.proofs.Lists.{IsIn-left, IsIn-unmap}
 use Rattle.ktm_laws.proofs.Lookups.{remade, node_at-changed}
@@ -188,6 +189,22 @@ drawn-node x sound id n is = elim (or_cases (has_made (own_changes x.files.table
 ]
 
 -- ---- numbers
+
+-- a node that is there, or that a transaction changed, has a number that was drawn
+pub in-tree-drawn : (x : Present) → IsSoundFiles x → (n : ℕ) → is_some (node_at x.files.tree n) ≡ true → is_drawn_node x.files n ≡ true
+in-tree-drawn x sound n some = go (node_at x.files.tree n) refl some
+  where
+    go : (o : Option Node) → node_at x.files.tree n ≡ o → is_some o ≡ true → is_drawn_node x.files n ≡ true
+    go None found some = absurd (true≢false (sym some))
+    go (Some node) found some =
+        let at = find-in (has_number n) x.files.tree node found in
+        subst (λ m. is_drawn_node x.files m ≡ true) (eqb-true _ _ at.1) (list_all-at (λ (k : Node). is_drawn_node x.files k.number) x.files.tree sound.tree_drawn node at.0)
+
+pub own-drawn : (x : Present) → IsSoundFiles x → (id : Id) (n : ℕ) → IsIn n (map node_of (own_changes x.files.table.own id)) → is_drawn_node x.files n ≡ true
+own-drawn x sound id n there = let mine = own_changes x.files.table.own id in elim (found-or-made mine x.files.tree (own-apply x sound id) n there) [
+  | inl found ↦ in-tree-drawn x sound n found
+  | inr (c, in_mine, make, at) ↦ drawn-made x sound id n (subst (λ m. IsIn m (numbers_made mine)) at (made-number mine c in_mine make))
+]
 
 pub next-enough : (cs : List Change) (next : ℕ) → ((n : ℕ) → IsIn n (numbers_made cs) → n < next) → next_after_all next cs ≤ next
 next-enough [] next below = omega arith
@@ -385,16 +402,16 @@ module _ (lists : ListsLaw) (formed : FormedLaw) (x y : Present) (cs : List Chan
       go true true plain may drawn = or_right _ _ (and_from _ _ drawn (or_right _ _ (ap (λ t. is_file t o.node) tree-is ∙ spares.plain o there plain may)))
 
   -- a transaction sees a node that it holds as before
-  seen-same : (id : Id) → Kept id → (n : ℕ) → is_drawn_node x.files n ≡ true → is_in (holds_now x.files id).nodes n ≡ true → is_file (tree_seen z.files (Some id)) n ≡ is_file (tree_seen x.files (Some id)) n
+  seen-same : (id : Id) → Kept id → (n : ℕ) → is_drawn_node x.files n ≡ true → is_in (holds_now x.files id).nodes n ≡ true → node_at (tree_seen z.files (Some id)) n ≡ node_at (tree_seen x.files (Some id)) n
   seen-same id kept n drawn held =
       let mine = own_changes x.files.table.own id in
       let names = filter (λ change. not (changes_bytes change)) mine in
       let applies' : apply_all z.files.tree mine ≡ true = subst (λ ds. apply_all z.files.tree ds ≡ true) (own-left id kept.0) (left id kept).applies in
-      ap (λ ds. is_some (content_of (node_at (changed_all z.files.tree (filter (λ change. not (changes_bytes change)) ds)) n))) (own-left id kept.0)
-      ∙ ap (λ o. is_some (content_of o)) (node_at-changed_all names x.files.tree z.files.tree n
+      ap (λ ds. node_at (changed_all z.files.tree (filter (λ change. not (changes_bytes change)) ds)) n) (own-left id kept.0)
+      ∙ node_at-changed_all names x.files.tree z.files.tree n
       (names-apply x.files.tree mine (bytes_seen x.files (Some id)) (own-final x sound id) (own-apply x sound id))
       (names-apply z.files.tree mine (bytes_seen x.files (Some id)) (own-final x sound id) applies')
-      (ap (λ t. node_at t n) tree-is ∙ bytes-elsewhere cs x.files.tree n spares.all (clear-of id kept n drawn held)))
+      (ap (λ t. node_at t n) tree-is ∙ bytes-elsewhere cs x.files.tree n spares.all (clear-of id kept n drawn held))
 
   own-well : (o : OpenFile) → IsIn o x.files.table.opens → keep o.transaction ≡ true → is_own_well z o ≡ true
   own-well o there stays = go o.transaction refl stays (list_all-at (is_own_well x) x.files.table.opens sound.opens_own o there)
@@ -414,9 +431,13 @@ module _ (lists : ListsLaw) (formed : FormedLaw) (x y : Present) (cs : List Chan
           and_from _ _ (and_from _ _ (and_from _ _ (and_from _ _ (step.undecided id kept b.0) (ap (λ n. id.boot == n) step.boots ∙ b.1)) (made-same id kept o.node ∙ c.1))
           (ap (λ ds. not (has_dropped ds o.node)) (own-left id kept) ∙ d.1))
           (elim (cases_Bool (writes o.access)) [
-            | inl may ↦ ap (λ f. not (writes o.access) || f) (seen-same id is o.node (drawn-node x sound id o.node c.1) (held may)) ∙ e.1
+            | inl may ↦ ap (λ k. not (writes o.access) || is_some (content_of k)) (seen-same id is o.node (drawn-node x sound id o.node c.1) (held may)) ∙ e.1
             | inr not' ↦ or_left _ _ (not_from_false _ not')
           ])
+
+  held-by : (id : Id) (n : ℕ) → is_in (map node_of (own_changes x.files.table.own id)) n ≡ true → is_in (holds_now x.files id).nodes n ≡ true
+  held-by id n has = let mine = map node_of (own_changes x.files.table.own id) in
+      let found = list_any-at (λ m. m == n) mine has in list_any-from (λ m. m == n) (holds_now x.files id).nodes found.0 (IsIn-left found.0 mine (written_by x.files.table.opens id) found.1) found.2
 
   -- a file that a transaction made or first opened becomes no directory in what it sees
   no-directory : (id : Id) → Kept id → (n : ℕ) → is_drawn_node x.files n ≡ true → ((c : Change) → IsIn c cs → (IsIn n (map node_of (own_changes x.files.table.own id)) → ⊥) → MakesNot c n)
@@ -426,18 +447,21 @@ module _ (lists : ListsLaw) (formed : FormedLaw) (x y : Present) (cs : List Chan
       let names = filter (λ change. not (changes_bytes change)) mine in
       let applies : apply_all x.files.tree names ≡ true = names-apply x.files.tree mine (bytes_seen x.files (Some id)) (own-final x sound id) (own-apply x sound id) in
       let applies' : apply_all z.files.tree names ≡ true = names-apply z.files.tree mine (bytes_seen x.files (Some id)) (own-final x sound id) (subst (λ ds. apply_all z.files.tree ds ≡ true) (own-left id kept.0) (left id kept).applies) in
-      ap (λ ds. not (is_directory (changed_all z.files.tree (filter (λ change. not (changes_bytes change)) ds)) n)) (own-left id kept.0)
-      ∙ elim (cases_Bool (is_in (map node_of mine) n)) [
-        | inl held ↦ ap (λ o. not (is_directory_at n o)) (node_at-changed_all names x.files.tree z.files.tree n applies applies' (ap (λ t. node_at t n) tree-is ∙ bytes-elsewhere cs x.files.tree n spares.all (clear-of id kept n drawn (or-in (map node_of mine) (written_by x.files.table.opens id) n held)))) ∙ was
+      elim (cases_Bool (is_in (map node_of mine) n)) [
+        | inl held ↦ ap (λ o. not (is_directory_at n o)) (seen-same id kept n drawn (held-by id n held)) ∙ was
         | inr free ↦
             let outside : IsIn n (map node_of mine) → ⊥ = λ there. eqb-false n n (no_test (λ m. m == n) n (map node_of mine) free there) refl in
             let beside : IsIn n (map node_of names) → ⊥ = λ there. let from = IsIn-unmap node_of n names there in outside (subst (λ m. IsIn m (map node_of mine)) from.1 (IsIn-map node_of from.0 mine (IsIn-filter (λ change. not (changes_bytes change)) mine from.0 from.2).0)) in
-            ap (λ o. not (is_directory_at n o)) (bytes-elsewhere names z.files.tree n applies' beside) ∙ not_from_false _ (false_from_ne_true _ (λ dir.
+            ap (λ ds. not (is_directory (changed_all z.files.tree (filter (λ change. not (changes_bytes change)) ds)) n)) (own-left id kept.0) ∙ ap (λ o. not (is_directory_at n o)) (bytes-elsewhere names z.files.tree n applies' beside) ∙ not_from_false _ (false_from_ne_true _ (λ dir.
             true≢false (sym (directories-were cs x.files.tree spares.all n (λ c there. others c there outside) (subst (λ t. is_directory t n ≡ true) tree-is dir)) ∙ ap (is_directory_at n) (sym (bytes-elsewhere names x.files.tree n applies beside)) ∙ not-true _ was)))
       ]
-    where
-      or-in : (ns ms : List ℕ) (n : ℕ) → is_in ns n ≡ true → is_in (ns ++ ms) n ≡ true
-      or-in ns ms n has = let found = list_any-at (λ m. m == n) ns has in list_any-from (λ m. m == n) (ns ++ ms) found.0 (IsIn-left found.0 ns ms found.1) found.2
+
+  -- a node that a transaction dropped and does not see it does not see then
+  still-gone : (o : OwnChanges) → IsIn o x.files.table.own → Kept o.transaction → list_all (is_gone (tree_of x.files o.transaction)) o.changes ≡ true → list_all (is_gone (tree_of z.files o.transaction)) o.changes ≡ true
+  still-gone o there kept gone = list_all-from (is_gone (tree_of z.files o.transaction)) o.changes (λ c has.
+      let mine : IsIn (node_of c) (map node_of (own_changes x.files.table.own o.transaction)) = subst (λ ds. IsIn (node_of c) (map node_of ds)) (sym (changes-of o there)) (IsIn-map node_of c o.changes has) in
+      ap (λ k. not (is_drop c) || not (node_of c == root || is_some k)) (seen-same o.transaction kept (node_of c) (own-drawn x sound o.transaction (node_of c) mine) (held-by o.transaction (node_of c) (list_any-from (λ m. m == node_of c) (map node_of (own_changes x.files.table.own o.transaction)) (node_of c) mine (eq-eqb (node_of c) (node_of c) refl))))
+      ∙ list_all-at (is_gone (tree_of x.files o.transaction)) o.changes gone c has)
 
   -- a file of an open file in a transaction stays no directory there
   opened-file : (o : OpenFile) → IsIn o x.files.table.opens → keep o.transaction ≡ true → opens_no_directory z.files o.node o.transaction ≡ true
@@ -501,6 +525,12 @@ module _ (lists : ListsLaw) (formed : FormedLaw) (x y : Present) (cs : List Chan
         drawn-more n (list_all-at (is_drawn_node x.files) (numbers_made o.changes) (list_all-at (λ (p : OwnChanges). list_all (is_drawn_node x.files) (numbers_made p.changes)) x.files.table.own sound.own_drawn o (own-kept o there).0) n made)));
     own_new = list_all-from _ z.files.table.own new;
     own_differ = each_pair-filter make_apart (λ o. keep (Some o.transaction)) x.files.table.own sound.own_differ;
+    own_gone = list_all-from _ z.files.table.own (λ o there.
+        let kept = own-kept o there in
+        elim (or_cases (not (o.transaction.boot == x.recorded.boots)) _ (list_all-at (λ (p : OwnChanges). not (p.transaction.boot == x.recorded.boots) || list_all (is_gone (tree_of x.files p.transaction)) p.changes) x.files.table.own sound.own_gone o kept.0)) [
+          | inl back ↦ or_left _ _ (ap (λ b. not (o.transaction.boot == b)) step.boots ∙ back)
+          | inr gone ↦ or_right _ _ (still-gone o kept.0 kept.1 gone)
+        ]);
     first_once = each_pair-filter opened_apart (λ o. keep (Some o.transaction)) x.files.first_opens sound.first_once;
     first_undecided = list_all-from _ z.files.first_opens (λ o there.
         let kept = first-kept o there in

@@ -9,7 +9,7 @@ use Rattle.ktm_types.specs.declared.change.Change.{Change}
 use Rattle.ktm_types.specs.declared.event.Event.{Event}
 use Rattle.ktm_types.specs.declared.object.Object.{Object}
 use Rattle.ktm_types.specs.declared.object.Transaction.{Transaction}
-use Rattle.ktm_world.specs.Changes.{changed, is_make, node_of}
+use Rattle.ktm_world.specs.Changes.{changed, node_of}
 use Rattle.ktm_world.specs.Committed.{Committed, versions_after, with_change}
 use Rattle.ktm_world.specs.Conflicts.{holds_now, writes}
 use Rattle.ktm_world.specs.Durable.{Durable, is_before, decide_recorded, finish_recorded, after_event, after_events, recorded_at}

@@ -12,7 +12,7 @@ use Rattle.ktm_world.specs.Changes.{applies, apply_all, changes_bytes, is_make, 
 use Rattle.ktm_world.specs.Committed.{changes_to_commit}
 use Rattle.ktm_world.specs.Conflicts.{holds_now}
 use Rattle.ktm_world.specs.Durable.{Durable, Recorded, changes_of, settings_of, has_changes_part, has_settings_part, is_decided, is_held, is_some_change, are_recorded_changes, stand}
-use Rattle.ktm_world.specs.Files.{OwnChanges, own_changes, first_bytes, bytes_with, bytes_seen}
+use Rattle.ktm_world.specs.Files.{OwnChanges, own_changes, first_bytes, bytes_with, bytes_seen, tree_of}
 use Rattle.ktm_world.specs.Holds.{holds_by, is_in}
 use Rattle.ktm_world.specs.Keys.{Own, OwnSettings, are_good_settings}
 use Rattle.ktm_world.specs.Lawful.{are_apart, others, undecided}
@@ -24,7 +24,7 @@ use Rattle.ktm_world.specs.World.{present, opened, transaction_back, back, in_do
 use Rattle.ktm_laws.specs.FilesKept.{AreInOrder, is_created_before}
 use Rattle.ktm_laws.specs.Footprint.{IsIn, footprint, AreFootprintsApart}
 use Rattle.ktm_laws.specs.GoodState.{each_pair, is_of_object, is_made_below, is_new_in, puts_some, waits_for_new, IsGoodState}
-use Rattle.ktm_laws.specs.SoundFiles.{IsSoundKeys, IsSoundFiles, is_undecided_in, set_by_two, set_no_key, changed_by_two, make_apart, numbers_made, is_drawn_node, is_change_of_opened, files_apart}
+use Rattle.ktm_laws.specs.SoundFiles.{IsSoundKeys, IsSoundFiles, is_undecided_in, set_by_two, set_no_key, changed_by_two, make_apart, numbers_made, is_drawn_node, is_change_of_opened, files_apart, is_gone}
 use Rattle.ktm_laws.proofs.Applying.{Applies-from}
 use Rattle.ktm_laws.proofs.Diamonds.{IsIn-map, none-from}
 use Rattle.ktm_laws.proofs.Elements.{IsIn-filter, IsIn-kept, list_all-at, list_all-from, each_pair-either, each_pair-from, each_pair-filter}
@@ -202,6 +202,10 @@ module _ (base : Durable) (room : ℕ) (log : List Group) (good : IsGoodState (s
       → AreFootprintsApart (footprint s.tree (changes_of t)) (footprint s.tree (changes_of u))
   held-apart t u there there' held held' other = (table.beside t u there there' other).files (held-waits t held) (held-waits u held')
 
+  -- it is of an earlier boot
+  earlier : (t : Recorded) → IsIn t s.transactions → not ((t.id).boot == x.recorded.boots) ≡ true
+  earlier t there = not_from_false _ (ne_eqb (t.id).boot x.recorded.boots (λ e. omega (arith, e, (booted s).0, leb-true (t.id).boot s.boots (and_parts (is_of_object t.id) (nat_le (t.id).boot s.boots) (core t there).drawn).1)))
+
   files-back : waits_for_new s ≡ true → IsSoundFiles x
   files-back new = record {
     own_undecided = each changed_by has_own_changes (λ o. is_undecided_in x.transactions.items o.transaction) (λ t there held some. undecided-back t there held);
@@ -215,7 +219,7 @@ module _ (base : Durable) (room : ℕ) (log : List Group) (good : IsGoodState (s
         (recorded-changes k.t k.there k.held (subst (λ (p : OwnChanges). has_own_changes p ≡ true) (sym k.is) k.some))));
     own_apply = each changed_by has_own_changes (λ o. apply_all s.tree o.changes) (λ t there held some. (core t there).apply);
     own_opened = each changed_by has_own_changes (λ o. list_all (is_change_of_opened x o.transaction) o.changes) (λ t there held some. list_all-from (is_change_of_opened x t.id) (changes_of t) (λ c has.
-        or_left _ _ (or_right (not (changes_bytes c)) _ (not_from_false _ (ne_eqb (t.id).boot x.recorded.boots (λ e. omega (arith, e, (booted s).0, leb-true (t.id).boot s.boots (and_parts (is_of_object t.id) (nat_le (t.id).boot s.boots) (core t there).drawn).1)))))));
+        or_left _ _ (or_right (not (changes_bytes c)) _ (earlier t there))));
     own_puts = each changed_by has_own_changes (λ o. list_all puts_some o.changes) (λ t there held some. (core t there).puts);
     own_drawn = each changed_by has_own_changes (λ o. list_all (is_drawn_node x.files) (numbers_made o.changes)) (λ t there held some. list_all-from (is_drawn_node x.files) (numbers_made (changes_of t)) (drawn t there));
     own_new = each changed_by has_own_changes (λ o. list_all (λ n. is_none (node_at s.tree n)) (numbers_made o.changes)) (λ t there held some. list_all-from (λ n. is_none (node_at s.tree n)) (numbers_made (changes_of t)) (λ n made.
@@ -227,6 +231,7 @@ module _ (base : Durable) (room : ℕ) (log : List Group) (good : IsGoodState (s
     own_differ = pairs changed_by has_own_changes make_apart (λ t u there there' held held' other. not_from_false _ (none-from (is_in (numbers_made (changes_of t))) (numbers_made (changes_of u)) (λ n theirs.
         none-from (λ m. m == n) (numbers_made (changes_of t)) (λ m mine. ne_eqb m n (λ e.
         (held-apart t u there there' held held' other).nodes n (subst (λ k. IsIn k (map node_of (changes_of t))) e (made-node (changes_of t) m mine)) (made-node (changes_of u) n theirs))))));
+    own_gone = each changed_by has_own_changes (λ o. not (o.transaction.boot == x.recorded.boots) || list_all (is_gone (tree_of x.files o.transaction)) o.changes) (λ t there held some. or_left _ _ (earlier t there));
     first_once = refl;
     first_undecided = refl;
     first_not_made = refl;

@@ -1,7 +1,6 @@
 -- What a transaction sees, and what a call meets there.
-use Rattle.std.proofs.Common.{◌≡◌, ℕ, ◌==◌, ◌&&◌, ◌||◌, not, Bool, true, false, is_none, is_some, filter, map, List, [], ◌∷◌, ◌++◌, Option, Some, None, refl, sym, ◌∙◌, ap, subst, arith, inl, inr, ◌⊎◌}
-use Rattle.std.proofs.lemmas.Bool.{cases_Bool, eq-eqb, eqb-true, eqb-false, ltb-true, and_parts, and_from, or_parts, or_cases, or_from, not-true, not_from_false, true≢false, false_from_ne_true}
-use Rattle.std.proofs.lemmas.Option.{none-some}
+use Rattle.std.proofs.Common.{◌≡◌, ℕ, ◌==◌, ◌&&◌, ◌||◌, not, Bool, true, false, is_none, is_some, filter, map, List, [], ◌∷◌, ◌++◌, Option, Some, None, refl, sym, ◌∙◌, ap, subst, arith, inl, inr}
+use Rattle.std.proofs.lemmas.Bool.{cases_Bool, eq-eqb, eqb-true, ltb-true, and_parts, and_from, or_parts, or_cases, or_from, not-true, true≢false}
 use Rattle.std.specs.List.{list_all, list_any}
 use Rattle.std.specs.Prelude.{nat_le}
 use Rattle.ktm_base.specs.declared.id.Id.{Id}
@@ -12,30 +11,25 @@ use Rattle.ktm_world.specs.Changes.{applies, apply_all, changes_bytes, is_make, 
 use Rattle.ktm_world.specs.Conflicts.{conflicts, changes_outdated, holds_now, is_outdated, meets_other, overwrites_opened, touches_plain_writer, users, written_by, writes}
 use Rattle.ktm_world.specs.Durable.{acts_of}
 use Rattle.ktm_world.specs.Files.{FilesNow, FirstOpen, OpenFile, OwnChanges, own_changes, has_made, first_open_of, is_last_version, tree_seen, bytes_seen}
-use Rattle.ktm_world.specs.Holds.{Act, Holds, holds_by, file_changed, file_overwritten, file_touched, is_in, meets}
-use Rattle.ktm_world.specs.Lawful.{undecided}
+use Rattle.ktm_world.specs.Holds.{Act, holds_by, file_changed, file_touched, is_in, meets}
 use Rattle.ktm_world.specs.Present.{Present}
 use Rattle.ktm_world.specs.Transactions.{is_of, same_id}
-use Rattle.ktm_world.specs.Tree.{Tree, IsWellFormed, root, content_of, has_number, is_directory, is_file, is_there, node_at}
+use Rattle.ktm_world.specs.Tree.{Tree, IsWellFormed, root, content_of, is_directory, is_file, is_there, node_at}
 use Rattle.ktm_laws.specs.FinalChanges.{names_of}
 use Rattle.ktm_laws.specs.Footprint.{IsIn}
 use Rattle.ktm_laws.specs.Formed.{FormedLaw}
 use Rattle.ktm_laws.specs.GoodState.{each_pair}
 use Rattle.ktm_laws.specs.OwnChange.{HoldsNothing}
-use Rattle.ktm_laws.specs.SoundFiles.{IsSoundFiles, opened_apart, is_drawn_node, is_own_well, is_plain_well, made_or_opened, may_use, has_dropped, numbers_made, is_undecided_in}
+use Rattle.ktm_laws.specs.SoundFiles.{IsSoundFiles, opened_apart, is_drawn_node, is_own_well, made_or_opened, may_use, has_dropped, numbers_made, is_undecided_in}
 use Rattle.ktm_laws.proofs.Diamonds.{no_test, IsIn-map}
 use Rattle.ktm_laws.proofs.Elements.{IsIn-filter, list_all-at, list_any-at, list_any-from}
-use Rattle.ktm_laws.proofs.Formed.{found-from}
 use Rattle.ktm_laws.proofs.Landing.{holder-user}
-use Rattle.ktm_laws.proofs.Leading.{find-in}
 use Rattle.ktm_laws.proofs.Lists.{IsIn-left, IsIn-cases, IsIn-unmap}
-use Rattle.ktm_laws.proofs.Meeting.{found-or-made, misses-nothing}
+use Rattle.ktm_laws.proofs.Meeting.{misses-nothing}
 use Rattle.ktm_laws.proofs.NodeKinds.{files-were, directories-were}
-use Rattle.ktm_laws.proofs.Passing.{drawn-made, drawn-node, made-number, names-apply, own-final}
+use Rattle.ktm_laws.proofs.Passing.{own-drawn, drawn-node, made-number, names-apply, own-final}
 use Rattle.ktm_laws.proofs.PlainCalls.{next-free}
-use Rattle.ktm_laws.proofs.Releasing.{spares-none}
 use Rattle.ktm_laws.proofs.Reserving.{bytes-elsewhere, misses, own-apply, own_changes-found}
-use Rattle.ktm_laws.proofs.Applying.{is_there-none}
 use Rattle.ktm_laws.proofs.Tables.{same_id-equal, same_id-from, same_id-sym}
 
 -- ---- a call that meets nothing
@@ -81,21 +75,6 @@ still-last x sound id act none n changed f there of at =
     not-false false is = absurd (true≢false is)
 
 -- ---- what is held was drawn
-
-in-tree-drawn : (x : Present) → IsSoundFiles x → (n : ℕ) → is_some (node_at x.files.tree n) ≡ true → is_drawn_node x.files n ≡ true
-in-tree-drawn x sound n some = go (node_at x.files.tree n) refl some
-  where
-    go : (o : Option Node) → node_at x.files.tree n ≡ o → is_some o ≡ true → is_drawn_node x.files n ≡ true
-    go None found some = absurd (true≢false (sym some))
-    go (Some node) found some =
-        let at = find-in (has_number n) x.files.tree node found in
-        subst (λ m. is_drawn_node x.files m ≡ true) (eqb-true _ _ at.1) (list_all-at (λ (k : Node). is_drawn_node x.files k.number) x.files.tree sound.tree_drawn node at.0)
-
-own-drawn : (x : Present) → IsSoundFiles x → (id : Id) (n : ℕ) → IsIn n (map node_of (own_changes x.files.table.own id)) → is_drawn_node x.files n ≡ true
-own-drawn x sound id n there = let mine = own_changes x.files.table.own id in elim (found-or-made mine x.files.tree (own-apply x sound id) n there) [
-  | inl found ↦ in-tree-drawn x sound n found
-  | inr (c, in_mine, make, at) ↦ drawn-made x sound id n (subst (λ m. IsIn m (numbers_made mine)) at (made-number mine c in_mine make))
-]
 
 -- a file that is open in a transaction that may use it
 pub record Used (x : Present) (o : OpenFile) (id : Id) : Type 0 where

@@ -19,7 +19,7 @@ use Rattle.ktm_world.specs.Labels.{holds_of}
 use Rattle.ktm_world.specs.Lawful.{are_apart, set_both, is_alone, others, undecided}
 use Rattle.ktm_world.specs.Present.{Present}
 use Rattle.ktm_world.specs.Transactions.{same_id, is_undecided, transaction_at}
-use Rattle.ktm_world.specs.Tree.{IsWellFormed, bytes_of, is_directory, is_file, node_at}
+use Rattle.ktm_world.specs.Tree.{Tree, IsWellFormed, bytes_of, is_directory, is_file, is_there, node_at}
 use Rattle.ktm_laws.specs.GoodState.{each_pair, is_good_entry, puts_some}
 
 -- is the transaction there, and undecided
@@ -88,6 +88,10 @@ is_change_of_opened x id change = not (changes_bytes change) || not (id.boot == 
 -- has the transaction dropped the node
 abbrev pub has_dropped : List Change → ℕ → Bool
 has_dropped changes node = list_any (λ change. is_drop change && node_of change == node) changes
+
+-- does the change drop no node that is there
+abbrev pub is_gone : Tree → Change → Bool
+is_gone tree change = not (is_drop change) || not (is_there tree (node_of change))
 
 -- ---- first opens
 
@@ -165,6 +169,8 @@ pub record IsSoundFiles (x : Present) : Type 0 where
   pub own_new : list_all (λ o. list_all (λ n. is_none (node_at x.files.tree n)) (numbers_made o.changes)) x.files.table.own ≡ true
   -- no two transactions make a node of the same number
   pub own_differ : each_pair make_apart x.files.table.own ≡ true
+  -- a transaction of this boot sees no node that it dropped
+  pub own_gone : list_all (λ o. not (o.transaction.boot == x.recorded.boots) || list_all (is_gone (tree_of x.files o.transaction)) o.changes) x.files.table.own ≡ true
   -- a transaction first opens a file once
   pub first_once : each_pair opened_apart x.files.first_opens ≡ true
   -- a transaction that first opened a file is there, undecided, and of this boot
