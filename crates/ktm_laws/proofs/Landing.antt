@@ -138,7 +138,7 @@ no-number next (Cut node size pages) bytes = refl
 no-number next (Move node parent name) bytes = absurd (true≢false (sym bytes))
 no-number next (Drop node) bytes = absurd (true≢false (sym bytes))
 
-write-lands : (x : Present) (change : Change) (o : OpenFile) → IsSoundFiles x → IsIn o x.files.table.opens → is_none o.transaction ≡ true → writes o.access ≡ true → applies x.files.tree change ≡ true → changes_bytes change ≡ true
+pub write-lands : (x : Present) (change : Change) (o : OpenFile) → IsSoundFiles x → IsIn o x.files.table.opens → is_none o.transaction ≡ true → writes o.access ≡ true → applies x.files.tree change ≡ true → changes_bytes change ≡ true
     → node_of change ≡ o.node → Lands x change
 write-lands x change o sound there plain may applies bytes at = record {
   applies = applies;

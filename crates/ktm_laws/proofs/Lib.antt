@@ -33,6 +33,7 @@ pub mod Meeting
 pub mod Moves
 pub mod NodeKinds
 pub mod NormalForms
+pub mod OpenCalls
 pub mod Opening
 pub mod Outcomes
 pub mod OwnCalls

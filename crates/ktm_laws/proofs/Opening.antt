@@ -146,7 +146,7 @@ module _ (x : Present) (o : OpenFile) (handles : List Handle) (sound : IsSoundFi
         touched-more o.node u (may.alone parts.0 parts.1 u u-there) (λ of is. not-of u.id o.transaction parts.0 of))))
   ]
 
-  opened-sound : IsSoundFiles z
+  pub opened-sound : IsSoundFiles z
   opened-sound = record {
     own_undecided = sound.own_undecided;
     own_once = sound.own_once;

@@ -134,13 +134,13 @@ module _ (formed : FormedLaw) (x : Present) (sound : IsSoundFiles x) (id : Id) (
       (and_from _ _ (subst (λ t. same_group t (Some id) ≡ true) (sym (transaction-of id o of)) (same_id-from id id refl)) (eq-eqb _ _ (sym at)))))
 
   -- the next number is of nothing that is open
-  next-plain : (n : ℕ) → n ≡ x.files.table.next_node → (o : OpenFile) → IsIn o x.files.table.opens → is_none o.transaction ≡ true → n ≡ o.node → ⊥
+  pub next-plain : (n : ℕ) → n ≡ x.files.table.next_node → (o : OpenFile) → IsIn o x.files.table.opens → is_none o.transaction ≡ true → n ≡ o.node → ⊥
   next-plain n next o there plain at = elim (or_cases (not (is_none o.transaction)) _ (list_all-at (is_plain_well x.files) x.files.table.opens sound.opens_plain o there)) [
     | inl own ↦ true≢false (sym plain ∙ not-true _ own)
     | inr both ↦ below-next x o.node (and_parts (is_drawn_node x.files o.node) _ both).0 (sym at ∙ next)
   ]
 
-  next-first : (n : ℕ) → n ≡ x.files.table.next_node → (o : FirstOpen) → IsIn o x.files.first_opens → n ≡ o.file → ⊥
+  pub next-first : (n : ℕ) → n ≡ x.files.table.next_node → (o : FirstOpen) → IsIn o x.files.first_opens → n ≡ o.file → ⊥
   next-first n next o there at = below-next x o.file (list_all-at (λ (p : FirstOpen). is_drawn_node x.files p.file) x.files.first_opens sound.first_drawn o there) (sym at ∙ next)
 
   -- it makes a free name
@@ -204,7 +204,7 @@ module _ (lists : ListsLaw) (formed : FormedLaw) where
       (λ i. record (owned x.files id c) { first_opens = (filter-true (x.files.first_opens ++ []) ∙ append-nil x.files.first_opens) i }) refl (λ o there. named x sound o there) (λ i was. was) (λ u there. (u, there, refl)) (owned-sound x id c sound owns)
 
   module _ (x : Present) (order : AreInOrder x) (sound : IsSoundFiles x) (id : Id) (who : is_undecided_in x.transactions.items id ≡ true) where
-    only-answers : IsSoundFiles (apply x (of_files x (Some id) (answering Done)))
+    pub only-answers : IsSoundFiles (apply x (of_files x (Some id) (answering Done)))
     only-answers = answers_file lists formed x (Some id) (answering Done) refl refl refl order sound
 
     delete-at : (w : Whereabouts) → Leads (tree_seen x.files (Some id)) w → is_at_directory w ≡ false → (conflict_test x.files (Some id) (delete_act w)).0 ≡ false → is_open_at x.files (Some id) w ≡ false → IsSoundFiles (apply x (of_files x (Some id) (drop_at w)))
@@ -247,7 +247,7 @@ module _ (lists : ListsLaw) (formed : FormedLaw) where
         → IsSoundFiles (apply x (of_files x (Some id) (make_at x.files w)))
     make-at' room (free directory name) leads none fits =
         let change = Make x.files.table.next_node directory Directory name in
-        owned-call x id change sound (owns-make formed x sound id who Directory directory name leads none (enough-numbers x.files room (Some id) (changing change) change refl refl fits))
+        owned-call x id change sound (owns-make formed x sound id who Directory directory name leads none (enough-numbers x.files room (Some id) (changing change) change refl fits))
     make-at' room no_path leads none fits = only-answers
     make-at' room no_way leads none fits = only-answers
     make-at' room at_root leads none fits = only-answers

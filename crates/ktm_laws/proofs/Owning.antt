@@ -256,7 +256,7 @@ module _ (x : Present) (id : Id) (c : Change) (sound : IsSoundFiles x) (owns : O
   old-form : IsFinal ms (bytes_seen x.files (Some id))
   old-form = is-final ms (bytes_seen x.files (Some id))
 
-  own-itself : own_changes z.files.table.own id ≡ new
+  pub own-itself : own_changes z.files.table.own id ≡ new
   own-itself = with-itself x.files.table.own id new
 
   own-other : (other : Id) → same_id id other ≡ false → own_changes z.files.table.own other ≡ own_changes x.files.table.own other
@@ -316,7 +316,7 @@ module _ (x : Present) (id : Id) (c : Change) (sound : IsSoundFiles x) (owns : O
       let parts = and_parts (is_drop found.0) (node_of found.0 == n) found.2 in
       list_any-from (λ change. is_drop change && node_of change == n) new found.0 (name-final cs by found.0 (IsIn-left found.0 ms (c ∷ []) found.1) (names-if-drop found.0 parts.0)) found.2
 
-  not-dropped : (n : ℕ) → has_dropped ms n ≡ false → (is_drop c ≡ true → node_of c ≡ n → ⊥) → has_dropped new n ≡ false
+  pub not-dropped : (n : ℕ) → has_dropped ms n ≡ false → (is_drop c ≡ true → node_of c ≡ n → ⊥) → has_dropped new n ≡ false
   not-dropped n free other = none-from (λ change. is_drop change && node_of change == n) new (λ d there. false_from_ne_true _ (λ is.
       let parts = and_parts (is_drop d) (node_of d == n) is in
       elim (final-change cs by d there) [
@@ -343,7 +343,7 @@ module _ (x : Present) (id : Id) (c : Change) (sound : IsSoundFiles x) (owns : O
 
   -- ---- others hold nothing of it
 
-  others-hold : (other : Id) → same_id id other ≡ false → holds_now z.files other ≡ holds_now x.files other
+  pub others-hold : (other : Id) → same_id id other ≡ false → holds_now z.files other ≡ holds_now x.files other
   others-hold other differ = ap (λ ds. holds_by x.files.tree ds (written_by x.files.table.opens other)) (own-other other differ)
 
   mine-holds : holds_now z.files id ≡ holds_by x.files.tree new (written_by x.files.table.opens id)
@@ -436,7 +436,7 @@ module _ (x : Present) (id : Id) (c : Change) (sound : IsSoundFiles x) (owns : O
   each : (P : OwnChanges → Type 0) → P (entry id new) → ((o : OwnChanges) → IsIn o x.files.table.own → same_id id o.transaction ≡ false → P o) → (o : OwnChanges) → IsIn o z.files.table.own → P o
   each P mine' others' o there = elim (entry-of o there) [ inl e ↦ subst P (sym e) mine' | inr old ↦ others' o old.0 old.1 ]
 
-  made-or-opened-still : (n : ℕ) → made_or_opened x.files id n ≡ true → made_or_opened z.files id n ≡ true
+  pub made-or-opened-still : (n : ℕ) → made_or_opened x.files id n ≡ true → made_or_opened z.files id n ≡ true
   made-or-opened-still n is = elim (or_cases (has_made ms n) (is_some (first_open_of x.files.first_opens id n)) is) [
     | inl made ↦ or_left _ _ (ap (λ ds. has_made ds n) own-itself ∙ has-made-still n made)
     | inr opened ↦ or_right _ _ opened
@@ -546,10 +546,10 @@ module _ (x : Present) (id : Id) (c : Change) (sound : IsSoundFiles x) (owns : O
             ]
           ]
 
-  seen-after : (tree-is : Unit {0}) → tree_seen z.files (Some id) ≡ changed_all seen (names_of (c ∷ []))
+  pub seen-after : (tree-is : Unit {0}) → tree_seen z.files (Some id) ≡ changed_all seen (names_of (c ∷ []))
   seen-after u = ap (λ ds. changed_all x.files.tree (names_of ds)) own-itself ∙ ap (changed_all x.files.tree) (names-final cs by ∙ filter-append names_only ms (c ∷ [])) ∙ fold-append changed x.files.tree (names_of ms) (names_of (c ∷ []))
 
-  file-still : (n : ℕ) → (is_drop c ≡ true → node_of c ≡ n → ⊥) → is_file seen n ≡ true → is_file (tree_seen z.files (Some id)) n ≡ true
+  pub file-still : (n : ℕ) → (is_drop c ≡ true → node_of c ≡ n → ⊥) → is_file seen n ≡ true → is_file (tree_seen z.files (Some id)) n ≡ true
   file-still n other file = subst (λ t. is_file t n ≡ true) (sym (seen-after tt)) (go (names_only c))
     where
       one : is_file (changed seen c) n ≡ true
