@@ -26,7 +26,6 @@ use Rattle.ktm_world.specs.TransactionCalls.{aborted_by}
 use Rattle.ktm_world.specs.Phases.{aborting}
 use Rattle.ktm_world.specs.Transactions.{is_active, is_of, transaction_at}
 use Rattle.ktm_world.specs.Tree.{is_file}
-use Rattle.ktm_laws.specs.FilesKept.{AreInOrder, is_created_before, is_labelled_apart}
 use Rattle.ktm_laws.specs.Footprint.{IsIn, ListsLaw}
 use Rattle.ktm_laws.specs.Formed.{FormedLaw}
 use Rattle.ktm_laws.specs.GoodState.{each_pair}
@@ -37,7 +36,7 @@ use Rattle.ktm_laws.proofs.Diamonds.{IsIn-map, IsIn-right, no_test, none-from}
 use Rattle.ktm_laws.proofs.Elements.{IsIn-filter, IsIn-kept, list_all-at, list_all-from, list_any-at, list_any-from, each_pair-filter}
 use Rattle.ktm_laws.proofs.Lists.{IsIn-left, IsIn-cases, IsIn-unmap}
 use Rattle.ktm_laws.proofs.Passing.{list_all-left}
-use Rattle.ktm_laws.proofs.Releasing.{filter-true, transaction_at-in}
+use Rattle.ktm_laws.proofs.Releasing.{AreInOrder, is_created_before, is_labelled_apart, filter-true, transaction_at-in}
 
 -- open files have ended
 pub record Closes (x y : Present) (keep : OpenFile → Bool) : Type 0 where

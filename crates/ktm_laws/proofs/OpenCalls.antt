@@ -1,16 +1,16 @@
 -- Calls that open and write files keep sound what undecided transactions own of the files.
-use Rattle.std.proofs.Common.{◌≡◌, ℕ, ◌+◌, ◌≤◌, ◌^◌, ◌==◌, ◌&&◌, ◌||◌, not, Bool, true, false, is_none, is_some, if◌then◌else◌, filter, map, max, List, [], ◌∷◌, ◌++◌, Option, Some, None, refl, sym, ◌∙◌, ap, subst, arith, inl, inr, ◌⊎◌}
-use Rattle.std.proofs.lemmas.Bool.{cases_Bool, eq-eqb, eqb-true, eqb-false, ltb-true, lt-ltb, le-leb, and_parts, and_from, or_parts, or_cases, or_from, or_left, or_right, not-true, not_from_false, true≢false, false_from_ne_true}
+use Rattle.std.proofs.Common.{◌≡◌, ℕ, ◌+◌, ◌==◌, ◌&&◌, ◌||◌, not, Bool, true, false, is_none, is_some, if◌then◌else◌, filter, map, max, List, [], ◌∷◌, ◌++◌, Option, Some, None, refl, sym, ◌∙◌, ap, subst, arith, inl, inr}
+use Rattle.std.proofs.lemmas.Bool.{cases_Bool, eq-eqb, eqb-true, eqb-false, lt-ltb, le-leb, and_parts, and_from, or_parts, or_cases, or_from, or_left, or_right, not-true, not_from_false, true≢false, false_from_ne_true}
 use Rattle.std.proofs.lemmas.List.{append-nil}
 use Rattle.std.proofs.lemmas.Option.{none-some}
-use Rattle.std.specs.List.{list_all, list_any, flat_map}
-use Rattle.std.specs.Prelude.{nat_lt, nat_le, option_and_then}
+use Rattle.std.specs.List.{list_all, list_any}
+use Rattle.std.specs.Prelude.{option_and_then}
 use Rattle.ktm_base.specs.declared.id.Id.{Id}
 use Rattle.ktm_base.specs.declared.id.Label.{Label}
 use Rattle.ktm_base.specs.declared.id.Pid.{Pid}
 use Rattle.ktm_base.specs.declared.refusal.Refusal.{Refusal}
 use Rattle.ktm_types.specs.declared.change.Change.{Change}
-use Rattle.ktm_types.specs.declared.change.Change.TheVariants.{Make, Put, Cut, Move, Drop}
+use Rattle.ktm_types.specs.declared.change.Change.TheVariants.{Make, Put, Cut}
 use Rattle.ktm_types.specs.declared.change.Contents.TheVariants.{Whole}
 use Rattle.ktm_types.specs.declared.change.NodeKind.TheVariants.{File}
 use Rattle.ktm_types.specs.declared.object.Handle.{Handle}
@@ -21,52 +21,48 @@ use Rattle.ktm_types.specs.declared.options.Disposition.{Disposition}
 use Rattle.ktm_types.specs.declared.options.ShareMode.{ShareMode}
 use Rattle.ktm_types.specs.declared.recorded.Node.{Node}
 use Rattle.ktm_types.specs.declared.reply.Reply.TheVariants.{Done}
-use Rattle.ktm_world.specs.Changes.{changed, applies, changes_bytes, is_drop, is_make, next_after, node_of}
-use Rattle.ktm_world.specs.Conflicts.{conflicts, holds_now, opener, users, written_by, writes}
+use Rattle.ktm_world.specs.Changes.{changed, applies, changes_bytes, is_drop, is_make, node_of}
+use Rattle.ktm_world.specs.Conflicts.{conflicts, holds_now, writes}
 use Rattle.ktm_world.specs.Decide.{of_files, on_file, on_file_tests, opening, own_tests}
-use Rattle.ktm_world.specs.Durable.{acts_of}
-use Rattle.ktm_world.specs.FileCalls.{Whereabouts, no_path, no_way, free, at_root, at_node, find_path, conflict_test, create_act, create_at, create_file, create_file_tests, emptying, empties, first_opening, is_at_directory, new_open, write_file, write_file_tests, set_end, set_end_tests}
+use Rattle.ktm_world.specs.FileCalls.{Whereabouts, no_path, no_way, free, at_root, at_node, find_path, conflict_test, create_act, create_at, create_file, create_file_tests, emptying, empties, is_at_directory, new_open, write_file, write_file_tests, set_end, set_end_tests}
 use Rattle.ktm_world.specs.FileOutcome.{FileOutcome, FileRoom, answering, changing, lacks_quota, openings_of}
 use Rattle.ktm_world.specs.Files.{FilesNow, FirstOpen, OpenFile, OwnChanges, own_changes, has_made, first_open_of, is_last_version, tree_of, tree_seen, with_own_changes, bytes_with, changes_with, committed_files, first_open}
 use Rattle.ktm_world.specs.HandleCalls.{has_handle, same_object}
-use Rattle.ktm_world.specs.Holds.{Act, Holds, is_in, makes, meet_in, meets, nodes_changed, opens, place}
-use Rattle.ktm_world.specs.Labels.{file_named, file_number, file_tests, open_file_at, with_handle}
+use Rattle.ktm_world.specs.Holds.{Holds, is_in, makes, meet_in, meets, opens, place}
+use Rattle.ktm_world.specs.Labels.{file_named, file_number, open_file_at, with_handle}
 use Rattle.ktm_world.specs.Handles.{object_at}
-use Rattle.ktm_world.specs.Lawful.{is_touched_by, undecided}
+use Rattle.ktm_world.specs.Lawful.{is_touched_by}
 use Rattle.ktm_world.specs.Outcome.{apply}
 use Rattle.ktm_world.specs.Present.{Present}
 use Rattle.ktm_world.specs.Transactions.{is_of, same_id}
 use Rattle.ktm_world.specs.Tree.{Tree, root, content_of, is_directory, is_file, is_there, node_at}
 use Rattle.ktm_world.specs.Uses.{file_room}
-use Rattle.ktm_laws.specs.FilesKept.{AreInOrder}
-use Rattle.ktm_laws.specs.FirstOpening.{with_first, MayOpenFirst}
+use Rattle.ktm_laws.specs.FirstOpening.{MayOpenFirst}
 use Rattle.ktm_laws.specs.Footprint.{IsIn, ListsLaw}
 use Rattle.ktm_laws.specs.Formed.{FormedLaw}
 use Rattle.ktm_laws.specs.GoodState.{puts_some}
-use Rattle.ktm_laws.specs.Openings.{MayOpen, with_file}
+use Rattle.ktm_laws.specs.Openings.{with_file}
 use Rattle.ktm_laws.specs.OwnChange.{Owns, owned}
-use Rattle.ktm_laws.specs.SoundFiles.{IsSoundFiles, has_dropped, is_drawn_node, is_gone, is_plain_well, is_undecided_in, made_or_opened, may_use, opens_no_directory}
+use Rattle.ktm_laws.specs.SoundFiles.{IsSoundFiles, has_dropped, is_drawn_node, is_gone, is_undecided_in, made_or_opened, may_use, opens_no_directory}
 use Rattle.ktm_laws.proofs.Applying.{Applies-from, Fits-from, applies-from}
 use Rattle.ktm_laws.proofs.Arriving.{named}
 use Rattle.ktm_laws.proofs.Calls.{Passes, passed, not-not}
 use Rattle.ktm_laws.proofs.Diamonds.{IsIn-right, IsIn-map, no_test, none-from}
-use Rattle.ktm_laws.proofs.Elements.{find-in, IsIn-flat_map, list_all-at, list_any-at, list_any-from}
-use Rattle.ktm_laws.proofs.FileSteps.{passes-left}
+use Rattle.ktm_laws.proofs.Elements.{find-in, list_all-at, list_any-at, list_any-from}
 use Rattle.ktm_laws.proofs.FirstOpening.{first-sound, changes-same}
 use Rattle.ktm_laws.proofs.KeysKept.{not_refused}
 use Rattle.ktm_laws.proofs.Landing.{holder-user, lands-sound, write-lands}
 use Rattle.ktm_laws.proofs.Leading.{Leads, find_path-leads}
 use Rattle.ktm_laws.proofs.Leaving.{answers_file, more-handles}
-use Rattle.ktm_laws.proofs.Lists.{IsIn-left, IsIn-cases}
+use Rattle.ktm_laws.proofs.Lists.{IsIn-cases}
 use Rattle.ktm_laws.proofs.Lookups.{node_at-there}
 use Rattle.ktm_laws.proofs.Makings.{list_any-last}
-use Rattle.ktm_laws.proofs.NormalForms.{names_only}
 use Rattle.ktm_laws.proofs.OwnCalls.{Caller, next-first, next-plain, only-answers, owned-call, owns-make, owns-write}
 use Rattle.ktm_laws.proofs.Opening.{opened-sound}
 use Rattle.ktm_laws.proofs.Owning.{own-itself, others-hold, made-or-opened-still, name-final, not-dropped, owned-sound, seen-after, file-still}
 use Rattle.ktm_laws.proofs.Passing.{drawn-node, in-tree-drawn, own-drawn}
 use Rattle.ktm_laws.proofs.PlainCalls.{acts-at, enough-numbers, file-at, lands-call, make-applies, some-from}
-use Rattle.ktm_laws.proofs.Releasing.{filter-true, spares-none, unchanged}
+use Rattle.ktm_laws.proofs.Releasing.{AreInOrder, filter-true, spares-none, unchanged}
 use Rattle.ktm_laws.proofs.Reserving.{misses, own_changes-found}
 use Rattle.ktm_laws.proofs.Seeing.{below-next, clear-from, committed-file, held-drawn, holds-nothing, not-written, seen-formed, still-last, transaction-of, used-in}
 use Rattle.ktm_laws.proofs.Tables.{same_id-equal, same_id-from, same_id-sym}

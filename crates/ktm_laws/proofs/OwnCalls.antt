@@ -30,7 +30,6 @@ use Rattle.ktm_world.specs.Present.{Present}
 use Rattle.ktm_world.specs.Transactions.{is_committed, is_aborted, is_of, same_id}
 use Rattle.ktm_world.specs.Tree.{Tree, is_directory, is_file}
 use Rattle.ktm_world.specs.Uses.{file_room}
-use Rattle.ktm_laws.specs.FilesKept.{AreInOrder}
 use Rattle.ktm_laws.specs.Footprint.{IsIn, ListsLaw}
 use Rattle.ktm_laws.specs.Formed.{FormedLaw}
 use Rattle.ktm_laws.specs.GoodState.{puts_some}
@@ -50,7 +49,7 @@ use Rattle.ktm_laws.proofs.Makings.{counted-parts}
 use Rattle.ktm_laws.proofs.NormalForms.{silent-places, silent-dropped, silent-moved}
 use Rattle.ktm_laws.proofs.Owning.{owned-sound, apart-holds}
 use Rattle.ktm_laws.proofs.PlainCalls.{some-from, acts-at, delete-applies, delete-acts, remove-applies, remove-acts, move-applies, enough-numbers}
-use Rattle.ktm_laws.proofs.Releasing.{filter-true, spares-none, unchanged}
+use Rattle.ktm_laws.proofs.Releasing.{AreInOrder, filter-true, spares-none, unchanged}
 use Rattle.ktm_laws.proofs.Reserving.{holds-apart, writer-alone}
 use Rattle.ktm_laws.proofs.Seeing.{Used, not-written, still-last, used-in, transaction-of, below-next, seen-formed, directory-no-file, next-unseen, holds-nothing}
 use Rattle.ktm_laws.proofs.Tables.{same_id-from}
@@ -218,9 +217,9 @@ module _ (lists : ListsLaw) (formed : FormedLaw) where
     delete-at (free directory name) leads file none closed = only-answers
     delete-at at_root leads file none closed = only-answers
 
-    pub deletes-file : (path : List ℕ) → Passes (delete_file_tests x.files (file_room x) (Some id) path) → IsSoundFiles (apply x (of_files x (Some id) (delete_file x.files (Some id) path)))
+    pub deletes-own : (path : List ℕ) → Passes (delete_file_tests x.files (file_room x) (Some id) path) → IsSoundFiles (apply x (of_files x (Some id) (delete_file x.files (Some id) path)))
     unfolding delete_file delete_file_tests
-    deletes-file path passes =
+    deletes-own path passes =
         let no = not_refused (delete_file_tests x.files (file_room x) (Some id) path) passes.none in
         delete-at (find_path (tree_seen x.files (Some id)) path) (find_path-leads (tree_seen x.files (Some id)) (seen-formed formed x sound id) path)
         (no _ (inr (inr (inr (inl refl))))) (no _ (inr (inr (inr (inr (inl refl)))))) (no _ (inr (inr (inr (inr (inr (inl refl)))))))
@@ -236,9 +235,9 @@ module _ (lists : ListsLaw) (formed : FormedLaw) where
     remove-at (free directory name) leads dir empty none = only-answers
     remove-at at_root leads dir empty none = only-answers
 
-    pub removes-directory : (path : List ℕ) → Passes (remove_directory_tests x.files (file_room x) (Some id) path) → IsSoundFiles (apply x (of_files x (Some id) (remove_directory x.files (Some id) path)))
+    pub removes-own-directory : (path : List ℕ) → Passes (remove_directory_tests x.files (file_room x) (Some id) path) → IsSoundFiles (apply x (of_files x (Some id) (remove_directory x.files (Some id) path)))
     unfolding remove_directory remove_directory_tests
-    removes-directory path passes =
+    removes-own-directory path passes =
         let no = not_refused (remove_directory_tests x.files (file_room x) (Some id) path) passes.none in
         remove-at (find_path (tree_seen x.files (Some id)) path) (find_path-leads (tree_seen x.files (Some id)) (seen-formed formed x sound id) path)
         (no _ (inr (inr (inr (inr (inl refl)))))) (no _ (inr (inr (inr (inr (inr (inl refl))))))) (no _ (inr (inr (inr (inr (inr (inr (inl refl))))))))
@@ -253,9 +252,9 @@ module _ (lists : ListsLaw) (formed : FormedLaw) where
     make-at' room at_root leads none fits = only-answers
     make-at' room (at_node node) leads none fits = only-answers
 
-    pub creates-directory : (path : List ℕ) → Passes (create_directory_tests x.files (file_room x) (Some id) path) → IsSoundFiles (apply x (of_files x (Some id) (create_directory x.files (Some id) path)))
+    pub creates-own-directory : (path : List ℕ) → Passes (create_directory_tests x.files (file_room x) (Some id) path) → IsSoundFiles (apply x (of_files x (Some id) (create_directory x.files (Some id) path)))
     unfolding create_directory create_directory_tests
-    creates-directory path passes =
+    creates-own-directory path passes =
         let no = not_refused (create_directory_tests x.files (file_room x) (Some id) path) passes.none in
         make-at' (file_room x) (find_path (tree_seen x.files (Some id)) path) (find_path-leads (tree_seen x.files (Some id)) (seen-formed formed x sound id) path)
         (no _ (inr (inr (inr (inl refl))))) (no _ (inr (inr (inr (inr (inl refl))))))
@@ -291,9 +290,9 @@ module _ (lists : ListsLaw) (formed : FormedLaw) where
     move-at' (free directory name) v leads leads' outside none = only-answers
     move-at' at_root v leads leads' outside none = only-answers
 
-    pub moves-file : (source target : List ℕ) → Passes (move_file_tests x.files (file_room x) (Some id) source target) → IsSoundFiles (apply x (of_files x (Some id) (move_file x.files (Some id) source target)))
+    pub moves-own : (source target : List ℕ) → Passes (move_file_tests x.files (file_room x) (Some id) source target) → IsSoundFiles (apply x (of_files x (Some id) (move_file x.files (Some id) source target)))
     unfolding move_file move_file_tests
-    moves-file source target passes =
+    moves-own source target passes =
         let no = not_refused (move_file_tests x.files (file_room x) (Some id) source target) passes.none in
         move-at' (find_path (tree_seen x.files (Some id)) source) (find_path (tree_seen x.files (Some id)) target)
         (find_path-leads (tree_seen x.files (Some id)) (seen-formed formed x sound id) source) (find_path-leads (tree_seen x.files (Some id)) (seen-formed formed x sound id) target)

@@ -7,6 +7,7 @@ use Rattle.std.specs.Prelude.{nat_le}
 use Rattle.ktm_base.specs.declared.id.Id.{Id}
 use Rattle.ktm_types.specs.declared.change.Change.{Change}
 use Rattle.ktm_types.specs.declared.event.Event.{Event}
+use Rattle.ktm_types.specs.declared.object.Handle.{Handle}
 use Rattle.ktm_types.specs.declared.object.Object.{Object}
 use Rattle.ktm_types.specs.declared.object.Transaction.{Transaction}
 use Rattle.ktm_world.specs.Changes.{changed, node_of}
@@ -14,14 +15,13 @@ use Rattle.ktm_world.specs.Committed.{Committed, versions_after, with_change}
 use Rattle.ktm_world.specs.Conflicts.{holds_now, writes}
 use Rattle.ktm_world.specs.Durable.{Durable, is_before, decide_recorded, finish_recorded, after_event, after_events, recorded_at}
 use Rattle.ktm_world.specs.Files.{FilesNow, FirstOpen, OpenFile, OwnChanges, own_changes}
-use Rattle.ktm_world.specs.HandleCalls.{has_handle}
+use Rattle.ktm_world.specs.HandleCalls.{has_handle, is_handle}
 use Rattle.ktm_world.specs.Holds.{is_in}
 use Rattle.ktm_world.specs.Labels.{holds_of}
 use Rattle.ktm_world.specs.Lawful.{undecided}
 use Rattle.ktm_world.specs.Present.{Present}
 use Rattle.ktm_world.specs.Transactions.{is_of, is_undecided, same_id, change_at, transaction_at}
 use Rattle.ktm_world.specs.Tree.{is_file, content_of}
-use Rattle.ktm_laws.specs.FilesKept.{AreInOrder, is_created_before}
 use Rattle.ktm_laws.specs.Footprint.{IsIn, ListsLaw}
 use Rattle.ktm_laws.specs.Formed.{FormedLaw}
 use Rattle.ktm_laws.specs.GoodState.{each_pair}
@@ -34,6 +34,23 @@ use Rattle.ktm_laws.proofs.Passing.{Spares, passed, passed-sound, next-enough, d
 use Rattle.ktm_laws.proofs.Reserving.{own_changes-found, own-apply, own-apart, holds-apart, bytes-elsewhere, writer-alone}
 use Rattle.ktm_laws.proofs.Tables.{same_id-equal, same_id-from, same_id-sym, before_other}
 use Rattle.ktm_laws.proofs.Waiting.{apart-from-none}
+
+-- ---- what stands once
+
+-- does the first transaction come before the second
+abbrev pub is_created_before : Transaction → Transaction → Bool
+is_created_before t u = is_before t.id u.id
+
+-- is the label of the second handle another one than that of the first, or of another process
+abbrev pub is_labelled_apart : Handle → Handle → Bool
+is_labelled_apart a b = not (is_handle a.process a.label b)
+
+-- transactions and handles stand once
+pub record AreInOrder (x : Present) : Type 0 where
+  -- transactions stand by rising Id
+  pub transactions_rise : each_pair is_created_before x.transactions.items ≡ true
+  -- no label of a process is bound twice
+  pub labels_differ : each_pair is_labelled_apart x.handles ≡ true
 
 -- ---- lists
 

@@ -21,7 +21,6 @@ use Rattle.ktm_world.specs.Present.{Present}
 use Rattle.ktm_world.specs.Transactions.{is_of, is_undecided, same_id}
 use Rattle.ktm_world.specs.Tree.{Tree, node_at}
 use Rattle.ktm_world.specs.World.{present, opened, transaction_back, back, in_doubt, is_brought_back, has_own_changes, has_own_settings}
-use Rattle.ktm_laws.specs.FilesKept.{AreInOrder, is_created_before}
 use Rattle.ktm_laws.specs.Footprint.{IsIn, footprint, AreFootprintsApart}
 use Rattle.ktm_laws.specs.GoodState.{each_pair, is_of_object, is_made_below, is_new_in, puts_some, waits_for_new, IsGoodState}
 use Rattle.ktm_laws.specs.SoundFiles.{IsSoundKeys, IsSoundFiles, is_undecided_in, set_by_two, set_no_key, changed_by_two, make_apart, numbers_made, is_drawn_node, is_change_of_opened, files_apart, is_gone}
@@ -32,7 +31,7 @@ use Rattle.ktm_laws.proofs.Fitting.{Core, TableOf, table-of}
 use Rattle.ktm_laws.proofs.Lists.{IsIn-unmap}
 use Rattle.ktm_laws.proofs.Meeting.{are_apart-from}
 use Rattle.ktm_laws.proofs.Passing.{All-in, All-by, made-by, made-node, own_changes-of}
-use Rattle.ktm_laws.proofs.Releasing.{transaction_at-there}
+use Rattle.ktm_laws.proofs.Releasing.{is_created_before, transaction_at-there}
 use Rattle.ktm_laws.proofs.Reserving.{own_changes-found}
 use Rattle.ktm_laws.proofs.Restored.{applied-in, restored}
 use Rattle.ktm_laws.proofs.SoundRestarts.{booted}
@@ -206,8 +205,8 @@ module _ (base : Durable) (room : ℕ) (log : List Group) (good : IsGoodState (s
   earlier : (t : Recorded) → IsIn t s.transactions → not ((t.id).boot == x.recorded.boots) ≡ true
   earlier t there = not_from_false _ (ne_eqb (t.id).boot x.recorded.boots (λ e. omega (arith, e, (booted s).0, leb-true (t.id).boot s.boots (and_parts (is_of_object t.id) (nat_le (t.id).boot s.boots) (core t there).drawn).1)))
 
-  files-back : waits_for_new s ≡ true → IsSoundFiles x
-  files-back new = record {
+  pub files-opened : waits_for_new s ≡ true → IsSoundFiles x
+  files-opened new = record {
     own_undecided = each changed_by has_own_changes (λ o. is_undecided_in x.transactions.items o.transaction) (λ t there held some. undecided-back t there held);
     own_once = own-once;
     own_some = each changed_by has_own_changes (λ o. is_some_change o.changes) (λ t there held some. is-some (changes_of t) some);
@@ -270,6 +269,3 @@ module _ (base : Durable) (room : ℕ) (log : List Group) (good : IsGoodState (s
           ap (λ cs. are_apart (holds_by s.tree cs []) (holds_now x.files u.id)) (ap (own_changes own) (sym is) ∙ own-back r there held)
           ∙ ap (λ cs. are_apart (holds_by s.tree (changes_of r) []) (holds_by s.tree cs [])) (ap (own_changes own) (sym is') ∙ own-back q there' held')
           ∙ are_apart-from s.tree (changes_of r) (changes_of q) (held-apart r q there there' held held' (λ e. true≢false (sym (same_id-from u.id t.id (sym is' ∙ sym e ∙ is)) ∙ other)))
-
-  pub files-opened : waits_for_new s ≡ true → AreInOrder x × IsSoundFiles x
-  files-opened new = (record { transactions_rise = items-rise; labels_differ = refl }, files-back new)
