@@ -7,7 +7,7 @@ use Rattle.ktm_types.specs.declared.change.Change.{Change}
 use Rattle.ktm_types.specs.declared.change.Change.TheVariants.{Make, Put, Cut, Move, Drop}
 use Rattle.ktm_types.specs.declared.recorded.Node.{Node}
 use Rattle.ktm_world.specs.Changes.{changed, changed_all, applies, apply_all, node_of, is_make, next_after}
-use Rattle.ktm_world.specs.Durable.{Durable, Recorded, is_ready, is_manager, has_part, changes_of, next_after_all, is_within_limits}
+use Rattle.ktm_world.specs.Durable.{Durable, Recorded, is_ready, is_manager, is_new_in, has_part, changes_of, next_after_all, is_within_limits}
 use Rattle.ktm_keyed.specs.Keyed.{is_rising}
 use Rattle.ktm_world.specs.Keys.{Store}
 use Rattle.ktm_world.specs.Tree.{Tree, has_number, with_node, with_changed, without_node, IsWellFormed}
@@ -157,8 +157,8 @@ is_drawn-later s s' id later drawn =
     let parts = and_parts (is_of_object id) (nat_le id.boot s.boots) drawn in and_from _ _ parts.0 (le-leb _ _ (omega (arith, leb-true _ _ parts.1)))
 
 pub Core-carried : (s s' : Durable) (t : Recorded) → s.boots ≤ s'.boots → ((m : Id) → is_manager s m ≡ true → is_manager s' m ≡ true) → s.next_node ≤ s'.next_node
-    → apply_all s'.tree (changes_of t) ≡ true → Core s t → Core s' t
-Core-carried s s' t later managers more applies core = record {
+    → apply_all s'.tree (changes_of t) ≡ true → list_all (is_new_in s'.tree) (changes_of t) ≡ true → Core s t → Core s' t
+Core-carried s s' t later managers more applies new core = record {
   drawn = is_drawn-later s s' t.id later core.drawn;
   enlistments = λ e there. let is = core.enlistments e there in record {
     drawn = is_drawn-later s s' e.enlistment later is.drawn;
@@ -173,14 +173,15 @@ Core-carried s s' t later managers more applies core = record {
   changes = core.changes;
   apply = applies;
   made = all_made_below-more s.next_node s'.next_node (changes_of t) more core.made;
+  new = new;
   puts = core.puts;
   settings = core.settings;
 }
 
 pub Fitting-carried : (s s' : Durable) (t : Recorded) → s.boots ≡ s'.boots → ((m : Id) → is_manager s m ≡ true → is_manager s' m ≡ true) → s.next_node ≤ s'.next_node
-    → apply_all s'.tree (changes_of t) ≡ true → Fitting s t → Fitting s' t
-Fitting-carried s s' t boots managers more applies fits = record {
-  core = Core-carried s s' t (omega (arith, boots)) managers more applies fits.core;
+    → apply_all s'.tree (changes_of t) ≡ true → list_all (is_new_in s'.tree) (changes_of t) ≡ true → Fitting s t → Fitting s' t
+Fitting-carried s s' t boots managers more applies new fits = record {
+  core = Core-carried s s' t (omega (arith, boots)) managers more applies new fits.core;
   ready = subst (λ b. (not (is_ready t.stage) || (t.id.boot == b && has_part t && is_none t.superior)) ≡ true) boots fits.ready;
 }
 

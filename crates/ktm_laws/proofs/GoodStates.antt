@@ -57,6 +57,7 @@ empty-good units image many number = record {
   changes = refl;
   apply = refl;
   made = refl;
+  new = refl;
   puts = refl;
   settings = refl;
   apart = refl;

@@ -57,6 +57,7 @@ module _ (s : Durable) (id : Id) (t : Recorded) (start : Begun s id t) (e : Supe
     changes = sym (kept_changes-same t (held_by t e) waiting refl refl) ∙ start.core.changes;
     apply = start.core.apply;
     made = start.core.made;
+    new = start.core.new;
     puts = start.core.puts;
     settings = sym (kept_settings-same t (held_by t e) waiting refl refl) ∙ start.core.settings;
   }
@@ -78,7 +79,7 @@ module _ (s : Durable) (id : Id) (t : Recorded) (start : Begun s id t) (e : Supe
 
   held-good : IsGoodState s → is_within_limits s_held ≡ true → s.events + 1 < 2 ^ 63 → IsGoodState s_held
   held-good good limits few = good-from s_held (Table-with (Fitting s) (Beside s) (Fitting s_held) (Beside s_held) s.transactions (held_by t e) (table-of s good)
-      (λ u there other fits. Fitting-carried s s_held u refl (λ m is. is) (omega arith) fits.core.apply fits)
+      (λ u there other fits. Fitting-carried s s_held u refl (λ m is. is) (omega arith) fits.core.apply fits.core.new fits)
       (λ u v there there' other other' sides. Beside-carried s s_held u v refl sides)
       (record { core = Core-held; ready = refl })
       (λ u there other. let sides = Beside-held u there (λ e'. other (e' ∙ sym start.is)) in (sides, Beside-sym s_held (held_by t e) u sides)))

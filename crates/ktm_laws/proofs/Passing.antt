@@ -26,7 +26,7 @@ use Rattle.ktm_laws.specs.Formed.{FormedLaw}
 use Rattle.ktm_laws.specs.GoodState.{each_pair, puts_some}
 use Rattle.ktm_laws.specs.Reservations.{IsLeft}
 use Rattle.ktm_laws.specs.SoundFiles.{IsSoundFiles, is_undecided_in, changed_by_two, make_apart, opened_apart, opens_rise, numbers_made, is_drawn_node, made_or_opened, is_change_of_opened, has_dropped, is_open_last, is_plain_well, is_own_well, files_apart, all_files_apart, may_use, is_gone, is_no_directory, opens_no_directory}
-use Rattle.ktm_laws.proofs.Applying.{Applies-from, Fits-from}
+use Rattle.ktm_laws.proofs.Applying.{node-elsewhere, Applies-from, Fits-from}
 use Rattle.ktm_laws.proofs.Committing.{next-rises, below-changed_all}
 use Rattle.ktm_laws.proofs.Diamonds.{IsIn-right, IsIn-map, no_test, none-from}
 use Rattle.ktm_laws.proofs.Elements.{find-in, IsIn-filter, IsIn-kept, IsIn-flat_map, IsIn-unflat, list_all-at, list_all-from, list_any-at, list_any-from, each_pair-filter}
@@ -34,7 +34,7 @@ use Rattle.ktm_laws.proofs.Meeting.{found-or-made}
 use Rattle.ktm_laws.proofs.NodeKinds.{MakesNot, is_directory_at, directories-were}
 use Rattle.ktm_laws.proofs.Lists.{IsIn-left, IsIn-unmap}
 use Rattle.ktm_laws.proofs.Lookups.{remade, node_at-changed}
-use Rattle.ktm_laws.proofs.Reserving.{own_changes-by, own_changes-left, first_open_of-left, written_by-left, own-apply, holds-apart, tree-of, bytes-elsewhere, left-by}
+use Rattle.ktm_laws.proofs.Reserving.{own_changes-by, own_changes-left, first_open_of-left, written_by-left, own-apply, holds-apart, tree-of, left-by}
 use Rattle.ktm_laws.proofs.Tables.{same_id-equal, same_id-from, same_id-sym}
 use Rattle.ktm_laws.proofs.Versions.{FitVersions, fit-all, Shows, shows-all, version-all}
 
@@ -328,7 +328,7 @@ module _ (lists : ListsLaw) (formed : FormedLaw) (x y : Present) (cs : List Chan
       let kept = own-kept o there in
       list_all-from _ (numbers_made o.changes) (λ n made.
       let mine : IsIn n (map node_of (own_changes x.files.table.own o.transaction)) = subst (λ ds. IsIn n (map node_of ds)) (sym (changes-of o kept.0)) (made-node o.changes n made) in
-      ap is_none (ap (λ t. node_at t n) tree-is ∙ bytes-elsewhere cs x.files.tree n spares.all (λ there'. (apart-of o.transaction kept.1).nodes n there' mine))
+      ap is_none (ap (λ t. node_at t n) tree-is ∙ node-elsewhere cs x.files.tree n spares.all (λ there'. (apart-of o.transaction kept.1).nodes n there' mine))
       ∙ list_all-at (λ n. is_none (node_at x.files.tree n)) (numbers_made o.changes)
       (list_all-at (λ (p : OwnChanges). list_all (λ n. is_none (node_at x.files.tree n)) (numbers_made p.changes)) x.files.table.own sound.own_new o kept.0) n made)
 
@@ -366,7 +366,7 @@ module _ (lists : ListsLaw) (formed : FormedLaw) (x y : Present) (cs : List Chan
       ∙ go (cases_Bool (is_in (holds_now x.files t).nodes o.file)) kept (list_all-at (is_open_last x.files) x.files.first_opens sound.first_last o kept.0)
     where
       last-same : (IsIn o.file (map node_of cs) → ⊥) → is_last_version z.files o ≡ is_last_version x.files o
-      last-same other = ap (λ n. is_some (content_of n) && o.version == version_of z.files.versions o.file) (ap (λ t. node_at t o.file) tree-is ∙ bytes-elsewhere cs x.files.tree o.file spares.all other)
+      last-same other = ap (λ n. is_some (content_of n) && o.version == version_of z.files.versions o.file) (ap (λ t. node_at t o.file) tree-is ∙ node-elsewhere cs x.files.tree o.file spares.all other)
           ∙ ap (λ v. is_file x.files.tree o.file && o.version == v) (version-all cs (committed_files x.files []) o.file other)
 
       go : (is_in (holds_now x.files o.transaction).nodes o.file ≡ true) ⊎ (is_in (holds_now x.files o.transaction).nodes o.file ≡ false) → IsIn o x.files.first_opens × Kept o.transaction → is_open_last x.files o ≡ true
@@ -411,7 +411,7 @@ module _ (lists : ListsLaw) (formed : FormedLaw) (x y : Present) (cs : List Chan
       ∙ node_at-changed_all names x.files.tree z.files.tree n
       (names-apply x.files.tree mine (bytes_seen x.files (Some id)) (own-final x sound id) (own-apply x sound id))
       (names-apply z.files.tree mine (bytes_seen x.files (Some id)) (own-final x sound id) applies')
-      (ap (λ t. node_at t n) tree-is ∙ bytes-elsewhere cs x.files.tree n spares.all (clear-of id kept n drawn held))
+      (ap (λ t. node_at t n) tree-is ∙ node-elsewhere cs x.files.tree n spares.all (clear-of id kept n drawn held))
 
   own-well : (o : OpenFile) → IsIn o x.files.table.opens → keep o.transaction ≡ true → is_own_well z o ≡ true
   own-well o there stays = go o.transaction refl stays (list_all-at (is_own_well x) x.files.table.opens sound.opens_own o there)
@@ -452,8 +452,8 @@ module _ (lists : ListsLaw) (formed : FormedLaw) (x y : Present) (cs : List Chan
         | inr free ↦
             let outside : IsIn n (map node_of mine) → ⊥ = λ there. eqb-false n n (no_test (λ m. m == n) n (map node_of mine) free there) refl in
             let beside : IsIn n (map node_of names) → ⊥ = λ there. let from = IsIn-unmap node_of n names there in outside (subst (λ m. IsIn m (map node_of mine)) from.1 (IsIn-map node_of from.0 mine (IsIn-filter (λ change. not (changes_bytes change)) mine from.0 from.2).0)) in
-            ap (λ ds. not (is_directory (changed_all z.files.tree (filter (λ change. not (changes_bytes change)) ds)) n)) (own-left id kept.0) ∙ ap (λ o. not (is_directory_at n o)) (bytes-elsewhere names z.files.tree n applies' beside) ∙ not_from_false _ (false_from_ne_true _ (λ dir.
-            true≢false (sym (directories-were cs x.files.tree spares.all n (λ c there. others c there outside) (subst (λ t. is_directory t n ≡ true) tree-is dir)) ∙ ap (is_directory_at n) (sym (bytes-elsewhere names x.files.tree n applies beside)) ∙ not-true _ was)))
+            ap (λ ds. not (is_directory (changed_all z.files.tree (filter (λ change. not (changes_bytes change)) ds)) n)) (own-left id kept.0) ∙ ap (λ o. not (is_directory_at n o)) (node-elsewhere names z.files.tree n applies' beside) ∙ not_from_false _ (false_from_ne_true _ (λ dir.
+            true≢false (sym (directories-were cs x.files.tree spares.all n (λ c there. others c there outside) (subst (λ t. is_directory t n ≡ true) tree-is dir)) ∙ ap (is_directory_at n) (sym (node-elsewhere names x.files.tree n applies beside)) ∙ not-true _ was)))
       ]
 
   -- a node that a transaction dropped and does not see it does not see then

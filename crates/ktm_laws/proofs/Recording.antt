@@ -13,7 +13,7 @@ use Rattle.ktm_types.specs.declared.event.Event.TheVariants.{Ready}
 use Rattle.ktm_types.specs.declared.event.Part.{Part}
 use Rattle.ktm_types.specs.declared.event.Part.TheVariants.{Enlistment, Changes, Settings}
 use Rattle.ktm_world.specs.Changes.{apply_all}
-use Rattle.ktm_world.specs.Durable.{Durable, Recorded, is_ready, is_decided, is_manager, is_part_of, is_new_enlistment, changes_in, settings_in, enlistments_in, changes_of, settings_of, enlistments_of, superior_ids, has_changes_part, has_settings_part, has_part, is_some_change, are_recorded_changes, changes_apply, settings_apply, part_applies, may_get_ready, recorded_or_new, with_recorded, next_after_all, fact_of, after_event, is_within_limits}
+use Rattle.ktm_world.specs.Durable.{Durable, Recorded, is_ready, is_decided, is_manager, is_part_of, is_new_in, is_new_enlistment, changes_in, settings_in, enlistments_in, changes_of, settings_of, enlistments_of, superior_ids, has_changes_part, has_settings_part, has_part, is_some_change, are_recorded_changes, changes_apply, settings_apply, part_applies, may_get_ready, recorded_or_new, with_recorded, next_after_all, fact_of, after_event, is_within_limits}
 use Rattle.ktm_world.specs.Keys.{OwnSettings, are_good_settings}
 use Rattle.ktm_world.specs.Lawful.{set_both}
 use Rattle.ktm_world.specs.Limits.{most_information}
@@ -28,7 +28,7 @@ use Rattle.ktm_laws.proofs.Parts.{gathered, is_among, gathered-push, gathered-pu
 use Rattle.ktm_laws.proofs.Tables.{same_id-sym, fresh, recorded_or_new-cases, KnownOrNew, Table-with}
 use Rattle.ktm_laws.proofs.Fitting.{differ, IsEnlisted, Core, Fitting, Beside, Beside-sym, Rest, TableOf, good-from, table-of, rest-of}
 use Rattle.ktm_laws.proofs.Committing.{next-rises, next-made, next-to, below-more, limits-counted, with_all, Rest-with, Fitting-carried, Beside-carried}
-use Rattle.ktm_laws.proofs.Waiting.{no_changes_part, no_settings_part, in_others, changes_apply-all, changes_apply-apart, settings_apply-apart, apart-from-none}
+use Rattle.ktm_laws.proofs.Waiting.{no_changes_part, no_settings_part, in_others, changes_apply-all, changes_apply-new, changes_apply-apart, settings_apply-apart, apart-from-none}
 use Rattle.ktm_laws.proofs.Steps.{Keeps, is_drawn-now}
 
 -- ---- a transaction that gets ready
@@ -64,6 +64,7 @@ begun-fresh s id counts now = record {
     changes = refl;
     apply = refl;
     made = refl;
+    new = refl;
     puts = refl;
     settings = refl;
   };
@@ -146,6 +147,7 @@ record Adds (s : Durable) (id : Id) (t : Recorded) (part : Part) : Type 0 where
   changes : are_kept_changes (pushed t part) ≡ true
   apply : apply_all s.tree (changes_of (pushed t part)) ≡ true
   made : list_all (is_made_below (next_after_all s.next_node (changes_in part))) (changes_of (pushed t part)) ≡ true
+  unmade : list_all (is_new_in s.tree) (changes_of (pushed t part)) ≡ true
   puts : list_all puts_some (changes_of (pushed t part)) ≡ true
   settings : are_kept_settings (pushed t part) ≡ true
   files : (u : Recorded) → IsIn u s.transactions → (u.id ≡ id → ⊥) → is_decided u.stage ≡ false → AreFootprintsApart (footprint s.tree (changes_of (pushed t part))) (footprint s.tree (changes_of u))
@@ -178,6 +180,7 @@ module _ (s : Durable) (id : Id) (t : Recorded) (start : Begun s id t) (part : P
     changes = adds.changes;
     apply = adds.apply;
     made = adds.made;
+    new = adds.unmade;
     puts = adds.puts;
     settings = adds.settings;
   }
@@ -206,7 +209,7 @@ module _ (s : Durable) (id : Id) (t : Recorded) (start : Begun s id t) (part : P
 
   pushed-good : IsGoodState s → is_within_limits s' ≡ true → s.events + 1 < 2 ^ 63 → IsGoodState s'
   pushed-good good limits few = good-from (with_pushed s t part) (Table-with (Fitting s) (Beside s) (Fitting s') (Beside s') s.transactions (pushed t part) (table-of s good)
-      (λ u there other fits. Fitting-carried s s' u refl (λ m is. is) (next-rises (changes_in part) s.next_node) fits.core.apply fits)
+      (λ u there other fits. Fitting-carried s s' u refl (λ m is. is) (next-rises (changes_in part) s.next_node) fits.core.apply fits.core.new fits)
       (λ u v there there' other other' sides. Beside-carried s s' u v refl sides)
       Fitting-pushed
       (λ u there other. let sides = Beside-pushed u there (λ e. other (e ∙ sym start.is)) in (sides, Beside-sym s' (pushed t part) u sides)))
@@ -273,6 +276,7 @@ module _ (s : Durable) (id : Id) (t : Recorded) (start : Begun s id t) where
     changes = old_changes part refl refl;
     apply = subst (λ cs. apply_all s.tree cs ≡ true) (same_changes part refl) start.core.apply;
     made = subst (λ cs. list_all (is_made_below s.next_node) cs ≡ true) (same_changes part refl) start.core.made;
+    unmade = subst (λ cs. list_all (is_new_in s.tree) cs ≡ true) (same_changes part refl) start.core.new;
     puts = subst (λ cs. list_all puts_some cs ≡ true) (same_changes part refl) start.core.puts;
     settings = old_settings part refl refl;
     files = old_files part refl;
@@ -290,6 +294,7 @@ module _ (s : Durable) (id : Id) (t : Recorded) (start : Begun s id t) where
     changes = and_from _ _ (or_left _ _ (not_from_false _ waiting)) (or_right _ _ (subst (λ xs. are_recorded_changes xs ≡ true) (sym are) recorded));
     apply = subst (λ xs. apply_all s.tree xs ≡ true) (sym are) (changes_apply-all s (Some id) cs applies);
     made = subst (λ xs. list_all (is_made_below (next_after_all s.next_node cs)) xs ≡ true) (sym are) (next-made cs s.next_node);
+    unmade = subst (λ xs. list_all (is_new_in s.tree) xs ≡ true) (sym are) (changes_apply-new s (Some id) cs applies);
     puts = subst (λ xs. list_all puts_some xs ≡ true) (sym are) some;
     settings = old_settings part refl refl;
     files = λ u there other waits. subst (λ xs. AreFootprintsApart (footprint s.tree xs) (footprint s.tree (changes_of u))) (sym are)
@@ -310,6 +315,7 @@ module _ (s : Durable) (id : Id) (t : Recorded) (start : Begun s id t) where
     changes = old_changes part refl refl;
     apply = subst (λ cs. apply_all s.tree cs ≡ true) (same_changes part refl) start.core.apply;
     made = subst (λ cs. list_all (is_made_below s.next_node) cs ≡ true) (same_changes part refl) start.core.made;
+    unmade = subst (λ cs. list_all (is_new_in s.tree) cs ≡ true) (same_changes part refl) start.core.new;
     puts = subst (λ cs. list_all puts_some cs ≡ true) (same_changes part refl) start.core.puts;
     settings = and_from _ _ (or_left _ _ (not_from_false _ waiting)) (or_right _ _ (subst (λ xs. are_good_settings xs ≡ true) (sym are) good));
     files = old_files part refl;

@@ -26,12 +26,13 @@ use Rattle.ktm_laws.specs.Footprint.{IsIn, ListsLaw}
 use Rattle.ktm_laws.specs.Formed.{FormedLaw}
 use Rattle.ktm_laws.specs.GoodState.{each_pair}
 use Rattle.ktm_laws.specs.SoundFiles.{IsSoundFiles, is_undecided_in, is_drawn_node, is_plain_well, numbers_made}
+use Rattle.ktm_laws.proofs.Applying.{node-elsewhere}
 use Rattle.ktm_laws.proofs.CoursesKept.{is_no_boot}
 use Rattle.ktm_laws.proofs.Diamonds.{no_test, meets-not}
 use Rattle.ktm_laws.proofs.Elements.{IsIn-kept, list_all-at, list_all-from, list_any-at, list_any-from}
 use Rattle.ktm_laws.proofs.Lists.{IsIn-left}
 use Rattle.ktm_laws.proofs.Passing.{Spares, passed, passed-sound, next-enough, drawn-made, made-number}
-use Rattle.ktm_laws.proofs.Reserving.{own_changes-found, own-apply, own-apart, holds-apart, bytes-elsewhere, writer-alone}
+use Rattle.ktm_laws.proofs.Reserving.{own_changes-found, own-apply, own-apart, holds-apart, writer-alone}
 use Rattle.ktm_laws.proofs.Tables.{same_id-equal, same_id-from, same_id-sym, before_other}
 use Rattle.ktm_laws.proofs.Waiting.{apart-from-none}
 
@@ -222,7 +223,7 @@ module _ (lists : ListsLaw) (formed : FormedLaw) where
     ];
     plain = λ o there' plain may.
         let touched = or_parts (is_in (holds_now x.files t.id).nodes o.node) _ (writer-alone x sound o t there' plain may there) in
-        ap (λ n. is_some (content_of n)) (bytes-elsewhere (own_changes x.files.table.own t.id) x.files.tree o.node (own-apply x sound t.id) (λ mine.
+        ap (λ n. is_some (content_of n)) (node-elsewhere (own_changes x.files.table.own t.id) x.files.tree o.node (own-apply x sound t.id) (λ mine.
         eqb-false o.node o.node (no_test (λ m. m == o.node) o.node (holds_now x.files t.id).nodes touched.0 (IsIn-left o.node (map node_of (own_changes x.files.table.own t.id)) _ mine)) refl))
         ∙ (spares-none x (λ t. true) sound).plain o there' plain may;
     next = next-enough (own_changes x.files.table.own t.id) x.files.table.next_node (λ n made. ltb-true n x.files.table.next_node (and_parts (nat_le 2 n) _ (drawn-made x sound t.id n made)).1);

@@ -11,7 +11,7 @@ use Rattle.ktm_types.specs.declared.object.Transaction.{Transaction}
 use Rattle.ktm_world.specs.Changes.{applies, apply_all, changes_bytes, is_make, node_of}
 use Rattle.ktm_world.specs.Committed.{changes_to_commit}
 use Rattle.ktm_world.specs.Conflicts.{holds_now}
-use Rattle.ktm_world.specs.Durable.{Durable, Recorded, changes_of, settings_of, has_changes_part, has_settings_part, is_decided, is_held, is_some_change, are_recorded_changes, stand}
+use Rattle.ktm_world.specs.Durable.{Durable, Recorded, changes_of, settings_of, has_changes_part, has_settings_part, is_decided, is_held, is_some_change, are_recorded_changes, stand, is_new_in}
 use Rattle.ktm_world.specs.Files.{OwnChanges, own_changes, first_bytes, bytes_with, bytes_seen, tree_of}
 use Rattle.ktm_world.specs.Holds.{holds_by, is_in}
 use Rattle.ktm_world.specs.Keys.{Own, OwnSettings, are_good_settings}
@@ -22,7 +22,7 @@ use Rattle.ktm_world.specs.Transactions.{is_of, is_undecided, same_id}
 use Rattle.ktm_world.specs.Tree.{Tree, node_at}
 use Rattle.ktm_world.specs.World.{present, opened, transaction_back, back, in_doubt, is_brought_back, has_own_changes, has_own_settings}
 use Rattle.ktm_laws.specs.Footprint.{IsIn, footprint, AreFootprintsApart}
-use Rattle.ktm_laws.specs.GoodState.{each_pair, is_of_object, is_made_below, is_new_in, puts_some, waits_for_new, IsGoodState}
+use Rattle.ktm_laws.specs.GoodState.{each_pair, is_of_object, is_made_below, puts_some, IsGoodState}
 use Rattle.ktm_laws.specs.SoundFiles.{IsSoundKeys, IsSoundFiles, is_undecided_in, set_by_two, set_no_key, changed_by_two, make_apart, numbers_made, is_drawn_node, is_change_of_opened, files_apart, is_gone}
 use Rattle.ktm_laws.proofs.Applying.{Applies-from}
 use Rattle.ktm_laws.proofs.Diamonds.{IsIn-map, none-from}
@@ -205,8 +205,8 @@ module _ (base : Durable) (room : ℕ) (log : List Group) (good : IsGoodState (s
   earlier : (t : Recorded) → IsIn t s.transactions → not ((t.id).boot == x.recorded.boots) ≡ true
   earlier t there = not_from_false _ (ne_eqb (t.id).boot x.recorded.boots (λ e. omega (arith, e, (booted s).0, leb-true (t.id).boot s.boots (and_parts (is_of_object t.id) (nat_le (t.id).boot s.boots) (core t there).drawn).1)))
 
-  pub files-opened : waits_for_new s ≡ true → IsSoundFiles x
-  files-opened new = record {
+  pub files-opened : IsSoundFiles x
+  files-opened = record {
     own_undecided = each changed_by has_own_changes (λ o. is_undecided_in x.transactions.items o.transaction) (λ t there held some. undecided-back t there held);
     own_once = own-once;
     own_some = each changed_by has_own_changes (λ o. is_some_change o.changes) (λ t there held some. is-some (changes_of t) some);
@@ -223,7 +223,7 @@ module _ (base : Durable) (room : ℕ) (log : List Group) (good : IsGoodState (s
     own_drawn = each changed_by has_own_changes (λ o. list_all (is_drawn_node x.files) (numbers_made o.changes)) (λ t there held some. list_all-from (is_drawn_node x.files) (numbers_made (changes_of t)) (drawn t there));
     own_new = each changed_by has_own_changes (λ o. list_all (λ n. is_none (node_at s.tree n)) (numbers_made o.changes)) (λ t there held some. list_all-from (λ n. is_none (node_at s.tree n)) (numbers_made (changes_of t)) (λ n made.
         let by = made-by (changes_of t) n made in
-        elim (or_cases (not (is_make by.0)) (is_none (node_at s.tree (node_of by.0))) (list_all-at (is_new_in s.tree) (changes_of t) (list_all-at (λ (r : Recorded). list_all (is_new_in s.tree) (changes_of r)) s.transactions new t there) by.0 by.1)) [
+        elim (or_cases (not (is_make by.0)) (is_none (node_at s.tree (node_of by.0))) (list_all-at (is_new_in s.tree) (changes_of t) (list_all-at (λ (r : Recorded). list_all (is_new_in s.tree) (changes_of r)) s.transactions good.new t there) by.0 by.1)) [
           | inl other ↦ absurd (true≢false (sym by.2 ∙ not-true _ other))
           | inr is ↦ subst (λ m. is_none (node_at s.tree m) ≡ true) by.3 is
         ]));

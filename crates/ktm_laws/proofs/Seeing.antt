@@ -21,6 +21,7 @@ use Rattle.ktm_laws.specs.Formed.{FormedLaw}
 use Rattle.ktm_laws.specs.GoodState.{each_pair}
 use Rattle.ktm_laws.specs.OwnChange.{HoldsNothing}
 use Rattle.ktm_laws.specs.SoundFiles.{IsSoundFiles, opened_apart, is_drawn_node, is_own_well, made_or_opened, may_use, has_dropped, numbers_made, is_undecided_in}
+use Rattle.ktm_laws.proofs.Applying.{node-elsewhere}
 use Rattle.ktm_laws.proofs.Diamonds.{no_test, IsIn-map}
 use Rattle.ktm_laws.proofs.Elements.{IsIn-filter, list_all-at, list_any-at, list_any-from}
 use Rattle.ktm_laws.proofs.Landing.{holder-user}
@@ -29,7 +30,7 @@ use Rattle.ktm_laws.proofs.Meeting.{misses-nothing}
 use Rattle.ktm_laws.proofs.NodeKinds.{files-were, directories-were}
 use Rattle.ktm_laws.proofs.Passing.{own-drawn, drawn-node, made-number, names-apply, own-final}
 use Rattle.ktm_laws.proofs.PlainCalls.{next-free}
-use Rattle.ktm_laws.proofs.Reserving.{bytes-elsewhere, misses, own-apply, own_changes-found}
+use Rattle.ktm_laws.proofs.Reserving.{misses, own-apply, own_changes-found}
 use Rattle.ktm_laws.proofs.Tables.{same_id-equal, same_id-from, same_id-sym}
 
 -- ---- a call that meets nothing
@@ -159,7 +160,7 @@ module _ (formed : FormedLaw) (x : Present) (sound : IsSoundFiles x) (id : Id) w
   -- the next number is of no node there
   pub next-unseen : is_there seen x.files.table.next_node ≡ false
   next-unseen = or_from _ _ (or_parts _ (is_some (node_at x.files.tree x.files.table.next_node)) (next-free x sound)).0
-      (ap is_some (bytes-elsewhere (names_of mine) x.files.tree x.files.table.next_node names-mine (λ there.
+      (ap is_some (node-elsewhere (names_of mine) x.files.tree x.files.table.next_node names-mine (λ there.
       let from = IsIn-unmap node_of x.files.table.next_node (names_of mine) there in
       below-next x x.files.table.next_node (own-drawn x sound id x.files.table.next_node (subst (λ m. IsIn m (map node_of mine)) from.1 (IsIn-map node_of from.0 mine (IsIn-filter (λ change. not (changes_bytes change)) mine from.0 from.2).0))) refl))
       ∙ (or_parts (x.files.table.next_node == root) _ (next-free x sound)).1)

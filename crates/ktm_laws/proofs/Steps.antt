@@ -22,7 +22,7 @@ use Rattle.ktm_laws.proofs.Settings.{stored_all-rises, stored_all-good}
 use Rattle.ktm_laws.proofs.Tables.{is_before-then, is_before-turned, recorded_at-there, Table-filter, Table-map}
 use Rattle.ktm_laws.proofs.Fitting.{Fitting, Beside, Rest, TableOf, good-from, table-of, rest-of}
 use Rattle.ktm_laws.proofs.Committing.{next-rises, next-to, below-changed_all, limits-counted, with_all, Rest-with, Rest-transactions, is_drawn-later, Core-carried, Fitting-carried, Beside-carried}
-use Rattle.ktm_laws.proofs.Waiting.{in_others-plain, in_others, settings-good, changes_apply-all, changes_apply-apart, apart-from-none, SparesWaiting, waiting-apply, waiting-holds}
+use Rattle.ktm_laws.proofs.Waiting.{in_others-plain, in_others, settings-good, changes_apply-all, changes_apply-apart, apart-from-none, SparesWaiting, waiting-apply, waiting-new, waiting-holds}
 
 -- a good state stays good by the event, where it applies
 abbrev pub Keeps : Durable → Event → Type 0
@@ -36,7 +36,7 @@ is_drawn-now s id counts now = and_from _ _ counts (le-leb _ _ (omega (arith, no
 
 pub boot-keeps : (s : Durable) (boot : ℕ) → Keeps s (Boot boot)
 boot-keeps s boot good spelled applies limits few = good-from s' (Table-filter (Fitting s) (Beside s) (Fitting s') (Beside s') (λ t. not (is_ready t.stage)) s.transactions (table-of s good)
-    (λ t there keep fits. record { core = Core-carried s s' t later (λ m is. is) (omega arith) fits.core.apply fits.core; ready = or_left _ _ keep })
+    (λ t there keep fits. record { core = Core-carried s s' t later (λ m is. is) (omega arith) fits.core.apply fits.core.new fits.core; ready = or_left _ _ keep })
     (λ t u there there' keep keep' other sides. Beside-carried s s' t u refl sides)) record {
       image_fits = rest.image_fits;
       managers_rise = rest.managers_rise;
@@ -103,7 +103,7 @@ rises-with_manager (a ∷ ids) id rises new =
 
 pub made-keeps : (s : Durable) (manager : Id) → Keeps s (MadeRm manager)
 made-keeps s manager good spelled applies limits few = good-from s' (Table-map (Fitting s) (Beside s) (Fitting s') (Beside s') s.transactions (table-of s good)
-    (λ t there fits. Fitting-carried s s' t refl managers (omega arith) fits.core.apply fits)
+    (λ t there fits. Fitting-carried s s' t refl managers (omega arith) fits.core.apply fits.core.new fits)
     (λ t u there there' other sides. Beside-carried s s' t u refl sides)) record {
       image_fits = rest.image_fits;
       managers_rise = rises-with_manager s.managers manager rest.managers_rise (not-true _ parts.1);
@@ -143,7 +143,7 @@ made-keeps s manager good spelled applies limits few = good-from s' (Table-map (
 
 pub undo-keeps : (s : Durable) (transaction : Id) → Keeps s (Undo transaction)
 undo-keeps s transaction good spelled applies limits few = good-from s' (Table-filter (Fitting s) (Beside s) (Fitting s') (Beside s') (λ t. not (same_id t.id transaction)) s.transactions (table-of s good)
-    (λ t there keep fits. Fitting-carried s s' t refl (λ m is. is) (omega arith) fits.core.apply fits)
+    (λ t there keep fits. Fitting-carried s s' t refl (λ m is. is) (omega arith) fits.core.apply fits.core.new fits)
     (λ t u there there' keep keep' other sides. Beside-carried s s' t u refl sides))
     (Rest-transactions s (without_recorded s.transactions transaction) (s.events + 1) (rest-of s good) (limits-counted (fact_of s (Undo transaction)) (s.events + 1) limits) few)
   where
@@ -176,7 +176,7 @@ module _ (lists : ListsLaw) (formed : FormedLaw) where
       → is_within_limits (with_all s (changed_all s.tree cs) (stored_all s.keys ss) (next_after_all s.next_node cs) s.transactions (s.events + 1)) ≡ true → s.events + 1 < 2 ^ 63
       → IsGoodState (with_all s (changed_all s.tree cs) (stored_all s.keys ss) (next_after_all s.next_node cs) s.transactions (s.events + 1))
   commit-keeps s cs ss good all spares good_settings limits few = good-from s' (Table-map (Fitting s) (Beside s) (Fitting s') (Beside s') s.transactions table
-      (λ t there fits. Fitting-carried s s' t refl (λ m is. is) (next-rises cs s.next_node) (waiting-apply lists s good.files cs all t fits.core.changes fits.core.apply (spares t there)) fits)
+      (λ t there fits. Fitting-carried s s' t refl (λ m is. is) (next-rises cs s.next_node) (waiting-apply lists s good.files cs all t fits.core.changes fits.core.apply (spares t there)) (waiting-new lists s good.files cs all t fits.core.changes fits.core.new (spares t there)) fits)
       (λ t u there there' other sides. Beside-committed s s' t u
       (waiting-holds lists s good.files cs all t (table.fit t there).core.apply (spares t there)) (waiting-holds lists s good.files cs all u (table.fit u there').core.apply (spares u there')) sides))
       (Rest-committed s cs ss s.transactions (rest-of s good) all good_settings limits few)

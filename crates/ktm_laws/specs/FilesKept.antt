@@ -1,5 +1,5 @@
 -- What undecided transactions own and hold of the files stays sound, whatever a machine does.
-use Rattle.std.specs.Prelude.{◌≡◌, ℕ, true, List}
+use Rattle.std.specs.Prelude.{ℕ, List}
 use Rattle.ktm_base.specs.declared.id.Pid.{Pid}
 use Rattle.ktm_types.specs.declared.command.Command.{Command}
 use Rattle.ktm_world.specs.Decide.{decide}
@@ -8,7 +8,7 @@ use Rattle.ktm_world.specs.Logs.{Group}
 use Rattle.ktm_world.specs.Outcome.{apply}
 use Rattle.ktm_world.specs.Present.{Present}
 use Rattle.ktm_world.specs.World.{present, opened, decide_tick}
-use Rattle.ktm_laws.specs.GoodState.{waits_for_new, IsGoodState}
+use Rattle.ktm_laws.specs.GoodState.{IsGoodState}
 use Rattle.ktm_laws.specs.SoundCourse.{IsSoundCourse}
 use Rattle.ktm_laws.specs.SoundFiles.{IsSoundFiles}
 
@@ -18,5 +18,5 @@ pub record FilesKeptLaw : Type 0 where
   pub commands : (x : Present) (process : Pid) (command : Command) → IsSoundCourse x → IsSoundFiles x → IsSoundFiles (apply x (decide x process command))
   -- by the passing of time
   pub ticks : (x : Present) (ms : ℕ) → IsSoundCourse x → IsSoundFiles x → IsSoundFiles (apply x (decide_tick x ms))
-  -- by a restart of a good state, of which nothing that waits makes a node that the tree has
-  pub restarts : (base : Durable) (room : ℕ) (log : List Group) → IsGoodState (stand base log) → waits_for_new (stand base log) ≡ true → IsSoundFiles (present (opened base room log))
+  -- by a restart of a good state
+  pub restarts : (base : Durable) (room : ℕ) (log : List Group) → IsGoodState (stand base log) → IsSoundFiles (present (opened base room log))

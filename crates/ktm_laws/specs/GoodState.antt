@@ -11,13 +11,13 @@ use Rattle.ktm_keyed.specs.declared.keyed.Keyed.{Keyed}
 use Rattle.ktm_types.specs.declared.event.Part.{Part}
 use Rattle.ktm_types.specs.declared.event.Part.TheVariants.{Enlistment}
 use Rattle.ktm_world.specs.Changes.{apply_all, bytes_in, is_empty_list, is_make, node_of}
-use Rattle.ktm_world.specs.Durable.{Durable, Recorded, is_ready, is_held, is_decided, changes_of, settings_of, enlistments_of, is_before, holds_in, is_part_of, is_sole, is_manager, is_some_change, are_recorded_changes, has_changes_part, has_settings_part, has_part, waiting, is_within_limits}
+use Rattle.ktm_world.specs.Durable.{Durable, Recorded, is_ready, is_held, is_decided, changes_of, settings_of, enlistments_of, is_before, holds_in, is_part_of, is_sole, is_manager, is_new_in, is_some_change, are_recorded_changes, has_changes_part, has_settings_part, has_part, waiting, is_within_limits}
 use Rattle.ktm_keyed.specs.Keyed.{is_rising}
 use Rattle.ktm_world.specs.Keys.{are_good_settings, is_bad_key, is_bad_value}
 use Rattle.ktm_world.specs.Lawful.{are_apart, set_both}
 use Rattle.ktm_world.specs.Limits.{most_information, most_number}
 use Rattle.ktm_world.specs.Transactions.{same_id}
-use Rattle.ktm_world.specs.Tree.{Tree, IsWellFormed, node_at}
+use Rattle.ktm_world.specs.Tree.{IsWellFormed}
 
 -- do each two of the list, in their order, pass the test
 abbrev pub each_pair : {X : Type 0} → (X → X → Bool) → List X → Bool
@@ -101,14 +101,6 @@ set_no_key_both t u = not (set_both (settings_of t) (settings_of u))
 abbrev pub is_good_entry : Keyed (List ℕ) → Bool
 is_good_entry x = not (is_bad_key x.key) && not (is_bad_value x.value)
 
--- does the change make no node that the tree has
-abbrev pub is_new_in : Tree → Change → Bool
-is_new_in tree change = not (is_make change) || is_none (node_at tree (node_of change))
-
--- does no transaction that waits make a node that the tree has
-abbrev pub waits_for_new : Durable → Bool
-waits_for_new s = list_all (λ t. list_all (is_new_in s.tree) (changes_of t)) s.transactions
-
 -- ---- all of it
 
 -- the durable state is good: what it names is there and stands once, each transaction is as its stage asks, what waits applies and is apart, and the limits hold
@@ -147,6 +139,8 @@ pub record IsGoodState (s : Durable) : Type 0 where
   pub apply : list_all (λ t. apply_all s.tree (changes_of t)) s.transactions ≡ true
   -- the nodes that they make are below the next number
   pub made : list_all (λ t. list_all (is_made_below s.next_node) (changes_of t)) s.transactions ≡ true
+  -- and the tree has none of them
+  pub new : list_all (λ t. list_all (is_new_in s.tree) (changes_of t)) s.transactions ≡ true
   -- the contents that they put are not empty
   pub puts : list_all (λ t. list_all puts_some (changes_of t)) s.transactions ≡ true
   -- settings that wait are good ones, and a decided transaction has none
