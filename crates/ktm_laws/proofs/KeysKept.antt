@@ -56,7 +56,7 @@ abbrev Keeps : Present → Outcome → Type 0
 Keeps x o = IsSoundKeys x → IsSoundKeys (apply x o)
 
 -- where neither the store nor what is set changes, and who is undecided stays so
-same : (x y : Present) → ((id : Id) → is_undecided_in x.transactions.items id ≡ true → is_undecided_in y.transactions.items id ≡ true) → y.keys.own ≡ x.keys.own → y.keys.store ≡ x.keys.store
+pub same : (x y : Present) → ((id : Id) → is_undecided_in x.transactions.items id ≡ true → is_undecided_in y.transactions.items id ≡ true) → y.keys.own ≡ x.keys.own → y.keys.store ≡ x.keys.store
     → IsSoundKeys x → IsSoundKeys y
 same x y stays own store sound = record {
   undecided = subst (λ os. list_all (λ (o : Own). is_undecided_in y.transactions.items o.transaction) os ≡ true) (sym own)

@@ -56,6 +56,7 @@ pub mod Settings
 pub mod Settling
 pub mod SoundCommands
 pub mod SoundRestarts
+pub mod SoundWorlds
 pub mod Steps
 pub mod Tables
 pub mod Undecided

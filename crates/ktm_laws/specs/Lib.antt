@@ -18,3 +18,4 @@ pub mod Reservations
 pub mod SoundCourse
 pub mod SoundCourses
 pub mod SoundFiles
+pub mod SoundWorlds
