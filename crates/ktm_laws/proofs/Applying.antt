@@ -1,5 +1,5 @@
 -- What the tests of a change say, by lookups; and what of it stays when another node is changed.
-use Rattle.std.proofs.Common.{◌≡◌, ℕ, ◌≤◌, ◌==◌, ◌&&◌, ◌||◌, not, Bool, true, false, is_none, is_some, List, [], ◌∷◌, length, find, Option, Some, None, refl, sym, ◌∙◌, ap, subst, arith, inl, inr, All}
+use Rattle.std.proofs.Common.{◌≡◌, ℕ, ◌≤◌, ◌==◌, ◌&&◌, ◌||◌, not, Bool, true, false, is_none, is_some, List, [], ◌∷◌, map, length, find, Option, Some, None, refl, sym, ◌∙◌, ap, subst, arith, inl, inr, All}
 use Rattle.std.proofs.lemmas.Bool.{cases_Bool, cases_eq, eq-eqb, eqb-true, eqb-false, and_parts, and_from, or_parts, not-true, not_from_false, true≢false, false_from_ne_true}
 use Rattle.std.proofs.lemmas.List.Elements.{All-head, All-tail, All-cons, All-nil}
 use Rattle.std.proofs.lemmas.Option.{none-some, same_Some}
@@ -7,13 +7,14 @@ use Rattle.std.specs.List.{list_any}
 use Rattle.ktm_types.specs.declared.change.Change.{Change}
 use Rattle.ktm_types.specs.declared.change.Change.TheVariants.{Make, Put, Cut, Move, Drop}
 use Rattle.ktm_types.specs.declared.recorded.Node.{Node}
-use Rattle.ktm_world.specs.Changes.{changed, applies, node_of, is_drop, is_whole, is_empty_list, is_free, is_node_number}
+use Rattle.ktm_world.specs.Changes.{changed, changed_all, applies, apply_all, node_of, is_drop, is_whole, is_empty_list, is_free, is_node_number}
 use Rattle.ktm_world.specs.Paths.{is_name}
 use Rattle.ktm_base.specs.Names.{IsName, folded}
 use Rattle.std.specs.Bool.{⊤}
 use Rattle.std.specs.Prelude.{bytes_eq}
 use Rattle.std.proofs.lemmas.Slice.Eq.{bytes_eq-Decides}
 use Rattle.std.proofs.lemmas.Cmp.{nat_list_eq_equiv}
+use Rattle.ktm_laws.specs.Footprint.{IsIn}
 use Rattle.ktm_laws.proofs.Ways.{above, steps-from, is_at_or_below-from}
 use Rattle.ktm_world.specs.Tree.{IsWellFormed, Tree, root, node_at, is_there, is_file, is_directory, is_at_or_below, child_of, has_entries, same_name, content_of}
 use Rattle.ktm_laws.proofs.Lookups.{Rises, Fits, remade, node_at-elsewhere, node_at-there, node_at-below, Rises-from, numbers_rise-from}
@@ -259,3 +260,12 @@ pub parents-after : (tree : Tree) (c : Change) → Good tree → Applies tree c 
 parents-after tree c good is =
     holds-after (λ parent name. is_directory (changed tree c) parent ≡ true) tree c (Fits-from tree c is) (Gives-directory tree c is)
     (λ m n found. dir_after tree c is n.parent (good.parents m n found) (λ drops. no_entry tree c is drops m n found))
+
+-- ---- a node that no change is of
+
+-- it stays as it is
+pub node-elsewhere : (cs : List Change) (tree : Tree) (number : ℕ) → apply_all tree cs ≡ true → (IsIn number (map node_of cs) → ⊥) → node_at (changed_all tree cs) number ≡ node_at tree number
+node-elsewhere [] tree number all other = refl
+node-elsewhere (c ∷ cs) tree number all other =
+    let parts = and_parts (applies tree c) (apply_all (changed tree c) cs) all in
+    node-elsewhere cs (changed tree c) number parts.1 (λ there. other (inr there)) ∙ node_at-elsewhere tree c (Fits-from tree c (Applies-from tree c parts.0)) number (λ e. other (inl e))

@@ -21,14 +21,13 @@ use Rattle.ktm_world.specs.Phases.{Course, aborting}
 use Rattle.ktm_world.specs.Present.{Present}
 use Rattle.ktm_world.specs.TransactionCalls.{course_of, arrived, aborted_by, aborted_if_due, aborted_in_turn, is_due, tick, with_clock}
 use Rattle.ktm_world.specs.Transactions.{is_of, is_undecided, same_id, change_at, transaction_at}
-use Rattle.ktm_laws.specs.FilesKept.{AreInOrder}
 use Rattle.ktm_laws.specs.Footprint.{IsIn, ListsLaw}
 use Rattle.ktm_laws.specs.Formed.{FormedLaw}
 use Rattle.ktm_laws.specs.SoundFiles.{IsSoundFiles}
 use Rattle.ktm_laws.proofs.CoursesKept.{IsCourse, OneWork, Steps, aborting-is}
 use Rattle.ktm_laws.proofs.Elements.{IsIn-filter, IsIn-kept, list_all-at}
 use Rattle.ktm_laws.proofs.Passing.{Spares, passed, passed-sound}
-use Rattle.ktm_laws.proofs.Releasing.{filter-true, filter-same, same_id-turned, IsIn-change_at, order-changed, transaction_at-in, boots-all, tree-store, versions-store, spares-none, spares-end, unchanged}
+use Rattle.ktm_laws.proofs.Releasing.{AreInOrder, filter-true, filter-same, same_id-turned, IsIn-change_at, order-changed, transaction_at-in, boots-all, tree-store, versions-store, spares-none, spares-end, unchanged}
 use Rattle.ktm_laws.proofs.Undecided.{undecided-other, undecided-itself}
 
 -- an open file has a handle

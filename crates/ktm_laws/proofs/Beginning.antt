@@ -114,12 +114,15 @@ module _ (x : Present) (sound : IsSoundFiles x) (t : Transaction) (new : is_none
     own_drawn = sound.own_drawn;
     own_new = sound.own_new;
     own_differ = sound.own_differ;
+    own_gone = sound.own_gone;
     first_once = sound.first_once;
     first_not_made = sound.first_not_made;
     first_drawn = sound.first_drawn;
     first_versions = sound.first_versions;
     first_bytes = sound.first_bytes;
     first_last = sound.first_last;
+    first_files = sound.first_files;
+    opens_files = sound.opens_files;
     formed = sound.formed;
     tree_drawn = sound.tree_drawn;
     next_from = sound.next_from;

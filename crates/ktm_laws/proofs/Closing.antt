@@ -15,7 +15,7 @@ use Rattle.ktm_types.specs.declared.object.Transaction.{Transaction}
 use Rattle.ktm_types.specs.declared.reply.Reply.TheVariants.{Done}
 use Rattle.ktm_world.specs.Changes.{changes_bytes, node_of}
 use Rattle.ktm_world.specs.Conflicts.{holds_now, written_by, writes}
-use Rattle.ktm_world.specs.Files.{FirstOpen, OpenFile, OwnChanges, own_changes, is_last_version, tree_seen}
+use Rattle.ktm_world.specs.Files.{FirstOpen, OpenFile, OwnChanges, own_changes, is_last_version, tree_seen, tree_of}
 use Rattle.ktm_world.specs.HandleCalls.{is_handle, without_handle, same_object, has_handle, closed_file, abort_active, last_handle_gone, handle_gone, close_handle, labels_of, closed_in_turn, exit}
 use Rattle.ktm_world.specs.Handles.{object_at}
 use Rattle.ktm_world.specs.Holds.{is_in, meet_in}
@@ -26,18 +26,17 @@ use Rattle.ktm_world.specs.TransactionCalls.{aborted_by}
 use Rattle.ktm_world.specs.Phases.{aborting}
 use Rattle.ktm_world.specs.Transactions.{is_active, is_of, transaction_at}
 use Rattle.ktm_world.specs.Tree.{is_file}
-use Rattle.ktm_laws.specs.FilesKept.{AreInOrder, is_created_before, is_labelled_apart}
 use Rattle.ktm_laws.specs.Footprint.{IsIn, ListsLaw}
 use Rattle.ktm_laws.specs.Formed.{FormedLaw}
 use Rattle.ktm_laws.specs.GoodState.{each_pair}
-use Rattle.ktm_laws.specs.SoundFiles.{IsSoundFiles, is_undecided_in, opens_rise, made_or_opened, is_change_of_opened, has_dropped, is_open_last, is_plain_well, is_own_well, may_use, files_apart, all_files_apart}
+use Rattle.ktm_laws.specs.SoundFiles.{IsSoundFiles, is_undecided_in, opens_rise, made_or_opened, is_change_of_opened, has_dropped, is_open_last, is_plain_well, is_own_well, may_use, files_apart, all_files_apart, opens_no_directory, is_gone}
 use Rattle.ktm_laws.proofs.Arriving.{Goes, named, only_reply-goes, and_then-goes, either-goes, course-goes}
 use Rattle.ktm_laws.proofs.CoursesKept.{aborting-is}
 use Rattle.ktm_laws.proofs.Diamonds.{IsIn-map, IsIn-right, no_test, none-from}
 use Rattle.ktm_laws.proofs.Elements.{IsIn-filter, IsIn-kept, list_all-at, list_all-from, list_any-at, list_any-from, each_pair-filter}
 use Rattle.ktm_laws.proofs.Lists.{IsIn-left, IsIn-cases, IsIn-unmap}
 use Rattle.ktm_laws.proofs.Passing.{list_all-left}
-use Rattle.ktm_laws.proofs.Releasing.{filter-true, transaction_at-in}
+use Rattle.ktm_laws.proofs.Releasing.{AreInOrder, is_created_before, is_labelled_apart, filter-true, transaction_at-in}
 
 -- open files have ended
 pub record Closes (x y : Present) (keep : OpenFile → Bool) : Type 0 where
@@ -126,6 +125,8 @@ module _ (x y : Present) (keep : OpenFile → Bool) (sound : IsSoundFiles x) (st
     own_drawn = sound.own_drawn;
     own_new = sound.own_new;
     own_differ = sound.own_differ;
+    own_gone = list_all-from _ x.files.table.own (λ o there. ap (λ b. not (o.transaction.boot == b) || list_all (is_gone (tree_of x.files o.transaction)) o.changes) step.boots
+        ∙ list_all-at (λ (p : OwnChanges). not (p.transaction.boot == x.recorded.boots) || list_all (is_gone (tree_of x.files p.transaction)) p.changes) x.files.table.own sound.own_gone o there);
     first_once = sound.first_once;
     first_undecided = list_all-from _ x.files.first_opens (λ o there.
         let parts = and_parts (is_undecided_in x.transactions.items o.transaction) (o.transaction.boot == x.recorded.boots)
@@ -136,6 +137,8 @@ module _ (x y : Present) (keep : OpenFile → Bool) (sound : IsSoundFiles x) (st
     first_versions = sound.first_versions;
     first_bytes = sound.first_bytes;
     first_last = list_all-from _ x.files.first_opens (λ o there. last-still o (list_all-at (is_open_last x.files) x.files.first_opens sound.first_last o there));
+    first_files = sound.first_files;
+    opens_files = list_all-left (λ o. opens_no_directory x.files o.node o.transaction) keep x.files.table.opens sound.opens_files;
     formed = sound.formed;
     tree_drawn = sound.tree_drawn;
     next_from = sound.next_from;

@@ -7,12 +7,12 @@ use Rattle.ktm_types.specs.declared.change.Change.{Change}
 use Rattle.ktm_types.specs.declared.change.Change.TheVariants.{Make, Put, Cut, Move, Drop}
 use Rattle.ktm_types.specs.declared.recorded.Node.{Node}
 use Rattle.ktm_world.specs.Changes.{changed, changed_all, applies, apply_all, node_of, is_make, next_after}
-use Rattle.ktm_world.specs.Durable.{Durable, Recorded, is_ready, is_manager, has_part, changes_of, next_after_all, is_within_limits}
+use Rattle.ktm_world.specs.Durable.{Durable, Recorded, is_ready, is_manager, is_new_in, has_part, changes_of, next_after_all, is_within_limits}
 use Rattle.ktm_keyed.specs.Keyed.{is_rising}
 use Rattle.ktm_world.specs.Keys.{Store}
 use Rattle.ktm_world.specs.Tree.{Tree, has_number, with_node, with_changed, without_node, IsWellFormed}
 use Rattle.ktm_laws.specs.Footprint.{footprint, AreFootprintsApart}
-use Rattle.ktm_laws.specs.GoodState.{is_drawn, is_made_below, is_good_entry}
+use Rattle.ktm_laws.specs.GoodState.{is_of_object, is_drawn, is_made_below, is_good_entry}
 use Rattle.ktm_laws.proofs.Applying.{Applies-from}
 use Rattle.ktm_laws.proofs.Elements.{list_all-at, list_all-from}
 use Rattle.ktm_laws.proofs.Fitting.{Core, Fitting, Beside, Rest}
@@ -130,6 +130,7 @@ pub Rest-with : (s : Durable) (tree : Tree) (keys : Store) (next : ℕ) (ts : Li
     → IsWellFormed tree → list_all (is_below next) tree ≡ true → s.next_node ≤ next → next ≤ 2 ^ 63 → is_rising keys ≡ true → list_all is_good_entry keys ≡ true
     → Rest (with_all s tree keys next ts events)
 Rest-with s tree keys next ts events rest limits few files below more low rises good = record {
+  image_fits = rest.image_fits;
   managers_rise = rest.managers_rise;
   managers_drawn = rest.managers_drawn;
   limits = limits;
@@ -153,13 +154,11 @@ Rest-transactions s ts events rest limits few =
 
 pub is_drawn-later : (s s' : Durable) (id : Id) → s.boots ≤ s'.boots → is_drawn s id ≡ true → is_drawn s' id ≡ true
 is_drawn-later s s' id later drawn =
-    let number = and_parts (nat_le 1 id.boot && nat_le id.boot s.boots) (nat_le 1 id.number) drawn in
-    let boot = and_parts (nat_le 1 id.boot) (nat_le id.boot s.boots) number.0 in
-    and_from _ _ (and_from _ _ boot.0 (le-leb _ _ (omega (arith, leb-true _ _ boot.1)))) number.1
+    let parts = and_parts (is_of_object id) (nat_le id.boot s.boots) drawn in and_from _ _ parts.0 (le-leb _ _ (omega (arith, leb-true _ _ parts.1)))
 
 pub Core-carried : (s s' : Durable) (t : Recorded) → s.boots ≤ s'.boots → ((m : Id) → is_manager s m ≡ true → is_manager s' m ≡ true) → s.next_node ≤ s'.next_node
-    → apply_all s'.tree (changes_of t) ≡ true → Core s t → Core s' t
-Core-carried s s' t later managers more applies core = record {
+    → apply_all s'.tree (changes_of t) ≡ true → list_all (is_new_in s'.tree) (changes_of t) ≡ true → Core s t → Core s' t
+Core-carried s s' t later managers more applies new core = record {
   drawn = is_drawn-later s s' t.id later core.drawn;
   enlistments = λ e there. let is = core.enlistments e there in record {
     drawn = is_drawn-later s s' e.enlistment later is.drawn;
@@ -174,14 +173,15 @@ Core-carried s s' t later managers more applies core = record {
   changes = core.changes;
   apply = applies;
   made = all_made_below-more s.next_node s'.next_node (changes_of t) more core.made;
+  new = new;
   puts = core.puts;
   settings = core.settings;
 }
 
 pub Fitting-carried : (s s' : Durable) (t : Recorded) → s.boots ≡ s'.boots → ((m : Id) → is_manager s m ≡ true → is_manager s' m ≡ true) → s.next_node ≤ s'.next_node
-    → apply_all s'.tree (changes_of t) ≡ true → Fitting s t → Fitting s' t
-Fitting-carried s s' t boots managers more applies fits = record {
-  core = Core-carried s s' t (omega (arith, boots)) managers more applies fits.core;
+    → apply_all s'.tree (changes_of t) ≡ true → list_all (is_new_in s'.tree) (changes_of t) ≡ true → Fitting s t → Fitting s' t
+Fitting-carried s s' t boots managers more applies new fits = record {
+  core = Core-carried s s' t (omega (arith, boots)) managers more applies new fits.core;
   ready = subst (λ b. (not (is_ready t.stage) || (t.id.boot == b && has_part t && is_none t.superior)) ≡ true) boots fits.ready;
 }
 

@@ -22,7 +22,7 @@ use Rattle.ktm_laws.proofs.Parts.{gathered-map, gathered-map_none, count_among-m
 use Rattle.ktm_laws.proofs.Tables.{same_id-equal, other_id, recorded_at-there, Table-filter, Table-with}
 use Rattle.ktm_laws.proofs.Fitting.{differ, Core, Fitting, Beside, Beside-sym, TableOf, good-from, table-of, rest-of}
 use Rattle.ktm_laws.proofs.Committing.{next-rises, limits-counted, with_all, Fitting-carried}
-use Rattle.ktm_laws.proofs.Waiting.{settings-of-good, SparesWaiting, waiting-apply, waiting-holds}
+use Rattle.ktm_laws.proofs.Waiting.{settings-of-good, SparesWaiting, waiting-apply, waiting-new, waiting-holds}
 use Rattle.ktm_laws.proofs.Steps.{Keeps, Beside-committed, Rest-committed}
 use Rattle.ktm_laws.proofs.Holding.{undone}
 
@@ -144,6 +144,7 @@ module _ (lists : ListsLaw) (formed : FormedLaw) (s : Durable) (good : IsGoodSta
       changes = rw changes-decided refl;
       apply = rw changes-decided refl;
       made = rw changes-decided refl;
+      new = rw changes-decided refl;
       puts = rw changes-decided refl;
       settings = rw settings-decided refl;
     };
@@ -153,7 +154,7 @@ module _ (lists : ListsLaw) (formed : FormedLaw) (s : Durable) (good : IsGoodSta
   decided-good : is_within_limits s_decided ≡ true → s.events + 1 < 2 ^ 63 → IsGoodState s_decided
   decided-good limits few = good-from s_decided (Table-while s s_decided (decided t) table
       (λ u there' other fits. Fitting-carried s s_decided u refl (λ m is. is) (next-rises (changes_of t) s.next_node)
-      (waiting-apply lists s good.files (changes_of t) core.apply u fits.core.changes fits.core.apply (spares u there' other)) fits)
+      (waiting-apply lists s good.files (changes_of t) core.apply u fits.core.changes fits.core.apply (spares u there' other)) (waiting-new lists s good.files (changes_of t) core.apply u fits.core.changes fits.core.new (spares u there' other)) fits)
       (λ u v there' there'' other other' sides. Beside-committed s s_decided u v
       (waiting-holds lists s good.files (changes_of t) core.apply u (table.fit u there').core.apply (spares u there' other))
       (waiting-holds lists s good.files (changes_of t) core.apply v (table.fit v there'').core.apply (spares v there'' other')) sides)

@@ -1,6 +1,7 @@
 -- Elements of lists, and tests of each and of each two of them.
-use Rattle.std.proofs.Common.{◌≡◌, Bool, true, List, [], ◌∷◌, ◌++◌, filter, refl, sym, ◌∙◌, subst, inl, inr, ◌⊎◌}
+use Rattle.std.proofs.Common.{◌≡◌, Bool, true, find, Some, List, [], ◌∷◌, ◌++◌, filter, refl, sym, ◌∙◌, subst, inl, inr, ◌⊎◌}
 use Rattle.std.proofs.lemmas.Bool.{cases_Bool, and_parts, and_from, true≢false}
+use Rattle.std.proofs.lemmas.Option.{none-some, same_Some}
 use Rattle.std.specs.List.{list_all, list_any, flat_map}
 use Rattle.ktm_laws.specs.Footprint.{IsIn}
 use Rattle.ktm_laws.specs.GoodState.{each_pair}
@@ -64,6 +65,13 @@ list_any-from test (y ∷ ys) x (inl e) is = rw (subst (λ z. test z ≡ true) (
 list_any-from test (y ∷ ys) x (inr there) is = elim (cases_Bool (test y)) [
   | inl passes ↦ rw passes refl
   | inr fails ↦ rw fails (list_any-from test ys x there is)
+]
+
+pub find-in : {X : Type 0} (test : X → Bool) (xs : List X) (x : X) → find test xs ≡ Some x → IsIn x xs × (test x ≡ true)
+find-in test [] x found = absurd (none-some x found)
+find-in test (y ∷ ys) x found = elim (cases_Bool (test y)) [
+  | inl is ↦ let e : y ≡ x = same_Some y x (rw is at found) in (inl e, subst (λ z. test z ≡ true) e is)
+  | inr not' ↦ let rest = find-in test ys x (rw not' at found) in (inr rest.0, rest.1)
 ]
 
 -- ---- a test of each two

@@ -1,5 +1,5 @@
--- Calls that open and close no file, and change none but by the end of a transaction, keep sound what undecided transactions own of the files.
-use Rattle.std.proofs.Common.{true≢false, ◌≡◌, ℕ, not, Bool, true, false, if◌then◌else◌, List, [], ◌∷◌, Option, Some, None, refl, sym, is_none, ◌∙◌, ◌++◌}
+-- Every call, and the passing of time, keep sound what undecided transactions own of the files.
+use Rattle.std.proofs.Common.{◌≡◌, ℕ, not, Bool, true, false, if◌then◌else◌, List, [], ◌∷◌, Option, Some, None, refl, sym, subst, is_none, ◌∙◌, ◌++◌}
 use Rattle.std.proofs.lemmas.Option.{none-some}
 use Rattle.ktm_base.specs.declared.id.Id.{Id}
 use Rattle.ktm_base.specs.declared.id.Label.{Label}
@@ -8,16 +8,16 @@ use Rattle.ktm_base.specs.declared.refusal.Refusal.{Refusal}
 use Rattle.ktm_base.specs.declared.refusal.Refusal.TheVariants.{LogFull, MachineDown}
 use Rattle.std.specs.Prelude.{option_and_then}
 use Rattle.ktm_types.specs.declared.command.Command.{Command}
-use Rattle.ktm_types.specs.declared.command.Command.TheVariants.{Exit, CloseHandle, MoveFile, RemoveDirectory, CreateDirectory, DeleteFile, OpenTransaction, CommitTransaction, RollbackTransaction, GetTransactionInformation, CreateResourceManager, OpenResourceManager, RecoverResourceManager, GetNotificationResourceManager, CreateEnlistment, OpenEnlistment, RecoverEnlistment, PrePrepareComplete, PrepareComplete, ReadOnlyEnlistment, CommitComplete, RollbackComplete, SinglePhaseReject, RollbackEnlistment, PrePrepareEnlistment, PrepareEnlistment, CommitEnlistment, SetEnlistmentRecoveryInformation, GetEnlistmentRecoveryInformation, ReadFile, GetFileSizeEx, FlushFileBuffers, FindFiles, FindFilesTransacted, KvSet, KvUnset, KvGet, KvList, DuplicateHandle, CreateTransaction}
+use Rattle.ktm_types.specs.declared.command.Command.TheVariants.{CreateFile, CreateFileTransacted, WriteFile, SetEndOfFile, DeleteFileTransacted, CreateDirectoryTransacted, RemoveDirectoryTransacted, MoveFileTransacted, Exit, CloseHandle, MoveFile, RemoveDirectory, CreateDirectory, DeleteFile, OpenTransaction, CommitTransaction, RollbackTransaction, GetTransactionInformation, CreateResourceManager, OpenResourceManager, RecoverResourceManager, GetNotificationResourceManager, CreateEnlistment, OpenEnlistment, RecoverEnlistment, PrePrepareComplete, PrepareComplete, ReadOnlyEnlistment, CommitComplete, RollbackComplete, SinglePhaseReject, RollbackEnlistment, PrePrepareEnlistment, PrepareEnlistment, CommitEnlistment, SetEnlistmentRecoveryInformation, GetEnlistmentRecoveryInformation, ReadFile, GetFileSizeEx, FlushFileBuffers, FindFiles, FindFilesTransacted, KvSet, KvUnset, KvGet, KvList, DuplicateHandle, CreateTransaction}
 use Rattle.ktm_types.specs.declared.object.Object.{Object}
 use Rattle.ktm_types.specs.declared.object.Transaction.{Transaction}
 use Rattle.ktm_types.specs.declared.options.Durability.{Durability}
 use Rattle.ktm_types.specs.declared.options.EnlistmentKind.{EnlistmentKind}
 use Rattle.ktm_types.specs.declared.reply.Reply.{Reply}
 use Rattle.ktm_types.specs.declared.reply.Reply.TheVariants.{Done, Refused}
-use Rattle.ktm_world.specs.Decide.{of_files, on_file, caller, refusal_of, command_effect, with_room}
+use Rattle.ktm_world.specs.Decide.{of_files, on_file, opening, caller, transacted, refusal_of, command_tests, command_effect, with_room}
 use Rattle.ktm_world.specs.Enlistments.{Enlistment, Manager, is_superior}
-use Rattle.ktm_world.specs.FileCalls.{read_file, get_size, flush_file, find_files}
+use Rattle.ktm_world.specs.FileCalls.{read_file, get_size, flush_file, find_files, create_file, create_file_tests, delete_file, delete_file_tests, create_directory, create_directory_tests, remove_directory, remove_directory_tests, move_file, move_file_tests}
 use Rattle.ktm_world.specs.Files.{OpenFile}
 use Rattle.ktm_world.specs.HandleCalls.{exit, close_handle, duplicate_handle, bind_to}
 use Rattle.ktm_world.specs.Handles.{object_at, transaction_id}
@@ -25,14 +25,23 @@ use Rattle.ktm_world.specs.Labels.{transaction_named, manager_named, enlistment_
 use Rattle.ktm_world.specs.Outcome.{apply, Outcome, only_reply, first_refusal, refuse_or, within_log, is_full}
 use Rattle.ktm_world.specs.Phases.{Course, to_commit, aborting, committing, to_pre_prepare, to_prepare, pre_prepare_answered, prepare_answered, read_only_answered, commit_answered, rollback_answered, single_phase_rejected, recovered}
 use Rattle.ktm_world.specs.Present.{Present}
-use Rattle.ktm_world.specs.TransactionCalls.{course_of, arrived, open_transaction, open_to_transaction, transaction_with, commit_transaction, commit_reply, rollback_transaction, get_transaction_information, information_of, information_in, create_resource_manager, open_resource_manager, open_to_manager, manager_with, recover_resource_manager, get_notification, create_enlistment, open_enlistment, open_to_enlistment, enlistment_with, goes_on, answering, transaction_in, pre_prepare_complete, prepare_complete, read_only_enlistment, commit_complete, rollback_complete, single_phase_reject, rollback_enlistment, pre_prepare_enlistment, prepare_enlistment, commit_enlistment, recover_enlistment, set_information, get_information, tick, new_id, create_transaction}
+use Rattle.ktm_world.specs.TransactionCalls.{bound_test, course_of, arrived, open_transaction, open_to_transaction, transaction_with, commit_transaction, commit_reply, rollback_transaction, get_transaction_information, information_of, information_in, create_resource_manager, open_resource_manager, open_to_manager, manager_with, recover_resource_manager, get_notification, create_enlistment, open_enlistment, open_to_enlistment, enlistment_with, goes_on, answering, transaction_in, pre_prepare_complete, prepare_complete, read_only_enlistment, commit_complete, rollback_complete, single_phase_reject, rollback_enlistment, pre_prepare_enlistment, prepare_enlistment, commit_enlistment, recover_enlistment, set_information, get_information, tick, new_id, create_transaction}
 use Rattle.ktm_world.specs.Transactions.{transaction_at}
+use Rattle.ktm_world.specs.Uses.{file_room}
 use Rattle.ktm_laws.specs.Footprint.{IsIn, ListsLaw}
 use Rattle.ktm_laws.proofs.CoursesKept.{Steps, to_commit-is, aborting-is, committing-is, to_pre_prepare-is, to_prepare-is, pre_prepare_answered-is, prepare_answered-is, read_only_answered-is, commit_answered-is, rollback_answered-is, single_phase_rejected-is, recovered-is}
-use Rattle.ktm_laws.specs.FilesKept.{is_sound_step, FilesKeptLaw}
+use Rattle.ktm_laws.specs.FilesKept.{FilesKeptLaw}
+use Rattle.ktm_laws.specs.SoundCourse.{IsSoundCourse, is_counted}
+use Rattle.ktm_laws.proofs.Calls.{Passes, passed, transaction_at-found}
+use Rattle.ktm_laws.proofs.Elements.{list_all-at}
+use Rattle.ktm_laws.proofs.Makings.{counted-before}
+use Rattle.ktm_laws.proofs.OpenCalls.{creates-file, creates-own, writes-file, sets-end}
+use Rattle.ktm_laws.proofs.OwnCalls.{Caller, caller-may, deletes-own, creates-own-directory, removes-own-directory, moves-own}
+use Rattle.ktm_laws.proofs.Tables.{before_other}
 use Rattle.ktm_laws.specs.Formed.{FormedLaw}
-use Rattle.ktm_laws.proofs.Arriving.{Goes, course-goes, tick-sound, named, only_reply-sound}
-use Rattle.ktm_laws.proofs.Releasing.{transaction_at-in, filter-true, unchanged}
+use Rattle.ktm_laws.proofs.Arriving.{Goes, course-goes, tick-sound, named}
+use Rattle.ktm_laws.proofs.Restarting.{files-opened}
+use Rattle.ktm_laws.proofs.Releasing.{AreInOrder, transaction_at-in, filter-true, unchanged}
 use Rattle.ktm_laws.proofs.PlainCalls.{deletes-file, creates-directory, removes-directory, moves-file}
 use Rattle.ktm_laws.proofs.Closing.{close_handle-goes, exit-goes}
 use Rattle.ktm_laws.proofs.Leaving.{KeepsFiles, replies, leaves, labelled, more-handles, answers_file}
@@ -42,7 +51,6 @@ use Rattle.ktm_types.specs.declared.object.TransactionOutcome.{TransactionOutcom
 use Rattle.ktm_laws.specs.SoundFiles.{IsSoundFiles}
 use Rattle.ktm_laws.proofs.Beginning.{begun-sound}
 
--- a call opens no file, and changes none but by the end of a transaction
 module _ (lists : ListsLaw) (formed : FormedLaw) where
   abbrev Keeps : Present → Outcome → Type 0
   Keeps x o = KeepsFiles x o
@@ -207,49 +215,107 @@ module _ (lists : ListsLaw) (formed : FormedLaw) where
   unfolding find_files
   finds x who searched = answers_file lists formed x who (find_files x.files who searched) refl refl refl
 
-  -- ---- every such call
+  begins : (x : Present) (process : Pid) (label : Label) (timeout : ℕ) → is_none (transaction_at x.transactions.items (new_id x x.transactions.last_transaction)) ≡ true → IsSoundFiles x → IsSoundFiles (apply x (create_transaction x process label timeout))
+  unfolding create_transaction
+  begins x process label timeout new sound =
+      let id = new_id x x.transactions.last_transaction in
+      let t : Transaction = record { id = id; timeout = timeout; created = x.transactions.clock; phase = Phase.Active; outcome = TransactionOutcome.Undetermined; is_recorded = false } in
+      let begun = begun-sound x sound t new in
+      unchanged lists formed (record x { transactions = record x.transactions { items = x.transactions.items ++ t ∷ [] } }) (apply x (create_transaction x process label timeout))
+      (λ i. record x.files { first_opens = (filter-true (x.files.first_opens ++ []) ∙ append-nil x.files.first_opens) i }) refl
+      (λ o there. more-handles lists formed x.handles process label (Object.Transaction id) (Object.File o.number) (named x sound o there)) (λ i was. was) (λ u there. (u, there, refl)) begun
 
-  effect : (x : Present) (process : Pid) (command : Command) → is_sound_step command ≡ true → refusal_of x process command ≡ None → Keeps x (command_effect x process command)
-  effect x process (OpenTransaction label guid) is none = opens_transaction x process label guid
-  effect x process (CommitTransaction label) is none = commits x (transaction_named x process label) (named-there x process label)
-  effect x process (RollbackTransaction label) is none = rolls_back x (transaction_named x process label) (named-there x process label)
-  effect x process (GetTransactionInformation label) is none = tells x (transaction_named x process label)
-  effect x process (CreateResourceManager label durability) is none = makes_manager x process label durability
-  effect x process (OpenResourceManager label guid) is none = opens_manager x process label guid
-  effect x process (RecoverResourceManager label) is none = recovers_manager x (manager_named x process label)
-  effect x process (GetNotificationResourceManager label) is none = takes x (manager_named x process label)
-  effect x process (CreateEnlistment label manager transaction kind) is none = enlists x process label (manager_named x process manager) (transaction_named x process transaction) kind
-  effect x process (OpenEnlistment label manager guid) is none = opens_enlistment x process label (manager_named x process manager) guid
-  effect x process (RecoverEnlistment label) is none = recovers x (enlistment_named x process label)
-  effect x process (PrePrepareComplete label) is none = pre_prepares x (enlistment_named x process label)
-  effect x process (PrepareComplete label) is none = prepares x (enlistment_named x process label)
-  effect x process (ReadOnlyEnlistment label) is none = reads_only x (enlistment_named x process label)
-  effect x process (CommitComplete label) is none = has_committed x (enlistment_named x process label)
-  effect x process (RollbackComplete label) is none = has_rolled_back x (enlistment_named x process label)
-  effect x process (SinglePhaseReject label) is none = rejects x (enlistment_named x process label)
-  effect x process (RollbackEnlistment label) is none = rolls_back_by x (enlistment_named x process label)
-  effect x process (PrePrepareEnlistment label) is none = asks_pre_prepare x (enlistment_named x process label)
-  effect x process (PrepareEnlistment label) is none = asks_prepare x (enlistment_named x process label)
-  effect x process (CommitEnlistment label) is none = decides x (enlistment_named x process label)
-  effect x process (SetEnlistmentRecoveryInformation label information) is none = keeps_information x (enlistment_named x process label) information
-  effect x process (GetEnlistmentRecoveryInformation label) is none = tells_information x (enlistment_named x process label)
-  effect x process (ReadFile file offset many) is none = reads_file x (file_named x process file) offset many
-  effect x process (GetFileSizeEx file) is none = tells_size x (file_named x process file)
-  effect x process (FlushFileBuffers file) is none = flushes x (file_named x process file)
-  effect x process (FindFiles searched) is none = finds x None searched
-  effect x process (FindFilesTransacted searched transaction) is none = finds x (caller x process transaction) searched
-  effect x process (KvSet transaction key value) is none = leaves lists formed x (command_effect x process (KvSet transaction key value)) refl refl refl refl refl (λ object has. has) refl
-  effect x process (KvUnset transaction key) is none = leaves lists formed x (command_effect x process (KvUnset transaction key)) refl refl refl refl refl (λ object has. has) refl
-  effect x process (KvGet view key) is none = leaves lists formed x (command_effect x process (KvGet view key)) refl refl refl refl refl (λ object has. has) refl
-  effect x process (KvList view) is none = leaves lists formed x (command_effect x process (KvList view)) refl refl refl refl refl (λ object has. has) refl
-  effect x process (DuplicateHandle label from source) is none = duplicates x process label from source
-  effect x process (DeleteFile path) is none = deletes-file lists formed x path (not x.machine.is_up, MachineDown) none
-  effect x process (CreateDirectory path) is none = creates-directory lists formed x path (not x.machine.is_up, MachineDown) none
-  effect x process (RemoveDirectory path) is none = removes-directory lists formed x path (not x.machine.is_up, MachineDown) none
-  effect x process (MoveFile source target) is none = moves-file lists formed x source target (not x.machine.is_up, MachineDown) none
-  effect x process (CloseHandle label) is none = by x (close_handle x process label) (close_handle-goes lists formed x process label)
-  effect x process Exit is none = by x (exit x process) (exit-goes lists formed x process)
-  effect x process _ is none = absurd (true≢false (sym is))
+  -- a transaction that begins has an Id that none has
+  new-begins : (x : Present) → IsSoundCourse x → is_none (transaction_at x.transactions.items (new_id x x.transactions.last_transaction)) ≡ true
+  new-begins x course = go (transaction_at x.transactions.items (new_id x x.transactions.last_transaction)) refl
+    where
+      go : (t : Option Transaction) → transaction_at x.transactions.items (new_id x x.transactions.last_transaction) ≡ t → is_none t ≡ true
+      go None found = refl
+      go (Some t) found =
+          let there = transaction_at-found x.transactions.items (new_id x x.transactions.last_transaction) t found in
+          absurd (before_other t.id (new_id x x.transactions.last_transaction) (counted-before x.recorded.boots x.transactions.last_transaction t.id
+          (list_all-at (λ (t : Transaction). is_counted x.recorded.boots x.transactions.last_transaction t.id) x.transactions.items course.transactions_counted t there.0)) there.1)
+
+  -- the tests of a command on a machine that is up
+  up-passes : (x : Present) (process : Pid) (command : Command) → refusal_of x process command ≡ None → Passes (command_tests x process command)
+  up-passes x process command none = let all : Passes ((not x.machine.is_up, MachineDown) ∷ command_tests x process command) = record { none = none } in (passed all).1
+
+  -- a call that is made in a transaction
+  made-in-one : (x : Present) (process : Pid) (label : Label) (tests : Option Id → List (Bool × Refusal)) (call : Option Id → Outcome) → IsSoundCourse x → Passes (transacted x process label (tests (caller x process label)))
+      → ((id : Id) → Caller x id → Passes (tests (Some id)) → IsSoundFiles (apply x (call (Some id)))) → IsSoundFiles (apply x (call (caller x process label)))
+  made-in-one x process label tests call course passes by' =
+      let may = caller-may x process label (tests (caller x process label)) course passes in
+      subst (λ who. IsSoundFiles (apply x (call who))) (sym may.1) (by' may.0 may.2 (subst (λ who. Passes (tests who)) may.1 may.3))
+
+  -- ---- every call
+
+  effect : (x : Present) (process : Pid) (command : Command) → IsSoundCourse x → refusal_of x process command ≡ None → Keeps x (command_effect x process command)
+  effect x process (CreateTransaction label timeout) course none = λ order sound. begins x process label timeout (new-begins x course) sound
+  effect x process (OpenTransaction label guid) course none = opens_transaction x process label guid
+  effect x process (CommitTransaction label) course none = commits x (transaction_named x process label) (named-there x process label)
+  effect x process (RollbackTransaction label) course none = rolls_back x (transaction_named x process label) (named-there x process label)
+  effect x process (GetTransactionInformation label) course none = tells x (transaction_named x process label)
+  effect x process (CreateResourceManager label durability) course none = makes_manager x process label durability
+  effect x process (OpenResourceManager label guid) course none = opens_manager x process label guid
+  effect x process (RecoverResourceManager label) course none = recovers_manager x (manager_named x process label)
+  effect x process (GetNotificationResourceManager label) course none = takes x (manager_named x process label)
+  effect x process (CreateEnlistment label manager transaction kind) course none = enlists x process label (manager_named x process manager) (transaction_named x process transaction) kind
+  effect x process (OpenEnlistment label manager guid) course none = opens_enlistment x process label (manager_named x process manager) guid
+  effect x process (RecoverEnlistment label) course none = recovers x (enlistment_named x process label)
+  effect x process (PrePrepareComplete label) course none = pre_prepares x (enlistment_named x process label)
+  effect x process (PrepareComplete label) course none = prepares x (enlistment_named x process label)
+  effect x process (ReadOnlyEnlistment label) course none = reads_only x (enlistment_named x process label)
+  effect x process (CommitComplete label) course none = has_committed x (enlistment_named x process label)
+  effect x process (RollbackComplete label) course none = has_rolled_back x (enlistment_named x process label)
+  effect x process (SinglePhaseReject label) course none = rejects x (enlistment_named x process label)
+  effect x process (RollbackEnlistment label) course none = rolls_back_by x (enlistment_named x process label)
+  effect x process (PrePrepareEnlistment label) course none = asks_pre_prepare x (enlistment_named x process label)
+  effect x process (PrepareEnlistment label) course none = asks_prepare x (enlistment_named x process label)
+  effect x process (CommitEnlistment label) course none = decides x (enlistment_named x process label)
+  effect x process (SetEnlistmentRecoveryInformation label information) course none = keeps_information x (enlistment_named x process label) information
+  effect x process (GetEnlistmentRecoveryInformation label) course none = tells_information x (enlistment_named x process label)
+  effect x process (ReadFile file offset many) course none = reads_file x (file_named x process file) offset many
+  effect x process (GetFileSizeEx file) course none = tells_size x (file_named x process file)
+  effect x process (FlushFileBuffers file) course none = flushes x (file_named x process file)
+  effect x process (FindFiles searched) course none = finds x None searched
+  effect x process (FindFilesTransacted searched transaction) course none = finds x (caller x process transaction) searched
+  effect x process (KvSet transaction key value) course none = leaves lists formed x (command_effect x process (KvSet transaction key value)) refl refl refl refl refl (λ object has. has) refl
+  effect x process (KvUnset transaction key) course none = leaves lists formed x (command_effect x process (KvUnset transaction key)) refl refl refl refl refl (λ object has. has) refl
+  effect x process (KvGet view key) course none = leaves lists formed x (command_effect x process (KvGet view key)) refl refl refl refl refl (λ object has. has) refl
+  effect x process (KvList view) course none = leaves lists formed x (command_effect x process (KvList view)) refl refl refl refl refl (λ object has. has) refl
+  effect x process (DuplicateHandle label from source) course none = duplicates x process label from source
+  effect x process (DeleteFile path) course none = deletes-file lists formed x path (not x.machine.is_up, MachineDown) none
+  effect x process (CreateDirectory path) course none = creates-directory lists formed x path (not x.machine.is_up, MachineDown) none
+  effect x process (RemoveDirectory path) course none = removes-directory lists formed x path (not x.machine.is_up, MachineDown) none
+  effect x process (MoveFile source target) course none = moves-file lists formed x source target (not x.machine.is_up, MachineDown) none
+  effect x process (CloseHandle label) course none = by x (close_handle x process label) (close_handle-goes lists formed x process label)
+  effect x process Exit course none = by x (exit x process) (exit-goes lists formed x process)
+  effect x process (CreateFile label path access share disposition) course none = λ order sound.
+      creates-file lists formed x order sound process label path access share disposition (passed (up-passes x process (CreateFile label path access share disposition) none)).1
+  effect x process (CreateFileTransacted label path access share disposition transaction) course none = λ order sound.
+      made-in-one x process transaction (λ who. bound_test x process label ∷ create_file_tests x.files (file_room x) who path access share disposition) (λ who. opening x process label who (create_file x.files who path access share disposition)) course
+      (up-passes x process (CreateFileTransacted label path access share disposition transaction) none)
+      (λ id may passes. creates-own lists formed x order sound process label id may path access share disposition (passed passes).1)
+  effect x process (WriteFile file offset bytes) course none = λ order sound.
+      writes-file lists formed x process file offset bytes order sound (up-passes x process (WriteFile file offset bytes) none)
+  effect x process (SetEndOfFile file size) course none = λ order sound.
+      sets-end lists formed x process file size order sound (up-passes x process (SetEndOfFile file size) none)
+  effect x process (DeleteFileTransacted path transaction) course none = λ order sound.
+      made-in-one x process transaction (λ who. delete_file_tests x.files (file_room x) who path) (λ who. of_files x who (delete_file x.files who path)) course
+      (up-passes x process (DeleteFileTransacted path transaction) none)
+      (λ id may passes. deletes-own lists formed x order sound id may.who path passes)
+  effect x process (CreateDirectoryTransacted path transaction) course none = λ order sound.
+      made-in-one x process transaction (λ who. create_directory_tests x.files (file_room x) who path) (λ who. of_files x who (create_directory x.files who path)) course
+      (up-passes x process (CreateDirectoryTransacted path transaction) none)
+      (λ id may passes. creates-own-directory lists formed x order sound id may.who path passes)
+  effect x process (RemoveDirectoryTransacted path transaction) course none = λ order sound.
+      made-in-one x process transaction (λ who. remove_directory_tests x.files (file_room x) who path) (λ who. of_files x who (remove_directory x.files who path)) course
+      (up-passes x process (RemoveDirectoryTransacted path transaction) none)
+      (λ id may passes. removes-own-directory lists formed x order sound id may.who path passes)
+  effect x process (MoveFileTransacted source target transaction) course none = λ order sound.
+      made-in-one x process transaction (λ who. move_file_tests x.files (file_room x) who source target) (λ who. of_files x who (move_file x.files who source target)) course
+      (up-passes x process (MoveFileTransacted source target transaction) none)
+      (λ id may passes. moves-own lists formed x order sound id may.who source target passes)
 
   refuse_or-keeps : (x : Present) (refusal : Option Refusal) (effect : Outcome) → (refusal ≡ None → Keeps x effect) → Keeps x (refuse_or x refusal effect)
   refuse_or-keeps x (Some refusal) effect keeps = replies lists formed x (Refused refusal)
@@ -262,31 +328,13 @@ module _ (lists : ListsLaw) (formed : FormedLaw) where
       go true = leaves lists formed x (record (only_reply x (Refused LogFull)) { stops = true }) refl refl refl refl refl (λ object has. has) refl
       go false = keeps
 
-  begins : (x : Present) (process : Pid) (label : Label) (timeout : ℕ) → is_none (transaction_at x.transactions.items (new_id x x.transactions.last_transaction)) ≡ true → IsSoundFiles x → IsSoundFiles (apply x (create_transaction x process label timeout))
-  unfolding create_transaction
-  begins x process label timeout new sound =
-      let id = new_id x x.transactions.last_transaction in
-      let t : Transaction = record { id = id; timeout = timeout; created = x.transactions.clock; phase = Phase.Active; outcome = TransactionOutcome.Undetermined; is_recorded = false } in
-      let begun = begun-sound x sound t new in
-      unchanged lists formed (record x { transactions = record x.transactions { items = x.transactions.items ++ t ∷ [] } }) (apply x (create_transaction x process label timeout))
-      (λ i. record x.files { first_opens = (filter-true (x.files.first_opens ++ []) ∙ append-nil x.files.first_opens) i }) refl
-      (λ o there. more-handles lists formed x.handles process label (Object.Transaction id) (Object.File o.number) (named x sound o there)) (λ i was. was) (λ u there. (u, there, refl)) begun
-
-  begin-or-refuse : (x : Present) (process : Pid) (label : Label) (timeout : ℕ) → is_none (transaction_at x.transactions.items (new_id x x.transactions.last_transaction)) ≡ true → IsSoundFiles x → (refusal : Option Refusal)
-      → IsSoundFiles (apply x (refuse_or x refusal (create_transaction x process label timeout)))
-  begin-or-refuse x process label timeout new sound (Some refusal) = only_reply-sound lists formed x (Refused refusal) sound
-  begin-or-refuse x process label timeout new sound None = begins x process label timeout new sound
-
-  within : (o : Outcome) (x : Present) → IsSoundFiles x → IsSoundFiles (apply x o) → IsSoundFiles (apply x (within_log x o))
-  within o x sound after = go (is_full x.machine.left o.events)
-    where
-      go : (b : Bool) → IsSoundFiles (apply x (if b then record (only_reply x (Refused LogFull)) { stops = true } else o))
-      go true = unchanged lists formed x (apply x (record (only_reply x (Refused LogFull)) { stops = true })) (λ i. record x.files { first_opens = (filter-true (x.files.first_opens ++ []) ∙ append-nil x.files.first_opens) i }) refl (named x sound) (λ i was. was) (λ u there. (u, there, refl)) sound
-      go false = after
+  order-of : (x : Present) → IsSoundCourse x → AreInOrder x
+  order-of x course = record { transactions_rise = course.transactions_rise; labels_differ = course.labels_differ }
 
   pub files_kept_law : FilesKeptLaw
-  files_kept_law = (
-    λ x process command is. within_log-keeps x (with_room x process command) (refuse_or-keeps x (refusal_of x process command) (command_effect x process command) (effect x process command is)),
-    λ x ms. let refusal = first_refusal ((not x.machine.is_up, MachineDown) ∷ []) in within_log-keeps x (refuse_or x refusal (tick x ms)) (refuse_or-keeps x refusal (tick x ms) (λ none. tick-sound lists formed x ms)),
-    λ x process label timeout new sound. within (with_room x process (CreateTransaction label timeout)) x sound (begin-or-refuse x process label timeout new sound (refusal_of x process (CreateTransaction label timeout))),
-  )
+  files_kept_law = record {
+    commands = λ x process command course. within_log-keeps x (with_room x process command) (refuse_or-keeps x (refusal_of x process command) (command_effect x process command) (effect x process command course)) (order-of x course);
+    ticks = λ x ms course. let refusal = first_refusal ((not x.machine.is_up, MachineDown) ∷ []) in
+        within_log-keeps x (refuse_or x refusal (tick x ms)) (refuse_or-keeps x refusal (tick x ms) (λ none. tick-sound lists formed x ms)) (order-of x course);
+    restarts = files-opened;
+  }

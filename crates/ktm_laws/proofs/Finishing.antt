@@ -69,6 +69,7 @@ module _ (s : Durable) (good : IsGoodState s) (t : Recorded) (there : IsIn t s.t
       changes = rw (is, less.changes) refl;
       apply = rw less.changes refl;
       made = rw less.changes refl;
+      new = rw less.changes refl;
       puts = rw less.changes refl;
       settings = rw (is, less.settings) refl;
     };
@@ -89,7 +90,7 @@ module _ (s : Durable) (good : IsGoodState s) (t : Recorded) (there : IsIn t s.t
 
   finished-good : is_within_limits s_done ≡ true → s.events + 1 < 2 ^ 63 → IsGoodState s_done
   finished-good limits few = good-from s_done (Table-while s s_done finished table
-      (λ u there' other fits. Fitting-carried s s_done u refl (λ m is. is) (omega arith) fits.core.apply fits)
+      (λ u there' other fits. Fitting-carried s s_done u refl (λ m is. is) (omega arith) fits.core.apply fits.core.new fits)
       (λ u v there' there'' other other' sides. Beside-carried s s_done u v refl sides)
       Fitting-finished
       (λ u there' other. record {

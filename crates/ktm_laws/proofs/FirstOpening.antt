@@ -4,22 +4,22 @@ use Rattle.std.proofs.lemmas.Bool.{cases_Bool, le-leb, eq-eqb, ne_eqb, eqb-true,
 use Rattle.std.specs.List.{list_all}
 use Rattle.std.specs.Prelude.{nat_le}
 use Rattle.ktm_base.specs.declared.id.Id.{Id}
+use Rattle.ktm_types.specs.declared.change.Change.{Change}
 use Rattle.ktm_types.specs.declared.recorded.Node.{Node}
 use Rattle.ktm_world.specs.Changes.{changes_bytes, node_of}
 use Rattle.ktm_world.specs.Committed.{version_of, changes_to_commit}
 use Rattle.ktm_world.specs.Conflicts.{writes}
-use Rattle.ktm_world.specs.Files.{FirstOpen, OpenFile, OwnChanges, own_changes, has_made, first_open, first_open_of, fixed_bytes, bytes_after, bytes_seen, committed_files, is_last_version, tree_seen}
+use Rattle.ktm_world.specs.Files.{FirstOpen, OpenFile, OwnChanges, own_changes, has_made, first_open, first_open_of, fixed_bytes, bytes_after, bytes_seen, bytes_with, changes_with, committed_files, is_last_version, tree_seen}
 use Rattle.ktm_world.specs.Holds.{is_in}
 use Rattle.ktm_world.specs.Present.{Present}
 use Rattle.ktm_world.specs.Transactions.{same_id}
 use Rattle.ktm_world.specs.Tree.{bytes_of, has_number, is_file, node_at}
 use Rattle.ktm_laws.specs.FirstOpening.{with_first, MayOpenFirst, FirstOpeningLaw}
 use Rattle.ktm_laws.specs.Footprint.{IsIn}
-use Rattle.ktm_laws.specs.SoundFiles.{IsSoundFiles, is_undecided_in, opened_apart, numbers_made, is_drawn_node, made_or_opened, is_change_of_opened, has_dropped, is_open_last, is_own_well, may_use}
+use Rattle.ktm_laws.specs.SoundFiles.{IsSoundFiles, is_undecided_in, opened_apart, numbers_made, is_drawn_node, made_or_opened, is_change_of_opened, has_dropped, is_open_last, is_own_well, may_use, is_no_directory}
 use Rattle.ktm_laws.proofs.Diamonds.{none-from}
-use Rattle.ktm_laws.proofs.Elements.{list_all-at, list_all-from, each_pair-append}
+use Rattle.ktm_laws.proofs.Elements.{find-in, list_all-at, list_all-from, each_pair-append}
 use Rattle.ktm_laws.proofs.Formed.{found-from, content-found}
-use Rattle.ktm_laws.proofs.Leading.{find-in}
 use Rattle.ktm_laws.proofs.Lists.{IsIn-cases}
 use Rattle.ktm_laws.proofs.Passing.{All-in, All-by, to_commit-same}
 
@@ -69,8 +69,8 @@ module _ (x : Present) (id : Id) (file : ℕ) (sound : IsSoundFiles x) (may : Ma
     | inr later ↦ rw later (fixed-same fs t n)
   ]
 
-  bytes-same : (t : Id) (n : ℕ) → bytes_seen z.files (Some t) n ≡ bytes_seen x.files (Some t) n
-  bytes-same t n = ap (λ bs. bytes_after bs n (own_changes x.files.table.own t)) (go (has_made (own_changes x.files.table.own t) n))
+  bytes-same : (t : Id) (cs : List Change) (n : ℕ) → bytes_with z.files t cs n ≡ bytes_with x.files t cs n
+  bytes-same t cs n = ap (λ bs. bytes_after bs n cs) (go (has_made cs n))
     where
       go : (b : Bool) → (if b then [] else fixed_bytes z.files n (first_open_of z.files.first_opens t n)) ≡ (if b then [] else fixed_bytes x.files n (first_open_of x.files.first_opens t n))
       go true = refl
@@ -79,6 +79,10 @@ module _ (x : Present) (id : Id) (file : ℕ) (sound : IsSoundFiles x) (may : Ma
           same-tree : (f : Option FirstOpen) → fixed_bytes z.files n f ≡ fixed_bytes x.files n f
           same-tree None = refl
           same-tree (Some f) = refl
+
+  -- so one change more is the same
+  pub changes-same : (c : Change) → changes_with z.files id c ≡ changes_with x.files id c
+  changes-same c = let cs = own_changes x.files.table.own id ++ c ∷ [] in to_commit-same cs (bytes_with z.files id cs) (bytes_with x.files id cs) (λ n has. bytes-same id cs n)
 
   unopened : is_some (first_open_of x.files.first_opens id file) ≡ false
   unopened = (or_parts (has_made (own_changes x.files.table.own id) file) (is_some (first_open_of x.files.first_opens id file)) may.new).1
@@ -90,13 +94,13 @@ module _ (x : Present) (id : Id) (file : ℕ) (sound : IsSoundFiles x) (may : Ma
   drawn = let in' = find-in (has_number file) x.files.tree node.0 node.1 in
       subst (λ m. is_drawn_node x.files m ≡ true) (eqb-true _ _ in'.1) (list_all-at (λ (n : Node). is_drawn_node x.files n.number) x.files.tree sound.tree_drawn node.0 in'.0)
 
-  first-sound : IsSoundFiles z
+  pub first-sound : IsSoundFiles z
   first-sound = record {
     own_undecided = sound.own_undecided;
     own_once = sound.own_once;
     own_some = sound.own_some;
     own_final = All-by (λ (o : OwnChanges). changes_to_commit o.changes (bytes_seen z.files (Some o.transaction)) ≡ o.changes) x.files.table.own (λ o there.
-        to_commit-same o.changes (bytes_seen z.files (Some o.transaction)) (bytes_seen x.files (Some o.transaction)) (λ n has. bytes-same o.transaction n)
+        to_commit-same o.changes (bytes_seen z.files (Some o.transaction)) (bytes_seen x.files (Some o.transaction)) (λ n has. bytes-same o.transaction (own_changes x.files.table.own o.transaction) n)
         ∙ All-in (λ (p : OwnChanges). changes_to_commit p.changes (bytes_seen x.files (Some p.transaction)) ≡ p.changes) x.files.table.own sound.own_final o there);
     own_apply = sound.own_apply;
     own_opened = list_all-from (λ (o : OwnChanges). list_all (is_change_of_opened z o.transaction) o.changes) x.files.table.own (λ o there. list_all-from (is_change_of_opened z o.transaction) o.changes (λ c has.
@@ -109,6 +113,7 @@ module _ (x : Present) (id : Id) (file : ℕ) (sound : IsSoundFiles x) (may : Ma
     own_drawn = sound.own_drawn;
     own_new = sound.own_new;
     own_differ = sound.own_differ;
+    own_gone = sound.own_gone;
     first_once = each_pair-append opened_apart x.files.first_opens (first ∷ []) sound.first_once refl (λ f g there there'. elim there' [
       | inl e ↦ subst (λ h. opened_apart f h ≡ true) e (not_from_false _ (not-found (λ (o : FirstOpen). same_id o.transaction id && o.file == file) x.files.first_opens unopened f there))
       | inr none ↦ absurd none
@@ -125,6 +130,8 @@ module _ (x : Present) (id : Id) (file : ℕ) (sound : IsSoundFiles x) (may : Ma
       | inr e ↦ subst (λ (o : FirstOpen). is_last_version x.files o ≡ true → o.bytes ≡ bytes_of x.files.tree o.file) e (λ last. refl)
     ]);
     first_last = each (is_open_last x.files) sound.first_last (or_right _ _ (and_from _ _ may.there (eq-eqb first.version first.version refl)));
+    first_files = each (λ o. is_no_directory x.files o.file o.transaction) sound.first_files may.seen;
+    opens_files = sound.opens_files;
     formed = sound.formed;
     tree_drawn = sound.tree_drawn;
     next_from = sound.next_from;

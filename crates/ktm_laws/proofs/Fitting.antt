@@ -5,7 +5,7 @@ use Rattle.std.specs.List.{list_all, flat_map}
 use Rattle.ktm_base.specs.declared.id.Id.{Id}
 use Rattle.ktm_types.specs.declared.recorded.Superior.{Superior}
 use Rattle.ktm_world.specs.Changes.{apply_all}
-use Rattle.ktm_world.specs.Durable.{Durable, Recorded, is_decided, is_manager, is_before, changes_of, settings_of, enlistments_of, holds_in, is_within_limits, waiting}
+use Rattle.ktm_world.specs.Durable.{Durable, Recorded, is_decided, is_manager, is_new_in, is_before, changes_of, settings_of, enlistments_of, holds_in, is_within_limits, waiting}
 use Rattle.ktm_keyed.specs.Keyed.{is_rising}
 use Rattle.ktm_world.specs.Lawful.{are_apart, set_both}
 use Rattle.ktm_world.specs.Limits.{most_information}
@@ -41,6 +41,7 @@ pub record Core (s : Durable) (t : Recorded) : Type 0 where
   pub changes : are_kept_changes t ≡ true
   pub apply : apply_all s.tree (changes_of t) ≡ true
   pub made : list_all (is_made_below s.next_node) (changes_of t) ≡ true
+  pub new : list_all (is_new_in s.tree) (changes_of t) ≡ true
   pub puts : list_all puts_some (changes_of t) ≡ true
   pub settings : are_kept_settings t ≡ true
 
@@ -64,6 +65,7 @@ Beside-sym s t u sides = record {
 
 -- what is so of a state beside its transactions
 pub record Rest (s : Durable) : Type 0 where
+  pub image_fits : s.image < 2 ^ 16
   pub managers_rise : each_pair is_before s.managers ≡ true
   pub managers_drawn : list_all (is_drawn s) s.managers ≡ true
   pub limits : is_within_limits s ≡ true
@@ -85,6 +87,7 @@ waits t = not (is_decided t.stage)
 
 pub good-from : (s : Durable) → TableOf s s.transactions → Rest s → IsGoodState s
 good-from s table rest = record {
+  image_fits = rest.image_fits;
   transactions_rise = table.rises;
   managers_rise = rest.managers_rise;
   enlistments_differ = each_pair-flat is_earlier differ enlistments_of s.transactions table.rises (λ t there. (table.fit t there).core.differ)
@@ -102,6 +105,7 @@ good-from s table rest = record {
   changes = list_all-from are_kept_changes s.transactions (λ t there. (table.fit t there).core.changes);
   apply = list_all-from (λ t. apply_all s.tree (changes_of t)) s.transactions (λ t there. (table.fit t there).core.apply);
   made = list_all-from (λ t. list_all (is_made_below s.next_node) (changes_of t)) s.transactions (λ t there. (table.fit t there).core.made);
+  new = list_all-from (λ t. list_all (is_new_in s.tree) (changes_of t)) s.transactions (λ t there. (table.fit t there).core.new);
   puts = list_all-from (λ t. list_all puts_some (changes_of t)) s.transactions (λ t there. (table.fit t there).core.puts);
   settings = list_all-from are_kept_settings s.transactions (λ t there. (table.fit t there).core.settings);
   apart = each_pair-from is_earlier (wait_apart s) (waiting s) (each_pair-filter is_earlier waits s.transactions table.rises) (λ t u there there' earlier.
@@ -150,6 +154,7 @@ table-of s good = record {
       changes = list_all-at are_kept_changes s.transactions good.changes t there;
       apply = list_all-at (λ t. apply_all s.tree (changes_of t)) s.transactions good.apply t there;
       made = list_all-at (λ t. list_all (is_made_below s.next_node) (changes_of t)) s.transactions good.made t there;
+      new = list_all-at (λ t. list_all (is_new_in s.tree) (changes_of t)) s.transactions good.new t there;
       puts = list_all-at (λ t. list_all puts_some (changes_of t)) s.transactions good.puts t there;
       settings = list_all-at are_kept_settings s.transactions good.settings t there;
     };
@@ -180,6 +185,7 @@ table-of s good = record {
 
 pub rest-of : (s : Durable) → IsGoodState s → Rest s
 rest-of s good = record {
+  image_fits = good.image_fits;
   managers_rise = good.managers_rise;
   managers_drawn = good.managers_drawn;
   limits = good.limits;

@@ -1,5 +1,5 @@
 -- Good durable states stay good.
-use Rattle.std.proofs.Common.{◌≡◌, ℕ, ◌+◌, ◌≤◌, ◌^◌, ◌&&◌, true, List, [], ◌∷◌, nat_lt, Some, refl, arith}
+use Rattle.std.proofs.Common.{◌≡◌, ℕ, ◌+◌, ◌<◌, ◌≤◌, ◌^◌, ◌&&◌, true, List, [], ◌∷◌, nat_lt, Some, refl, arith}
 use Rattle.std.proofs.lemmas.Bool.{and_parts, and_from, le-leb, ltb-true}
 use Rattle.std.proofs.lemmas.List.Elements.{All-nil}
 use Rattle.std.specs.List.{list_all}
@@ -38,8 +38,9 @@ empty-limits units image many =
     and_from _ _ (and_from _ _ (and_from _ _ (and_from _ _ (and_from _ _ (and_from _ _
     (le-leb 0 units (omega arith)) (le-leb 1 units (omega arith))) (le-leb 0 units (omega arith))) (le-leb 0 units (omega arith))) refl) refl) refl
 
-empty-good : (units image : ℕ) → 16 ≤ units → IsGoodState (empty_state units image)
-empty-good units image many = record {
+empty-good : (units image : ℕ) → 16 ≤ units → image < 2 ^ 16 → IsGoodState (empty_state units image)
+empty-good units image many number = record {
+  image_fits = number;
   transactions_rise = refl;
   managers_rise = refl;
   enlistments_differ = refl;
@@ -56,6 +57,7 @@ empty-good units image many = record {
   changes = refl;
   apply = refl;
   made = refl;
+  new = refl;
   puts = refl;
   settings = refl;
   apart = refl;

@@ -10,8 +10,7 @@ use Rattle.ktm_types.specs.declared.event.Event.TheVariants.{Held}
 use Rattle.ktm_world.specs.Durable.{Durable, Recorded, is_decided, is_sole, is_new_enlistment, enlistments_in, enlistments_of, superior_ids, may_get_ready, recorded_or_new, with_recorded, fact_of, is_within_limits}
 use Rattle.ktm_world.specs.Transactions.{same_id}
 use Rattle.ktm_laws.specs.Footprint.{IsIn}
-use Rattle.ktm_laws.specs.GoodState.{enlisted_in, superiors_in, is_done_well, IsGoodState}
-use Rattle.ktm_laws.specs.Grammatical.{counts_from_1}
+use Rattle.ktm_laws.specs.GoodState.{is_of_object, enlisted_in, superiors_in, is_done_well, IsGoodState}
 use Rattle.ktm_laws.proofs.Diamonds.{IsIn-right}
 use Rattle.ktm_laws.proofs.Elements.{list_all-at, list_all-from, each_pair-right}
 use Rattle.ktm_laws.proofs.Parts.{gathered}
@@ -34,7 +33,7 @@ undone t p waiting well = elim (or_cases (not p.is_done) (is_decided t.stage && 
 abbrev held_by : Recorded → Superior → Recorded
 held_by t e = record t { stage = Stage.Held; superior = Some e }
 
-module _ (s : Durable) (id : Id) (t : Recorded) (start : Begun s id t) (e : Superior) (counted : counts_from_1 e.enlistment ≡ true)
+module _ (s : Durable) (id : Id) (t : Recorded) (start : Begun s id t) (e : Superior) (counted : is_of_object e.enlistment ≡ true)
     (is_new : is_new_enlistment s e.enlistment e.manager e.information ≡ true) where
   abbrev s_held : Durable
   s_held = with_all s s.tree s.keys s.next_node (with_recorded s.transactions (held_by t e)) (s.events + 1)
@@ -58,6 +57,7 @@ module _ (s : Durable) (id : Id) (t : Recorded) (start : Begun s id t) (e : Supe
     changes = sym (kept_changes-same t (held_by t e) waiting refl refl) ∙ start.core.changes;
     apply = start.core.apply;
     made = start.core.made;
+    new = start.core.new;
     puts = start.core.puts;
     settings = sym (kept_settings-same t (held_by t e) waiting refl refl) ∙ start.core.settings;
   }
@@ -79,7 +79,7 @@ module _ (s : Durable) (id : Id) (t : Recorded) (start : Begun s id t) (e : Supe
 
   held-good : IsGoodState s → is_within_limits s_held ≡ true → s.events + 1 < 2 ^ 63 → IsGoodState s_held
   held-good good limits few = good-from s_held (Table-with (Fitting s) (Beside s) (Fitting s_held) (Beside s_held) s.transactions (held_by t e) (table-of s good)
-      (λ u there other fits. Fitting-carried s s_held u refl (λ m is. is) (omega arith) fits.core.apply fits)
+      (λ u there other fits. Fitting-carried s s_held u refl (λ m is. is) (omega arith) fits.core.apply fits.core.new fits)
       (λ u v there there' other other' sides. Beside-carried s s_held u v refl sides)
       (record { core = Core-held; ready = refl })
       (λ u there other. let sides = Beside-held u there (λ e'. other (e' ∙ sym start.is)) in (sides, Beside-sym s_held (held_by t e) u sides)))
@@ -88,7 +88,7 @@ module _ (s : Durable) (id : Id) (t : Recorded) (start : Begun s id t) (e : Supe
 pub held-keeps : (s : Durable) (transaction enlistment manager : Id) (information : List ℕ) → Keeps s (Held transaction enlistment manager information)
 held-keeps s transaction enlistment manager information good spelled applies limits few =
     let parts = and_parts (may_get_ready s transaction) (is_new_enlistment s enlistment manager information) applies in
-    let counted = and_parts (counts_from_1 transaction) (list_all counts_from_1 (enlistment ∷ manager ∷ [])) (and_parts (list_all counts_from_1 (transaction ∷ enlistment ∷ manager ∷ [])) true spelled).0 in
+    let counted = and_parts (is_of_object transaction) (list_all is_of_object (enlistment ∷ manager ∷ [])) (and_parts (list_all is_of_object (transaction ∷ enlistment ∷ manager ∷ [])) true spelled).0 in
     held-good s transaction (recorded_or_new s.transactions transaction) (begun s transaction good counted.0 parts.0) (record { enlistment = enlistment; manager = manager; information = information })
-    (and_parts (counts_from_1 enlistment) (list_all counts_from_1 (manager ∷ [])) counted.1).0 parts.1 good
+    (and_parts (is_of_object enlistment) (list_all is_of_object (manager ∷ [])) counted.1).0 parts.1 good
     (limits-counted (fact_of s (Held transaction enlistment manager information)) (s.events + 1) limits) few

@@ -49,13 +49,14 @@ use Rattle.ktm_laws.proofs.OwnSettings.{own_settings-found, own_settings-good, o
 use Rattle.ktm_laws.proofs.Settings.{stored_all-rises, stored_all-good, set_both-sym}
 use Rattle.ktm_laws.proofs.Tables.{same_id-sym}
 use Rattle.ktm_laws.proofs.Undecided.{transaction_at-id, undecided-from, undecided-other, undecided-itself, undecided-added}
+use Rattle.ktm_laws.proofs.Restarting.{keys-opened}
 
 -- an outcome keeps the keys sound
 abbrev Keeps : Present → Outcome → Type 0
 Keeps x o = IsSoundKeys x → IsSoundKeys (apply x o)
 
 -- where neither the store nor what is set changes, and who is undecided stays so
-same : (x y : Present) → ((id : Id) → is_undecided_in x.transactions.items id ≡ true → is_undecided_in y.transactions.items id ≡ true) → y.keys.own ≡ x.keys.own → y.keys.store ≡ x.keys.store
+pub same : (x y : Present) → ((id : Id) → is_undecided_in x.transactions.items id ≡ true → is_undecided_in y.transactions.items id ≡ true) → y.keys.own ≡ x.keys.own → y.keys.store ≡ x.keys.store
     → IsSoundKeys x → IsSoundKeys y
 same x y stays own store sound = record {
   undecided = subst (λ os. list_all (λ (o : Own). is_undecided_in y.transactions.items o.transaction) os ≡ true) (sym own)
@@ -396,7 +397,7 @@ set-keeps x (Some t) key value o own items works is_there fine free = λ sound.
     })
 
 -- the transaction that a label names is there, and undecided where the call is not refused
-named-undecided : (x : Present) (process : Pid) (label : Label) (t : Transaction) → transaction_named x process label ≡ Some t
+pub named-undecided : (x : Present) (process : Pid) (label : Label) (t : Transaction) → transaction_named x process label ≡ Some t
     → holds_of is_committed (transaction_named x process label) ≡ false → holds_of is_aborted (transaction_named x process label) ≡ false → is_undecided_in x.transactions.items t.id ≡ true
 named-undecided x process label t named committed aborted = go (transaction_id (object_at x.handles process label)) named
   where
@@ -506,5 +507,6 @@ pub own_keys_law : OwnKeysLaw
 own_keys_law = (
   λ x process command. within_log-keeps x (with_room x process command) (refuse_or-keeps x (refusal_of x process command) (command_effect x process command) (effect-keeps x process command)),
   λ x ms. let refusal = first_refusal ((not x.machine.is_up, MachineDown) ∷ []) in within_log-keeps x (refuse_or x refusal (tick x ms)) (refuse_or-keeps x refusal (tick x ms) (λ none. tick-keeps x ms)),
+  keys-opened,
   all_set-apart,
 )

@@ -117,28 +117,28 @@ module _ (lists : ListsLaw) (formed : FormedLaw) where
 
 -- ---- what a plain handle writes
 
-no-make : (c : Change) → changes_bytes c ≡ true → is_make c ≡ false
+pub no-make : (c : Change) → changes_bytes c ≡ true → is_make c ≡ false
 no-make (Make node parent kind name) bytes = absurd (true≢false (sym bytes))
 no-make (Put node offset contents) bytes = refl
 no-make (Cut node size pages) bytes = refl
 no-make (Move node parent name) bytes = absurd (true≢false (sym bytes))
 no-make (Drop node) bytes = absurd (true≢false (sym bytes))
 
-no-drop : (c : Change) → changes_bytes c ≡ true → is_drop c ≡ false
+pub no-drop : (c : Change) → changes_bytes c ≡ true → is_drop c ≡ false
 no-drop (Make node parent kind name) bytes = absurd (true≢false (sym bytes))
 no-drop (Put node offset contents) bytes = refl
 no-drop (Cut node size pages) bytes = refl
 no-drop (Move node parent name) bytes = absurd (true≢false (sym bytes))
 no-drop (Drop node) bytes = absurd (true≢false (sym bytes))
 
-no-number : (next : ℕ) (c : Change) → changes_bytes c ≡ true → next_after next c ≡ next
+pub no-number : (next : ℕ) (c : Change) → changes_bytes c ≡ true → next_after next c ≡ next
 no-number next (Make node parent kind name) bytes = absurd (true≢false (sym bytes))
 no-number next (Put node offset contents) bytes = refl
 no-number next (Cut node size pages) bytes = refl
 no-number next (Move node parent name) bytes = absurd (true≢false (sym bytes))
 no-number next (Drop node) bytes = absurd (true≢false (sym bytes))
 
-write-lands : (x : Present) (change : Change) (o : OpenFile) → IsSoundFiles x → IsIn o x.files.table.opens → is_none o.transaction ≡ true → writes o.access ≡ true → applies x.files.tree change ≡ true → changes_bytes change ≡ true
+pub write-lands : (x : Present) (change : Change) (o : OpenFile) → IsSoundFiles x → IsIn o x.files.table.opens → is_none o.transaction ≡ true → writes o.access ≡ true → applies x.files.tree change ≡ true → changes_bytes change ≡ true
     → node_of change ≡ o.node → Lands x change
 write-lands x change o sound there plain may applies bytes at = record {
   applies = applies;

@@ -1,5 +1,5 @@
 -- Where a path leads in a well-formed tree, and the changes that apply there.
-use Rattle.std.proofs.Common.{◌≡◌, ℕ, ◌≤◌, ◌==◌, ◌&&◌, ◌||◌, Bool, true, false, is_none, is_some, if◌then◌else◌, find, List, [], ◌∷◌, Option, Some, None, refl, sym, ◌∙◌, ap, subst, arith, inl, inr, ◌⊎◌}
+use Rattle.std.proofs.Common.{◌≡◌, ℕ, ◌≤◌, ◌==◌, ◌&&◌, ◌||◌, Bool, true, false, is_none, is_some, if◌then◌else◌, List, [], ◌∷◌, Option, Some, None, refl, sym, ◌∙◌, ap, subst, arith, inl, inr, ◌⊎◌}
 use Rattle.std.proofs.lemmas.Bool.{cases_Bool, eq-eqb, ne_eqb, eqb-true, and_parts, and_from, not_from_false}
 use Rattle.std.proofs.lemmas.Option.{none-some, same_Some}
 use Rattle.std.specs.List.{list_all}
@@ -11,16 +11,10 @@ use Rattle.ktm_world.specs.Paths.{is_name, path_of, parts_of, names_in}
 use Rattle.ktm_world.specs.Tree.{Tree, IsWellFormed, root, node_at, is_directory, child_of, content_of, same_name}
 use Rattle.ktm_laws.specs.Footprint.{IsIn}
 use Rattle.ktm_laws.proofs.Lookups.{Rises, Rises-from, node_at-below}
+use Rattle.ktm_laws.proofs.Elements.{find-in}
 use Rattle.ktm_laws.proofs.Passing.{All-in}
 
 -- ---- nodes of a tree
-
-pub find-in : {X : Type 0} (test : X → Bool) (xs : List X) (x : X) → find test xs ≡ Some x → IsIn x xs × (test x ≡ true)
-find-in test [] x found = absurd (none-some x found)
-find-in test (y ∷ ys) x found = elim (cases_Bool (test y)) [
-  | inl is ↦ let e : y ≡ x = same_Some y x (rw is at found) in (inl e, subst (λ z. test z ≡ true) e is)
-  | inr not' ↦ let rest = find-in test ys x (rw not' at found) in (inr rest.0, rest.1)
-]
 
 -- a node of a rising tree is the one at its number
 pub node_at-in : (tree : Tree) → Rises tree → (node : Node) → IsIn node tree → node_at tree node.number ≡ Some node
@@ -39,7 +33,7 @@ Leads tree (free directory name) = (is_directory tree directory ≡ true) × (is
 Leads tree (at_node node) = (node_at tree node.number ≡ Some node) × (2 ≤ node.number)
 Leads tree _ = Unit {0}
 
-directory-of : (tree : Tree) (node : Node) → node_at tree node.number ≡ Some node → is_some node.content ≡ false → is_directory tree node.number ≡ true
+pub directory-of : (tree : Tree) (node : Node) → node_at tree node.number ≡ Some node → is_some node.content ≡ false → is_directory tree node.number ≡ true
 directory-of tree node found dir =
     and_from _ _ (ap (λ o. node.number == root || is_some o) found ∙ or-true (node.number == root)) (not_from_false _ (ap (λ o. is_some (content_of o)) found ∙ dir))
   where

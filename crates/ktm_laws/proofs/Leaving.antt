@@ -20,11 +20,10 @@ use Rattle.ktm_laws.proofs.Elements.{list_any-at, list_any-from}
 use Rattle.std.proofs.lemmas.List.{append-nil}
 use Rattle.ktm_types.specs.declared.object.Handle.{Handle}
 use Rattle.ktm_world.specs.Durable.{after_events}
-use Rattle.ktm_laws.specs.FilesKept.{AreInOrder}
 use Rattle.ktm_laws.specs.Formed.{FormedLaw}
 use Rattle.ktm_laws.proofs.Arriving.{named, only_reply-sound}
 use Rattle.ktm_laws.proofs.Lists.{IsIn-left}
-use Rattle.ktm_laws.proofs.Releasing.{filter-true, unchanged}
+use Rattle.ktm_laws.proofs.Releasing.{AreInOrder, filter-true, unchanged}
 
 -- an outcome keeps sound what undecided transactions own of the files
 abbrev pub KeepsFiles : Present → Outcome → Type 0

@@ -1,6 +1,6 @@
 -- Changes that meet no hold of others are apart from them.
-use Rattle.std.proofs.Common.{◌≡◌, ℕ, ◌==◌, ◌&&◌, ◌||◌, not, Bool, true, false, cond, is_some, List, [], ◌∷◌, ◌++◌, map, Some, refl, sym, ◌∙◌, ap, subst, inl, inr}
-use Rattle.std.proofs.lemmas.Bool.{cases_Bool, cases_eq, eq-eqb, ne_eqb, and_parts, and_from, or_parts, not-true, not_from_false, true≢false, false_from_ne_true}
+use Rattle.std.proofs.Common.{◌≡◌, ℕ, ◌==◌, ◌&&◌, ◌||◌, not, Bool, true, false, cond, is_some, List, [], ◌∷◌, ◌++◌, map, Some, refl, sym, ◌∙◌, ap, subst, inl, inr, ◌⊎◌}
+use Rattle.std.proofs.lemmas.Bool.{cases_Bool, cases_eq, eq-eqb, ne_eqb, eqb-false, and_parts, and_from, or_parts, not-true, not_from_false, true≢false, false_from_ne_true}
 use Rattle.std.specs.List.{list_any}
 use Rattle.ktm_types.specs.declared.change.Change.{Change}
 use Rattle.ktm_types.specs.declared.change.Change.TheVariants.{Make, Put, Cut, Move, Drop}
@@ -11,6 +11,7 @@ use Rattle.ktm_world.specs.Holds.{Place, Holds, holds_by, place, places_of, each
 use Rattle.ktm_world.specs.Lawful.{are_apart}
 use Rattle.ktm_world.specs.Tree.{Tree, node_at, is_there, is_file, is_directory, content_of}
 use Rattle.ktm_laws.specs.Footprint.{IsIn, footprint, AreFootprintsApart, MeetingLaw}
+use Rattle.ktm_laws.specs.OwnChange.{HoldsNothing}
 use Rattle.ktm_laws.proofs.Lookups.{node_at-elsewhere}
 use Rattle.ktm_laws.proofs.Applying.{Applies, Applies-from, Fits-from, is_there-none}
 use Rattle.ktm_laws.proofs.Formed.{found-from, content-found}
@@ -182,6 +183,43 @@ pub found-missed : (tree : Tree) (c : Change) (h : Holds) → applies tree c ≡
 found-missed tree c h is misses other =
     let act = (shown tree c (Applies-from tree c is)).node other in
     no_test (is_in h.nodes) (node_of c) (nodes_changed act.0) (Misses-from h act.0 (no_test (meets h) act.0 (acts_of tree c) misses act.1)).nodes act.2
+
+-- a change that meets nothing that others hold, and makes no node that they hold, holds nothing of theirs
+pub misses-nothing : (tree : Tree) (c : Change) (h : Holds) → applies tree c ≡ true → list_any (meets h) (acts_of tree c) ≡ false → (is_make c ≡ true → IsIn (node_of c) h.nodes → ⊥) → HoldsNothing h tree c
+misses-nothing tree c h is misses new = record {
+  nodes = λ there. elim (cases_Bool (is_make c)) [
+    | inl make ↦ new make there
+    | inr other ↦ eqb-false (node_of c) (node_of c) (no_test (λ m. m == node_of c) (node_of c) h.nodes (found-missed tree c h is misses other) there) refl
+  ];
+  places = λ p q mine theirs. let act = of.places p mine in no_test (same_place p) q h.places (no_test (is_place_in h.places) p (places_changed act.0) (missed act.0 act.1).places act.2) theirs;
+  enters = λ p mine theirs. let act = of.places p mine in
+      meets-not (directories_of (places_changed act.0)) h.dropped (missed act.0 act.1).dropped p.directory (IsIn-map (λ (p : Place). p.directory) p (places_changed act.0) act.2) theirs;
+  drops = λ n mine theirs. let act = of.dropped n mine in meets-not (directory_dropped act.0) h.uses (missed act.0 act.1).uses n act.2 theirs;
+  moves = λ n mine. let act = of.moved n mine in rw act.2 at (missed act.0 act.1).moves;
+}
+  where
+    of : Shown tree c (acts_of tree c)
+    of = shown tree c (Applies-from tree c is)
+
+    missed : (a : Act) → IsIn a (acts_of tree c) → Misses h a
+    missed a there = Misses-from h a (no_test (meets h) a (acts_of tree c) misses there)
+
+-- the nodes of changes are there before them, or they make them
+pub found-or-made : (cs : List Change) (tree : Tree) → apply_all tree cs ≡ true → (n : ℕ) → IsIn n (map node_of cs) → (is_some (node_at tree n) ≡ true) ⊎ ((c : Change) × IsIn c cs × (is_make c ≡ true) × (node_of c ≡ n))
+found-or-made [] tree all n there = absurd there
+found-or-made (c ∷ cs) tree all n there =
+    let parts = and_parts (applies tree c) (apply_all (changed tree c) cs) all in
+    let is = Applies-from tree c parts.0 in
+    elim (cases_eq (node_of c) n) [
+      | inl at ↦ elim (cases_Bool (is_make c)) [
+        | inl make ↦ inr (c, inl refl, make, at)
+        | inr other ↦ inl (subst (λ m. is_some (node_at tree m) ≡ true) at (there-one tree c false is other))
+      ]
+      | inr other ↦ elim (found-or-made cs (changed tree c) parts.1 n (elim there [ inl e ↦ absurd (other e) | inr later ↦ later ])) [
+        | inl found ↦ inl (ap is_some (sym (node_at-elsewhere tree c (Fits-from tree c is) n other)) ∙ found)
+        | inr (d, in_cs, make, at) ↦ inr (d, inr in_cs, make, at)
+      ]
+    ]
 
 module _ (tree : Tree) (ds cs : List Change) (writes : List ℕ) (all : apply_all tree ds ≡ true) (all' : apply_all tree cs ≡ true)
     (misses : list_any (meets (holds_by tree ds writes)) (acts_of_all tree cs) ≡ false)

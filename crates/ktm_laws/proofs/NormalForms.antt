@@ -78,7 +78,7 @@ pub ends-bytes : (by : ℕ → List ℕ) (files : List ℕ) → AllBytes (ends_o
 ends-bytes by [] = refl
 ends-bytes by (f ∷ fs) = end-bytes f (by f) (ends_of by fs) (ends-bytes by fs)
 
-no-names : (cs : List Change) → AllBytes cs → names_of cs ≡ []
+pub no-names : (cs : List Change) → AllBytes cs → names_of cs ≡ []
 no-names [] all = refl
 no-names (c ∷ cs) all = let parts = and_parts (changes_bytes c) (list_all changes_bytes cs) all in rw parts.0 (no-names cs parts.1)
 
@@ -200,7 +200,7 @@ IsIn-with_number-new (k ∷ ks) n = elim (cases_Bool (k == n)) [
 abbrev Within : List ℕ → List ℕ → Type 0
 Within xs ys = (n : ℕ) → IsIn n xs → IsIn n ys
 
-names-kept : (c : Change) (cs : List Change) → names_only c ≡ true → names_of (c ∷ cs) ≡ c ∷ names_of cs
+pub names-kept : (c : Change) (cs : List Change) → names_only c ≡ true → names_of (c ∷ cs) ≡ c ∷ names_of cs
 names-kept c cs is = rw is refl
 
 within-after : (c : Change) (xs ys : List ℕ) → Within xs ys → Within (written_after xs c) (written_after ys c)
@@ -224,7 +224,7 @@ names-within (c ∷ cs) xs ys within = elim (cases_Bool (changes_bytes c)) [
 ]
 
 -- the bytes at the end add their files
-ends-written : (by : ℕ → List ℕ) (files : List ℕ) (xs : List ℕ) (n : ℕ) → IsIn n (fold written_after xs (ends_of by files)) → IsIn n xs ⊎ IsIn n files
+pub ends-written : (by : ℕ → List ℕ) (files : List ℕ) (xs : List ℕ) (n : ℕ) → IsIn n (fold written_after xs (ends_of by files)) → IsIn n xs ⊎ IsIn n files
 ends-written by [] xs n there = inl there
 ends-written by (f ∷ fs) xs n there = go (λ ys has. ends-written by fs ys n has) (by f) there
   where
@@ -239,7 +239,7 @@ ends-written by (f ∷ fs) xs n there = go (λ ys has. ends-written by fs ys n h
     go rest [] has = add (with_number xs f) (rest (with_number xs f) has) (λ m old. old)
     go rest (b ∷ bs) has = add (with_number (with_number xs f) f) (rest (with_number (with_number xs f) f) has) twice
 
-ends-add : (by : ℕ → List ℕ) (files : List ℕ) (xs : List ℕ) (n : ℕ) → IsIn n xs ⊎ IsIn n files → IsIn n (fold written_after xs (ends_of by files))
+pub ends-add : (by : ℕ → List ℕ) (files : List ℕ) (xs : List ℕ) (n : ℕ) → IsIn n xs ⊎ IsIn n files → IsIn n (fold written_after xs (ends_of by files))
 ends-add by [] xs n (inl old) = old
 ends-add by [] xs n (inr none) = absurd none
 ends-add by (f ∷ fs) xs n there = go (λ ys is. ends-add by fs ys n is) (by f)

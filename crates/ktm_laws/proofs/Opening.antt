@@ -17,7 +17,7 @@ use Rattle.ktm_world.specs.Present.{Present}
 use Rattle.ktm_world.specs.Transactions.{is_of, is_undecided, same_id}
 use Rattle.ktm_laws.specs.Footprint.{IsIn}
 use Rattle.ktm_laws.specs.Openings.{with_file, MayOpen, OpeningLaw}
-use Rattle.ktm_laws.specs.SoundFiles.{IsSoundFiles, opens_rise, has_dropped, is_open_last, is_plain_well, is_own_well, files_apart, all_files_apart}
+use Rattle.ktm_laws.specs.SoundFiles.{IsSoundFiles, opens_rise, has_dropped, is_open_last, is_plain_well, is_own_well, files_apart, all_files_apart, opens_no_directory}
 use Rattle.ktm_laws.proofs.Diamonds.{IsIn-right, IsIn-map, no_test, none-from}
 use Rattle.ktm_laws.proofs.Elements.{IsIn-filter, IsIn-kept, list_all-at, list_all-from, list_any-at, list_any-from, each_pair-append}
 use Rattle.ktm_laws.proofs.Lists.{IsIn-left, IsIn-cases, IsIn-unmap}
@@ -146,7 +146,7 @@ module _ (x : Present) (o : OpenFile) (handles : List Handle) (sound : IsSoundFi
         touched-more o.node u (may.alone parts.0 parts.1 u u-there) (λ of is. not-of u.id o.transaction parts.0 of))))
   ]
 
-  opened-sound : IsSoundFiles z
+  pub opened-sound : IsSoundFiles z
   opened-sound = record {
     own_undecided = sound.own_undecided;
     own_once = sound.own_once;
@@ -158,6 +158,7 @@ module _ (x : Present) (o : OpenFile) (handles : List Handle) (sound : IsSoundFi
     own_drawn = sound.own_drawn;
     own_new = sound.own_new;
     own_differ = sound.own_differ;
+    own_gone = sound.own_gone;
     first_once = sound.first_once;
     first_undecided = sound.first_undecided;
     first_not_made = sound.first_not_made;
@@ -165,6 +166,8 @@ module _ (x : Present) (o : OpenFile) (handles : List Handle) (sound : IsSoundFi
     first_versions = sound.first_versions;
     first_bytes = sound.first_bytes;
     first_last = list_all-from _ x.files.first_opens last-still;
+    first_files = sound.first_files;
+    opens_files = each (λ p. opens_no_directory x.files p.node p.transaction) sound.opens_files may.file;
     formed = sound.formed;
     tree_drawn = sound.tree_drawn;
     next_from = sound.next_from;

@@ -16,8 +16,8 @@ use Rattle.ktm_world.specs.Transactions.{same_id}
 use Rattle.ktm_world.specs.World.{done_if, own_events}
 use Rattle.ktm_world.proofs.Durables.{after_events-append, after_events-events}
 use Rattle.ktm_laws.specs.Footprint.{IsIn}
-use Rattle.ktm_laws.specs.GoodState.{is_drawn, IsGoodState}
-use Rattle.ktm_laws.specs.Grammatical.{counts_from_1, is_grammatical}
+use Rattle.ktm_laws.specs.GoodState.{is_of_object, is_drawn, IsGoodState}
+use Rattle.ktm_laws.specs.Grammatical.{is_grammatical}
 use Rattle.ktm_laws.specs.OwnGroup.{is_settled, OwnGroupLaw}
 use Rattle.ktm_laws.proofs.Diamonds.{none-from}
 use Rattle.ktm_laws.proofs.Lists.{IsIn-unmap}
@@ -104,7 +104,7 @@ record Going (s : Durable) (todo : List Recorded) : Type 0 where
   there : (u : Recorded) → IsIn u todo → (done : DonePart) → has_undone done u ≡ true → IsIn u s.transactions
   rest : (u : Recorded) → IsIn u s.transactions → (is_settled u ≡ true) ⊎ (IsIn u todo × (is_ready u.stage ≡ false))
 
-spelled-done : (id : Id) (done : DonePart) → is_of_enlistment done ≡ false → counts_from_1 id ≡ true → is_grammatical (Done id done) ≡ true
+spelled-done : (id : Id) (done : DonePart) → is_of_enlistment done ≡ false → is_of_object id ≡ true → is_grammatical (Done id done) ≡ true
 spelled-done id (DonePart.Enlistment enlistment) other counted = absurd (true≢false other)
 spelled-done id DonePart.Files other counted = and_from _ _ (and_from _ _ counted refl) refl
 spelled-done id DonePart.Keys other counted = and_from _ _ (and_from _ _ counted refl) refl
@@ -151,11 +151,8 @@ module _ (s : Durable) (t : Recorded) (ts : List Recorded) (going : Going s (t �
       transactions : (after_event s (Done t.id done)).transactions ≡ while_not_done s.transactions (done_by done t)
       transactions = ap (λ (x : Durable). x.transactions) fact-done
 
-      counted : counts_from_1 t.id ≡ true
-      counted =
-          let drawn = list_all-at (λ t. is_drawn s t.id) s.transactions (going.good).transactions_drawn t here in
-          let number = and_parts (nat_le 1 (t.id).boot && nat_le (t.id).boot s.boots) (nat_le 1 (t.id).number) drawn in
-          and_from _ _ (and_parts (nat_le 1 (t.id).boot) (nat_le (t.id).boot s.boots) number.0).0 number.1
+      counted : is_of_object t.id ≡ true
+      counted = (and_parts (is_of_object t.id) (nat_le (t.id).boot s.boots) (list_all-at (λ t. is_drawn s t.id) s.transactions (going.good).transactions_drawn t here)).0
 
       stays : (u : Recorded) → IsIn u (done_by done t ∷ ts) → (d : DonePart) → has_undone d u ≡ true → IsIn u (while_not_done s.transactions (done_by done t))
       stays u (inl e) d undone' = subst (λ v. IsIn v (while_not_done s.transactions (done_by done t))) e

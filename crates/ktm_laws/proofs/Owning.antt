@@ -11,30 +11,31 @@ use Rattle.ktm_types.specs.declared.change.Change.TheVariants.{Make, Put, Cut, M
 use Rattle.ktm_types.specs.declared.change.NodeKind.TheVariants.{File, Directory}
 use Rattle.ktm_types.specs.declared.recorded.Node.{Node}
 use Rattle.ktm_types.specs.declared.object.Transaction.{Transaction}
-use Rattle.ktm_world.specs.Changes.{changed, changed_all, apply_all, changes_bytes, is_drop, is_make, next_after, node_of}
+use Rattle.ktm_world.specs.Changes.{changed, changed_all, applies, apply_all, changes_bytes, is_drop, is_make, next_after, node_of}
 use Rattle.ktm_world.specs.Committed.{with_number, changes_to_commit, written_files, written_after, final_bytes}
 use Rattle.ktm_world.specs.Conflicts.{holds_now, written_by, writes}
 use Rattle.ktm_world.specs.Durable.{is_some_change}
-use Rattle.ktm_world.specs.Files.{FirstOpen, OpenFile, OwnChanges, own_changes, with_own_changes, has_made, first_open_of, is_last_version, tree_seen, first_bytes, bytes_seen, bytes_with}
+use Rattle.ktm_world.specs.Files.{FirstOpen, OpenFile, OwnChanges, own_changes, with_own_changes, has_made, first_open_of, is_last_version, tree_of, tree_seen, first_bytes, bytes_seen, bytes_with}
 use Rattle.ktm_world.specs.Holds.{Place, Holds, holds_by, each_change, places_of, dropped_directory, moved_directory, directories_of, is_in, is_place_in, meet_in, same_place}
 use Rattle.ktm_world.specs.Lawful.{are_apart, is_alone, is_touched_by, others, undecided}
 use Rattle.ktm_world.specs.Present.{Present}
 use Rattle.ktm_world.specs.Transactions.{is_of, is_undecided, same_id}
-use Rattle.ktm_world.specs.Tree.{Tree, content_of, is_file, node_at}
+use Rattle.ktm_world.specs.Tree.{Tree, content_of, is_directory, is_file, is_there, node_at}
 use Rattle.ktm_laws.specs.FinalChanges.{names_of, IsFinal}
 use Rattle.ktm_laws.specs.Footprint.{IsIn}
 use Rattle.ktm_laws.specs.GoodState.{each_pair, puts_some}
 use Rattle.ktm_laws.specs.OwnChange.{HoldsNothing, Owns, owned, OwnChangeLaw}
-use Rattle.ktm_laws.specs.SoundFiles.{IsSoundFiles, is_undecided_in, changed_by_two, make_apart, numbers_made, is_drawn_node, made_or_opened, is_change_of_opened, has_dropped, is_open_last, is_plain_well, is_own_well, may_use, files_apart, all_files_apart}
+use Rattle.ktm_laws.specs.SoundFiles.{IsSoundFiles, is_undecided_in, changed_by_two, make_apart, numbers_made, is_drawn_node, made_or_opened, is_change_of_opened, has_dropped, is_open_last, is_plain_well, is_own_well, may_use, files_apart, all_files_apart, is_gone, is_no_directory, opens_no_directory}
 use Rattle.ktm_laws.proofs.Diamonds.{same_place-sym, IsIn-right, IsIn-map, no_test, none-from, meets-not}
 use Rattle.ktm_laws.proofs.Elements.{each_pair-either, IsIn-filter, IsIn-kept, IsIn-flat_map, IsIn-unflat, list_all-at, list_all-from, list_any-at, list_any-from}
 use Rattle.ktm_laws.proofs.Lists.{IsIn-left, IsIn-cases, IsIn-unmap, IsIn-first}
 use Rattle.ktm_laws.proofs.NormalForms.{IsIn-with_number-new, names-final, filter-append, names_only, is-final, final-applies, each_change-append, Silent, silent-places, silent-dropped, silent-moved, held-names}
 use Rattle.ktm_laws.proofs.Applying.{Applies-from, Fits-from, is_there-none}
-use Rattle.ktm_laws.proofs.Lookups.{node_at-elsewhere}
+use Rattle.ktm_laws.proofs.NodeKinds.{directory-was, there-was}
+use Rattle.ktm_laws.proofs.Lookups.{node_at-elsewhere, node_at-there}
 use Rattle.ktm_laws.proofs.PlainCalls.{next-free}
 use Rattle.ktm_laws.proofs.Versions.{is_file-kept}
-use Rattle.ktm_laws.proofs.Passing.{IsIn-with_number, All-in, All-by, own-final, written-node, drawn-made}
+use Rattle.ktm_laws.proofs.Passing.{IsIn-with_number, All-in, All-by, own-final, written-node, drawn-made, drawn-node, own-drawn}
 use Rattle.ktm_laws.proofs.Reserving.{own_changes-found, writer-alone, own-apply, own_changes-by}
 use Rattle.ktm_laws.proofs.Tables.{same_id-equal, same_id-from, same_id-sym}
 
@@ -255,7 +256,7 @@ module _ (x : Present) (id : Id) (c : Change) (sound : IsSoundFiles x) (owns : O
   old-form : IsFinal ms (bytes_seen x.files (Some id))
   old-form = is-final ms (bytes_seen x.files (Some id))
 
-  own-itself : own_changes z.files.table.own id ≡ new
+  pub own-itself : own_changes z.files.table.own id ≡ new
   own-itself = with-itself x.files.table.own id new
 
   own-other : (other : Id) → same_id id other ≡ false → own_changes z.files.table.own other ≡ own_changes x.files.table.own other
@@ -315,7 +316,7 @@ module _ (x : Present) (id : Id) (c : Change) (sound : IsSoundFiles x) (owns : O
       let parts = and_parts (is_drop found.0) (node_of found.0 == n) found.2 in
       list_any-from (λ change. is_drop change && node_of change == n) new found.0 (name-final cs by found.0 (IsIn-left found.0 ms (c ∷ []) found.1) (names-if-drop found.0 parts.0)) found.2
 
-  not-dropped : (n : ℕ) → has_dropped ms n ≡ false → (is_drop c ≡ true → node_of c ≡ n → ⊥) → has_dropped new n ≡ false
+  pub not-dropped : (n : ℕ) → has_dropped ms n ≡ false → (is_drop c ≡ true → node_of c ≡ n → ⊥) → has_dropped new n ≡ false
   not-dropped n free other = none-from (λ change. is_drop change && node_of change == n) new (λ d there. false_from_ne_true _ (λ is.
       let parts = and_parts (is_drop d) (node_of d == n) is in
       elim (final-change cs by d there) [
@@ -342,7 +343,7 @@ module _ (x : Present) (id : Id) (c : Change) (sound : IsSoundFiles x) (owns : O
 
   -- ---- others hold nothing of it
 
-  others-hold : (other : Id) → same_id id other ≡ false → holds_now z.files other ≡ holds_now x.files other
+  pub others-hold : (other : Id) → same_id id other ≡ false → holds_now z.files other ≡ holds_now x.files other
   others-hold other differ = ap (λ ds. holds_by x.files.tree ds (written_by x.files.table.opens other)) (own-other other differ)
 
   mine-holds : holds_now z.files id ≡ holds_by x.files.tree new (written_by x.files.table.opens id)
@@ -435,7 +436,7 @@ module _ (x : Present) (id : Id) (c : Change) (sound : IsSoundFiles x) (owns : O
   each : (P : OwnChanges → Type 0) → P (entry id new) → ((o : OwnChanges) → IsIn o x.files.table.own → same_id id o.transaction ≡ false → P o) → (o : OwnChanges) → IsIn o z.files.table.own → P o
   each P mine' others' o there = elim (entry-of o there) [ inl e ↦ subst P (sym e) mine' | inr old ↦ others' o old.0 old.1 ]
 
-  made-or-opened-still : (n : ℕ) → made_or_opened x.files id n ≡ true → made_or_opened z.files id n ≡ true
+  pub made-or-opened-still : (n : ℕ) → made_or_opened x.files id n ≡ true → made_or_opened z.files id n ≡ true
   made-or-opened-still n is = elim (or_cases (has_made ms n) (is_some (first_open_of x.files.first_opens id n)) is) [
     | inl made ↦ or_left _ _ (ap (λ ds. has_made ds n) own-itself ∙ has-made-still n made)
     | inr opened ↦ or_right _ _ opened
@@ -545,10 +546,10 @@ module _ (x : Present) (id : Id) (c : Change) (sound : IsSoundFiles x) (owns : O
             ]
           ]
 
-  seen-after : (tree-is : Unit {0}) → tree_seen z.files (Some id) ≡ changed_all seen (names_of (c ∷ []))
+  pub seen-after : (tree-is : Unit {0}) → tree_seen z.files (Some id) ≡ changed_all seen (names_of (c ∷ []))
   seen-after u = ap (λ ds. changed_all x.files.tree (names_of ds)) own-itself ∙ ap (changed_all x.files.tree) (names-final cs by ∙ filter-append names_only ms (c ∷ [])) ∙ fold-append changed x.files.tree (names_of ms) (names_of (c ∷ []))
 
-  file-still : (n : ℕ) → (is_drop c ≡ true → node_of c ≡ n → ⊥) → is_file seen n ≡ true → is_file (tree_seen z.files (Some id)) n ≡ true
+  pub file-still : (n : ℕ) → (is_drop c ≡ true → node_of c ≡ n → ⊥) → is_file seen n ≡ true → is_file (tree_seen z.files (Some id)) n ≡ true
   file-still n other file = subst (λ t. is_file t n ≡ true) (sym (seen-after tt)) (go (names_only c))
     where
       one : is_file (changed seen c) n ≡ true
@@ -584,6 +585,62 @@ module _ (x : Present) (id : Id) (c : Change) (sound : IsSoundFiles x) (owns : O
             | inl none ↦ or_left _ _ none
             | inr file ↦ or_right _ _ (file-still o.node (λ drop. owns.kept drop o there of') file)
           ])) of
+
+  -- a file that it made or first opened becomes no directory in what a transaction sees
+  no-directory : (i : Id) (n : ℕ) → is_drawn_node x.files n ≡ true → is_no_directory x.files n i ≡ true → is_no_directory z.files n i ≡ true
+  no-directory i n drawn was = elim (cases_Bool (same_id id i)) [
+    | inr other ↦ ap (λ ds. not (is_directory (changed_all x.files.tree (names_of ds)) n)) (own-other i other) ∙ was
+    | inl is ↦ mine i (same_id-equal id i is) was
+  ]
+    where
+      one : (b : Bool) → is_directory (changed_all seen (cond b (c ∷ []) [])) n ≡ true → is_directory seen n ≡ true
+      one true = directory-was seen c owns.applies n (λ make at. omega (arith, below n drawn, owns.fresh make, at))
+      one false = λ dir. dir
+
+      mine : (i : Id) → id ≡ i → is_no_directory x.files n i ≡ true → is_no_directory z.files n i ≡ true
+      mine i same = subst (λ (i : Id). is_no_directory x.files n i ≡ true → is_no_directory z.files n i ≡ true) same
+          (λ was. not_from_false _ (false_from_ne_true _ (λ dir. true≢false (sym (one (names_only c) (subst (λ t. is_directory t n ≡ true) (seen-after tt) dir)) ∙ not-true _ was))))
+
+  -- what it dropped is gone, and stays so
+  gone-mine : list_all (is_gone seen) ms ≡ true → list_all (is_gone (tree_seen z.files (Some id))) new ≡ true
+  gone-mine was = list_all-from (is_gone (tree_seen z.files (Some id))) new (λ d there. elim (cases_Bool (is_drop d)) [
+    | inr other ↦ or_left _ _ (not_from_false _ other)
+    | inl drop ↦ or_right _ _ (not_from_false _ (false_from_ne_true _ (λ here. go d drop (subst (λ t. is_there t (node_of d) ≡ true) (seen-after tt) here) (elim (final-change cs by d there) [
+      | inl (has, name) ↦ of-two d has
+      | inr rest ↦ absurd (true≢false (sym drop ∙ rest.4))
+    ]))))
+  ])
+    where
+      before : (d : Change) → IsIn d ms → is_drop d ≡ true → is_there seen (node_of d) ≡ false
+      before d old drop = elim (or_cases (not (is_drop d)) (not (is_there seen (node_of d))) (list_all-at (is_gone seen) ms was d old)) [ inl other ↦ absurd (true≢false (sym drop ∙ not-true _ other)) | inr gone ↦ not-true _ gone ]
+
+      now-gone : (k : Change) → applies seen k ≡ true → is_drop k ≡ true → is_there (changed seen k) (node_of k) ≡ true → ⊥
+      now-gone (Drop node) is drop here =
+          let at = Applies-from seen (Drop node) is in
+          true≢false (sym here ∙ or_from _ _ at.0 (ap is_some (node_at-there seen (Drop node) (Fits-from seen (Drop node) at))))
+      now-gone (Make node parent kind name) is drop here = true≢false (sym drop)
+      now-gone (Put node offset contents) is drop here = true≢false (sym drop)
+      now-gone (Cut node size pages) is drop here = true≢false (sym drop)
+      now-gone (Move node parent name) is drop here = true≢false (sym drop)
+
+      go : (d : Change) → is_drop d ≡ true → is_there (changed_all seen (names_of (c ∷ []))) (node_of d) ≡ true → IsIn d ms ⊎ (c ≡ d) → ⊥
+      go d drop here (inl old) = one (names_only c) here
+        where
+          one : (b : Bool) → is_there (changed_all seen (cond b (c ∷ []) [])) (node_of d) ≡ true → ⊥
+          one true here = true≢false (sym (there-was seen c owns.applies (node_of d) (λ make at. omega (arith, below (node_of d) (own-drawn x sound id (node_of d) (IsIn-map node_of d ms old)), owns.fresh make, at)) here) ∙ before d old drop)
+          one false here = true≢false (sym here ∙ before d old drop)
+      go d drop here (inr same) = two (names_only c) (names-if-drop c (ap is_drop same ∙ drop)) here
+        where
+          two : (b : Bool) → b ≡ true → is_there (changed_all seen (cond b (c ∷ []) [])) (node_of d) ≡ true → ⊥
+          two true name here = now-gone c owns.applies (ap is_drop same ∙ drop) (subst (λ n. is_there (changed seen c) n ≡ true) (sym (ap node_of same)) here)
+          two false name here = true≢false (sym name)
+
+  opened-file : (o : OpenFile) → IsIn o x.files.table.opens → (t : Option Id) → opens_no_directory x.files o.node t ≡ true → may_use x o t ≡ true → opens_no_directory z.files o.node t ≡ true
+  opened-file o there None was well = refl
+  opened-file o there (Some i) was well =
+      let e = and_parts _ (not (writes o.access) || is_file (tree_seen x.files (Some i)) o.node) well in
+      let d = and_parts _ (not (has_dropped (own_changes x.files.table.own i) o.node)) e.0 in
+      no-directory i o.node (drawn-node x sound i o.node (and_parts _ (made_or_opened x.files i o.node) d.0).1) was
 
   alone-still : (o : OpenFile) → IsIn o x.files.table.opens → is_alone z o ≡ true
   alone-still o there = go (is_none o.transaction) (writes o.access) refl refl
@@ -641,6 +698,10 @@ module _ (x : Present) (id : Id) (c : Change) (sound : IsSoundFiles x) (owns : O
       not_from_false _ (none-from (is_in (numbers_made new)) (numbers_made u.changes) (λ n theirs. none-from (λ m. m == n) (numbers_made new) (λ m mine'. ne_eqb m n (λ e. others-number u there differ n (subst (λ k. IsIn k (numbers_made new)) e mine') theirs)))),
       not_from_false _ (none-from (is_in (numbers_made u.changes)) (numbers_made new) (λ n mine'. none-from (λ m. m == n) (numbers_made u.changes) (λ m theirs. ne_eqb m n (λ e. others-number u there differ n mine' (subst (λ k. IsIn k (numbers_made u.changes)) e theirs))))),
     ));
+    own_gone = list_all-from _ z.files.table.own (each (λ o. (not (o.transaction.boot == x.recorded.boots) || list_all (is_gone (tree_of z.files o.transaction)) o.changes) ≡ true)
+        (elim (or_cases (not (id.boot == x.recorded.boots)) (list_all (is_gone seen) ms) gone-before) [ inl back ↦ or_left _ _ back | inr gone ↦ or_right _ _ (gone-mine gone) ])
+        (λ o there differ. ap (λ ds. not (o.transaction.boot == x.recorded.boots) || list_all (is_gone (changed_all x.files.tree (names_of ds))) o.changes) (own-other o.transaction differ)
+        ∙ list_all-at (λ (p : OwnChanges). not (p.transaction.boot == x.recorded.boots) || list_all (is_gone (tree_of x.files p.transaction)) p.changes) x.files.table.own sound.own_gone o there));
     first_once = sound.first_once;
     first_undecided = sound.first_undecided;
     first_not_made = list_all-from _ x.files.first_opens (λ o there. list_all-from _ z.files.table.own (each (λ p. not (is_in (numbers_made p.changes) o.file) ≡ true)
@@ -650,6 +711,10 @@ module _ (x : Present) (id : Id) (c : Change) (sound : IsSoundFiles x) (owns : O
     first_versions = sound.first_versions;
     first_bytes = sound.first_bytes;
     first_last = list_all-from _ x.files.first_opens last-still;
+    first_files = list_all-from _ x.files.first_opens (λ o there. no-directory o.transaction o.file (list_all-at (λ (p : FirstOpen). is_drawn_node x.files p.file) x.files.first_opens sound.first_drawn o there)
+        (list_all-at (λ (p : FirstOpen). is_no_directory x.files p.file p.transaction) x.files.first_opens sound.first_files o there));
+    opens_files = list_all-from _ x.files.table.opens (λ o there. opened-file o there o.transaction (list_all-at (λ (p : OpenFile). opens_no_directory x.files p.node p.transaction) x.files.table.opens sound.opens_files o there)
+        (list_all-at (is_own_well x) x.files.table.opens sound.opens_own o there));
     formed = sound.formed;
     tree_drawn = list_all-from _ x.files.tree (λ n there. drawn-more n.number (list_all-at (λ (n : Node). is_drawn_node x.files n.number) x.files.tree sound.tree_drawn n there));
     next_from = omega (arith, sound.next_from, more);
@@ -668,6 +733,15 @@ module _ (x : Present) (id : Id) (c : Change) (sound : IsSoundFiles x) (owns : O
     writers = list_all-from _ x.files.table.opens alone-still;
   }
     where
+      gone-before : (not (id.boot == x.recorded.boots) || list_all (is_gone seen) ms) ≡ true
+      gone-before = elim (own_changes-found x.files.table.own id) [
+        | inl none ↦ or_right _ _ (subst (λ ds. list_all (is_gone seen) ds ≡ true) (sym none) refl)
+        | inr (o, has, is, changes) ↦
+            ap (λ ds. not (id.boot == x.recorded.boots) || list_all (is_gone seen) ds) (sym changes)
+            ∙ ap (λ i. not (i.boot == x.recorded.boots) || list_all (is_gone (tree_of x.files i)) o.changes) (sym is)
+            ∙ list_all-at (λ (p : OwnChanges). not (p.transaction.boot == x.recorded.boots) || list_all (is_gone (tree_of x.files p.transaction)) p.changes) x.files.table.own sound.own_gone o has
+      ]
+
       some-change : is_some_change new ≡ true
       some-change = elim (cases_Bool (changes_bytes c)) [
         | inr name ↦ some-from new c (name-final cs by c (IsIn-right c ms (c ∷ []) (inl refl)) (not_from_false _ name))

@@ -1,6 +1,6 @@
 -- What undecided transactions own stays sound while changes of others are committed.
 use Rattle.std.proofs.Common.{◌≡◌, ℕ, ◌+◌, ◌≤◌, ◌<◌, ◌^◌, ◌==◌, ◌&&◌, ◌||◌, not, Bool, true, false, is_none, is_some, All, cond, if◌then◌else◌, filter, fold, max, List, [], ◌∷◌, ◌++◌, map, Option, Some, None, refl, sym, ◌∙◌, ap, subst, arith, inl, inr, ◌⊎◌}
-use Rattle.std.proofs.lemmas.Bool.{cases_Bool, eq-eqb, eqb-true, ltb-true, leb-true, le-leb, lt-ltb, and_parts, and_from, or_cases, or_left, or_right, or_parts, or_from, not-true, not_from_false, true≢false}
+use Rattle.std.proofs.lemmas.Bool.{cases_Bool, eq-eqb, eqb-true, ltb-true, leb-true, le-leb, lt-ltb, and_parts, and_from, or_cases, or_left, or_right, or_parts, or_from, not-true, not_from_false, true≢false, eqb-false, false_from_ne_true}
 use Rattle.std.proofs.lemmas.List.Elements.{All-head, All-tail, All-cons, All-nil}
 use Rattle.std.specs.List.{list_all, list_any, flat_map}
 use Rattle.std.specs.Prelude.{nat_lt, nat_le}
@@ -14,24 +14,27 @@ use Rattle.ktm_world.specs.Changes.{changed, changed_all, applies, apply_all, ch
 use Rattle.ktm_world.specs.Committed.{Version, version_of, with_change, changes_to_commit, written_files, written_after, with_number, without_number, final_bytes}
 use Rattle.ktm_world.specs.Conflicts.{holds_now, written_by, writes}
 use Rattle.ktm_world.specs.Durable.{is_some_change, next_after_all}
-use Rattle.ktm_world.specs.Files.{FilesNow, FirstOpen, OpenFile, OwnChanges, own_changes, has_made, first_open_of, is_last_version, tree_seen, bytes_seen, committed_files}
+use Rattle.ktm_world.specs.Files.{FilesNow, FirstOpen, OpenFile, OwnChanges, own_changes, has_made, first_open_of, is_last_version, tree_of, tree_seen, bytes_seen, committed_files}
 use Rattle.ktm_world.specs.HandleCalls.{has_handle}
 use Rattle.ktm_world.specs.Holds.{is_in}
 use Rattle.ktm_world.specs.Lawful.{are_apart, is_alone, is_touched_by, others, undecided}
 use Rattle.ktm_world.specs.Present.{Present}
 use Rattle.ktm_world.specs.Transactions.{is_of, is_undecided, same_id}
-use Rattle.ktm_world.specs.Tree.{Tree, IsWellFormed, bytes_of, content_of, is_file, node_at}
+use Rattle.ktm_world.specs.Tree.{Tree, IsWellFormed, root, has_number, bytes_of, content_of, is_directory, is_file, node_at}
 use Rattle.ktm_laws.specs.Footprint.{IsIn, footprint, AreFootprintsApart, ListsLaw}
 use Rattle.ktm_laws.specs.Formed.{FormedLaw}
 use Rattle.ktm_laws.specs.GoodState.{each_pair, puts_some}
 use Rattle.ktm_laws.specs.Reservations.{IsLeft}
-use Rattle.ktm_laws.specs.SoundFiles.{IsSoundFiles, is_undecided_in, changed_by_two, make_apart, opened_apart, opens_rise, numbers_made, is_drawn_node, made_or_opened, is_change_of_opened, has_dropped, is_open_last, is_plain_well, is_own_well, files_apart, all_files_apart, may_use}
-use Rattle.ktm_laws.proofs.Applying.{Applies-from, Fits-from}
+use Rattle.ktm_laws.specs.SoundFiles.{IsSoundFiles, is_undecided_in, changed_by_two, make_apart, opened_apart, opens_rise, numbers_made, is_drawn_node, made_or_opened, is_change_of_opened, has_dropped, is_open_last, is_plain_well, is_own_well, files_apart, all_files_apart, may_use, is_gone, is_no_directory, opens_no_directory}
+use Rattle.ktm_laws.proofs.Applying.{node-elsewhere, Applies-from, Fits-from}
 use Rattle.ktm_laws.proofs.Committing.{next-rises, below-changed_all}
 use Rattle.ktm_laws.proofs.Diamonds.{IsIn-right, IsIn-map, no_test, none-from}
-use Rattle.ktm_laws.proofs.Elements.{IsIn-filter, IsIn-kept, IsIn-flat_map, IsIn-unflat, list_all-at, list_all-from, list_any-at, list_any-from, each_pair-filter}
+use Rattle.ktm_laws.proofs.Elements.{find-in, IsIn-filter, IsIn-kept, IsIn-flat_map, IsIn-unflat, list_all-at, list_all-from, list_any-at, list_any-from, each_pair-filter}
+use Rattle.ktm_laws.proofs.Meeting.{found-or-made}
+use Rattle.ktm_laws.proofs.NodeKinds.{MakesNot, is_directory_at, directories-were}
+use Rattle.ktm_laws.proofs.Lists.{IsIn-left, IsIn-unmap}
 use Rattle.ktm_laws.proofs.Lookups.{remade, node_at-changed}
-use Rattle.ktm_laws.proofs.Reserving.{own_changes-by, own_changes-left, first_open_of-left, written_by-left, own-apply, holds-apart, tree-of, bytes-elsewhere, left-by}
+use Rattle.ktm_laws.proofs.Reserving.{own_changes-by, own_changes-left, first_open_of-left, written_by-left, own-apply, holds-apart, tree-of, left-by}
 use Rattle.ktm_laws.proofs.Tables.{same_id-equal, same_id-from, same_id-sym}
 use Rattle.ktm_laws.proofs.Versions.{FitVersions, fit-all, Shows, shows-all, version-all}
 
@@ -71,11 +74,15 @@ own_changes-of (p ∷ ps) once o (inr there) =
     let parts = and_parts (list_all (changed_by_two p) ps) (each_pair changed_by_two ps) once in
     rw (not-true _ (list_all-at (changed_by_two p) ps parts.0 o there)) (own_changes-of ps parts.1 o there)
 
--- a number that changes make is the node of one of them
-pub made-node : (cs : List Change) (n : ℕ) → IsIn n (numbers_made cs) → IsIn n (map node_of cs)
-made-node cs n there =
+-- a number that changes make is the node of one of them that makes it
+pub made-by : (cs : List Change) (n : ℕ) → IsIn n (numbers_made cs) → (c : Change) × IsIn c cs × (is_make c ≡ true) × (node_of c ≡ n)
+made-by cs n there =
     let from = IsIn-unflat (λ change. filter (λ n. is_make change) (node_of change ∷ [])) cs n there in
-    elim (IsIn-filter (λ n. is_make from.0) (node_of from.0 ∷ []) n from.2).0 [ inl e ↦ subst (λ m. IsIn m (map node_of cs)) e (IsIn-map node_of from.0 cs from.1) | inr none ↦ absurd none ]
+    let kept = IsIn-filter (λ n. is_make from.0) (node_of from.0 ∷ []) n from.2 in
+    elim kept.0 [ inl e ↦ (from.0, from.1, kept.1, e) | inr none ↦ absurd none ]
+
+pub made-node : (cs : List Change) (n : ℕ) → IsIn n (numbers_made cs) → IsIn n (map node_of cs)
+made-node cs n there = let by = made-by cs n there in subst (λ m. IsIn m (map node_of cs)) by.3 (IsIn-map node_of by.0 cs by.1)
 
 pub IsIn-with_number : (ms : List ℕ) (n m : ℕ) → IsIn m (with_number ms n) → IsIn m ms ⊎ (n ≡ m)
 IsIn-with_number [] n m (inl e) = inr e
@@ -111,7 +118,7 @@ written-from (c ∷ cs) files m there = elim (written-from cs (written_after fil
 pub written-node : (cs : List Change) (m : ℕ) → IsIn m (written_files cs) → IsIn m (map node_of cs)
 written-node cs m there = elim (written-from cs [] m there) [ inl none ↦ absurd none | inr is ↦ is ]
 
-flat_map-same : (f g : ℕ → List Change) (ns : List ℕ) → ((n : ℕ) → IsIn n ns → f n ≡ g n) → flat_map f ns ≡ flat_map g ns
+pub flat_map-same : (f g : ℕ → List Change) (ns : List ℕ) → ((n : ℕ) → IsIn n ns → f n ≡ g n) → flat_map f ns ≡ flat_map g ns
 flat_map-same f g [] same = refl
 flat_map-same f g (n ∷ ns) same = ap (λ cs. cs ++ flat_map f ns) (same n (inl refl)) ∙ ap (λ cs. g n ++ cs) (flat_map-same f g ns (λ m there. same m (inr there)))
 
@@ -136,7 +143,7 @@ node_at-changed_all (d ∷ ds) tree tree' n all all' same =
     (node_at-changed tree' d (Fits-from tree' d (Applies-from tree' d parts'.0)) n ∙ ap (λ o. cond (node_of d == n) (remade d o) o) same ∙ sym (node_at-changed tree d (Fits-from tree d (Applies-from tree d parts.0)) n))
 
 -- names that were changed apply before the bytes do
-names-apply : (tree : Tree) (cs : List Change) (by : ℕ → List ℕ) → changes_to_commit cs by ≡ cs → apply_all tree cs ≡ true → apply_all tree (filter (λ change. not (changes_bytes change)) cs) ≡ true
+pub names-apply : (tree : Tree) (cs : List Change) (by : ℕ → List ℕ) → changes_to_commit cs by ≡ cs → apply_all tree cs ≡ true → apply_all tree (filter (λ change. not (changes_bytes change)) cs) ≡ true
 names-apply tree cs by final all =
     apply_all-first tree (filter (λ change. not (changes_bytes change)) cs) (flat_map (λ file. final_bytes file (by file)) (written_files cs)) (subst (λ ds. apply_all tree ds ≡ true) (sym final) all)
 
@@ -160,6 +167,10 @@ made-in cs n made =
     subst (λ m. IsIn m (numbers_made cs)) (eqb-true _ _ is.1) (IsIn-flat_map (λ change. filter (λ n. is_make change) (node_of change ∷ [])) cs found.0 (node_of found.0) found.1
     (IsIn-kept (λ n. is_make found.0) (node_of found.0 ∷ []) (node_of found.0) (inl refl) is.0))
 
+-- a change makes its node
+pub made-number : (cs : List Change) (c : Change) → IsIn c cs → is_make c ≡ true → IsIn (node_of c) (numbers_made cs)
+made-number cs c there make = made-in cs (node_of c) (list_any-from (λ change. is_make change && node_of change == node_of c) cs c there (and_from _ _ make (eq-eqb (node_of c) (node_of c) refl)))
+
 -- the first open of a file that a transaction has
 pub first_open-found : (fs : List FirstOpen) (id : Id) (file : ℕ) → is_some (first_open_of fs id file) ≡ true → (f : FirstOpen) × IsIn f fs × (f.transaction ≡ id) × (f.file ≡ file) × (first_open_of fs id file ≡ Some f)
 first_open-found [] id file some = absurd (true≢false (sym some))
@@ -178,6 +189,22 @@ drawn-node x sound id n is = elim (or_cases (has_made (own_changes x.files.table
 ]
 
 -- ---- numbers
+
+-- a node that is there, or that a transaction changed, has a number that was drawn
+pub in-tree-drawn : (x : Present) → IsSoundFiles x → (n : ℕ) → is_some (node_at x.files.tree n) ≡ true → is_drawn_node x.files n ≡ true
+in-tree-drawn x sound n some = go (node_at x.files.tree n) refl some
+  where
+    go : (o : Option Node) → node_at x.files.tree n ≡ o → is_some o ≡ true → is_drawn_node x.files n ≡ true
+    go None found some = absurd (true≢false (sym some))
+    go (Some node) found some =
+        let at = find-in (has_number n) x.files.tree node found in
+        subst (λ m. is_drawn_node x.files m ≡ true) (eqb-true _ _ at.1) (list_all-at (λ (k : Node). is_drawn_node x.files k.number) x.files.tree sound.tree_drawn node at.0)
+
+pub own-drawn : (x : Present) → IsSoundFiles x → (id : Id) (n : ℕ) → IsIn n (map node_of (own_changes x.files.table.own id)) → is_drawn_node x.files n ≡ true
+own-drawn x sound id n there = let mine = own_changes x.files.table.own id in elim (found-or-made mine x.files.tree (own-apply x sound id) n there) [
+  | inl found ↦ in-tree-drawn x sound n found
+  | inr (c, in_mine, make, at) ↦ drawn-made x sound id n (subst (λ m. IsIn m (numbers_made mine)) at (made-number mine c in_mine make))
+]
 
 pub next-enough : (cs : List Change) (next : ℕ) → ((n : ℕ) → IsIn n (numbers_made cs) → n < next) → next_after_all next cs ≤ next
 next-enough [] next below = omega arith
@@ -301,7 +328,7 @@ module _ (lists : ListsLaw) (formed : FormedLaw) (x y : Present) (cs : List Chan
       let kept = own-kept o there in
       list_all-from _ (numbers_made o.changes) (λ n made.
       let mine : IsIn n (map node_of (own_changes x.files.table.own o.transaction)) = subst (λ ds. IsIn n (map node_of ds)) (sym (changes-of o kept.0)) (made-node o.changes n made) in
-      ap is_none (ap (λ t. node_at t n) tree-is ∙ bytes-elsewhere cs x.files.tree n spares.all (λ there'. (apart-of o.transaction kept.1).nodes n there' mine))
+      ap is_none (ap (λ t. node_at t n) tree-is ∙ node-elsewhere cs x.files.tree n spares.all (λ there'. (apart-of o.transaction kept.1).nodes n there' mine))
       ∙ list_all-at (λ n. is_none (node_at x.files.tree n)) (numbers_made o.changes)
       (list_all-at (λ (p : OwnChanges). list_all (λ n. is_none (node_at x.files.tree n)) (numbers_made p.changes)) x.files.table.own sound.own_new o kept.0) n made)
 
@@ -339,7 +366,7 @@ module _ (lists : ListsLaw) (formed : FormedLaw) (x y : Present) (cs : List Chan
       ∙ go (cases_Bool (is_in (holds_now x.files t).nodes o.file)) kept (list_all-at (is_open_last x.files) x.files.first_opens sound.first_last o kept.0)
     where
       last-same : (IsIn o.file (map node_of cs) → ⊥) → is_last_version z.files o ≡ is_last_version x.files o
-      last-same other = ap (λ n. is_some (content_of n) && o.version == version_of z.files.versions o.file) (ap (λ t. node_at t o.file) tree-is ∙ bytes-elsewhere cs x.files.tree o.file spares.all other)
+      last-same other = ap (λ n. is_some (content_of n) && o.version == version_of z.files.versions o.file) (ap (λ t. node_at t o.file) tree-is ∙ node-elsewhere cs x.files.tree o.file spares.all other)
           ∙ ap (λ v. is_file x.files.tree o.file && o.version == v) (version-all cs (committed_files x.files []) o.file other)
 
       go : (is_in (holds_now x.files o.transaction).nodes o.file ≡ true) ⊎ (is_in (holds_now x.files o.transaction).nodes o.file ≡ false) → IsIn o x.files.first_opens × Kept o.transaction → is_open_last x.files o ≡ true
@@ -375,16 +402,16 @@ module _ (lists : ListsLaw) (formed : FormedLaw) (x y : Present) (cs : List Chan
       go true true plain may drawn = or_right _ _ (and_from _ _ drawn (or_right _ _ (ap (λ t. is_file t o.node) tree-is ∙ spares.plain o there plain may)))
 
   -- a transaction sees a node that it holds as before
-  seen-same : (id : Id) → Kept id → (n : ℕ) → is_drawn_node x.files n ≡ true → is_in (holds_now x.files id).nodes n ≡ true → is_file (tree_seen z.files (Some id)) n ≡ is_file (tree_seen x.files (Some id)) n
+  seen-same : (id : Id) → Kept id → (n : ℕ) → is_drawn_node x.files n ≡ true → is_in (holds_now x.files id).nodes n ≡ true → node_at (tree_seen z.files (Some id)) n ≡ node_at (tree_seen x.files (Some id)) n
   seen-same id kept n drawn held =
       let mine = own_changes x.files.table.own id in
       let names = filter (λ change. not (changes_bytes change)) mine in
       let applies' : apply_all z.files.tree mine ≡ true = subst (λ ds. apply_all z.files.tree ds ≡ true) (own-left id kept.0) (left id kept).applies in
-      ap (λ ds. is_some (content_of (node_at (changed_all z.files.tree (filter (λ change. not (changes_bytes change)) ds)) n))) (own-left id kept.0)
-      ∙ ap (λ o. is_some (content_of o)) (node_at-changed_all names x.files.tree z.files.tree n
+      ap (λ ds. node_at (changed_all z.files.tree (filter (λ change. not (changes_bytes change)) ds)) n) (own-left id kept.0)
+      ∙ node_at-changed_all names x.files.tree z.files.tree n
       (names-apply x.files.tree mine (bytes_seen x.files (Some id)) (own-final x sound id) (own-apply x sound id))
       (names-apply z.files.tree mine (bytes_seen x.files (Some id)) (own-final x sound id) applies')
-      (ap (λ t. node_at t n) tree-is ∙ bytes-elsewhere cs x.files.tree n spares.all (clear-of id kept n drawn held)))
+      (ap (λ t. node_at t n) tree-is ∙ node-elsewhere cs x.files.tree n spares.all (clear-of id kept n drawn held))
 
   own-well : (o : OpenFile) → IsIn o x.files.table.opens → keep o.transaction ≡ true → is_own_well z o ≡ true
   own-well o there stays = go o.transaction refl stays (list_all-at (is_own_well x) x.files.table.opens sound.opens_own o there)
@@ -404,9 +431,56 @@ module _ (lists : ListsLaw) (formed : FormedLaw) (x y : Present) (cs : List Chan
           and_from _ _ (and_from _ _ (and_from _ _ (and_from _ _ (step.undecided id kept b.0) (ap (λ n. id.boot == n) step.boots ∙ b.1)) (made-same id kept o.node ∙ c.1))
           (ap (λ ds. not (has_dropped ds o.node)) (own-left id kept) ∙ d.1))
           (elim (cases_Bool (writes o.access)) [
-            | inl may ↦ ap (λ f. not (writes o.access) || f) (seen-same id is o.node (drawn-node x sound id o.node c.1) (held may)) ∙ e.1
+            | inl may ↦ ap (λ k. not (writes o.access) || is_some (content_of k)) (seen-same id is o.node (drawn-node x sound id o.node c.1) (held may)) ∙ e.1
             | inr not' ↦ or_left _ _ (not_from_false _ not')
           ])
+
+  held-by : (id : Id) (n : ℕ) → is_in (map node_of (own_changes x.files.table.own id)) n ≡ true → is_in (holds_now x.files id).nodes n ≡ true
+  held-by id n has = let mine = map node_of (own_changes x.files.table.own id) in
+      let found = list_any-at (λ m. m == n) mine has in list_any-from (λ m. m == n) (holds_now x.files id).nodes found.0 (IsIn-left found.0 mine (written_by x.files.table.opens id) found.1) found.2
+
+  -- a file that a transaction made or first opened becomes no directory in what it sees
+  no-directory : (id : Id) → Kept id → (n : ℕ) → is_drawn_node x.files n ≡ true → ((c : Change) → IsIn c cs → (IsIn n (map node_of (own_changes x.files.table.own id)) → ⊥) → MakesNot c n)
+      → is_no_directory x.files n id ≡ true → is_no_directory z.files n id ≡ true
+  no-directory id kept n drawn others was =
+      let mine = own_changes x.files.table.own id in
+      let names = filter (λ change. not (changes_bytes change)) mine in
+      let applies : apply_all x.files.tree names ≡ true = names-apply x.files.tree mine (bytes_seen x.files (Some id)) (own-final x sound id) (own-apply x sound id) in
+      let applies' : apply_all z.files.tree names ≡ true = names-apply z.files.tree mine (bytes_seen x.files (Some id)) (own-final x sound id) (subst (λ ds. apply_all z.files.tree ds ≡ true) (own-left id kept.0) (left id kept).applies) in
+      elim (cases_Bool (is_in (map node_of mine) n)) [
+        | inl held ↦ ap (λ o. not (is_directory_at n o)) (seen-same id kept n drawn (held-by id n held)) ∙ was
+        | inr free ↦
+            let outside : IsIn n (map node_of mine) → ⊥ = λ there. eqb-false n n (no_test (λ m. m == n) n (map node_of mine) free there) refl in
+            let beside : IsIn n (map node_of names) → ⊥ = λ there. let from = IsIn-unmap node_of n names there in outside (subst (λ m. IsIn m (map node_of mine)) from.1 (IsIn-map node_of from.0 mine (IsIn-filter (λ change. not (changes_bytes change)) mine from.0 from.2).0)) in
+            ap (λ ds. not (is_directory (changed_all z.files.tree (filter (λ change. not (changes_bytes change)) ds)) n)) (own-left id kept.0) ∙ ap (λ o. not (is_directory_at n o)) (node-elsewhere names z.files.tree n applies' beside) ∙ not_from_false _ (false_from_ne_true _ (λ dir.
+            true≢false (sym (directories-were cs x.files.tree spares.all n (λ c there. others c there outside) (subst (λ t. is_directory t n ≡ true) tree-is dir)) ∙ ap (is_directory_at n) (sym (node-elsewhere names x.files.tree n applies beside)) ∙ not-true _ was)))
+      ]
+
+  -- a node that a transaction dropped and does not see it does not see then
+  still-gone : (o : OwnChanges) → IsIn o x.files.table.own → Kept o.transaction → list_all (is_gone (tree_of x.files o.transaction)) o.changes ≡ true → list_all (is_gone (tree_of z.files o.transaction)) o.changes ≡ true
+  still-gone o there kept gone = list_all-from (is_gone (tree_of z.files o.transaction)) o.changes (λ c has.
+      let mine : IsIn (node_of c) (map node_of (own_changes x.files.table.own o.transaction)) = subst (λ ds. IsIn (node_of c) (map node_of ds)) (sym (changes-of o there)) (IsIn-map node_of c o.changes has) in
+      ap (λ k. not (is_drop c) || not (node_of c == root || is_some k)) (seen-same o.transaction kept (node_of c) (own-drawn x sound o.transaction (node_of c) mine) (held-by o.transaction (node_of c) (list_any-from (λ m. m == node_of c) (map node_of (own_changes x.files.table.own o.transaction)) (node_of c) mine (eq-eqb (node_of c) (node_of c) refl))))
+      ∙ list_all-at (is_gone (tree_of x.files o.transaction)) o.changes gone c has)
+
+  -- a file of an open file in a transaction stays no directory there
+  opened-file : (o : OpenFile) → IsIn o x.files.table.opens → keep o.transaction ≡ true → opens_no_directory z.files o.node o.transaction ≡ true
+  opened-file o there stays = go o.transaction refl stays (list_all-at (λ (p : OpenFile). opens_no_directory x.files p.node p.transaction) x.files.table.opens sound.opens_files o there) (list_all-at (is_own_well x) x.files.table.opens sound.opens_own o there)
+    where
+      go : (t : Option Id) → o.transaction ≡ t → keep t ≡ true → opens_no_directory x.files o.node t ≡ true → may_use x o t ≡ true → opens_no_directory z.files o.node t ≡ true
+      go None of kept was well = refl
+      go (Some id) of kept was well =
+          let d = and_parts _ (not (writes o.access) || is_file (tree_seen x.files (Some id)) o.node) well in
+          let c = and_parts _ (not (has_dropped (own_changes x.files.table.own id) o.node)) d.0 in
+          let b = and_parts _ (made_or_opened x.files id o.node) c.0 in
+          let a = and_parts (is_undecided_in x.transactions.items id) (id.boot == x.recorded.boots) b.0 in
+          no-directory id (kept, undecided-entry x.transactions.items id a.0) o.node (drawn-node x sound id o.node b.1) (λ c' in_cs outside make at.
+          elim (or_cases (has_made (own_changes x.files.table.own id) o.node) (is_some (first_open_of x.files.first_opens id o.node)) b.1) [
+            | inl made ↦ outside (made-node (own_changes x.files.table.own id) o.node (made-in (own_changes x.files.table.own id) o.node made))
+            | inr opened ↦
+                let f = first_open-found x.files.first_opens id o.node opened in
+                spares.fresh f.0 f.1 (subst (λ i. keep (Some i) ≡ true) (sym f.2) kept) c' in_cs make (at ∙ sym f.3)
+          ]) was
 
   -- ---- all of it
 
@@ -451,6 +525,12 @@ module _ (lists : ListsLaw) (formed : FormedLaw) (x y : Present) (cs : List Chan
         drawn-more n (list_all-at (is_drawn_node x.files) (numbers_made o.changes) (list_all-at (λ (p : OwnChanges). list_all (is_drawn_node x.files) (numbers_made p.changes)) x.files.table.own sound.own_drawn o (own-kept o there).0) n made)));
     own_new = list_all-from _ z.files.table.own new;
     own_differ = each_pair-filter make_apart (λ o. keep (Some o.transaction)) x.files.table.own sound.own_differ;
+    own_gone = list_all-from _ z.files.table.own (λ o there.
+        let kept = own-kept o there in
+        elim (or_cases (not (o.transaction.boot == x.recorded.boots)) _ (list_all-at (λ (p : OwnChanges). not (p.transaction.boot == x.recorded.boots) || list_all (is_gone (tree_of x.files p.transaction)) p.changes) x.files.table.own sound.own_gone o kept.0)) [
+          | inl back ↦ or_left _ _ (ap (λ b. not (o.transaction.boot == b)) step.boots ∙ back)
+          | inr gone ↦ or_right _ _ (still-gone o kept.0 kept.1 gone)
+        ]);
     first_once = each_pair-filter opened_apart (λ o. keep (Some o.transaction)) x.files.first_opens sound.first_once;
     first_undecided = list_all-from _ z.files.first_opens (λ o there.
         let kept = first-kept o there in
@@ -466,6 +546,10 @@ module _ (lists : ListsLaw) (formed : FormedLaw) (x y : Present) (cs : List Chan
     ]);
     first_bytes = All-by (λ (o : FirstOpen). is_last_version z.files o ≡ true → o.bytes ≡ bytes_of z.files.tree o.file) z.files.first_opens (λ o there last. let parts = and_parts (is_file z.files.tree o.file) (o.version == version_of z.files.versions o.file) last in (shows-now o there).bytes parts.0 (eqb-true _ _ parts.1));
     first_last = list_all-from _ z.files.first_opens first-last;
+    first_files = list_all-from _ z.files.first_opens (λ o there.
+        let kept = first-kept o there in
+        no-directory o.transaction kept.1 o.file (list_all-at (λ (p : FirstOpen). is_drawn_node x.files p.file) x.files.first_opens sound.first_drawn o kept.0)
+        (λ c in_cs outside make at. spares.fresh o kept.0 kept.1.0 c in_cs make at) (list_all-at (λ (p : FirstOpen). is_no_directory x.files p.file p.transaction) x.files.first_opens sound.first_files o kept.0));
     formed = subst IsWellFormed (sym tree-is) (formed.1 x.files.tree cs sound.formed spares.all);
     tree_drawn = list_all-from _ z.files.tree numbers-drawn;
     next_from = omega (arith, sound.next_from, more);
@@ -477,6 +561,7 @@ module _ (lists : ListsLaw) (formed : FormedLaw) (x y : Present) (cs : List Chan
     opens_named = list_all-from _ z.files.table.opens (λ o there. let kept = open-kept o there in step.handles o kept.0 kept.1);
     opens_plain = list_all-from _ z.files.table.opens (λ o there. plain-well o (open-kept o there).0);
     opens_own = list_all-from _ z.files.table.opens (λ o there. let kept = open-kept o there in own-well o kept.0 kept.1);
+    opens_files = list_all-from _ z.files.table.opens (λ o there. let kept = open-kept o there in opened-file o kept.0 kept.1);
     apart = apart-now;
     writers = list_all-from _ z.files.table.opens (λ o there. alone-now o (open-kept o there).0);
   }

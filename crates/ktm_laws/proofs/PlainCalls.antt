@@ -39,7 +39,7 @@ use Rattle.ktm_laws.proofs.Reserving.{call-apart}
 
 -- ---- what is at a path
 
-some-from : (o : Option (List ℕ)) → is_none o ≡ false → is_some o ≡ true
+pub some-from : (o : Option (List ℕ)) → is_none o ≡ false → is_some o ≡ true
 some-from None is = absurd (true≢false is)
 some-from (Some bytes) is = refl
 
@@ -89,21 +89,23 @@ pub move-applies : (tree : Tree) (node : Node) (directory : ℕ) (name : List �
 move-applies tree node directory name leads leads' outside =
     applies-from tree (Move node.number directory name) (not-root node.number leads.1, there-at tree node leads.0, leads'.0, outside, leads'.1, leads'.2)
 
-delete-acts : (tree : Tree) (node : Node) → Leads tree (at_node node) → is_some node.content ≡ true → acts_of tree (Drop node.number) ≡ deletes node.number (place node.parent node.name) ∷ []
+pub delete-acts : (tree : Tree) (node : Node) → Leads tree (at_node node) → is_some node.content ≡ true → acts_of tree (Drop node.number) ≡ deletes node.number (place node.parent node.name) ∷ []
 delete-acts tree node leads file = acts-at tree node (Drop node.number) leads.0 refl refl ∙ ap (λ b. (if b then deletes node.number (place node.parent node.name) else drops_directory node.number (place node.parent node.name)) ∷ []) file
 
-remove-acts : (tree : Tree) (node : Node) → Leads tree (at_node node) → is_some node.content ≡ false → acts_of tree (Drop node.number) ≡ drops_directory node.number (place node.parent node.name) ∷ []
+pub remove-acts : (tree : Tree) (node : Node) → Leads tree (at_node node) → is_some node.content ≡ false → acts_of tree (Drop node.number) ≡ drops_directory node.number (place node.parent node.name) ∷ []
 remove-acts tree node leads dir = acts-at tree node (Drop node.number) leads.0 refl refl ∙ ap (λ b. (if b then deletes node.number (place node.parent node.name) else drops_directory node.number (place node.parent node.name)) ∷ []) dir
 
 -- the numbers of nodes have not come to their end
-pub enough-numbers : (files : FilesNow) (room : FileRoom) (who : Option Id) (o : FileOutcome) (change : Change) → o.change ≡ Some change → o.opened ≡ None → lacks_quota files room who o ≡ false → next_after files.table.next_node change ≤ 2 ^ 63
+pub enough-numbers : (files : FilesNow) (room : FileRoom) (who : Option Id) (o : FileOutcome) (change : Change) → o.change ≡ Some change → lacks_quota files room who o ≡ false → next_after files.table.next_node change ≤ 2 ^ 63
 unfolding lacks_quota
-enough-numbers files room who o change is opened fits =
+enough-numbers files room who o change is fits =
     let last = (or_parts _ (nat_lt (2 ^ 63) (files_after files who o).table.next_node) fits).1 in
-    let e : (files_after files who o).table.next_node ≡ next_after files.table.next_node change =
-    ap (λ p. (with_open (record files.table { own = own_after files who o.change; next_node = next_node_after files.table.next_node o.change }) p).next_node) opened
-    ∙ ap (next_node_after files.table.next_node) is in
+    let e : (files_after files who o).table.next_node ≡ next_after files.table.next_node change = same o.opened ∙ ap (next_node_after files.table.next_node) is in
     omega (arith, e, ltb-false _ _ last)
+  where
+    same : (opened : Option OpenFile) → (with_open (record files.table { own = own_after files who o.change; next_node = next_node_after files.table.next_node o.change }) opened).next_node ≡ next_node_after files.table.next_node o.change
+    same None = refl
+    same (Some f) = refl
 
 pub make-applies : (x : Present) (kind : NodeKind) (directory : ℕ) (name : List ℕ) → IsSoundFiles x → Leads x.files.tree (free directory name) → next_after x.files.table.next_node (Make x.files.table.next_node directory kind name) ≤ 2 ^ 63
     → applies x.files.tree (Make x.files.table.next_node directory kind name) ≡ true
@@ -180,7 +182,7 @@ module _ (lists : ListsLaw) (formed : FormedLaw) where
   make-at : (x : Present) (room : FileRoom) (w : Whereabouts) → Leads x.files.tree w → (conflict_test x.files None (make_act w)).0 ≡ false → lacks_quota x.files room None (make_at x.files w) ≡ false → KeepsFiles x (of_files x None (make_at x.files w))
   make-at x room (free directory name) leads none fits order sound =
       let change = Make x.files.table.next_node directory Directory name in
-      let limit = enough-numbers x.files room None (changing change) change refl refl fits in
+      let limit = enough-numbers x.files room None (changing change) change refl fits in
       lands-sound lists formed x change sound (lands-call x change (makes (place directory name)) sound (make-applies x Directory directory name sound leads limit) (λ make. refl) refl none (λ drop. absurd (true≢false (sym drop))) limit)
   make-at x room no_path leads none fits order sound = only-answers x order sound
   make-at x room no_way leads none fits order sound = only-answers x order sound

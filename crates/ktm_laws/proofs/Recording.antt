@@ -13,14 +13,14 @@ use Rattle.ktm_types.specs.declared.event.Event.TheVariants.{Ready}
 use Rattle.ktm_types.specs.declared.event.Part.{Part}
 use Rattle.ktm_types.specs.declared.event.Part.TheVariants.{Enlistment, Changes, Settings}
 use Rattle.ktm_world.specs.Changes.{apply_all}
-use Rattle.ktm_world.specs.Durable.{Durable, Recorded, is_ready, is_decided, is_manager, is_part_of, is_new_enlistment, changes_in, settings_in, enlistments_in, changes_of, settings_of, enlistments_of, superior_ids, has_changes_part, has_settings_part, has_part, is_some_change, are_recorded_changes, changes_apply, settings_apply, part_applies, may_get_ready, recorded_or_new, with_recorded, next_after_all, fact_of, after_event, is_within_limits}
+use Rattle.ktm_world.specs.Durable.{Durable, Recorded, is_ready, is_decided, is_manager, is_part_of, is_new_in, is_new_enlistment, changes_in, settings_in, enlistments_in, changes_of, settings_of, enlistments_of, superior_ids, has_changes_part, has_settings_part, has_part, is_some_change, are_recorded_changes, changes_apply, settings_apply, part_applies, may_get_ready, recorded_or_new, with_recorded, next_after_all, fact_of, after_event, is_within_limits}
 use Rattle.ktm_world.specs.Keys.{OwnSettings, are_good_settings}
 use Rattle.ktm_world.specs.Lawful.{set_both}
 use Rattle.ktm_world.specs.Limits.{most_information}
 use Rattle.ktm_world.specs.Transactions.{same_id}
 use Rattle.ktm_laws.specs.Footprint.{IsIn, footprint, AreFootprintsApart}
-use Rattle.ktm_laws.specs.GoodState.{each_pair, enlisted_in, superiors_in, enlisted, has_one_part_each, is_done_well, are_kept_changes, are_kept_settings, is_made_below, puts_some, IsGoodState}
-use Rattle.ktm_laws.specs.Grammatical.{counts_from_1, ids_in}
+use Rattle.ktm_laws.specs.GoodState.{each_pair, is_of_object, enlisted_in, superiors_in, enlisted, has_one_part_each, is_done_well, are_kept_changes, are_kept_settings, is_made_below, puts_some, IsGoodState}
+use Rattle.ktm_laws.specs.Grammatical.{ids_in}
 use Rattle.ktm_laws.proofs.Diamonds.{IsIn-right, no_test}
 use Rattle.ktm_laws.proofs.Lists.{IsIn-cases}
 use Rattle.ktm_laws.proofs.Elements.{list_any-from, each_pair-append}
@@ -28,7 +28,7 @@ use Rattle.ktm_laws.proofs.Parts.{gathered, is_among, gathered-push, gathered-pu
 use Rattle.ktm_laws.proofs.Tables.{same_id-sym, fresh, recorded_or_new-cases, KnownOrNew, Table-with}
 use Rattle.ktm_laws.proofs.Fitting.{differ, IsEnlisted, Core, Fitting, Beside, Beside-sym, Rest, TableOf, good-from, table-of, rest-of}
 use Rattle.ktm_laws.proofs.Committing.{next-rises, next-made, next-to, below-more, limits-counted, with_all, Rest-with, Fitting-carried, Beside-carried}
-use Rattle.ktm_laws.proofs.Waiting.{no_changes_part, no_settings_part, in_others, changes_apply-all, changes_apply-apart, settings_apply-apart, apart-from-none}
+use Rattle.ktm_laws.proofs.Waiting.{no_changes_part, no_settings_part, in_others, changes_apply-all, changes_apply-new, changes_apply-apart, settings_apply-apart, apart-from-none}
 use Rattle.ktm_laws.proofs.Steps.{Keeps, is_drawn-now}
 
 -- ---- a transaction that gets ready
@@ -51,7 +51,7 @@ none-is : (o : Option Superior) → is_none o ≡ true → o ≡ None
 none-is None is = refl
 none-is (Some superior) is = absurd (true≢false (sym is))
 
-begun-fresh : (s : Durable) (id : Id) → counts_from_1 id ≡ true → id.boot ≡ s.boots → Begun s id (fresh id)
+begun-fresh : (s : Durable) (id : Id) → is_of_object id ≡ true → id.boot ≡ s.boots → Begun s id (fresh id)
 begun-fresh s id counts now = record {
   core = record {
     drawn = is_drawn-now s id counts now;
@@ -64,6 +64,7 @@ begun-fresh s id counts now = record {
     changes = refl;
     apply = refl;
     made = refl;
+    new = refl;
     puts = refl;
     settings = refl;
   };
@@ -79,7 +80,7 @@ begun-fresh s id counts now = record {
   whose = λ a none. absurd none;
 }
 
-pub begun : (s : Durable) (id : Id) → IsGoodState s → counts_from_1 id ≡ true → may_get_ready s id ≡ true → Begun s id (recorded_or_new s.transactions id)
+pub begun : (s : Durable) (id : Id) → IsGoodState s → is_of_object id ≡ true → may_get_ready s id ≡ true → Begun s id (recorded_or_new s.transactions id)
 begun s id good counts may = go (recorded_or_new s.transactions id) (and_parts (id.boot == s.boots) (is_ready (recorded_or_new s.transactions id).stage) may).1 (recorded_or_new-cases s.transactions id)
   where
     now : id.boot ≡ s.boots
@@ -113,7 +114,7 @@ new-enlistment s enlistment manager information new u there a has =
     no_test (λ other. same_id other enlistment) a (enlistments_of u) (no_test (λ (t : Recorded). list_any (λ other. same_id other enlistment) (enlistments_of t)) u s.transactions (not-true _ a'.1) there) has
 
 -- and it may be enlisted
-pub new-enlisted : (s : Durable) (e : Superior) → counts_from_1 e.enlistment ≡ true → is_new_enlistment s e.enlistment e.manager e.information ≡ true → IsEnlisted s e
+pub new-enlisted : (s : Durable) (e : Superior) → is_of_object e.enlistment ≡ true → is_new_enlistment s e.enlistment e.manager e.information ≡ true → IsEnlisted s e
 new-enlisted s e counts new =
     let c = and_parts _ (nat_le (length e.information) most_information) new in
     let b = and_parts _ (is_manager s e.manager) c.0 in
@@ -146,6 +147,7 @@ record Adds (s : Durable) (id : Id) (t : Recorded) (part : Part) : Type 0 where
   changes : are_kept_changes (pushed t part) ≡ true
   apply : apply_all s.tree (changes_of (pushed t part)) ≡ true
   made : list_all (is_made_below (next_after_all s.next_node (changes_in part))) (changes_of (pushed t part)) ≡ true
+  unmade : list_all (is_new_in s.tree) (changes_of (pushed t part)) ≡ true
   puts : list_all puts_some (changes_of (pushed t part)) ≡ true
   settings : are_kept_settings (pushed t part) ≡ true
   files : (u : Recorded) → IsIn u s.transactions → (u.id ≡ id → ⊥) → is_decided u.stage ≡ false → AreFootprintsApart (footprint s.tree (changes_of (pushed t part))) (footprint s.tree (changes_of u))
@@ -178,6 +180,7 @@ module _ (s : Durable) (id : Id) (t : Recorded) (start : Begun s id t) (part : P
     changes = adds.changes;
     apply = adds.apply;
     made = adds.made;
+    new = adds.unmade;
     puts = adds.puts;
     settings = adds.settings;
   }
@@ -206,7 +209,7 @@ module _ (s : Durable) (id : Id) (t : Recorded) (start : Begun s id t) (part : P
 
   pushed-good : IsGoodState s → is_within_limits s' ≡ true → s.events + 1 < 2 ^ 63 → IsGoodState s'
   pushed-good good limits few = good-from (with_pushed s t part) (Table-with (Fitting s) (Beside s) (Fitting s') (Beside s') s.transactions (pushed t part) (table-of s good)
-      (λ u there other fits. Fitting-carried s s' u refl (λ m is. is) (next-rises (changes_in part) s.next_node) fits.core.apply fits)
+      (λ u there other fits. Fitting-carried s s' u refl (λ m is. is) (next-rises (changes_in part) s.next_node) fits.core.apply fits.core.new fits)
       (λ u v there there' other other' sides. Beside-carried s s' u v refl sides)
       Fitting-pushed
       (λ u there other. let sides = Beside-pushed u there (λ e. other (e ∙ sym start.is)) in (sides, Beside-sym s' (pushed t part) u sides)))
@@ -264,7 +267,7 @@ module _ (s : Durable) (id : Id) (t : Recorded) (start : Begun s id t) where
   old_keys : (part : Part) → settings_in part ≡ [] → (u : Recorded) → IsIn u s.transactions → (u.id ≡ id → ⊥) → is_decided u.stage ≡ false → set_both (settings_of (pushed t part)) (settings_of u) ≡ false
   old_keys part none u there other waits = subst (λ ss. set_both ss (settings_of u) ≡ false) (same_settings part none) ((start.beside u there other).keys waiting waits)
 
-  adds-enlistment : (e : Superior) → counts_from_1 e.enlistment ≡ true → is_new_enlistment s e.enlistment e.manager e.information ≡ true → Adds s id t (Enlistment e.enlistment e.manager e.information)
+  adds-enlistment : (e : Superior) → is_of_object e.enlistment ≡ true → is_new_enlistment s e.enlistment e.manager e.information ≡ true → Adds s id t (Enlistment e.enlistment e.manager e.information)
   adds-enlistment e counted is_new = let part = Enlistment e.enlistment e.manager e.information in record {
     enlisted = λ e' there. elim there [ inl is ↦ subst (IsEnlisted s) is (new-enlisted s e counted is_new) | inr none ↦ absurd none ];
     differ = refl;
@@ -273,6 +276,7 @@ module _ (s : Durable) (id : Id) (t : Recorded) (start : Begun s id t) where
     changes = old_changes part refl refl;
     apply = subst (λ cs. apply_all s.tree cs ≡ true) (same_changes part refl) start.core.apply;
     made = subst (λ cs. list_all (is_made_below s.next_node) cs ≡ true) (same_changes part refl) start.core.made;
+    unmade = subst (λ cs. list_all (is_new_in s.tree) cs ≡ true) (same_changes part refl) start.core.new;
     puts = subst (λ cs. list_all puts_some cs ≡ true) (same_changes part refl) start.core.puts;
     settings = old_settings part refl refl;
     files = old_files part refl;
@@ -290,6 +294,7 @@ module _ (s : Durable) (id : Id) (t : Recorded) (start : Begun s id t) where
     changes = and_from _ _ (or_left _ _ (not_from_false _ waiting)) (or_right _ _ (subst (λ xs. are_recorded_changes xs ≡ true) (sym are) recorded));
     apply = subst (λ xs. apply_all s.tree xs ≡ true) (sym are) (changes_apply-all s (Some id) cs applies);
     made = subst (λ xs. list_all (is_made_below (next_after_all s.next_node cs)) xs ≡ true) (sym are) (next-made cs s.next_node);
+    unmade = subst (λ xs. list_all (is_new_in s.tree) xs ≡ true) (sym are) (changes_apply-new s (Some id) cs applies);
     puts = subst (λ xs. list_all puts_some xs ≡ true) (sym are) some;
     settings = old_settings part refl refl;
     files = λ u there other waits. subst (λ xs. AreFootprintsApart (footprint s.tree xs) (footprint s.tree (changes_of u))) (sym are)
@@ -310,6 +315,7 @@ module _ (s : Durable) (id : Id) (t : Recorded) (start : Begun s id t) where
     changes = old_changes part refl refl;
     apply = subst (λ cs. apply_all s.tree cs ≡ true) (same_changes part refl) start.core.apply;
     made = subst (λ cs. list_all (is_made_below s.next_node) cs ≡ true) (same_changes part refl) start.core.made;
+    unmade = subst (λ cs. list_all (is_new_in s.tree) cs ≡ true) (same_changes part refl) start.core.new;
     puts = subst (λ cs. list_all puts_some cs ≡ true) (same_changes part refl) start.core.puts;
     settings = and_from _ _ (or_left _ _ (not_from_false _ waiting)) (or_right _ _ (subst (λ xs. are_good_settings xs ≡ true) (sym are) good));
     files = old_files part refl;
@@ -321,24 +327,24 @@ module _ (s : Durable) (id : Id) (t : Recorded) (start : Begun s id t) where
       are = gathered-push settings_in t.parts (record { is_done = false; part = Settings ss }) ∙ ap (λ xs. xs ++ ss) (no_settings_part t first)
 
 pub ready-keeps : (s : Durable) (transaction : Id) (part : Part) → Keeps s (Ready transaction part)
-ready-keeps s transaction part good spelled applies limits few = go part (and_parts (list_all counts_from_1 (transaction ∷ ids_in part)) (list_all puts_some (changes_in part)) spelled).0
-    (and_parts (list_all counts_from_1 (transaction ∷ ids_in part)) (list_all puts_some (changes_in part)) spelled).1 (and_parts (may_get_ready s transaction) (part_applies s transaction part) applies).1 limits
+ready-keeps s transaction part good spelled applies limits few = go part (and_parts (list_all is_of_object (transaction ∷ ids_in part)) (list_all puts_some (changes_in part)) spelled).0
+    (and_parts (list_all is_of_object (transaction ∷ ids_in part)) (list_all puts_some (changes_in part)) spelled).1 (and_parts (may_get_ready s transaction) (part_applies s transaction part) applies).1 limits
   where
     t : Recorded
     t = recorded_or_new s.transactions transaction
 
     start : Begun s transaction t
-    start = begun s transaction good (and_parts (counts_from_1 transaction) (list_all counts_from_1 (ids_in part)) (and_parts (list_all counts_from_1 (transaction ∷ ids_in part)) (list_all puts_some (changes_in part)) spelled).0).0
+    start = begun s transaction good (and_parts (is_of_object transaction) (list_all is_of_object (ids_in part)) (and_parts (list_all is_of_object (transaction ∷ ids_in part)) (list_all puts_some (changes_in part)) spelled).0).0
         (and_parts (may_get_ready s transaction) (part_applies s transaction part) applies).0
 
     add : (part : Part) → Adds s transaction t part → is_within_limits (fact_of s (Ready transaction part)) ≡ true → IsGoodState (after_event s (Ready transaction part))
     add part adds limits = pushed-good s transaction t start part adds good (limits-counted (fact_of s (Ready transaction part)) (s.events + 1) limits) few
 
-    go : (part : Part) → list_all counts_from_1 (transaction ∷ ids_in part) ≡ true → list_all puts_some (changes_in part) ≡ true → part_applies s transaction part ≡ true
+    go : (part : Part) → list_all is_of_object (transaction ∷ ids_in part) ≡ true → list_all puts_some (changes_in part) ≡ true → part_applies s transaction part ≡ true
         → is_within_limits (fact_of s (Ready transaction part)) ≡ true → IsGoodState (after_event s (Ready transaction part))
     go (Enlistment enlistment manager information) counted some fits limits =
         add (Enlistment enlistment manager information) (adds-enlistment s transaction t start (record { enlistment = enlistment; manager = manager; information = information })
-        (and_parts (counts_from_1 enlistment) (list_all counts_from_1 (manager ∷ [])) (and_parts (counts_from_1 transaction) (list_all counts_from_1 (enlistment ∷ manager ∷ [])) counted).1).0 fits) limits
+        (and_parts (is_of_object enlistment) (list_all is_of_object (manager ∷ [])) (and_parts (is_of_object transaction) (list_all is_of_object (enlistment ∷ manager ∷ [])) counted).1).0 fits) limits
     go (Changes cs) counted some fits limits =
         let parts = and_parts (not (has_changes_part t) && are_recorded_changes cs) (changes_apply s (Some transaction) cs) fits in
         let first = and_parts (not (has_changes_part t)) (are_recorded_changes cs) parts.0 in

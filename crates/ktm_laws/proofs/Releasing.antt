@@ -7,33 +7,51 @@ use Rattle.std.specs.Prelude.{nat_le}
 use Rattle.ktm_base.specs.declared.id.Id.{Id}
 use Rattle.ktm_types.specs.declared.change.Change.{Change}
 use Rattle.ktm_types.specs.declared.event.Event.{Event}
+use Rattle.ktm_types.specs.declared.object.Handle.{Handle}
 use Rattle.ktm_types.specs.declared.object.Object.{Object}
 use Rattle.ktm_types.specs.declared.object.Transaction.{Transaction}
-use Rattle.ktm_world.specs.Changes.{changed, is_make, node_of}
+use Rattle.ktm_world.specs.Changes.{changed, node_of}
 use Rattle.ktm_world.specs.Committed.{Committed, versions_after, with_change}
 use Rattle.ktm_world.specs.Conflicts.{holds_now, writes}
 use Rattle.ktm_world.specs.Durable.{Durable, is_before, decide_recorded, finish_recorded, after_event, after_events, recorded_at}
 use Rattle.ktm_world.specs.Files.{FilesNow, FirstOpen, OpenFile, OwnChanges, own_changes}
-use Rattle.ktm_world.specs.HandleCalls.{has_handle}
+use Rattle.ktm_world.specs.HandleCalls.{has_handle, is_handle}
 use Rattle.ktm_world.specs.Holds.{is_in}
 use Rattle.ktm_world.specs.Labels.{holds_of}
 use Rattle.ktm_world.specs.Lawful.{undecided}
 use Rattle.ktm_world.specs.Present.{Present}
 use Rattle.ktm_world.specs.Transactions.{is_of, is_undecided, same_id, change_at, transaction_at}
 use Rattle.ktm_world.specs.Tree.{is_file, content_of}
-use Rattle.ktm_laws.specs.FilesKept.{AreInOrder, is_created_before}
 use Rattle.ktm_laws.specs.Footprint.{IsIn, ListsLaw}
 use Rattle.ktm_laws.specs.Formed.{FormedLaw}
 use Rattle.ktm_laws.specs.GoodState.{each_pair}
 use Rattle.ktm_laws.specs.SoundFiles.{IsSoundFiles, is_undecided_in, is_drawn_node, is_plain_well, numbers_made}
+use Rattle.ktm_laws.proofs.Applying.{node-elsewhere}
 use Rattle.ktm_laws.proofs.CoursesKept.{is_no_boot}
 use Rattle.ktm_laws.proofs.Diamonds.{no_test, meets-not}
 use Rattle.ktm_laws.proofs.Elements.{IsIn-kept, list_all-at, list_all-from, list_any-at, list_any-from}
 use Rattle.ktm_laws.proofs.Lists.{IsIn-left}
-use Rattle.ktm_laws.proofs.Passing.{Spares, passed, passed-sound, next-enough, drawn-made, made-in}
-use Rattle.ktm_laws.proofs.Reserving.{own_changes-found, own-apply, own-apart, holds-apart, bytes-elsewhere, writer-alone}
+use Rattle.ktm_laws.proofs.Passing.{Spares, passed, passed-sound, next-enough, drawn-made, made-number}
+use Rattle.ktm_laws.proofs.Reserving.{own_changes-found, own-apply, own-apart, holds-apart, writer-alone}
 use Rattle.ktm_laws.proofs.Tables.{same_id-equal, same_id-from, same_id-sym, before_other}
 use Rattle.ktm_laws.proofs.Waiting.{apart-from-none}
+
+-- ---- what stands once
+
+-- does the first transaction come before the second
+abbrev pub is_created_before : Transaction → Transaction → Bool
+is_created_before t u = is_before t.id u.id
+
+-- is the label of the second handle another one than that of the first, or of another process
+abbrev pub is_labelled_apart : Handle → Handle → Bool
+is_labelled_apart a b = not (is_handle a.process a.label b)
+
+-- transactions and handles stand once
+pub record AreInOrder (x : Present) : Type 0 where
+  -- transactions stand by rising Id
+  pub transactions_rise : each_pair is_created_before x.transactions.items ≡ true
+  -- no label of a process is bound twice
+  pub labels_differ : each_pair is_labelled_apart x.handles ≡ true
 
 -- ---- lists
 
@@ -143,10 +161,6 @@ pub versions-store : (cs : List Change) (c d : Committed) → c.tree ≡ d.tree 
 versions-store [] c d trees versions = versions
 versions-store (change ∷ cs) c d trees versions = versions-store cs (with_change c change) (with_change d change) (ap (λ t. changed t change) trees) (ap (λ vs. versions_after vs change) versions)
 
--- a change makes its node
-made-number : (cs : List Change) (c : Change) → IsIn c cs → is_make c ≡ true → IsIn (node_of c) (numbers_made cs)
-made-number cs c there make = made-in cs (node_of c) (list_any-from (λ change. is_make change && node_of change == node_of c) cs c there (and_from _ _ make (eq-eqb (node_of c) (node_of c) refl)))
-
 -- ---- nothing is committed
 
 pub spares-none : (x : Present) (keep : Option Id → Bool) → IsSoundFiles x → Spares x [] keep x.files.table.next_node
@@ -209,7 +223,7 @@ module _ (lists : ListsLaw) (formed : FormedLaw) where
     ];
     plain = λ o there' plain may.
         let touched = or_parts (is_in (holds_now x.files t.id).nodes o.node) _ (writer-alone x sound o t there' plain may there) in
-        ap (λ n. is_some (content_of n)) (bytes-elsewhere (own_changes x.files.table.own t.id) x.files.tree o.node (own-apply x sound t.id) (λ mine.
+        ap (λ n. is_some (content_of n)) (node-elsewhere (own_changes x.files.table.own t.id) x.files.tree o.node (own-apply x sound t.id) (λ mine.
         eqb-false o.node o.node (no_test (λ m. m == o.node) o.node (holds_now x.files t.id).nodes touched.0 (IsIn-left o.node (map node_of (own_changes x.files.table.own t.id)) _ mine)) refl))
         ∙ (spares-none x (λ t. true) sound).plain o there' plain may;
     next = next-enough (own_changes x.files.table.own t.id) x.files.table.next_node (λ n made. ltb-true n x.files.table.next_node (and_parts (nat_le 2 n) _ (drawn-made x sound t.id n made)).1);

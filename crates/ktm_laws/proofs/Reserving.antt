@@ -9,7 +9,7 @@ use Rattle.ktm_base.specs.declared.id.Id.{Id}
 use Rattle.ktm_types.specs.declared.change.Change.{Change}
 use Rattle.ktm_types.specs.declared.change.Change.TheVariants.{Make, Put, Cut, Move, Drop}
 use Rattle.ktm_types.specs.declared.object.Transaction.{Transaction}
-use Rattle.ktm_world.specs.Changes.{changed, changed_all, applies, apply_all, changes_bytes, is_make, node_of}
+use Rattle.ktm_world.specs.Changes.{changed_all, applies, apply_all, changes_bytes, is_make, node_of}
 use Rattle.ktm_world.specs.Committed.{Committed, with_change}
 use Rattle.ktm_world.specs.Conflicts.{changes_outdated, touches_plain_writer, overwrites_opened, conflicts, meets_other, holds_now, written_by, users, writes}
 use Rattle.ktm_world.specs.Durable.{acts_of, is_made_in}
@@ -19,15 +19,14 @@ use Rattle.ktm_world.specs.Holds.{Act, Holds, holds_by, directories_of, each_cha
 use Rattle.ktm_world.specs.Lawful.{are_apart, is_alone, is_touched_by, others, undecided}
 use Rattle.ktm_world.specs.Present.{Present}
 use Rattle.ktm_world.specs.Transactions.{is_of, is_undecided, same_id}
-use Rattle.ktm_world.specs.Tree.{Tree, IsWellFormed, node_at, bytes_of, bytes_or_none, content_of}
+use Rattle.ktm_world.specs.Tree.{Tree, IsWellFormed, bytes_of, bytes_or_none, content_of}
 use Rattle.ktm_laws.specs.Footprint.{IsIn, Footprint, footprint, AreFootprintsApart, ListsLaw, Stays}
 use Rattle.ktm_laws.specs.Reservations.{files_committed, IsLeft, ReservationsLaw}
 use Rattle.ktm_laws.specs.SoundFiles.{IsSoundFiles, files_apart, is_drawn_node, made_or_opened, numbers_made}
-use Rattle.ktm_laws.proofs.Applying.{Applies-from, Fits-from}
+use Rattle.ktm_laws.proofs.Applying.{node-elsewhere}
 use Rattle.ktm_laws.proofs.Diamonds.{IsIn-map, no_test, none-from, meets-not}
 use Rattle.ktm_laws.proofs.Elements.{IsIn-filter, IsIn-kept, IsIn-flat_map, list_all-at, list_any-at}
 use Rattle.ktm_laws.proofs.Lists.{IsIn-left, IsIn-cases, AreFootprintsApart-sym}
-use Rattle.ktm_laws.proofs.Lookups.{node_at-elsewhere}
 use Rattle.ktm_laws.proofs.Meeting.{meeting_law, are_apart-to}
 use Rattle.ktm_laws.proofs.Waiting.{apart-from-none}
 use Rattle.ktm_laws.proofs.Tables.{same_id-equal, same_id-sym}
@@ -91,15 +90,6 @@ of_other gone id i other same = not_from_false _ (subst (λ (j : Id). same_id j 
 pub of_other-open : (gone id : Id) (t : Option Id) → same_id gone id ≡ false → is_of id t ≡ true → not (is_of gone t) ≡ true
 of_other-open gone id None other of = refl
 of_other-open gone id (Some i) other of = not_from_false _ (subst (λ (j : Id). same_id gone j ≡ false) (same_id-equal id i of) other)
-
--- ---- bytes
-
--- a file that no change is of keeps its bytes
-pub bytes-elsewhere : (cs : List Change) (tree : Tree) (file : ℕ) → apply_all tree cs ≡ true → (IsIn file (map node_of cs) → ⊥) → node_at (changed_all tree cs) file ≡ node_at tree file
-bytes-elsewhere [] tree file all other = refl
-bytes-elsewhere (c ∷ cs) tree file all other =
-    let parts = and_parts (applies tree c) (apply_all (changed tree c) cs) all in
-    bytes-elsewhere cs (changed tree c) file parts.1 (λ there. other (inr there)) ∙ node_at-elsewhere tree c (Fits-from tree c (Applies-from tree c parts.0)) file (λ e. other (inl e))
 
 -- ---- what holds come to
 
@@ -247,7 +237,7 @@ module _ (lists : ListsLaw) where
       square = (lists files.tree cs mine formed all all' apart).0
 
       kept : (file : ℕ) → IsIn file (map node_of mine) → bytes_of after.tree file ≡ bytes_of files.tree file
-      kept file there = ap (λ t. bytes_of t file) tree ∙ ap (λ n. bytes_or_none (content_of n)) (bytes-elsewhere cs files.tree file all (λ there'. apart.nodes file there' there))
+      kept file there = ap (λ t. bytes_of t file) tree ∙ ap (λ n. bytes_or_none (content_of n)) (node-elsewhere cs files.tree file all (λ there'. apart.nodes file there' there))
 
       fixed : (file : ℕ) (o : Option FirstOpen) → (is_some o || is_in (map node_of mine) file) ≡ true → fixed_bytes after file o ≡ fixed_bytes files file o
       fixed file (Some o) is = refl

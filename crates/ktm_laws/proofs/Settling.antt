@@ -2,8 +2,8 @@
 use Rattle.std.proofs.Common.{◌≡◌, ◌&&◌, ◌||◌, not, true, false, List, [], ◌∷◌, ◌++◌, map, filter, drop, Option, Some, None, refl, sym, ◌∙◌, ap, subst, inl, inr, append_assoc, ℕ}
 use Rattle.std.proofs.lemmas.Bool.{cases_Bool, or_left, not_from_false, true≢false, and_from}
 use Rattle.std.proofs.lemmas.List.{append-nil}
-use Rattle.ktm_laws.specs.Numbers.{has_number, names_objects}
-use Rattle.ktm_laws.specs.Grammatical.{counts_from_1, ids_of}
+use Rattle.ktm_laws.specs.GoodState.{is_of_object}
+use Rattle.ktm_laws.specs.Grammatical.{ids_of, names_objects}
 use Rattle.ktm_laws.proofs.Makings.{counted-parts}
 use Rattle.std.specs.List.{list_all}
 use Rattle.ktm_base.specs.declared.id.Id.{Id}
@@ -182,17 +182,17 @@ undecided-one SinglePhase t one is = is
 undecided-one _ t one is = absurd (true≢false (sym one))
 
 -- what was drawn can be the Id of an object
-object-counted : (boot last : ℕ) (id : Id) → is_counted boot last id ≡ true → (counts_from_1 id && has_number id) ≡ true
+object-counted : (boot last : ℕ) (id : Id) → is_counted boot last id ≡ true → is_of_object id ≡ true
 object-counted boot last id is = let parts = counted-parts boot last id is in and_from _ _ (and_from _ _ parts.0 parts.2) parts.3
 
-object-known : (x : Present) (t : Transaction) (caller : Option Id) → IsSoundCourse x → IsIn t (x.transactions).items → (id : Id) → Knows (course_of x t caller) id → (counts_from_1 id && has_number id) ≡ true
-object-known x t caller sound there id (inl is) = subst (λ id. (counts_from_1 id && has_number id) ≡ true) (sym is)
+object-known : (x : Present) (t : Transaction) (caller : Option Id) → IsSoundCourse x → IsIn t (x.transactions).items → (id : Id) → Knows (course_of x t caller) id → is_of_object id ≡ true
+object-known x t caller sound there id (inl is) = subst (λ id. is_of_object id ≡ true) (sym is)
     (object-counted _ _ t.id (list_all-at (λ (t : Transaction). is_counted (x.recorded).boots (x.transactions).last_transaction t.id) (x.transactions).items sound.transactions_counted t there))
-object-known x t caller sound there id (inr (e, in_es, inl is)) = subst (λ id. (counts_from_1 id && has_number id) ≡ true) (sym is)
+object-known x t caller sound there id (inr (e, in_es, inl is)) = subst (λ id. is_of_object id ≡ true) (sym is)
     (object-counted _ _ e.id (list_all-at (λ (e : Enlistment). is_counted (x.recorded).boots (x.transactions).last_enlistment e.id) (x.transactions).enlistments sound.enlistments_counted e in_es))
 object-known x t caller sound there id (inr (e, in_es, inr is)) =
     let m = list_any-at (λ (m : Manager). same_id m.id e.manager) x.managers (list_all-at (λ (e : Enlistment). has_manager x.managers e.manager) (x.transactions).enlistments sound.managers_there e in_es) in
-    subst (λ id. (counts_from_1 id && has_number id) ≡ true) (same_id-equal (m.0).id e.manager m.2 ∙ sym is)
+    subst (λ id. is_of_object id ≡ true) (same_id-equal (m.0).id e.manager m.2 ∙ sym is)
     (object-counted _ _ (m.0).id (list_all-at (λ (m : Manager). is_counted (x.recorded).boots (x.transactions).last_manager m.id) x.managers sound.managers_counted m.0 m.1))
 
 pub sound-arrived : (x : Present) (t : Transaction) (caller : Option Id) (d : Course) (reply : Reply) → IsSoundCourse x → IsIn t (x.transactions).items → Arrives (x.recorded).boots (course_of x t caller) d
@@ -228,7 +228,7 @@ sound-arrived x t caller d reply sound there arrives known =
     own = (arrives.moved).events (AreOwn-none (course_of x t caller))
 
     objects : list_all names_objects d.events ≡ true
-    objects = list_all-from names_objects d.events (λ event is. list_all-from (λ id. counts_from_1 id && has_number id) (ids_of event) (λ id named. object-known x t caller sound there id (own.named event is id named)))
+    objects = list_all-from names_objects d.events (λ event is. list_all-from (is_of_object) (ids_of event) (λ id named. object-known x t caller sound there id (own.named event is id named)))
 
     events : NoBoots d.events
     events = own.none

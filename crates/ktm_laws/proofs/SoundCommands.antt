@@ -1,6 +1,6 @@
 -- Every command leaves a machine sound, and so does the passing of time.
 use Rattle.std.proofs.Common.{◌≡◌, ℕ, Bool, List, [], ◌∷◌, Option, Some, None, refl, not, sym, subst}
-use Rattle.ktm_laws.specs.Numbers.{NamedLaw}
+use Rattle.ktm_laws.specs.NamedObjects.{NamedLaw}
 use Rattle.ktm_base.specs.declared.id.Pid.{Pid}
 use Rattle.ktm_base.specs.declared.refusal.Refusal.{Refusal}
 use Rattle.ktm_base.specs.declared.refusal.Refusal.TheVariants.{LogFull, MachineDown}

@@ -1,6 +1,6 @@
 -- What a restart of a good state makes is sound.
 use Rattle.std.specs.Prelude.{if◌then◌else◌}
-use Rattle.std.proofs.Common.{◌≡◌, ℕ, ◌+◌, ◌<◌, ◌≤◌, ◌^◌, ◌&&◌, ◌||◌, not, Bool, true, false, List, [], ◌∷◌, ◌++◌, length, map, filter, nat_lt, nat_le, Option, Some, None, is_some, is_none, refl, sym, ◌∙◌, ap, subst, arith, inl, inr, ◌⊎◌}
+use Rattle.std.proofs.Common.{◌≡◌, ℕ, ◌+◌, ◌≤◌, ◌&&◌, ◌||◌, not, Bool, true, false, List, [], ◌∷◌, ◌++◌, length, map, filter, nat_lt, nat_le, Option, Some, None, is_some, is_none, refl, sym, ◌∙◌, ap, subst, arith, inl, inr, ◌⊎◌}
 use Rattle.std.proofs.lemmas.Bool.{cases_Bool, and_parts, and_from, and_left, or_cases, or_left, or_right, lt-ltb, le-leb, leb-true, true≢false, not-true, not_from_false, false_from_ne_true}
 use Rattle.std.proofs.lemmas.List.{map-append}
 use Rattle.std.proofs.lemmas.Option.{same_Some}
@@ -16,17 +16,16 @@ use Rattle.ktm_types.specs.declared.object.Phase.TheVariants.{InDoubt, Committin
 use Rattle.ktm_types.specs.declared.object.Transaction.{Transaction}
 use Rattle.ktm_types.specs.declared.object.TransactionOutcome.{TransactionOutcome}
 use Rattle.ktm_types.specs.declared.options.EnlistmentKind.{EnlistmentKind}
-use Rattle.ktm_world.specs.Durable.{Durable, Recorded, after_event, enlistments_in, enlistments_of, superior_ids, has_undone, is_before, is_decided, is_held, is_manager, stand}
+use Rattle.ktm_world.specs.Durable.{Durable, Recorded, after_event, after_events, enlistments_in, enlistments_of, superior_ids, has_undone, is_before, is_decided, is_held, is_manager, stand}
 use Rattle.ktm_world.specs.Enlistments.{Enlistment, Manager, is_superior, is_unfinished, is_durable_at, superior_of}
-use Rattle.ktm_world.specs.Limits.{most_information}
+use Rattle.ktm_world.specs.Limits.{most_information, most_number}
 use Rattle.ktm_world.specs.Logs.{Group}
 use Rattle.ktm_world.specs.Present.{Present}
 use Rattle.ktm_world.specs.Transactions.{same_id}
-use Rattle.ktm_world.specs.World.{ManagerPast, manager_now, present, opened, own_events, done_if, enlistment_back, superior_back, enlistments_back, with_enlistment, by_rising_id, is_enlistment_part, is_brought_back, transaction_back, back}
+use Rattle.ktm_world.specs.World.{ManagerPast, manager_now, present, opened, own_events, own_group, done_if, enlistment_back, superior_back, enlistments_back, with_enlistment, by_rising_id, is_enlistment_part, is_brought_back, transaction_back, back}
 use Rattle.ktm_laws.specs.Footprint.{IsIn}
-use Rattle.ktm_laws.specs.GoodState.{each_pair, is_drawn, enlisted_in, superiors_in, enlisted, is_held_well, IsGoodState}
+use Rattle.ktm_laws.specs.GoodState.{each_pair, is_of_object, is_drawn, enlisted_in, superiors_in, enlisted, is_held_well, IsGoodState}
 use Rattle.ktm_laws.specs.SoundCourse.{IsSoundCourse, is_note_of, is_idle, is_waiting, is_part_as, is_counted, has_transaction, has_manager, are_not_both_superiors, is_superior_durable, is_unrecovered_well, is_outcome_of, is_of_its_boot, has_superior_as_asked, is_enlistment_as, are_enlistments_as_asked, is_awaited, is_recorded_as_asked, is_alone_in_one_phase}
-use Rattle.ktm_laws.specs.Numbers.{has_number, has_numbers}
 use Rattle.ktm_laws.proofs.Diamonds.{IsIn-right}
 use Rattle.ktm_laws.proofs.Lists.{IsIn-left, IsIn-cases, IsIn-unmap}
 use Rattle.ktm_laws.proofs.Elements.{IsIn-filter, IsIn-kept, IsIn-flat_map, IsIn-unflat, list_all-at, list_all-from, list_any-at, list_any-from, each_pair-filter, each_pair-from, each_pair-append, each_pair-left, each_pair-right, each_pair-across}
@@ -196,7 +195,20 @@ bool_cases P false on off = off refl
 
 -- ---- the machine
 
-module _ (base : Durable) (room : ℕ) (log : List Group) (good : IsGoodState (stand base log)) (image : (stand base log).image < 2 ^ 16) (numbers : has_numbers (stand base log) ≡ true) where
+-- what the restart records is its boot, and that participants are done
+no-boots : (rs : List Recorded) → NoBoots (flat_map own_events rs)
+no-boots [] = NoBoots-none
+no-boots (t ∷ rs) = NoBoots-append (NoBoots-append (done (has_undone DonePart.Files t) t.id DonePart.Files) (done (has_undone DonePart.Keys t) t.id DonePart.Keys)) (no-boots rs)
+  where
+    done : (b : Bool) (id : Id) (part : DonePart) → NoBoots (done_if b id part)
+    done true id part = NoBoots-one (Done id part) refl
+    done false id part = NoBoots-none
+
+-- with one boot more than the state that was found
+pub booted : (s : Durable) → ((after_events s (own_group s)).boots ≡ s.boots + 1) × ((after_events s (own_group s)).image ≡ s.image)
+booted s = events-kept (flat_map own_events s.transactions) (after_event s (Boot (s.boots + 1))) (no-boots s.transactions)
+
+module _ (base : Durable) (room : ℕ) (log : List Group) (good : IsGoodState (stand base log)) where
   abbrev s : Durable
   s = stand base log
 
@@ -219,22 +231,15 @@ module _ (base : Durable) (room : ℕ) (log : List Group) (good : IsGoodState (s
   abbrev ms : List Manager
   ms = map manager_now (map manager_back s.managers)
 
-  number-parts : (list_all (λ (t : Recorded). has_number t.id) s.transactions ≡ true) × (list_all has_number s.managers ≡ true) × (list_all (λ (e : Superior). has_number e.enlistment) (flat_map enlisted s.transactions) ≡ true)
-  number-parts =
-      let a = and_parts (list_all (λ (t : Recorded). has_number t.id) s.transactions && list_all has_number s.managers) _ numbers in
-      let b = and_parts (list_all (λ (t : Recorded). has_number t.id) s.transactions) (list_all has_number s.managers) a.0 in
-      (b.0, b.1, a.1)
+  drawn-boot : (id : Id) → is_drawn s id ≡ true → id.boot ≤ s.boots
+  drawn-boot id drawn = leb-true _ _ (and_parts (is_of_object id) (nat_le id.boot s.boots) drawn).1
 
-  drawn-parts : (id : Id) → is_drawn s id ≡ true → (1 ≤ id.boot) × (id.boot ≤ s.boots) × (1 ≤ id.number)
-  drawn-parts id drawn =
-      let a = and_parts (nat_le 1 id.boot && nat_le id.boot s.boots) (nat_le 1 id.number) drawn in
-      let b = and_parts (nat_le 1 id.boot) (nat_le id.boot s.boots) a.0 in
-      (leb-true _ _ b.0, leb-true _ _ b.1, leb-true _ _ a.1)
-
-  counted : (id : Id) → is_drawn s id ≡ true → has_number id ≡ true → is_counted (s.boots + 1) 0 id ≡ true
-  counted id drawn number = let parts = drawn-parts id drawn in
-      and_from _ _ (and_from _ _ (and_from _ _ (and_from _ _ (le-leb 1 id.boot parts.0) (le-leb id.boot (s.boots + 1) (omega (arith, parts.1)))) (le-leb 1 id.number parts.2)) number)
-      (or_left _ _ (lt-ltb id.boot (s.boots + 1) (omega (arith, parts.1))))
+  counted : (id : Id) → is_drawn s id ≡ true → is_counted (s.boots + 1) 0 id ≡ true
+  counted id drawn =
+      let number = and_parts (nat_le 1 id.boot && nat_le 1 id.number) (nat_le id.number most_number) (and_parts (is_of_object id) (nat_le id.boot s.boots) drawn).0 in
+      let from = and_parts (nat_le 1 id.boot) (nat_le 1 id.number) number.0 in
+      let boot = drawn-boot id drawn in
+      and_from _ _ (and_from _ _ (and_from _ _ (and_from _ _ from.0 (le-leb id.boot (s.boots + 1) (omega (arith, boot)))) from.1) number.1) (or_left _ _ (lt-ltb id.boot (s.boots + 1) (omega (arith, boot))))
 
   -- the transaction that an enlistment was brought back with
   record From (e : Enlistment) : Type 0 where
@@ -343,16 +348,16 @@ module _ (base : Durable) (room : ℕ) (log : List Group) (good : IsGoodState (s
     transactions_rise = each_pair-map (λ (t u : Transaction). is_before t.id u.id) (λ (t u : Recorded). is_before t.id u.id) transaction_back (λ t u. refl) (back s) ∙ each_pair-filter (λ (t u : Recorded). is_before t.id u.id) is_brought_back s.transactions good.transactions_rise;
     enlistments_rise = rises;
     managers_rise = each_pair-map (λ (m n : Manager). is_before m.id n.id) (λ (m n : ManagerPast). is_before m.id n.id) manager_now (λ m n. refl) (map manager_back s.managers) ∙ each_pair-map (λ (m n : ManagerPast). is_before m.id n.id) is_before manager_back (λ m n. refl) s.managers ∙ good.managers_rise;
-    transactions_counted = each (λ t. is_counted (s.boots + 1) 0 t.id) (λ t there brought. counted t.id (list_all-at (λ (t : Recorded). is_drawn s t.id) s.transactions good.transactions_drawn t there) (list_all-at (λ (t : Recorded). has_number t.id) s.transactions number-parts.0 t there));
+    transactions_counted = each (λ t. is_counted (s.boots + 1) 0 t.id) (λ t there brought. counted t.id (list_all-at (λ (t : Recorded). is_drawn s t.id) s.transactions good.transactions_drawn t there));
     enlistments_counted = list_all-from (λ (e : Enlistment). is_counted (s.boots + 1) 0 e.id) es (λ e there.
-        counted e.id (enlisted-fact (λ (e : Superior). is_drawn s e.enlistment) good.enlistments_drawn e there) (enlisted-fact (λ (e : Superior). has_number e.enlistment) number-parts.2 e there));
+        counted e.id (enlisted-fact (λ (e : Superior). is_drawn s e.enlistment) good.enlistments_drawn e there));
     managers_counted = list_all-map (λ (m : Manager). is_counted (s.boots + 1) 0 m.id) (λ (m : ManagerPast). is_counted (s.boots + 1) 0 m.id) manager_now (λ m. refl) (map manager_back s.managers)
         ∙ list_all-map (λ (m : ManagerPast). is_counted (s.boots + 1) 0 m.id) (λ id. is_counted (s.boots + 1) 0 id) manager_back (λ id. refl) s.managers
-        ∙ list_all-from (λ id. is_counted (s.boots + 1) 0 id) s.managers (λ id there. counted id (list_all-at (is_drawn s) s.managers good.managers_drawn id there) (list_all-at has_number s.managers number-parts.1 id there));
+        ∙ list_all-from (λ id. is_counted (s.boots + 1) 0 id) s.managers (λ id there. counted id (list_all-at (is_drawn s) s.managers good.managers_drawn id there));
     labels_differ = refl;
     booted = omega arith;
     boots_fit = let left = good.boots_left in omega arith;
-    image_fits = image;
+    image_fits = good.image_fits;
     objects_there = refl;
     transactions_there = list_all-from (λ (e : Enlistment). has_transaction ts e.transaction) es (λ e there. let f = from e there in subst (λ id. has_transaction ts id ≡ true) (sym (f.is).transaction) (has-back f.t f.there f.brought));
     managers_there = list_all-from (λ (e : Enlistment). has_manager ms e.manager) es (λ e there. (manager-back e.manager (managers-known e there)).0);
@@ -368,7 +373,7 @@ module _ (base : Durable) (room : ℕ) (log : List Group) (good : IsGoodState (s
         ∙ list_all-map (λ (m : ManagerPast). list_all (is_note_of es m.id) m.queue) (λ id. true) manager_back (λ id. refl) s.managers ∙ list_all-from (λ id. true) s.managers (λ id there. refl);
     outcomes = each (λ t. is_outcome_of t.phase t) (λ t there brought. stages t brought (λ u. is_outcome_of u.phase u ≡ true) (λ held. refl) (λ commits. refl));
     boots = each (is_of_its_boot (s.boots + 1)) (λ t there brought.
-        let earlier' : nat_lt (t.id).boot (s.boots + 1) ≡ true = lt-ltb (t.id).boot (s.boots + 1) (let parts = drawn-parts t.id (list_all-at (λ (t : Recorded). is_drawn s t.id) s.transactions good.transactions_drawn t there) in omega (arith, parts.1)) in
+        let earlier' : nat_lt (t.id).boot (s.boots + 1) ≡ true = lt-ltb (t.id).boot (s.boots + 1) (let boot = drawn-boot t.id (list_all-at (λ (t : Recorded). is_drawn s t.id) s.transactions good.transactions_drawn t there) in omega (arith, boot)) in
         stages t brought (λ u. is_of_its_boot (s.boots + 1) u ≡ true) (λ held. rw earlier' refl) (λ commits. rw earlier' refl));
     superiors = each (has_superior_as_asked es) (λ t there brought. stages t brought (λ u. has_superior_as_asked es u ≡ true) (λ held. superior-back t there brought held) (λ commits. refl));
     enlistments = each (are_enlistments_as_asked es) (λ t there brought. list_all-from (λ (e : Enlistment). not (same_id e.transaction t.id) || is_enlistment_as (transaction_back t).phase e) es (λ e in_es. elim (cases_Bool (same_id e.transaction t.id)) [
@@ -383,7 +388,7 @@ module _ (base : Durable) (room : ℕ) (log : List Group) (good : IsGoodState (s
     unrecovered = list_all-from (is_unrecovered_well (s.boots + 1) ms) es (λ e there.
         let is = (from e there).is in
         or_right _ _ (and_from _ _ (and_from _ _ (and_from _ _ (and_from _ _ (and_from _ _
-        (lt-ltb (e.id).boot (s.boots + 1) (let parts = drawn-parts e.id (enlisted-fact (λ (e : Superior). is_drawn s e.enlistment) good.enlistments_drawn e there) in omega (arith, parts.1)))
+        (lt-ltb (e.id).boot (s.boots + 1) (let boot = drawn-boot e.id (enlisted-fact (λ (e : Superior). is_drawn s e.enlistment) good.enlistments_drawn e there) in omega (arith, boot)))
         (manager-back e.manager (managers-known e there)).1) (not_from_false _ is.read_only)) (not_from_false _ is.finished)) is.owes)
         (elim is.prepared [ inl above ↦ or_left _ _ above.0 | inr below ↦ or_right _ _ below.1 ])));
     information_fits = list_all-from (λ (e : Enlistment). nat_le (length e.information) most_information) es (λ e there. enlisted-fact (λ (e : Superior). nat_le (length e.information) most_information) good.information_fits e there);
@@ -400,16 +405,7 @@ module _ (base : Durable) (room : ℕ) (log : List Group) (good : IsGoodState (s
       rises : RiseEnlistments es
       rises = Rises-by_rising_id (flat_map enlistments_back (back s)) differ
 
-  -- what the restart records is its boot, and that participants are done
-  no-boots : (rs : List Recorded) → NoBoots (flat_map own_events rs)
-  no-boots [] = NoBoots-none
-  no-boots (t ∷ rs) = NoBoots-append (NoBoots-append (done (has_undone DonePart.Files t) t.id DonePart.Files) (done (has_undone DonePart.Keys t) t.id DonePart.Keys)) (no-boots rs)
-    where
-      done : (b : Bool) (id : Id) (part : DonePart) → NoBoots (done_if b id part)
-      done true id part = NoBoots-one (Done id part) refl
-      done false id part = NoBoots-none
-
   pub sound-opened : IsSoundCourse (present (opened base room log))
   sound-opened =
-      let kept = events-kept (flat_map own_events s.transactions) (after_event s (Boot (s.boots + 1))) (no-boots s.transactions) in
+      let kept = booted s in
       sound-alike y x (record { boots = sym kept.0; image = sym kept.1; transactions = refl; managers = refl; handles = refl; own = refl; settings = refl }) sound-y

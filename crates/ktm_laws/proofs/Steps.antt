@@ -1,5 +1,5 @@
 -- Events that change the boot, the resource managers, or the committed files and keys, and those that take a transaction out.
-use Rattle.std.proofs.Common.{◌≡◌, ℕ, ◌+◌, ◌-◌, ◌<◌, ◌≤◌, ◌^◌, ◌==◌, ◌&&◌, not, true, false, is_none, List, [], ◌∷◌, nat_lt, nat_le, Some, None, refl, sym, ◌∙◌, ap, subst, arith, inl, inr, ◌⊎◌}
+use Rattle.std.proofs.Common.{◌≡◌, ℕ, ◌+◌, ◌-◌, ◌<◌, ◌≤◌, ◌^◌, ◌==◌, ◌&&◌, not, true, false, is_none, List, [], ◌∷◌, nat_lt, Some, None, refl, sym, ◌∙◌, ap, subst, arith, inl, inr, ◌⊎◌}
 use Rattle.std.proofs.lemmas.Bool.{cases_Bool, and_parts, and_from, or_left, le-leb, ltb-true, eqb-true, not-true, true≢false, false_from_ne_true}
 use Rattle.std.specs.List.{list_all, list_any}
 use Rattle.ktm_base.specs.declared.id.Id.{Id}
@@ -14,31 +14,31 @@ use Rattle.ktm_world.specs.Keys.{OwnSettings, stored_all, is_good_setting, are_g
 use Rattle.ktm_world.specs.Transactions.{same_id}
 use Rattle.ktm_laws.specs.Footprint.{IsIn, footprint, AreFootprintsApart, ListsLaw}
 use Rattle.ktm_laws.specs.Formed.{FormedLaw}
-use Rattle.ktm_laws.specs.GoodState.{each_pair, is_drawn, IsGoodState}
-use Rattle.ktm_laws.specs.Grammatical.{counts_from_1, is_grammatical}
+use Rattle.ktm_laws.specs.GoodState.{each_pair, is_of_object, is_drawn, IsGoodState}
+use Rattle.ktm_laws.specs.Grammatical.{is_grammatical}
 use Rattle.ktm_laws.proofs.Diamonds.{no_test}
 use Rattle.ktm_laws.proofs.Elements.{list_all-at, list_all-from, list_any-at, list_any-from}
 use Rattle.ktm_laws.proofs.Settings.{stored_all-rises, stored_all-good}
 use Rattle.ktm_laws.proofs.Tables.{is_before-then, is_before-turned, recorded_at-there, Table-filter, Table-map}
 use Rattle.ktm_laws.proofs.Fitting.{Fitting, Beside, Rest, TableOf, good-from, table-of, rest-of}
 use Rattle.ktm_laws.proofs.Committing.{next-rises, next-to, below-changed_all, limits-counted, with_all, Rest-with, Rest-transactions, is_drawn-later, Core-carried, Fitting-carried, Beside-carried}
-use Rattle.ktm_laws.proofs.Waiting.{in_others-plain, in_others, settings-good, changes_apply-all, changes_apply-apart, apart-from-none, SparesWaiting, waiting-apply, waiting-holds}
+use Rattle.ktm_laws.proofs.Waiting.{in_others-plain, in_others, settings-good, changes_apply-all, changes_apply-apart, apart-from-none, SparesWaiting, waiting-apply, waiting-new, waiting-holds}
 
 -- a good state stays good by the event, where it applies
 abbrev pub Keeps : Durable → Event → Type 0
 Keeps s event = IsGoodState s → is_grammatical event ≡ true → fact_applies s event ≡ true → is_within_limits (fact_of s event) ≡ true → s.events + 1 < 2 ^ 63 → IsGoodState (after_event s event)
 
 -- an Id of the present boot that counts from 1
-pub is_drawn-now : (s : Durable) (id : Id) → counts_from_1 id ≡ true → id.boot ≡ s.boots → is_drawn s id ≡ true
-is_drawn-now s id counts now =
-    let parts = and_parts (nat_le 1 id.boot) (nat_le 1 id.number) counts in and_from _ _ (and_from _ _ parts.0 (le-leb _ _ (omega (arith, now)))) parts.1
+pub is_drawn-now : (s : Durable) (id : Id) → is_of_object id ≡ true → id.boot ≡ s.boots → is_drawn s id ≡ true
+is_drawn-now s id counts now = and_from _ _ counts (le-leb _ _ (omega (arith, now)))
 
 -- ---- boots
 
 pub boot-keeps : (s : Durable) (boot : ℕ) → Keeps s (Boot boot)
 boot-keeps s boot good spelled applies limits few = good-from s' (Table-filter (Fitting s) (Beside s) (Fitting s') (Beside s') (λ t. not (is_ready t.stage)) s.transactions (table-of s good)
-    (λ t there keep fits. record { core = Core-carried s s' t later (λ m is. is) (omega arith) fits.core.apply fits.core; ready = or_left _ _ keep })
+    (λ t there keep fits. record { core = Core-carried s s' t later (λ m is. is) (omega arith) fits.core.apply fits.core.new fits.core; ready = or_left _ _ keep })
     (λ t u there there' keep keep' other sides. Beside-carried s s' t u refl sides)) record {
+      image_fits = rest.image_fits;
       managers_rise = rest.managers_rise;
       managers_drawn = list_all-from (is_drawn s') s.managers (λ id there. is_drawn-later s s' id later (list_all-at (is_drawn s) s.managers rest.managers_drawn id there));
       limits = limits-counted (fact_of s (Boot boot)) (s.events + 1) limits;
@@ -103,8 +103,9 @@ rises-with_manager (a ∷ ids) id rises new =
 
 pub made-keeps : (s : Durable) (manager : Id) → Keeps s (MadeRm manager)
 made-keeps s manager good spelled applies limits few = good-from s' (Table-map (Fitting s) (Beside s) (Fitting s') (Beside s') s.transactions (table-of s good)
-    (λ t there fits. Fitting-carried s s' t refl managers (omega arith) fits.core.apply fits)
+    (λ t there fits. Fitting-carried s s' t refl managers (omega arith) fits.core.apply fits.core.new fits)
     (λ t u there there' other sides. Beside-carried s s' t u refl sides)) record {
+      image_fits = rest.image_fits;
       managers_rise = rises-with_manager s.managers manager rest.managers_rise (not-true _ parts.1);
       managers_drawn = list_all-from (is_drawn s') (with_manager s.managers manager) (λ id there. elim (IsIn-with_manager s.managers manager id there) [
         | inl e ↦ subst (λ (x : Id). is_drawn s x ≡ true) (sym e) (is_drawn-now s manager counts (eqb-true _ _ parts.0))
@@ -130,8 +131,8 @@ made-keeps s manager good spelled applies limits few = good-from s' (Table-map (
     parts : ((manager.boot == s.boots) ≡ true) × (not (is_manager s manager) ≡ true)
     parts = and_parts (manager.boot == s.boots) (not (is_manager s manager)) applies
 
-    counts : counts_from_1 manager ≡ true
-    counts = (and_parts (counts_from_1 manager) true (and_parts (list_all counts_from_1 (manager ∷ [])) true spelled).0).0
+    counts : is_of_object manager ≡ true
+    counts = (and_parts (is_of_object manager) true (and_parts (list_all is_of_object (manager ∷ [])) true spelled).0).0
 
     managers : (m : Id) → is_manager s m ≡ true → is_manager s' m ≡ true
     managers m is =
@@ -142,7 +143,7 @@ made-keeps s manager good spelled applies limits few = good-from s' (Table-map (
 
 pub undo-keeps : (s : Durable) (transaction : Id) → Keeps s (Undo transaction)
 undo-keeps s transaction good spelled applies limits few = good-from s' (Table-filter (Fitting s) (Beside s) (Fitting s') (Beside s') (λ t. not (same_id t.id transaction)) s.transactions (table-of s good)
-    (λ t there keep fits. Fitting-carried s s' t refl (λ m is. is) (omega arith) fits.core.apply fits)
+    (λ t there keep fits. Fitting-carried s s' t refl (λ m is. is) (omega arith) fits.core.apply fits.core.new fits)
     (λ t u there there' keep keep' other sides. Beside-carried s s' t u refl sides))
     (Rest-transactions s (without_recorded s.transactions transaction) (s.events + 1) (rest-of s good) (limits-counted (fact_of s (Undo transaction)) (s.events + 1) limits) few)
   where
@@ -175,7 +176,7 @@ module _ (lists : ListsLaw) (formed : FormedLaw) where
       → is_within_limits (with_all s (changed_all s.tree cs) (stored_all s.keys ss) (next_after_all s.next_node cs) s.transactions (s.events + 1)) ≡ true → s.events + 1 < 2 ^ 63
       → IsGoodState (with_all s (changed_all s.tree cs) (stored_all s.keys ss) (next_after_all s.next_node cs) s.transactions (s.events + 1))
   commit-keeps s cs ss good all spares good_settings limits few = good-from s' (Table-map (Fitting s) (Beside s) (Fitting s') (Beside s') s.transactions table
-      (λ t there fits. Fitting-carried s s' t refl (λ m is. is) (next-rises cs s.next_node) (waiting-apply lists s good.files cs all t fits.core.changes fits.core.apply (spares t there)) fits)
+      (λ t there fits. Fitting-carried s s' t refl (λ m is. is) (next-rises cs s.next_node) (waiting-apply lists s good.files cs all t fits.core.changes fits.core.apply (spares t there)) (waiting-new lists s good.files cs all t fits.core.changes fits.core.new (spares t there)) fits)
       (λ t u there there' other sides. Beside-committed s s' t u
       (waiting-holds lists s good.files cs all t (table.fit t there).core.apply (spares t there)) (waiting-holds lists s good.files cs all u (table.fit u there').core.apply (spares u there')) sides))
       (Rest-committed s cs ss s.transactions (rest-of s good) all good_settings limits few)

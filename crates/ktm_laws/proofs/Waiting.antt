@@ -1,5 +1,5 @@
 -- What waits where other changes and settings come.
-use Rattle.std.proofs.Common.{◌≡◌, ◌==◌, ◌&&◌, ◌||◌, not, true, false, List, [], ◌∷◌, length, Option, Some, None, refl, sym, ◌∙◌, inl, inr}
+use Rattle.std.proofs.Common.{◌≡◌, ◌==◌, ◌&&◌, ◌||◌, not, true, false, is_none, List, [], ◌∷◌, length, Option, Some, None, refl, sym, ◌∙◌, ap, inl, inr}
 use Rattle.std.proofs.lemmas.Bool.{cases_Bool, and_parts, and_from, or_cases, eqb-true, not-true, not_from_false, true≢false, false_from_ne_true}
 use Rattle.std.specs.List.{list_all, list_any}
 use Rattle.ktm_base.specs.declared.id.Id.{Id}
@@ -8,7 +8,7 @@ use Rattle.ktm_types.specs.declared.event.DonePart.{DonePart}
 use Rattle.ktm_types.specs.declared.event.Part.{Part}
 use Rattle.ktm_types.specs.declared.event.Part.TheVariants.{Enlistment, Changes, Settings}
 use Rattle.ktm_world.specs.Changes.{changed_all, apply_all, node_of, is_make}
-use Rattle.ktm_world.specs.Durable.{Durable, Recorded, is_decided, is_part_of, changes_in, settings_in, changes_of, settings_of, has_changes_part, has_settings_part, is_some_change, holds_in, acts_of_all, is_made_in, others, changes_apply, settings_apply}
+use Rattle.ktm_world.specs.Durable.{Durable, Recorded, is_decided, is_part_of, changes_in, settings_in, changes_of, settings_of, has_changes_part, has_settings_part, is_some_change, is_new_in, holds_in, acts_of_all, is_made_in, others, changes_apply, settings_apply}
 use Rattle.ktm_world.specs.Holds.{meets}
 use Rattle.ktm_keyed.specs.Keyed.{is_rising}
 use Rattle.ktm_world.specs.Keys.{OwnSettings, is_good_setting, are_good_settings}
@@ -17,8 +17,10 @@ use Rattle.ktm_world.specs.Transactions.{same_id}
 use Rattle.ktm_world.specs.Tree.{Tree, IsWellFormed}
 use Rattle.ktm_laws.specs.Footprint.{IsIn, footprint, AreFootprintsApart, ListsLaw}
 use Rattle.ktm_laws.specs.GoodState.{are_kept_changes, are_kept_settings}
+use Rattle.ktm_laws.proofs.Applying.{node-elsewhere}
+use Rattle.ktm_laws.proofs.Diamonds.{IsIn-map}
 use Rattle.ktm_laws.proofs.Lists.{AreFootprintsApart-sym}
-use Rattle.ktm_laws.proofs.Elements.{IsIn-kept, list_all-at}
+use Rattle.ktm_laws.proofs.Elements.{IsIn-kept, list_all-at, list_all-from}
 use Rattle.ktm_laws.proofs.Meeting.{meeting_law}
 use Rattle.ktm_laws.proofs.Parts.{gathered-none}
 use Rattle.ktm_laws.proofs.Tables.{same_id-equal}
@@ -87,13 +89,17 @@ in_others s id u there waiting other =
     (and_from _ _ (not_from_false _ waiting) (not_from_false _ (false_from_ne_true _ (λ same. other (same_id-equal u.id id same)))))
 
 pub changes_apply-all : (s : Durable) (who : Option Id) (cs : List Change) → changes_apply s who cs ≡ true → apply_all s.tree cs ≡ true
-changes_apply-all s who cs apply = (and_parts (list_all _ (others s who)) (apply_all s.tree cs) apply).1
+changes_apply-all s who cs apply = (and_parts (list_all _ (others s who)) (apply_all s.tree cs) (and_parts _ (list_all (is_new_in s.tree) cs) apply).0).1
+
+-- and the nodes that they make are new
+pub changes_apply-new : (s : Durable) (who : Option Id) (cs : List Change) → changes_apply s who cs ≡ true → list_all (is_new_in s.tree) cs ≡ true
+changes_apply-new s who cs apply = (and_parts _ (list_all (is_new_in s.tree) cs) apply).1
 
 -- changes that apply are apart from those of others that wait
 pub changes_apply-apart : (s : Durable) (who : Option Id) (cs : List Change) → changes_apply s who cs ≡ true → (u : Recorded) → IsIn u (others s who) → apply_all s.tree (changes_of u) ≡ true
     → AreFootprintsApart (footprint s.tree cs) (footprint s.tree (changes_of u))
 changes_apply-apart s who cs apply u there all =
-    let parts = and_parts (list_all (λ t. not (list_any (meets (holds_in s t)) (acts_of_all s.tree cs)) && not (list_any (λ change. is_make change && is_made_in (changes_of t) (node_of change)) cs)) (others s who)) (apply_all s.tree cs) apply in
+    let parts = and_parts (list_all (λ t. not (list_any (meets (holds_in s t)) (acts_of_all s.tree cs)) && not (list_any (λ change. is_make change && is_made_in (changes_of t) (node_of change)) cs)) (others s who)) (apply_all s.tree cs) (and_parts _ (list_all (is_new_in s.tree) cs) apply).0 in
     let both = and_parts (not (list_any (meets (holds_in s u)) (acts_of_all s.tree cs))) (not (list_any (λ change. is_make change && is_made_in (changes_of u) (node_of change)) cs)) (list_all-at _ (others s who) parts.0 u there) in
     AreFootprintsApart-sym (footprint s.tree (changes_of u)) (footprint s.tree cs)
     (meeting_law s.tree (changes_of u) cs [] all parts.1 (not-true _ both.0) (not-true _ both.1))
@@ -121,6 +127,14 @@ module _ (lists : ListsLaw) (s : Durable) (formed : IsWellFormed s.tree) (cs : L
   waiting-apply u kept applies spares = elim (cases_Bool (is_decided u.stage)) [
     | inl decided ↦ rw (no_changes-left u kept decided) refl
     | inr waiting ↦ (lists s.tree cs (changes_of u) formed all applies (spares waiting)).0.applies
+  ]
+
+  -- the nodes that wait to be made are still new
+  pub waiting-new : (u : Recorded) → are_kept_changes u ≡ true → list_all (is_new_in s.tree) (changes_of u) ≡ true → SparesWaiting s cs u → list_all (is_new_in (changed_all s.tree cs)) (changes_of u) ≡ true
+  waiting-new u kept new spares = elim (cases_Bool (is_decided u.stage)) [
+    | inl decided ↦ rw (no_changes-left u kept decided) refl
+    | inr waiting ↦ list_all-from (is_new_in (changed_all s.tree cs)) (changes_of u) (λ c there.
+        ap (λ o. not (is_make c) || is_none o) (node-elsewhere cs s.tree (node_of c) all (λ here. (spares waiting).nodes (node_of c) here (IsIn-map node_of c (changes_of u) there))) ∙ list_all-at (is_new_in s.tree) (changes_of u) new c there)
   ]
 
   pub waiting-holds : (u : Recorded) → apply_all s.tree (changes_of u) ≡ true → SparesWaiting s cs u → is_decided u.stage ≡ false

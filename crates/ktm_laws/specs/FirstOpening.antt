@@ -4,7 +4,7 @@ use Rattle.ktm_base.specs.declared.id.Id.{Id}
 use Rattle.ktm_world.specs.Files.{FilesNow, committed_files, first_open}
 use Rattle.ktm_world.specs.Present.{Present}
 use Rattle.ktm_world.specs.Tree.{is_file}
-use Rattle.ktm_laws.specs.SoundFiles.{IsSoundFiles, is_undecided_in, made_or_opened}
+use Rattle.ktm_laws.specs.SoundFiles.{IsSoundFiles, is_no_directory, is_undecided_in, made_or_opened}
 
 -- the files with a first open more, of the version that there is
 abbrev pub with_first : FilesNow → Id → ℕ → FilesNow
@@ -18,6 +18,8 @@ pub record MayOpenFirst (x : Present) (id : Id) (file : ℕ) : Type 0 where
   pub boot : (id.boot == x.recorded.boots) ≡ true
   -- the file is a committed one
   pub there : is_file x.files.tree file ≡ true
+  -- and no directory in what the transaction sees
+  pub seen : is_no_directory x.files file id ≡ true
   -- the transaction has neither made it nor opened it before
   pub new : made_or_opened x.files id file ≡ false
 

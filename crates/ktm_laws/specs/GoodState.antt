@@ -11,11 +11,11 @@ use Rattle.ktm_keyed.specs.declared.keyed.Keyed.{Keyed}
 use Rattle.ktm_types.specs.declared.event.Part.{Part}
 use Rattle.ktm_types.specs.declared.event.Part.TheVariants.{Enlistment}
 use Rattle.ktm_world.specs.Changes.{apply_all, bytes_in, is_empty_list, is_make, node_of}
-use Rattle.ktm_world.specs.Durable.{Durable, Recorded, is_ready, is_held, is_decided, changes_of, settings_of, enlistments_of, is_before, holds_in, is_part_of, is_sole, is_manager, is_some_change, are_recorded_changes, has_changes_part, has_settings_part, has_part, waiting, is_within_limits}
+use Rattle.ktm_world.specs.Durable.{Durable, Recorded, is_ready, is_held, is_decided, changes_of, settings_of, enlistments_of, is_before, holds_in, is_part_of, is_sole, is_manager, is_new_in, is_some_change, are_recorded_changes, has_changes_part, has_settings_part, has_part, waiting, is_within_limits}
 use Rattle.ktm_keyed.specs.Keyed.{is_rising}
 use Rattle.ktm_world.specs.Keys.{are_good_settings, is_bad_key, is_bad_value}
 use Rattle.ktm_world.specs.Lawful.{are_apart, set_both}
-use Rattle.ktm_world.specs.Limits.{most_information}
+use Rattle.ktm_world.specs.Limits.{most_information, most_number}
 use Rattle.ktm_world.specs.Transactions.{same_id}
 use Rattle.ktm_world.specs.Tree.{IsWellFormed}
 
@@ -26,9 +26,13 @@ each_pair test (x ∷ xs) = list_all (test x) xs && each_pair test xs
 
 -- ---- Ids
 
--- was the Id drawn in a boot that there was, and counted from 1
+-- can the Id be that of an object: its boot and its number count from 1, and the number is in range
+abbrev pub is_of_object : Id → Bool
+is_of_object id = nat_le 1 id.boot && nat_le 1 id.number && nat_le id.number most_number
+
+-- was the Id drawn in a boot that there was
 abbrev pub is_drawn : Durable → Id → Bool
-is_drawn s id = nat_le 1 id.boot && nat_le id.boot s.boots && nat_le 1 id.number
+is_drawn s id = is_of_object id && nat_le id.boot s.boots
 
 -- the enlistment of a part, with its resource manager and its recovery information
 abbrev pub enlisted_in : Part → List Superior
@@ -101,6 +105,8 @@ is_good_entry x = not (is_bad_key x.key) && not (is_bad_value x.value)
 
 -- the durable state is good: what it names is there and stands once, each transaction is as its stage asks, what waits applies and is apart, and the limits hold
 pub record IsGoodState (s : Durable) : Type 0 where
+  -- the image has a number that an image can have
+  pub image_fits : s.image < 2 ^ 16
   -- transactions stand by rising Id
   pub transactions_rise : each_pair (λ (t u : Recorded). is_before t.id u.id) s.transactions ≡ true
   -- and so do resource managers
@@ -133,6 +139,8 @@ pub record IsGoodState (s : Durable) : Type 0 where
   pub apply : list_all (λ t. apply_all s.tree (changes_of t)) s.transactions ≡ true
   -- the nodes that they make are below the next number
   pub made : list_all (λ t. list_all (is_made_below s.next_node) (changes_of t)) s.transactions ≡ true
+  -- and the tree has none of them
+  pub new : list_all (λ t. list_all (is_new_in s.tree) (changes_of t)) s.transactions ≡ true
   -- the contents that they put are not empty
   pub puts : list_all (λ t. list_all puts_some (changes_of t)) s.transactions ≡ true
   -- settings that wait are good ones, and a decided transaction has none

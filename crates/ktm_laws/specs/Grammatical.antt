@@ -1,6 +1,7 @@
 -- What the grammar asks of each event, beyond what applies to a state.
-use Rattle.std.specs.Prelude.{◌≡◌, ℕ, ◌&&◌, Bool, true, List, [], ◌∷◌, nat_le}
+use Rattle.std.specs.Prelude.{◌≡◌, ℕ, ◌&&◌, Bool, true, List, [], ◌∷◌}
 use Rattle.std.specs.List.{list_all}
+use Rattle.ktm_base.specs.Bytes.{AreBytes}
 use Rattle.ktm_base.specs.declared.id.Id.{Id}
 use Rattle.ktm_types.specs.declared.change.Change.{Change}
 use Rattle.ktm_types.specs.declared.event.DonePart.{DonePart}
@@ -10,11 +11,7 @@ use Rattle.ktm_types.specs.declared.event.Part.{Part}
 use Rattle.ktm_types.specs.declared.event.Part.TheVariants.{Enlistment}
 use Rattle.ktm_world.specs.Durable.{changes_in}
 use Rattle.ktm_types.specs.EventGrammar.{IsEventOf, IsGroupOf}
-use Rattle.ktm_laws.specs.GoodState.{puts_some}
-
--- do the boot and the number of an Id count from 1
-abbrev pub counts_from_1 : Id → Bool
-counts_from_1 id = nat_le 1 id.boot && nat_le 1 id.number
+use Rattle.ktm_laws.specs.GoodState.{is_of_object, puts_some}
 
 -- the Ids that a part names
 abbrev pub ids_in : Part → List Id
@@ -45,11 +42,15 @@ changes_of_event (Ready transaction part) = changes_in part
 changes_of_event (Single transaction part) = changes_in part
 changes_of_event _ = []
 
--- the Ids of an event count from 1, and the contents that it puts are not empty
-abbrev pub is_grammatical : Event → Bool
-is_grammatical event = list_all counts_from_1 (ids_of event) && list_all puts_some (changes_of_event event)
+-- can every Id that an event names be that of an object
+abbrev pub names_objects : Event → Bool
+names_objects event = list_all is_of_object (ids_of event)
 
--- the grammar has it of each event that can be spelled, and so of each group
+-- the Ids of an event can be those of objects, and the contents that it puts are not empty
+abbrev pub is_grammatical : Event → Bool
+is_grammatical event = names_objects event && list_all puts_some (changes_of_event event)
+
+-- the grammar has it of each event that can be spelled in bytes, and so of each group
 abbrev pub GrammarLaw : Type 0
-GrammarLaw = ((event : Event) (bytes : List ℕ) → IsEventOf event bytes → is_grammatical event ≡ true)
-    × ((group : List Event) (bytes : List ℕ) → IsGroupOf group bytes → list_all is_grammatical group ≡ true)
+GrammarLaw = ((event : Event) (bytes : List ℕ) → AreBytes bytes → IsEventOf event bytes → is_grammatical event ≡ true)
+    × ((group : List Event) (bytes : List ℕ) → AreBytes bytes → IsGroupOf group bytes → list_all is_grammatical group ≡ true)

@@ -7,7 +7,7 @@ pub mod Formed
 pub mod GoodState
 pub mod GoodStates
 pub mod Grammatical
-pub mod Numbers
+pub mod NamedObjects
 pub mod Openings
 pub mod Outcomes
 pub mod OwnChange
@@ -18,3 +18,4 @@ pub mod Reservations
 pub mod SoundCourse
 pub mod SoundCourses
 pub mod SoundFiles
+pub mod SoundWorlds

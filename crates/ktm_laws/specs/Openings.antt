@@ -11,7 +11,7 @@ use Rattle.ktm_world.specs.Lawful.{is_touched_by, undecided}
 use Rattle.ktm_world.specs.Present.{Present}
 use Rattle.ktm_world.specs.Transactions.{is_of, same_id}
 use Rattle.ktm_laws.specs.Footprint.{IsIn}
-use Rattle.ktm_laws.specs.SoundFiles.{IsSoundFiles, is_plain_well, may_use}
+use Rattle.ktm_laws.specs.SoundFiles.{IsSoundFiles, is_plain_well, may_use, opens_no_directory}
 
 -- with another file open, and these handles
 abbrev pub with_file : Present → OpenFile → List Handle → Present
@@ -29,6 +29,8 @@ pub record MayOpen (x : Present) (o : OpenFile) (handles : List Handle) : Type 0
   pub plain : is_plain_well x.files o ≡ true
   -- one of a transaction is one that it may use
   pub own : may_use x o o.transaction ≡ true
+  -- and on no directory in what it sees
+  pub file : opens_no_directory x.files o.node o.transaction ≡ true
   -- where a transaction may write it, no other undecided one holds it
   pub held : writes o.access ≡ true → (id : Id) → is_of id o.transaction ≡ true → (v : Transaction) → IsIn v (undecided x) → same_id id v.id ≡ false → IsIn o.node (holds_now x.files v.id).nodes → ⊥
   -- and the transaction has first opened its last version

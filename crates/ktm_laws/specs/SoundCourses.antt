@@ -1,5 +1,5 @@
 -- What is so of transactions, enlistments and resource managers stays so, whatever a machine does.
-use Rattle.std.specs.Prelude.{◌≡◌, ℕ, ◌<◌, ◌^◌, true, List}
+use Rattle.std.specs.Prelude.{ℕ, List}
 use Rattle.ktm_base.specs.declared.id.Pid.{Pid}
 use Rattle.ktm_types.specs.declared.command.Command.{Command}
 use Rattle.ktm_world.specs.Decide.{with_room, decide}
@@ -10,10 +10,9 @@ use Rattle.ktm_world.specs.Outcome.{apply}
 use Rattle.ktm_world.specs.Present.{Present}
 use Rattle.ktm_world.specs.World.{World, present, extend, after, opened, decide_tick}
 use Rattle.ktm_laws.specs.GoodState.{IsGoodState}
-use Rattle.ktm_laws.specs.Numbers.{has_numbers}
 use Rattle.ktm_laws.specs.SoundCourse.{IsSoundCourse}
 
--- a machine stays sound, whatever command it is given, whatever time passes, and where it falls; and a restart of a good state whose numbers are in range makes a sound one
+-- a machine stays sound, whatever command it is given, whatever time passes, and where it falls; and a restart of a good state makes a sound one
 pub record CoursesLaw : Type 0 where
   -- by a command, where the log has room
   pub commands : (x : Present) (process : Pid) (command : Command) → IsSoundCourse x → IsSoundCourse (apply x (with_room x process command))
@@ -28,4 +27,4 @@ pub record CoursesLaw : Type 0 where
   -- by the loss of power
   pub falls : (w : World) (power : Power) → IsSoundCourse (present w) → IsSoundCourse (present (record w { power = power }))
   -- by a restart of a good state
-  pub restarts : (base : Durable) (room : ℕ) (log : List Group) → IsGoodState (stand base log) → (stand base log).image < 2 ^ 16 → has_numbers (stand base log) ≡ true → IsSoundCourse (present (opened base room log))
+  pub restarts : (base : Durable) (room : ℕ) (log : List Group) → IsGoodState (stand base log) → IsSoundCourse (present (opened base room log))

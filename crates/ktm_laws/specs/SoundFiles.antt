@@ -10,7 +10,7 @@ use Rattle.ktm_world.specs.Changes.{apply_all, changes_bytes, is_drop, is_make, 
 use Rattle.ktm_world.specs.Committed.{Version, version_of, changes_to_commit}
 use Rattle.ktm_world.specs.Conflicts.{holds_now, writes}
 use Rattle.ktm_world.specs.Durable.{is_some_change}
-use Rattle.ktm_world.specs.Files.{FilesNow, FirstOpen, OpenFile, OwnChanges, own_changes, has_made, first_open_of, is_last_version, tree_seen, bytes_seen}
+use Rattle.ktm_world.specs.Files.{FilesNow, FirstOpen, OpenFile, OwnChanges, own_changes, has_made, first_open_of, is_last_version, tree_of, tree_seen, bytes_seen}
 use Rattle.ktm_world.specs.HandleCalls.{has_handle}
 use Rattle.ktm_world.specs.Holds.{is_in}
 use Rattle.ktm_world.specs.Keys.{Own, are_good_settings, own_settings}
@@ -19,7 +19,7 @@ use Rattle.ktm_world.specs.Labels.{holds_of}
 use Rattle.ktm_world.specs.Lawful.{are_apart, set_both, is_alone, others, undecided}
 use Rattle.ktm_world.specs.Present.{Present}
 use Rattle.ktm_world.specs.Transactions.{same_id, is_undecided, transaction_at}
-use Rattle.ktm_world.specs.Tree.{IsWellFormed, bytes_of, is_file, node_at}
+use Rattle.ktm_world.specs.Tree.{Tree, IsWellFormed, bytes_of, is_directory, is_file, is_there, node_at}
 use Rattle.ktm_laws.specs.GoodState.{each_pair, is_good_entry, puts_some}
 
 -- is the transaction there, and undecided
@@ -89,6 +89,10 @@ is_change_of_opened x id change = not (changes_bytes change) || not (id.boot == 
 abbrev pub has_dropped : List Change → ℕ → Bool
 has_dropped changes node = list_any (λ change. is_drop change && node_of change == node) changes
 
+-- does the change drop no node that is there
+abbrev pub is_gone : Tree → Change → Bool
+is_gone tree change = not (is_drop change) || not (is_there tree (node_of change))
+
 -- ---- first opens
 
 -- are they of two transactions, or of two files
@@ -112,6 +116,15 @@ opens_rise a b = nat_lt a.number b.number
 -- is the plain open file on a node that was drawn, and on one that is there where it may be written
 abbrev pub is_plain_well : FilesNow → OpenFile → Bool
 is_plain_well files o = not (is_none o.transaction) || (is_drawn_node files o.node && (not (writes o.access) || is_file files.tree o.node))
+
+-- is the node no directory in what the transaction sees
+abbrev pub is_no_directory : FilesNow → ℕ → Id → Bool
+is_no_directory files node id = not (is_directory (tree_of files id) node)
+
+-- is the node of an open file no directory in what its transaction sees, if it has one
+abbrev pub opens_no_directory : FilesNow → ℕ → Option Id → Bool
+opens_no_directory files node None = true
+opens_no_directory files node (Some id) = is_no_directory files node id
 
 -- may the open file be used in its transaction, if it has one: that one is undecided and of this boot, made it or first opened it, did not drop
 -- it, and sees it where it may write it
@@ -156,6 +169,8 @@ pub record IsSoundFiles (x : Present) : Type 0 where
   pub own_new : list_all (λ o. list_all (λ n. is_none (node_at x.files.tree n)) (numbers_made o.changes)) x.files.table.own ≡ true
   -- no two transactions make a node of the same number
   pub own_differ : each_pair make_apart x.files.table.own ≡ true
+  -- a transaction of this boot sees no node that it dropped
+  pub own_gone : list_all (λ o. not (o.transaction.boot == x.recorded.boots) || list_all (is_gone (tree_of x.files o.transaction)) o.changes) x.files.table.own ≡ true
   -- a transaction first opens a file once
   pub first_once : each_pair opened_apart x.files.first_opens ≡ true
   -- a transaction that first opened a file is there, undecided, and of this boot
@@ -170,6 +185,8 @@ pub record IsSoundFiles (x : Present) : Type 0 where
   pub first_bytes : All (λ o. is_last_version x.files o ≡ true → o.bytes ≡ bytes_of x.files.tree o.file) x.files.first_opens
   -- a transaction that changed a file, or may write it, has first opened its last version
   pub first_last : list_all (is_open_last x.files) x.files.first_opens ≡ true
+  -- nor is that file a directory in what the transaction sees
+  pub first_files : list_all (λ o. is_no_directory x.files o.file o.transaction) x.files.first_opens ≡ true
   -- the committed files are well formed
   pub formed : IsWellFormed x.files.tree
   -- their numbers were drawn
@@ -192,6 +209,8 @@ pub record IsSoundFiles (x : Present) : Type 0 where
   pub opens_plain : list_all (is_plain_well x.files) x.files.table.opens ≡ true
   -- the open file of a transaction is one that it may use
   pub opens_own : list_all (is_own_well x) x.files.table.opens ≡ true
+  -- and on no directory in what the transaction sees
+  pub opens_files : list_all (λ o. opens_no_directory x.files o.node o.transaction) x.files.table.opens ≡ true
   -- no two undecided transactions hold the same of the files
   pub apart : all_files_apart x ≡ true
   -- no file has both a plain handle that may write and an undecided transaction on it

@@ -1,5 +1,5 @@
 // Laws of transactions with their enlistments, resource managers, notifications and handles.
-ghost use Rattle.ktm_laws.specs.Numbers.{NamedLaw, NumbersLaw};
+ghost use Rattle.ktm_laws.specs.NamedObjects.{NamedLaw};
 ghost use Rattle.ktm_laws.specs.Outcomes.{OutcomesLaw};
 ghost use Rattle.ktm_laws.specs.SoundCourses.{CoursesLaw};
 
@@ -11,11 +11,6 @@ pub fn law_of_courses()
 {
     law_of_step();
 }
-
-/// The numbers of Ids stay in range, where those that events name are.
-pub fn law_of_numbers()
-    ensures { NumbersLaw }
-{}
 
 /// An outcome that is known never changes, and no transaction is lost before a restart.
 pub fn law_of_kept_outcomes()

@@ -6,8 +6,10 @@ ghost use Rattle.ktm_laws.specs.OwnChange.{OwnChangeLaw};
 ghost use Rattle.ktm_laws.specs.OwnKeys.{OwnKeysLaw};
 ghost use Rattle.ktm_laws.specs.PlainChange.{PlainChangeLaw};
 ghost use Rattle.ktm_laws.specs.Reservations.{ReservationsLaw};
+ghost use Rattle.ktm_laws.specs.SoundWorlds.{SoundWorldsLaw};
 
-use crate::{law_of_forms, law_of_lists};
+use crate::{law_of_courses, law_of_forms, law_of_lists};
+use ktm_world::{law_of_first_opens, law_of_step};
 
 /// What transactions set of the keys stays as good as what is committed, whatever is called and however much time passes.
 pub fn law_of_own_keys()
@@ -27,6 +29,19 @@ pub fn law_of_files_kept()
 {
     law_of_forms();
     law_of_lists();
+}
+
+/// Every world of a run is sound, where it began with a restart of a good state.
+pub fn law_of_sound_worlds()
+    ensures { SoundWorldsLaw }
+{
+    law_of_step();
+    law_of_first_opens();
+    law_of_lists();
+    law_of_forms();
+    law_of_courses();
+    law_of_own_keys();
+    law_of_files_kept();
 }
 
 /// A transaction may make, put, cut, move and drop what nobody else holds.

@@ -250,11 +250,15 @@ others s (Some id) = filter (λ t. not (is_decided t.stage) && not (same_id t.id
 abbrev pub is_made_in : List Change → ℕ → Bool
 is_made_in changes node = list_any (λ change. is_make change && node_of change == node) changes
 
--- changes that apply, meet no hold of another transaction, and make no node that is made in another one's waiting work
+-- does the change make no node that the tree has
+abbrev pub is_new_in : Tree → Change → Bool
+is_new_in tree change = not (is_make change) || is_none (node_at tree (node_of change))
+
+-- changes that apply, meet no hold of another transaction, and make no node that is in the tree or is made in another one's waiting work
 abbrev pub changes_apply : Durable → Option Id → List Change → Bool
 changes_apply s who changes =
     list_all (λ t. not (list_any (meets (holds_in s t)) (acts_of_all s.tree changes)) && not (list_any (λ change. is_make change && is_made_in (changes_of t) (node_of change)) changes)) (others s who)
-    && apply_all s.tree changes
+    && apply_all s.tree changes && list_all (is_new_in s.tree) changes
 
 -- settings that meet no hold of another transaction
 abbrev pub settings_apply : Durable → Option Id → OwnSettings → Bool
