@@ -289,7 +289,8 @@ record Holding (tree : Tree) (c : Change) (a : Act) : Type 0 where
   dropped : (n : ℕ) → IsIn n (directory_dropped a) → IsIn n (dropped_directory tree c)
   moved : is_move_of_directory a ≡ true → IsIn (node_of c) (moved_directory tree c)
 
-is-directory : (tree : Tree) (node : ℕ) (n : Node) → node_at tree node ≡ Some n → is_some n.content ≡ false → is_directory tree node ≡ true
+-- a node that is there with no content is a directory
+pub is-directory : (tree : Tree) (node : ℕ) (n : Node) → node_at tree node ≡ Some n → is_some n.content ≡ false → is_directory tree node ≡ true
 is-directory tree node n found dir = and_from _ _ (or_right _ _ (ap is_some found)) (not_from_false _ (ap (λ o. is_some (content_of o)) found ∙ dir))
 
 holding : (tree : Tree) (c : Change) → Applies tree c → (a : Act) → IsIn a (acts_of tree c) → Holding tree c a
