@@ -491,7 +491,7 @@ within_log-keeps x o keeps = go (is_full x.machine.left o.events)
 
 -- ---- no two transactions set a key both
 
-sets-apart : (x : Present) → IsSoundKeys x → (a b : Id) → same_id b a ≡ false → set_both (own_settings x.keys.own a) (own_settings x.keys.own b) ≡ false
+pub sets-apart : (x : Present) → IsSoundKeys x → (a b : Id) → same_id b a ≡ false → set_both (own_settings x.keys.own a) (own_settings x.keys.own b) ≡ false
 sets-apart x sound a b other = elim (own_settings-found x.keys.own b) [
   | inl none ↦ set_both-sym (own_settings x.keys.own b) (own_settings x.keys.own a) (subst (λ ss. set_both ss (own_settings x.keys.own a) ≡ false) (sym none) refl)
   | inr (o, there, is, settings) ↦ subst (λ ss. set_both (own_settings x.keys.own a) ss ≡ false) settings

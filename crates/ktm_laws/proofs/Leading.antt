@@ -1,5 +1,5 @@
 -- Where a path leads in a well-formed tree, and the changes that apply there.
-use Rattle.std.proofs.Common.{◌≡◌, ℕ, ◌≤◌, ◌==◌, ◌&&◌, ◌||◌, Bool, true, false, is_none, is_some, if◌then◌else◌, List, [], ◌∷◌, Option, Some, None, refl, sym, ◌∙◌, ap, subst, arith, inl, inr, ◌⊎◌}
+use Rattle.std.proofs.Common.{◌≡◌, ℕ, ◌≤◌, ◌==◌, ◌&&◌, Bool, true, false, is_none, is_some, if◌then◌else◌, List, [], ◌∷◌, Option, Some, None, refl, sym, ◌∙◌, ap, subst, arith, inl, inr, ◌⊎◌}
 use Rattle.std.proofs.lemmas.Bool.{cases_Bool, eq-eqb, ne_eqb, eqb-true, and_parts, and_from, not_from_false}
 use Rattle.std.proofs.lemmas.Option.{none-some, same_Some}
 use Rattle.std.specs.List.{list_all}
@@ -12,6 +12,7 @@ use Rattle.ktm_world.specs.Tree.{Tree, IsWellFormed, root, node_at, is_directory
 use Rattle.ktm_laws.specs.Footprint.{IsIn}
 use Rattle.ktm_laws.proofs.Lookups.{Rises, Rises-from, node_at-below}
 use Rattle.ktm_laws.proofs.Elements.{find-in}
+use Rattle.ktm_laws.proofs.Meeting.{is-directory}
 use Rattle.ktm_laws.proofs.Passing.{All-in}
 
 -- ---- nodes of a tree
@@ -33,14 +34,6 @@ Leads tree (free directory name) = (is_directory tree directory ≡ true) × (is
 Leads tree (at_node node) = (node_at tree node.number ≡ Some node) × (2 ≤ node.number)
 Leads tree _ = Unit {0}
 
-pub directory-of : (tree : Tree) (node : Node) → node_at tree node.number ≡ Some node → is_some node.content ≡ false → is_directory tree node.number ≡ true
-directory-of tree node found dir =
-    and_from _ _ (ap (λ o. node.number == root || is_some o) found ∙ or-true (node.number == root)) (not_from_false _ (ap (λ o. is_some (content_of o)) found ∙ dir))
-  where
-    or-true : (b : Bool) → (b || true) ≡ true
-    or-true true = refl
-    or-true false = refl
-
 node-leads : (tree : Tree) → IsWellFormed tree → (directory : ℕ) (name : List ℕ) (node : Node) → child_of tree directory name ≡ Some node → Leads tree (at_node node)
 node-leads tree formed directory name node found =
     let there = (find-in (λ (n : Node). n.parent == directory && same_name n.name name) tree node found).0 in
@@ -59,7 +52,7 @@ walk-leads tree formed (name ∷ next ∷ names) good (Some directory) from =
   where
     inside : (node : Node) → child_of tree directory name ≡ Some node → (b : Bool) → is_some node.content ≡ b → (d : ℕ) → (if b then None else Some node.number) ≡ Some d → is_directory tree d ≡ true
     inside node found true file d e = absurd (none-some d e)
-    inside node found false dir d e = subst (λ k. is_directory tree k ≡ true) (same_Some node.number d e) (directory-of tree node (node-leads tree formed directory name node found).0 dir)
+    inside node found false dir d e = subst (λ k. is_directory tree k ≡ true) (same_Some node.number d e) (is-directory tree node.number node (node-leads tree formed directory name node found).0 dir)
 
     go : (child : Option Node) → child_of tree directory name ≡ child → (d : ℕ) → entered child ≡ Some d → is_directory tree d ≡ true
     go None none d e = absurd (none-some d e)

@@ -47,6 +47,7 @@ pub mod PlainCalls
 pub mod Preparing
 pub mod Procedures
 pub mod Recording
+pub mod Recordings
 pub mod Releasing
 pub mod Reserving
 pub mod Restarting

@@ -1,13 +1,13 @@
 -- Changes that meet no hold of others are apart from them.
-use Rattle.std.proofs.Common.{◌≡◌, ℕ, ◌==◌, ◌&&◌, ◌||◌, not, Bool, true, false, cond, is_some, List, [], ◌∷◌, ◌++◌, map, Some, refl, sym, ◌∙◌, ap, subst, inl, inr, ◌⊎◌}
-use Rattle.std.proofs.lemmas.Bool.{cases_Bool, cases_eq, eq-eqb, ne_eqb, eqb-false, and_parts, and_from, or_parts, not-true, not_from_false, true≢false, false_from_ne_true}
+use Rattle.std.proofs.Common.{◌≡◌, ℕ, ◌==◌, ◌&&◌, ◌||◌, not, Bool, true, false, cond, is_some, if◌then◌else◌, List, [], ◌∷◌, ◌++◌, map, Some, refl, sym, ◌∙◌, ap, subst, inl, inr, ◌⊎◌}
+use Rattle.std.proofs.lemmas.Bool.{cases_Bool, cases_eq, eq-eqb, ne_eqb, eqb-false, and_parts, and_from, or_parts, or_from, or_right, not-true, not_from_false, true≢false, false_from_ne_true}
 use Rattle.std.specs.List.{list_any}
 use Rattle.ktm_types.specs.declared.change.Change.{Change}
 use Rattle.ktm_types.specs.declared.change.Change.TheVariants.{Make, Put, Cut, Move, Drop}
 use Rattle.ktm_types.specs.declared.recorded.Node.{Node}
 use Rattle.ktm_world.specs.Changes.{changed, applies, apply_all, node_of, is_make}
 use Rattle.ktm_world.specs.Durable.{act_of_node, acts_of, acts_of_all, is_made_in}
-use Rattle.ktm_world.specs.Holds.{Place, Holds, holds_by, place, places_of, each_change, dropped_directory, moved_directory, directories_of, is_in, meet_in, is_place_in, same_place, Act, opens, deletes, moves_file, makes, drops_directory, moves_directory, nodes_changed, places_changed, directory_dropped, is_move_of_directory, changes_held, enters_dropped, drops_used, moves_too, meets}
+use Rattle.ktm_world.specs.Holds.{Place, Holds, holds_by, place, place_of, places_of, each_change, dropped_directory, moved_directory, directories_of, is_in, meet_in, is_place_in, same_place, Act, opens, deletes, moves_file, makes, drops_directory, moves_directory, nodes_changed, places_changed, directory_dropped, is_move_of_directory, changes_held, enters_dropped, drops_used, moves_too, meets}
 use Rattle.ktm_world.specs.Lawful.{are_apart}
 use Rattle.ktm_world.specs.Tree.{Tree, node_at, is_there, is_file, is_directory, content_of}
 use Rattle.ktm_laws.specs.Footprint.{IsIn, footprint, AreFootprintsApart, MeetingLaw}
@@ -279,6 +279,113 @@ module _ (tree : Tree) (ds cs : List Change) (writes : List ℕ) (all : apply_al
 
 pub meeting_law : MeetingLaw
 meeting_law = apart-from-misses
+
+-- ---- and back
+
+-- what the acts of a change show it holds
+record Holding (tree : Tree) (c : Change) (a : Act) : Type 0 where
+  nodes : (n : ℕ) → IsIn n (nodes_changed a) → node_of c ≡ n
+  places : (p : Place) → IsIn p (places_changed a) → IsIn p (places_of tree c)
+  dropped : (n : ℕ) → IsIn n (directory_dropped a) → IsIn n (dropped_directory tree c)
+  moved : is_move_of_directory a ≡ true → IsIn (node_of c) (moved_directory tree c)
+
+-- a node that is there with no content is a directory
+pub is-directory : (tree : Tree) (node : ℕ) (n : Node) → node_at tree node ≡ Some n → is_some n.content ≡ false → is_directory tree node ≡ true
+is-directory tree node n found dir = and_from _ _ (or_right _ _ (ap is_some found)) (not_from_false _ (ap (λ o. is_some (content_of o)) found ∙ dir))
+
+holding : (tree : Tree) (c : Change) → Applies tree c → (a : Act) → IsIn a (acts_of tree c) → Holding tree c a
+holding tree (Make node parent kind name) is a (inl e) = subst (Holding tree (Make node parent kind name)) e record { nodes = λ n none. absurd none; places = λ p there. there; dropped = λ n none. absurd none; moved = λ none. absurd (true≢false (sym none)) }
+holding tree (Make node parent kind name) is a (inr none) = absurd none
+holding tree (Put node offset contents) is a there = let found = there-from tree (Put node offset contents) is refl in
+    elim (subst (λ o. IsIn a (act_of_node tree o (Put node offset contents))) found.1 there) [
+      | inl e ↦ subst (Holding tree (Put node offset contents)) e record { nodes = λ n here. elim here [ inl at ↦ at | inr none ↦ absurd none ]; places = λ p none. absurd none; dropped = λ n none. absurd none; moved = λ none. absurd (true≢false (sym none)) }
+      | inr none ↦ absurd none
+    ]
+holding tree (Cut node size pages) is a there = let found = there-from tree (Cut node size pages) is refl in
+    elim (subst (λ o. IsIn a (act_of_node tree o (Cut node size pages))) found.1 there) [
+      | inl e ↦ subst (Holding tree (Cut node size pages)) e record { nodes = λ n here. elim here [ inl at ↦ at | inr none ↦ absurd none ]; places = λ p none. absurd none; dropped = λ n none. absurd none; moved = λ none. absurd (true≢false (sym none)) }
+      | inr none ↦ absurd none
+    ]
+holding tree (Move node parent name) is a there = let found = there-from tree (Move node parent name) is refl in moved found.0 found.1 (is_some (found.0).content) refl (subst (λ o. IsIn a (act_of_node tree o (Move node parent name))) found.1 there)
+  where
+    moved : (n : Node) → node_at tree node ≡ Some n → (b : Bool) → is_some n.content ≡ b
+        → IsIn a ((if is_some n.content then moves_file node (place n.parent n.name) (place parent name) else moves_directory node (place n.parent n.name) (place parent name)) ∷ []) → Holding tree (Move node parent name) a
+    moved n found true file (inl e) = subst (Holding tree (Move node parent name)) (ap (λ b. if b then moves_file node (place n.parent n.name) (place parent name) else moves_directory node (place n.parent n.name) (place parent name)) (sym file) ∙ e) record {
+      nodes = λ m here. elim here [ inl at ↦ at | inr none ↦ absurd none ];
+      places = λ p here. subst (λ o. IsIn p (place_of o ++ place parent name ∷ [])) (sym found) here;
+      dropped = λ m none. absurd none;
+      moved = λ none. absurd (true≢false (sym none));
+    }
+    moved n found false dir (inl e) = subst (Holding tree (Move node parent name)) (ap (λ b. if b then moves_file node (place n.parent n.name) (place parent name) else moves_directory node (place n.parent n.name) (place parent name)) (sym dir) ∙ e) record {
+      nodes = λ m here. elim here [ inl at ↦ at | inr none ↦ absurd none ];
+      places = λ p here. subst (λ o. IsIn p (place_of o ++ place parent name ∷ [])) (sym found) here;
+      dropped = λ m none. absurd none;
+      moved = λ yes'. rw (is-directory tree node n found dir) (inl refl);
+    }
+    moved n found b is (inr none) = absurd none
+holding tree (Drop node) is a there = let found = there-from tree (Drop node) is refl in dropped found.0 found.1 (is_some (found.0).content) refl (subst (λ o. IsIn a (act_of_node tree o (Drop node))) found.1 there)
+  where
+    dropped : (n : Node) → node_at tree node ≡ Some n → (b : Bool) → is_some n.content ≡ b
+        → IsIn a ((if is_some n.content then deletes node (place n.parent n.name) else drops_directory node (place n.parent n.name)) ∷ []) → Holding tree (Drop node) a
+    dropped n found true file (inl e) = subst (Holding tree (Drop node)) (ap (λ b. if b then deletes node (place n.parent n.name) else drops_directory node (place n.parent n.name)) (sym file) ∙ e) record {
+      nodes = λ m here. elim here [ inl at ↦ at | inr none ↦ absurd none ];
+      places = λ p here. subst (λ o. IsIn p (place_of o)) (sym found) here;
+      dropped = λ m none. absurd none;
+      moved = λ none. absurd (true≢false (sym none));
+    }
+    dropped n found false dir (inl e) = subst (Holding tree (Drop node)) (ap (λ b. if b then deletes node (place n.parent n.name) else drops_directory node (place n.parent n.name)) (sym dir) ∙ e) record {
+      nodes = λ m here. elim here [ inl at ↦ at | inr none ↦ absurd none ];
+      places = λ p here. subst (λ o. IsIn p (place_of o)) (sym found) here;
+      dropped = λ m here. rw (is-directory tree node n found dir) here;
+      moved = λ none. absurd (true≢false (sym none));
+    }
+    dropped n found b is (inr none) = absurd none
+
+-- the same of changes in order
+record HoldingAll (tree : Tree) (cs : List Change) (a : Act) : Type 0 where
+  nodes : (n : ℕ) → IsIn n (nodes_changed a) → IsIn n (map node_of cs)
+  places : (p : Place) → IsIn p (places_changed a) → IsIn p (each_change places_of tree cs)
+  dropped : (n : ℕ) → IsIn n (directory_dropped a) → IsIn n (each_change dropped_directory tree cs)
+  moved : is_move_of_directory a ≡ true → (n : ℕ) × IsIn n (each_change moved_directory tree cs)
+
+holding-all : (cs : List Change) (tree : Tree) → apply_all tree cs ≡ true → (a : Act) → IsIn a (acts_of_all tree cs) → HoldingAll tree cs a
+holding-all [] tree all a there = absurd there
+holding-all (c ∷ cs) tree all a there =
+    let parts = and_parts (applies tree c) (apply_all (changed tree c) cs) all in
+    elim (IsIn-cases a (acts_of tree c) (acts_of_all (changed tree c) cs) there) [
+      | inl here ↦ let h = holding tree c (Applies-from tree c parts.0) a here in record {
+        nodes = λ n is. inl (h.nodes n is);
+        places = λ p is. IsIn-left p (places_of tree c) _ (h.places p is);
+        dropped = λ n is. IsIn-left n (dropped_directory tree c) _ (h.dropped n is);
+        moved = λ is. (node_of c, IsIn-left (node_of c) (moved_directory tree c) _ (h.moved is));
+      }
+      | inr later ↦ let h = holding-all cs (changed tree c) parts.1 a later in record {
+        nodes = λ n is. inr (h.nodes n is);
+        places = λ p is. IsIn-right p (places_of tree c) _ (h.places p is);
+        dropped = λ n is. IsIn-right n (dropped_directory tree c) _ (h.dropped n is);
+        moved = λ is. let m = h.moved is in (m.0, IsIn-right m.0 (moved_directory tree c) _ m.1);
+      }
+    ]
+
+-- changes that are apart from others meet nothing that those hold
+pub apart-missed : (tree : Tree) (bs cs : List Change) → apply_all tree cs ≡ true → AreFootprintsApart (footprint tree cs) (footprint tree bs) → list_any (meets (holds_by tree bs [])) (acts_of_all tree cs) ≡ false
+unfolding meets
+apart-missed tree bs cs all apart = none-from (meets (holds_by tree bs [])) (acts_of_all tree cs) (λ a there. let h = holding-all cs tree all a there in
+    or_from _ _ (or_from _ _ (or_from _ _ (or_from _ _
+    (none-from (is_in (map node_of bs ++ [])) (nodes_changed a) (λ n here. none-from (λ m. m == n) (map node_of bs ++ []) (λ m theirs. ne_eqb m n (λ e. apart.nodes n (h.nodes n here) (subst (λ k. IsIn k (map node_of bs)) e (bare (map node_of bs) m theirs))))))
+    (none-from (is_place_in (each_change places_of tree bs)) (places_changed a) (λ p here. none-from (same_place p) (each_change places_of tree bs) (λ q theirs. apart.places p q (h.places p here) theirs))))
+    (none-from (is_in (each_change dropped_directory tree bs)) (directories_of (places_changed a)) (λ n here. none-from (λ m. m == n) (each_change dropped_directory tree bs) (λ m theirs.
+    let p = IsIn-unmap (λ (p : Place). p.directory) n (places_changed a) here in ne_eqb m n (λ e. apart.right_stays m p.0 theirs (h.places p.0 p.2) (e ∙ sym p.1))))))
+    (none-from (is_in (directories_of (each_change places_of tree bs))) (directory_dropped a) (λ n here. none-from (λ m. m == n) (directories_of (each_change places_of tree bs)) (λ m theirs.
+    let p = IsIn-unmap (λ (p : Place). p.directory) m (each_change places_of tree bs) theirs in ne_eqb m n (λ e. apart.left_stays n p.0 (h.dropped n here) p.2 (sym e ∙ sym p.1))))))
+    (false_from_ne_true _ (λ both.
+    let parts = and_parts (is_move_of_directory a) (list_any (λ (n : ℕ). true) (each_change moved_directory tree bs)) both in
+    let mine = h.moved parts.0 in
+    let theirs = IsIn-first (each_change moved_directory tree bs) parts.1 in
+    apart.moves mine.0 theirs.0 mine.1 theirs.1)))
+  where
+    bare : (ns : List ℕ) (n : ℕ) → IsIn n (ns ++ []) → IsIn n ns
+    bare ns n there = elim (IsIn-cases n ns [] there) [ inl here ↦ here | inr none ↦ absurd none ]
 
 -- ---- holds that are apart, as tests and as facts
 

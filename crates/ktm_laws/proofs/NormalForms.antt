@@ -78,6 +78,11 @@ pub ends-bytes : (by : ℕ → List ℕ) (files : List ℕ) → AllBytes (ends_o
 ends-bytes by [] = refl
 ends-bytes by (f ∷ fs) = end-bytes f (by f) (ends_of by fs) (ends-bytes by fs)
 
+-- the bytes at the end begin with a cut
+pub first-cut : (f : ℕ) (bs : List ℕ) → IsIn (Cut f 0 []) (final_bytes f bs)
+first-cut f [] = inl refl
+first-cut f (b ∷ bs) = inl refl
+
 pub no-names : (cs : List Change) → AllBytes cs → names_of cs ≡ []
 no-names [] all = refl
 no-names (c ∷ cs) all = let parts = and_parts (changes_bytes c) (list_all changes_bytes cs) all in rw parts.0 (no-names cs parts.1)
@@ -215,7 +220,7 @@ within-after c xs ys within = go (changes_bytes c || is_make_of_file c) (is_drop
     go false false n there = within n there
 
 -- the files that names alone leave are among those that all changes leave
-names-within : (cs : List Change) (xs ys : List ℕ) → Within xs ys → Within (fold written_after xs (names_of cs)) (fold written_after ys cs)
+pub names-within : (cs : List Change) (xs ys : List ℕ) → Within xs ys → Within (fold written_after xs (names_of cs)) (fold written_after ys cs)
 names-within [] xs ys within = within
 names-within (c ∷ cs) xs ys within = elim (cases_Bool (changes_bytes c)) [
   | inl bytes ↦ rw bytes (names-within cs xs (with_number ys (node_of c)) (λ n there. IsIn-with_number-old ys (node_of c) n (within n there)))

@@ -58,7 +58,7 @@ use Rattle.ktm_laws.proofs.Lists.{IsIn-cases}
 use Rattle.ktm_laws.proofs.Lookups.{node_at-there}
 use Rattle.ktm_laws.proofs.Makings.{list_any-last}
 use Rattle.ktm_laws.proofs.OwnCalls.{Caller, next-first, next-plain, only-answers, owned-call, owns-make, owns-write}
-use Rattle.ktm_laws.proofs.Opening.{opened-sound}
+use Rattle.ktm_laws.proofs.Opening.{opened-sound, some-of}
 use Rattle.ktm_laws.proofs.Owning.{own-itself, others-hold, made-or-opened-still, name-final, not-dropped, owned-sound, seen-after, file-still}
 use Rattle.ktm_laws.proofs.Passing.{drawn-node, in-tree-drawn, own-drawn}
 use Rattle.ktm_laws.proofs.PlainCalls.{acts-at, enough-numbers, file-at, lands-call, make-applies, some-from}
@@ -109,10 +109,6 @@ not-held x who n none v other = elim (cases_Bool (is_in (holds_now x.files v).no
 opened-node : (x : Present) (v : Id) (n : ℕ) → ((o : OpenFile) → IsIn o x.files.table.opens → is_of v o.transaction ≡ true → o.node ≡ n → ⊥) → list_any (λ (o : OpenFile). is_of v o.transaction && o.node == n) x.files.table.opens ≡ false
 opened-node x v n none = none-from (λ (o : OpenFile). is_of v o.transaction && o.node == n) x.files.table.opens (λ o there. false_from_ne_true _ (λ both.
     let parts = and_parts (is_of v o.transaction) (o.node == n) both in none o there parts.0 (eqb-true _ _ parts.1)))
-
-some-of : (id : Id) (t : Option Id) → is_of id t ≡ true → is_some t ≡ true
-some-of id None of = absurd (true≢false (sym of))
-some-of id (Some i) of = refl
 
 -- where a plain call may write a file, no undecided transaction is on it
 untouched : (x : Present) (n : ℕ) → conflicts x.files None (opens n true) ≡ false → (v : Transaction) → is_touched_by x n v ≡ false

@@ -25,6 +25,11 @@ use Rattle.ktm_laws.proofs.Owning.{apart-holds, holds-from}
 use Rattle.ktm_laws.proofs.Reserving.{writer-alone}
 use Rattle.ktm_laws.proofs.Tables.{same_id-equal, same_id-from, same_id-sym}
 
+-- what is of a transaction has one
+pub some-of : (id : Id) (t : Option Id) → is_of id t ≡ true → is_some t ≡ true
+some-of id None of = absurd (true≢false (sym of))
+some-of id (Some i) of = refl
+
 module _ (x : Present) (o : OpenFile) (handles : List Handle) (sound : IsSoundFiles x) (may : MayOpen x o handles) where
   abbrev z : Present
   z = with_file x o handles
@@ -119,10 +124,6 @@ module _ (x : Present) (o : OpenFile) (handles : List Handle) (sound : IsSoundFi
             let both = and_parts (is_of u.id p.transaction) (p.node == n) is in
             other (subst (λ (q : OpenFile). is_of u.id q.transaction ≡ true) (sym e) both.0) (ap (λ (q : OpenFile). q.node) e ∙ eqb-true _ _ both.1))
       ]))
-
-  some-of : (id : Id) (t : Option Id) → is_of id t ≡ true → is_some t ≡ true
-  some-of id None of = absurd (true≢false (sym of))
-  some-of id (Some i) of = refl
 
   not-of : (id : Id) (t : Option Id) → is_none t ≡ true → is_of id t ≡ true → ⊥
   not-of id None none of = true≢false (sym of)

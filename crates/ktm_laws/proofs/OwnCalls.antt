@@ -43,9 +43,10 @@ use Rattle.ktm_laws.proofs.Diamonds.{IsIn-right, IsIn-map, no_test}
 use Rattle.ktm_laws.proofs.Elements.{IsIn-kept, list_all-at, list_any-from}
 use Rattle.ktm_laws.proofs.KeysKept.{named-undecided, not_refused}
 use Rattle.ktm_laws.proofs.Landing.{no-make, no-drop, no-number}
-use Rattle.ktm_laws.proofs.Leading.{Leads, directory-of, find_path-leads}
+use Rattle.ktm_laws.proofs.Leading.{Leads, find_path-leads}
 use Rattle.ktm_laws.proofs.Leaving.{answers_file}
 use Rattle.ktm_laws.proofs.Makings.{counted-parts}
+use Rattle.ktm_laws.proofs.Meeting.{is-directory}
 use Rattle.ktm_laws.proofs.NormalForms.{silent-places, silent-dropped, silent-moved}
 use Rattle.ktm_laws.proofs.Owning.{owned-sound, apart-holds}
 use Rattle.ktm_laws.proofs.PlainCalls.{some-from, acts-at, delete-applies, delete-acts, remove-applies, remove-acts, move-applies, enough-numbers}
@@ -226,7 +227,7 @@ module _ (lists : ListsLaw) (formed : FormedLaw) where
 
     remove-at : (w : Whereabouts) → Leads (tree_seen x.files (Some id)) w → is_at_file w ≡ false → is_not_empty (tree_seen x.files (Some id)) w ≡ false → (conflict_test x.files (Some id) (remove_act w)).0 ≡ false → IsSoundFiles (apply x (of_files x (Some id) (drop_at w)))
     remove-at (at_node node) leads dir empty none =
-        let is = directory-of (tree_seen x.files (Some id)) node leads.0 dir in
+        let is = is-directory (tree_seen x.files (Some id)) node.number node leads.0 dir in
         owned-call x id (Drop node.number) sound (owns-call formed x sound id who (Drop node.number) (drops_directory node.number (place node.parent node.name))
         (remove-applies (tree_seen x.files (Some id)) node leads empty) (remove-acts (tree_seen x.files (Some id)) node leads dir) none (λ bytes. absurd (true≢false (sym bytes))) refl (λ make. absurd (true≢false (sym make)))
         (directory-plain formed x sound id who node.number is) (λ o there of at. inr refl) (λ drop. directory-open formed x sound id who node.number is) sound.next_to)
@@ -271,7 +272,7 @@ module _ (lists : ListsLaw) (formed : FormedLaw) where
         (not-written x.files id act none node.number (inl refl)) (λ o there of at. inl (still-last x sound id act none node.number (inl refl) o there of at)) (λ drop. absurd (true≢false (sym drop))) sound.next_to
     move-node node directory name leads leads' outside false dir none =
         let act = moves_directory node.number (place node.parent node.name) (place directory name) in
-        let is = directory-of (tree_seen x.files (Some id)) node leads.0 dir in
+        let is = is-directory (tree_seen x.files (Some id)) node.number node leads.0 dir in
         owns-call formed x sound id who (Move node.number directory name) act
         (move-applies (tree_seen x.files (Some id)) node directory name leads leads' outside)
         (acts-at (tree_seen x.files (Some id)) node (Move node.number directory name) leads.0 refl refl ∙ ap (λ b. (if b then moves_file node.number (place node.parent node.name) (place directory name) else moves_directory node.number (place node.parent node.name) (place directory name)) ∷ []) dir)

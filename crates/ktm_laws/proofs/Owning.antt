@@ -29,7 +29,7 @@ use Rattle.ktm_laws.specs.SoundFiles.{IsSoundFiles, is_undecided_in, changed_by_
 use Rattle.ktm_laws.proofs.Diamonds.{same_place-sym, IsIn-right, IsIn-map, no_test, none-from, meets-not}
 use Rattle.ktm_laws.proofs.Elements.{each_pair-either, IsIn-filter, IsIn-kept, IsIn-flat_map, IsIn-unflat, list_all-at, list_all-from, list_any-at, list_any-from}
 use Rattle.ktm_laws.proofs.Lists.{IsIn-left, IsIn-cases, IsIn-unmap, IsIn-first}
-use Rattle.ktm_laws.proofs.NormalForms.{IsIn-with_number-new, names-final, filter-append, names_only, is-final, final-applies, each_change-append, Silent, silent-places, silent-dropped, silent-moved, held-names}
+use Rattle.ktm_laws.proofs.NormalForms.{first-cut, IsIn-with_number-new, names-final, filter-append, names_only, is-final, final-applies, each_change-append, Silent, silent-places, silent-dropped, silent-moved, held-names}
 use Rattle.ktm_laws.proofs.Applying.{Applies-from, Fits-from, is_there-none}
 use Rattle.ktm_laws.proofs.NodeKinds.{directory-was, there-was}
 use Rattle.ktm_laws.proofs.Lookups.{node_at-elsewhere, node_at-there}
@@ -203,10 +203,6 @@ holds-from a b apart = and_from _ _ (and_from _ _ (and_from _ _
 some-from : (ds : List Change) (d : Change) → IsIn d ds → is_some_change ds ≡ true
 some-from [] d none = absurd none
 some-from (e ∷ es) d there = refl
-
-first-cut : (f : ℕ) (bs : List ℕ) → IsIn (Cut f 0 []) (final_bytes f bs)
-first-cut f [] = inl refl
-first-cut f (b ∷ bs) = inl refl
 
 written-last : (d : Change) (files : List ℕ) → changes_bytes d ≡ true → IsIn (node_of d) (written_after files d)
 written-last (Make node parent kind name) files bytes = absurd (true≢false (sym bytes))

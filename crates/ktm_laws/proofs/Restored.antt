@@ -1,6 +1,6 @@
 -- Changes that were recorded are in the form in which they are committed.
 use Rattle.std.proofs.Common.{◌≡◌, ℕ, ◌+◌, ◌≤◌, ◌==◌, ◌&&◌, not, Bool, true, false, if◌then◌else◌, fold, List, [], ◌∷◌, ◌++◌, Some, None, refl, sym, ◌∙◌, ap, subst, arith, inl, inr}
-use Rattle.std.proofs.lemmas.Bool.{cases_Bool, eq-eqb, ne_eqb, eqb-true, leb-true, and_parts, and_from, not-true, not_from_false, true≢false}
+use Rattle.std.proofs.lemmas.Bool.{cases_Bool, eq-eqb, ne_eqb, eqb-true, leb-true, le-leb, and_parts, and_from, not-true, not_from_false, true≢false}
 use Rattle.std.proofs.lemmas.List.Sums.{fold-append}
 use Rattle.std.specs.List.{list_all}
 use Rattle.std.specs.Prelude.{nat_le}
@@ -16,9 +16,10 @@ use Rattle.ktm_laws.specs.FinalChanges.{names_of}
 use Rattle.ktm_laws.specs.Footprint.{IsIn}
 use Rattle.ktm_laws.specs.GoodState.{puts_some}
 use Rattle.ktm_laws.proofs.Applying.{Applies-from}
-use Rattle.ktm_laws.proofs.Elements.{IsIn-filter, IsIn-unflat, list_all-at, list_all-from, list_any-at}
+use Rattle.ktm_laws.proofs.Diamonds.{IsIn-right}
+use Rattle.ktm_laws.proofs.Elements.{IsIn-filter, IsIn-flat_map, IsIn-unflat, list_all-at, list_all-from, list_any-at, list_any-from}
 use Rattle.ktm_laws.proofs.Lists.{IsIn-cases}
-use Rattle.ktm_laws.proofs.NormalForms.{ends_of, ends-bytes, no-names, names-kept, RisingNumbers, rising-written, same-numbers, ends-written, ends-add, is-final}
+use Rattle.ktm_laws.proofs.NormalForms.{first-cut, names-within, ends_of, ends-bytes, no-names, names-kept, RisingNumbers, rising-written, same-numbers, ends-written, ends-add, is-final}
 use Rattle.ktm_laws.proofs.Passing.{flat_map-same, to_commit-same}
 
 -- a change that applies somewhere in a list applied to the tree that it found
@@ -175,3 +176,42 @@ restored tree cs before all some recorded =
     let spelled = list_all-from is_spelled cs (λ c there. let at = applied-in cs tree all c there in spelled-one at.0 c at.1 (list_all-at puts_some cs some c there)) in
     let form = final-form cs spelled recorded in
     to_commit-same cs (λ file. bytes_after (before file) file cs) form.0 (λ n there. ap (bytes_after (before n) n) (sym form.1) ∙ (is-final cs form.0).gives (before n) n there) ∙ form.1
+
+-- ---- and back
+
+ends-rise : (by : ℕ → List ℕ) (files : List ℕ) (least : ℕ) → RisingNumbers files → ((n : ℕ) → IsIn n files → least ≤ n) → are_final_bytes least None (ends_of by files) ≡ true
+ends-rise by [] least rises from = refl
+ends-rise by (f ∷ fs) least rises from = go (ends-rise by fs (f + 1) rises.1 (λ n there. omega (arith, rises.0 n there))) (by f)
+  where
+    low : (nat_le least f && 0 == 0) ≡ true
+    low = and_from _ _ (le-leb least f (from f (inl refl))) refl
+
+    -- a cut that was made asks nothing of what is no put
+    after-cut : (cs : List Change) → are_final_bytes (f + 1) None cs ≡ true → are_final_bytes (f + 1) (Some f) cs ≡ true
+    after-cut [] final = refl
+    after-cut (Cut node size pages ∷ cs) final = final
+    after-cut (Make node parent kind name ∷ cs) final = final
+    after-cut (Put node offset contents ∷ cs) final = absurd (true≢false (sym final))
+    after-cut (Move node parent name ∷ cs) final = final
+    after-cut (Drop node ∷ cs) final = final
+
+    go : are_final_bytes (f + 1) None (ends_of by fs) ≡ true → (bs : List ℕ) → are_final_bytes least None (final_bytes f bs ++ ends_of by fs) ≡ true
+    go rest [] = and_from _ _ low (after-cut (ends_of by fs) rest)
+    go rest (b ∷ bs) = and_from _ _ low (and_from _ _ (and_from _ _ (eq-eqb f f refl) refl) rest)
+
+ends-last : (cs ends : List Change) → list_all changes_bytes ends ≡ true → are_final_bytes 0 None ends ≡ true → ends_in_bytes (names_of cs ++ ends) ≡ true
+ends-last [] [] all final = refl
+ends-last [] (e ∷ es) all final = rw (and_parts (changes_bytes e) (list_all changes_bytes es) all).0 final
+ends-last (c ∷ cs) ends all final = elim (cases_Bool (changes_bytes c)) [
+  | inl bytes ↦ rw bytes (ends-last cs ends all final)
+  | inr name ↦ rw (name, name) (ends-last cs ends all final)
+]
+
+-- changes in the form in which they are committed may be recorded, if there are any
+pub recorded-form : (cs : List Change) (by : ℕ → List ℕ) → changes_to_commit cs by ≡ cs → is_some_change cs ≡ true → are_recorded_changes cs ≡ true
+recorded-form cs by final some = and_from _ _ (and_from _ _ some
+    (subst (λ ds. ends_in_bytes ds ≡ true) final (ends-last cs (ends_of by (written_files cs)) (ends-bytes by (written_files cs)) (ends-rise by (written_files cs) 0 (rising-written cs [] tt) (λ n there. omega arith)))))
+    (list_all-from (gives_bytes cs) (made_files cs) (λ n made.
+    let there : IsIn (Cut n 0 []) cs = subst (IsIn (Cut n 0 [])) final (IsIn-right (Cut n 0 []) (names_of cs) (ends_of by (written_files cs))
+    (IsIn-flat_map (λ file. final_bytes file (by file)) (written_files cs) n (Cut n 0 []) (names-within cs [] [] (λ m none. none) n made) (first-cut n (by n)))) in
+    list_any-from (λ change. changes_bytes change && node_of change == n) cs (Cut n 0 []) there (and_from _ _ refl (eq-eqb n n refl))))

@@ -14,6 +14,7 @@ pub mod OwnChange
 pub mod OwnGroup
 pub mod OwnKeys
 pub mod PlainChange
+pub mod Recordings
 pub mod Reservations
 pub mod SoundCourse
 pub mod SoundCourses

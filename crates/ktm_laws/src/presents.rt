@@ -5,6 +5,7 @@ ghost use Rattle.ktm_laws.specs.Openings.{OpeningLaw};
 ghost use Rattle.ktm_laws.specs.OwnChange.{OwnChangeLaw};
 ghost use Rattle.ktm_laws.specs.OwnKeys.{OwnKeysLaw};
 ghost use Rattle.ktm_laws.specs.PlainChange.{PlainChangeLaw};
+ghost use Rattle.ktm_laws.specs.Recordings.{RecordingsLaw};
 ghost use Rattle.ktm_laws.specs.Reservations.{ReservationsLaw};
 ghost use Rattle.ktm_laws.specs.SoundWorlds.{SoundWorldsLaw};
 
@@ -30,6 +31,11 @@ pub fn law_of_files_kept()
     law_of_forms();
     law_of_lists();
 }
+
+/// What undecided transactions own, and what a plain call changes, applies to what was recorded.
+pub fn law_of_recordings()
+    ensures { RecordingsLaw }
+{}
 
 /// Every world of a run is sound, where it began with a restart of a good state.
 pub fn law_of_sound_worlds()
