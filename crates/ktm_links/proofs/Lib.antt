@@ -1,6 +1,7 @@
+pub mod Blocks
 pub mod Entries
+pub mod InOrder
 pub mod Keys
 pub mod Linked
 pub mod Names
-pub mod Order
 pub mod Segments

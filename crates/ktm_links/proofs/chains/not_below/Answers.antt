@@ -1,4 +1,4 @@
-use Rattle.ktm_links.proofs.Order.{first_at_equal, first_at_gap}
+use Rattle.ktm_links.proofs.InOrder.{first_at_equal, first_at_gap}
 use Rattle.ktm_links.proofs.chains.not_below.Goals as goal
 
 pub returns-in-Ok-clause-first : goal.returns-in-Ok-clause-first

@@ -2,7 +2,7 @@ use Rattle.std.proofs.Common.{◌∙◌, Some, ap, sym}
 use Rattle.std.specs.Option.{option_map}
 use Rattle.ktm_links.specs.Mapped.{NameAndValue}
 use Rattle.ktm_links.proofs.Entries.{none_at}
-use Rattle.ktm_links.proofs.Order.{found, absent, taken, keyed}
+use Rattle.ktm_links.proofs.InOrder.{found, absent, taken, keyed}
 use Rattle.ktm_links.proofs.chains.Chains.find.Goals as goal
 
 pub returns-in-Ok : goal.returns-in-Ok

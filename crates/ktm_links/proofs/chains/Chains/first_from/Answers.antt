@@ -2,7 +2,7 @@ use Rattle.std.proofs.Common.{◌∙◌, ap, sym, arith, Some}
 use Rattle.std.specs.Option.{option_map}
 use Rattle.ktm_links.specs.Mapped.{NameAndValue}
 use Rattle.ktm_links.proofs.Entries.{first_from-least, first_from-nothing}
-use Rattle.ktm_links.proofs.Order.{first_from-at, first_from-none, keyed}
+use Rattle.ktm_links.proofs.InOrder.{first_from-at, first_from-none, keyed}
 use Rattle.ktm_links.proofs.chains.Chains.first_from.Goals as goal
 
 pub returns-then-place-len-clause-key : goal.returns-then-place-len-clause-key

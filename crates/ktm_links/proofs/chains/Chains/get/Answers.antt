@@ -2,7 +2,7 @@ use Rattle.std.proofs.Common.{Some, ◌∙◌, ap}
 use Rattle.std.proofs.lemmas.Option.{same_Some}
 use Rattle.std.specs.Option.{option_map}
 use Rattle.ktm_links.specs.Mapped.{Mapped, NameAndValue, at}
-use Rattle.ktm_links.proofs.Order.{at-stands, keyed}
+use Rattle.ktm_links.proofs.InOrder.{at-stands, keyed}
 use Rattle.ktm_links.proofs.chains.Chains.get.Goals as goal
 
 pub returns-in-Some-clause-value : goal.returns-in-Some-clause-value

@@ -3,7 +3,7 @@ use Rattle.std.specs.Option.{option_map}
 use Rattle.ktm_links.specs.Items.{value_at, without}
 use Rattle.ktm_links.specs.Mapped.{NameAndValue, Mapped}
 use Rattle.ktm_links.specs.Mapped.{at, key_at, value_of, without_name}
-use Rattle.ktm_links.proofs.Order.{taken, taken_spent, order_taken, absent}
+use Rattle.ktm_links.proofs.InOrder.{taken, taken_spent, order_taken, absent}
 use Rattle.ktm_links.proofs.Keys.{gone_at}
 use Rattle.ktm_links.proofs.Entries.{none_at, at-without_same, at-without_other, value_of-without_other, KeepsSpent-without_name}
 use Rattle.ktm_links.proofs.chains.Chains.remove.Goals as goal
