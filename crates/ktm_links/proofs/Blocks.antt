@@ -1,11 +1,10 @@
 -- Lemmas on keys in blocks.
-use Rattle.std.proofs.Common.{◌≡◌, ◌⊎◌, ℕ, zero, suc, ◌+◌, ◌-◌, ◌<◌, ◌≤◌, List, [], ◌∷◌, ◌++◌, length, get_or, set, take, drop, refl, sym, ap, ◌∙◌, inl, inr, arith, append_assoc, length-append, length-take, length-drop, add-one, Some, None}
+use Rattle.std.proofs.Common.{◌≡◌, ℕ, zero, suc, ◌+◌, ◌-◌, ◌<◌, ◌≤◌, List, [], ◌∷◌, ◌++◌, length, get_or, set, take, drop, refl, sym, ap, ◌∙◌, inl, inr, arith, append_assoc, length-append, length-take, length-drop, Some, None}
 use Rattle.std.specs.List.{insert, remove, slice_get}
 use Rattle.std.proofs.lemmas.List.{get_or-append-add, take-append-drop}
 use Rattle.std.proofs.lemmas.List.Edits.{length-insert, length-remove, insert-append_left, insert-append_right, remove-append_left, remove-append_right}
-use Rattle.std.proofs.lemmas.List.Concat.{flat_map-append}
 use Rattle.std.proofs.lemmas.Bool.{cases_lt}
-use Rattle.std.proofs.lemmas.Option.{slice_get-get_or, slice_get_past, slice_get_within, get_or_from_slice_get}
+use Rattle.std.proofs.lemmas.Option.{slice_get-get_or, slice_get_past}
 use Rattle.ktm_links.specs.declared.list.Key.{Key}
 use Rattle.ktm_links.specs.declared.block.Spot.{Spot}
 use Rattle.ktm_links.specs.Blocks.{flat, block_at, index_of, IsSpot, IsRoom, IsGap, AreUsed, AreFree, AreBlocks}
@@ -94,6 +93,9 @@ within_gap bs spot gap =
           ])
       | inr end ↦ omega (arith, end)
     ]
+
+pub spot_gap : (bs : List (List Key)) (spot : Spot) → IsSpot bs spot → IsGap bs spot
+spot_gap bs spot there = record { block = omega (arith, there.block); place = omega (arith, there.place); here = inl there.place }
 
 -- ---- each block has a key
 pub used_at : (bs : List (List Key)) (i : ℕ) → AreUsed bs → i < length bs → 0 < length (block_at bs i)
@@ -264,7 +266,7 @@ block_at-upper [] i lower upper within = absurd (omega (arith, within))
 block_at-upper (b ∷ bs) zero lower upper within = refl
 block_at-upper (b ∷ bs) (suc i) lower upper within = block_at-upper bs i lower upper (omega (arith, within))
 
-block_is : (bs : List (List Key)) (i : ℕ) (keys : List Key) → i < length bs → keys ≡ get_or bs i keys → block_at bs i ≡ keys
+pub block_is : (bs : List (List Key)) (i : ℕ) (keys : List Key) → i < length bs → keys ≡ get_or bs i keys → block_at bs i ≡ keys
 block_is [] i keys within is = absurd (omega (arith, within))
 block_is (b ∷ bs) zero keys within is = sym is
 block_is (b ∷ bs) (suc i) keys within is = block_is bs i keys (omega (arith, within)) is
@@ -386,7 +388,7 @@ with_stock bs stock keys blocks_room stock_room blocks_room' stock_room' len are
     }
 
 -- ---- the key that stands there
-no_key : Key
+pub no_key : Key
 no_key = record { place = 0; generation = 0 }
 
 got-here : (bs : List (List Key)) (spot : Spot) → IsSpot bs spot → slice_get (block_at bs spot.block) spot.place ≡ slice_get (flat bs) (index_of bs spot)

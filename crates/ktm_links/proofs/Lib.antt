@@ -1,5 +1,6 @@
 pub mod Blocks
 pub mod Entries
+pub mod Found
 pub mod InOrder
 pub mod Keys
 pub mod Linked

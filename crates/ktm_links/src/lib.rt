@@ -9,6 +9,7 @@ mod list;
 mod name;
 mod named;
 mod order;
+mod search;
 
 pub use chains::Chains;
 pub use list::{Key, List};

@@ -1,5 +1,5 @@
 // Keys in order.
-ghost use Rattle.std.specs.Prelude.{◌≡◌, ℕ, ◌+◌, ◌-◌, ◌<◌, ◌≤◌, ◌∷◌, ◌++◌, [], IsOk, OnOk, OnErr, length, get_or, set, take, drop, vec_len, vec_capacity};
+ghost use Rattle.std.specs.Prelude.{◌≡◌, ◌+◌, ◌-◌, ◌<◌, ◌≤◌, ◌∷◌, ◌++◌, [], IsOk, OnOk, OnErr, length, get_or, set, take, drop, vec_capacity};
 ghost use Rattle.std.specs.List.{insert, remove, slice_get};
 ghost use Rattle.ktm_links.specs.Blocks.{flat, block_at, index_of, AreUsed, IsGap, IsRoom, IsSpot};
 

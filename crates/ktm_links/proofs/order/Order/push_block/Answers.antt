@@ -1,4 +1,4 @@
-use Rattle.std.proofs.Common.{◌≡◌, ◌∙◌, ◌++◌, ◌∷◌, [], ap, arith, length, refl}
+use Rattle.std.proofs.Common.{ap, arith, length, refl}
 use Rattle.ktm_links.proofs.Blocks.{first_key, popped, stocked, with_block}
 use Rattle.ktm_links.proofs.order.Order.push_block.Goals as goal
 

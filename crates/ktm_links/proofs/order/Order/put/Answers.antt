@@ -1,6 +1,3 @@
-use Rattle.std.proofs.Common.{◌≡◌, ◌∙◌, ap, sym, length}
-use Rattle.std.specs.List.{insert}
-use Rattle.ktm_links.specs.Blocks.{Blocks, flat, index_of}
 use Rattle.ktm_links.proofs.Blocks.{inserted, with_key}
 use Rattle.ktm_links.proofs.order.Order.put.Goals as goal
 

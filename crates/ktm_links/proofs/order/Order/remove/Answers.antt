@@ -1,4 +1,4 @@
-use Rattle.std.proofs.Common.{◌≡◌, ◌∙◌, ap, sym, arith}
+use Rattle.std.proofs.Common.{◌∙◌, sym, arith}
 use Rattle.ktm_links.proofs.Blocks.{removed, removed_block, some_key, spare_more, spare_more_block, stands, without_block, without_key}
 use Rattle.ktm_links.proofs.order.Order.remove.Goals as goal
 

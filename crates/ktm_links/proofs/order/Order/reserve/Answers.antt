@@ -1,4 +1,4 @@
-use Rattle.std.proofs.Common.{◌∙◌, ap, arith}
+use Rattle.std.proofs.Common.{◌∙◌, arith}
 use Rattle.ktm_links.proofs.order.Order.reserve.Goals as goal
 
 pub loop-spare-preserved : goal.loop-spare-preserved
