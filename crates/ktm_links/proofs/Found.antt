@@ -5,6 +5,7 @@ use Rattle.std.specs.Ordering.{ordering_index}
 use Rattle.std.specs.declared.cmp.Ordering.TheVariants.{Less, Greater}
 use Rattle.std.specs.List.Sorted.{IsBinarySearchResult, IsNonDecreasingBy, IsPartitionPoint}
 use Rattle.std.proofs.lemmas.Bool.{cases_lt}
+use Rattle.std.proofs.lemmas.List.{get_or_default, take_all}
 use Rattle.std.proofs.lemmas.Option.{slice_get-get_or}
 use Rattle.ktm_links.specs.declared.list.Key.{Key}
 use Rattle.ktm_links.specs.declared.block.Spot.{Spot}
@@ -12,16 +13,19 @@ use Rattle.ktm_links.specs.Items.{Item}
 use Rattle.ktm_links.specs.Mapped.{NameAndValue}
 use Rattle.ktm_links.specs.Blocks.{flat, block_at, index_of, AreUsed, IsSpot}
 use Rattle.ktm_links.specs.Order.{last_order, order_at, order_from, IsInOrder}
-use Rattle.ktm_links.proofs.Blocks.{stands, used_at, within}
+use Rattle.ktm_links.proofs.Blocks.{no_key, stands, used_at, within}
 use Rattle.ktm_links.proofs.InOrder.{point_between, searchable}
 
 -- ---- the last key of a block
+-- where the last key of a block stands
 abbrev pub last_spot : List (List Key) → ℕ → Spot
 last_spot bs i = record { block = i; place = length (block_at bs i) - 1 }
 
+-- a key stands there
 pub last_there : (bs : List (List Key)) (i : ℕ) → AreUsed bs → i < length bs → IsSpot bs (last_spot bs i)
 last_there bs i used inside = record { block = inside; place = omega (arith, used_at bs i used inside) }
 
+-- the last keys of later blocks stand later
 index_rises : (bs : List (List Key)) (i j : ℕ) → AreUsed bs → i ≤ j → j < length bs → index_of bs (last_spot bs i) ≤ index_of bs (last_spot bs j)
 index_rises [] i j used under inside = absurd (omega (arith, inside))
 index_rises (b ∷ bs) zero zero used under inside = omega arith
@@ -31,25 +35,19 @@ index_rises (b ∷ bs) (suc i) (suc j) used under inside =
     omega
     (arith, length-append b (flat (take i bs)), length-append b (flat (take j bs)), index_rises bs i j used.1 (omega (arith, under)) (omega (arith, inside)))
 
+-- the next block begins behind the last key of this one
 before : (bs : List (List Key)) (i : ℕ) → AreUsed bs → i < length bs → index_of bs (last_spot bs i) + 1 ≡ length (flat (take (suc i) bs))
 before [] i used inside = absurd (omega (arith, inside))
 before (b ∷ bs) zero used inside = omega (arith, length-append b [], used.0)
 before (b ∷ bs) (suc i) used inside =
     omega (arith, length-append b (flat (take i bs)), length-append b (flat (take (suc i) bs)), before bs i used.1 (omega (arith, inside)))
 
-take_all : (bs : List (List Key)) → take (length bs) bs ≡ bs
-take_all [] = refl
-take_all (b ∷ bs) = ap (λ l. b ∷ l) (take_all bs)
-
-same_default : (bs : List (List Key)) (i : ℕ) (d : List Key) → i < length bs → get_or bs i d ≡ block_at bs i
-same_default [] i d inside = absurd (omega (arith, inside))
-same_default (b ∷ bs) zero d inside = refl
-same_default (b ∷ bs) (suc i) d inside = same_default bs i d (omega (arith, inside))
-
+-- the number before, and one more
 suc_pred : (n : ℕ) → 0 < n → suc (n - 1) ≡ n
 suc_pred n some = omega (arith, some)
 
 module _ {T : Type 0} where
+  -- the last key of a block, told by all keys
   pub last_is : (items : List (Item (NameAndValue T))) (name : List ℕ) (bs : List (List Key)) (i : ℕ) (d : Key) → AreUsed bs → i < length bs
       → last_order items name (block_at bs i) ≡ order_at items name (get_or (flat bs) (index_of bs (last_spot bs i)) d)
   last_is items name bs i d used inside =
@@ -64,13 +62,13 @@ module _ {T : Type 0} where
       let inside' : i < length bs = omega (arith, under, inside) in
       let there = last_there bs j used inside in
       rw (
-        same_default bs i d inside',
-        same_default bs j d inside,
-        last_is items name bs i (record { place = 0; generation = 0 }) used inside',
-        last_is items name bs j (record { place = 0; generation = 0 }) used inside,
+        get_or_default bs i d [] inside',
+        get_or_default bs j d [] inside,
+        last_is items name bs i no_key used inside',
+        last_is items name bs j no_key used inside,
       )
       (searchable items name (flat bs) ordered.present ordered.rising (index_of bs (last_spot bs i)) (index_of bs (last_spot bs j))
-      (record { place = 0; generation = 0 }) (index_rises bs i j used under inside)
+      no_key (index_rises bs i j used under inside)
       (within bs (last_spot bs j) there))
 
   -- the keys of a block are in order of what a search compares
@@ -103,7 +101,7 @@ module _ {T : Type 0} where
       below (c ∷ cs) is d some =
           let count : length bs ≡ suc (length cs) = ap (λ l. length l) is in
           let at : i - 1 ≡ length (flat (take (suc (length bs - 1)) bs)) - 1 =
-          omega (arith, end, ap (λ n. length (flat (take n bs))) (suc_pred (length bs) (omega (arith, count))), ap (λ l. length (flat l)) (take_all bs)) in
+          omega (arith, end, ap (λ n. length (flat (take n bs))) (suc_pred (length bs) (omega (arith, count))), ap (λ l. length (flat l)) (take_all (length bs) bs (omega arith))) in
           rw at (lower_end items name bs (length bs - 1) d used (omega (arith, count)) (less (omega (arith, count))))
 
   -- where all blocks are below, the last one is
@@ -113,6 +111,7 @@ module _ {T : Type 0} where
       (result (lasts_rise items name bs used ordered)).0 (length bs - 1) [] (omega arith) (omega (arith, all, some))
 
   -- ---- what a search within a block says of all keys
+  -- the last key of a block, if it has the name, is what a search finds
   pub found_last : (items : List (Item (NameAndValue T))) (name : List ℕ) (bs : List (List Key)) (b place : ℕ) → AreUsed bs → b < length bs
       → place ≡ length (block_at bs b) - 1 → IsBinarySearchResult (last_order items name) bs (Ok b)
       → IsBinarySearchResult (order_at items name) (flat bs) (Ok (index_of bs (record { block = b; place = place })))
@@ -121,6 +120,7 @@ module _ {T : Type 0} where
       ∙ sym (last_is items name bs b d used inside)
       ∙ result []
 
+  -- the key in a block that has the name is what a search finds
   pub found_here : (items : List (Item (NameAndValue T))) (name : List ℕ) (bs : List (List Key)) (b place : ℕ) (keys : List Key)
       → IsSpot bs (record { block = b; place = place }) → block_at bs b ≡ keys → IsBinarySearchResult (order_at items name) keys (Ok place)
       → IsBinarySearchResult (order_at items name) (flat bs) (Ok (index_of bs (record { block = b; place = place })))
@@ -159,9 +159,6 @@ module _ {T : Type 0} where
             (λ d here. ap (λ k. order_at items name k) (stands bs (record { block = b; place = place }) d there) ∙ keys.1 place d (omega arith) there.place),
       )
     where
-      no_key : Key
-      no_key = record { place = 0; generation = 0 }
-
       below : (b' : ℕ) → b ≡ b' → (p : ℕ) → place ≡ p → (d : Key) → 0 < index_of bs (record { block = b; place = place })
           → order_at items name (get_or (flat bs) (index_of bs (record { block = b; place = place }) - 1) d) ≡ Less
       below b' at (suc p) is d some =

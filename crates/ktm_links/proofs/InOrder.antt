@@ -13,6 +13,7 @@ use Rattle.ktm_links.specs.declared.list.Key.{Key}
 use Rattle.ktm_links.specs.Items.{Listed, IsSpent as IsSpentKey, Item, item, same_key, value_at, without}
 use Rattle.ktm_links.specs.Mapped.{Mapped, IsSpent, NameAndValue, NamedItem, name_cmp, at, first_from, key_at, put, without_name, value_of, IsFirstOf, IsNoneOf, IsNotBelow}
 use Rattle.ktm_links.specs.Order.{order_in, order_at, entries_of, AreAbove, IsRising, ArePresent, HasKey, IsInOrder, IsFirstNotBelow}
+use Rattle.ktm_links.proofs.Blocks.{no_key}
 use Rattle.ktm_links.proofs.Names.{less_equal, index_rises, name_equal, name_same, from_is_eq}
 use Rattle.ktm_links.proofs.Keys.{on_some, same_key-true, same_key-self, some_of, none_of, value_at-kept, value_at-last, value_at-others, value_at-append}
 use Rattle.ktm_links.proofs.Entries.{key_at-at, key_at-same, key_at-less, key_at-differs, put-lower, put-higher, rising_put, without_name-same, without_name-less, at-same, at-less, rising_without, value_of-same, value_of-other, first_from-least, first_from-nothing}
@@ -338,6 +339,7 @@ module _ {T : Type 0} where
         | inr other ↦ at-stands_present items ks q key v present.1 (rw other at found')
       ]
 
+  -- the same, of keys in order
   pub at-stands : (items : List (Item (NameAndValue T))) (ks : List Key) (q : List ℕ) (key : Key) (v : T) → IsInOrder items ks
       → at (entries_of items ks) q ≡ Some (key, v) → (n : NameAndValue T) × (value_at items key ≡ Some n) × (n.name ≡ q) × (n.value ≡ v)
   at-stands items ks q key v ordered found = at-stands_present items ks q key v ordered.present found
@@ -427,15 +429,17 @@ module _ {T : Type 0} where
       ∙ first_from-none items name ks i present.1 (first_from-later items name k ks i first) (omega (arith, past))
 
   -- ---- what a key that was found stands for
+  -- what is known of a key that was read where a search found the name
   pub record IsFoundKey (items : List (Item (NameAndValue T))) (ks : List Key) (name : List ℕ) (o : Option Key) : Type 0 where
     pub key : o ≡ key_at (entries_of items ks) name
     pub value : IfSome o (λ key. value_of (entries_of items ks) key ≡ option_map (λ e. e.1) (at (entries_of items ks) name))
     pub absent : IfNone o (at (entries_of items ks) name ≡ None)
 
+  -- a key that was read there
   pub found_key : (items : List (Item (NameAndValue T))) (name : List ℕ) (ks : List Key) (i : ℕ) (o : Option Key) → IsInOrder items ks → i < length ks
       → IsBinarySearchResult (order_at items name) ks (Ok i) → o ≡ slice_get ks i → IsFoundKey items ks name o
   found_key items name ks i None ordered within result is =
-      absurd (let some = is ∙ slice_get-get_or ks i (record { place = 0; generation = 0 }) within in cc)
+      absurd (let some = is ∙ slice_get-get_or ks i no_key within in cc)
   found_key items name ks i (Some key) ordered within result is =
       let here : key ≡ get_or ks i key = sym (get_or_from_slice_get ks i key key (sym is)) in
       let t = taken items name ks i key ordered within result here in
@@ -448,18 +452,20 @@ module _ {T : Type 0} where
         absent = tt;
       }
 
+  -- what is known of a key that was read where the first name not below stands
   pub record IsFirstKey (items : List (Item (NameAndValue T))) (ks : List Key) (name : List ℕ) (o : Option Key) : Type 0 where
     pub key : o ≡ option_map (λ e. e.0) (first_from (entries_of items ks) name)
     pub value : IfSome o (λ key. value_of (entries_of items ks) key ≡ option_map (λ e. e.1) (first_from (entries_of items ks) name))
     pub first : IfSome o (λ key. IsFirstOf (λ q. IsNotBelow q name) (entries_of items ks) key)
     pub none : IfNone o (IsNoneOf (λ q. IsNotBelow q name) (entries_of items ks))
 
+  -- a key that was read there, or none
   pub first_key : (items : List (Item (NameAndValue T))) (name : List ℕ) (ks : List Key) (i : ℕ) (o : Option Key) → IsInOrder items ks
       → IsFirstNotBelow items name ks i → o ≡ slice_get ks i → IsFirstKey items ks name o
   first_key items name ks i None ordered first is =
       let past : length ks ≤ i =
       elim (cases_lt i (length ks)) [
-        | inl within ↦ absurd (let some = is ∙ slice_get-get_or ks i (record { place = 0; generation = 0 }) within in cc)
+        | inl within ↦ absurd (let some = is ∙ slice_get-get_or ks i no_key within in cc)
         | inr past ↦ past
       ] in
       let nothing = first_from-none items name ks i ordered.present first past in

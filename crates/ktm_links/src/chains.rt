@@ -13,7 +13,7 @@ use ktm_base::NoMemory;
 use std::alloc::Global;
 use std::marker::Model;
 
-/// A map from names to values. It finds a name by halves.
+/// A map from names to values. It finds a name by halves, and moves few keys as one comes or goes.
 #[derive(Drop)]
 pub struct Chains<K: Name, T> {
     values: List<Named<K, T>>,

@@ -79,7 +79,7 @@ fn end_of(blocks: &[Block]) -> Spot
     }
 }
 
-// Where the name stands, or would stand, of which it is known which block comes first above it.
+// The rest of a search, where no block ends with the name and this block is the first that ends above it.
 fn search_in<K: Name, T>(
     values: &List<Named<K, T>>,
     blocks: &[Block],

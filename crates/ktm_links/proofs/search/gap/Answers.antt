@@ -1,7 +1,7 @@
 use Rattle.std.proofs.Common.{◌∙◌, ◌-◌, [], ap, length, sym}
 use Rattle.std.proofs.lemmas.Option.{get_or_from_slice_get}
 use Rattle.ktm_links.specs.Order.{last_order}
-use Rattle.ktm_links.proofs.Blocks.{within}
+use Rattle.ktm_links.proofs.Blocks.{no_key, within}
 use Rattle.ktm_links.proofs.Found.{end_point}
 use Rattle.ktm_links.proofs.InOrder.{found, searchable}
 use Rattle.ktm_links.proofs.search.gap.Goals as goal
@@ -14,12 +14,12 @@ returns-in-Less-clause-point g c =
 
 pub returns-in-Ok-clause-gap : goal.returns-in-Ok-clause-gap
 returns-in-Ok-clause-gap g c =
-    let key = found _ _ _ _ (record { place = 0; generation = 0 }) c.requires.ordered (within _ _ c.in-Ok.ensures.spot) c.in-Ok.ensures.position ∙ c.requires.free in
+    let key = found _ _ _ _ no_key c.requires.ordered (within _ _ c.in-Ok.ensures.spot) c.in-Ok.ensures.position ∙ c.requires.free in
     absurd (cc)
 
 pub returns-in-Ok-clause-point : goal.returns-in-Ok-clause-point
 returns-in-Ok-clause-point g c =
-    let key = found _ _ _ _ (record { place = 0; generation = 0 }) c.requires.ordered (within _ _ c.in-Ok.ensures.spot) c.in-Ok.ensures.position ∙ c.requires.free in
+    let key = found _ _ _ _ no_key c.requires.ordered (within _ _ c.in-Ok.ensures.spot) c.in-Ok.ensures.position ∙ c.requires.free in
     absurd (cc)
 
 pub returns-in-Err-clause-point : goal.returns-in-Err-clause-point
