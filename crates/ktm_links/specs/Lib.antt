@@ -1,3 +1,4 @@
+pub mod Blocks
 pub mod Entry
 pub mod Items
 pub mod Links

@@ -1,7 +1,8 @@
 -- How keys in order of their values' names stand for a map. No public clause cites this module.
-use Rattle.std.specs.Prelude.{◌≡◌, ◌⊎◌, ℕ, ◌<◌, true, false, List, [], ◌∷◌, length, get_or, Option, Some, None, is_some}
+use Rattle.std.specs.Prelude.{◌≡◌, ◌⊎◌, ℕ, ◌-◌, ◌<◌, true, false, List, [], ◌∷◌, length, get_or, Option, Some, None, is_some}
 use Rattle.std.specs.declared.cmp.Ordering.TheVariants.{Less}
 use Rattle.std.specs.declared.cmp.Ordering.{Ordering}
+use Rattle.std.specs.List.{slice_get}
 use Rattle.std.specs.Ordering.{is_lt}
 use Rattle.ktm_links.specs.declared.list.Key.{Key}
 use Rattle.ktm_links.specs.Items.{Item, value_at}
@@ -31,6 +32,15 @@ module _ {T : Type 0} where
   -- how the name of the key's value stands to this one
   abbrev pub order_at : List (Item (NameAndValue T)) → List ℕ → Key → Ordering
   order_at items name key = order_in (value_at items key) name
+
+  -- how the name of the value of a key, if there is one, stands to this one
+  abbrev pub order_from : List (Item (NameAndValue T)) → List ℕ → Option Key → Ordering
+  order_from items name None = Less
+  order_from items name (Some key) = order_at items name key
+
+  -- how the name of the last key's value stands to this one
+  abbrev pub last_order : List (Item (NameAndValue T)) → List ℕ → List Key → Ordering
+  last_order items name keys = order_from items name (slice_get keys (length keys - 1))
 
   -- the entry of a key whose value this is, and then the rest
   abbrev pub entry_from : Key → Option (NameAndValue T) → List (NamedItem T) → List (NamedItem T)

@@ -1,97 +1,44 @@
 // A map from names.
-ghost use Rattle.std.specs.Prelude.{◌≡◌, ◌≢◌, ℕ, List as Seq, ◌<◌, ◌≤◌, ◌+◌, ◌-◌, ◌^◌, min, [], length, Some, None, IsOk, OnOk, OnSome, IfSome, IfNone, option_copied};
+ghost use Rattle.std.specs.Prelude.{◌≡◌, ◌≢◌, ℕ, List as Seq, ◌<◌, ◌≤◌, ◌+◌, ◌-◌, ◌^◌, min, [], Some, None, IsOk, OnOk, OnSome, IfSome, IfNone, option_copied};
 ghost use Rattle.std.specs.Option.{option_map};
-ghost use Rattle.std.specs.List.Sorted.{IsBinarySearchResult, IsSearchInRange, IsPartitionPoint};
-ghost use Rattle.std.specs.declared.cmp.Ordering.TheVariants.{Less, Greater};
 ghost use Rattle.ktm_links.specs.declared.list.Key.{Key};
 ghost use Rattle.ktm_links.specs.Mapped.{at, first_from, key_at, put, value_of, without_name, Begins, IsFirstOf, IsNoneOf, IsNotBelow, IsSpent, KeepsSpent};
-ghost use Rattle.ktm_links.specs.Order.{order_at, entries_of, IsInOrder, IsFirstNotBelow};
 
 use crate::list::{Key, List};
 use crate::name::Name;
 use crate::named::Named;
+use crate::order::Order;
+use crate::search::{gap, not_below, search};
 use ktm_base::NoMemory;
 use std::alloc::Global;
-use std::cmp::Ordering;
 use std::marker::Model;
 
-/// A map from names to values. It finds a name by halves.
+/// A map from names to values. It finds a name by halves, and moves few keys as one comes or goes.
 #[derive(Drop)]
 pub struct Chains<K: Name, T> {
     values: List<Named<K, T>>,
     // The keys of the values, by rising name.
-    order: Vec<Key>,
+    order: Order,
 }
 
 impl<K: Name, T> Model for Chains<K, T> {
-    ghost use Rattle.std.specs.Prelude.{◌-◌, min, vec_len, vec_capacity};
+    ghost use Rattle.std.specs.Prelude.{◌-◌, length, min};
     ghost use Rattle.ktm_links.specs.Mapped.{Mapped, mapped_code};
 
     ghost Value = { Mapped T };
 
     ghost coded = { mapped_code T.code };
 
+    ghost use Rattle.ktm_links.specs.Blocks.{flat};
     ghost use Rattle.ktm_links.specs.Order.{entries_of, IsInOrder};
 
     ghost view = { λ c. record {
-      entries = entries_of c.values.items c.order.items;
+      entries = entries_of c.values.items (flat c.order.blocks);
       next = c.values.next;
-      spare = min c.values.spare (vec_capacity c.order - vec_len c.order);
+      spare = min c.values.spare (c.order.capacity - length (flat c.order.blocks));
     } };
 
-    ghost invariant = { λ c. IsInOrder c.values.items c.order.items };
-}
-
-// How the name of a value stands to this one.
-fn order_of<K: Name, T>(values: &List<Named<K, T>>, key: Key, name: &[u8]) -> Ordering
-    ensures { result ≡ order_at values.now.items name.now key }
-{
-    match values.get(key) {
-        Some(named) => named.name().cmp(name),
-        None => Ordering::Less,
-    }
-}
-
-// Where the name stands, or would stand, by halves.
-fn search<K: Name, T>(
-    values: &List<Named<K, T>>,
-    order: &[Key],
-    name: &[u8],
-) -> Result<usize, usize>
-    ensures bound { IsSearchInRange result (length order.now) }
-    ensures position { IsBinarySearchResult (order_at values.now.items name.now) order.now result }
-{
-    order.binary_search_by(|key| order_of(values, *key, name))
-}
-
-// Where a name that is not there goes. Names mostly rise as they come, so the last one is compared first.
-fn gap<K: Name, T>(values: &List<Named<K, T>>, order: &[Key], name: &[u8]) -> usize
-    requires ordered { IsInOrder values.now.items order.now }
-    requires free { key_at (entries_of values.now.items order.now) name.now ≡ None }
-    ensures bound { result ≤ length order.now }
-    ensures gap { IsPartitionPoint (λ k. order_at values.now.items name.now k ≡ Less) (λ k. order_at values.now.items name.now k ≡ Greater) order.now result }
-{
-    if let Some(last) = order.last() {
-        if let Ordering::Less = order_of(values, *last, name) {
-            return order.len();
-        }
-    }
-    match search(values, order, name) {
-        Ok(i) => i,
-        Err(i) => i,
-    }
-}
-
-// Where the first name stands that is not below this one.
-fn not_below<K: Name, T>(values: &List<Named<K, T>>, order: &[Key], name: &[u8]) -> usize
-    requires { IsInOrder values.now.items order.now }
-    ensures bound { result ≤ length order.now }
-    ensures first { IsFirstNotBelow values.now.items name.now order.now result }
-{
-    match search(values, order, name) {
-        Ok(i) => i,
-        Err(i) => i,
-    }
+    ghost invariant = { λ c. IsInOrder c.values.items (flat c.order.blocks) };
 }
 
 fn value_in<K: Name, T>(named: Option<Named<K, T>>) -> Option<T>
@@ -111,7 +58,7 @@ impl<K: Name, T> Chains<K, T> {
     {
         Chains {
             values: List::new(alloc),
-            order: Vec::new(alloc),
+            order: Order::new(alloc),
         }
     }
 
@@ -121,8 +68,8 @@ impl<K: Name, T> Chains<K, T> {
         ensures value { IfSome result (λ key. value_of self.now.entries key ≡ option_map (λ e. e.1) (at self.now.entries name.now)) }
         ensures absent { IfNone result (at self.now.entries name.now ≡ None) }
     {
-        match search(&self.values, self.order.as_slice(), name) {
-            Ok(i) => Some(self.order[i]),
+        match search(&self.values, self.order.as_blocks(), name) {
+            Ok(spot) => self.order.get(spot),
             Err(_) => None,
         }
     }
@@ -134,12 +81,8 @@ impl<K: Name, T> Chains<K, T> {
         ensures first { IfSome result (λ key. IsFirstOf (λ q. IsNotBelow q name.now) self.now.entries key) }
         ensures none { IfNone result (IsNoneOf (λ q. IsNotBelow q name.now) self.now.entries) }
     {
-        let place = not_below(&self.values, self.order.as_slice(), name);
-        if place < self.order.len() {
-            Some(self.order[place])
-        } else {
-            None
-        }
+        self.order
+            .get(not_below(&self.values, self.order.as_blocks(), name))
     }
 
     /// The key of the value whose name is the first that begins with these bytes.
@@ -188,8 +131,7 @@ impl<K: Name, T> Chains<K, T> {
     pub fn spare(&self) -> usize
         ensures { result ≡ self.now.spare }
     {
-        let places = self.order.capacity() - self.order.len();
-        self.values.spare().min(places)
+        self.values.spare().min(self.order.spare())
     }
 
     /// Makes room for so many more values. It fails where the memory does not reach, or where fewer keys are left: a map
@@ -204,7 +146,7 @@ impl<K: Name, T> Chains<K, T> {
         if let Err(NoMemory) = self.values.reserve(n) {
             return Err(NoMemory);
         }
-        if let Err(_) = self.order.reserve(n) {
+        if let Err(NoMemory) = self.order.reserve(n) {
             return Err(NoMemory);
         }
         Ok(())
@@ -227,11 +169,9 @@ impl<K: Name, T> Chains<K, T> {
         ensures other_keys { (k : Key) → k ≢ result → value_of self.new.entries k ≡ value_of self.old.entries k }
         ensures spent { KeepsSpent self.old self.new }
     {
-        let place = gap(&self.values, self.order.as_slice(), name.as_slice());
+        let spot = gap(&self.values, self.order.as_blocks(), name.as_slice());
         let key = self.values.push_spare(Named::new(name, value));
-        if let Err(_) = self.order.insert(place, key) {
-            unreachable!();
-        }
+        self.order.insert(spot, key);
         key
     }
 
@@ -251,9 +191,9 @@ impl<K: Name, T> Chains<K, T> {
         ensures other_keys { (k : Key) → key_at self.old.entries name.now ≢ Some k → value_of self.new.entries k ≡ value_of self.old.entries k }
         ensures spent { KeepsSpent self.old self.new }
     {
-        match search(&self.values, self.order.as_slice(), name) {
-            Ok(i) => {
-                let key = self.order.remove(i);
+        match search(&self.values, self.order.as_blocks(), name) {
+            Ok(spot) => {
+                let key = self.order.remove(spot);
                 value_in(self.values.unlink(key))
             }
             Err(_) => None,

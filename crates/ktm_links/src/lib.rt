@@ -2,11 +2,14 @@
 //! memory for what comes once its place is reserved.
 #![tactic(auto)]
 
+mod block;
 mod chains;
 mod entry;
 mod list;
 mod name;
 mod named;
+mod order;
+mod search;
 
 pub use chains::Chains;
 pub use list::{Key, List};

@@ -1,29 +1,34 @@
-use Rattle.std.proofs.Common.{◌∙◌, Some, ap, sym}
-use Rattle.std.specs.Option.{option_map}
-use Rattle.ktm_links.specs.Mapped.{NameAndValue}
+use Rattle.std.proofs.Common.{sym}
+use Rattle.ktm_links.specs.Blocks.{index_of}
+use Rattle.ktm_links.proofs.Blocks.{spot_gap, within}
 use Rattle.ktm_links.proofs.Entries.{none_at}
-use Rattle.ktm_links.proofs.Order.{found, absent, taken, keyed}
+use Rattle.ktm_links.proofs.InOrder.{absent, found_key}
 use Rattle.ktm_links.proofs.chains.Chains.find.Goals as goal
 
-pub returns-in-Ok : goal.returns-in-Ok
-returns-in-Ok g c =
-    let position = rw c.as_slice.ensures.value at c.in-Ok.ensures.position in
-    let bound = rw c.as_slice.ensures.value at c.in-Ok.ensures.bound in
-    let key = found _ _ _ c.in-Ok.i c.index.result.now c.self.invariant bound position in
-    let t = taken _ c.args.name.now _ c.in-Ok.i c.index.result.now c.self.invariant bound position c.index.ensures in
+pub get-requires : goal.get-requires
+get-requires g c = spot_gap _ c.in-Ok.spot (rw c.as_blocks.ensures.blocks at c.in-Ok.ensures.spot)
+
+pub returns-in-Ok-clause-key : goal.returns-in-Ok-clause-key
+returns-in-Ok-clause-key g c =
     rw (← c.self.view_is)
-    (record {
-      key = ap Some c.index.ensures ∙ key;
-      value =
-          sym (keyed _ _ c.index.result.now c.self.invariant)
-          ∙ ap (λ o. option_map (λ (n : NameAndValue _). n.value) o) t.stood
-          ∙ sym (ap (λ o. option_map (λ e. e.1) o) t.found);
-      absent = tt;
-    })
+    (found_key _ _ _ (index_of c.self.inside.order.blocks c.in-Ok.spot) _ c.self.invariant (within _ c.in-Ok.spot (rw c.as_blocks.ensures.blocks at c.in-Ok.ensures.spot))
+    (rw c.as_blocks.ensures.blocks at c.in-Ok.ensures.position) c.get.ensures).key
+
+pub returns-in-Ok-clause-value : goal.returns-in-Ok-clause-value
+returns-in-Ok-clause-value g c =
+    rw (← c.self.view_is)
+    (found_key _ _ _ (index_of c.self.inside.order.blocks c.in-Ok.spot) _ c.self.invariant (within _ c.in-Ok.spot (rw c.as_blocks.ensures.blocks at c.in-Ok.ensures.spot))
+    (rw c.as_blocks.ensures.blocks at c.in-Ok.ensures.position) c.get.ensures).value
+
+pub returns-in-Ok-clause-absent : goal.returns-in-Ok-clause-absent
+returns-in-Ok-clause-absent g c =
+    rw (← c.self.view_is)
+    (found_key _ _ _ (index_of c.self.inside.order.blocks c.in-Ok.spot) _ c.self.invariant (within _ c.in-Ok.spot (rw c.as_blocks.ensures.blocks at c.in-Ok.ensures.spot))
+    (rw c.as_blocks.ensures.blocks at c.in-Ok.ensures.position) c.get.ensures).absent
 
 pub returns-in-Err : goal.returns-in-Err
 returns-in-Err g c =
-    let free = absent _ _ _ _ c.self.invariant (rw c.as_slice.ensures.value at c.in-Err.ensures.position) in
+    let free = absent _ _ _ _ c.self.invariant (rw c.as_blocks.ensures.blocks at c.in-Err.ensures.position) in
     rw (← c.self.view_is)
     (record {
       key = free;

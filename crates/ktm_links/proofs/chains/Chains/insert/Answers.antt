@@ -1,6 +1,8 @@
-use Rattle.std.proofs.Common.{◌≡◌, ◌∙◌, ap, sym, take, drop, ◌++◌, ◌∷◌}
+use Rattle.std.proofs.Common.{◌∙◌, ap, sym}
 use Rattle.ktm_links.specs.Mapped.{Mapped, put, at, value_of}
-use Rattle.ktm_links.proofs.Order.{in_order, inserted, value_of-absent}
+use Rattle.ktm_links.proofs.InOrder.{in_order, inserted, value_of-absent}
+use Rattle.ktm_links.specs.Blocks.{index_of}
+use Rattle.ktm_links.proofs.Blocks.{within_gap}
 use Rattle.ktm_links.proofs.Keys.{same_key-other}
 use Rattle.ktm_links.proofs.Entries.{at-put_same, at-put_other, value_of-put_same, value_of-put_other, KeepsSpent-put}
 use Rattle.ktm_links.proofs.chains.Chains.insert.Goals as goal
@@ -8,18 +10,16 @@ use Rattle.ktm_links.proofs.chains.Chains.insert.Goals as goal
 pub invariant_of-self : goal.invariant_of-self
 invariant_of-self g c =
     let items = rw c.new.ensures at c.push_spare-key.ensures.items in
-    let order : c.insert.new.self.items ≡ take c.gap-place.result c.self.inside.order.items ++ c.push_spare-key.result ∷ drop c.gap-place.result c.self.inside.order.items = c.in_default.ensures.items in
-    rw (items, order)
-    (in_order _ _ c.gap-place.result c.push_spare-key.result (record { name = g.K.Name.bytes c.args.name; value = c.args.value }) c.self.invariant c.push_spare-key.ensures.absent
-    (rw c.as_slice.ensures.value at c.gap-place.ensures.bound) (rw (c.as_slice.ensures.value, c.as_slice-2.ensures) at c.gap-place.ensures.gap) (rw (← c.self.view_is) at c.requires.free))
+    rw (items, c.insert.ensures.keys)
+    (in_order _ _ (index_of c.self.inside.order.blocks c.gap-spot.result) c.push_spare-key.result (record { name = g.K.Name.bytes c.args.name; value = c.args.value }) c.self.invariant c.push_spare-key.ensures.absent
+    (within_gap _ c.gap-spot.result (rw c.as_blocks.ensures.blocks at c.gap-spot.ensures.gap)) (rw (c.as_blocks.ensures.blocks, c.as_slice.ensures) at c.gap-spot.ensures.point) (rw (← c.self.view_is) at c.requires.free))
 
 pub returns-clause-entries : goal.returns-clause-entries
 returns-clause-entries g c =
     let items = rw c.new.ensures at c.push_spare-key.ensures.items in
-    let order : c.insert.new.self.items ≡ take c.gap-place.result c.self.inside.order.items ++ c.push_spare-key.result ∷ drop c.gap-place.result c.self.inside.order.items = c.in_default.ensures.items in
-    rw (items, order)
-    (inserted _ _ c.gap-place.result c.push_spare-key.result (record { name = g.K.Name.bytes c.args.name; value = c.args.value }) c.self.invariant c.push_spare-key.ensures.absent
-    (rw c.as_slice.ensures.value at c.gap-place.ensures.bound) (rw (c.as_slice.ensures.value, c.as_slice-2.ensures) at c.gap-place.ensures.gap))
+    rw (items, c.insert.ensures.keys)
+    (inserted _ _ (index_of c.self.inside.order.blocks c.gap-spot.result) c.push_spare-key.result (record { name = g.K.Name.bytes c.args.name; value = c.args.value }) c.self.invariant c.push_spare-key.ensures.absent
+    (within_gap _ c.gap-spot.result (rw c.as_blocks.ensures.blocks at c.gap-spot.ensures.gap)) (rw (c.as_blocks.ensures.blocks, c.as_slice.ensures) at c.gap-spot.ensures.point))
     ∙ ap (λ (m : Mapped _). put m.entries (record { name = g.K.Name.bytes c.args.name; key = c.push_spare-key.result; value = c.args.value })) c.self.view_is
 
 pub returns-clause-under : goal.returns-clause-under

@@ -1,6 +1,6 @@
 -- Lemmas on keys in order of their values' names.
 use Rattle.std.proofs.Common.{◌≡◌, ◌⊎◌, ℕ, zero, suc, ◌<◌, ◌≤◌, ◌-◌, true, false, List, [], ◌∷◌, ◌++◌, length, get_or, take, drop, Option, Some, None, is_some, refl, sym, ap, subst, ◌∙◌, inl, inr, arith}
-use Rattle.std.specs.Prelude.{Ok, Err, OnSome}
+use Rattle.std.specs.Prelude.{Ok, Err, OnSome, IfSome, IfNone}
 use Rattle.std.specs.List.{slice_get}
 use Rattle.std.specs.Option.{option_map}
 use Rattle.std.specs.Ordering.{is_eq, is_lt, ordering_index}
@@ -8,14 +8,15 @@ use Rattle.std.specs.declared.cmp.Ordering.{Ordering}
 use Rattle.std.specs.declared.cmp.Ordering.TheVariants.{Less, Equal, Greater}
 use Rattle.std.specs.List.Sorted.{IsBinarySearchResult, IsNonDecreasingBy, IsPartitionPoint}
 use Rattle.std.proofs.lemmas.Bool.{cases_lt, cases_Bool}
-use Rattle.std.proofs.lemmas.Option.{get_or_from_slice_get, same_Some}
+use Rattle.std.proofs.lemmas.Option.{get_or_from_slice_get, same_Some, slice_get-get_or, slice_get_within}
 use Rattle.ktm_links.specs.declared.list.Key.{Key}
 use Rattle.ktm_links.specs.Items.{Listed, IsSpent as IsSpentKey, Item, item, same_key, value_at, without}
-use Rattle.ktm_links.specs.Mapped.{Mapped, IsSpent, NameAndValue, NamedItem, name_cmp, at, first_from, key_at, put, without_name, value_of}
+use Rattle.ktm_links.specs.Mapped.{Mapped, IsSpent, NameAndValue, NamedItem, name_cmp, at, first_from, key_at, put, without_name, value_of, IsFirstOf, IsNoneOf, IsNotBelow}
 use Rattle.ktm_links.specs.Order.{order_in, order_at, entries_of, AreAbove, IsRising, ArePresent, HasKey, IsInOrder, IsFirstNotBelow}
+use Rattle.ktm_links.proofs.Blocks.{no_key}
 use Rattle.ktm_links.proofs.Names.{less_equal, index_rises, name_equal, name_same, from_is_eq}
 use Rattle.ktm_links.proofs.Keys.{on_some, same_key-true, same_key-self, some_of, none_of, value_at-kept, value_at-last, value_at-others, value_at-append}
-use Rattle.ktm_links.proofs.Entries.{key_at-at, key_at-same, key_at-less, key_at-differs, put-lower, put-higher, rising_put, without_name-same, without_name-less, at-same, at-less, rising_without, value_of-same, value_of-other}
+use Rattle.ktm_links.proofs.Entries.{key_at-at, key_at-same, key_at-less, key_at-differs, put-lower, put-higher, rising_put, without_name-same, without_name-less, at-same, at-less, rising_without, value_of-same, value_of-other, first_from-least, first_from-nothing}
 
 HasKey-inserted : (ks : List Key) (i : ℕ) (key other : Key) → (key ≡ other) ⊎ HasKey other ks → HasKey other (take i ks ++ key ∷ drop i ks)
 HasKey-inserted ks zero key other has = has
@@ -31,6 +32,30 @@ HasKey-removed [] i d other differs has = absurd has
 HasKey-removed (k ∷ ks) zero d other differs has = elim has [ inl same ↦ absurd (differs same) | inr rest ↦ rest ]
 HasKey-removed (k ∷ ks) (suc i) d other differs has =
     elim has [ inl same ↦ inl same | inr rest ↦ inr (HasKey-removed ks i d other differs rest) ]
+
+-- a list in order is told by what stands on both sides of a place
+pub point_between : {A : Type 0} (f : A → Ordering) (xs : List A) (i : ℕ) → IsNonDecreasingBy (λ x. ordering_index (f x)) xs → i ≤ length xs
+    → ((d : A) → 0 < i → f (get_or xs (i - 1) d) ≡ Less) → ((d : A) → i < length xs → f (get_or xs i d) ≡ Greater)
+    → IsPartitionPoint (λ x. f x ≡ Less) (λ x. f x ≡ Greater) xs i
+point_between f xs i rises bound below above = (
+  λ k d from within.
+      least (f (get_or xs k d))
+      (subst (λ o. ordering_index (f (get_or xs k d)) ≤ ordering_index o) (below d (omega (arith, within)))
+      (rises k (i - 1) d (omega (arith, within)) (omega (arith, within, bound)))),
+  λ k d from within.
+      most (f (get_or xs k d))
+      (subst (λ o. ordering_index o ≤ ordering_index (f (get_or xs k d))) (above d (omega (arith, from, within))) (rises i k d from within)),
+)
+  where
+    least : (o : Ordering) → ordering_index o ≤ ordering_index Less → o ≡ Less
+    least Less small = refl
+    least Equal small = absurd (omega (arith, small))
+    least Greater small = absurd (omega (arith, small))
+
+    most : (o : Ordering) → ordering_index Greater ≤ ordering_index o → o ≡ Greater
+    most Less great = absurd (omega (arith, great))
+    most Equal great = absurd (omega (arith, great))
+    most Greater great = refl
 
 module _ {T : Type 0} where
   abbrev entry : Key → NameAndValue T → NamedItem T
@@ -68,25 +93,6 @@ module _ {T : Type 0} where
       let s = some_of (value_at items k) present.0 in
       let rising' = rw (entries_of-cons items k ks s.0 s.1) at rising in
       searchable items name ks present.1 rising'.1 i j d (omega arith) (omega arith)
-
-  -- where the last name is below, all names are
-  pub all_below : (items : List (Item (NameAndValue T))) (name : List ℕ) (ks : List Key) → IsInOrder items ks → (last : Key) → slice_get ks (length ks - 1) ≡ Some last
-      → order_at items name last ≡ Less → (i : ℕ) (d : Key) → i < length ks → order_at items name (get_or ks i d) ≡ Less
-  all_below items name ks ordered last is less i d within = elim (cases_lt i (length ks - 1)) [
-    | inl lower ↦
-        (let highest = get_or_from_slice_get ks (length ks - 1) last d is in
-        least (order_at items name (get_or ks i d))
-        (subst (λ o. ordering_index (order_at items name (get_or ks i d)) ≤ ordering_index o) (ap (λ k. order_at items name k) highest ∙ less)
-        (searchable items name ks ordered.present ordered.rising i (length ks - 1) d (omega (arith, lower)) (omega (arith, within)))))
-    | inr upper ↦
-        (let same : i ≡ length ks - 1 = omega (arith, upper, within) in
-        ap (λ n. order_at items name (get_or ks n d)) same ∙ ap (λ k. order_at items name k) (get_or_from_slice_get ks (length ks - 1) last d is) ∙ less)
-  ]
-    where
-      least : (o : Ordering) → ordering_index o ≤ ordering_index Less → o ≡ Less
-      least Less small = refl
-      least Equal small = absurd (omega (arith, small))
-      least Greater small = absurd (omega (arith, small))
 
   -- a key whose value has the name is what the look-up by recursion finds
   key_at-found : (items : List (Item (NameAndValue T))) (name : List ℕ) (ks : List Key) (i : ℕ) (d : Key) → ArePresent items ks → IsRising (entries_of items ks)
@@ -319,10 +325,10 @@ module _ {T : Type 0} where
       ]
 
   -- what stands under a name is a value with that name
-  pub at-stands : (items : List (Item (NameAndValue T))) (ks : List Key) (q : List ℕ) (key : Key) (v : T) → ArePresent items ks
+  at-stands_present : (items : List (Item (NameAndValue T))) (ks : List Key) (q : List ℕ) (key : Key) (v : T) → ArePresent items ks
       → at (entries_of items ks) q ≡ Some (key, v) → (n : NameAndValue T) × (value_at items key ≡ Some n) × (n.name ≡ q) × (n.value ≡ v)
-  at-stands items [] q key v present found = absurd (cc)
-  at-stands items (k ∷ ks) q key v present found =
+  at-stands_present items [] q key v present found = absurd (cc)
+  at-stands_present items (k ∷ ks) q key v present found =
       let s = some_of (value_at items k) present.0 in
       let found' = rw (entries_of-cons items k ks s.0 s.1) at found in
       elim (cases_Bool (is_eq (name_cmp s.0.name q))) [
@@ -330,8 +336,13 @@ module _ {T : Type 0} where
             let same = same_Some (k, s.0.value) (key, v) (rw this at found') in
             let key_is : k ≡ key = ap (λ p. p.0) same in
             (s.0, ap (λ x. value_at items x) (sym key_is) ∙ s.1, name_equal s.0.name q (from_is_eq (name_cmp s.0.name q) this), ap (λ p. p.1) same)
-        | inr other ↦ at-stands items ks q key v present.1 (rw other at found')
+        | inr other ↦ at-stands_present items ks q key v present.1 (rw other at found')
       ]
+
+  -- the same, of keys in order
+  pub at-stands : (items : List (Item (NameAndValue T))) (ks : List Key) (q : List ℕ) (key : Key) (v : T) → IsInOrder items ks
+      → at (entries_of items ks) q ≡ Some (key, v) → (n : NameAndValue T) × (value_at items key ≡ Some n) × (n.name ≡ q) × (n.value ≡ v)
+  at-stands items ks q key v ordered found = at-stands_present items ks q key v ordered.present found
 
   -- the key of what was removed is spent
   pub taken_spent : (items : List (Item (NameAndValue T))) (name : List ℕ) (ks : List Key) (i : ℕ) (key : Key) (unlinked : Listed (NameAndValue T)) (new : Mapped T)
@@ -416,3 +427,65 @@ module _ {T : Type 0} where
       let s = some_of (value_at items k) present.0 in
       first_from-below items name k ks s.0 s.1 (first.below zero k (omega arith))
       ∙ first_from-none items name ks i present.1 (first_from-later items name k ks i first) (omega (arith, past))
+
+  -- ---- what a key that was found stands for
+  -- what is known of a key that was read where a search found the name
+  pub record IsFoundKey (items : List (Item (NameAndValue T))) (ks : List Key) (name : List ℕ) (o : Option Key) : Type 0 where
+    pub key : o ≡ key_at (entries_of items ks) name
+    pub value : IfSome o (λ key. value_of (entries_of items ks) key ≡ option_map (λ e. e.1) (at (entries_of items ks) name))
+    pub absent : IfNone o (at (entries_of items ks) name ≡ None)
+
+  -- a key that was read there
+  pub found_key : (items : List (Item (NameAndValue T))) (name : List ℕ) (ks : List Key) (i : ℕ) (o : Option Key) → IsInOrder items ks → i < length ks
+      → IsBinarySearchResult (order_at items name) ks (Ok i) → o ≡ slice_get ks i → IsFoundKey items ks name o
+  found_key items name ks i None ordered within result is =
+      absurd (let some = is ∙ slice_get-get_or ks i no_key within in cc)
+  found_key items name ks i (Some key) ordered within result is =
+      let here : key ≡ get_or ks i key = sym (get_or_from_slice_get ks i key key (sym is)) in
+      let t = taken items name ks i key ordered within result here in
+      record {
+        key = ap Some here ∙ found items name ks i key ordered within result;
+        value =
+            sym (keyed items ks key ordered)
+            ∙ ap (λ o. option_map (λ (n : NameAndValue T). n.value) o) t.stood
+            ∙ sym (ap (λ o. option_map (λ e. e.1) o) t.found);
+        absent = tt;
+      }
+
+  -- what is known of a key that was read where the first name not below stands
+  pub record IsFirstKey (items : List (Item (NameAndValue T))) (ks : List Key) (name : List ℕ) (o : Option Key) : Type 0 where
+    pub key : o ≡ option_map (λ e. e.0) (first_from (entries_of items ks) name)
+    pub value : IfSome o (λ key. value_of (entries_of items ks) key ≡ option_map (λ e. e.1) (first_from (entries_of items ks) name))
+    pub first : IfSome o (λ key. IsFirstOf (λ q. IsNotBelow q name) (entries_of items ks) key)
+    pub none : IfNone o (IsNoneOf (λ q. IsNotBelow q name) (entries_of items ks))
+
+  -- a key that was read there, or none
+  pub first_key : (items : List (Item (NameAndValue T))) (name : List ℕ) (ks : List Key) (i : ℕ) (o : Option Key) → IsInOrder items ks
+      → IsFirstNotBelow items name ks i → o ≡ slice_get ks i → IsFirstKey items ks name o
+  first_key items name ks i None ordered first is =
+      let past : length ks ≤ i =
+      elim (cases_lt i (length ks)) [
+        | inl within ↦ absurd (let some = is ∙ slice_get-get_or ks i no_key within in cc)
+        | inr past ↦ past
+      ] in
+      let nothing = first_from-none items name ks i ordered.present first past in
+      record {
+        key = sym (ap (λ o. option_map (λ e. e.0) o) nothing);
+        value = tt;
+        first = tt;
+        none = first_from-nothing (entries_of items ks) name nothing;
+      }
+  first_key items name ks i (Some key) ordered first is =
+      let here : get_or ks i key ≡ key = get_or_from_slice_get ks i key key (sym is) in
+      let this = first_from-at items name ks i key ordered.present first (slice_get_within ks i key (sym is)) in
+      let stood : value_at items key ≡ Some this.0 = ap (λ k. value_at items k) (sym here) ∙ this.1 in
+      let gives : first_from (entries_of items ks) name ≡ Some (key, this.0.value) = this.2 ∙ ap (λ k. Some (k, this.0.value)) here in
+      record {
+        key = sym (ap (λ o. option_map (λ e. e.0) o) gives);
+        value =
+            sym (keyed items ks key ordered)
+            ∙ ap (λ o. option_map (λ (n : NameAndValue T). n.value) o) stood
+            ∙ sym (ap (λ o. option_map (λ e. e.1) o) gives);
+        first = first_from-least (entries_of items ks) name key this.0.value ordered.rising gives;
+        none = tt;
+      }

@@ -1,0 +1,247 @@
+// Keys in order.
+ghost use Rattle.std.specs.Prelude.{◌≡◌, ◌+◌, ◌-◌, ◌<◌, ◌≤◌, ◌∷◌, ◌++◌, [], IsOk, OnOk, OnErr, length, get_or, set, take, drop, vec_capacity};
+ghost use Rattle.std.specs.List.{insert, remove, slice_get};
+ghost use Rattle.ktm_links.specs.Blocks.{flat, block_at, index_of, AreUsed, IsGap, IsRoom, IsSpot};
+
+use crate::block::{Block, HALF, Spot};
+use crate::list::Key;
+use ktm_base::NoMemory;
+use std::alloc::Global;
+use std::marker::Model;
+
+/// Keys in order, in blocks, so that one is put in or taken out with a move of a block's keys at most.
+#[derive(Drop)]
+pub(crate) struct Order {
+    // Each has a key.
+    blocks: Vec<Block>,
+    // Blocks with no key, for those that come.
+    stock: Vec<Block>,
+    // How many keys there are.
+    len: usize,
+    alloc: Global,
+}
+
+impl Model for Order {
+    ghost use Rattle.std.specs.Prelude.{◌+◌, length, vec_capacity};
+    ghost use Rattle.ktm_links.specs.Blocks.{Blocks, blocks_code};
+
+    ghost Value = { Blocks };
+
+    ghost coded = { blocks_code };
+
+    ghost use Rattle.ktm_links.specs.Blocks.{AreBlocks};
+
+    ghost view = { λ o. record {
+      blocks = o.blocks.items;
+      capacity = length o.blocks.items + length o.stock.items;
+    } };
+
+    ghost invariant = { λ o. AreBlocks o.blocks.items o.stock.items (vec_capacity o.blocks) (vec_capacity o.stock) o.len };
+}
+
+// Puts the key into the block that has room for it.
+fn insert_in(blocks: &mut Vec<Block>, spot: Spot, key: Key)
+    requires { IsRoom blocks.old.items spot }
+    ensures items { blocks.new.items ≡ set blocks.old.items spot.block (insert (block_at blocks.old.items spot.block) spot.place key) }
+    ensures capacity { vec_capacity blocks.new ≡ vec_capacity blocks.old }
+{
+    blocks[spot.block].insert(spot.place, key);
+}
+
+// Takes the key out of its block.
+fn remove_in(blocks: &mut Vec<Block>, spot: Spot) -> Key
+    requires { IsSpot blocks.old.items spot }
+    ensures key { result ≡ get_or (block_at blocks.old.items spot.block) spot.place result }
+    ensures items { blocks.new.items ≡ set blocks.old.items spot.block (remove (block_at blocks.old.items spot.block) spot.place) }
+    ensures capacity { vec_capacity blocks.new ≡ vec_capacity blocks.old }
+{
+    blocks[spot.block].remove(spot.place)
+}
+
+// Moves the upper half of the block to this one, which is put behind it.
+fn split_in(blocks: &mut Vec<Block>, at: usize, upper: Block)
+    requires within { at < length blocks.old.items }
+    requires free { upper ≡ [] }
+    requires room { length blocks.old.items < vec_capacity blocks.old }
+    ensures items { blocks.new.items ≡ insert (set blocks.old.items at (take 16 (block_at blocks.old.items at))) (at + 1) (drop 16 (block_at blocks.old.items at)) }
+    ensures capacity { vec_capacity blocks.new ≡ vec_capacity blocks.old }
+{
+    let mut upper = upper;
+    blocks[at].split_to(&mut upper);
+    if let Err(_) = blocks.insert(at + 1, upper) {
+        unreachable!();
+    }
+}
+
+impl Order {
+    pub(crate) fn new(alloc: Global) -> Order
+        ensures { result.blocks ≡ [] }
+    {
+        Order {
+            blocks: Vec::new(alloc),
+            stock: Vec::new(alloc),
+            len: 0,
+            alloc,
+        }
+    }
+
+    pub(crate) fn as_blocks(&self) -> &[Block]
+        ensures blocks { result.now ≡ self.now.blocks }
+        ensures used { AreUsed result.now }
+    {
+        self.blocks.as_slice()
+    }
+
+    /// How many keys can come without memory.
+    pub(crate) fn spare(&self) -> usize
+        ensures { result ≡ self.now.capacity - length (flat self.now.blocks) }
+    {
+        self.blocks.len() + self.stock.len() - self.len
+    }
+
+    // One more block.
+    fn grow(&mut self) -> Result<(), NoMemory>
+        ensures blocks { self.new.blocks ≡ self.old.blocks }
+        ensures ok { OnOk result (self.new.capacity ≡ self.old.capacity + 1) }
+        ensures spare { OnOk result (self.new.capacity - length (flat self.new.blocks) ≡ self.old.capacity - length (flat self.old.blocks) + 1) }
+        ensures err { OnErr result (self.new.capacity ≡ self.old.capacity) }
+    {
+        if let Err(_) = self.blocks.reserve(self.stock.len() + 1) {
+            return Err(NoMemory);
+        }
+        if let Err(_) = self.stock.reserve(self.blocks.len() + 1) {
+            return Err(NoMemory);
+        }
+        match Block::new(self.alloc) {
+            Ok(block) => {
+                self.stock.push_reserved(block);
+                Ok(())
+            }
+            Err(NoMemory) => Err(NoMemory),
+        }
+    }
+
+    /// Makes room for so many more keys.
+    pub(crate) fn reserve(&mut self, n: usize) -> Result<(), NoMemory>
+        ensures blocks { self.new.blocks ≡ self.old.blocks }
+        ensures room { OnOk result (n ≤ self.new.capacity - length (flat self.new.blocks)) }
+        ensures enough { n ≤ self.old.capacity - length (flat self.old.blocks) → IsOk result }
+        ensures grows { self.old.capacity ≤ self.new.capacity }
+    {
+        for spare in self.spare()..n {
+            if let Err(NoMemory) = self.grow() {
+                return Err(NoMemory);
+            }
+        }
+        Ok(())
+    }
+
+    /// The key that stands there.
+    pub(crate) fn get(&self, spot: Spot) -> Option<Key>
+        requires { IsGap self.now.blocks spot }
+        ensures { result ≡ slice_get (flat self.now.blocks) (index_of self.now.blocks spot) }
+    {
+        match self.blocks.get(spot.block) {
+            Some(block) => block.get(spot.place),
+            None => None,
+        }
+    }
+
+    // Puts the key behind all others, in a block of its own.
+    fn push_block(&mut self, key: Key)
+        requires { length (flat self.old.blocks) < self.old.capacity }
+        ensures blocks { self.new.blocks ≡ self.old.blocks ++ (key ∷ []) ∷ [] }
+        ensures capacity { self.new.capacity ≡ self.old.capacity }
+    {
+        match self.stock.pop() {
+            Some(block) => {
+                let mut block = block;
+                block.insert(0, key);
+                self.blocks.push_reserved(block);
+                self.len += 1;
+            }
+            None => unreachable!(),
+        }
+    }
+
+    // Splits a full block in two.
+    fn split(&mut self, at: usize)
+        requires within { at < length self.old.blocks }
+        requires full { 32 ≤ length (block_at self.old.blocks at) }
+        requires room { length (flat self.old.blocks) < self.old.capacity }
+        ensures blocks { self.new.blocks ≡ insert (set self.old.blocks at (take 16 (block_at self.old.blocks at))) (at + 1) (drop 16 (block_at self.old.blocks at)) }
+        ensures capacity { self.new.capacity ≡ self.old.capacity }
+    {
+        match self.stock.pop() {
+            Some(upper) => split_in(&mut self.blocks, at, upper),
+            None => unreachable!(),
+        }
+    }
+
+    // Where the key goes, once its block has room.
+    fn room_at(&mut self, spot: Spot) -> Spot
+        requires gap { IsGap self.old.blocks spot }
+        requires within { spot.block < length self.old.blocks }
+        requires room { length (flat self.old.blocks) < self.old.capacity }
+        ensures room { IsRoom self.new.blocks result }
+        ensures index { index_of self.new.blocks result ≡ index_of self.old.blocks spot }
+        ensures keys { flat self.new.blocks ≡ flat self.old.blocks }
+        ensures capacity { self.new.capacity ≡ self.old.capacity }
+    {
+        if !self.blocks[spot.block].is_full() {
+            return spot;
+        }
+        self.split(spot.block);
+        if spot.place > HALF {
+            Spot {
+                block: spot.block + 1,
+                place: spot.place - HALF,
+            }
+        } else {
+            spot
+        }
+    }
+
+    // Puts the key into a block that has room.
+    fn put(&mut self, spot: Spot, key: Key)
+        requires spot { IsRoom self.old.blocks spot }
+        requires room { length (flat self.old.blocks) < self.old.capacity }
+        ensures keys { flat self.new.blocks ≡ insert (flat self.old.blocks) (index_of self.old.blocks spot) key }
+        ensures capacity { self.new.capacity ≡ self.old.capacity }
+    {
+        insert_in(&mut self.blocks, spot, key);
+        self.len += 1;
+    }
+
+    /// Puts the key in there, and takes no memory.
+    pub(crate) fn insert(&mut self, spot: Spot, key: Key)
+        requires gap { IsGap self.old.blocks spot }
+        requires room { length (flat self.old.blocks) < self.old.capacity }
+        ensures keys { flat self.new.blocks ≡ insert (flat self.old.blocks) (index_of self.old.blocks spot) key }
+        ensures spare { self.new.capacity - length (flat self.new.blocks) + 1 ≡ self.old.capacity - length (flat self.old.blocks) }
+    {
+        if spot.block == self.blocks.len() {
+            self.push_block(key);
+        } else {
+            let spot = self.room_at(spot);
+            self.put(spot, key);
+        }
+    }
+
+    /// Takes out the key that stands there.
+    pub(crate) fn remove(&mut self, spot: Spot) -> Key
+        requires { IsSpot self.old.blocks spot }
+        ensures key { result ≡ get_or (flat self.old.blocks) (index_of self.old.blocks spot) result }
+        ensures keys { flat self.new.blocks ≡ remove (flat self.old.blocks) (index_of self.old.blocks spot) }
+        ensures spare { self.new.capacity - length (flat self.new.blocks) ≡ self.old.capacity - length (flat self.old.blocks) + 1 }
+    {
+        let key = remove_in(&mut self.blocks, spot);
+        self.len -= 1;
+        if self.blocks[spot.block].len() > 0 {
+            return key;
+        }
+        let block = self.blocks.remove(spot.block);
+        self.stock.push_reserved(block);
+        key
+    }
+}
