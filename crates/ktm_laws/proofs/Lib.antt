@@ -18,6 +18,7 @@ pub mod FilesKept
 pub mod Finishing
 pub mod FirstOpening
 pub mod Fitting
+pub mod Following
 pub mod Formed
 pub mod GoodStates
 pub mod Grammars
@@ -44,6 +45,7 @@ pub mod Owning
 pub mod Parts
 pub mod Passing
 pub mod Pigeons
+pub mod Placing
 pub mod PlainCalls
 pub mod Preparing
 pub mod Procedures
