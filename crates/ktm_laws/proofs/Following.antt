@@ -5,11 +5,12 @@ use Rattle.std.proofs.lemmas.Bool.{cases_Bool, and_left, true≢false, false_fro
 use Rattle.std.proofs.lemmas.Option.{none-some, same_Some}
 use Rattle.std.specs.List.{flat_map}
 use Rattle.ktm_base.specs.declared.id.Id.{Id}
+use Rattle.ktm_types.specs.declared.event.Event.{Event}
 use Rattle.ktm_types.specs.declared.object.Phase.{Phase}
 use Rattle.ktm_types.specs.declared.object.Transaction.{Transaction}
 use Rattle.ktm_types.specs.declared.recorded.Stage.{Stage}
 use Rattle.ktm_types.specs.declared.reply.Reply.{Reply}
-use Rattle.ktm_world.specs.Committed.{committed_with}
+use Rattle.ktm_world.specs.Committed.{Work, committed_with}
 use Rattle.ktm_world.specs.Durable.{after_events, is_before}
 use Rattle.ktm_world.specs.Enlistments.{Enlistment, is_durable_at, is_superior, superior_of, takes_part}
 use Rattle.ktm_world.specs.Files.{own_changes}
@@ -107,6 +108,21 @@ pub record Follows (x : Present) (front rest : List Summary) (d : Course) : Type
   pub managers : (after_events x.recorded d.events).managers ≡ x.recorded.managers
   pub next_node : (after_events x.recorded d.events).next_node ≤ x.files.table.next_node
   pub transactions : map summary_of (after_events x.recorded d.events).transactions ≡ front ++ (course_summaries d ++ rest)
+
+-- ---- the other transactions
+
+-- the same where its events and works are known
+pub follows-from : (x : Present) (front rest : List Summary) (d : Course) (es : List Event) (ws : List Work) → d.events ≡ es → d.works ≡ ws
+    → (after_events x.recorded es).tree ≡ (committed_with (committed_now x) ws).tree → (after_events x.recorded es).keys ≡ (committed_with (committed_now x) ws).store
+    → (after_events x.recorded es).managers ≡ x.recorded.managers → (after_events x.recorded es).next_node ≤ x.files.table.next_node
+    → map summary_of (after_events x.recorded es).transactions ≡ front ++ (course_summaries d ++ rest) → Follows x front rest d
+follows-from x front rest d es ws events works tree keys managers next transactions = record {
+  tree = ap (λ es. (after_events x.recorded es).tree) events ∙ tree ∙ sym (ap (λ ws. (committed_with (committed_now x) ws).tree) works);
+  keys = ap (λ es. (after_events x.recorded es).keys) events ∙ keys ∙ sym (ap (λ ws. (committed_with (committed_now x) ws).store) works);
+  managers = ap (λ es. (after_events x.recorded es).managers) events ∙ managers;
+  next_node = subst (λ es. (after_events x.recorded es).next_node ≤ x.files.table.next_node) (sym events) next;
+  transactions = ap (λ es. map summary_of (after_events x.recorded es).transactions) events ∙ transactions;
+}
 
 -- ---- the other transactions
 

@@ -64,6 +64,7 @@ pub mod SoundWorlds
 pub mod Steps
 pub mod Tables
 pub mod Undecided
+pub mod Undoing
 pub mod Versions
 pub mod Views
 pub mod Waiting
