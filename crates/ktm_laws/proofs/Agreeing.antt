@@ -1,6 +1,6 @@
 -- What was recorded agrees with what is so now after what changes nothing that the log has of transactions.
 use Rattle.std.specs.Prelude.{if◌then◌else◌}
-use Rattle.std.proofs.Common.{◌≡◌, ℕ, ◌≤◌, ◌&&◌, not, Bool, true, false, List, [], ◌∷◌, ◌++◌, map, filter, Option, Some, None, refl, sym, ◌∙◌, ap, subst, arith, inl, inr}
+use Rattle.std.proofs.Common.{◌≡◌, ℕ, ◌≤◌, ◌&&◌, not, Bool, true, false, List, [], ◌∷◌, ◌++◌, map, filter, find, Option, Some, None, refl, sym, ◌∙◌, ap, subst, arith, inl, inr, ◌⊎◌}
 use Rattle.std.proofs.lemmas.Bool.{cases_Bool, true≢false}
 use Rattle.std.proofs.lemmas.List.{append-nil}
 use Rattle.std.specs.List.{flat_map}
@@ -40,6 +40,22 @@ flat_map-alike f g (x ∷ xs) same = λ i. same x (inl refl) i ++ flat_map-alike
 pub filter-alike : {X : Type 0} (f g : X → Bool) (xs : List X) → ((x : X) → IsIn x xs → f x ≡ g x) → filter f xs ≡ filter g xs
 filter-alike f g [] same = refl
 filter-alike f g (x ∷ xs) same = λ i. if same x (inl refl) i then x ∷ filter-alike f g xs (λ y there. same y (inr there)) i else filter-alike f g xs (λ y there. same y (inr there)) i
+
+-- what a test does not pass, before and behind a step, or the step leaves, is as it was among those that pass
+pub filter-step : {X : Type 0} (test : X → Bool) (step : X → X) (xs : List X) → ((x : X) → IsIn x xs → ((test (step x) ≡ false) × (test x ≡ false)) ⊎ (step x ≡ x)) → filter test (map step xs) ≡ filter test xs
+filter-step test step [] each = refl
+filter-step test step (x ∷ xs) each = elim (each x (inl refl)) [
+  | inl neither ↦ rw (neither.0, neither.1) (filter-step test step xs (λ y there. each y (inr there)))
+  | inr same ↦ λ i. if test (same i) then same i ∷ filter-step test step xs (λ y there. each y (inr there)) i else filter-step test step xs (λ y there. each y (inr there)) i
+]
+
+-- and so is the first that passes
+pub find-step : {X : Type 0} (test : X → Bool) (step : X → X) (xs : List X) → ((x : X) → IsIn x xs → ((test (step x) ≡ false) × (test x ≡ false)) ⊎ (step x ≡ x)) → find test (map step xs) ≡ find test xs
+find-step test step [] each = refl
+find-step test step (x ∷ xs) each = elim (each x (inl refl)) [
+  | inl neither ↦ rw (neither.0, neither.1) (find-step test step xs (λ y there. each y (inr there)))
+  | inr same ↦ λ i. if test (same i) then Some (same i) else find-step test step xs (λ y there. each y (inr there)) i
+]
 
 -- ---- resource managers
 

@@ -24,7 +24,7 @@ use Rattle.ktm_world.specs.Transactions.{change_at, same_id, is_undecided}
 use Rattle.ktm_world.specs.World.{by_rising_id}
 use Rattle.ktm_laws.specs.Footprint.{IsIn}
 use Rattle.ktm_laws.specs.SoundCourse.{IsSoundCourse, is_outcome_of}
-use Rattle.ktm_laws.proofs.Agreeing.{IsAsBefore, durable-stays, filter-alike, flat_map-alike, managers-stay, summaries, summaries-kept}
+use Rattle.ktm_laws.proofs.Agreeing.{IsAsBefore, durable-stays, filter-alike, filter-step, find-step, flat_map-alike, managers-stay, summaries, summaries-kept}
 use Rattle.ktm_laws.proofs.Elements.{IsIn-unflat}
 use Rattle.ktm_laws.proofs.Moves.{if_cases, IsSame, Moved}
 use Rattle.ktm_laws.proofs.Placing.{AreAt, AreBefore, AreBehind, Place, earlier-other, gathered-at, later-other, place, placed}
@@ -146,27 +146,12 @@ module _ (x : Present) (sound : IsSoundCourse x) (t : Transaction) (there : IsIn
   pub was : Agrees x → map summary_of x.recorded.transactions ≡ front ++ (summaries x t ++ rest)
   was agrees = agrees.transactions ∙ ap (flat_map (summaries x)) at.all ∙ gathered-at (summaries x) at.before at.behind t
 
-  -- the enlistments of another transaction stay
-  stays-of : (u : Transaction) → same_id u.id t.id ≡ false → (e : Enlistment) → IsIn e x.transactions.enlistments → (same_id e.transaction u.id ≡ false) ⊎ (moved.step e ≡ e)
-  stays-of u other e there' = elim (cases_Bool (same_id e.transaction u.id)) [
-    | inr away ↦ inl away
+  -- what only another transaction's enlistments pass, those pass that passed it
+  stays-of : (u : Transaction) → same_id u.id t.id ≡ false → (test : Enlistment → Bool) → ((e : Enlistment) → same_id e.transaction u.id ≡ false → test e ≡ false) → (e : Enlistment) → IsIn e x.transactions.enlistments
+      → ((test (moved.step e) ≡ false) × (test e ≡ false)) ⊎ (moved.step e ≡ e)
+  stays-of u other test away e there' = elim (cases_Bool (same_id e.transaction u.id)) [
+    | inr elsewhere ↦ inl (away (moved.step e) (ap (λ id. same_id id u.id) (moved.same e).transaction ∙ elsewhere), away e elsewhere)
     | inl own ↦ inr (moved.others e there' (subst (λ id. same_id id t.id ≡ false) (sym (same_id-equal e.transaction u.id own)) other))
-  ]
-
-  -- so a test that only they pass keeps the same ones
-  filter-step : (u : Transaction) → same_id u.id t.id ≡ false → (test : Enlistment → Bool) → ((e : Enlistment) → same_id e.transaction u.id ≡ false → test e ≡ false) → (es : List Enlistment)
-      → ((e : Enlistment) → IsIn e es → IsIn e x.transactions.enlistments) → filter test (map moved.step es) ≡ filter test es
-  filter-step u other test away [] within = refl
-  filter-step u other test away (e ∷ es) within = elim (stays-of u other e (within e (inl refl))) [
-    | inl elsewhere ↦ rw (away (moved.step e) (ap (λ id. same_id id u.id) (moved.same e).transaction ∙ elsewhere), away e elsewhere) (filter-step u other test away es (λ f there'. within f (inr there')))
-    | inr same ↦ λ i. if test (same i) then same i ∷ filter-step u other test away es (λ f there'. within f (inr there')) i else filter-step u other test away es (λ f there'. within f (inr there')) i
-  ]
-
-  find-step : (u : Transaction) → same_id u.id t.id ≡ false → (es : List Enlistment) → ((e : Enlistment) → IsIn e es → IsIn e x.transactions.enlistments) → superior_of (map moved.step es) u.id ≡ superior_of es u.id
-  find-step u other [] within = refl
-  find-step u other (e ∷ es) within = elim (stays-of u other e (within e (inl refl))) [
-    | inl elsewhere ↦ rw (ap (λ id. same_id id u.id) (moved.same e).transaction ∙ elsewhere, elsewhere) (find-step u other es (λ f there'. within f (inr there')))
-    | inr same ↦ λ i. if same_id (same i).transaction u.id && is_superior (same i) then Some (same i) else find-step u other es (λ f there'. within f (inr there')) i
   ]
 
   pub begun : summaries x t ≡ course_summaries (course_of x t caller)
@@ -186,12 +171,12 @@ module _ (x : Present) (sound : IsSoundCourse x) (t : Transaction) (there : IsIn
       enlistments =
           ap (λ es. by_rising_id (map brought_back (filter (λ e. takes_part u.id e && is_durable_at y.managers e.manager && e.is_prepared && not e.is_finished) es))) (is.enlistments ∙ moved.enlistments)
           ∙ ap (λ es. by_rising_id (map brought_back es))
-          (filter-step u other (λ e. takes_part u.id e && is_durable_at y.managers e.manager && e.is_prepared && not e.is_finished)
-          (λ e elsewhere. rw elsewhere refl) x.transactions.enlistments (λ e there'. there'))
+          (filter-step (λ e. takes_part u.id e && is_durable_at y.managers e.manager && e.is_prepared && not e.is_finished) moved.step x.transactions.enlistments
+          (stays-of u other (λ e. takes_part u.id e && is_durable_at y.managers e.manager && e.is_prepared && not e.is_finished) (λ e elsewhere. rw elsewhere refl)))
           ∙ ap (λ es. by_rising_id (map brought_back es))
           (filter-alike (λ e. takes_part u.id e && is_durable_at y.managers e.manager && e.is_prepared && not e.is_finished) (λ e. takes_part u.id e && is_durable_at x.managers e.manager && e.is_prepared && not e.is_finished)
           x.transactions.enlistments (λ e there' i. takes_part u.id e && durable-stays x o e.manager is.made i && e.is_prepared && not e.is_finished));
-      superior = λ stage stands later. ap superior_now (ap (λ es. superior_of es u.id) (is.enlistments ∙ moved.enlistments) ∙ find-step u other x.transactions.enlistments (λ e there'. there'));
+      superior = λ stage stands later. ap superior_now (ap (λ es. superior_of es u.id) (is.enlistments ∙ moved.enlistments) ∙ find-step (λ e. same_id e.transaction u.id && is_superior e) moved.step x.transactions.enlistments (stays-of u other (λ e. same_id e.transaction u.id && is_superior e) (λ e elsewhere. and_left _ _ elsewhere)));
       changes = is.changes u.id (subst (λ id. same_id u.id id ≡ false) (sym moved.id) other);
       settings = is.settings u.id (subst (λ id. same_id u.id id ≡ false) (sym moved.id) other);
     })

@@ -1,4 +1,5 @@
 pub mod Agreeing
+pub mod AgreeingCalls
 pub mod Answering
 pub mod Applying
 pub mod Arrivals

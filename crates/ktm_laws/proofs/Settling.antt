@@ -253,7 +253,7 @@ notes_for-append id (s ∷ a) b = elim (cases_Bool (same_id s.manager id)) [
   | inr other ↦ rw other (notes_for-append id a b)
 ]
 
-served-then : (took : Option Id) (a b : List Sent) (ms : List Manager) → map (served None b) (map (served took a) ms) ≡ map (served took (a ++ b)) ms
+pub served-then : (took : Option Id) (a b : List Sent) (ms : List Manager) → map (served None b) (map (served took a) ms) ≡ map (served took (a ++ b)) ms
 served-then took a b [] = refl
 served-then took a b (m ∷ ms) = λ i.
     record m { queue = (append_assoc (drop (taken_count m.id took) m.queue) (notes_for m.id a) (notes_for m.id b) ∙ ap (λ notes. drop (taken_count m.id took) m.queue ++ notes) (sym (notes_for-append m.id a b))) i }
