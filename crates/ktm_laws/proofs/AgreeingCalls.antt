@@ -75,14 +75,14 @@ agrees-alike x y same agrees =
 
 pub agrees-joined : (x : Present) (a b : Outcome) → IsQuiet b → Agrees (apply (apply x a) b) → Agrees (apply x (joined a b))
 agrees-joined x a b quiet agrees = agrees-alike (apply (apply x a) b) (apply x (joined a b)) (λ i. (
-      sym (fold-append after_event x.recorded a.events b.events) i,
-      (committed i).tree,
-      (committed i).store,
-      managers i,
-      b.transactions,
-      b.table,
-      b.own,
-    )) agrees
+  sym (fold-append after_event x.recorded a.events b.events) i,
+  (committed i).tree,
+  (committed i).store,
+  managers i,
+  b.transactions,
+  b.table,
+  b.own,
+)) agrees
   where
     committed : committed_with (committed_with (committed_now x) a.works) b.works ≡ committed_with (committed_now x) (a.works ++ b.works)
     committed = sym (fold-append with_work (committed_now x) a.works b.works)
@@ -241,15 +241,15 @@ agrees-create_enlistment x process label (Some m) (Some t) kind sound agrees act
     let o = create_enlistment x process label (Some m) (Some t) kind in
     let e = new_enlistment x m t kind in
     agrees-still x o agrees refl refl (managers-stay x o refl) (omega arith) (summaries-stay x (apply x o) refl (λ u there recorded.
-        let other = active-other x sound t u (active t refl).0 there (active t refl).1 recorded in record {
-          enlistments = ap (λ es. by_rising_id (map brought_back es)) (
-              filter-silent (λ f. takes_part u.id f && is_durable_at (apply x o).managers f.manager && f.is_prepared && not f.is_finished) x.transactions.enlistments e (rw other refl)
-              ∙ filter-alike (λ f. takes_part u.id f && is_durable_at (apply x o).managers f.manager && f.is_prepared && not f.is_finished) (λ f. takes_part u.id f && is_durable_at x.managers f.manager && f.is_prepared && not f.is_finished)
-              x.transactions.enlistments (λ f there' i. takes_part u.id f && durable-stays x o f.manager refl i && f.is_prepared && not f.is_finished));
-          superior = λ stage stands later. ap superior_now (superior-silent u.id x.transactions.enlistments e (and_left _ _ other));
-          changes = refl;
-          settings = refl;
-        }))
+    let other = active-other x sound t u (active t refl).0 there (active t refl).1 recorded in record {
+      enlistments = ap (λ es. by_rising_id (map brought_back es)) (
+          filter-silent (λ f. takes_part u.id f && is_durable_at (apply x o).managers f.manager && f.is_prepared && not f.is_finished) x.transactions.enlistments e (rw other refl)
+          ∙ filter-alike (λ f. takes_part u.id f && is_durable_at (apply x o).managers f.manager && f.is_prepared && not f.is_finished) (λ f. takes_part u.id f && is_durable_at x.managers f.manager && f.is_prepared && not f.is_finished)
+          x.transactions.enlistments (λ f there' i. takes_part u.id f && durable-stays x o f.manager refl i && f.is_prepared && not f.is_finished));
+      superior = λ stage stands later. ap superior_now (superior-silent u.id x.transactions.enlistments e (and_left _ _ other));
+      changes = refl;
+      settings = refl;
+    }))
 
 pub agrees-keep_information : (x : Present) (o : Option Enlistment) (information : List ℕ) → IsSoundCourse x → Agrees x → ((e : Enlistment) → o ≡ Some e → IsIn e x.transactions.enlistments) → Passes (set_information_tests x o information)
     → Agrees (apply x (keep_information x o information))
@@ -258,7 +258,7 @@ agrees-keep_information x (Some e) information sound agrees there passes =
     agrees-still x o agrees refl refl (managers-stay x o refl) (omega arith) (summaries-stay x (apply x o) refl (λ u there' recorded. record {
       enlistments = ap (λ es. by_rising_id (map brought_back es)) (
           filter-step (λ f. takes_part u.id f && is_durable_at (apply x o).managers f.manager && f.is_prepared && not f.is_finished) informed x.transactions.enlistments (λ f in_list.
-              either (λ f. takes_part u.id f && is_durable_at (apply x o).managers f.manager && f.is_prepared && not f.is_finished) (λ f. refl) (no-part u.id) f in_list)
+          either (λ f. takes_part u.id f && is_durable_at (apply x o).managers f.manager && f.is_prepared && not f.is_finished) (λ f. refl) (no-part u.id) f in_list)
           ∙ filter-alike (λ f. takes_part u.id f && is_durable_at (apply x o).managers f.manager && f.is_prepared && not f.is_finished) (λ f. takes_part u.id f && is_durable_at x.managers f.manager && f.is_prepared && not f.is_finished)
           x.transactions.enlistments (λ f in_list i. takes_part u.id f && durable-stays x o f.manager refl i && f.is_prepared && not f.is_finished));
       superior = λ stage stands later. ap superior_now (find-step (λ f. same_id f.transaction u.id && is_superior f) informed x.transactions.enlistments (λ f in_list.

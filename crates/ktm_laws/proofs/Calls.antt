@@ -33,7 +33,7 @@ use Rattle.ktm_laws.proofs.Answering.{stands-in, here-from, fresh-from, can_roll
 use Rattle.ktm_laws.proofs.Arrivals.{stands-now, brought-now}
 use Rattle.ktm_laws.proofs.Outcomes.{stay-refl, undecided-free}
 use Rattle.ktm_laws.proofs.Settling.{IsSoundOutcome, sound-only_reply, sound-arrived}
-use Rattle.ktm_laws.proofs.Moves.{NoBoots-none, find-found}
+use Rattle.ktm_laws.proofs.Moves.{NoBoots-none, find-found, if_parts}
 
 -- ---- refusals
 
@@ -251,20 +251,17 @@ module _ (x : Present) (sound : IsSoundCourse x) (o : Option Enlistment) (there 
       (arrives-single_phase_rejected (x.recorded).boots (course_of x t caller) (stands-now x t caller sound at) (brought-now x t caller sound) sound.enlistments_rise e (there e is) own single both.1)
       (subst (λ p. can_roll_back p ≡ true) (sym single) refl))
 
+  -- an enlistment that may roll its transaction back does so in a phase in which that is possible
+  pub rolls : (e : Enlistment) (t : Transaction) → transaction_in x e ≡ Some t → may_roll_back_by x e ≡ true → can_roll_back t.phase ≡ true
+  rolls e t found may = elim (if_parts (is_superior e) (phase_passes x lets_superior_roll_back e) (may_vote x e) may) [
+    | inl above ↦ superior-rolls t.phase (phase-passed x lets_superior_roll_back e t found above.1)
+    | inr below ↦ voting-rolls t.phase (phase-passed x is_voting e t found (and_parts (not (is_superior e) && is_open_for_votes e) (phase_passes x is_voting e) below.1).1)
+  ]
+
   pub sound-rollback_enlistment : Passes (enlistment_tests o (may_roll_back_by x)) → IsSoundOutcome x (answering x o (λ c e. aborting c))
   sound-rollback_enlistment tests = sound-answering x o (λ c e. aborting c) sound (λ e is t caller at own found.
       let can = rolls e t found (enlistment-allowed o (may_roll_back_by x) e is tests) in
       goes t caller at (aborting (course_of x t caller)) (arrives-rolled_back (x.recorded).boots (course_of x t caller) (stands-now x t caller sound at) (brought-now x t caller sound) can) can)
-    where
-      if_either : (b p q : Bool) → (if b then p else q) ≡ true → (p ≡ true) ⊎ (q ≡ true)
-      if_either true p q is = inl is
-      if_either false p q is = inr is
-
-      rolls : (e : Enlistment) (t : Transaction) → transaction_in x e ≡ Some t → may_roll_back_by x e ≡ true → can_roll_back t.phase ≡ true
-      rolls e t found may = elim (if_either (is_superior e) (phase_passes x lets_superior_roll_back e) (may_vote x e) may) [
-        | inl above ↦ superior-rolls t.phase (phase-passed x lets_superior_roll_back e t found above)
-        | inr below ↦ voting-rolls t.phase (phase-passed x is_voting e t found (and_parts (not (is_superior e) && is_open_for_votes e) (phase_passes x is_voting e) below).1)
-      ]
 
   pub sound-pre_prepare_enlistment : Passes (superior_tests x o before_pre_prepare) → IsSoundOutcome x (answering x o (λ c e. to_pre_prepare c))
   sound-pre_prepare_enlistment tests = sound-answering x o (λ c e. to_pre_prepare c) sound (λ e is t caller at own found.

@@ -1,5 +1,6 @@
 pub mod Agreeing
 pub mod AgreeingCalls
+pub mod AgreeingCommands
 pub mod Answering
 pub mod Applying
 pub mod Arrivals

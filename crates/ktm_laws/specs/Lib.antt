@@ -1,3 +1,4 @@
+pub mod Agreeing
 pub mod Diamond
 pub mod FilesKept
 pub mod FinalChanges

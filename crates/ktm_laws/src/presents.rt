@@ -1,4 +1,5 @@
 // Laws of presents.
+ghost use Rattle.ktm_laws.specs.Agreeing.{AgreeingLaw};
 ghost use Rattle.ktm_laws.specs.FirstOpening.{FirstOpeningLaw};
 ghost use Rattle.ktm_laws.specs.FilesKept.{FilesKeptLaw};
 ghost use Rattle.ktm_laws.specs.Openings.{OpeningLaw};
@@ -36,6 +37,13 @@ pub fn law_of_files_kept()
 pub fn law_of_recordings()
     ensures { RecordingsLaw }
 {}
+
+/// What was recorded goes on to agree with what is so now, by commands that bring no transaction further, by rollbacks and by time.
+pub fn law_of_agreement()
+    ensures { AgreeingLaw }
+{
+    law_of_step();
+}
 
 /// Every world of a run is sound, where it began with a restart of a good state.
 pub fn law_of_sound_worlds()

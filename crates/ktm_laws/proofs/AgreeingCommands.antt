@@ -1,0 +1,202 @@
+-- What was recorded agrees with what is so now after every command that brings no transaction further, and after time.
+use Rattle.std.proofs.Common.{◌≡◌, ℕ, Bool, true, false, List, [], ◌∷◌, Option, Some, None, refl, sym, ap, subst, not, ◌++◌, arith}
+use Rattle.std.proofs.lemmas.Bool.{true≢false}
+use Rattle.std.specs.Prelude.{if◌then◌else◌}
+use Rattle.ktm_base.specs.declared.id.Id.{Id}
+use Rattle.ktm_base.specs.declared.id.Label.{Label}
+use Rattle.ktm_base.specs.declared.id.Pid.{Pid}
+use Rattle.ktm_base.specs.declared.refusal.Refusal.{Refusal}
+use Rattle.ktm_base.specs.declared.refusal.Refusal.TheVariants.{LogFull, MachineDown}
+use Rattle.ktm_types.specs.declared.command.Command.{Command}
+use Rattle.ktm_types.specs.declared.command.Command.TheVariants.{CreateTransaction, OpenTransaction, CommitTransaction, RollbackTransaction, GetTransactionInformation, CreateResourceManager, OpenResourceManager, RecoverResourceManager, GetNotificationResourceManager, CreateEnlistment, OpenEnlistment, RecoverEnlistment, PrePrepareComplete, PrepareComplete, ReadOnlyEnlistment, CommitComplete, RollbackComplete, SinglePhaseReject, RollbackEnlistment, PrePrepareEnlistment, PrepareEnlistment, CommitEnlistment, SetEnlistmentRecoveryInformation, GetEnlistmentRecoveryInformation, CreateFile, CreateFileTransacted, ReadFile, WriteFile, SetEndOfFile, GetFileSizeEx, FlushFileBuffers, DeleteFile, CreateDirectory, RemoveDirectory, MoveFile, DeleteFileTransacted, CreateDirectoryTransacted, RemoveDirectoryTransacted, MoveFileTransacted, FindFiles, FindFilesTransacted, KvSet, KvUnset, KvGet, KvList, CloseHandle, DuplicateHandle, Exit}
+use Rattle.ktm_types.specs.declared.object.Object.{Object}
+use Rattle.ktm_types.specs.declared.object.Phase.TheVariants.{Active}
+use Rattle.ktm_types.specs.declared.object.Transaction.{Transaction}
+use Rattle.ktm_types.specs.declared.reply.Reply.{Reply}
+use Rattle.ktm_types.specs.declared.reply.Reply.TheVariants.{Done, Refused}
+use Rattle.ktm_world.specs.Decide.{bound_file, caller, command_effect, command_tests, decide, of_files, of_keys, on_file, opening, with_room}
+use Rattle.ktm_world.specs.Enlistments.{Enlistment, Manager, is_superior}
+use Rattle.ktm_world.specs.FileCalls.{create_file, read_file, write_file, set_end, get_size, flush_file, delete_file, create_directory, remove_directory, move_file, find_files}
+use Rattle.ktm_world.specs.FileOutcome.{FileOutcome}
+use Rattle.ktm_world.specs.Files.{OpenFile}
+use Rattle.ktm_world.specs.HandleCalls.{bind_to, duplicate_handle}
+use Rattle.ktm_world.specs.Handles.{object_at}
+use Rattle.ktm_world.specs.KeyCalls.{kv_get, kv_list, with_setting}
+use Rattle.ktm_world.specs.Labels.{enlistment_named, file_named, file_tests, manager_named, transaction_named, transaction_tests, viewer}
+use Rattle.ktm_world.specs.Lawful.{Agrees}
+use Rattle.ktm_world.specs.Laws.{StepLaw}
+use Rattle.ktm_world.specs.Outcome.{Outcome, apply, first_refusal, is_full, only_reply, refuse_or, within_log}
+use Rattle.ktm_world.specs.Phases.{aborting}
+use Rattle.ktm_world.specs.Present.{Present, Transactions}
+use Rattle.ktm_world.specs.TransactionCalls.{answering, create_enlistment_tests, enlistment_tests, enlistment_with, get_information, get_notification, get_transaction_information, goes_on, information_in, information_of, manager_with, may_roll_back_by, open_enlistment, open_resource_manager, open_to_enlistment, open_to_manager, open_to_transaction, open_transaction, recover_all, recover_resource_manager, rollback_enlistment, rollback_of, rollback_transaction, rollback_transaction_tests, set_information, take_first, tick, transaction_in, transaction_with}
+use Rattle.ktm_world.specs.World.{decide_tick, present}
+use Rattle.ktm_laws.specs.Agreeing.{AgreeingLaw, brings_further}
+use Rattle.ktm_laws.specs.Footprint.{IsIn}
+use Rattle.ktm_laws.specs.SoundCourse.{IsSoundCourse}
+use Rattle.ktm_laws.proofs.Agreeing.{agrees-of_files, agrees-reply, agrees-still, as-owned, managers-stay, recorded-later, summaries-stay}
+use Rattle.ktm_laws.proofs.AgreeingCalls.{agrees-closed, agrees-create_enlistment, agrees-create_manager, agrees-create_transaction, agrees-exit, agrees-keep_information, agrees-only_reply, agrees-tick}
+use Rattle.ktm_laws.proofs.Calls.{Passes, active-phase, enlistment-allowed, enlistment-named, may-roll, not-not, passed, rolls, transaction-named, transaction_at-found}
+use Rattle.ktm_laws.proofs.FileSteps.{IsActiveCaller, caller-active, file-active, passes-left, plain-caller, with_setting-same}
+use Rattle.ktm_laws.proofs.Moves.{if_cases}
+use Rattle.ktm_laws.proofs.Undoing.{agrees-aborted_by}
+
+module _ (x : Present) (sound : IsSoundCourse x) (agrees : Agrees x) where
+  replies : (reply : Reply) → Agrees (apply x (only_reply x reply))
+  replies reply = agrees-only_reply x reply agrees
+
+  -- an outcome that changes no more than handles, notifications and the reply
+  still : (o : Outcome) → o.events ≡ [] → o.works ≡ [] → o.made ≡ [] → o.transactions ≡ x.transactions → o.table ≡ x.files.table → o.own ≡ x.keys.own → Agrees (apply x o)
+  still o no_events no_works none transactions table own = agrees-reply x o agrees no_events no_works none (ap (λ (ts : Transactions). ts.items) transactions) (ap (λ (ts : Transactions). ts.enlistments) transactions) table own
+
+  opened-transaction : (process : Pid) (label : Label) (t : Option Transaction) → Agrees (apply x (open_to_transaction x process label t))
+  opened-transaction process label None = replies Done
+  opened-transaction process label (Some t) = still (open_to_transaction x process label (Some t)) refl refl refl refl refl refl
+
+  opened-manager : (process : Pid) (label : Label) (m : Option Manager) → Agrees (apply x (open_to_manager x process label m))
+  opened-manager process label None = replies Done
+  opened-manager process label (Some m) = still (open_to_manager x process label (Some m)) refl refl refl refl refl refl
+
+  opened-enlistment : (process : Pid) (label : Label) (e : Option Enlistment) → Agrees (apply x (open_to_enlistment x process label e))
+  opened-enlistment process label None = replies Done
+  opened-enlistment process label (Some e) = still (open_to_enlistment x process label (Some e)) refl refl refl refl refl refl
+
+  bound : (process : Pid) (label : Label) (object : Option Object) → Agrees (apply x (bind_to x process label object))
+  bound process label None = replies Done
+  bound process label (Some object) = still (bind_to x process label (Some object)) refl refl refl refl refl refl
+
+  told : (m : Option Manager) → Agrees (apply x (recover_all x m))
+  told None = replies Done
+  told (Some m) = still (recover_all x (Some m)) refl refl refl refl refl refl
+
+  taken : (m : Option Manager) → Agrees (apply x (take_first x m))
+  taken None = replies Done
+  taken (Some m) = still (take_first x (Some m)) refl refl refl refl refl refl
+
+  rolled : (o : Option Transaction) → ((t : Transaction) → o ≡ Some t → IsIn t x.transactions.items) → Passes (rollback_transaction_tests o) → Agrees (apply x (rollback_of x o))
+  rolled None there tests = replies Done
+  rolled (Some t) there tests =
+      let here = passed tests in let committed = passed here.1 in let aborted = passed committed.1 in let may = passed aborted.1 in
+      agrees-aborted_by x sound agrees t (there t refl) None Done (may-roll t (not-not _ may.0))
+
+  rolled-by : (o : Option Enlistment) → ((e : Enlistment) → o ≡ Some e → IsIn e x.transactions.enlistments) → Passes (enlistment_tests o (may_roll_back_by x)) → Agrees (apply x (answering x o (λ c e. aborting c)))
+  rolled-by None there tests = replies Done
+  rolled-by (Some e) there tests = go (transaction_in x e) refl
+    where
+      caller-of : Option Id
+      caller-of = if is_superior e then Some e.id else None
+
+      go : (o : Option Transaction) → transaction_in x e ≡ o → Agrees (apply x (goes_on x e o caller-of (λ c e. aborting c)))
+      go None is = replies Done
+      go (Some t) is = agrees-aborted_by x sound agrees t (transaction_at-found x.transactions.items e.transaction t is).0 caller-of Done
+          (rolls x sound (Some e) there e t is (enlistment-allowed (Some e) (may_roll_back_by x) e refl tests))
+
+  files : (who : Option Id) (o : FileOutcome) → IsActiveCaller x who → Agrees (apply x (of_files x who o))
+  files who o active = agrees-of_files x who o sound agrees active
+
+  opens : (process : Pid) (label : Label) (who : Option Id) (o : FileOutcome) → IsActiveCaller x who → Agrees (apply x (opening x process label who o))
+  opens process label who o active = go o.opened
+    where
+      go : (opened : Option OpenFile) → Agrees (apply x (bound_file process label opened (of_files x who o)))
+      go None = files who o active
+      go (Some file) = let is = files who o active in record { tree = is.tree; keys = is.keys; managers = is.managers; transactions = is.transactions; next_node = is.next_node }
+
+  on-file : (process : Pid) (label : Label) (call : OpenFile → FileOutcome) → Passes (file_tests x process label) → Agrees (apply x (on_file x (file_named x process label) call))
+  on-file process label call passes = go (file_named x process label) refl
+    where
+      go : (o : Option OpenFile) → file_named x process label ≡ o → Agrees (apply x (on_file x o call))
+      go None is = replies Done
+      go (Some o) is = files o.transaction (call o) (file-active x process label o sound is passes)
+
+  sets : (who : Option Id) (key : List ℕ) (value : Option (List ℕ)) → IsActiveCaller x who → Agrees (apply x (of_keys x (record { reply = Done; own = with_setting x.keys.own who key value })))
+  sets who key value active =
+      let o = of_keys x (record { reply = Done; own = with_setting x.keys.own who key value }) in
+      agrees-still x o agrees refl refl (managers-stay x o refl) (omega arith)
+      (summaries-stay x (apply x o) refl (λ t there recorded. as-owned x o t refl refl refl (with_setting-same x who key value active t there (recorded-later x t sound there recorded))))
+
+  enlisting : (o : Option Transaction) → ((t : Transaction) → o ≡ Some t → IsIn t x.transactions.items) → (tests : List (Bool × Refusal)) → Passes (transaction_tests o ++ tests) → (t : Transaction) → o ≡ Some t → IsIn t x.transactions.items × (t.phase ≡ Active)
+  enlisting o there tests passes t is =
+      let here = passed (subst (λ o. Passes (transaction_tests o ++ tests)) is passes) in let committed = passed here.1 in let aborted = passed committed.1 in let active = passed aborted.1 in
+      (there t is, active-phase t (not-not _ active.0))
+
+  agrees-command : (process : Pid) (command : Command) → brings_further command ≡ false → Passes (command_tests x process command) → Agrees (apply x (command_effect x process command))
+  unfolding open_transaction rollback_transaction get_transaction_information open_resource_manager recover_resource_manager get_notification create_enlistment_tests open_enlistment rollback_enlistment set_information get_information duplicate_handle
+  agrees-command process (CreateTransaction label timeout) other passes = agrees-create_transaction x process label timeout agrees
+  agrees-command process (OpenTransaction label guid) other passes = opened-transaction process label (transaction_with x guid)
+  agrees-command process (RollbackTransaction label) other passes = rolled (transaction_named x process label) (transaction-named x process label) passes
+  agrees-command process (GetTransactionInformation label) other passes = replies (information_of x (transaction_named x process label))
+  agrees-command process (CreateResourceManager label durability) other passes = agrees-create_manager x process label durability sound agrees
+  agrees-command process (OpenResourceManager label guid) other passes = opened-manager process label (manager_with x guid)
+  agrees-command process (RecoverResourceManager label) other passes = told (manager_named x process label)
+  agrees-command process (GetNotificationResourceManager label) other passes = taken (manager_named x process label)
+  agrees-command process (CreateEnlistment label manager transaction kind) other passes =
+      agrees-create_enlistment x process label (manager_named x process manager) (transaction_named x process transaction) kind sound agrees
+      (enlisting (transaction_named x process transaction) (transaction-named x process transaction) _ (passed passes).1)
+  agrees-command process (OpenEnlistment label manager guid) other passes = opened-enlistment process label (enlistment_with x (manager_named x process manager) guid)
+  agrees-command process (RollbackEnlistment label) other passes = rolled-by (enlistment_named x process label) (enlistment-named x process label) passes
+  agrees-command process (SetEnlistmentRecoveryInformation label information) other passes = agrees-keep_information x (enlistment_named x process label) information sound agrees (enlistment-named x process label) passes
+  agrees-command process (GetEnlistmentRecoveryInformation label) other passes = replies (information_in (enlistment_named x process label))
+  agrees-command process (CreateFile label path access share disposition) other passes =
+      opens process label None (create_file x.files None path access share disposition) (plain-caller x)
+  agrees-command process (CreateFileTransacted label path access share disposition transaction) other passes =
+      let is = caller-active x process transaction _ sound passes in
+      opens process label (caller x process transaction) (create_file x.files (caller x process transaction) path access share disposition) is.0
+  agrees-command process (ReadFile file offset many) other passes = on-file process file (λ o. read_file x.files o offset many) (passes-left (file_tests x process file) _ passes)
+  agrees-command process (WriteFile file offset bytes) other passes = on-file process file (λ o. write_file o offset bytes) (passes-left (file_tests x process file) _ passes)
+  agrees-command process (SetEndOfFile file size) other passes = on-file process file (λ o. set_end o size) (passes-left (file_tests x process file) _ passes)
+  agrees-command process (GetFileSizeEx file) other passes = on-file process file (λ o. get_size x.files o) passes
+  agrees-command process (FlushFileBuffers file) other passes = on-file process file (λ o. flush_file) (passes-left (file_tests x process file) _ passes)
+  agrees-command process (DeleteFile path) other passes = files None (delete_file x.files None path) (plain-caller x)
+  agrees-command process (CreateDirectory path) other passes = files None (create_directory x.files None path) (plain-caller x)
+  agrees-command process (RemoveDirectory path) other passes = files None (remove_directory x.files None path) (plain-caller x)
+  agrees-command process (MoveFile source target) other passes = files None (move_file x.files None source target) (plain-caller x)
+  agrees-command process (DeleteFileTransacted path transaction) other passes =
+      files (caller x process transaction) (delete_file x.files (caller x process transaction) path) (caller-active x process transaction _ sound passes).0
+  agrees-command process (CreateDirectoryTransacted path transaction) other passes =
+      files (caller x process transaction) (create_directory x.files (caller x process transaction) path) (caller-active x process transaction _ sound passes).0
+  agrees-command process (RemoveDirectoryTransacted path transaction) other passes =
+      files (caller x process transaction) (remove_directory x.files (caller x process transaction) path) (caller-active x process transaction _ sound passes).0
+  agrees-command process (MoveFileTransacted source target transaction) other passes =
+      files (caller x process transaction) (move_file x.files (caller x process transaction) source target) (caller-active x process transaction _ sound passes).0
+  agrees-command process (FindFiles searched) other passes = files None (find_files x.files None searched) (plain-caller x)
+  agrees-command process (FindFilesTransacted searched transaction) other passes =
+      files (caller x process transaction) (find_files x.files (caller x process transaction) searched) (caller-active x process transaction _ sound passes).0
+  agrees-command process (KvSet transaction key value) other passes = sets (caller x process transaction) key (Some value) (caller-active x process transaction _ sound passes).0
+  agrees-command process (KvUnset transaction key) other passes = sets (caller x process transaction) key None (caller-active x process transaction _ sound passes).0
+  agrees-command process (KvGet view key) other passes = still (of_keys x (kv_get x.keys (viewer x process view) key)) refl refl refl refl refl refl
+  agrees-command process (KvList view) other passes = still (of_keys x (kv_list x.keys (viewer x process view))) refl refl refl refl refl refl
+  agrees-command process (CloseHandle label) other passes = agrees-closed x process label sound agrees
+  agrees-command process (DuplicateHandle label from source) other passes = bound process label (object_at x.handles from source)
+  agrees-command process Exit other passes = agrees-exit x process sound agrees
+  agrees-command process _ other passes = absurd (true≢false other)
+
+  -- refused or not
+  agrees-refuse_or : (tests : List (Bool × Refusal)) (effect : Outcome) → (Passes tests → Agrees (apply x effect)) → Agrees (apply x (refuse_or x (first_refusal tests) effect))
+  agrees-refuse_or tests effect is = or_refused (first_refusal tests) refl
+    where
+      or_refused : (refusal : Option Refusal) → first_refusal tests ≡ refusal → Agrees (apply x (refuse_or x refusal effect))
+      or_refused (Some refusal) refused = replies (Refused refusal)
+      or_refused None none = is (record { none = none })
+
+  agrees-with_room : (process : Pid) (command : Command) → brings_further command ≡ false → Agrees (apply x (with_room x process command))
+  agrees-with_room process command other = agrees-refuse_or ((not x.machine.is_up, MachineDown) ∷ command_tests x process command) (command_effect x process command) (λ passes. agrees-command process command other (passed passes).1)
+
+  -- with room in the log or without
+  agrees-within_log : (o : Outcome) → Agrees (apply x o) → Agrees (apply x (within_log x o))
+  agrees-within_log o is = if_cases (λ o. Agrees (apply x o)) (is_full x.machine.left o.events) (record (only_reply x (Refused LogFull)) { stops = true }) o
+      (λ full. still (record (only_reply x (Refused LogFull)) { stops = true }) refl refl refl refl refl refl) (λ room. is)
+
+  agrees-decided : (process : Pid) (command : Command) → brings_further command ≡ false → Agrees (apply x (decide x process command))
+  agrees-decided process command other = agrees-within_log (with_room x process command) (agrees-with_room process command other)
+
+  agrees-decide_tick : (ms : ℕ) → Agrees (apply x (decide_tick x ms))
+  agrees-decide_tick ms = agrees-within_log _ (agrees-refuse_or ((not x.machine.is_up, MachineDown) ∷ []) (tick x ms) (λ passes. agrees-tick x ms sound agrees))
+
+pub agreeing_law : StepLaw → AgreeingLaw
+agreeing_law step = record {
+  commands = λ x process command sound agrees other. agrees-with_room x sound agrees process command other;
+  decided = λ x process command sound agrees other. agrees-decided x sound agrees process command other;
+  ticks = λ x ms sound agrees. agrees-decide_tick x sound agrees ms;
+  worlds = λ w process command within sound agrees other. subst Agrees (sym (step.1 w process command within)) (agrees-decided (present w) sound agrees process command other);
+  later_worlds = λ w ms within sound agrees. subst Agrees (sym (step.2 w ms within)) (agrees-decide_tick (present w) sound agrees ms);
+  falls = λ w power agrees. record { tree = agrees.tree; keys = agrees.keys; managers = agrees.managers; transactions = agrees.transactions; next_node = agrees.next_node };
+}
