@@ -1,6 +1,6 @@
 -- What was recorded agrees with what is so now after every command that brings no transaction further, and after time.
 use Rattle.std.proofs.Common.{◌≡◌, ℕ, Bool, true, false, List, [], ◌∷◌, Option, Some, None, refl, sym, ap, subst, not, ◌++◌, arith}
-use Rattle.std.proofs.lemmas.Bool.{true≢false}
+use Rattle.std.proofs.lemmas.Bool.{and_parts, not-true, true≢false}
 use Rattle.std.specs.Prelude.{if◌then◌else◌}
 use Rattle.ktm_base.specs.declared.id.Id.{Id}
 use Rattle.ktm_base.specs.declared.id.Label.{Label}
@@ -8,14 +8,14 @@ use Rattle.ktm_base.specs.declared.id.Pid.{Pid}
 use Rattle.ktm_base.specs.declared.refusal.Refusal.{Refusal}
 use Rattle.ktm_base.specs.declared.refusal.Refusal.TheVariants.{LogFull, MachineDown}
 use Rattle.ktm_types.specs.declared.command.Command.{Command}
-use Rattle.ktm_types.specs.declared.command.Command.TheVariants.{CreateTransaction, OpenTransaction, CommitTransaction, RollbackTransaction, GetTransactionInformation, CreateResourceManager, OpenResourceManager, RecoverResourceManager, GetNotificationResourceManager, CreateEnlistment, OpenEnlistment, RecoverEnlistment, PrePrepareComplete, PrepareComplete, ReadOnlyEnlistment, CommitComplete, RollbackComplete, SinglePhaseReject, RollbackEnlistment, PrePrepareEnlistment, PrepareEnlistment, CommitEnlistment, SetEnlistmentRecoveryInformation, GetEnlistmentRecoveryInformation, CreateFile, CreateFileTransacted, ReadFile, WriteFile, SetEndOfFile, GetFileSizeEx, FlushFileBuffers, DeleteFile, CreateDirectory, RemoveDirectory, MoveFile, DeleteFileTransacted, CreateDirectoryTransacted, RemoveDirectoryTransacted, MoveFileTransacted, FindFiles, FindFilesTransacted, KvSet, KvUnset, KvGet, KvList, CloseHandle, DuplicateHandle, Exit}
+use Rattle.ktm_types.specs.declared.command.Command.TheVariants.{CreateTransaction, OpenTransaction, RollbackTransaction, GetTransactionInformation, CreateResourceManager, OpenResourceManager, RecoverResourceManager, GetNotificationResourceManager, CreateEnlistment, OpenEnlistment, RecoverEnlistment, RollbackComplete, SinglePhaseReject, RollbackEnlistment, SetEnlistmentRecoveryInformation, GetEnlistmentRecoveryInformation, CreateFile, CreateFileTransacted, ReadFile, WriteFile, SetEndOfFile, GetFileSizeEx, FlushFileBuffers, DeleteFile, CreateDirectory, RemoveDirectory, MoveFile, DeleteFileTransacted, CreateDirectoryTransacted, RemoveDirectoryTransacted, MoveFileTransacted, FindFiles, FindFilesTransacted, KvSet, KvUnset, KvGet, KvList, CloseHandle, DuplicateHandle, Exit}
 use Rattle.ktm_types.specs.declared.object.Object.{Object}
 use Rattle.ktm_types.specs.declared.object.Phase.TheVariants.{Active}
 use Rattle.ktm_types.specs.declared.object.Transaction.{Transaction}
 use Rattle.ktm_types.specs.declared.reply.Reply.{Reply}
 use Rattle.ktm_types.specs.declared.reply.Reply.TheVariants.{Done, Refused}
 use Rattle.ktm_world.specs.Decide.{bound_file, caller, command_effect, command_tests, decide, of_files, of_keys, on_file, opening, with_room}
-use Rattle.ktm_world.specs.Enlistments.{Enlistment, Manager, is_superior}
+use Rattle.ktm_world.specs.Enlistments.{Enlistment, Manager, is_superior, owes_commit, owes_rollback, rollback}
 use Rattle.ktm_world.specs.FileCalls.{create_file, read_file, write_file, set_end, get_size, flush_file, delete_file, create_directory, remove_directory, move_file, find_files}
 use Rattle.ktm_world.specs.FileOutcome.{FileOutcome}
 use Rattle.ktm_world.specs.Files.{OpenFile}
@@ -26,16 +26,22 @@ use Rattle.ktm_world.specs.Labels.{enlistment_named, file_named, file_tests, man
 use Rattle.ktm_world.specs.Lawful.{Agrees}
 use Rattle.ktm_world.specs.Laws.{StepLaw}
 use Rattle.ktm_world.specs.Outcome.{Outcome, apply, first_refusal, is_full, only_reply, refuse_or, within_log}
-use Rattle.ktm_world.specs.Phases.{aborting}
+use Rattle.ktm_world.specs.Phases.{Course, aborting, recovered, rollback_answered, single_phase_rejected}
 use Rattle.ktm_world.specs.Present.{Present, Transactions}
-use Rattle.ktm_world.specs.TransactionCalls.{answering, create_enlistment_tests, enlistment_tests, enlistment_with, get_information, get_notification, get_transaction_information, goes_on, information_in, information_of, manager_with, may_roll_back_by, open_enlistment, open_resource_manager, open_to_enlistment, open_to_manager, open_to_transaction, open_transaction, recover_all, recover_resource_manager, rollback_enlistment, rollback_of, rollback_transaction, rollback_transaction_tests, set_information, take_first, tick, transaction_in, transaction_with}
+use Rattle.ktm_world.specs.TransactionCalls.{answering, arrived, course_of, is_one_phase, may_recover, may_reject_one_phase, phase_passes, recover_enlistment, rollback_complete, single_phase_reject, create_enlistment_tests, enlistment_tests, enlistment_with, get_information, get_notification, get_transaction_information, goes_on, information_in, information_of, manager_with, may_roll_back_by, open_enlistment, open_resource_manager, open_to_enlistment, open_to_manager, open_to_transaction, open_transaction, recover_all, recover_resource_manager, rollback_enlistment, rollback_of, rollback_transaction, rollback_transaction_tests, set_information, take_first, tick, transaction_in, transaction_with}
+use Rattle.ktm_world.specs.Transactions.{same_id}
 use Rattle.ktm_world.specs.World.{decide_tick, present}
 use Rattle.ktm_laws.specs.Agreeing.{AgreeingLaw, brings_further}
 use Rattle.ktm_laws.specs.Footprint.{IsIn}
-use Rattle.ktm_laws.specs.SoundCourse.{IsSoundCourse}
+use Rattle.ktm_laws.specs.SoundCourse.{IsSoundCourse, is_recorded_as}
 use Rattle.ktm_laws.proofs.Agreeing.{agrees-of_files, agrees-reply, agrees-still, as-owned, managers-stay, recorded-later, summaries-stay}
 use Rattle.ktm_laws.proofs.AgreeingCalls.{agrees-closed, agrees-create_enlistment, agrees-create_manager, agrees-create_transaction, agrees-exit, agrees-keep_information, agrees-only_reply, agrees-tick}
-use Rattle.ktm_laws.proofs.Calls.{Passes, active-phase, enlistment-allowed, enlistment-named, may-roll, not-not, passed, rolls, transaction-named, transaction_at-found}
+use Rattle.ktm_laws.proofs.Answering.{arrives-recovered, arrives-rollback_answered, arrives-single_phase_rejected, is-aborting, owed-rollback, phase-owing}
+use Rattle.ktm_laws.proofs.Arrivals.{brought-now, stands-now}
+use Rattle.ktm_laws.proofs.Elements.{list_all-at}
+use Rattle.ktm_laws.proofs.Silent.{agrees-silent, silent-recovered, silent-rollback_answered, silent-single_phase_rejected}
+use Rattle.ktm_laws.proofs.Tables.{same_id-from}
+use Rattle.ktm_laws.proofs.Calls.{Passes, active-phase, phase-passed, single-phase, enlistment-allowed, enlistment-named, may-roll, not-not, passed, rolls, transaction-named, transaction_at-found}
 use Rattle.ktm_laws.proofs.FileSteps.{IsActiveCaller, caller-active, file-active, passes-left, plain-caller, with_setting-same}
 use Rattle.ktm_laws.proofs.Moves.{if_cases}
 use Rattle.ktm_laws.proofs.Undoing.{agrees-aborted_by}
@@ -78,17 +84,51 @@ module _ (x : Present) (sound : IsSoundCourse x) (agrees : Agrees x) where
       let here = passed tests in let committed = passed here.1 in let aborted = passed committed.1 in let may = passed aborted.1 in
       agrees-aborted_by x sound agrees t (there t refl) None Done (may-roll t (not-not _ may.0))
 
-  rolled-by : (o : Option Enlistment) → ((e : Enlistment) → o ≡ Some e → IsIn e x.transactions.enlistments) → Passes (enlistment_tests o (may_roll_back_by x)) → Agrees (apply x (answering x o (λ c e. aborting c)))
-  rolled-by None there tests = replies Done
-  rolled-by (Some e) there tests = go (transaction_in x e) refl
+  -- the transaction of an enlistment goes on by this step, by which it agrees
+  answers : (o : Option Enlistment) (step : Course → Enlistment → Course)
+      → ((e : Enlistment) → o ≡ Some e → (t : Transaction) (caller : Option Id) → IsIn t x.transactions.items → same_id e.transaction t.id ≡ true → transaction_in x e ≡ Some t → Agrees (apply x (arrived x (step (course_of x t caller) e) Done)))
+      → Agrees (apply x (answering x o step))
+  answers None step each = replies Done
+  answers (Some e) step each = go (transaction_in x e) refl
     where
       caller-of : Option Id
       caller-of = if is_superior e then Some e.id else None
 
-      go : (o : Option Transaction) → transaction_in x e ≡ o → Agrees (apply x (goes_on x e o caller-of (λ c e. aborting c)))
+      go : (o : Option Transaction) → transaction_in x e ≡ o → Agrees (apply x (goes_on x e o caller-of step))
       go None is = replies Done
-      go (Some t) is = agrees-aborted_by x sound agrees t (transaction_at-found x.transactions.items e.transaction t is).0 caller-of Done
-          (rolls x sound (Some e) there e t is (enlistment-allowed (Some e) (may_roll_back_by x) e refl tests))
+      go (Some t) is = let found = transaction_at-found x.transactions.items e.transaction t is in each e refl t caller-of found.0 (same_id-from e.transaction t.id (sym found.1)) is
+
+  module _ (o : Option Enlistment) (there : (e : Enlistment) → o ≡ Some e → IsIn e x.transactions.enlistments) where
+    rolled-by : Passes (enlistment_tests o (may_roll_back_by x)) → Agrees (apply x (answering x o (λ c e. aborting c)))
+    rolled-by tests = answers o (λ c e. aborting c) (λ e is t caller at own found.
+        agrees-aborted_by x sound agrees t at caller Done (rolls x sound o there e t found (enlistment-allowed o (may_roll_back_by x) e is tests)))
+
+    rolled-back : Passes (enlistment_tests o owes_rollback) → Agrees (apply x (answering x o rollback_answered))
+    rolled-back tests = answers o rollback_answered (λ e is t caller at own found.
+        let owes = enlistment-allowed o owes_rollback e is tests in
+        let c = course_of x t caller in
+        let stands = stands-now x t caller sound at in
+        let brought = brought-now x t caller sound in
+        agrees-silent x t caller (rollback_answered c e) Done sound agrees at (arrives-rollback_answered x.recorded.boots c stands brought sound.enlistments_rise e (there e is) own owes)
+        (silent-rollback_answered c e (is-aborting t.phase (phase-owing x.recorded.boots c stands brought sound.enlistments_rise e (there e is) own rollback (owed-rollback e owes)))))
+
+    rejected : Passes (enlistment_tests o (may_reject_one_phase x)) → Agrees (apply x (answering x o single_phase_rejected))
+    rejected tests = answers o single_phase_rejected (λ e is t caller at own found.
+        let both = and_parts (phase_passes x is_one_phase e) (owes_commit e) (enlistment-allowed o (may_reject_one_phase x) e is tests) in
+        let single = single-phase t.phase (phase-passed x is_one_phase e t found both.0) in
+        let c = course_of x t caller in
+        agrees-silent x t caller (single_phase_rejected c e) Done sound agrees at
+        (arrives-single_phase_rejected x.recorded.boots c (stands-now x t caller sound at) (brought-now x t caller sound) sound.enlistments_rise e (there e is) own single both.1)
+        (silent-single_phase_rejected c e (not-true _ (subst (λ phase. is_recorded_as phase x.managers x.transactions.enlistments t.id t.is_recorded ≡ true) single
+        (list_all-at (λ t. is_recorded_as t.phase x.managers x.transactions.enlistments t.id t.is_recorded) x.transactions.items sound.recorded t at)))))
+
+    recovers : Passes (enlistment_tests o (may_recover x)) → Agrees (apply x (answering x o recovered))
+    recovers tests = answers o recovered (λ e is t caller at own found.
+        let c = course_of x t caller in
+        agrees-silent x t caller (recovered c e) Done sound agrees at
+        (arrives-recovered x.recorded.boots c (stands-now x t caller sound at) (brought-now x t caller sound) sound.enlistments_rise e (there e is) own
+        (not-true _ (and_parts (not e.is_recovered) _ (enlistment-allowed o (may_recover x) e is tests)).0))
+        (silent-recovered c e))
 
   files : (who : Option Id) (o : FileOutcome) → IsActiveCaller x who → Agrees (apply x (of_files x who o))
   files who o active = agrees-of_files x who o sound agrees active
@@ -119,7 +159,7 @@ module _ (x : Present) (sound : IsSoundCourse x) (agrees : Agrees x) where
       (there t is, active-phase t (not-not _ active.0))
 
   agrees-command : (process : Pid) (command : Command) → brings_further command ≡ false → Passes (command_tests x process command) → Agrees (apply x (command_effect x process command))
-  unfolding open_transaction rollback_transaction get_transaction_information open_resource_manager recover_resource_manager get_notification create_enlistment_tests open_enlistment rollback_enlistment set_information get_information duplicate_handle
+  unfolding open_transaction rollback_transaction get_transaction_information open_resource_manager recover_resource_manager get_notification create_enlistment_tests open_enlistment rollback_enlistment set_information get_information duplicate_handle recover_enlistment rollback_complete single_phase_reject
   agrees-command process (CreateTransaction label timeout) other passes = agrees-create_transaction x process label timeout agrees
   agrees-command process (OpenTransaction label guid) other passes = opened-transaction process label (transaction_with x guid)
   agrees-command process (RollbackTransaction label) other passes = rolled (transaction_named x process label) (transaction-named x process label) passes
@@ -132,6 +172,9 @@ module _ (x : Present) (sound : IsSoundCourse x) (agrees : Agrees x) where
       agrees-create_enlistment x process label (manager_named x process manager) (transaction_named x process transaction) kind sound agrees
       (enlisting (transaction_named x process transaction) (transaction-named x process transaction) _ (passed passes).1)
   agrees-command process (OpenEnlistment label manager guid) other passes = opened-enlistment process label (enlistment_with x (manager_named x process manager) guid)
+  agrees-command process (RecoverEnlistment label) other passes = recovers (enlistment_named x process label) (enlistment-named x process label) passes
+  agrees-command process (RollbackComplete label) other passes = rolled-back (enlistment_named x process label) (enlistment-named x process label) passes
+  agrees-command process (SinglePhaseReject label) other passes = rejected (enlistment_named x process label) (enlistment-named x process label) passes
   agrees-command process (RollbackEnlistment label) other passes = rolled-by (enlistment_named x process label) (enlistment-named x process label) passes
   agrees-command process (SetEnlistmentRecoveryInformation label information) other passes = agrees-keep_information x (enlistment_named x process label) information sound agrees (enlistment-named x process label) passes
   agrees-command process (GetEnlistmentRecoveryInformation label) other passes = replies (information_in (enlistment_named x process label))

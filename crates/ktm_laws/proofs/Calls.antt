@@ -1,6 +1,6 @@
 -- The calls on transactions and enlistments that are there: what each comes to is sound.
 use Rattle.std.specs.Prelude.{if◌then◌else◌}
-use Rattle.std.proofs.Common.{◌≡◌, ℕ, ◌&&◌, not, Bool, true, false, List, [], ◌∷◌, map, filter, Option, Some, None, refl, sym, ◌∙◌, ap, subst, inl, inr, ◌⊎◌}
+use Rattle.std.proofs.Common.{◌≡◌, ℕ, ◌&&◌, not, Bool, true, false, List, [], ◌∷◌, map, filter, Option, Some, None, refl, sym, ◌∙◌, ap, subst, inl, inr}
 use Rattle.std.specs.Prelude.{option_and_then}
 use Rattle.std.proofs.lemmas.Bool.{cases_Bool, and_parts, and_from, or_left, true≢false, not-true}
 use Rattle.std.proofs.lemmas.Option.{none-some, same_Some}
@@ -98,7 +98,7 @@ superior-rolls Aborting is = is
 superior-rolls Ended is = is
 superior-rolls _ is = refl
 
-single-phase : (phase : Phase) → is_one_phase phase ≡ true → phase ≡ SinglePhase
+pub single-phase : (phase : Phase) → is_one_phase phase ≡ true → phase ≡ SinglePhase
 single-phase SinglePhase is = refl
 single-phase _ is = absurd (true≢false (sym is))
 
@@ -189,13 +189,13 @@ enlistment-allowed o allowed e is tests =
     let tests' = subst (λ o. Passes (enlistment_tests o allowed)) is tests in
     not-not _ (passed (passed tests').1).0
 
-superior-allowed : (x : Present) (o : Option Enlistment) (allowed : Phase → Bool) (e : Enlistment) → o ≡ Some e → Passes (superior_tests x o allowed) → phase_passes x allowed e ≡ true
+pub superior-allowed : (x : Present) (o : Option Enlistment) (allowed : Phase → Bool) (e : Enlistment) → o ≡ Some e → Passes (superior_tests x o allowed) → phase_passes x allowed e ≡ true
 superior-allowed x o allowed e is tests =
     let tests' = subst (λ o. Passes (superior_tests x o allowed)) is tests in
     not-not _ (passed (passed (passed tests').1).1).0
 
 -- the phase of its transaction
-phase-passed : (x : Present) (test : Phase → Bool) (e : Enlistment) (t : Transaction) → transaction_in x e ≡ Some t → phase_passes x test e ≡ true → test t.phase ≡ true
+pub phase-passed : (x : Present) (test : Phase → Bool) (e : Enlistment) (t : Transaction) → transaction_in x e ≡ Some t → phase_passes x test e ≡ true → test t.phase ≡ true
 phase-passed x test e t is passes = subst (λ (o : Option Transaction). holds_of (λ t. test t.phase) o ≡ true) is passes
 
 module _ (x : Present) (sound : IsSoundCourse x) (o : Option Enlistment) (there : (e : Enlistment) → o ≡ Some e → IsIn e (x.transactions).enlistments) where

@@ -1,7 +1,7 @@
 -- What was recorded agrees with what is so now after a transaction has gone on, where its own part does.
 use Rattle.std.specs.Prelude.{if◌then◌else◌}
-use Rattle.std.proofs.Common.{◌≡◌, ℕ, ◌≤◌, ◌&&◌, not, Bool, true, false, List, [], ◌∷◌, ◌++◌, map, filter, Option, Some, None, refl, sym, ◌∙◌, ap, subst, inl, inr, ◌⊎◌}
-use Rattle.std.proofs.lemmas.Bool.{cases_Bool, and_left, true≢false, false_from_ne_true}
+use Rattle.std.proofs.Common.{◌≡◌, ◌≤◌, ◌&&◌, not, Bool, true, false, List, [], ◌∷◌, ◌++◌, map, filter, Option, Some, None, refl, sym, ◌∙◌, ap, subst, inl, inr, ◌⊎◌}
+use Rattle.std.proofs.lemmas.Bool.{cases_Bool, and_left, true≢false}
 use Rattle.std.proofs.lemmas.Option.{none-some, same_Some}
 use Rattle.std.specs.List.{flat_map}
 use Rattle.ktm_base.specs.declared.id.Id.{Id}
@@ -24,12 +24,12 @@ use Rattle.ktm_world.specs.Transactions.{change_at, same_id, is_undecided}
 use Rattle.ktm_world.specs.World.{by_rising_id}
 use Rattle.ktm_laws.specs.Footprint.{IsIn}
 use Rattle.ktm_laws.specs.SoundCourse.{IsSoundCourse, is_outcome_of}
-use Rattle.ktm_laws.proofs.Agreeing.{IsAsBefore, durable-stays, filter-alike, filter-step, find-step, flat_map-alike, managers-stay, summaries, summaries-kept}
+use Rattle.ktm_laws.proofs.Agreeing.{durable-stays, filter-alike, filter-step, find-step, flat_map-alike, managers-stay, summaries, summaries-kept}
 use Rattle.ktm_laws.proofs.Elements.{IsIn-unflat}
-use Rattle.ktm_laws.proofs.Moves.{if_cases, IsSame, Moved}
+use Rattle.ktm_laws.proofs.Moves.{if_cases, Moved}
 use Rattle.ktm_laws.proofs.Placing.{AreAt, AreBefore, AreBehind, Place, earlier-other, gathered-at, later-other, place, placed}
 use Rattle.ktm_laws.proofs.Settling.{own_changes-without, own_settings-without}
-use Rattle.ktm_laws.proofs.Tables.{same_id-equal, same_id-from}
+use Rattle.ktm_laws.proofs.Tables.{same_id-equal}
 
 -- ---- Ids of summaries
 

@@ -60,6 +60,7 @@ pub mod Restored
 pub mod Seeing
 pub mod Settings
 pub mod Settling
+pub mod Silent
 pub mod SoundCommands
 pub mod SoundRestarts
 pub mod SoundWorlds

@@ -1,7 +1,7 @@
 -- The place of one transaction among those that the log has, by rising Id.
 use Rattle.std.specs.Prelude.{if◌then◌else◌}
-use Rattle.std.proofs.Common.{◌≡◌, ◌&&◌, not, Bool, true, false, List, [], ◌∷◌, ◌++◌, map, filter, refl, sym, ◌∙◌, ap, subst, inl, inr}
-use Rattle.std.proofs.lemmas.Bool.{cases_Bool, and_parts, not_from_false, true≢false, false_from_ne_true}
+use Rattle.std.proofs.Common.{◌≡◌, not, Bool, true, false, List, [], ◌∷◌, ◌++◌, map, filter, refl, sym, ap, subst, inl, inr}
+use Rattle.std.proofs.lemmas.Bool.{cases_Bool, and_parts, false_from_ne_true}
 use Rattle.std.proofs.lemmas.Grind.{flat_map-append}
 use Rattle.std.specs.List.{flat_map, list_all}
 use Rattle.ktm_base.specs.declared.id.Id.{Id}
@@ -12,7 +12,7 @@ use Rattle.ktm_world.specs.Transactions.{change_at, same_id}
 use Rattle.ktm_laws.specs.Footprint.{IsIn}
 use Rattle.ktm_laws.specs.GoodState.{each_pair}
 use Rattle.ktm_laws.proofs.Elements.{each_pair-across, each_pair-right, list_all-at}
-use Rattle.ktm_laws.proofs.Tables.{before_other, same_id-equal, same_id-from, is_before-then}
+use Rattle.ktm_laws.proofs.Tables.{before_other, same_id-equal, same_id-from}
 
 -- ---- one among transactions
 

@@ -1,6 +1,5 @@
 -- What was recorded agrees with what is so now after a transaction has rolled back.
-use Rattle.std.specs.Prelude.{if◌then◌else◌}
-use Rattle.std.proofs.Common.{◌≡◌, Bool, true, false, List, [], ◌∷◌, ◌++◌, map, Option, Some, None, refl, sym, ◌∙◌, ap, inl, inr, ◌&&◌, not}
+use Rattle.std.proofs.Common.{◌≡◌, Bool, true, false, List, [], ◌∷◌, ◌++◌, map, Option, None, refl, sym, ◌∙◌, ap, inl, inr, ◌&&◌, not}
 use Rattle.std.proofs.lemmas.Bool.{cases_Bool}
 use Rattle.std.specs.List.{list_any}
 use Rattle.ktm_base.specs.declared.id.Id.{Id}
@@ -9,7 +8,6 @@ use Rattle.ktm_types.specs.declared.event.Event.{Event}
 use Rattle.ktm_types.specs.declared.object.Phase.TheVariants.{Aborting}
 use Rattle.ktm_types.specs.declared.object.Transaction.{Transaction}
 use Rattle.ktm_types.specs.declared.object.TransactionOutcome.TheVariants.{Aborted}
-use Rattle.ktm_types.specs.declared.recorded.Stage.{Stage}
 use Rattle.ktm_types.specs.declared.reply.Reply.{Reply}
 use Rattle.ktm_world.specs.Durable.{after_events}
 use Rattle.ktm_world.specs.Enlistments.{is_unfinished, rollback, takes_part}
@@ -19,14 +17,13 @@ use Rattle.ktm_world.specs.Phases.{Course, aborting, decided, ended, event_if, i
 use Rattle.ktm_world.specs.Present.{Present}
 use Rattle.ktm_world.specs.TransactionCalls.{aborted_by, course_of}
 use Rattle.ktm_laws.specs.Footprint.{IsIn}
-use Rattle.ktm_laws.specs.SoundCourse.{IsSoundCourse, is_outcome_of}
+use Rattle.ktm_laws.specs.SoundCourse.{IsSoundCourse}
 use Rattle.ktm_laws.proofs.Agreeing.{summaries}
 use Rattle.ktm_laws.proofs.Answering.{arrives-rolled_back, can_roll_back}
 use Rattle.ktm_laws.proofs.Arrivals.{stands-now, brought-now}
 use Rattle.ktm_laws.proofs.Following.{Follows, follows-from, agrees-arrived, course_in, course_summaries, front, front-before, rest, rest-behind, summaries-id, was}
 use Rattle.ktm_laws.proofs.Moves.{if_cases, Moved}
 use Rattle.ktm_laws.proofs.Placing.{summaries-without, without-among, without_summary}
-use Rattle.ktm_laws.proofs.Procedures.{Arrives, Stands}
 
 -- a course that has rolled back: undone where the log had it, with nothing committed, in a phase that the log knows nothing of
 record HasUndone (c d : Course) : Type 0 where

@@ -2,7 +2,7 @@
 use Rattle.std.specs.Prelude.{◌≡◌, ℕ, Bool, true, false}
 use Rattle.ktm_base.specs.declared.id.Pid.{Pid}
 use Rattle.ktm_types.specs.declared.command.Command.{Command}
-use Rattle.ktm_types.specs.declared.command.Command.TheVariants.{CommitTransaction, RecoverEnlistment, PrePrepareComplete, PrepareComplete, ReadOnlyEnlistment, CommitComplete, RollbackComplete, SinglePhaseReject, PrePrepareEnlistment, PrepareEnlistment, CommitEnlistment}
+use Rattle.ktm_types.specs.declared.command.Command.TheVariants.{CommitTransaction, PrePrepareComplete, PrepareComplete, ReadOnlyEnlistment, CommitComplete, PrePrepareEnlistment, PrepareEnlistment, CommitEnlistment}
 use Rattle.ktm_world.specs.Decide.{with_room, decide}
 use Rattle.ktm_world.specs.Lawful.{Agrees}
 use Rattle.ktm_world.specs.Laws.{FirstOpensLieWithin}
@@ -15,13 +15,10 @@ use Rattle.ktm_laws.specs.SoundCourse.{IsSoundCourse}
 -- may the command bring a transaction further towards a commit, or to its end
 abbrev pub brings_further : Command → Bool
 brings_further (CommitTransaction label) = true
-brings_further (RecoverEnlistment label) = true
 brings_further (PrePrepareComplete label) = true
 brings_further (PrepareComplete label) = true
 brings_further (ReadOnlyEnlistment label) = true
 brings_further (CommitComplete label) = true
-brings_further (RollbackComplete label) = true
-brings_further (SinglePhaseReject label) = true
 brings_further (PrePrepareEnlistment label) = true
 brings_further (PrepareEnlistment label) = true
 brings_further (CommitEnlistment label) = true
