@@ -49,6 +49,7 @@ use Rattle.ktm_laws.proofs.FileSteps.{passes-left}
 use Rattle.ktm_laws.proofs.Lists.{IsIn-unmap}
 use Rattle.ktm_laws.proofs.Makings.{counted-before, filter-silent, list_any-silent, next_id, next-other, superior-silent}
 use Rattle.ktm_laws.proofs.Moves.{if_cases, if_parts, same-by_id}
+use Rattle.ktm_laws.proofs.Placing.{before-not}
 use Rattle.ktm_laws.proofs.Releasing.{transaction_at-there}
 use Rattle.ktm_laws.proofs.Settling.{IsQuiet, served-then}
 use Rattle.ktm_laws.proofs.Tables.{before_other, is_before-then, same_id-equal, same_id-sym}
@@ -171,10 +172,7 @@ agrees-create_transaction x process label timeout agrees =
 -- a manager that is appended stands at its place where all others come before it
 with_manager-last : (ids : List Id) (id : Id) → ((a : Id) → IsIn a ids → is_before a id ≡ true) → with_manager ids id ≡ ids ++ id ∷ []
 with_manager-last [] id before = refl
-with_manager-last (a ∷ ids) id before = rw (not-before a id (before a (inl refl))) (ap (λ rest. a ∷ rest) (with_manager-last ids id (λ b there. before b (inr there))))
-  where
-    not-before : (a b : Id) → is_before a b ≡ true → is_before b a ≡ false
-    not-before a b is = false_from_ne_true _ (λ back. before_other a a (is_before-then a b a is back) refl)
+with_manager-last (a ∷ ids) id before = rw (before-not a id (before a (inl refl))) (ap (λ rest. a ∷ rest) (with_manager-last ids id (λ b there. before b (inr there))))
 
 pub agrees-create_manager : (x : Present) (process : Pid) (label : Label) (durability : Durability) → IsSoundCourse x → Agrees x → Agrees (apply x (create_resource_manager x process label durability))
 unfolding create_resource_manager

@@ -12,6 +12,7 @@ pub mod Calls
 pub mod Closing
 pub mod Committing
 pub mod CoursesKept
+pub mod Decided
 pub mod Deciding
 pub mod Diamonds
 pub mod Elements

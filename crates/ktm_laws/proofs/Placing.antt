@@ -1,6 +1,6 @@
 -- The place of one transaction among those that the log has, by rising Id.
 use Rattle.std.specs.Prelude.{if◌then◌else◌}
-use Rattle.std.proofs.Common.{◌≡◌, not, Bool, true, false, List, [], ◌∷◌, ◌++◌, map, filter, refl, sym, ap, subst, inl, inr}
+use Rattle.std.proofs.Common.{◌≡◌, not, Bool, true, false, List, [], ◌∷◌, ◌++◌, map, filter, refl, sym, ◌∙◌, ap, subst, inl, inr, ◌⊎◌}
 use Rattle.std.proofs.lemmas.Bool.{cases_Bool, and_parts, false_from_ne_true}
 use Rattle.std.proofs.lemmas.Grind.{flat_map-append}
 use Rattle.std.specs.List.{flat_map, list_all}
@@ -12,7 +12,7 @@ use Rattle.ktm_world.specs.Transactions.{change_at, same_id}
 use Rattle.ktm_laws.specs.Footprint.{IsIn}
 use Rattle.ktm_laws.specs.GoodState.{each_pair}
 use Rattle.ktm_laws.proofs.Elements.{each_pair-across, each_pair-right, list_all-at}
-use Rattle.ktm_laws.proofs.Tables.{before_other, same_id-equal, same_id-from}
+use Rattle.ktm_laws.proofs.Tables.{before_other, is_before-then, same_id-equal, same_id-from}
 
 -- ---- one among transactions
 
@@ -51,6 +51,10 @@ earlier-other a b is = false_from_ne_true _ (λ same. before_other a b is (same_
 
 pub later-other : (a b : Id) → is_before a b ≡ true → same_id b a ≡ false
 later-other a b is = false_from_ne_true _ (λ same. before_other a b is (sym (same_id-equal b a same)))
+
+-- what comes before another does not come behind it
+pub before-not : (a b : Id) → is_before a b ≡ true → is_before b a ≡ false
+before-not a b is = false_from_ne_true _ (λ back. before_other a a (is_before-then a b a is back) refl)
 
 -- another one in its place
 pub placed : (before behind : List Transaction) (t u : Transaction) → ((v : Transaction) → IsIn v before → is_before v.id t.id ≡ true) → change_at (before ++ t ∷ behind) t.id (λ v. u) ≡ before ++ u ∷ behind
@@ -112,3 +116,17 @@ without-at (s ∷ at) ss id is behind = rw (same_id-from s.id id (is s (inl refl
 pub without-among : (before at behind : List Summary) (id : Id) → AreBefore before id → AreAt at id → AreBehind behind id → without_summary (before ++ (at ++ behind)) id ≡ before ++ behind
 without-among [] at behind id earlier is later = without-at at behind id is later
 without-among (s ∷ before) at behind id earlier is later = rw (earlier-other s.id id (earlier s (inl refl))) (ap (λ rest. s ∷ rest) (without-among before at behind id (λ u there. earlier u (inr there)) is later))
+
+-- at most one has this Id
+abbrev pub AtMostOne : List Summary → Id → Type 0
+AtMostOne at id = (at ≡ []) ⊎ ((s : Summary) × (at ≡ s ∷ []) × (s.id ≡ id))
+
+with-behind : (behind : List Summary) (s : Summary) → AreBehind behind s.id → with_summary behind s ≡ s ∷ behind
+with-behind [] s later = refl
+with-behind (b ∷ behind) s later = rw (later-other s.id b.id (later b (inl refl)), later b (inl refl)) refl
+
+pub with-among : (before at behind : List Summary) (s : Summary) → AreBefore before s.id → AtMostOne at s.id → AreBehind behind s.id → with_summary (before ++ (at ++ behind)) s ≡ before ++ (s ∷ behind)
+with-among [] at behind s earlier (inl none) later = ap (λ at. with_summary (at ++ behind) s) none ∙ with-behind behind s later
+with-among [] at behind s earlier (inr (a, one, is)) later = ap (λ at. with_summary (at ++ behind) s) one ∙ rw (same_id-from a.id s.id is) refl
+with-among (a ∷ before) at behind s earlier one later =
+    rw (earlier-other a.id s.id (earlier a (inl refl)), before-not a.id s.id (earlier a (inl refl))) (ap (λ rest. a ∷ rest) (with-among before at behind s (λ u there. earlier u (inr there)) one later))
