@@ -11,6 +11,7 @@ pub mod Bindings
 pub mod Calls
 pub mod Closing
 pub mod Committing
+pub mod CommitsKept
 pub mod CoursesKept
 pub mod Decided
 pub mod Deciding

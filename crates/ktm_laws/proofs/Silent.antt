@@ -51,8 +51,14 @@ pub record IsBackAlike (e f : Enlistment) : Type 0 where
   pub prepared : f.is_prepared ≡ e.is_prepared
   pub finished : f.is_finished ≡ e.is_finished
 
+alike-same : (e : Enlistment) → IsBackAlike e e
+alike-same e = record { back = refl; kind = refl; read_only = refl; prepared = refl; finished = refl }
+
+pub alike-stepped : (test : Enlistment → Bool) (f : Enlistment → Enlistment) → ((e : Enlistment) → IsBackAlike e (f e)) → (e : Enlistment) → IsBackAlike e (if test e then f e else e)
+alike-stepped test f alike e = if_cases (λ g. IsBackAlike e g) (test e) (f e) e (λ is. alike e) (λ other. alike-same e)
+
 -- the enlistments of a course that the log has to have
-abbrev is_kept : Course → Enlistment → Bool
+abbrev pub is_kept : Course → Enlistment → Bool
 is_kept c e = takes_part c.transaction.id e && is_durable_at c.managers e.manager && e.is_prepared && not e.is_finished
 
 kept-alike : (c : Course) (step : Enlistment → Enlistment) → ((e : Enlistment) → IsBackAlike e (step e)) → (es : List Enlistment) → map brought_back (filter (is_kept c) (map step es)) ≡ map brought_back (filter (is_kept c) es)
@@ -74,19 +80,20 @@ superior-alike id step alike (e ∷ es) =
       | inr other ↦ rw (same ∙ other, other) (superior-alike id step alike es)
     ]
 
+-- so the log has to have the same
+pub in-alike : (c : Course) (step : Enlistment → Enlistment) (sent : List Sent) → ((e : Enlistment) → IsBackAlike e (step e)) → (stage : Option Stage) → course_in (record c { enlistments = map step c.enlistments; sent = sent }) stage ≡ course_in c stage
+in-alike c step sent alike None = refl
+in-alike c step sent alike (Some stage) = ap (λ s. filter stays (s ∷ [])) (λ i. record {
+  id = c.transaction.id;
+  stage = stage;
+  superior = if is_ready_stage stage then None else superior-alike c.transaction.id step alike c.enlistments i;
+  enlistments = by_rising_id (kept-alike c step alike c.enlistments i);
+  changes = if is_held_stage stage then c.changes else [];
+  settings = if is_held_stage stage then c.settings else [];
+})
+
 pub summaries-alike : (c : Course) (step : Enlistment → Enlistment) (sent : List Sent) → ((e : Enlistment) → IsBackAlike e (step e)) → course_summaries (record c { enlistments = map step c.enlistments; sent = sent }) ≡ course_summaries c
-summaries-alike c step sent alike = elim (cases_Bool c.transaction.is_recorded) [ inl recorded ↦ rw recorded (go (stage_in c.transaction.phase)) | inr other ↦ rw other refl ]
-  where
-    go : (stage : Option Stage) → course_in (record c { enlistments = map step c.enlistments; sent = sent }) stage ≡ course_in c stage
-    go None = refl
-    go (Some stage) = ap (λ s. filter stays (s ∷ [])) (λ i. record {
-      id = c.transaction.id;
-      stage = stage;
-      superior = if is_ready_stage stage then None else superior-alike c.transaction.id step alike c.enlistments i;
-      enlistments = by_rising_id (kept-alike c step alike c.enlistments i);
-      changes = if is_held_stage stage then c.changes else [];
-      settings = if is_held_stage stage then c.settings else [];
-    })
+summaries-alike c step sent alike = elim (cases_Bool c.transaction.is_recorded) [ inl recorded ↦ rw recorded (in-alike c step sent alike (stage_in c.transaction.phase)) | inr other ↦ rw other refl ]
 
 -- ---- steps
 
@@ -98,11 +105,8 @@ silent-changing : (c : Course) (test : Enlistment → Bool) (f : Enlistment → 
 silent-changing c test f sent alike = record {
   events = refl;
   works = refl;
-  summaries = summaries-alike c (λ e. if test e then f e else e) sent (λ e. if_cases (λ g. IsBackAlike e g) (test e) (f e) e (λ is. alike e) (λ other. alike-same e));
+  summaries = summaries-alike c (λ e. if test e then f e else e) sent (alike-stepped test f alike);
 }
-  where
-    alike-same : (e : Enlistment) → IsBackAlike e e
-    alike-same e = record { back = refl; kind = refl; read_only = refl; prepared = refl; finished = refl }
 
 -- where the log does not have it, and goes on not to have it
 silent-unrecorded : (c d : Course) → d.events ≡ c.events → d.works ≡ c.works → c.transaction.is_recorded ≡ false → d.transaction.is_recorded ≡ c.transaction.is_recorded → IsSilent c d
@@ -133,9 +137,6 @@ silent-recovered c e = if_cases (λ x. IsSilent c x) (is_superior e) (telling d 
   where
     d : Course
     d = returned c e
-
-    alike-same : (e : Enlistment) → IsBackAlike e e
-    alike-same e = record { back = refl; kind = refl; read_only = refl; prepared = refl; finished = refl }
 
     back : IsSilent c d
     back = silent-changing c (has_id e.id) (λ f. record f { is_recovered = true }) c.sent (λ f. record { back = refl; kind = refl; read_only = refl; prepared = refl; finished = refl })
