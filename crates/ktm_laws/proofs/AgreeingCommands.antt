@@ -8,9 +8,11 @@ use Rattle.ktm_base.specs.declared.id.Pid.{Pid}
 use Rattle.ktm_base.specs.declared.refusal.Refusal.{Refusal}
 use Rattle.ktm_base.specs.declared.refusal.Refusal.TheVariants.{LogFull, MachineDown}
 use Rattle.ktm_types.specs.declared.command.Command.{Command}
-use Rattle.ktm_types.specs.declared.command.Command.TheVariants.{CreateTransaction, OpenTransaction, RollbackTransaction, GetTransactionInformation, CreateResourceManager, OpenResourceManager, RecoverResourceManager, GetNotificationResourceManager, CreateEnlistment, OpenEnlistment, RecoverEnlistment, RollbackComplete, SinglePhaseReject, RollbackEnlistment, SetEnlistmentRecoveryInformation, GetEnlistmentRecoveryInformation, CreateFile, CreateFileTransacted, ReadFile, WriteFile, SetEndOfFile, GetFileSizeEx, FlushFileBuffers, DeleteFile, CreateDirectory, RemoveDirectory, MoveFile, DeleteFileTransacted, CreateDirectoryTransacted, RemoveDirectoryTransacted, MoveFileTransacted, FindFiles, FindFilesTransacted, KvSet, KvUnset, KvGet, KvList, CloseHandle, DuplicateHandle, Exit}
+use Rattle.ktm_types.specs.declared.command.Command.TheVariants.{CommitEnlistment, CreateTransaction, OpenTransaction, RollbackTransaction, GetTransactionInformation, CreateResourceManager, OpenResourceManager, RecoverResourceManager, GetNotificationResourceManager, CreateEnlistment, OpenEnlistment, RecoverEnlistment, RollbackComplete, SinglePhaseReject, RollbackEnlistment, SetEnlistmentRecoveryInformation, GetEnlistmentRecoveryInformation, CreateFile, CreateFileTransacted, ReadFile, WriteFile, SetEndOfFile, GetFileSizeEx, FlushFileBuffers, DeleteFile, CreateDirectory, RemoveDirectory, MoveFile, DeleteFileTransacted, CreateDirectoryTransacted, RemoveDirectoryTransacted, MoveFileTransacted, FindFiles, FindFilesTransacted, KvSet, KvUnset, KvGet, KvList, CloseHandle, DuplicateHandle, Exit}
 use Rattle.ktm_types.specs.declared.object.Object.{Object}
+use Rattle.ktm_types.specs.declared.object.Phase.{Phase}
 use Rattle.ktm_types.specs.declared.object.Phase.TheVariants.{Active}
+use Rattle.ktm_types.specs.declared.recorded.Stage.{Stage}
 use Rattle.ktm_types.specs.declared.object.Transaction.{Transaction}
 use Rattle.ktm_types.specs.declared.reply.Reply.{Reply}
 use Rattle.ktm_types.specs.declared.reply.Reply.TheVariants.{Done, Refused}
@@ -23,25 +25,27 @@ use Rattle.ktm_world.specs.HandleCalls.{bind_to, duplicate_handle}
 use Rattle.ktm_world.specs.Handles.{object_at}
 use Rattle.ktm_world.specs.KeyCalls.{kv_get, kv_list, with_setting}
 use Rattle.ktm_world.specs.Labels.{enlistment_named, file_named, file_tests, manager_named, transaction_named, transaction_tests, viewer}
-use Rattle.ktm_world.specs.Lawful.{Agrees}
+use Rattle.ktm_world.specs.Lawful.{Agrees, stage_in}
 use Rattle.ktm_world.specs.Laws.{StepLaw}
 use Rattle.ktm_world.specs.Outcome.{Outcome, apply, first_refusal, is_full, only_reply, refuse_or, within_log}
-use Rattle.ktm_world.specs.Phases.{Course, aborting, recovered, rollback_answered, single_phase_rejected}
+use Rattle.ktm_world.specs.Phases.{Course, aborting, committing, recovered, rollback_answered, single_phase_rejected}
 use Rattle.ktm_world.specs.Present.{Present, Transactions}
-use Rattle.ktm_world.specs.TransactionCalls.{answering, arrived, course_of, is_one_phase, may_recover, may_reject_one_phase, phase_passes, recover_enlistment, rollback_complete, single_phase_reject, create_enlistment_tests, enlistment_tests, enlistment_with, get_information, get_notification, get_transaction_information, goes_on, information_in, information_of, manager_with, may_roll_back_by, open_enlistment, open_resource_manager, open_to_enlistment, open_to_manager, open_to_transaction, open_transaction, recover_all, recover_resource_manager, rollback_enlistment, rollback_of, rollback_transaction, rollback_transaction_tests, set_information, take_first, tick, transaction_in, transaction_with}
+use Rattle.ktm_world.specs.TransactionCalls.{answering, arrived, commit_enlistment, course_of, superior_tests, waits_for_superior, is_one_phase, may_recover, may_reject_one_phase, phase_passes, recover_enlistment, rollback_complete, single_phase_reject, create_enlistment_tests, enlistment_tests, enlistment_with, get_information, get_notification, get_transaction_information, goes_on, information_in, information_of, manager_with, may_roll_back_by, open_enlistment, open_resource_manager, open_to_enlistment, open_to_manager, open_to_transaction, open_transaction, recover_all, recover_resource_manager, rollback_enlistment, rollback_of, rollback_transaction, rollback_transaction_tests, set_information, take_first, tick, transaction_in, transaction_with}
 use Rattle.ktm_world.specs.Transactions.{same_id}
 use Rattle.ktm_world.specs.World.{decide_tick, present}
 use Rattle.ktm_laws.specs.Agreeing.{AgreeingLaw, brings_further}
 use Rattle.ktm_laws.specs.Footprint.{IsIn}
+use Rattle.ktm_laws.specs.GoodState.{IsGoodState}
 use Rattle.ktm_laws.specs.SoundCourse.{IsSoundCourse, is_recorded_as}
 use Rattle.ktm_laws.proofs.Agreeing.{agrees-of_files, agrees-reply, agrees-still, as-owned, managers-stay, recorded-later, summaries-stay}
 use Rattle.ktm_laws.proofs.AgreeingCalls.{agrees-closed, agrees-create_enlistment, agrees-create_manager, agrees-create_transaction, agrees-exit, agrees-keep_information, agrees-only_reply, agrees-tick}
 use Rattle.ktm_laws.proofs.Answering.{arrives-recovered, arrives-rollback_answered, arrives-single_phase_rejected, is-aborting, owed-rollback, phase-owing}
 use Rattle.ktm_laws.proofs.Arrivals.{brought-now, stands-now}
+use Rattle.ktm_laws.proofs.CommitsKept.{agrees-committed}
 use Rattle.ktm_laws.proofs.Elements.{list_all-at}
 use Rattle.ktm_laws.proofs.Silent.{agrees-silent, silent-recovered, silent-rollback_answered, silent-single_phase_rejected}
 use Rattle.ktm_laws.proofs.Tables.{same_id-from}
-use Rattle.ktm_laws.proofs.Calls.{Passes, active-phase, phase-passed, single-phase, enlistment-allowed, enlistment-named, may-roll, not-not, passed, rolls, transaction-named, transaction_at-found}
+use Rattle.ktm_laws.proofs.Calls.{commits-waiting, superior-allowed, Passes, active-phase, phase-passed, single-phase, enlistment-allowed, enlistment-named, may-roll, not-not, passed, rolls, transaction-named, transaction_at-found}
 use Rattle.ktm_laws.proofs.FileSteps.{IsActiveCaller, caller-active, file-active, passes-left, plain-caller, with_setting-same}
 use Rattle.ktm_laws.proofs.Moves.{if_cases}
 use Rattle.ktm_laws.proofs.Undoing.{agrees-aborted_by}
@@ -130,6 +134,20 @@ module _ (x : Present) (sound : IsSoundCourse x) (agrees : Agrees x) where
         (not-true _ (and_parts (not e.is_recovered) _ (enlistment-allowed o (may_recover x) e is tests)).0))
         (silent-recovered c e))
 
+    decides : IsGoodState x.recorded → Passes (superior_tests x o waits_for_superior) → Agrees (apply x (answering x o (λ c e. committing c)))
+    decides good tests = answers o (λ c e. committing c) (λ e is t caller at own found.
+        let waits = phase-passed x waits_for_superior e t found (superior-allowed x o waits_for_superior e is tests) in
+        let arrives = commits-waiting x sound t at caller t.phase refl waits in
+        let held = held-in t.phase waits in
+        agrees-committed x sound good agrees t at caller held.0
+        (held.1 t.id t.is_recorded (list_all-at (λ t. is_recorded_as t.phase x.managers x.transactions.enlistments t.id t.is_recorded) x.transactions.items sound.recorded t at))
+        arrives.moved Done arrives.stands.outcome)
+      where
+        held-in : (phase : Phase) → waits_for_superior phase ≡ true → (stage_in phase ≡ Some Stage.Held) × ((id : Id) (recorded : Bool) → is_recorded_as phase x.managers x.transactions.enlistments id recorded ≡ true → recorded ≡ true)
+        held-in Phase.Held waits = (refl, λ id recorded is. is)
+        held-in Phase.InDoubt waits = (refl, λ id recorded is. is)
+        held-in _ waits = absurd (true≢false (sym waits))
+
   files : (who : Option Id) (o : FileOutcome) → IsActiveCaller x who → Agrees (apply x (of_files x who o))
   files who o active = agrees-of_files x who o sound agrees active
 
@@ -212,6 +230,11 @@ module _ (x : Present) (sound : IsSoundCourse x) (agrees : Agrees x) where
   agrees-command process Exit other passes = agrees-exit x process sound agrees
   agrees-command process _ other passes = absurd (true≢false other)
 
+  -- a superior decides
+  agrees-decision : (process : Pid) (label : Label) → IsGoodState x.recorded → Passes (command_tests x process (CommitEnlistment label)) → Agrees (apply x (command_effect x process (CommitEnlistment label)))
+  unfolding commit_enlistment
+  agrees-decision process label good passes = decides (enlistment_named x process label) (enlistment-named x process label) good passes
+
   -- refused or not
   agrees-refuse_or : (tests : List (Bool × Refusal)) (effect : Outcome) → (Passes tests → Agrees (apply x effect)) → Agrees (apply x (refuse_or x (first_refusal tests) effect))
   agrees-refuse_or tests effect is = or_refused (first_refusal tests) refl
@@ -231,6 +254,10 @@ module _ (x : Present) (sound : IsSoundCourse x) (agrees : Agrees x) where
   agrees-decided : (process : Pid) (command : Command) → brings_further command ≡ false → Agrees (apply x (decide x process command))
   agrees-decided process command other = agrees-within_log (with_room x process command) (agrees-with_room process command other)
 
+  agrees-decided_commit : (process : Pid) (label : Label) → IsGoodState x.recorded → Agrees (apply x (decide x process (CommitEnlistment label)))
+  agrees-decided_commit process label good = agrees-within_log (with_room x process (CommitEnlistment label))
+      (agrees-refuse_or ((not x.machine.is_up, MachineDown) ∷ command_tests x process (CommitEnlistment label)) (command_effect x process (CommitEnlistment label)) (λ passes. agrees-decision process label good (passed passes).1))
+
   agrees-decide_tick : (ms : ℕ) → Agrees (apply x (decide_tick x ms))
   agrees-decide_tick ms = agrees-within_log _ (agrees-refuse_or ((not x.machine.is_up, MachineDown) ∷ []) (tick x ms) (λ passes. agrees-tick x ms sound agrees))
 
@@ -238,6 +265,8 @@ pub agreeing_law : StepLaw → AgreeingLaw
 agreeing_law step = record {
   commands = λ x process command sound agrees other. agrees-with_room x sound agrees process command other;
   decided = λ x process command sound agrees other. agrees-decided x sound agrees process command other;
+  commits = λ x process label sound good agrees. agrees-decided_commit x sound agrees process label good;
+  commits_in_worlds = λ w process label within sound good agrees. subst Agrees (sym (step.1 w process (CommitEnlistment label) within)) (agrees-decided_commit (present w) sound agrees process label good);
   ticks = λ x ms sound agrees. agrees-decide_tick x sound agrees ms;
   worlds = λ w process command within sound agrees other. subst Agrees (sym (step.1 w process command within)) (agrees-decided (present w) sound agrees process command other);
   later_worlds = λ w ms within sound agrees. subst Agrees (sym (step.2 w ms within)) (agrees-decide_tick (present w) sound agrees ms);

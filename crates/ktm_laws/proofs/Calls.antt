@@ -134,7 +134,7 @@ module _ (x : Present) (sound : IsSoundCourse x) (t : Transaction) (there : IsIn
   fresh-before_pre_prepare Requested is before = fresh-requested is
   fresh-before_pre_prepare _ is before = absurd (true≢false (sym before))
 
-  commits-waiting : (phase : Phase) → t.phase ≡ phase → waits_for_superior phase ≡ true → Arrives boot c (committing c)
+  pub commits-waiting : (phase : Phase) → t.phase ≡ phase → waits_for_superior phase ≡ true → Arrives boot c (committing c)
   commits-waiting Held is waits = let at = stands-in boot c Held is stands in arrives-committing boot c (record { backed = is_backed-from boot t stands.boots; stand = at.stand; recorded = or_left _ _ at.recorded })
   commits-waiting InDoubt is waits = let at = stands-in boot c InDoubt is stands in arrives-committing boot c (record { backed = is_backed-from boot t stands.boots; stand = at.stand; recorded = or_left _ _ at.recorded })
   commits-waiting _ is waits = absurd (true≢false (sym waits))

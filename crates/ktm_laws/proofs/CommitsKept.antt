@@ -272,8 +272,10 @@ module _ (x : Present) (sound : IsSoundCourse x) (good : IsGoodState x.recorded)
       | inl not_done ↦ true≢false (sym done ∙ not-true _ not_done)
       | inr well ↦ true≢false (sym (and_parts (is_decided r.stage) _ well).0 ∙ undecided)
     ]),
-    (λ is. subst (λ cs. has_changes cs ≡ true) changes (some-changes (changes_of r) (kept-changes (list_any-from (λ p. is_part_of DonePart.Files p.part) r.parts p in_parts is))),
-    λ is. subst (λ ss. has_settings ss ≡ true) settings (some-settings (settings_of r) (kept-settings (list_any-from (λ p. is_part_of DonePart.Keys p.part) r.parts p in_parts is)))),
+    (
+      λ is. subst (λ cs. has_changes cs ≡ true) changes (some-changes (changes_of r) (kept-changes (list_any-from (λ p. is_part_of DonePart.Files p.part) r.parts p in_parts is))),
+      λ is. subst (λ ss. has_settings ss ≡ true) settings (some-settings (settings_of r) (kept-settings (list_any-from (λ p. is_part_of DonePart.Keys p.part) r.parts p in_parts is))),
+    ),
   )
     where
       some-changes : (cs : List Change) → are_recorded_changes cs ≡ true → has_changes cs ≡ true

@@ -62,13 +62,13 @@ pub has-while : (s : Durable) (front at rest : List Summary) (r : Recorded) → 
     → HasAt (record s { transactions = while_not_done s.transactions r }) front rest r
 has-while s front at rest r all earlier one later = elim (cases_Bool (is_open r)) [
   | inl stays ↦ record {
-      summaries = rw stays (summaries-with s.transactions r ∙ ap (λ ss. with_summary ss (summary_of r)) all ∙ with-among front at rest (summary_of r) earlier one later);
-      found = rw stays (recorded_at-with s.transactions r);
-    }
+    summaries = rw stays (summaries-with s.transactions r ∙ ap (λ ss. with_summary ss (summary_of r)) all ∙ with-among front at rest (summary_of r) earlier one later);
+    found = rw stays (recorded_at-with s.transactions r);
+  }
   | inr closed ↦ record {
-      summaries = rw closed (summaries-without s.transactions r.id ∙ ap (λ ss. without_summary ss r.id) all ∙ without-among front at rest r.id earlier (at-all at r.id one) later);
-      found = rw closed (recorded_at-without s.transactions r.id);
-    }
+    summaries = rw closed (summaries-without s.transactions r.id ∙ ap (λ ss. without_summary ss r.id) all ∙ without-among front at rest r.id earlier (at-all at r.id one) later);
+    found = rw closed (recorded_at-without s.transactions r.id);
+  }
 ]
 
 -- with the part of a participant done

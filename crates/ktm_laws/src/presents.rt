@@ -38,7 +38,7 @@ pub fn law_of_recordings()
     ensures { RecordingsLaw }
 {}
 
-/// What was recorded goes on to agree with what is so now, by commands that bring no transaction further, by rollbacks and by time.
+/// What was recorded goes on to agree with what is so now, by commands that bring no transaction further, by decisions, by rollbacks and by time.
 pub fn law_of_agreement()
     ensures { AgreeingLaw }
 {
