@@ -52,7 +52,7 @@ use Rattle.ktm_laws.proofs.Moves.{if_cases, if_parts, same-by_id}
 use Rattle.ktm_laws.proofs.Placing.{before-not}
 use Rattle.ktm_laws.proofs.Releasing.{transaction_at-there}
 use Rattle.ktm_laws.proofs.Settling.{IsQuiet, served-then}
-use Rattle.ktm_laws.proofs.Tables.{before_other, is_before-then, same_id-equal, same_id-sym}
+use Rattle.ktm_laws.proofs.Tables.{same_id-equal, same_id-sym}
 use Rattle.ktm_laws.proofs.Undoing.{agrees-aborted_by}
 use Rattle.ktm_laws.proofs.Views.{durable-served}
 

@@ -1,8 +1,7 @@
 -- What the log has of a transaction from its decision on.
 use Rattle.std.specs.Prelude.{if◌then◌else◌}
-use Rattle.std.proofs.Common.{◌≡◌, ℕ, ◌+◌, ◌==◌, ◌&&◌, ◌||◌, not, Bool, true, false, List, [], ◌∷◌, ◌++◌, length, map, filter, Option, Some, None, refl, sym, ◌∙◌, ap, subst, inl, inr, ◌⊎◌}
-use Rattle.std.proofs.lemmas.Bool.{cases_Bool, and_parts, not-true, true≢false, false_from_ne_true}
-use Rattle.std.specs.List.{flat_map, list_any}
+use Rattle.std.proofs.Common.{◌≡◌, ◌+◌, ◌||◌, not, Bool, true, false, List, [], ◌∷◌, ◌++◌, map, filter, Option, Some, None, refl, sym, ◌∙◌, ap, subst, inl, inr}
+use Rattle.std.proofs.lemmas.Bool.{cases_Bool, true≢false}
 use Rattle.ktm_base.specs.declared.id.Id.{Id}
 use Rattle.ktm_types.specs.declared.event.DonePart.{DonePart}
 use Rattle.ktm_types.specs.declared.event.Event.{Event}
@@ -12,7 +11,7 @@ use Rattle.ktm_world.specs.Lawful.{Summary, summary_of}
 use Rattle.ktm_world.specs.Transactions.{same_id}
 use Rattle.ktm_laws.specs.Footprint.{IsIn}
 use Rattle.ktm_laws.proofs.Diamonds.{none-from}
-use Rattle.ktm_laws.proofs.Elements.{IsIn-filter, list_any-from}
+use Rattle.ktm_laws.proofs.Elements.{IsIn-filter}
 use Rattle.ktm_laws.proofs.Finishing.{marked}
 use Rattle.ktm_laws.proofs.Lists.{IsIn-unmap}
 use Rattle.ktm_laws.proofs.OwnGroups.{is_open}

@@ -49,18 +49,18 @@ summaries-id x u s there = go u.is_recorded (stage_in u.phase) there
 -- ---- an outcome by which a course has arrived
 
 -- what it makes of the machine, whether its outcome is known or not
-record IsArrival (x : Present) (d : Course) (o : Outcome) : Type 0 where
-  events : o.events ≡ d.events
-  works : o.works ≡ d.works
-  items : o.transactions.items ≡ change_at x.transactions.items d.transaction.id (λ t. d.transaction)
-  enlistments : o.transactions.enlistments ≡ d.enlistments
-  made : o.made ≡ []
-  next : o.table.next_node ≡ x.files.table.next_node
-  changes : (id : Id) → same_id id d.transaction.id ≡ false → own_changes o.table.own id ≡ own_changes x.files.table.own id
-  settings : (id : Id) → same_id id d.transaction.id ≡ false → own_settings o.own id ≡ own_settings x.keys.own id
-  owned : is_undecided d.transaction ≡ true → (o.table.own ≡ x.files.table.own) × (o.own ≡ x.keys.own)
+pub record IsArrival (x : Present) (d : Course) (o : Outcome) : Type 0 where
+  pub events : o.events ≡ d.events
+  pub works : o.works ≡ d.works
+  pub items : o.transactions.items ≡ change_at x.transactions.items d.transaction.id (λ t. d.transaction)
+  pub enlistments : o.transactions.enlistments ≡ d.enlistments
+  pub made : o.made ≡ []
+  pub next : o.table.next_node ≡ x.files.table.next_node
+  pub changes : (id : Id) → same_id id d.transaction.id ≡ false → own_changes o.table.own id ≡ own_changes x.files.table.own id
+  pub settings : (id : Id) → same_id id d.transaction.id ≡ false → own_settings o.own id ≡ own_settings x.keys.own id
+  pub owned : is_undecided d.transaction ≡ true → (o.table.own ≡ x.files.table.own) × (o.own ≡ x.keys.own)
 
-arrival : (x : Present) (d : Course) (reply : Reply) → IsArrival x d (arrived x d reply)
+pub arrival : (x : Present) (d : Course) (reply : Reply) → IsArrival x d (arrived x d reply)
 arrival x d reply = if_cases (λ o. IsArrival x d o) (is_undecided d.transaction) _ _
     (λ is. record { events = refl; works = refl; items = refl; enlistments = refl; made = refl; next = refl; changes = λ id other. refl; settings = λ id other. refl; owned = λ is'. (refl, refl) })
     (λ known. record {

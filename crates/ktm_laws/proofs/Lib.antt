@@ -59,6 +59,7 @@ pub mod Releasing
 pub mod Reserving
 pub mod Restarting
 pub mod Restored
+pub mod Rollbacks
 pub mod Seeing
 pub mod Settings
 pub mod Settling

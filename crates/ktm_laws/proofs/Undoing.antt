@@ -26,10 +26,10 @@ use Rattle.ktm_laws.proofs.Moves.{if_cases, Moved}
 use Rattle.ktm_laws.proofs.Placing.{summaries-without, without-among, without_summary}
 
 -- a course that has rolled back: undone where the log had it, with nothing committed, in a phase that the log knows nothing of
-record HasUndone (c d : Course) : Type 0 where
-  events : d.events ≡ c.events ++ event_if c.transaction.is_recorded (Event.Undo c.transaction.id)
-  works : d.works ≡ c.works
-  stage : stage_in d.transaction.phase ≡ None
+pub record HasUndone (c d : Course) : Type 0 where
+  pub events : d.events ≡ c.events ++ event_if c.transaction.is_recorded (Event.Undo c.transaction.id)
+  pub works : d.works ≡ c.works
+  pub stage : stage_in d.transaction.phase ≡ None
 
 -- its enlistments are told
 abbrev told : Course → Course
@@ -37,7 +37,7 @@ told c =
     let undone = recording c (event_if c.transaction.is_recorded (Event.Undo c.transaction.id)) in
     telling (telling undone (λ e. takes_part c.transaction.id e && e.is_recovered) Notify.Rollback (owing rollback)) (λ e. is_its_superior c e && not (is_caller c e)) Notify.Rollback unchanged
 
-aborting-undone : (c : Course) → HasUndone c (aborting c)
+pub aborting-undone : (c : Course) → HasUndone c (aborting c)
 unfolding aborting ended
 aborting-undone c =
     let d = in_phase (decided (told c) Aborted) Aborting in

@@ -17,6 +17,7 @@ pub mod OwnKeys
 pub mod PlainChange
 pub mod Recordings
 pub mod Reservations
+pub mod Rollbacks
 pub mod SoundCourse
 pub mod SoundCourses
 pub mod SoundFiles

@@ -8,6 +8,7 @@ ghost use Rattle.ktm_laws.specs.OwnKeys.{OwnKeysLaw};
 ghost use Rattle.ktm_laws.specs.PlainChange.{PlainChangeLaw};
 ghost use Rattle.ktm_laws.specs.Recordings.{RecordingsLaw};
 ghost use Rattle.ktm_laws.specs.Reservations.{ReservationsLaw};
+ghost use Rattle.ktm_laws.specs.Rollbacks.{RollbacksLaw};
 ghost use Rattle.ktm_laws.specs.SoundWorlds.{SoundWorldsLaw};
 
 use crate::{law_of_courses, law_of_forms, law_of_lists};
@@ -44,6 +45,11 @@ pub fn law_of_agreement()
 {
     law_of_step();
 }
+
+/// What the rollback of an undecided transaction records applies to what was recorded.
+pub fn law_of_rollbacks()
+    ensures { RollbacksLaw }
+{}
 
 /// Every world of a run is sound, where it began with a restart of a good state.
 pub fn law_of_sound_worlds()
