@@ -34,6 +34,7 @@ pub mod Leaving
 pub mod Limits
 pub mod Lists
 pub mod Lookups
+pub mod MadeManagers
 pub mod Makings
 pub mod Meeting
 pub mod Moves

@@ -8,6 +8,7 @@ pub mod Formed
 pub mod GoodState
 pub mod GoodStates
 pub mod Grammatical
+pub mod MadeManagers
 pub mod NamedObjects
 pub mod Openings
 pub mod Outcomes

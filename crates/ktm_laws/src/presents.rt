@@ -2,6 +2,7 @@
 ghost use Rattle.ktm_laws.specs.Agreeing.{AgreeingLaw};
 ghost use Rattle.ktm_laws.specs.FirstOpening.{FirstOpeningLaw};
 ghost use Rattle.ktm_laws.specs.FilesKept.{FilesKeptLaw};
+ghost use Rattle.ktm_laws.specs.MadeManagers.{MadeManagersLaw};
 ghost use Rattle.ktm_laws.specs.Openings.{OpeningLaw};
 ghost use Rattle.ktm_laws.specs.OwnChange.{OwnChangeLaw};
 ghost use Rattle.ktm_laws.specs.OwnKeys.{OwnKeysLaw};
@@ -49,6 +50,11 @@ pub fn law_of_agreement()
 /// What the rollback of an undecided transaction records applies to what was recorded.
 pub fn law_of_rollbacks()
     ensures { RollbacksLaw }
+{}
+
+/// What a resource manager that is made records applies to what was recorded.
+pub fn law_of_made_managers()
+    ensures { MadeManagersLaw }
 {}
 
 /// Every world of a run is sound, where it began with a restart of a good state.
