@@ -50,14 +50,14 @@ owed-prepare e = go e.owes
     go (Some prepare) is = refl
     go _ is = absurd (true≢false (sym is))
 
-owed-commit : (e : Enlistment) → owes_commit e ≡ true → e.owes ≡ Some commit
+pub owed-commit : (e : Enlistment) → owes_commit e ≡ true → e.owes ≡ Some commit
 owed-commit e = go e.owes
   where
     go : (o : Option Owed) → owes_commit (record e { owes = o }) ≡ true → o ≡ Some commit
     go (Some commit) is = refl
     go _ is = absurd (true≢false (sym is))
 
-owed-rollback : (e : Enlistment) → owes_rollback e ≡ true → e.owes ≡ Some rollback
+pub owed-rollback : (e : Enlistment) → owes_rollback e ≡ true → e.owes ≡ Some rollback
 owed-rollback e = go e.owes
   where
     go : (o : Option Owed) → owes_rollback (record e { owes = o }) ≡ true → o ≡ Some rollback
@@ -65,7 +65,7 @@ owed-rollback e = go e.owes
     go _ is = absurd (true≢false (sym is))
 
 -- the answer that is waited for in a phase
-answer_in : Phase → Option Owed
+pub answer_in : Phase → Option Owed
 answer_in PrePreparing = Some pre_prepare
 answer_in Preparing = Some prepare
 answer_in SinglePhase = Some commit
@@ -127,13 +127,13 @@ unfolding answer_in
 is-preparing Preparing is = refl
 is-preparing _ is = absurd cc
 
-is-committing : (phase : Phase) → answer_in phase ≡ Some commit → (phase ≡ Committing) ⊎ (phase ≡ SinglePhase)
+pub is-committing : (phase : Phase) → answer_in phase ≡ Some commit → (phase ≡ Committing) ⊎ (phase ≡ SinglePhase)
 unfolding answer_in
 is-committing Committing is = inl refl
 is-committing SinglePhase is = inr refl
 is-committing _ is = absurd cc
 
-is-aborting : (phase : Phase) → answer_in phase ≡ Some rollback → phase ≡ Aborting
+pub is-aborting : (phase : Phase) → answer_in phase ≡ Some rollback → phase ≡ Aborting
 unfolding answer_in
 is-aborting Aborting is = refl
 is-aborting _ is = absurd cc
@@ -257,7 +257,7 @@ module _ (boot : ℕ) (c : Course) (stands : Stands boot c) (brought : (e : Enli
     | inr unrecovered ↦ absurd (owes_none e owed is (unrecovered-parts boot c.managers e (brought e there) unrecovered).2)
   ]
 
-  phase-owing : (owed : Owed) → e.owes ≡ Some owed → answer_in (c.transaction).phase ≡ Some owed
+  pub phase-owing : (owed : Owed) → e.owes ≡ Some owed → answer_in (c.transaction).phase ≡ Some owed
   phase-owing owed is = sym (answer-of (c.transaction).phase e owed is ((stands.stand).parts e there (takes_part-owing owed is))) ∙ is
 
   superior-one : (f : Enlistment → Enlistment) → ((x : Enlistment) → IsSame x (f x)) → is_some (superior_of (with_enlistments (has_id e.id) f c.enlistments) (c.transaction).id) ≡ is_some (superior c)

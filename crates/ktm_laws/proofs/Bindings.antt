@@ -194,7 +194,7 @@ sound-keep_information x (Some e) information sound passes = record {
 -- ---- the last handle, and the end of a process
 
 -- an outcome that is sound, and takes and makes nothing
-record IsSoundly (x : Present) (o : Outcome) : Type 0 where
+pub record IsSoundly (x : Present) (o : Outcome) : Type 0 where
   sound : IsSoundOutcome x o
   quiet : IsQuiet o
 
@@ -216,47 +216,51 @@ soundly-last x (FileObject number) sound = record {
   quiet = record { took = refl; made = refl };
 }
 
-soundly-gone : (o : Option Object) (x : Present) → IsSoundCourse x → IsSoundly x (handle_gone o x)
+pub soundly-gone : (o : Option Object) (x : Present) → IsSoundCourse x → IsSoundly x (handle_gone o x)
 soundly-gone None x sound = soundly-reply x Done sound
 soundly-gone (Some object) x sound = if_cases (λ o. IsSoundly x o) (has_handle x.handles object) (only_reply x Done) (last_handle_gone x object) (λ has. soundly-reply x Done sound) (λ last. soundly-last x object sound)
 
 -- a sound machine after an outcome that takes and makes nothing, and with the outcomes that were known
-record StaysSound (x : Present) (o : Outcome) : Type 0 where
-  sound : IsSoundCourse (apply x o)
-  quiet : IsQuiet o
-  outcomes : OutcomesStay (x.transactions).items (o.transactions).items
-  objects : list_all names_objects o.events ≡ true
+pub record StaysSound (x : Present) (o : Outcome) : Type 0 where
+  pub sound : IsSoundCourse (apply x o)
+  pub quiet : IsQuiet o
+  pub outcomes : OutcomesStay (x.transactions).items (o.transactions).items
+  pub objects : list_all names_objects o.events ≡ true
 
-stays-sound : (x : Present) (o : Outcome) → IsSoundly x o → StaysSound x o
+pub stays-sound : (x : Present) (o : Outcome) → IsSoundly x o → StaysSound x o
 stays-sound x o soundly = record { sound = sound-apply x o soundly.sound; quiet = soundly.quiet; outcomes = (soundly.sound).outcomes; objects = (soundly.sound).objects }
 
 keeps-of : (x : Present) (o : Outcome) → StaysSound x o → Keeps x o
 keeps-of x o stays = record { sound = stays.sound; outcomes = stays.outcomes; objects = stays.objects }
 
-stays-then : (x : Present) (a : Outcome) (next : Present → Outcome) → StaysSound x a → (IsSoundCourse (apply x a) → StaysSound (apply x a) (next (apply x a))) → StaysSound x (and_then x a next)
+pub stays-then : (x : Present) (a : Outcome) (next : Present → Outcome) → StaysSound x a → (IsSoundCourse (apply x a) → StaysSound (apply x a) (next (apply x a))) → StaysSound x (and_then x a next)
 stays-then x a next first second = let rest = second first.sound in record { sound = sound-joined x a (next (apply x a)) rest.quiet rest.sound; quiet = quiet-joined a (next (apply x a)) first.quiet rest.quiet; outcomes = stay-then (x.transactions).items (a.transactions).items ((next (apply x a)).transactions).items first.outcomes rest.outcomes; objects = list_all-append names_objects a.events (next (apply x a)).events ∙ and_from _ _ first.objects rest.objects }
 
-stays-closed : (x : Present) (process : Pid) (label : Label) → IsSoundCourse x → StaysSound x (close_handle x process label)
+-- a label is unbound
+pub stays-unbound : (x : Present) (process : Pid) (label : Label) → IsSoundCourse x → StaysSound x (record (only_reply x Done) { handles = without_handle x.handles process label })
+stays-unbound x process label sound = stays-sound x _ (record {
+  sound = record {
+    settled = sound-handles x (without_handle x.handles process label) sound (each_pair-filter have_labels_apart (λ h. not (is_handle process label h)) x.handles sound.labels_differ)
+        (λ h there. list_all-at (λ (h : Handle). is_object_there x h.object) x.handles sound.objects_there h (IsIn-filter (λ h. not (is_handle process label h)) x.handles h there).0);
+    events = NoBoots-none;
+    made = refl;
+    outcomes = stay-refl (x.transactions).items;
+    objects = refl;
+    notes = λ s none. absurd none;
+  };
+  quiet = record { took = refl; made = refl };
+})
+
+pub stays-closed : (x : Present) (process : Pid) (label : Label) → IsSoundCourse x → StaysSound x (close_handle x process label)
 unfolding close_handle
 stays-closed x process label sound = stays-then x (record (only_reply x Done) { handles = without_handle x.handles process label }) (handle_gone (object_at x.handles process label))
-    (stays-sound x _ (record {
-      sound = record {
-        settled = sound-handles x (without_handle x.handles process label) sound (each_pair-filter have_labels_apart (λ h. not (is_handle process label h)) x.handles sound.labels_differ)
-            (λ h there. list_all-at (λ (h : Handle). is_object_there x h.object) x.handles sound.objects_there h (IsIn-filter (λ h. not (is_handle process label h)) x.handles h there).0);
-        events = NoBoots-none;
-        made = refl;
-        outcomes = stay-refl (x.transactions).items;
-        objects = refl;
-        notes = λ s none. absurd none;
-      };
-      quiet = record { took = refl; made = refl };
-    }))
+    (stays-unbound x process label sound)
     (λ sound'. stays-sound _ _ (soundly-gone (object_at x.handles process label) _ sound'))
 
 pub sound-close_handle : (x : Present) (process : Pid) (label : Label) → IsSoundCourse x → Keeps x (close_handle x process label)
 sound-close_handle x process label sound = keeps-of x (close_handle x process label) (stays-closed x process label sound)
 
-stays-closed_all : (labels : List Label) (x : Present) (process : Pid) → IsSoundCourse x → StaysSound x (closed_in_turn x process labels)
+pub stays-closed_all : (labels : List Label) (x : Present) (process : Pid) → IsSoundCourse x → StaysSound x (closed_in_turn x process labels)
 stays-closed_all [] x process sound = stays-sound x (only_reply x Done) (soundly-reply x Done sound)
 stays-closed_all (label ∷ labels) x process sound = stays-then x (close_handle x process label) (λ next. closed_in_turn next process labels) (stays-closed x process label sound) (λ sound'. stays-closed_all labels _ process sound')
 
@@ -266,13 +270,13 @@ sound-exit x process sound = keeps-of x (closed_in_turn x process (labels_of x.h
 
 -- ---- time
 
-stays-due : (x : Present) (o : Option Transaction) → IsSoundCourse x → ((t : Transaction) → o ≡ Some t → IsIn t (x.transactions).items) → StaysSound x (aborted_if_due x o)
+pub stays-due : (x : Present) (o : Option Transaction) → IsSoundCourse x → ((t : Transaction) → o ≡ Some t → IsIn t (x.transactions).items) → StaysSound x (aborted_if_due x o)
 stays-due x None sound there = stays-sound x (only_reply x Done) (soundly-reply x Done sound)
 stays-due x (Some t) sound there = if_cases (λ o. StaysSound x o) (is_due (x.transactions).clock t) (aborted_by x t None Done) (only_reply x Done)
     (λ due. stays-sound x _ (record { sound = sound-aborted_by x sound t (there t refl) None Done (may-roll t (and_parts _ (may_roll_back t) due).1); quiet = quiet-arrived x (aborting (course_of x t None)) Done }))
     (λ other. stays-sound x (only_reply x Done) (soundly-reply x Done sound))
 
-stays-in_turn : (ts : List Transaction) (x : Present) → IsSoundCourse x → StaysSound x (aborted_in_turn x ts)
+pub stays-in_turn : (ts : List Transaction) (x : Present) → IsSoundCourse x → StaysSound x (aborted_in_turn x ts)
 stays-in_turn [] x sound = stays-sound x (only_reply x Done) (soundly-reply x Done sound)
 stays-in_turn (t ∷ ts) x sound = stays-then x (aborted_if_due x (transaction_at (x.transactions).items t.id)) (λ next. aborted_in_turn next ts)
     (stays-due x (transaction_at (x.transactions).items t.id) sound (λ u is. (transaction_at-found (x.transactions).items t.id u is).0)) (λ sound'. stays-in_turn ts _ sound')

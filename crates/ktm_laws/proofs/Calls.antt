@@ -1,6 +1,6 @@
 -- The calls on transactions and enlistments that are there: what each comes to is sound.
 use Rattle.std.specs.Prelude.{if◌then◌else◌}
-use Rattle.std.proofs.Common.{◌≡◌, ℕ, ◌&&◌, not, Bool, true, false, List, [], ◌∷◌, map, filter, Option, Some, None, refl, sym, ◌∙◌, ap, subst, inl, inr, ◌⊎◌}
+use Rattle.std.proofs.Common.{◌≡◌, ℕ, ◌&&◌, not, Bool, true, false, List, [], ◌∷◌, map, filter, Option, Some, None, refl, sym, ◌∙◌, ap, subst, inl, inr}
 use Rattle.std.specs.Prelude.{option_and_then}
 use Rattle.std.proofs.lemmas.Bool.{cases_Bool, and_parts, and_from, or_left, true≢false, not-true}
 use Rattle.std.proofs.lemmas.Option.{none-some, same_Some}
@@ -33,7 +33,7 @@ use Rattle.ktm_laws.proofs.Answering.{stands-in, here-from, fresh-from, can_roll
 use Rattle.ktm_laws.proofs.Arrivals.{stands-now, brought-now}
 use Rattle.ktm_laws.proofs.Outcomes.{stay-refl, undecided-free}
 use Rattle.ktm_laws.proofs.Settling.{IsSoundOutcome, sound-only_reply, sound-arrived}
-use Rattle.ktm_laws.proofs.Moves.{NoBoots-none, find-found}
+use Rattle.ktm_laws.proofs.Moves.{NoBoots-none, find-found, if_parts}
 
 -- ---- refusals
 
@@ -98,7 +98,7 @@ superior-rolls Aborting is = is
 superior-rolls Ended is = is
 superior-rolls _ is = refl
 
-single-phase : (phase : Phase) → is_one_phase phase ≡ true → phase ≡ SinglePhase
+pub single-phase : (phase : Phase) → is_one_phase phase ≡ true → phase ≡ SinglePhase
 single-phase SinglePhase is = refl
 single-phase _ is = absurd (true≢false (sym is))
 
@@ -134,7 +134,7 @@ module _ (x : Present) (sound : IsSoundCourse x) (t : Transaction) (there : IsIn
   fresh-before_pre_prepare Requested is before = fresh-requested is
   fresh-before_pre_prepare _ is before = absurd (true≢false (sym before))
 
-  commits-waiting : (phase : Phase) → t.phase ≡ phase → waits_for_superior phase ≡ true → Arrives boot c (committing c)
+  pub commits-waiting : (phase : Phase) → t.phase ≡ phase → waits_for_superior phase ≡ true → Arrives boot c (committing c)
   commits-waiting Held is waits = let at = stands-in boot c Held is stands in arrives-committing boot c (record { backed = is_backed-from boot t stands.boots; stand = at.stand; recorded = or_left _ _ at.recorded })
   commits-waiting InDoubt is waits = let at = stands-in boot c InDoubt is stands in arrives-committing boot c (record { backed = is_backed-from boot t stands.boots; stand = at.stand; recorded = or_left _ _ at.recorded })
   commits-waiting _ is waits = absurd (true≢false (sym waits))
@@ -189,13 +189,13 @@ enlistment-allowed o allowed e is tests =
     let tests' = subst (λ o. Passes (enlistment_tests o allowed)) is tests in
     not-not _ (passed (passed tests').1).0
 
-superior-allowed : (x : Present) (o : Option Enlistment) (allowed : Phase → Bool) (e : Enlistment) → o ≡ Some e → Passes (superior_tests x o allowed) → phase_passes x allowed e ≡ true
+pub superior-allowed : (x : Present) (o : Option Enlistment) (allowed : Phase → Bool) (e : Enlistment) → o ≡ Some e → Passes (superior_tests x o allowed) → phase_passes x allowed e ≡ true
 superior-allowed x o allowed e is tests =
     let tests' = subst (λ o. Passes (superior_tests x o allowed)) is tests in
     not-not _ (passed (passed (passed tests').1).1).0
 
 -- the phase of its transaction
-phase-passed : (x : Present) (test : Phase → Bool) (e : Enlistment) (t : Transaction) → transaction_in x e ≡ Some t → phase_passes x test e ≡ true → test t.phase ≡ true
+pub phase-passed : (x : Present) (test : Phase → Bool) (e : Enlistment) (t : Transaction) → transaction_in x e ≡ Some t → phase_passes x test e ≡ true → test t.phase ≡ true
 phase-passed x test e t is passes = subst (λ (o : Option Transaction). holds_of (λ t. test t.phase) o ≡ true) is passes
 
 module _ (x : Present) (sound : IsSoundCourse x) (o : Option Enlistment) (there : (e : Enlistment) → o ≡ Some e → IsIn e (x.transactions).enlistments) where
@@ -251,20 +251,17 @@ module _ (x : Present) (sound : IsSoundCourse x) (o : Option Enlistment) (there 
       (arrives-single_phase_rejected (x.recorded).boots (course_of x t caller) (stands-now x t caller sound at) (brought-now x t caller sound) sound.enlistments_rise e (there e is) own single both.1)
       (subst (λ p. can_roll_back p ≡ true) (sym single) refl))
 
+  -- an enlistment that may roll its transaction back does so in a phase in which that is possible
+  pub rolls : (e : Enlistment) (t : Transaction) → transaction_in x e ≡ Some t → may_roll_back_by x e ≡ true → can_roll_back t.phase ≡ true
+  rolls e t found may = elim (if_parts (is_superior e) (phase_passes x lets_superior_roll_back e) (may_vote x e) may) [
+    | inl above ↦ superior-rolls t.phase (phase-passed x lets_superior_roll_back e t found above.1)
+    | inr below ↦ voting-rolls t.phase (phase-passed x is_voting e t found (and_parts (not (is_superior e) && is_open_for_votes e) (phase_passes x is_voting e) below.1).1)
+  ]
+
   pub sound-rollback_enlistment : Passes (enlistment_tests o (may_roll_back_by x)) → IsSoundOutcome x (answering x o (λ c e. aborting c))
   sound-rollback_enlistment tests = sound-answering x o (λ c e. aborting c) sound (λ e is t caller at own found.
       let can = rolls e t found (enlistment-allowed o (may_roll_back_by x) e is tests) in
       goes t caller at (aborting (course_of x t caller)) (arrives-rolled_back (x.recorded).boots (course_of x t caller) (stands-now x t caller sound at) (brought-now x t caller sound) can) can)
-    where
-      if_either : (b p q : Bool) → (if b then p else q) ≡ true → (p ≡ true) ⊎ (q ≡ true)
-      if_either true p q is = inl is
-      if_either false p q is = inr is
-
-      rolls : (e : Enlistment) (t : Transaction) → transaction_in x e ≡ Some t → may_roll_back_by x e ≡ true → can_roll_back t.phase ≡ true
-      rolls e t found may = elim (if_either (is_superior e) (phase_passes x lets_superior_roll_back e) (may_vote x e) may) [
-        | inl above ↦ superior-rolls t.phase (phase-passed x lets_superior_roll_back e t found above)
-        | inr below ↦ voting-rolls t.phase (phase-passed x is_voting e t found (and_parts (not (is_superior e) && is_open_for_votes e) (phase_passes x is_voting e) below).1)
-      ]
 
   pub sound-pre_prepare_enlistment : Passes (superior_tests x o before_pre_prepare) → IsSoundOutcome x (answering x o (λ c e. to_pre_prepare c))
   sound-pre_prepare_enlistment tests = sound-answering x o (λ c e. to_pre_prepare c) sound (λ e is t caller at own found.

@@ -72,17 +72,17 @@ own_settings-with (o ∷ os) id other key value differs = elim (cases_Bool (same
 single-active : (phase : Phase) → is_one_phase phase ≡ true → phase ≡ Active → ⊥
 single-active phase one is = true≢false (sym one ∙ ap is_one_phase is)
 
-own-after-same : (x : Present) (who : Option Id) (change : Option Change) → IsActiveCaller x who → (t : Transaction) → IsIn t (x.transactions).items → is_one_phase t.phase ≡ true
+pub own-after-same : (x : Present) (who : Option Id) (change : Option Change) → IsActiveCaller x who → (t : Transaction) → IsIn t (x.transactions).items → (t.phase ≡ Active → ⊥)
     → own_changes (own_after x.files who change) t.id ≡ own_changes ((x.files).table).own t.id
-own-after-same x None change who t there one = refl
-own-after-same x (Some id) None who t there one = refl
-own-after-same x (Some id) (Some change) who t there one =
-    own_changes-with ((x.files).table).own id t.id (changes_with x.files id change) (λ same. single-active t.phase one (who.active id refl t there (sym same)))
+own-after-same x None change who t there other = refl
+own-after-same x (Some id) None who t there other = refl
+own-after-same x (Some id) (Some change) who t there other =
+    own_changes-with ((x.files).table).own id t.id (changes_with x.files id change) (λ same. other (who.active id refl t there (sym same)))
 
-with_setting-same : (x : Present) (who : Option Id) (key : List ℕ) (value : Option (List ℕ)) → IsActiveCaller x who → (t : Transaction) → IsIn t (x.transactions).items → is_one_phase t.phase ≡ true
+pub with_setting-same : (x : Present) (who : Option Id) (key : List ℕ) (value : Option (List ℕ)) → IsActiveCaller x who → (t : Transaction) → IsIn t (x.transactions).items → (t.phase ≡ Active → ⊥)
     → own_settings (with_setting (x.keys).own who key value) t.id ≡ own_settings (x.keys).own t.id
-with_setting-same x None key value who t there one = refl
-with_setting-same x (Some id) key value who t there one = own_settings-with (x.keys).own id t.id key value (λ same. single-active t.phase one (who.active id refl t there (sym same)))
+with_setting-same x None key value who t there other = refl
+with_setting-same x (Some id) key value who t there other = own_settings-with (x.keys).own id t.id key value (λ same. other (who.active id refl t there (sym same)))
 
 -- ---- files
 
@@ -97,7 +97,7 @@ objects-plain None (Some change) = refl
 objects-plain (Some id) change = refl
 
 -- a file that is opened changes nothing of what transactions own
-table-own : (files : FilesNow) (who : Option Id) (o : FileOutcome) → (table_after files who o).own ≡ own_after files who o.change
+pub table-own : (files : FilesNow) (who : Option Id) (o : FileOutcome) → (table_after files who o).own ≡ own_after files who o.change
 table-own files who o = go o.opened
   where
     go : (opened : Option OpenFile) → (table_after files who (record o { opened = opened })).own ≡ own_after files who o.change
@@ -107,7 +107,7 @@ table-own files who o = go o.opened
 pub sound-of_files : (x : Present) (who : Option Id) (o : FileOutcome) → IsSoundCourse x → IsActiveCaller x who → IsSoundOutcome x (of_files x who o)
 sound-of_files x who o sound is = record {
   settled = sound-own x (table_after x.files who o) (x.keys).own sound (λ t there one.
-      (ap (λ own. own_changes own t.id) (table-own x.files who o) ∙ own-after-same x who o.change is t there one, refl));
+      (ap (λ own. own_changes own t.id) (table-own x.files who o) ∙ own-after-same x who o.change is t there (single-active t.phase one), refl));
   events = events-plain who o.change;
   made = refl;
   notes = λ s none. absurd none;
@@ -186,4 +186,4 @@ sound-of_keys x o sound same = record {
 }
 
 pub sound-with_setting : (x : Present) (who : Option Id) (key : List ℕ) (value : Option (List ℕ)) → IsSoundCourse x → IsActiveCaller x who → IsSoundOutcome x (of_keys x (record { reply = Done; own = with_setting (x.keys).own who key value }))
-sound-with_setting x who key value sound is = sound-of_keys x _ sound (λ t there one. with_setting-same x who key value is t there one)
+sound-with_setting x who key value sound is = sound-of_keys x _ sound (λ t there one. with_setting-same x who key value is t there (single-active t.phase one))

@@ -1,3 +1,6 @@
+pub mod Agreeing
+pub mod AgreeingCalls
+pub mod AgreeingCommands
 pub mod Answering
 pub mod Applying
 pub mod Arrivals
@@ -8,7 +11,9 @@ pub mod Bindings
 pub mod Calls
 pub mod Closing
 pub mod Committing
+pub mod CommitsKept
 pub mod CoursesKept
+pub mod Decided
 pub mod Deciding
 pub mod Diamonds
 pub mod Elements
@@ -17,6 +22,7 @@ pub mod FilesKept
 pub mod Finishing
 pub mod FirstOpening
 pub mod Fitting
+pub mod Following
 pub mod Formed
 pub mod GoodStates
 pub mod Grammars
@@ -28,6 +34,7 @@ pub mod Leaving
 pub mod Limits
 pub mod Lists
 pub mod Lookups
+pub mod MadeManagers
 pub mod Makings
 pub mod Meeting
 pub mod Moves
@@ -43,6 +50,7 @@ pub mod Owning
 pub mod Parts
 pub mod Passing
 pub mod Pigeons
+pub mod Placing
 pub mod PlainCalls
 pub mod Preparing
 pub mod Procedures
@@ -52,15 +60,18 @@ pub mod Releasing
 pub mod Reserving
 pub mod Restarting
 pub mod Restored
+pub mod Rollbacks
 pub mod Seeing
 pub mod Settings
 pub mod Settling
+pub mod Silent
 pub mod SoundCommands
 pub mod SoundRestarts
 pub mod SoundWorlds
 pub mod Steps
 pub mod Tables
 pub mod Undecided
+pub mod Undoing
 pub mod Versions
 pub mod Views
 pub mod Waiting

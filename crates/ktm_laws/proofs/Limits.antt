@@ -91,7 +91,7 @@ sum-filter g keep (t ∷ ts) =
       | inr other ↦ rw other (omega arith)
     ]
 
-length-filter-less : (keep : Recorded → Bool) (ts : List Recorded) → length (filter keep ts) ≤ length ts
+pub length-filter-less : {X : Type 0} (keep : X → Bool) (ts : List X) → length (filter keep ts) ≤ length ts
 length-filter-less keep [] = omega arith
 length-filter-less keep (t ∷ ts) =
     let rest = length-filter-less keep ts in

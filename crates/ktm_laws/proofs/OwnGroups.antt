@@ -29,7 +29,7 @@ use Rattle.ktm_laws.proofs.Steps.{boot-keeps}
 use Rattle.ktm_laws.proofs.Finishing.{marked, done-keeps}
 
 -- has the transaction a part that is not done
-abbrev is_open : Recorded → Bool
+abbrev pub is_open : Recorded → Bool
 is_open t = list_any (λ (p : RecordedPart). not p.is_done) t.parts
 
 -- ---- a transaction that stays while a part of it is not done

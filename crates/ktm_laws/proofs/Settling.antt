@@ -151,7 +151,7 @@ sound-own x table own sound same = record {
     object (FileObject number) is = is
 
 -- those of another transaction stay
-own_changes-without : (own : List OwnChanges) (id other : Id) → same_id other id ≡ false → own_changes (filter (λ o. not (same_id o.transaction id)) own) other ≡ own_changes own other
+pub own_changes-without : (own : List OwnChanges) (id other : Id) → same_id other id ≡ false → own_changes (filter (λ o. not (same_id o.transaction id)) own) other ≡ own_changes own other
 own_changes-without [] id other differs = refl
 own_changes-without (o ∷ os) id other differs = elim (cases_Bool (same_id o.transaction id)) [
   | inl same ↦
@@ -163,7 +163,7 @@ own_changes-without (o ∷ os) id other differs = elim (cases_Bool (same_id o.tr
   ]
 ]
 
-own_settings-without : (own : List Own) (id other : Id) → same_id other id ≡ false → own_settings (without_own own id) other ≡ own_settings own other
+pub own_settings-without : (own : List Own) (id other : Id) → same_id other id ≡ false → own_settings (without_own own id) other ≡ own_settings own other
 own_settings-without [] id other differs = refl
 own_settings-without (o ∷ os) id other differs = elim (cases_Bool (same_id o.transaction id)) [
   | inl same ↦
@@ -253,7 +253,7 @@ notes_for-append id (s ∷ a) b = elim (cases_Bool (same_id s.manager id)) [
   | inr other ↦ rw other (notes_for-append id a b)
 ]
 
-served-then : (took : Option Id) (a b : List Sent) (ms : List Manager) → map (served None b) (map (served took a) ms) ≡ map (served took (a ++ b)) ms
+pub served-then : (took : Option Id) (a b : List Sent) (ms : List Manager) → map (served None b) (map (served took a) ms) ≡ map (served took (a ++ b)) ms
 served-then took a b [] = refl
 served-then took a b (m ∷ ms) = λ i.
     record m { queue = (append_assoc (drop (taken_count m.id took) m.queue) (notes_for m.id a) (notes_for m.id b) ∙ ap (λ notes. drop (taken_count m.id took) m.queue ++ notes) (sym (notes_for-append m.id a b))) i }

@@ -108,7 +108,7 @@ IsIn-drop (suc n) (y ∷ ys) x there = inr (IsIn-drop n ys x there)
 
 -- ---- notifications are taken and sent
 
-durable-served : (took : Option Id) (sent : List Sent) (ms : List Manager) (id : Id) → is_durable_at (map (served took sent) ms) id ≡ is_durable_at ms id
+pub durable-served : (took : Option Id) (sent : List Sent) (ms : List Manager) (id : Id) → is_durable_at (map (served took sent) ms) id ≡ is_durable_at ms id
 durable-served took sent ms id = list_any-map (λ (m : Manager). same_id m.id id && m.is_durable) (λ m. same_id m.id id && m.is_durable) (served took sent) (λ m. refl) ms
 
 -- what is asked of the log depends on which resource managers are durable

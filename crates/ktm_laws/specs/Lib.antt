@@ -1,3 +1,4 @@
+pub mod Agreeing
 pub mod Diamond
 pub mod FilesKept
 pub mod FinalChanges
@@ -7,6 +8,7 @@ pub mod Formed
 pub mod GoodState
 pub mod GoodStates
 pub mod Grammatical
+pub mod MadeManagers
 pub mod NamedObjects
 pub mod Openings
 pub mod Outcomes
@@ -16,6 +18,7 @@ pub mod OwnKeys
 pub mod PlainChange
 pub mod Recordings
 pub mod Reservations
+pub mod Rollbacks
 pub mod SoundCourse
 pub mod SoundCourses
 pub mod SoundFiles

@@ -1,12 +1,15 @@
 // Laws of presents.
+ghost use Rattle.ktm_laws.specs.Agreeing.{AgreeingLaw};
 ghost use Rattle.ktm_laws.specs.FirstOpening.{FirstOpeningLaw};
 ghost use Rattle.ktm_laws.specs.FilesKept.{FilesKeptLaw};
+ghost use Rattle.ktm_laws.specs.MadeManagers.{MadeManagersLaw};
 ghost use Rattle.ktm_laws.specs.Openings.{OpeningLaw};
 ghost use Rattle.ktm_laws.specs.OwnChange.{OwnChangeLaw};
 ghost use Rattle.ktm_laws.specs.OwnKeys.{OwnKeysLaw};
 ghost use Rattle.ktm_laws.specs.PlainChange.{PlainChangeLaw};
 ghost use Rattle.ktm_laws.specs.Recordings.{RecordingsLaw};
 ghost use Rattle.ktm_laws.specs.Reservations.{ReservationsLaw};
+ghost use Rattle.ktm_laws.specs.Rollbacks.{RollbacksLaw};
 ghost use Rattle.ktm_laws.specs.SoundWorlds.{SoundWorldsLaw};
 
 use crate::{law_of_courses, law_of_forms, law_of_lists};
@@ -35,6 +38,23 @@ pub fn law_of_files_kept()
 /// What undecided transactions own, and what a plain call changes, applies to what was recorded.
 pub fn law_of_recordings()
     ensures { RecordingsLaw }
+{}
+
+/// What was recorded goes on to agree with what is so now, by commands that bring no transaction further, by decisions, by rollbacks and by time.
+pub fn law_of_agreement()
+    ensures { AgreeingLaw }
+{
+    law_of_step();
+}
+
+/// What the rollback of an undecided transaction records applies to what was recorded.
+pub fn law_of_rollbacks()
+    ensures { RollbacksLaw }
+{}
+
+/// What a resource manager that is made records applies to what was recorded.
+pub fn law_of_made_managers()
+    ensures { MadeManagersLaw }
 {}
 
 /// Every world of a run is sound, where it began with a restart of a good state.
