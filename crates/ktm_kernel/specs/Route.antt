@@ -1,5 +1,5 @@
 -- What is asked, a call whose labels have become objects, and what they come to.
-use Rattle.std.specs.Prelude.{◌≡◌, not, Bool, true, List, [], ◌∷◌, Option, Some, None, Result, Ok, Err, is_some}
+use Rattle.std.specs.Prelude.{◌≡◌, not, Bool, true, false, List, [], ◌∷◌, Option, Some, None, Result, Ok, Err, is_some}
 use Rattle.ktm_base.specs.declared.id.Pid.{Pid}
 use Rattle.ktm_base.specs.declared.refusal.Refusal.{Refusal}
 use Rattle.ktm_base.specs.declared.refusal.Refusal.TheVariants.{HandleNoLongerValid, MachineDown}
@@ -71,3 +71,8 @@ decided x asked = within_log x (asked_outcome x asked)
 abbrev pub IsBuiltAsked : Asked → Type 0
 IsBuiltAsked (Call process command) = is_built_command command ≡ true
 IsBuiltAsked (Tick ms) = Unit {0}
+
+-- may it want memory; the passing of time does not
+abbrev pub takes_memory : Asked → Bool
+takes_memory (Call process command) = true
+takes_memory (Tick ms) = false

@@ -1,11 +1,11 @@
 // Deciding what a command comes to.
-ghost use Rattle.std.specs.Prelude.{◌≡◌, ◌≤◌, ◌∷◌, true, None, Some, [], IfOk, OnErr};
+ghost use Rattle.std.specs.Prelude.{◌≡◌, ◌≤◌, ◌∷◌, true, false, None, Some, [], IfOk, IsOk, OnErr};
 ghost use Rattle.ktm_built.specs.Forms.{ComesTo};
 ghost use Rattle.ktm_built.specs.Standing.{IsBuiltNow, IsStandingNow};
 ghost use Rattle.ktm_event.specs.Kept.{EventsState, Holds};
 ghost use Rattle.ktm_kernel.specs.Decided.{Decides};
 ghost use Rattle.ktm_kernel.specs.Memory.{Held, IsRoomy, MaySettle, MemoryState, held, now_of, settled};
-ghost use Rattle.ktm_kernel.specs.Route.{asked_outcome, outcome_of, IsBuiltAsked, IsReadyFor};
+ghost use Rattle.ktm_kernel.specs.Route.{asked_outcome, outcome_of, takes_memory, IsBuiltAsked, IsReadyFor};
 ghost use Rattle.ktm_kernel.specs.declared.route.Routed.TheVariants.{Create};
 ghost use Rattle.ktm_object.specs.Table.{handles_of};
 ghost use Rattle.ktm_types.specs.declared.reply.Reply.TheVariants.{Done};
@@ -31,7 +31,7 @@ pub(crate) enum Asked {
     /// A process calls.
     Call(Pid, Command),
     /// So many milliseconds pass.
-    Tick(u64),
+    Tick(u32),
 }
 
 // How a transaction stands.
@@ -191,6 +191,7 @@ impl Memory {
         ensures ok { IfOk result (λ d. Decides journal.now (held self.old) (asked_outcome (now_of journal.now (held self.old)) asked) d.reply d.settlement events.new self.new) }
         ensures room { events.new.room ≡ events.old.room }
         ensures no_memory { OnErr result (held self.new ≡ held self.old) }
+        ensures time { takes_memory asked ≡ false → IsOk result }
     {
         match asked {
             Asked::Call(process, command) => self.decide_call(journal, process, command, events),

@@ -1,5 +1,5 @@
 // The machine over its disk: the one way through.
-ghost use Rattle.std.specs.Prelude.{◌≡◌, ◌⊎◌, true, false, Option, Some, IfOk, OnOk, OnErr, []};
+ghost use Rattle.std.specs.Prelude.{◌≡◌, ◌⊎◌, true, false, Option, Some, IfOk, IsOk, OnOk, OnErr, []};
 ghost use Rattle.ktm_base.specs.Count.{Rose};
 ghost use Rattle.ktm_base.specs.Disk.{DeviceCalls, DiskState};
 ghost use Rattle.ktm_base.specs.declared.refusal.Refusal.TheVariants.{MachineDown};
@@ -10,7 +10,7 @@ ghost use Rattle.ktm_types.specs.Values.{IsCommand};
 ghost use Rattle.ktm_world.specs.Decide.{decide};
 ghost use Rattle.ktm_world.specs.World.{World};
 ghost use Rattle.ktm_kernel.specs.Done.{Ends, TouchesNothing, fallen};
-ghost use Rattle.ktm_kernel.specs.Route.{IsBuiltAsked, decided};
+ghost use Rattle.ktm_kernel.specs.Route.{IsBuiltAsked, decided, takes_memory};
 ghost use Rattle.ktm_kernel.specs.Stands.{KernelAt, DoesLine, IsPowered, IsReady};
 
 use crate::decide::Asked;
@@ -92,20 +92,22 @@ impl Kernel {
     }
 
     /// So many milliseconds pass, and the transactions roll back whose timeouts are reached then, in order of creation. While
-    /// the machine is down no time passes. No device call is made.
-    pub fn tick<D: Disk>(&mut self, disk: &mut D, ms: u64) -> Result<Reply, NoMemory>
+    /// the machine is down no time passes. It makes no device call, and takes no memory.
+    pub fn tick<D: Disk>(&mut self, disk: &mut D, ms: u32) -> Reply
         requires ready { IsReady self.old (D.told disk.old) (D.status disk.old) }
-        ensures does { IfOk result (λ reply. (w : World) → KernelAt self.old (D.told disk.old) w
-            → DoesLine w (Some (Tick ms)) reply self.new (D.told disk.new)) }
-        ensures cause { IfOk result (λ reply. reply ≡ Refused MachineDown → self.old.now.machine.is_up ≡ false) }
-        ensures ready { OnOk result (IsReady self.new (D.told disk.new) (D.status disk.new)) }
-        ensures untouched { OnOk result ((D.told disk.new ≡ D.told disk.old) × (D.status disk.new ≡ D.status disk.old)) }
-        ensures no_memory { OnErr result ((D.told disk.new ≡ D.told disk.old) × (D.status disk.new ≡ D.status disk.old)) }
+        ensures does { (w : World) → KernelAt self.old (D.told disk.old) w
+            → DoesLine w (Some (Tick ms)) result self.new (D.told disk.new) }
+        ensures cause { result ≡ Refused MachineDown → self.old.now.machine.is_up ≡ false }
+        ensures ready { IsReady self.new (D.told disk.new) (D.status disk.new) }
+        ensures untouched { (D.told disk.new ≡ D.told disk.old) × (D.status disk.new ≡ D.status disk.old) }
     {
         if !self.is_up() {
-            return Ok(Reply::Refused(Refusal::MachineDown));
+            return Reply::Refused(Refusal::MachineDown);
         }
-        self.answer(disk, Asked::Tick(ms))
+        match self.answer(disk, Asked::Tick(ms)) {
+            Ok(reply) => reply,
+            Err(NoMemory) => unreachable!(),
+        }
     }
 
     // Answers what is asked while the machine is up: it is decided, what it records is appended, and then memory settles.
@@ -118,6 +120,7 @@ impl Kernel {
         ensures calls { OnOk result (DeviceCalls 4 (D.status disk.old) (D.status disk.new) (D.status disk.new).is_down) }
         ensures untouched { IfOk result (λ reply. TouchesNothing (decided self.old.now asked) reply → (D.told disk.new ≡ D.told disk.old) × (D.status disk.new ≡ D.status disk.old)) }
         ensures no_memory { OnErr result ((D.told disk.new ≡ D.told disk.old) × (D.status disk.new ≡ D.status disk.old)) }
+        ensures time { takes_memory asked ≡ false → IsOk result }
     {
         self.events.clear();
         let Decision { reply, settlement } = self

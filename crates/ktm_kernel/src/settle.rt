@@ -94,11 +94,11 @@ impl Memory {
     }
 
     // So many milliseconds pass. Each live transaction that is due then rolls back, in order of creation.
-    fn tick(&mut self, ms: u64)
+    fn tick(&mut self, ms: u32)
         requires { MaySettle self.old (Tick ms) }
         ensures { (j : JournalState) → now_of j (held self.new) ≡ with_tick (now_of j (held self.old)) ms }
     {
-        self.tm.advance(ms);
+        self.tm.advance(ms as u64);
         let mut place = 0;
         while let Some(t) = self.tm.live_at(place) {
             if self.tm.is_due(&t) {

@@ -41,7 +41,7 @@ pub(crate) enum Settlement {
     /// So it is with each label of the process, by rising label.
     Exit(Pid),
     /// So many milliseconds pass, and the transactions that are due then roll back.
-    Tick(u64),
+    Tick(u32),
 }
 
 /// A command that was decided.

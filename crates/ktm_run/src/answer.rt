@@ -50,16 +50,12 @@ fn call<D: PowerDisk>(
 }
 
 // So many milliseconds pass.
-fn tick<D: PowerDisk>(kernel: &mut Kernel, disk: &mut D, ms: u32) -> Result<Reply, NoMemory>
+fn tick<D: PowerDisk>(kernel: &mut Kernel, disk: &mut D, ms: u32) -> Reply
     requires ready { IsReady kernel.old (D.told disk.old) (D.status disk.old) }
-    ensures does { IfOk result (λ reply. Answers (record { machine = kernel.old; disk = D.told disk.old; status = D.status disk.old }) (record { machine = kernel.new; disk = D.told disk.new; status = D.status disk.new }) (Some (Tick ms)) reply) }
-    ensures ready { OnOk result (IsReady kernel.new (D.told disk.new) (D.status disk.new)) }
-    ensures no_memory { OnErr result ((line : List ℕ) (w : World) → KernelAt kernel.old (D.told disk.old) w → Unanswered w (record { machine = kernel.old; disk = D.told disk.old; status = D.status disk.old }) (record { machine = kernel.new; disk = D.told disk.new; status = D.status disk.new }) line) }
+    ensures does { Answers (record { machine = kernel.old; disk = D.told disk.old; status = D.status disk.old }) (record { machine = kernel.new; disk = D.told disk.new; status = D.status disk.new }) (Some (Tick ms)) result }
+    ensures ready { IsReady kernel.new (D.told disk.new) (D.status disk.new) }
 {
-    match kernel.tick(disk, ms as u64) {
-        Ok(reply) => Ok(reply),
-        Err(NoMemory) => Err(NoMemory),
-    }
+    kernel.tick(disk, ms)
 }
 
 // The power goes once so many more calls of the disk have passed.
@@ -128,7 +124,7 @@ pub fn answer<D: PowerDisk>(
     };
     match meant {
         Line::Process(process, command) => call(kernel, disk, process, command),
-        Line::Tick(ms) => tick(kernel, disk, ms),
+        Line::Tick(ms) => Ok(tick(kernel, disk, ms)),
         Line::Cut(calls) => Ok(cut(kernel, disk, calls)),
         Line::Crash => Ok(crash(kernel, disk)),
         Line::Restart(pick) => restart(kernel, disk, pick),

@@ -9,10 +9,7 @@ pub returns-in-Process-clause-no_memory : goal.returns-in-Process-clause-no_memo
 returns-in-Process-clause-no_memory g c = OnErr-map c.call.result _ _ (λ left. left c.args.line.now) c.call.ensures.no_memory
 
 pub returns-in-Tick-clause-does : goal.returns-in-Tick-clause-does
-returns-in-Tick-clause-does g c = answers_so c.tick.result _ _ c.args.line.now _ (meant c.args.line.now _ _ c.in-Tick.is c.in-Ok.ensures.ok) c.tick.ensures.does
-
-pub returns-in-Tick-clause-no_memory : goal.returns-in-Tick-clause-no_memory
-returns-in-Tick-clause-no_memory g c = OnErr-map c.tick.result _ _ (λ left. left c.args.line.now) c.tick.ensures.no_memory
+returns-in-Tick-clause-does g c = (_, meant c.args.line.now _ _ c.in-Tick.is c.in-Ok.ensures.ok, c.tick.ensures.does)
 
 pub returns-in-Cut-clause-does : goal.returns-in-Cut-clause-does
 returns-in-Cut-clause-does g c = (_, meant c.args.line.now _ _ c.in-Cut.is c.in-Ok.ensures.ok, c.cut.ensures.does)
