@@ -21,7 +21,7 @@ use Rattle.ktm_world.specs.Built.{is_built_command, is_built_log, is_built_line,
 use Rattle.ktm_world.specs.Decide.{decide}
 use Rattle.ktm_world.specs.Durable.{Durable, stand, after_events}
 use Rattle.ktm_world.specs.Logs.{Group, Power, up, down, is_up, as_groups, prefixes, prefixes_from, possible_by}
-use Rattle.ktm_world.specs.OneOutcome.{Telling, HasOneOutcome, telling, told_of_named, tells, line_tells, goes, tellings, crash_goes, restart_goes, named_by, transaction_label}
+use Rattle.ktm_world.specs.OneOutcome.{Telling, HasOneOutcome, telling_of, told_of_named, tells, line_tells, goes, tellings, crash_goes, restart_goes, named_by, transaction_label}
 use Rattle.ktm_world.specs.Outcome.{Outcome, apply}
 use Rattle.ktm_world.specs.Transactions.{transaction_at}
 use Rattle.ktm_world.specs.Transcript.{Step, answered, interrupted, found, full, Does, CallDoes, IsAnswered, CrashDoes, StartDoes, RestartDoes, Transcript}
@@ -222,7 +222,7 @@ goes_on_interrupted w o on runs outcome follows =
     falls w _ (interrupted_logs w o outcome runs.built) runs (λ boots reach few. reach_interrupted w o boots on runs few (follows_extend w o runs.built.now follows).boots)
 
 -- a reply that is no notification tells of the transaction that the call names
-tells_is : (w : World) (process : Pid) (command : Command) (reply : Reply) → is_note reply ≡ false → tells w process command reply ≡ telling (named_by w process (transaction_label command)) (told_of_named reply)
+tells_is : (w : World) (process : Pid) (command : Command) (reply : Reply) → is_note reply ≡ false → tells w process command reply ≡ telling_of (named_by w process (transaction_label command)) (told_of_named reply)
 tells_is w process command (Notification kind enlistment) plain = cc
 tells_is w process command _ plain = refl
 
@@ -230,7 +230,7 @@ tells_is w process command _ plain = refl
 down_tells : (w : World) (process : Pid) (command : Command) → tells w process command (Refused MachineDown) ≡ []
 down_tells w process command = go (named_by w process (transaction_label command))
   where
-    go : (id : Option Id) → telling id None ≡ []
+    go : (id : Option Id) → telling_of id None ≡ []
     go None = refl
     go (Some id) = refl
 

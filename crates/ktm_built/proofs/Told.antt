@@ -26,7 +26,7 @@ use Rattle.ktm_world.specs.Handles.{object_at, transaction_id}
 use Rattle.ktm_world.specs.KeyCalls.{reply_of_value, kv_set_tests, kv_unset_tests, kv_get_tests}
 use Rattle.ktm_world.specs.Keys.{KeysNow}
 use Rattle.ktm_world.specs.Labels.{transaction_named, transaction_tests, outcome_tests, invalid_handle, holds_of, viewer}
-use Rattle.ktm_world.specs.OneOutcome.{Telling, telling, told_of_named, told_outcome, transaction_label}
+use Rattle.ktm_world.specs.OneOutcome.{Telling, telling_of, told_of_named, told_outcome, transaction_label}
 use Rattle.ktm_world.specs.Outcome.{Outcome, apply, only_reply, refuse_or, first_refusal, is_full}
 use Rattle.ktm_world.specs.Present.{Present}
 use Rattle.ktm_world.specs.Transactions.{same_id, transaction_at, change_at, is_active, is_committed, is_aborted}
@@ -64,7 +64,7 @@ abbrev pub AreTrue : List Transaction → List Telling → Type 0
 AreTrue ts told = AllByRecursion (λ a. told_in ts a.transaction ≡ Some a.has_committed) told
 
 -- what is told is so, where it is what the outcome tells
-true_of : (ts : List Transaction) (id : Option Id) (told : Option Bool) → ((committed : Bool) → told ≡ Some committed → told_at ts id ≡ Some committed) → AreTrue ts (telling id told)
+true_of : (ts : List Transaction) (id : Option Id) (told : Option Bool) → ((committed : Bool) → told ≡ Some committed → told_at ts id ≡ Some committed) → AreTrue ts (telling_of id told)
 true_of ts None told so = tt
 true_of ts (Some id) None so = tt
 true_of ts (Some id) (Some committed) so = (so committed refl, tt)
@@ -202,7 +202,7 @@ is_note _ = false
 -- what comes of the transactions, and what is told of the named one is true then
 pub record Tells (x : Present) (o : Outcome) (id : Option Id) : Type 0 where
   pub follows : Follows x (apply x o)
-  pub truly : AreTrue o.transactions.items (telling id (told_of_named o.reply))
+  pub truly : AreTrue o.transactions.items (telling_of id (told_of_named o.reply))
   pub plain : is_note o.reply ≡ false
 
 -- a reply that tells nothing of the transaction that is named
@@ -374,7 +374,7 @@ commit_tells x (Some id) built sound e = go (transaction_at x.transactions.items
         record {
           follows = subst (Follows x) (sym (forms_law.3 x t built found))
               (record { sound = sound-ended x t.id CommittedOutcome tt sound; stays = stays-ended CommittedOutcome x.transactions.items t.id t found none; boots = refl });
-          truly = subst (λ (o : Outcome). AreTrue o.transactions.items (telling (Some id) (told_of_named o.reply))) (sym (commit_is x t built found)) (told, tt);
+          truly = subst (λ (o : Outcome). AreTrue o.transactions.items (telling_of (Some id) (told_of_named o.reply))) (sym (commit_is x t built found)) (told, tt);
           plain = ap (λ (o : Outcome). is_note o.reply) (commit_is x t built found);
         }
 

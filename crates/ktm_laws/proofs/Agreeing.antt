@@ -13,12 +13,12 @@ use Rattle.ktm_types.specs.declared.recorded.Stage.{Stage}
 use Rattle.ktm_world.specs.Changes.{changed, next_after}
 use Rattle.ktm_world.specs.Committed.{committed_with}
 use Rattle.ktm_world.specs.Decide.{events_of, of_files}
-use Rattle.ktm_world.specs.Durable.{after_events}
+use Rattle.ktm_world.specs.Durable.{after_events, is_ready}
 use Rattle.ktm_world.specs.Enlistments.{Enlistment, Manager, Sent, is_durable_at, superior_of, takes_part}
 use Rattle.ktm_world.specs.FileOutcome.{FileOutcome, next_node_after, table_after, works_of}
 use Rattle.ktm_world.specs.Files.{FilesNow, FileTable, OpenFile, own_changes}
 use Rattle.ktm_world.specs.Keys.{own_settings}
-use Rattle.ktm_world.specs.Lawful.{Agrees, Summary, brought_back, durable_managers, is_held_stage, is_ready_stage, recorded_enlistments, stage_in, stays, summaries_now, summary_in, summary_of, superior_now}
+use Rattle.ktm_world.specs.Lawful.{Agrees, Summary, brought_back, durable_managers, is_held_stage, recorded_enlistments, stage_in, stays, summaries_now, summary_in, summary_of, superior_now}
 use Rattle.ktm_world.specs.Outcome.{Outcome, apply, committed_now, served}
 use Rattle.ktm_world.specs.Present.{Present}
 use Rattle.ktm_world.specs.World.{by_rising_id}
@@ -93,7 +93,7 @@ summaries x t = if t.is_recorded then summary_in x t (stage_in t.phase) else []
 -- it is as it was: its recorded enlistments, its superior behind readiness, and what it changed and set
 pub record IsAsBefore (x y : Present) (t : Transaction) : Type 0 where
   pub enlistments : recorded_enlistments y t.id ≡ recorded_enlistments x t.id
-  pub superior : (stage : Stage) → stage_in t.phase ≡ Some stage → is_ready_stage stage ≡ false → superior_now (superior_of y.transactions.enlistments t.id) ≡ superior_now (superior_of x.transactions.enlistments t.id)
+  pub superior : (stage : Stage) → stage_in t.phase ≡ Some stage → is_ready stage ≡ false → superior_now (superior_of y.transactions.enlistments t.id) ≡ superior_now (superior_of x.transactions.enlistments t.id)
   pub changes : own_changes y.files.table.own t.id ≡ own_changes x.files.table.own t.id
   pub settings : own_settings y.keys.own t.id ≡ own_settings x.keys.own t.id
 
@@ -103,7 +103,7 @@ summaries-kept x y t before = elim (cases_Bool t.is_recorded) [
   | inl recorded ↦ rw recorded (go (before recorded) (stage_in t.phase) refl)
 ]
   where
-    superior-same : IsAsBefore x y t → (stage : Stage) → stage_in t.phase ≡ Some stage → (b : Bool) → is_ready_stage stage ≡ b
+    superior-same : IsAsBefore x y t → (stage : Stage) → stage_in t.phase ≡ Some stage → (b : Bool) → is_ready stage ≡ b
         → (if b then None else superior_now (superior_of y.transactions.enlistments t.id)) ≡ (if b then None else superior_now (superior_of x.transactions.enlistments t.id))
     superior-same same stage is true ready = refl
     superior-same same stage is false later = same.superior stage is later
@@ -113,7 +113,7 @@ summaries-kept x y t before = elim (cases_Bool t.is_recorded) [
     go same (Some stage) is = ap (λ s. filter stays (s ∷ [])) (λ i. record {
       id = t.id;
       stage = stage;
-      superior = superior-same same stage is (is_ready_stage stage) refl i;
+      superior = superior-same same stage is (is_ready stage) refl i;
       enlistments = same.enlistments i;
       changes = if is_held_stage stage then same.changes i else [];
       settings = if is_held_stage stage then same.settings i else [];

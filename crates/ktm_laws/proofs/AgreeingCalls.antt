@@ -23,13 +23,13 @@ use Rattle.ktm_types.specs.declared.options.EnlistmentKind.{EnlistmentKind}
 use Rattle.ktm_types.specs.declared.reply.Reply.{Reply}
 use Rattle.ktm_types.specs.declared.reply.Reply.TheVariants.{Done}
 use Rattle.ktm_world.specs.Committed.{committed_with, with_work}
-use Rattle.ktm_world.specs.Durable.{Durable, after_event, is_before, with_manager}
+use Rattle.ktm_world.specs.Durable.{Durable, after_event, is_before, with_manager, is_ready}
 use Rattle.ktm_world.specs.Enlistments.{Enlistment, Manager, has_id, is_durable_at, is_open_for_votes, is_superior, superior_of, takes_part}
 use Rattle.ktm_world.specs.Files.{FileTable, own_changes}
 use Rattle.ktm_world.specs.HandleCalls.{abort_active, close_handle, closed_file, closed_in_turn, exit, handle_gone, has_handle, labels_of, last_handle_gone, without_handle}
 use Rattle.ktm_world.specs.Handles.{object_at}
 use Rattle.ktm_world.specs.Keys.{Own, Store, own_settings}
-use Rattle.ktm_world.specs.Lawful.{Agrees, brought_back, is_ready_stage, stage_in, summaries_now, superior_now}
+use Rattle.ktm_world.specs.Lawful.{Agrees, brought_back, stage_in, summaries_now, superior_now}
 use Rattle.ktm_world.specs.Labels.{holds_of}
 use Rattle.ktm_world.specs.Outcome.{Outcome, and_then, apply, committed_now, joined, only_reply, served}
 use Rattle.ktm_world.specs.Present.{Present, Transactions}
@@ -296,7 +296,7 @@ agrees-keep_information x (Some e) information sound agrees there passes =
       | inr below ↦ rw (not-true _ (and_parts (not e.is_read_only) (not e.is_prepared) below.1).1) (and_left _ _ (and_right _ _ refl))
     ]
 
-    no-superior : (u : Transaction) → IsIn u x.transactions.items → (stage : Stage) → stage_in u.phase ≡ Some stage → is_ready_stage stage ≡ false → (same_id e.transaction u.id && is_superior e) ≡ false
+    no-superior : (u : Transaction) → IsIn u x.transactions.items → (stage : Stage) → stage_in u.phase ≡ Some stage → is_ready stage ≡ false → (same_id e.transaction u.id && is_superior e) ≡ false
     no-superior u there' stage stands later = false_from_ne_true _ (λ is.
         let parts = and_parts (same_id e.transaction u.id) (is_superior e) is in
         let found : transaction_in x e ≡ Some u = ap (transaction_at x.transactions.items) (same_id-equal e.transaction u.id parts.0) ∙ transaction_at-there x.transactions.items sound.transactions_rise u there' in
@@ -314,10 +314,10 @@ agrees-keep_information x (Some e) information sound agrees there passes =
             go Committed is = true≢false (sym undecided ∙ ap (λ outcome. is_undecided (record t { outcome = outcome })) is)
             go Aborted is = true≢false (sym known ∙ ap (λ outcome. is_committed (record t { outcome = outcome })) is)
 
-        waits : (phase : Phase) (stage : Stage) → stage_in phase ≡ Some stage → is_ready_stage stage ≡ false → is_outcome_of phase u ≡ true → is_undecided u ≡ true → not (waits_for_superior phase) ≡ true → ⊥
+        waits : (phase : Phase) (stage : Stage) → stage_in phase ≡ Some stage → is_ready stage ≡ false → is_outcome_of phase u ≡ true → is_undecided u ≡ true → not (waits_for_superior phase) ≡ true → ⊥
         waits Phase.Held stage stands later outcome undecided not_waiting = true≢false (sym not_waiting)
         waits Phase.InDoubt stage stands later outcome undecided not_waiting = true≢false (sym not_waiting)
         waits Phase.Committing stage stands later outcome undecided not_waiting = committed-known u outcome undecided
         waits Phase.Aborting stage stands later outcome undecided not_waiting = none-some _ stands
         waits Phase.Ended stage stands later outcome undecided not_waiting = none-some _ stands
-        waits _ stage stands later outcome undecided not_waiting = true≢false (ap is_ready_stage (same_Some _ _ stands) ∙ later)
+        waits _ stage stands later outcome undecided not_waiting = true≢false (ap is_ready (same_Some _ _ stands) ∙ later)

@@ -28,9 +28,9 @@ use Rattle.ktm_world.specs.Labels.{enlistment_named, file_named, file_tests, man
 use Rattle.ktm_world.specs.Lawful.{Agrees, stage_in}
 use Rattle.ktm_world.specs.Laws.{StepLaw}
 use Rattle.ktm_world.specs.Outcome.{Outcome, apply, first_refusal, is_full, only_reply, refuse_or, within_log}
-use Rattle.ktm_world.specs.Phases.{Course, aborting, committing, recovered, rollback_answered, single_phase_rejected}
+use Rattle.ktm_world.specs.Phases.{Course, aborting, committing, recovered, rollback_answered, single_phase_rejected, is_single_phase}
 use Rattle.ktm_world.specs.Present.{Present, Transactions}
-use Rattle.ktm_world.specs.TransactionCalls.{answering, arrived, commit_enlistment, course_of, superior_tests, waits_for_superior, is_one_phase, may_recover, may_reject_one_phase, phase_passes, recover_enlistment, rollback_complete, single_phase_reject, create_enlistment_tests, enlistment_tests, enlistment_with, get_information, get_notification, get_transaction_information, goes_on, information_in, information_of, manager_with, may_roll_back_by, open_enlistment, open_resource_manager, open_to_enlistment, open_to_manager, open_to_transaction, open_transaction, recover_all, recover_resource_manager, rollback_enlistment, rollback_of, rollback_transaction, rollback_transaction_tests, set_information, take_first, tick, transaction_in, transaction_with}
+use Rattle.ktm_world.specs.TransactionCalls.{answering, arrived, commit_enlistment, course_of, superior_tests, waits_for_superior, may_recover, may_reject_one_phase, phase_passes, recover_enlistment, rollback_complete, single_phase_reject, create_enlistment_tests, enlistment_tests, enlistment_with, get_information, get_notification, get_transaction_information, goes_on, information_in, information_of, manager_with, may_roll_back_by, open_enlistment, open_resource_manager, open_to_enlistment, open_to_manager, open_to_transaction, open_transaction, recover_all, recover_resource_manager, rollback_enlistment, rollback_of, rollback_transaction, rollback_transaction_tests, set_information, take_first, tick, transaction_in, transaction_with}
 use Rattle.ktm_world.specs.Transactions.{same_id}
 use Rattle.ktm_world.specs.World.{decide_tick, present}
 use Rattle.ktm_laws.specs.Agreeing.{AgreeingLaw, brings_further}
@@ -118,8 +118,8 @@ module _ (x : Present) (sound : IsSoundCourse x) (agrees : Agrees x) where
 
     rejected : Passes (enlistment_tests o (may_reject_one_phase x)) → Agrees (apply x (answering x o single_phase_rejected))
     rejected tests = answers o single_phase_rejected (λ e is t caller at own found.
-        let both = and_parts (phase_passes x is_one_phase e) (owes_commit e) (enlistment-allowed o (may_reject_one_phase x) e is tests) in
-        let single = single-phase t.phase (phase-passed x is_one_phase e t found both.0) in
+        let both = and_parts (phase_passes x is_single_phase e) (owes_commit e) (enlistment-allowed o (may_reject_one_phase x) e is tests) in
+        let single = single-phase t.phase (phase-passed x is_single_phase e t found both.0) in
         let c = course_of x t caller in
         agrees-silent x t caller (single_phase_rejected c e) Done sound agrees at
         (arrives-single_phase_rejected x.recorded.boots c (stands-now x t caller sound at) (brought-now x t caller sound) sound.enlistments_rise e (there e is) own single both.1)

@@ -13,7 +13,7 @@ use Rattle.ktm_types.specs.declared.object.Phase.TheVariants.{Active, Requested,
 use Rattle.ktm_types.specs.declared.object.Transaction.{Transaction}
 use Rattle.ktm_types.specs.declared.object.TransactionOutcome.{TransactionOutcome}
 use Rattle.ktm_world.specs.Enlistments.{has_id, Sent, Enlistment, Manager, Owed, pre_prepare, prepare, commit, rollback, is_superior, is_open_for_votes, asks_pre_prepare, allows_one_phase, owes_pre_prepare, owes_prepare, owes_commit, owes_rollback, takes_part, is_unfinished, is_durable_at, with_enlistments, superior_of}
-use Rattle.ktm_world.specs.Phases.{Course, changing_one, someone_owes, when_none_owes, pre_prepare_answered, enlistment_part, prepare_answered, without_its_answer, recovered as recovered_by, read_only_answered, single_phase_rejected, finished, is_single_phase, commit_answered, rollback_answered, brought_back, recovered_in, in_phase, recording, telling, owing, unchanged, superior, ended, ended_if_finished, event_if, aborting, all_ready, pre_prepared}
+use Rattle.ktm_world.specs.Phases.{Course, changing_one, someone_owes, when_none_owes, pre_prepare_answered, enlistment_part, prepare_answered, without_its_answer, recovered as recovered_by, read_only_answered, single_phase_rejected, finished, is_single_phase, commit_answered, rollback_answered, recovering, recovered_in, in_phase, recording, telling, owing, unchanged, superior, ended, ended_if_finished, event_if, aborting, all_ready, pre_prepared}
 use Rattle.ktm_world.specs.Transactions.{same_id, is_undecided}
 use Rattle.ktm_laws.specs.Footprint.{IsIn}
 use Rattle.ktm_laws.specs.SoundCourse.{is_last_recover, is_phase_back, is_unrecovered_well, is_outcome_of, is_of_its_boot, is_superior_as, is_idle, is_waiting, owes_until_finished, is_part_as, has_part, is_awaited_as, is_recorded_as, has_durable_part}
@@ -302,10 +302,10 @@ module _ (boot : ℕ) (c : Course) (stands : Stands boot c) (brought : (e : Enli
 
   pub known-recovered : ((recovered_by c e).transaction).outcome ≡ (c.transaction).outcome
   unfolding recovered_by
-  known-recovered = if_cases (λ (x : Course). (x.transaction).outcome ≡ (c.transaction).outcome) (is_superior e) (telling (brought_back c e) (has_id e.id) Notify.RecoverQuery unchanged) (recovered_in (c.transaction).phase (brought_back c e) e)
+  known-recovered = if_cases (λ (x : Course). (x.transaction).outcome ≡ (c.transaction).outcome) (is_superior e) (telling (recovering c e) (has_id e.id) Notify.RecoverQuery unchanged) (recovered_in (c.transaction).phase (recovering c e) e)
       (λ above. refl) (λ below. told (c.transaction).phase)
     where
-      told : (phase : Phase) → ((recovered_in phase (brought_back c e) e).transaction).outcome ≡ (c.transaction).outcome
+      told : (phase : Phase) → ((recovered_in phase (recovering c e) e).transaction).outcome ≡ (c.transaction).outcome
       told InDoubt = refl
       told Committing = refl
       told Aborting = refl
@@ -738,7 +738,7 @@ module _ (boot : ℕ) (c : Course) (stands : Stands boot c) (brought : (e : Enli
   back x = record x { is_recovered = true }
 
   abbrev c_back : Course
-  c_back = brought_back c e
+  c_back = recovering c e
 
   moved-back : Moved c c_back
   moved-back = moved-one back (λ x. record { id = refl; manager = refl; transaction = refl; kind = refl; information = refl }) refl

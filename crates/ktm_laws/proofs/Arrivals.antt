@@ -16,10 +16,11 @@ use Rattle.ktm_world.specs.Enlistments.{Enlistment, Manager, Note, Sent, is_supe
 use Rattle.ktm_world.specs.Files.{own_changes}
 use Rattle.ktm_world.specs.Keys.{own_settings}
 use Rattle.ktm_world.specs.Limits.{most_information}
-use Rattle.ktm_world.specs.Phases.{Course, has_changes, has_settings}
+use Rattle.ktm_world.specs.Phases.{Course, has_settings, is_single_phase}
 use Rattle.ktm_world.specs.Present.{Present}
-use Rattle.ktm_world.specs.TransactionCalls.{course_of, is_one_phase}
+use Rattle.ktm_world.specs.TransactionCalls.{course_of}
 use Rattle.ktm_world.specs.Transactions.{same_id, change_at}
+use Rattle.ktm_world.specs.Changes.{has_changes}
 use Rattle.ktm_laws.specs.Footprint.{IsIn}
 use Rattle.ktm_laws.specs.GoodState.{each_pair}
 use Rattle.ktm_laws.specs.SoundCourse.{IsSoundCourse, is_counted, has_transaction, has_manager, has_enlistment, is_object_there, is_last_recover, is_note_of, are_not_both_superiors, is_superior_durable, is_unrecovered_well, is_outcome_of, is_of_its_boot, is_superior_as, has_superior_as_asked, is_idle, is_part_as, is_enlistment_as, are_enlistments_as_asked, is_awaited_as, is_awaited, is_recorded_as, is_recorded_as_asked, is_alone_in_one_phase}
@@ -301,8 +302,8 @@ module _ (x : Present) (sound : IsSoundCourse x) (t : Transaction) (there : IsIn
   }
     where
       alone-u : is_alone_in_one_phase x u ≡ true
-      alone-u = subst (λ id. (not (is_one_phase u.phase) || (not (has_changes (own_changes ((x.files).table).own id)) && not (has_settings (own_settings (x.keys).own id)))) ≡ true) (sym moved.id)
-          ((λ i. not (is_one_phase u.phase) || (not (has_changes (sym moved.changes i)) && not (has_settings (sym moved.settings i)))) ∙ (arrives.stands).alone)
+      alone-u = subst (λ id. (not (is_single_phase u.phase) || (not (has_changes (own_changes ((x.files).table).own id)) && not (has_settings (own_settings (x.keys).own id)))) ≡ true) (sym moved.id)
+          ((λ i. not (is_single_phase u.phase) || (not (has_changes (sym moved.changes i)) && not (has_settings (sym moved.settings i)))) ∙ (arrives.stands).alone)
 
   pub sound-course : IsSoundCourse (with_course x d)
   sound-course = subst (λ xs. IsSoundCourse (record x { transactions = record x.transactions { items = changed_to ts u; enlistments = xs } })) (sym moved.enlistments) sound-y

@@ -8,7 +8,7 @@ use Rattle.ktm_world.specs.Conflicts.{holds_now, written_by, writes}
 use Rattle.ktm_world.specs.Files.{FirstOpen, OpenFile, OwnChanges, own_changes, tree_seen}
 use Rattle.ktm_world.specs.Holds.{Holds, holds_by}
 use Rattle.ktm_world.specs.Labels.{holds_of}
-use Rattle.ktm_world.specs.Lawful.{are_apart, is_alone, is_touched_by, others, undecided}
+use Rattle.ktm_world.specs.Lawful.{are_apart, is_alone, is_touched_by, others_undecided, undecided}
 use Rattle.ktm_world.specs.Present.{Present}
 use Rattle.ktm_world.specs.Transactions.{is_of, is_undecided, transaction_at}
 use Rattle.ktm_world.specs.Tree.{is_file}
@@ -139,7 +139,7 @@ module _ (x : Present) (sound : IsSoundFiles x) (t : Transaction) (new : is_none
         (list_all-at (λ (p : FirstOpen). is_undecided_in x.transactions.items p.transaction && p.transaction.boot == x.recorded.boots) x.files.first_opens sound.first_undecided o there) in
         and_from _ _ (stays o.transaction parts.0) parts.1);
     opens_own = list_all-from (is_own_well z) x.files.table.opens (λ o there. still-used o o.transaction (list_all-at (is_own_well x) x.files.table.opens sound.opens_own o there));
-    apart = list_all-from _ (undecided z) (λ u there. list_all-from (files_apart z u) (others z.transactions.items (Some u.id)) (λ v there'.
+    apart = list_all-from _ (undecided z) (λ u there. list_all-from (files_apart z u) (others_undecided z.transactions.items (Some u.id)) (λ v there'.
         let kept = IsIn-filter (λ (w : Transaction). is_undecided w && not (is_of w.id (Some u.id))) z.transactions.items v there' in
         let parts = and_parts (is_undecided v) (not (is_of v.id (Some u.id))) kept.1 in
         let v-there : IsIn v (undecided z) = IsIn-kept (λ (w : Transaction). is_undecided w && not (is_of w.id None)) z.transactions.items v kept.0 (and_from _ _ parts.0 refl) in

@@ -18,9 +18,9 @@ use Rattle.ktm_world.specs.Enlistments.{Enlistment, Manager, Sent, is_superior, 
 use Rattle.ktm_world.specs.Handles.{object_at, transaction_id}
 use Rattle.ktm_world.specs.Labels.{transaction_named, manager_named, manager_id, enlistment_named, enlistment_id, holds_of, transaction_tests}
 use Rattle.ktm_world.specs.Outcome.{first_refusal}
-use Rattle.ktm_world.specs.Phases.{Course, aborting, committing, to_commit, to_pre_prepare, to_prepare, pre_prepare_answered, prepare_answered, read_only_answered, commit_answered, rollback_answered, single_phase_rejected, recovered}
+use Rattle.ktm_world.specs.Phases.{Course, aborting, committing, to_commit, to_pre_prepare, to_prepare, pre_prepare_answered, prepare_answered, read_only_answered, commit_answered, rollback_answered, single_phase_rejected, recovered, is_single_phase}
 use Rattle.ktm_world.specs.Present.{Present}
-use Rattle.ktm_world.specs.TransactionCalls.{course_of, commit_reply, commit_of, aborted_by, rollback_of, may_roll_back, rollback_transaction_tests, transaction_in, phase_passes, is_voting, lets_superior_roll_back, before_pre_prepare, before_prepare, waits_for_superior, is_one_phase, may_vote, may_roll_back_by, may_reject_one_phase, may_recover, enlistment_tests, superior_tests, goes_on, answering, is_to_recover, recover_notes, recover_all, take_first}
+use Rattle.ktm_world.specs.TransactionCalls.{course_of, commit_reply, commit_of, aborted_by, rollback_of, may_roll_back, rollback_transaction_tests, transaction_in, phase_passes, is_voting, lets_superior_roll_back, before_pre_prepare, before_prepare, waits_for_superior, may_vote, may_roll_back_by, may_reject_one_phase, may_recover, enlistment_tests, superior_tests, goes_on, answering, is_to_recover, recover_notes, recover_all, take_first}
 use Rattle.ktm_world.specs.Transactions.{same_id, transaction_at, is_active, is_undecided}
 use Rattle.ktm_laws.specs.Footprint.{IsIn}
 use Rattle.ktm_laws.specs.SoundCourse.{IsSoundCourse, is_note_of}
@@ -98,7 +98,7 @@ superior-rolls Aborting is = is
 superior-rolls Ended is = is
 superior-rolls _ is = refl
 
-pub single-phase : (phase : Phase) → is_one_phase phase ≡ true → phase ≡ SinglePhase
+pub single-phase : (phase : Phase) → is_single_phase phase ≡ true → phase ≡ SinglePhase
 single-phase SinglePhase is = refl
 single-phase _ is = absurd (true≢false (sym is))
 
@@ -245,8 +245,8 @@ module _ (x : Present) (sound : IsSoundCourse x) (o : Option Enlistment) (there 
 
   pub sound-single_phase_reject : Passes (enlistment_tests o (may_reject_one_phase x)) → IsSoundOutcome x (answering x o single_phase_rejected)
   sound-single_phase_reject tests = sound-answering x o single_phase_rejected sound (λ e is t caller at own found.
-      let both = and_parts (phase_passes x is_one_phase e) (owes_commit e) (enlistment-allowed o (may_reject_one_phase x) e is tests) in
-      let single = single-phase t.phase (phase-passed x is_one_phase e t found both.0) in
+      let both = and_parts (phase_passes x is_single_phase e) (owes_commit e) (enlistment-allowed o (may_reject_one_phase x) e is tests) in
+      let single = single-phase t.phase (phase-passed x is_single_phase e t found both.0) in
       goes t caller at (single_phase_rejected (course_of x t caller) e)
       (arrives-single_phase_rejected (x.recorded).boots (course_of x t caller) (stands-now x t caller sound at) (brought-now x t caller sound) sound.enlistments_rise e (there e is) own single both.1)
       (subst (λ p. can_roll_back p ≡ true) (sym single) refl))

@@ -19,7 +19,7 @@ use Rattle.ktm_world.specs.Files.{FirstOpen, OpenFile, OwnChanges, own_changes, 
 use Rattle.ktm_world.specs.HandleCalls.{is_handle, without_handle, same_object, has_handle, closed_file, abort_active, last_handle_gone, handle_gone, close_handle, labels_of, closed_in_turn, exit}
 use Rattle.ktm_world.specs.Handles.{object_at}
 use Rattle.ktm_world.specs.Holds.{is_in, meet_in}
-use Rattle.ktm_world.specs.Lawful.{are_apart, is_alone, is_touched_by, others, undecided}
+use Rattle.ktm_world.specs.Lawful.{are_apart, is_alone, is_touched_by, others_undecided, undecided}
 use Rattle.ktm_world.specs.Outcome.{Outcome, apply, only_reply, joined, and_then}
 use Rattle.ktm_world.specs.Present.{Present}
 use Rattle.ktm_world.specs.TransactionCalls.{aborted_by}
@@ -100,16 +100,16 @@ module _ (x y : Present) (keep : OpenFile → Bool) (sound : IsSoundFiles x) (st
     | inl none ↦ or_left _ _ none
     | inr free ↦ or_right _ _ (not_from_false _ (none-from (is_touched_by z o.node) (undecided z) (λ u there'.
         let parts = or_parts (is_in (holds_now x.files u.id).nodes o.node) (list_any (λ (p : OpenFile). is_of u.id p.transaction && p.node == o.node) x.files.table.opens)
-        (no_test (is_touched_by x o.node) u (undecided x) (not-true _ free) (subst (λ ts. IsIn u (others ts None)) step.items there')) in
+        (no_test (is_touched_by x o.node) u (undecided x) (not-true _ free) (subst (λ ts. IsIn u (others_undecided ts None)) step.items there')) in
         or_from _ _ (not-held u.id o.node parts.0)
         (none-from (λ (p : OpenFile). is_of u.id p.transaction && p.node == o.node) z.files.table.opens (λ p has. no_test (λ (p : OpenFile). is_of u.id p.transaction && p.node == o.node) p x.files.table.opens parts.1 (open-kept p has).0)))))
   ]
 
   apart-still : all_files_apart z ≡ true
-  apart-still = list_all-from _ (undecided z) (λ t there. list_all-from (files_apart z t) (others z.transactions.items (Some t.id)) (λ u there'.
-      let there'' : IsIn u (others x.transactions.items (Some t.id)) = subst (λ ts. IsIn u (others ts (Some t.id))) step.items there' in
-      still-apart t.id u.id (list_all-at (files_apart x t) (others x.transactions.items (Some t.id))
-      (list_all-at (λ (v : Transaction). list_all (files_apart x v) (others x.transactions.items (Some v.id))) (undecided x) sound.apart t (subst (λ ts. IsIn t (others ts None)) step.items there)) u there'')))
+  apart-still = list_all-from _ (undecided z) (λ t there. list_all-from (files_apart z t) (others_undecided z.transactions.items (Some t.id)) (λ u there'.
+      let there'' : IsIn u (others_undecided x.transactions.items (Some t.id)) = subst (λ ts. IsIn u (others_undecided ts (Some t.id))) step.items there' in
+      still-apart t.id u.id (list_all-at (files_apart x t) (others_undecided x.transactions.items (Some t.id))
+      (list_all-at (λ (v : Transaction). list_all (files_apart x v) (others_undecided x.transactions.items (Some v.id))) (undecided x) sound.apart t (subst (λ ts. IsIn t (others_undecided ts None)) step.items there)) u there'')))
 
   still-sound : IsSoundFiles z
   still-sound = record {

@@ -18,14 +18,14 @@ use Rattle.ktm_types.specs.declared.object.Transaction.{Transaction}
 use Rattle.ktm_types.specs.declared.reply.Reply.{Reply}
 use Rattle.ktm_types.specs.declared.recorded.Stage.{Stage}
 use Rattle.ktm_types.specs.declared.recorded.RecordedPart.{RecordedPart}
-use Rattle.ktm_world.specs.Changes.{changed_all, is_make, node_of}
+use Rattle.ktm_world.specs.Changes.{changed_all, is_make, node_of, has_changes}
 use Rattle.ktm_world.specs.Committed.{Committed, committed_with}
-use Rattle.ktm_world.specs.Durable.{Durable, Recorded, after_event, after_events, are_recorded_changes, changes_in, changes_of, committing as committing_state, decide_recorded, emptied_part, has_changes_part, has_settings_part, is_before, is_decided, is_of_enlistment, is_part_of, is_some_change, recorded_at, settings_in, settings_of}
+use Rattle.ktm_world.specs.Durable.{Durable, Recorded, after_event, after_events, are_recorded_changes, changes_in, changes_of, with_committed, decide_recorded, emptied_part, has_changes_part, has_settings_part, is_before, is_decided, is_of_enlistment, is_part_of, recorded_at, settings_in, settings_of}
 use Rattle.ktm_world.specs.Enlistments.{Enlistment, commit, is_unfinished, takes_part}
 use Rattle.ktm_world.specs.Keys.{OwnSettings, are_good_settings, stored_all}
 use Rattle.ktm_world.specs.Lawful.{Agrees, Summary, brought_back, stage_in, stays, summary_of}
 use Rattle.ktm_world.specs.Outcome.{apply, committed_now}
-use Rattle.ktm_world.specs.Phases.{Course, committing, decided, ended, event_if, has_changes, has_settings, in_phase, owing, recording, telling, work_of}
+use Rattle.ktm_world.specs.Phases.{Course, committing, decided, ended, event_if, has_settings, in_phase, owing, recording, telling, work_of}
 use Rattle.ktm_world.specs.Present.{Present}
 use Rattle.ktm_world.specs.TransactionCalls.{arrived, course_of}
 use Rattle.ktm_world.specs.World.{by_rising_id, enlistment_back, is_enlistment_part, with_enlistment}
@@ -287,7 +287,7 @@ module _ (x : Present) (sound : IsSoundCourse x) (good : IsGoodState x.recorded)
       some-settings (setting ∷ ss) is = refl
 
       kept-changes : has_changes_part r ≡ true → are_recorded_changes (changes_of r) ≡ true
-      kept-changes has = elim (or_cases (is_decided r.stage || not (has_changes_part r)) (are_recorded_changes (changes_of r)) (and_parts (not (is_decided r.stage) || not (is_some_change (changes_of r))) (is_decided r.stage || not (has_changes_part r) || are_recorded_changes (changes_of r)) (list_all-at are_kept_changes x.recorded.transactions good.changes r from.2)).1) [
+      kept-changes has = elim (or_cases (is_decided r.stage || not (has_changes_part r)) (are_recorded_changes (changes_of r)) (and_parts (not (is_decided r.stage) || not (has_changes (changes_of r))) (is_decided r.stage || not (has_changes_part r) || are_recorded_changes (changes_of r)) (list_all-at are_kept_changes x.recorded.transactions good.changes r from.2)).1) [
         | inr is ↦ is
         | inl neither ↦ elim (or_cases (is_decided r.stage) (not (has_changes_part r)) neither) [ inl over ↦ absurd (true≢false (sym over ∙ undecided)) | inr none ↦ absurd (true≢false (sym has ∙ not-true _ none)) ]
       ]
@@ -316,7 +316,7 @@ module _ (x : Present) (sound : IsSoundCourse x) (good : IsGoodState x.recorded)
 
   has-decided : HasAt s_decided before behind r_decided
   has-decided =
-      let is = has-while (committing_state x.recorded (changes_of r) (settings_of r)) before (waiting ∷ []) behind r_decided all earlier (inr (waiting, refl, sym same_id')) later in
+      let is = has-while (with_committed x.recorded (changes_of r) (settings_of r)) before (waiting ∷ []) behind r_decided all earlier (inr (waiting, refl, sym same_id')) later in
       record {
         summaries = ap (λ o. map summary_of (decide_recorded x.recorded o).transactions) found ∙ is.summaries;
         found = ap (λ o. recorded_at (decide_recorded x.recorded o).transactions r.id) found ∙ is.found;

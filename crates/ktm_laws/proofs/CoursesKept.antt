@@ -15,7 +15,8 @@ use Rattle.ktm_world.specs.Committed.{Work}
 use Rattle.ktm_world.specs.Enlistments.{Enlistment, commit, prepare, is_unfinished, is_superior, is_durable_at, allows_one_phase, asks_pre_prepare, takes_part}
 use Rattle.ktm_world.specs.Keys.{OwnSettings}
 use Rattle.ktm_world.specs.Transactions.{is_undecided}
-use Rattle.ktm_world.specs.Phases.{Course, event_if, telling, recording, recorded, in_phase, decided, owing, enlistment_part, finished, superior, some_enlistment, participants, has_changes, has_settings, work_of, someone_owes, is_single_phase, ended, ended_if_finished, committing, aborting, readied, held_or_committing, all_ready, preparing, single, one_phase, one_participant, prepare_alone, to_prepare, pre_prepared, to_pre_prepare, to_commit, when_none_owes, changing_one, ready_of_enlistment, pre_prepare_answered, prepare_answered, without_its_answer, read_only_answered, single_phase_rejected, commit_answered, rollback_answered, recovered, recovered_in}
+use Rattle.ktm_world.specs.Phases.{Course, event_if, telling, recording, recorded, in_phase, decided, owing, enlistment_part, finished, superior, some_enlistment, participants, has_settings, work_of, someone_owes, is_single_phase, ended, ended_if_finished, committing, aborting, readied, held_or_committing, all_ready, preparing, single, one_phase, one_participant, prepare_alone, to_prepare, pre_prepared, to_pre_prepare, to_commit, when_none_owes, changing_one, ready_of_enlistment, pre_prepare_answered, prepare_answered, without_its_answer, read_only_answered, single_phase_rejected, commit_answered, rollback_answered, recovered, recovered_in}
+use Rattle.ktm_world.specs.Changes.{has_changes}
 
 -- at most one work, which commits what the transaction has to commit
 abbrev pub OneWork : List Change → OwnSettings → List Work → Type 0

@@ -24,7 +24,7 @@ use Rattle.ktm_world.specs.Keys.{Own, own_settings, with_own}
 use Rattle.ktm_world.specs.Labels.{holds_of, transaction_named, file_named, file_tests, id_of_named, is_bound, is_suspended, transaction_of, transaction_tests}
 use Rattle.ktm_world.specs.Present.{Present}
 use Rattle.ktm_world.specs.Transactions.{same_id, transaction_at, is_active}
-use Rattle.ktm_world.specs.TransactionCalls.{is_one_phase}
+use Rattle.ktm_world.specs.Phases.{is_single_phase}
 use Rattle.ktm_laws.specs.Footprint.{IsIn}
 use Rattle.ktm_laws.specs.SoundCourse.{IsSoundCourse}
 use Rattle.ktm_laws.proofs.Tables.{same_id-equal, same_id-from}
@@ -69,8 +69,8 @@ own_settings-with (o ∷ os) id other key value differs = elim (cases_Bool (same
 ]
 
 -- an active transaction is not one that an enlistment commits alone
-single-active : (phase : Phase) → is_one_phase phase ≡ true → phase ≡ Active → ⊥
-single-active phase one is = true≢false (sym one ∙ ap is_one_phase is)
+single-active : (phase : Phase) → is_single_phase phase ≡ true → phase ≡ Active → ⊥
+single-active phase one is = true≢false (sym one ∙ ap is_single_phase is)
 
 pub own-after-same : (x : Present) (who : Option Id) (change : Option Change) → IsActiveCaller x who → (t : Transaction) → IsIn t (x.transactions).items → (t.phase ≡ Active → ⊥)
     → own_changes (own_after x.files who change) t.id ≡ own_changes ((x.files).table).own t.id
@@ -175,7 +175,7 @@ sound-on_file x process label call sound passes = go (file_named x process label
 
 -- ---- keys
 
-pub sound-of_keys : (x : Present) (o : KeyOutcome) → IsSoundCourse x → ((t : Transaction) → IsIn t (x.transactions).items → is_one_phase t.phase ≡ true → own_settings o.own t.id ≡ own_settings (x.keys).own t.id) → IsSoundOutcome x (of_keys x o)
+pub sound-of_keys : (x : Present) (o : KeyOutcome) → IsSoundCourse x → ((t : Transaction) → IsIn t (x.transactions).items → is_single_phase t.phase ≡ true → own_settings o.own t.id ≡ own_settings (x.keys).own t.id) → IsSoundOutcome x (of_keys x o)
 sound-of_keys x o sound same = record {
   settled = sound-own x (x.files).table o.own sound (λ t there one. (refl, same t there one));
   events = NoBoots-none;

@@ -6,10 +6,10 @@ use Rattle.std.specs.Prelude.{nat_le}
 use Rattle.ktm_base.specs.declared.id.Id.{Id}
 use Rattle.ktm_types.specs.declared.change.Change.{Change}
 use Rattle.ktm_types.specs.declared.recorded.Node.{Node}
-use Rattle.ktm_world.specs.Changes.{changes_bytes, node_of}
+use Rattle.ktm_world.specs.Changes.{changes_bytes, node_of, has_made}
 use Rattle.ktm_world.specs.Committed.{version_of, changes_to_commit}
 use Rattle.ktm_world.specs.Conflicts.{writes}
-use Rattle.ktm_world.specs.Files.{FirstOpen, OpenFile, OwnChanges, own_changes, has_made, first_open, first_open_of, fixed_bytes, bytes_after, bytes_seen, bytes_with, changes_with, committed_files, is_last_version, tree_seen}
+use Rattle.ktm_world.specs.Files.{FirstOpen, OpenFile, OwnChanges, own_changes, first_open, first_open_of, fixed_bytes, bytes_after, bytes_seen, bytes_with, changes_with, committed_files, is_last_version, tree_seen}
 use Rattle.ktm_world.specs.Holds.{is_in}
 use Rattle.ktm_world.specs.Present.{Present}
 use Rattle.ktm_world.specs.Transactions.{same_id}

@@ -11,11 +11,11 @@ use Rattle.ktm_types.specs.declared.object.Transaction.{Transaction}
 use Rattle.ktm_types.specs.declared.recorded.Stage.{Stage}
 use Rattle.ktm_types.specs.declared.reply.Reply.{Reply}
 use Rattle.ktm_world.specs.Committed.{Work, committed_with}
-use Rattle.ktm_world.specs.Durable.{after_events, is_before}
+use Rattle.ktm_world.specs.Durable.{after_events, is_before, is_ready}
 use Rattle.ktm_world.specs.Enlistments.{Enlistment, is_durable_at, is_superior, superior_of, takes_part}
 use Rattle.ktm_world.specs.Files.{own_changes}
 use Rattle.ktm_world.specs.Keys.{own_settings}
-use Rattle.ktm_world.specs.Lawful.{Agrees, Summary, brought_back, is_held_stage, is_ready_stage, recorded_enlistments, stage_in, stays, summaries_now, summary_in, summary_now, summary_of, superior_now}
+use Rattle.ktm_world.specs.Lawful.{Agrees, Summary, brought_back, is_held_stage, recorded_enlistments, stage_in, stays, summaries_now, summary_in, summary_now, summary_of, superior_now}
 use Rattle.ktm_world.specs.Outcome.{Outcome, apply, committed_now}
 use Rattle.ktm_world.specs.Phases.{Course, superior}
 use Rattle.ktm_world.specs.Present.{Present}
@@ -86,7 +86,7 @@ abbrev pub course_now : Course → Stage → Summary
 course_now c stage = record {
   id = c.transaction.id;
   stage = stage;
-  superior = if is_ready_stage stage then None else superior_now (superior c);
+  superior = if is_ready stage then None else superior_now (superior c);
   enlistments = course_enlistments c;
   changes = if is_held_stage stage then c.changes else [];
   settings = if is_held_stage stage then c.settings else [];
@@ -214,7 +214,7 @@ module _ (x : Present) (sound : IsSoundCourse x) (t : Transaction) (there : IsIn
         go (Some stage) at = ap (λ s. filter stays (s ∷ [])) (λ i. record {
           id = d.transaction.id;
           stage = stage;
-          superior = if is_ready_stage stage then None else superior_now (superior_of (is.enlistments i) d.transaction.id);
+          superior = if is_ready stage then None else superior_now (superior_of (is.enlistments i) d.transaction.id);
           enlistments = enlistments-same i;
           changes = held [] (own_changes y.files.table.own d.transaction.id) d.changes (is_held_stage stage) (λ waits. (own-left (held-undecided d.transaction.phase outcome stage at waits)).0) i;
           settings = held [] (own_settings y.keys.own d.transaction.id) d.settings (is_held_stage stage) (λ waits. (own-left (held-undecided d.transaction.phase outcome stage at waits)).1) i;

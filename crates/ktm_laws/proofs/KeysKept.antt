@@ -32,7 +32,7 @@ use Rattle.ktm_world.specs.KeyCalls.{with_setting, is_key_held}
 use Rattle.ktm_keyed.specs.Keyed.{is_rising}
 use Rattle.ktm_world.specs.Keys.{Own, OwnSettings, own_settings, without_own, with_own, are_good_settings, is_bad_key, is_bad_value, is_good_setting}
 use Rattle.ktm_world.specs.Labels.{transaction_named, manager_named, enlistment_named, file_named, id_of_named, holds_of}
-use Rattle.ktm_world.specs.Lawful.{set_both, others, undecided}
+use Rattle.ktm_world.specs.Lawful.{set_both, others_undecided, undecided}
 use Rattle.ktm_world.specs.Outcome.{Outcome, apply, only_reply, committed_now, first_refusal, refuse_or, within_log, is_full, and_then}
 use Rattle.ktm_world.specs.Phases.{Course}
 use Rattle.ktm_world.specs.Present.{Present, Transactions}
@@ -499,7 +499,7 @@ sets-apart x sound a b other = elim (own_settings-found x.keys.own b) [
 ]
 
 all_set-apart : (x : Present) → IsSoundKeys x → all_set_apart x ≡ true
-all_set-apart x sound = list_all-from _ (undecided x) (λ t there. list_all-from _ (others x.transactions.items (Some t.id)) (λ u there'.
+all_set-apart x sound = list_all-from _ (undecided x) (λ t there. list_all-from _ (others_undecided x.transactions.items (Some t.id)) (λ u there'.
     let kept = IsIn-filter (λ (v : Transaction). is_undecided v && not (is_of v.id (Some t.id))) x.transactions.items u there' in
     not_from_false _ (sets-apart x sound t.id u.id (not-true _ (and_parts (is_undecided u) (not (same_id u.id t.id)) kept.1).1))))
 

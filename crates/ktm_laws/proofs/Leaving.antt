@@ -11,7 +11,7 @@ use Rattle.ktm_world.specs.FileOutcome.{FileOutcome, works_of, openings_of, own_
 use Rattle.ktm_world.specs.Files.{FirstOpen, first_open}
 use Rattle.ktm_world.specs.HandleCalls.{has_handle, same_object}
 use Rattle.ktm_world.specs.Labels.{with_handle, binding}
-use Rattle.ktm_world.specs.Lawful.{others}
+use Rattle.ktm_world.specs.Lawful.{others_undecided}
 use Rattle.ktm_world.specs.Outcome.{Outcome, apply, only_reply, committed_now, is_forgotten}
 use Rattle.ktm_world.specs.Present.{Present}
 use Rattle.ktm_laws.specs.Footprint.{IsIn, ListsLaw}
@@ -38,7 +38,7 @@ module _ (lists : ListsLaw) (formed : FormedLaw) where
       → ((object : Object) → has_handle x.handles object ≡ true → has_handle o.handles object ≡ true) → (after_events x.recorded o.events).boots ≡ x.recorded.boots → KeepsFiles x o
   leaves x o works openings forgotten table items handles boots order sound =
       unchanged lists formed x (apply x o) files boots (λ p has. handles (Object.File p.number) (named x sound p has))
-      (λ id was. subst (λ ts. is_undecided_in ts id ≡ true) (sym items) was) (λ u has. (u, subst (λ ts. IsIn u (others ts None)) items has, refl)) sound
+      (λ id was. subst (λ ts. is_undecided_in ts id ≡ true) (sym items) was) (λ u has. (u, subst (λ ts. IsIn u (others_undecided ts None)) items has, refl)) sound
     where
       files : (apply x o).files ≡ x.files
       files i = record {

@@ -5,8 +5,8 @@ use Rattle.std.specs.List.{list_any}
 use Rattle.ktm_types.specs.declared.change.Change.{Change}
 use Rattle.ktm_types.specs.declared.change.Change.TheVariants.{Make, Put, Cut, Move, Drop}
 use Rattle.ktm_types.specs.declared.recorded.Node.{Node}
-use Rattle.ktm_world.specs.Changes.{changed, applies, apply_all, node_of, is_make}
-use Rattle.ktm_world.specs.Durable.{act_of_node, acts_of, acts_of_all, is_made_in}
+use Rattle.ktm_world.specs.Changes.{changed, applies, apply_all, node_of, is_make, has_made}
+use Rattle.ktm_world.specs.Durable.{act_of_node, acts_of, acts_of_all}
 use Rattle.ktm_world.specs.Holds.{Place, Holds, holds_by, place, place_of, places_of, each_change, dropped_directory, moved_directory, directories_of, is_in, meet_in, is_place_in, same_place, Act, opens, deletes, moves_file, makes, drops_directory, moves_directory, nodes_changed, places_changed, directory_dropped, is_move_of_directory, changes_held, enters_dropped, drops_used, moves_too, meets}
 use Rattle.ktm_world.specs.Lawful.{are_apart}
 use Rattle.ktm_world.specs.Tree.{Tree, node_at, is_there, is_file, is_directory, content_of}
@@ -223,7 +223,7 @@ found-or-made (c ∷ cs) tree all n there =
 
 module _ (tree : Tree) (ds cs : List Change) (writes : List ℕ) (all : apply_all tree ds ≡ true) (all' : apply_all tree cs ≡ true)
     (misses : list_any (meets (holds_by tree ds writes)) (acts_of_all tree cs) ≡ false)
-    (makes_apart : list_any (λ (c : Change). is_make c && is_made_in ds (node_of c)) cs ≡ false) where
+    (makes_apart : list_any (λ (c : Change). is_make c && has_made ds (node_of c)) cs ≡ false) where
   act_misses : (a : Act) → IsIn a (acts_of_all tree cs) → Misses (holds_by tree ds writes) a
   act_misses a there = Misses-from (holds_by tree ds writes) a (no_test (meets (holds_by tree ds writes)) a (acts_of_all tree cs) misses there)
 
@@ -241,9 +241,9 @@ module _ (tree : Tree) (ds cs : List Change) (writes : List ℕ) (all : apply_al
   not_made n here held d there at = false_from_ne_true (is_make d) (λ made.
       let mine = IsIn-unmap node_of n cs here in
       let make = not_found n held mine.0 mine.2 mine.1 in
-      let theirs : is_made_in ds (node_of mine.0) ≡ true =
+      let theirs : has_made ds (node_of mine.0) ≡ true =
       list_any-from (λ (c : Change). is_make c && node_of c == node_of mine.0) ds d there (and_from _ _ made (eq-eqb _ _ (at ∙ sym mine.1))) in
-      true≢false (sym (and_from _ _ make theirs) ∙ no_test (λ (c : Change). is_make c && is_made_in ds (node_of c)) mine.0 cs makes_apart mine.2))
+      true≢false (sym (and_from _ _ make theirs) ∙ no_test (λ (c : Change). is_make c && has_made ds (node_of c)) mine.0 cs makes_apart mine.2))
 
   nodes_apart : (n : ℕ) → IsIn n (map node_of ds) → IsIn n (map node_of cs) → ⊥
   nodes_apart n held here =

@@ -21,12 +21,12 @@ use Rattle.ktm_types.specs.declared.options.Disposition.{Disposition}
 use Rattle.ktm_types.specs.declared.options.ShareMode.{ShareMode}
 use Rattle.ktm_types.specs.declared.recorded.Node.{Node}
 use Rattle.ktm_types.specs.declared.reply.Reply.TheVariants.{Done}
-use Rattle.ktm_world.specs.Changes.{changed, applies, changes_bytes, is_drop, is_make, node_of}
+use Rattle.ktm_world.specs.Changes.{changed, applies, changes_bytes, is_drop, is_make, node_of, has_made}
 use Rattle.ktm_world.specs.Conflicts.{conflicts, holds_now, writes}
 use Rattle.ktm_world.specs.Decide.{of_files, on_file, on_file_tests, opening, own_tests}
 use Rattle.ktm_world.specs.FileCalls.{Whereabouts, no_path, no_way, free, at_root, at_node, find_path, conflict_test, create_act, create_at, create_file, create_file_tests, emptying, empties, is_at_directory, new_open, write_file, write_file_tests, set_end, set_end_tests}
 use Rattle.ktm_world.specs.FileOutcome.{FileOutcome, FileRoom, answering, changing, lacks_quota, openings_of}
-use Rattle.ktm_world.specs.Files.{FilesNow, FirstOpen, OpenFile, OwnChanges, own_changes, has_made, first_open_of, is_last_version, tree_of, tree_seen, with_own_changes, bytes_with, changes_with, committed_files, first_open}
+use Rattle.ktm_world.specs.Files.{FilesNow, FirstOpen, OpenFile, OwnChanges, own_changes, first_open_of, is_last_version, tree_of, tree_seen, with_own_changes, bytes_with, changes_with, committed_files, first_open}
 use Rattle.ktm_world.specs.HandleCalls.{has_handle, same_object}
 use Rattle.ktm_world.specs.Holds.{Holds, is_in, makes, meet_in, meets, opens, place}
 use Rattle.ktm_world.specs.Labels.{file_named, file_number, open_file_at, with_handle}

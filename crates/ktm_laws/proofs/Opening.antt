@@ -12,7 +12,7 @@ use Rattle.ktm_world.specs.Conflicts.{holds_now, written_by, writes}
 use Rattle.ktm_world.specs.Files.{FirstOpen, OpenFile, own_changes, is_last_version}
 use Rattle.ktm_world.specs.HandleCalls.{has_handle}
 use Rattle.ktm_world.specs.Holds.{is_in}
-use Rattle.ktm_world.specs.Lawful.{are_apart, is_alone, is_touched_by, others, undecided}
+use Rattle.ktm_world.specs.Lawful.{are_apart, is_alone, is_touched_by, others_undecided, undecided}
 use Rattle.ktm_world.specs.Present.{Present}
 use Rattle.ktm_world.specs.Transactions.{is_of, is_undecided, same_id}
 use Rattle.ktm_laws.specs.Footprint.{IsIn}
@@ -86,12 +86,12 @@ module _ (x : Present) (o : OpenFile) (handles : List Handle) (sound : IsSoundFi
       })
 
   all-apart : all_files_apart z ≡ true
-  all-apart = list_all-from _ (undecided x) (λ t there. list_all-from (files_apart z t) (others x.transactions.items (Some t.id)) (λ u there'.
+  all-apart = list_all-from _ (undecided x) (λ t there. list_all-from (files_apart z t) (others_undecided x.transactions.items (Some t.id)) (λ u there'.
       let kept = IsIn-filter (λ (v : Transaction). is_undecided v && not (is_of v.id (Some t.id))) x.transactions.items u there' in
       let parts = and_parts (is_undecided u) (not (is_of u.id (Some t.id))) kept.1 in
       let u-there : IsIn u (undecided x) = IsIn-kept (λ (v : Transaction). is_undecided v && not (is_of v.id None)) x.transactions.items u kept.0 (and_from _ _ parts.0 refl) in
-      two-apart t u there u-there (same_id-sym u.id t.id (not-true _ parts.1)) (not-true _ parts.1) (list_all-at (files_apart x t) (others x.transactions.items (Some t.id))
-      (list_all-at (λ (v : Transaction). list_all (files_apart x v) (others x.transactions.items (Some v.id))) (undecided x) sound.apart t there) u there')))
+      two-apart t u there u-there (same_id-sym u.id t.id (not-true _ parts.1)) (not-true _ parts.1) (list_all-at (files_apart x t) (others_undecided x.transactions.items (Some t.id))
+      (list_all-at (λ (v : Transaction). list_all (files_apart x v) (others_undecided x.transactions.items (Some v.id))) (undecided x) sound.apart t there) u there')))
 
   last-still : (f : FirstOpen) → IsIn f x.files.first_opens → is_open_last z.files f ≡ true
   last-still f there = elim (or_cases (not (is_in (holds_now x.files f.transaction).nodes f.file) || has_dropped (own_changes x.files.table.own f.transaction) f.file) (is_last_version x.files f) (list_all-at (is_open_last x.files) x.files.first_opens sound.first_last f there)) [

@@ -11,13 +11,12 @@ use Rattle.ktm_types.specs.declared.change.Change.TheVariants.{Make, Put, Cut, M
 use Rattle.ktm_types.specs.declared.change.NodeKind.TheVariants.{File, Directory}
 use Rattle.ktm_types.specs.declared.recorded.Node.{Node}
 use Rattle.ktm_types.specs.declared.object.Transaction.{Transaction}
-use Rattle.ktm_world.specs.Changes.{changed, changed_all, applies, apply_all, changes_bytes, is_drop, is_make, next_after, node_of}
+use Rattle.ktm_world.specs.Changes.{changed, changed_all, applies, apply_all, changes_bytes, is_drop, is_make, next_after, node_of, has_changes, has_made}
 use Rattle.ktm_world.specs.Committed.{with_number, changes_to_commit, written_files, written_after, final_bytes}
 use Rattle.ktm_world.specs.Conflicts.{holds_now, written_by, writes}
-use Rattle.ktm_world.specs.Durable.{is_some_change}
-use Rattle.ktm_world.specs.Files.{FirstOpen, OpenFile, OwnChanges, own_changes, with_own_changes, has_made, first_open_of, is_last_version, tree_of, tree_seen, first_bytes, bytes_seen, bytes_with}
+use Rattle.ktm_world.specs.Files.{FirstOpen, OpenFile, OwnChanges, own_changes, with_own_changes, first_open_of, is_last_version, tree_of, tree_seen, first_bytes, bytes_seen, bytes_with}
 use Rattle.ktm_world.specs.Holds.{Place, Holds, holds_by, each_change, places_of, dropped_directory, moved_directory, directories_of, is_in, is_place_in, meet_in, same_place}
-use Rattle.ktm_world.specs.Lawful.{are_apart, is_alone, is_touched_by, others, undecided}
+use Rattle.ktm_world.specs.Lawful.{are_apart, is_alone, is_touched_by, others_undecided, undecided}
 use Rattle.ktm_world.specs.Present.{Present}
 use Rattle.ktm_world.specs.Transactions.{is_of, is_undecided, same_id}
 use Rattle.ktm_world.specs.Tree.{Tree, content_of, is_directory, is_file, is_there, node_at}
@@ -200,7 +199,7 @@ holds-from a b apart = and_from _ _ (and_from _ _ (and_from _ _
     (not_from_false _ (none-meet a.dropped b.uses apart.stays)))
     (not_from_false _ apart.moves)
 
-some-from : (ds : List Change) (d : Change) → IsIn d ds → is_some_change ds ≡ true
+some-from : (ds : List Change) (d : Change) → IsIn d ds → has_changes ds ≡ true
 some-from [] d none = absurd none
 some-from (e ∷ es) d there = refl
 
@@ -397,12 +396,12 @@ module _ (x : Present) (id : Id) (c : Change) (sound : IsSoundFiles x) (owns : O
       and-turned false false none = refl
 
   all-apart : all_files_apart z ≡ true
-  all-apart = list_all-from _ (undecided x) (λ t there. list_all-from (files_apart z t) (others x.transactions.items (Some t.id)) (λ u there'.
+  all-apart = list_all-from _ (undecided x) (λ t there. list_all-from (files_apart z t) (others_undecided x.transactions.items (Some t.id)) (λ u there'.
       let kept = IsIn-filter (λ (v : Transaction). is_undecided v && not (is_of v.id (Some t.id))) x.transactions.items u there' in
       let parts = and_parts (is_undecided u) (not (is_of u.id (Some t.id))) kept.1 in
       let u-there : IsIn u (undecided x) = IsIn-kept (λ (v : Transaction). is_undecided v && not (is_of v.id None)) x.transactions.items u kept.0 (and_from _ _ parts.0 refl) in
-      let before : are_apart (holds_now x.files t.id) (holds_now x.files u.id) ≡ true = list_all-at (files_apart x t) (others x.transactions.items (Some t.id))
-      (list_all-at (λ (v : Transaction). list_all (files_apart x v) (others x.transactions.items (Some v.id))) (undecided x) sound.apart t there) u there' in
+      let before : are_apart (holds_now x.files t.id) (holds_now x.files u.id) ≡ true = list_all-at (files_apart x t) (others_undecided x.transactions.items (Some t.id))
+      (list_all-at (λ (v : Transaction). list_all (files_apart x v) (others_undecided x.transactions.items (Some v.id))) (undecided x) sound.apart t there) u there' in
       two t u there u-there (not-true _ parts.1) before))
     where
       two : (t u : Transaction) → IsIn t (undecided x) → IsIn u (undecided x) → same_id u.id t.id ≡ false → are_apart (holds_now x.files t.id) (holds_now x.files u.id) ≡ true → are_apart (holds_now z.files t.id) (holds_now z.files u.id) ≡ true
@@ -430,7 +429,7 @@ module _ (x : Present) (id : Id) (c : Change) (sound : IsSoundFiles x) (owns : O
 
   -- what is so of each entry
   each : (P : OwnChanges → Type 0) → P (entry id new) → ((o : OwnChanges) → IsIn o x.files.table.own → same_id id o.transaction ≡ false → P o) → (o : OwnChanges) → IsIn o z.files.table.own → P o
-  each P mine' others' o there = elim (entry-of o there) [ inl e ↦ subst P (sym e) mine' | inr old ↦ others' o old.0 old.1 ]
+  each P mine' others_undecided' o there = elim (entry-of o there) [ inl e ↦ subst P (sym e) mine' | inr old ↦ others_undecided' o old.0 old.1 ]
 
   pub made-or-opened-still : (n : ℕ) → made_or_opened x.files id n ≡ true → made_or_opened z.files id n ≡ true
   made-or-opened-still n is = elim (or_cases (has_made ms n) (is_some (first_open_of x.files.first_opens id n)) is) [
@@ -668,7 +667,7 @@ module _ (x : Present) (id : Id) (c : Change) (sound : IsSoundFiles x) (owns : O
     own_undecided = list_all-from _ z.files.table.own (each (λ o. is_undecided_in x.transactions.items o.transaction ≡ true) owns.who (λ o there differ.
         list_all-at (λ (p : OwnChanges). is_undecided_in x.transactions.items p.transaction) x.files.table.own sound.own_undecided o there));
     own_once = pairs-with_changes changed_by_two x.files.table.own id new sound.own_once sound.own_once (λ u there differ. (not_from_false _ differ, not_from_false _ (same_id-sym id u.transaction differ)));
-    own_some = list_all-from _ z.files.table.own (each (λ o. is_some_change o.changes ≡ true) some-change (λ o there differ. list_all-at (λ (p : OwnChanges). is_some_change p.changes) x.files.table.own sound.own_some o there));
+    own_some = list_all-from _ z.files.table.own (each (λ o. has_changes o.changes ≡ true) some-change (λ o there differ. list_all-at (λ (p : OwnChanges). has_changes p.changes) x.files.table.own sound.own_some o there));
     own_final = All-by (λ (o : OwnChanges). changes_to_commit o.changes (bytes_seen z.files (Some o.transaction)) ≡ o.changes) z.files.table.own
         (each (λ o. changes_to_commit o.changes (bytes_seen z.files (Some o.transaction)) ≡ o.changes)
         (form.again (bytes_seen z.files (Some id)) (λ f there. ap (λ ds. bytes_with z.files id ds f) own-itself ∙ form.gives (first_bytes z.files id new f) f there))
@@ -738,7 +737,7 @@ module _ (x : Present) (id : Id) (c : Change) (sound : IsSoundFiles x) (owns : O
             ∙ list_all-at (λ (p : OwnChanges). not (p.transaction.boot == x.recorded.boots) || list_all (is_gone (tree_of x.files p.transaction)) p.changes) x.files.table.own sound.own_gone o has
       ]
 
-      some-change : is_some_change new ≡ true
+      some-change : has_changes new ≡ true
       some-change = elim (cases_Bool (changes_bytes c)) [
         | inr name ↦ some-from new c (name-final cs by c (IsIn-right c ms (c ∷ []) (inl refl)) (not_from_false _ name))
         | inl bytes ↦ some-from new (Cut (node_of c) 0 []) (IsIn-right (Cut (node_of c) 0 []) (names_of cs) _

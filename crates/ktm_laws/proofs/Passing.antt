@@ -10,14 +10,14 @@ use Rattle.ktm_types.specs.declared.change.Change.TheVariants.{Make, Put, Cut, M
 use Rattle.ktm_types.specs.declared.recorded.Node.{Node}
 use Rattle.ktm_types.specs.declared.object.Object.{Object}
 use Rattle.ktm_types.specs.declared.object.Transaction.{Transaction}
-use Rattle.ktm_world.specs.Changes.{changed, changed_all, applies, apply_all, changes_bytes, is_make, is_make_of_file, is_drop, node_of}
+use Rattle.ktm_world.specs.Changes.{changed, changed_all, applies, apply_all, changes_bytes, is_make, is_make_of_file, is_drop, node_of, has_changes, has_made}
 use Rattle.ktm_world.specs.Committed.{Version, version_of, with_change, changes_to_commit, written_files, written_after, with_number, without_number, final_bytes}
 use Rattle.ktm_world.specs.Conflicts.{holds_now, written_by, writes}
-use Rattle.ktm_world.specs.Durable.{is_some_change, next_after_all}
-use Rattle.ktm_world.specs.Files.{FilesNow, FirstOpen, OpenFile, OwnChanges, own_changes, has_made, first_open_of, is_last_version, tree_of, tree_seen, bytes_seen, committed_files}
+use Rattle.ktm_world.specs.Durable.{next_after_all}
+use Rattle.ktm_world.specs.Files.{FilesNow, FirstOpen, OpenFile, OwnChanges, own_changes, first_open_of, is_last_version, tree_of, tree_seen, bytes_seen, committed_files}
 use Rattle.ktm_world.specs.HandleCalls.{has_handle}
 use Rattle.ktm_world.specs.Holds.{is_in}
-use Rattle.ktm_world.specs.Lawful.{are_apart, is_alone, is_touched_by, others, undecided}
+use Rattle.ktm_world.specs.Lawful.{are_apart, is_alone, is_touched_by, others_undecided, undecided}
 use Rattle.ktm_world.specs.Present.{Present}
 use Rattle.ktm_world.specs.Transactions.{is_of, is_undecided, same_id}
 use Rattle.ktm_world.specs.Tree.{Tree, IsWellFormed, root, has_number, bytes_of, content_of, is_directory, is_file, node_at}
@@ -54,7 +54,7 @@ list_all-left test keep xs all = list_all-from test (filter keep xs) (λ x there
 
 -- ---- undecided transactions
 
-pub undecided-entry : (ts : List Transaction) (id : Id) → is_undecided_in ts id ≡ true → (v : Transaction) × IsIn v (others ts None) × (v.id ≡ id)
+pub undecided-entry : (ts : List Transaction) (id : Id) → is_undecided_in ts id ≡ true → (v : Transaction) × IsIn v (others_undecided ts None) × (v.id ≡ id)
 undecided-entry [] id is = absurd (true≢false (sym is))
 undecided-entry (t ∷ ts) id is = elim (cases_Bool (same_id t.id id)) [
   | inl same ↦ (t, IsIn-kept (λ (v : Transaction). is_undecided v && not (is_of v.id None)) (t ∷ ts) t (inl refl) (and_from _ _ (rw same at is) refl), same_id-equal t.id id same)
@@ -230,8 +230,8 @@ passed files cs keep next = record {
 -- changes that hold nothing that the undecided transactions hold that are kept, nor a file that a plain handle may write
 pub record Spares (x : Present) (cs : List Change) (keep : Option Id → Bool) (last : ℕ) : Type 0 where
   pub all : apply_all x.files.tree cs ≡ true
-  pub apart : (v : Transaction) → IsIn v (others x.transactions.items None) → keep (Some v.id) ≡ true → AreFootprintsApart (footprint x.files.tree cs) (footprint x.files.tree (own_changes x.files.table.own v.id))
-  pub clear : (v : Transaction) → IsIn v (others x.transactions.items None) → keep (Some v.id) ≡ true → (n : ℕ) → is_drawn_node x.files n ≡ true → IsIn n (map node_of cs) → is_in (holds_now x.files v.id).nodes n ≡ true → ⊥
+  pub apart : (v : Transaction) → IsIn v (others_undecided x.transactions.items None) → keep (Some v.id) ≡ true → AreFootprintsApart (footprint x.files.tree cs) (footprint x.files.tree (own_changes x.files.table.own v.id))
+  pub clear : (v : Transaction) → IsIn v (others_undecided x.transactions.items None) → keep (Some v.id) ≡ true → (n : ℕ) → is_drawn_node x.files n ≡ true → IsIn n (map node_of cs) → is_in (holds_now x.files v.id).nodes n ≡ true → ⊥
   pub fresh : (o : FirstOpen) → IsIn o x.files.first_opens → keep (Some o.transaction) ≡ true → (c : Change) → IsIn c cs → is_make c ≡ true → node_of c ≡ o.file → ⊥
   pub plain : (o : OpenFile) → IsIn o x.files.table.opens → is_none o.transaction ≡ true → writes o.access ≡ true → is_file (changed_all x.files.tree cs) o.node ≡ true
   pub next : next_after_all x.files.table.next_node cs ≤ last
@@ -243,14 +243,14 @@ pub record Passes (x y : Present) (cs : List Change) (keep : Option Id → Bool)
   pub boots : y.recorded.boots ≡ x.recorded.boots
   pub handles : (o : OpenFile) → IsIn o x.files.table.opens → keep o.transaction ≡ true → has_handle y.handles (Object.File o.number) ≡ true
   pub undecided : (id : Id) → keep (Some id) ≡ true → is_undecided_in x.transactions.items id ≡ true → is_undecided_in y.transactions.items id ≡ true
-  pub those : (u : Transaction) → IsIn u (others y.transactions.items None) → (v : Transaction) × IsIn v (others x.transactions.items None) × (v.id ≡ u.id) × (keep (Some u.id) ≡ true)
+  pub those : (u : Transaction) → IsIn u (others_undecided y.transactions.items None) → (v : Transaction) × IsIn v (others_undecided x.transactions.items None) × (v.id ≡ u.id) × (keep (Some u.id) ≡ true)
 
 module _ (lists : ListsLaw) (formed : FormedLaw) (x y : Present) (cs : List Change) (keep : Option Id → Bool) (next : ℕ) (sound : IsSoundFiles x) (spares : Spares x cs keep next) (step : Passes x y cs keep next) where
   abbrev z : Present
   z = record y { files = passed x.files cs keep next }
 
   abbrev Kept : Id → Type 0
-  Kept id = (keep (Some id) ≡ true) × ((v : Transaction) × IsIn v (others x.transactions.items None) × (v.id ≡ id))
+  Kept id = (keep (Some id) ≡ true) × ((v : Transaction) × IsIn v (others_undecided x.transactions.items None) × (v.id ≡ id))
 
   tree-is : z.files.tree ≡ changed_all x.files.tree cs
   tree-is = tree-of cs (committed_files x.files [])
@@ -442,7 +442,7 @@ module _ (lists : ListsLaw) (formed : FormedLaw) (x y : Present) (cs : List Chan
   -- a file that a transaction made or first opened becomes no directory in what it sees
   no-directory : (id : Id) → Kept id → (n : ℕ) → is_drawn_node x.files n ≡ true → ((c : Change) → IsIn c cs → (IsIn n (map node_of (own_changes x.files.table.own id)) → ⊥) → MakesNot c n)
       → is_no_directory x.files n id ≡ true → is_no_directory z.files n id ≡ true
-  no-directory id kept n drawn others was =
+  no-directory id kept n drawn others_undecided was =
       let mine = own_changes x.files.table.own id in
       let names = filter (λ change. not (changes_bytes change)) mine in
       let applies : apply_all x.files.tree names ≡ true = names-apply x.files.tree mine (bytes_seen x.files (Some id)) (own-final x sound id) (own-apply x sound id) in
@@ -453,7 +453,7 @@ module _ (lists : ListsLaw) (formed : FormedLaw) (x y : Present) (cs : List Chan
             let outside : IsIn n (map node_of mine) → ⊥ = λ there. eqb-false n n (no_test (λ m. m == n) n (map node_of mine) free there) refl in
             let beside : IsIn n (map node_of names) → ⊥ = λ there. let from = IsIn-unmap node_of n names there in outside (subst (λ m. IsIn m (map node_of mine)) from.1 (IsIn-map node_of from.0 mine (IsIn-filter (λ change. not (changes_bytes change)) mine from.0 from.2).0)) in
             ap (λ ds. not (is_directory (changed_all z.files.tree (filter (λ change. not (changes_bytes change)) ds)) n)) (own-left id kept.0) ∙ ap (λ o. not (is_directory_at n o)) (node-elsewhere names z.files.tree n applies' beside) ∙ not_from_false _ (false_from_ne_true _ (λ dir.
-            true≢false (sym (directories-were cs x.files.tree spares.all n (λ c there. others c there outside) (subst (λ t. is_directory t n ≡ true) tree-is dir)) ∙ ap (is_directory_at n) (sym (node-elsewhere names x.files.tree n applies beside)) ∙ not-true _ was)))
+            true≢false (sym (directories-were cs x.files.tree spares.all n (λ c there. others_undecided c there outside) (subst (λ t. is_directory t n ≡ true) tree-is dir)) ∙ ap (is_directory_at n) (sym (node-elsewhere names x.files.tree n applies beside)) ∙ not-true _ was)))
       ]
 
   -- a node that a transaction dropped and does not see it does not see then
@@ -488,7 +488,7 @@ module _ (lists : ListsLaw) (formed : FormedLaw) (x y : Present) (cs : List Chan
   those-kept u there = let v = step.those u there in (v.3, (v.0, v.1, v.2))
 
   apart-now : all_files_apart z ≡ true
-  apart-now = list_all-from _ (undecided z) (λ t there. list_all-from (files_apart z t) (others z.transactions.items (Some t.id)) (λ u there'.
+  apart-now = list_all-from _ (undecided z) (λ t there. list_all-from (files_apart z t) (others_undecided z.transactions.items (Some t.id)) (λ u there'.
       let filtered = IsIn-filter (λ (v : Transaction). is_undecided v && not (is_of v.id (Some t.id))) z.transactions.items u there' in
       let parts = and_parts (is_undecided u) (not (is_of u.id (Some t.id))) filtered.1 in
       let there'' : IsIn u (undecided z) = IsIn-kept (λ (v : Transaction). is_undecided v && not (is_of v.id None)) z.transactions.items u filtered.0 (and_from _ _ parts.0 refl) in
@@ -514,7 +514,7 @@ module _ (lists : ListsLaw) (formed : FormedLaw) (x y : Present) (cs : List Chan
   sound-now = record {
     own_undecided = list_all-from _ z.files.table.own (λ o there. let kept = own-kept o there in step.undecided o.transaction kept.1.0 (list_all-at (λ (p : OwnChanges). is_undecided_in x.transactions.items p.transaction) x.files.table.own sound.own_undecided o kept.0));
     own_once = each_pair-filter changed_by_two (λ o. keep (Some o.transaction)) x.files.table.own sound.own_once;
-    own_some = list_all-left (λ o. is_some_change o.changes) (λ o. keep (Some o.transaction)) x.files.table.own sound.own_some;
+    own_some = list_all-left (λ o. has_changes o.changes) (λ o. keep (Some o.transaction)) x.files.table.own sound.own_some;
     own_final = final;
     own_apply = list_all-from _ z.files.table.own (λ o there.
         let kept = own-kept o there in

@@ -9,9 +9,9 @@ use Rattle.ktm_types.specs.declared.object.Phase.{Phase}
 use Rattle.ktm_types.specs.declared.object.Phase.TheVariants.{Requested, PrePreparing, PrePrepared, Preparing, SinglePhase, Ended}
 use Rattle.ktm_types.specs.declared.object.TransactionOutcome.TheVariants.{Committed}
 use Rattle.ktm_world.specs.Enlistments.{Enlistment, Owed, pre_prepare, prepare, commit, asks_pre_prepare, allows_one_phase, takes_part, is_durable_at, superior_of}
-use Rattle.ktm_world.specs.Phases.{Course, in_phase, recording, telling, owing, unchanged, superior, is_its_superior, some_enlistment, has_changes, has_settings, one_if, taking_part, participants, work_of, all_ready, preparing, single, one_phase, one_participant, prepare_alone, to_prepare, pre_prepared, to_pre_prepare, to_commit}
+use Rattle.ktm_world.specs.Phases.{Course, in_phase, recording, telling, owing, unchanged, superior, is_its_superior, some_enlistment, has_settings, one_if, taking_part, participants, work_of, all_ready, preparing, single, one_phase, one_participant, prepare_alone, to_prepare, pre_prepared, to_pre_prepare, to_commit, is_single_phase}
 use Rattle.ktm_world.specs.Transactions.{is_undecided}
-use Rattle.ktm_world.specs.TransactionCalls.{is_one_phase}
+use Rattle.ktm_world.specs.Changes.{has_changes}
 use Rattle.ktm_laws.specs.Footprint.{IsIn}
 use Rattle.ktm_laws.specs.SoundCourse.{is_last_recover, is_unrecovered_well, is_outcome_of, is_of_its_boot, is_superior_as, is_idle, is_waiting, is_part_as, is_awaited, has_durable_part, is_recorded_as_asked}
 use Rattle.ktm_laws.proofs.Diamonds.{none-from}
@@ -49,7 +49,7 @@ module _ (boot : ℕ) (c : Course) (fresh : Fresh boot c) where
   arrives-superior_told : (phase : Phase) (kind : Notify) → is_last_recover kind ≡ false → is_outcome_of phase (record c.transaction { phase = phase }) ≡ true → is_of_its_boot boot (record c.transaction { phase = phase }) ≡ true
       → (superior-as : is_superior_as phase true ≡ true) → is_some (superior c) ≡ true
       → ((es : List Enlistment) → Stand es (c.transaction).id is_idle → Stand es (c.transaction).id (is_part_as phase))
-      → ((es : List Enlistment) → is_awaited es (record c.transaction { phase = phase }) ≡ true) → is_one_phase phase ≡ false
+      → ((es : List Enlistment) → is_awaited es (record c.transaction { phase = phase }) ≡ true) → is_single_phase phase ≡ false
       → ((es : List Enlistment) → is_recorded_as_asked c.managers es (record c.transaction { phase = phase }) ≡ true)
       → Arrives boot c (in_phase (telling c (is_its_superior c) kind unchanged) phase)
   arrives-superior_told phase kind other known boots asks has stands awaits several recorded' =

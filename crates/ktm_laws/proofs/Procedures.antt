@@ -12,9 +12,9 @@ use Rattle.ktm_types.specs.declared.object.Transaction.{Transaction}
 use Rattle.ktm_types.specs.declared.object.TransactionOutcome.{TransactionOutcome}
 use Rattle.ktm_types.specs.declared.object.TransactionOutcome.TheVariants.{Undetermined, Committed, Aborted}
 use Rattle.ktm_world.specs.Enlistments.{Enlistment, Manager, Owed, commit, rollback, is_superior, owes_commit, owes_rollback, takes_part, is_unfinished, is_durable_at, with_enlistments, superior_of}
-use Rattle.ktm_world.specs.Phases.{Course, in_phase, decided, recording, recorded, telling, owing, unchanged, superior, is_its_superior, has_changes, has_settings, taking_part, participants, end_notice, ended, ended_if_finished, work_of, event_if, committing, is_caller, aborting, ready_parts, readied, held_or_committing, all_ready}
+use Rattle.ktm_world.specs.Phases.{Course, in_phase, decided, recording, recorded, telling, owing, unchanged, superior, is_its_superior, has_settings, taking_part, participants, end_notice, ended, ended_if_finished, work_of, event_if, committing, is_caller, aborting, ready_parts, readied, held_or_committing, all_ready, is_single_phase}
 use Rattle.ktm_world.specs.Transactions.{same_id, is_committed, is_aborted, is_undecided}
-use Rattle.ktm_world.specs.TransactionCalls.{is_one_phase}
+use Rattle.ktm_world.specs.Changes.{has_changes}
 use Rattle.ktm_laws.specs.Footprint.{IsIn}
 use Rattle.ktm_laws.specs.SoundCourse.{is_last_recover, is_unrecovered_well, is_outcome_of, is_of_its_boot, has_superior_as_asked, is_idle, is_waiting, owes_until_finished, is_part_as, is_awaited, has_durable_part, is_recorded_as_asked}
 use Rattle.ktm_laws.proofs.Elements.{IsIn-kept, list_any-at, list_any-from}
@@ -116,7 +116,7 @@ pub record Stands (boot : ℕ) (c : Course) : Type 0 where
   pub superior : has_superior_as_asked c.enlistments c.transaction ≡ true
   pub stand : Stand c.enlistments (c.transaction).id (is_part_as (c.transaction).phase)
   pub awaited : is_awaited c.enlistments c.transaction ≡ true
-  pub alone : (not (is_one_phase (c.transaction).phase) || (not (has_changes c.changes) && not (has_settings c.settings))) ≡ true
+  pub alone : (not (is_single_phase (c.transaction).phase) || (not (has_changes c.changes) && not (has_settings c.settings))) ≡ true
   pub recorded : is_recorded_as_asked c.managers c.enlistments c.transaction ≡ true
 
 -- it has gone on, and is sound again

@@ -12,8 +12,8 @@ use Rattle.ktm_types.specs.declared.event.DonePart.{DonePart}
 use Rattle.ktm_types.specs.declared.event.Event.TheVariants.{Ready}
 use Rattle.ktm_types.specs.declared.event.Part.{Part}
 use Rattle.ktm_types.specs.declared.event.Part.TheVariants.{Enlistment, Changes, Settings}
-use Rattle.ktm_world.specs.Changes.{apply_all}
-use Rattle.ktm_world.specs.Durable.{Durable, Recorded, is_ready, is_decided, is_manager, is_part_of, is_new_in, is_new_enlistment, changes_in, settings_in, enlistments_in, changes_of, settings_of, enlistments_of, superior_ids, has_changes_part, has_settings_part, has_part, is_some_change, are_recorded_changes, changes_apply, settings_apply, part_applies, may_get_ready, recorded_or_new, with_recorded, next_after_all, fact_of, after_event, is_within_limits}
+use Rattle.ktm_world.specs.Changes.{apply_all, has_changes}
+use Rattle.ktm_world.specs.Durable.{Durable, Recorded, is_ready, is_decided, is_manager, is_part_of, is_new_in, is_new_enlistment, changes_in, settings_in, enlistments_in, changes_of, settings_of, enlistments_of, superior_ids, has_changes_part, has_settings_part, has_part, are_recorded_changes, changes_apply, settings_apply, part_applies, may_get_ready, recorded_or_new, with_recorded, next_after_all, fact_of, after_event, is_within_limits}
 use Rattle.ktm_world.specs.Keys.{OwnSettings, are_good_settings}
 use Rattle.ktm_world.specs.Lawful.{set_both}
 use Rattle.ktm_world.specs.Limits.{most_information}
@@ -123,7 +123,7 @@ new-enlisted s e counts new =
 
 -- what is kept is asked of stage, changes and settings alone
 pub kept_changes-same : (t u : Recorded) → is_decided t.stage ≡ is_decided u.stage → changes_of t ≡ changes_of u → has_changes_part t ≡ has_changes_part u → are_kept_changes t ≡ are_kept_changes u
-kept_changes-same t u stage changes has i = (not (stage i) || not (is_some_change (changes i))) && (stage i || not (has i) || are_recorded_changes (changes i))
+kept_changes-same t u stage changes has i = (not (stage i) || not (has_changes (changes i))) && (stage i || not (has i) || are_recorded_changes (changes i))
 
 pub kept_settings-same : (t u : Recorded) → is_decided t.stage ≡ is_decided u.stage → settings_of t ≡ settings_of u → has_settings_part t ≡ has_settings_part u → are_kept_settings t ≡ are_kept_settings u
 kept_settings-same t u stage settings has i = (not (stage i) || length (settings i) == 0) && (stage i || not (has i) || are_good_settings (settings i))

@@ -8,8 +8,8 @@ use Rattle.ktm_types.specs.declared.change.Change.{Change}
 use Rattle.ktm_types.specs.declared.change.Change.TheVariants.{Make, Put, Cut, Move, Drop}
 use Rattle.ktm_types.specs.declared.object.Transaction.{Transaction}
 use Rattle.ktm_types.specs.declared.recorded.Stage.{Stage}
-use Rattle.ktm_world.specs.Changes.{applies, apply_all, is_make, node_of}
-use Rattle.ktm_world.specs.Durable.{Recorded, acts_of_all, are_recorded_changes, changes_apply, changes_of, is_decided, is_made_in, is_new_in, is_some_change, others, settings_apply, settings_of}
+use Rattle.ktm_world.specs.Changes.{applies, apply_all, is_make, node_of, has_made, has_changes}
+use Rattle.ktm_world.specs.Durable.{Recorded, acts_of_all, are_recorded_changes, changes_apply, changes_of, is_decided, is_new_in, others_waiting, settings_apply, settings_of}
 use Rattle.ktm_world.specs.Files.{OwnChanges, own_changes, bytes_seen}
 use Rattle.ktm_world.specs.Holds.{holds_by, meets}
 use Rattle.ktm_world.specs.Keys.{Own, OwnSettings, are_good_settings, own_settings}
@@ -73,18 +73,18 @@ recalled x agrees r there =
 
 -- what is asked of changes beside those of another one that waits
 spares-waiting : (tree : Tree) (bs cs : List Change) → apply_all tree cs ≡ true → AreFootprintsApart (footprint tree cs) (footprint tree bs)
-    → (not (list_any (meets (holds_by tree bs [])) (acts_of_all tree cs)) && not (list_any (λ change. is_make change && is_made_in bs (node_of change)) cs)) ≡ true
+    → (not (list_any (meets (holds_by tree bs [])) (acts_of_all tree cs)) && not (list_any (λ change. is_make change && has_made bs (node_of change)) cs)) ≡ true
 spares-waiting tree bs cs all apart = and_from _ _ (not_from_false _ (apart-missed tree bs cs all apart))
-    (not_from_false _ (none-from (λ change. is_make change && is_made_in bs (node_of change)) cs (λ c there. false_from_ne_true _ (λ both.
-    let made = list_any-at (λ change. is_make change && node_of change == node_of c) bs (and_parts (is_make c) (is_made_in bs (node_of c)) both).1 in
+    (not_from_false _ (none-from (λ change. is_make change && has_made bs (node_of change)) cs (λ c there. false_from_ne_true _ (λ both.
+    let made = list_any-at (λ change. is_make change && node_of change == node_of c) bs (and_parts (is_make c) (has_made bs (node_of c)) both).1 in
     let at = eqb-true _ _ (and_parts (is_make made.0) (node_of made.0 == node_of c) made.2).1 in
     apart.nodes (node_of c) (IsIn-map node_of c cs there) (subst (λ n. IsIn n (map node_of bs)) at (IsIn-map node_of made.0 bs made.1))))))
 
 -- changes apply to what was recorded, where they are apart from what others own
 applies-recorded : (x : Present) → Agrees x → (who : Option Id) (cs : List Change) → apply_all x.files.tree cs ≡ true → list_all (is_new_in x.files.tree) cs ≡ true
-    → ((r : Recorded) → IsIn r (others x.recorded who) → AreFootprintsApart (footprint x.files.tree cs) (footprint x.files.tree (changes_of r))) → changes_apply x.recorded who cs ≡ true
-applies-recorded x agrees who cs all new apart = and_from _ _ (and_from _ _ (list_all-from _ (others x.recorded who) (λ r there.
-    subst (λ tree. (not (list_any (meets (holds_by tree (changes_of r) [])) (acts_of_all tree cs)) && not (list_any (λ change. is_make change && is_made_in (changes_of r) (node_of change)) cs)) ≡ true) (sym agrees.tree)
+    → ((r : Recorded) → IsIn r (others_waiting x.recorded who) → AreFootprintsApart (footprint x.files.tree cs) (footprint x.files.tree (changes_of r))) → changes_apply x.recorded who cs ≡ true
+applies-recorded x agrees who cs all new apart = and_from _ _ (and_from _ _ (list_all-from _ (others_waiting x.recorded who) (λ r there.
+    subst (λ tree. (not (list_any (meets (holds_by tree (changes_of r) [])) (acts_of_all tree cs)) && not (list_any (λ change. is_make change && has_made (changes_of r) (node_of change)) cs)) ≡ true) (sym agrees.tree)
     (spares-waiting x.files.tree (changes_of r) cs all (apart r there))))
     (subst (λ tree. apply_all tree cs ≡ true) (sym agrees.tree) all)) (subst (λ tree. list_all (is_new_in tree) cs ≡ true) (sym agrees.tree) new)
 
@@ -113,7 +113,7 @@ one-new tree (Cut node size pages) is = refl
 one-new tree (Move node parent name) is = refl
 one-new tree (Drop node) is = refl
 
-changes-recorded : (x : Present) (t : Transaction) → IsSoundFiles x → Agrees x → IsIn t (undecided x) → is_some_change (own_changes x.files.table.own t.id) ≡ true
+changes-recorded : (x : Present) (t : Transaction) → IsSoundFiles x → Agrees x → IsIn t (undecided x) → has_changes (own_changes x.files.table.own t.id) ≡ true
     → (are_recorded_changes (own_changes x.files.table.own t.id) ≡ true) × (changes_apply x.recorded (Some t.id) (own_changes x.files.table.own t.id) ≡ true)
 changes-recorded x t sound agrees there some =
     let mine = own_changes x.files.table.own t.id in (
@@ -144,7 +144,7 @@ settings-recorded x t sound agrees some = (
     | inl none ↦ absurd (true≢false (sym (subst (λ (ss : OwnSettings). not (length ss == 0) ≡ true) none some)))
     | inr (o, there, is, settings) ↦ subst (λ ss. are_good_settings ss ≡ true) settings (list_all-at (λ (p : Own). are_good_settings p.settings) x.keys.own sound.settings o there)
   ],
-  list_all-from _ (others x.recorded (Some t.id)) (λ r waits.
+  list_all-from _ (others_waiting x.recorded (Some t.id)) (λ r waits.
       let kept = IsIn-filter (λ r. not (is_decided r.stage) && not (same_id r.id t.id)) x.recorded.transactions r waits in
       let other : same_id r.id t.id ≡ false = not-true _ (and_parts (not (is_decided r.stage)) _ kept.1).1 in
       not_from_false _ (elim (recalled x agrees r kept.0).settings [

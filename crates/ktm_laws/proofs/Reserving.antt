@@ -9,14 +9,14 @@ use Rattle.ktm_base.specs.declared.id.Id.{Id}
 use Rattle.ktm_types.specs.declared.change.Change.{Change}
 use Rattle.ktm_types.specs.declared.change.Change.TheVariants.{Make, Put, Cut, Move, Drop}
 use Rattle.ktm_types.specs.declared.object.Transaction.{Transaction}
-use Rattle.ktm_world.specs.Changes.{changed_all, applies, apply_all, changes_bytes, is_make, node_of}
+use Rattle.ktm_world.specs.Changes.{changed_all, applies, apply_all, changes_bytes, is_make, node_of, has_made}
 use Rattle.ktm_world.specs.Committed.{Committed, with_change}
 use Rattle.ktm_world.specs.Conflicts.{changes_outdated, touches_plain_writer, overwrites_opened, conflicts, meets_other, holds_now, written_by, users, writes}
-use Rattle.ktm_world.specs.Durable.{acts_of, is_made_in}
+use Rattle.ktm_world.specs.Durable.{acts_of}
 use Rattle.ktm_world.specs.FileOutcome.{changing, files_after}
-use Rattle.ktm_world.specs.Files.{FilesNow, FirstOpen, OpenFile, OwnChanges, own_changes, has_made, first_open_of, fixed_bytes, first_bytes, bytes_after, committed_files}
+use Rattle.ktm_world.specs.Files.{FilesNow, FirstOpen, OpenFile, OwnChanges, own_changes, first_open_of, fixed_bytes, first_bytes, bytes_after, committed_files}
 use Rattle.ktm_world.specs.Holds.{Act, Holds, holds_by, directories_of, each_change, places_of, dropped_directory, moved_directory, is_place_in, is_in, meet_in, meets}
-use Rattle.ktm_world.specs.Lawful.{are_apart, is_alone, is_touched_by, others, undecided}
+use Rattle.ktm_world.specs.Lawful.{are_apart, is_alone, is_touched_by, others_undecided, undecided}
 use Rattle.ktm_world.specs.Present.{Present}
 use Rattle.ktm_world.specs.Transactions.{is_of, is_undecided, same_id}
 use Rattle.ktm_world.specs.Tree.{Tree, IsWellFormed, bytes_of, bytes_or_none, content_of}
@@ -109,7 +109,7 @@ own-apply x sound id = own_changes-by (λ cs. apply_all x.files.tree cs ≡ true
     list_all-at (λ (o : OwnChanges). apply_all x.files.tree o.changes) x.files.table.own sound.own_apply o there)
 
 -- an undecided transaction is one of the others
-pub in_others : (x : Present) (t u : Transaction) → IsIn u (undecided x) → same_id u.id t.id ≡ false → IsIn u (others x.transactions.items (Some t.id))
+pub in_others : (x : Present) (t u : Transaction) → IsIn u (undecided x) → same_id u.id t.id ≡ false → IsIn u (others_undecided x.transactions.items (Some t.id))
 in_others x t u there other =
     let kept = IsIn-filter (λ (v : Transaction). is_undecided v && not (is_of v.id None)) x.transactions.items u there in
     IsIn-kept (λ (v : Transaction). is_undecided v && not (is_of v.id (Some t.id))) x.transactions.items u kept.0
@@ -117,8 +117,8 @@ in_others x t u there other =
 
 pub holds-apart : (x : Present) → IsSoundFiles x → (t u : Transaction) → IsIn t (undecided x) → IsIn u (undecided x) → same_id t.id u.id ≡ false → are_apart (holds_now x.files t.id) (holds_now x.files u.id) ≡ true
 holds-apart x sound t u there there' other =
-    list_all-at (files_apart x t) (others x.transactions.items (Some t.id))
-    (list_all-at (λ (v : Transaction). list_all (files_apart x v) (others x.transactions.items (Some v.id))) (undecided x) sound.apart t there) u
+    list_all-at (files_apart x t) (others_undecided x.transactions.items (Some t.id))
+    (list_all-at (λ (v : Transaction). list_all (files_apart x v) (others_undecided x.transactions.items (Some v.id))) (undecided x) sound.apart t there) u
     (in_others x t u there' (same_id-sym t.id u.id other))
 
 -- also without the files that they have open
@@ -144,7 +144,7 @@ own-apart x sound t u there there' other =
 -- ---- what a plain call leaves
 
 -- no undecided transaction has made a node with the next number
-pub not-made : (x : Present) → IsSoundFiles x → (id : Id) (node : ℕ) → node ≡ x.files.table.next_node → is_made_in (own_changes x.files.table.own id) node ≡ false
+pub not-made : (x : Present) → IsSoundFiles x → (id : Id) (node : ℕ) → node ≡ x.files.table.next_node → has_made (own_changes x.files.table.own id) node ≡ false
 not-made x sound id node next = false_from_ne_true _ (λ made.
     let cs = own_changes x.files.table.own id in
     let found = list_any-at (λ change. is_make change && node_of change == node) cs made in
@@ -175,7 +175,7 @@ call-apart x sound who change act id other applies fresh acts none = elim (own_c
       (meeting_law x.files.tree mine (change ∷ []) (written_by x.files.table.opens id) (own-apply x sound id) (and_from _ _ applies refl)
       (subst (λ calls. list_any (meets (holds_now x.files id)) (calls ++ []) ≡ false) (sym acts) (or_from _ _ (misses x.files who act none id user other) refl))
       (or_from _ _ (false_from_ne_true _ (λ both.
-      let parts = and_parts (is_make change) (is_made_in mine (node_of change)) both in
+      let parts = and_parts (is_make change) (has_made mine (node_of change)) both in
       true≢false (sym parts.1 ∙ not-made x sound id (node_of change) (fresh parts.0)))) refl))
 ]
 

@@ -8,14 +8,14 @@ use Rattle.ktm_types.specs.declared.change.Change.TheVariants.{Make, Put, Cut, M
 use Rattle.ktm_types.specs.declared.recorded.Node.{Node}
 use Rattle.ktm_types.specs.declared.recorded.Stage.{Stage}
 use Rattle.ktm_types.specs.declared.object.Transaction.{Transaction}
-use Rattle.ktm_world.specs.Changes.{applies, apply_all, changes_bytes, is_make, node_of}
+use Rattle.ktm_world.specs.Changes.{applies, apply_all, changes_bytes, is_make, node_of, has_changes}
 use Rattle.ktm_world.specs.Committed.{changes_to_commit}
 use Rattle.ktm_world.specs.Conflicts.{holds_now}
-use Rattle.ktm_world.specs.Durable.{Durable, Recorded, changes_of, settings_of, has_changes_part, has_settings_part, is_decided, is_held, is_some_change, are_recorded_changes, stand, is_new_in}
+use Rattle.ktm_world.specs.Durable.{Durable, Recorded, changes_of, settings_of, has_changes_part, has_settings_part, is_decided, is_held, are_recorded_changes, stand, is_new_in}
 use Rattle.ktm_world.specs.Files.{OwnChanges, own_changes, first_bytes, bytes_with, bytes_seen, tree_of}
 use Rattle.ktm_world.specs.Holds.{holds_by, is_in}
 use Rattle.ktm_world.specs.Keys.{Own, OwnSettings, are_good_settings}
-use Rattle.ktm_world.specs.Lawful.{are_apart, others, undecided}
+use Rattle.ktm_world.specs.Lawful.{are_apart, others_undecided, undecided}
 use Rattle.ktm_world.specs.Logs.{Group}
 use Rattle.ktm_world.specs.Present.{Present}
 use Rattle.ktm_world.specs.Transactions.{is_of, is_undecided, same_id}
@@ -209,7 +209,7 @@ module _ (base : Durable) (room : ℕ) (log : List Group) (good : IsGoodState (s
   files-opened = record {
     own_undecided = each changed_by has_own_changes (λ o. is_undecided_in x.transactions.items o.transaction) (λ t there held some. undecided-back t there held);
     own_once = own-once;
-    own_some = each changed_by has_own_changes (λ o. is_some_change o.changes) (λ t there held some. is-some (changes_of t) some);
+    own_some = each changed_by has_own_changes (λ o. has_changes o.changes) (λ t there held some. is-some (changes_of t) some);
     own_final = All-by (λ (o : OwnChanges). changes_to_commit o.changes (bytes_seen x.files (Some o.transaction)) ≡ o.changes) own (λ o there.
         let k = kept changed_by has_own_changes o there in
         subst (λ (p : OwnChanges). changes_to_commit p.changes (bytes_seen x.files (Some p.transaction)) ≡ p.changes) k.is
@@ -252,14 +252,14 @@ module _ (base : Durable) (room : ℕ) (log : List Group) (good : IsGoodState (s
     opens_plain = refl;
     opens_own = refl;
     opens_files = refl;
-    apart = list_all-from _ (undecided x) (λ t there. list_all-from (files_apart x t) (others x.transactions.items (Some t.id)) (λ u there'.
+    apart = list_all-from _ (undecided x) (λ t there. list_all-from (files_apart x t) (others_undecided x.transactions.items (Some t.id)) (λ u there'.
         let filtered = IsIn-filter (λ (v : Transaction). is_undecided v && not (is_of v.id (Some t.id))) x.transactions.items u there' in
         let parts = and_parts (is_undecided u) (not (is_of u.id (Some t.id))) filtered.1 in
         two t u (waited t there) (waited u (IsIn-kept (λ (v : Transaction). is_undecided v && not (is_of v.id None)) x.transactions.items u filtered.0 (and_from _ _ parts.0 refl))) (not-true _ parts.1)));
     writers = refl;
   }
     where
-      is-some : (cs : List Change) → not (length cs == 0) ≡ true → is_some_change cs ≡ true
+      is-some : (cs : List Change) → not (length cs == 0) ≡ true → has_changes cs ≡ true
       is-some [] some = absurd (true≢false (sym some))
       is-some (c ∷ cs) some = refl
 

@@ -7,9 +7,9 @@ use Rattle.std.specs.Prelude.{nat_le}
 use Rattle.ktm_types.specs.declared.change.Change.{Change}
 use Rattle.ktm_types.specs.declared.change.Change.TheVariants.{Make, Put, Cut, Move, Drop}
 use Rattle.ktm_types.specs.declared.change.Contents.TheVariants.{Whole, Paged}
-use Rattle.ktm_world.specs.Changes.{changed, applies, apply_all, changes_bytes, is_whole, is_empty_list, node_of}
+use Rattle.ktm_world.specs.Changes.{changed, applies, apply_all, changes_bytes, is_whole, is_empty_list, node_of, has_changes}
 use Rattle.ktm_world.specs.Committed.{written_after, written_files, final_bytes, changes_to_commit}
-use Rattle.ktm_world.specs.Durable.{are_final_bytes, ends_in_bytes, gives_bytes, is_some_change, made_files, are_recorded_changes}
+use Rattle.ktm_world.specs.Durable.{are_final_bytes, ends_in_bytes, gives_bytes, made_files, are_recorded_changes}
 use Rattle.ktm_world.specs.Files.{bytes_after}
 use Rattle.ktm_world.specs.Tree.{Tree}
 use Rattle.ktm_laws.specs.FinalChanges.{names_of}
@@ -139,11 +139,11 @@ final-node file (b ∷ bs) c (inr (inr none)) = absurd none
 final-form : (cs : List Change) → list_all is_spelled cs ≡ true → are_recorded_changes cs ≡ true → (by : ℕ → List ℕ) × (changes_to_commit cs by ≡ cs)
 final-form cs spelled recorded = (by, ap (λ fs. names_of cs ++ ends_of by fs) files-are ∙ sym whole)
   where
-    parts : ((is_some_change cs && ends_in_bytes cs) ≡ true) × (list_all (gives_bytes cs) (made_files cs) ≡ true)
-    parts = and_parts (is_some_change cs && ends_in_bytes cs) (list_all (gives_bytes cs) (made_files cs)) recorded
+    parts : ((has_changes cs && ends_in_bytes cs) ≡ true) × (list_all (gives_bytes cs) (made_files cs) ≡ true)
+    parts = and_parts (has_changes cs && ends_in_bytes cs) (list_all (gives_bytes cs) (made_files cs)) recorded
 
     p : Parted cs
-    p = parted cs spelled (and_parts (is_some_change cs) (ends_in_bytes cs) parts.0).1
+    p = parted cs spelled (and_parts (has_changes cs) (ends_in_bytes cs) parts.0).1
 
     by : ℕ → List ℕ
     by = (p.ends).by
@@ -208,7 +208,7 @@ ends-last (c ∷ cs) ends all final = elim (cases_Bool (changes_bytes c)) [
 ]
 
 -- changes in the form in which they are committed may be recorded, if there are any
-pub recorded-form : (cs : List Change) (by : ℕ → List ℕ) → changes_to_commit cs by ≡ cs → is_some_change cs ≡ true → are_recorded_changes cs ≡ true
+pub recorded-form : (cs : List Change) (by : ℕ → List ℕ) → changes_to_commit cs by ≡ cs → has_changes cs ≡ true → are_recorded_changes cs ≡ true
 recorded-form cs by final some = and_from _ _ (and_from _ _ some
     (subst (λ ds. ends_in_bytes ds ≡ true) final (ends-last cs (ends_of by (written_files cs)) (ends-bytes by (written_files cs)) (ends-rise by (written_files cs) 0 (rising-written cs [] tt) (λ n there. omega arith)))))
     (list_all-from (gives_bytes cs) (made_files cs) (λ n made.

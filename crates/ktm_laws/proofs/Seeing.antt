@@ -7,10 +7,10 @@ use Rattle.ktm_base.specs.declared.id.Id.{Id}
 use Rattle.ktm_types.specs.declared.change.Change.{Change}
 use Rattle.ktm_types.specs.declared.recorded.Node.{Node}
 use Rattle.ktm_types.specs.declared.object.Transaction.{Transaction}
-use Rattle.ktm_world.specs.Changes.{applies, apply_all, changes_bytes, is_make, node_of}
+use Rattle.ktm_world.specs.Changes.{applies, apply_all, changes_bytes, is_make, node_of, has_made}
 use Rattle.ktm_world.specs.Conflicts.{conflicts, changes_outdated, holds_now, is_outdated, meets_other, overwrites_opened, touches_plain_writer, users, written_by, writes}
 use Rattle.ktm_world.specs.Durable.{acts_of}
-use Rattle.ktm_world.specs.Files.{FilesNow, FirstOpen, OpenFile, OwnChanges, own_changes, has_made, first_open_of, is_last_version, tree_seen, bytes_seen}
+use Rattle.ktm_world.specs.Files.{FilesNow, FirstOpen, OpenFile, OwnChanges, own_changes, first_open_of, is_last_version, tree_seen, bytes_seen}
 use Rattle.ktm_world.specs.Holds.{Act, holds_by, file_changed, file_touched, is_in, meets}
 use Rattle.ktm_world.specs.Present.{Present}
 use Rattle.ktm_world.specs.Transactions.{is_of, same_id}

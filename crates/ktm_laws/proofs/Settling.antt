@@ -22,11 +22,12 @@ use Rattle.ktm_world.specs.Enlistments.{Manager, Sent, notes_for, taken_count, E
 use Rattle.ktm_world.specs.Files.{FileTable, OwnChanges, own_changes, without_transaction}
 use Rattle.ktm_world.specs.Keys.{Own, own_settings, without_own}
 use Rattle.ktm_world.specs.Outcome.{Outcome, only_reply, served, apply, joined}
-use Rattle.ktm_world.specs.Phases.{Course, has_changes, has_settings}
+use Rattle.ktm_world.specs.Phases.{Course, has_settings, is_single_phase}
 use Rattle.ktm_world.specs.Present.{Present}
-use Rattle.ktm_world.specs.TransactionCalls.{course_of, arrived, is_one_phase}
+use Rattle.ktm_world.specs.TransactionCalls.{course_of, arrived}
 use Rattle.ktm_world.specs.Transactions.{same_id, is_undecided}
 use Rattle.ktm_world.proofs.Durables.{after_events-append}
+use Rattle.ktm_world.specs.Changes.{has_changes}
 use Rattle.ktm_laws.specs.Footprint.{IsIn}
 use Rattle.ktm_laws.specs.SoundCourse.{IsSoundCourse, is_object_there, is_note_of, is_outcome_of, is_alone_in_one_phase, is_counted, has_manager}
 use Rattle.ktm_laws.specs.Outcomes.{OutcomesStay}
@@ -109,7 +110,7 @@ sound-only_reply x reply sound = record { settled = sound; events = NoBoots-none
 -- ---- own changes and settings
 
 pub sound-own : (x : Present) (table : FileTable) (own : List Own) → IsSoundCourse x
-    → ((t : Transaction) → IsIn t (x.transactions).items → is_one_phase t.phase ≡ true → (own_changes table.own t.id ≡ own_changes ((x.files).table).own t.id) × (own_settings own t.id ≡ own_settings (x.keys).own t.id))
+    → ((t : Transaction) → IsIn t (x.transactions).items → is_single_phase t.phase ≡ true → (own_changes table.own t.id ≡ own_changes ((x.files).table).own t.id) × (own_settings own t.id ≡ own_settings (x.keys).own t.id))
     → IsSoundCourse (record x { files = record x.files { table = table }; keys = record x.keys { own = own } })
 sound-own x table own sound same = record {
   transactions_rise = sound.transactions_rise;
@@ -133,9 +134,9 @@ sound-own x table own sound same = record {
   superiors = sound.superiors;
   enlistments = sound.enlistments;
   awaited = sound.awaited;
-  alone = list_all-from (is_alone_in_one_phase (record x { files = record x.files { table = table }; keys = record x.keys { own = own } })) (x.transactions).items (λ t there. elim (cases_Bool (is_one_phase t.phase)) [
+  alone = list_all-from (is_alone_in_one_phase (record x { files = record x.files { table = table }; keys = record x.keys { own = own } })) (x.transactions).items (λ t there. elim (cases_Bool (is_single_phase t.phase)) [
     | inr several ↦ or_left _ _ (not_from_false _ several)
-    | inl one ↦ (λ i. not (is_one_phase t.phase) || (not (has_changes ((same t there one).0 i)) && not (has_settings ((same t there one).1 i)))) ∙ list_all-at (is_alone_in_one_phase x) (x.transactions).items sound.alone t there
+    | inl one ↦ (λ i. not (is_single_phase t.phase) || (not (has_changes ((same t there one).0 i)) && not (has_settings ((same t there one).1 i)))) ∙ list_all-at (is_alone_in_one_phase x) (x.transactions).items sound.alone t there
   ]);
   recorded = sound.recorded;
   unrecovered = sound.unrecovered;
@@ -177,7 +178,7 @@ own_settings-without (o ∷ os) id other differs = elim (cases_Bool (same_id o.t
 
 -- ---- a course has arrived
 
-undecided-one : (phase : Phase) (t : Transaction) → is_one_phase phase ≡ true → is_outcome_of phase t ≡ true → is_undecided t ≡ true
+undecided-one : (phase : Phase) (t : Transaction) → is_single_phase phase ≡ true → is_outcome_of phase t ≡ true → is_undecided t ≡ true
 undecided-one SinglePhase t one is = is
 undecided-one _ t one is = absurd (true≢false (sym one))
 

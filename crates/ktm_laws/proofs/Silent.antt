@@ -12,13 +12,14 @@ use Rattle.ktm_types.specs.declared.object.TransactionOutcome.TheVariants.{Abort
 use Rattle.ktm_types.specs.declared.recorded.Stage.{Stage}
 use Rattle.ktm_types.specs.declared.reply.Reply.{Reply}
 use Rattle.ktm_world.specs.Enlistments.{Enlistment, Sent, commit, has_id, is_durable_at, is_superior, is_unfinished, rollback, superior_of, takes_part, with_enlistments}
-use Rattle.ktm_world.specs.Lawful.{Agrees, brought_back, is_held_stage, is_ready_stage, stage_in, stays, superior_now}
+use Rattle.ktm_world.specs.Lawful.{Agrees, brought_back, is_held_stage, stage_in, stays, superior_now}
 use Rattle.ktm_world.specs.Outcome.{apply}
-use Rattle.ktm_world.specs.Phases.{Course, brought_back as returned, ended, finished, owing, recovered, recovered_in, rollback_answered, single_phase_rejected, telling, unchanged}
+use Rattle.ktm_world.specs.Phases.{Course, recovering, ended, finished, owing, recovered, recovered_in, rollback_answered, single_phase_rejected, telling, unchanged}
 use Rattle.ktm_world.specs.Present.{Present}
 use Rattle.ktm_world.specs.TransactionCalls.{arrived, course_of}
 use Rattle.ktm_world.specs.Transactions.{same_id}
 use Rattle.ktm_world.specs.World.{by_rising_id}
+use Rattle.ktm_world.specs.Durable.{is_ready}
 use Rattle.ktm_laws.specs.Footprint.{IsIn}
 use Rattle.ktm_laws.specs.SoundCourse.{IsSoundCourse}
 use Rattle.ktm_laws.proofs.Following.{agrees-arrived, begun, course_in, course_summaries, follows-from, front, rest, was}
@@ -86,7 +87,7 @@ in-alike c step sent alike None = refl
 in-alike c step sent alike (Some stage) = ap (λ s. filter stays (s ∷ [])) (λ i. record {
   id = c.transaction.id;
   stage = stage;
-  superior = if is_ready_stage stage then None else superior-alike c.transaction.id step alike c.enlistments i;
+  superior = if is_ready stage then None else superior-alike c.transaction.id step alike c.enlistments i;
   enlistments = by_rising_id (kept-alike c step alike c.enlistments i);
   changes = if is_held_stage stage then c.changes else [];
   settings = if is_held_stage stage then c.settings else [];
@@ -136,7 +137,7 @@ silent-recovered c e = if_cases (λ x. IsSilent c x) (is_superior e) (telling d 
     (λ above. told Notify.RecoverQuery unchanged (λ f. alike-same f)) (λ below. in-phase c.transaction.phase)
   where
     d : Course
-    d = returned c e
+    d = recovering c e
 
     back : IsSilent c d
     back = silent-changing c (has_id e.id) (λ f. record f { is_recovered = true }) c.sent (λ f. record { back = refl; kind = refl; read_only = refl; prepared = refl; finished = refl })

@@ -7,8 +7,8 @@ use Rattle.ktm_types.specs.declared.change.Change.{Change}
 use Rattle.ktm_types.specs.declared.event.DonePart.{DonePart}
 use Rattle.ktm_types.specs.declared.event.Part.{Part}
 use Rattle.ktm_types.specs.declared.event.Part.TheVariants.{Enlistment, Changes, Settings}
-use Rattle.ktm_world.specs.Changes.{changed_all, apply_all, node_of, is_make}
-use Rattle.ktm_world.specs.Durable.{Durable, Recorded, is_decided, is_part_of, changes_in, settings_in, changes_of, settings_of, has_changes_part, has_settings_part, is_some_change, is_new_in, holds_in, acts_of_all, is_made_in, others, changes_apply, settings_apply}
+use Rattle.ktm_world.specs.Changes.{changed_all, apply_all, node_of, is_make, has_changes, has_made}
+use Rattle.ktm_world.specs.Durable.{Durable, Recorded, is_decided, is_part_of, changes_in, settings_in, changes_of, settings_of, has_changes_part, has_settings_part, is_new_in, holds_in, acts_of_all, others_waiting, changes_apply, settings_apply}
 use Rattle.ktm_world.specs.Holds.{meets}
 use Rattle.ktm_keyed.specs.Keyed.{is_rising}
 use Rattle.ktm_world.specs.Keys.{OwnSettings, is_good_setting, are_good_settings}
@@ -46,12 +46,12 @@ pub no_settings_part : (t : Recorded) → has_settings_part t ≡ false → sett
 no_settings_part t none = gathered-none settings_in (is_part_of DonePart.Keys) settings_in-none t.parts none
 
 pub no_changes-left : (t : Recorded) → are_kept_changes t ≡ true → is_decided t.stage ≡ true → changes_of t ≡ []
-no_changes-left t kept decided = go (changes_of t) (elim (or_cases _ _ (and_parts (not (is_decided t.stage) || not (is_some_change (changes_of t))) _ kept).0) [
+no_changes-left t kept decided = go (changes_of t) (elim (or_cases _ _ (and_parts (not (is_decided t.stage) || not (has_changes (changes_of t))) _ kept).0) [
   | inl waits ↦ absurd (true≢false (sym decided ∙ not-true _ waits))
   | inr none ↦ not-true _ none
 ])
   where
-    go : (cs : List Change) → is_some_change cs ≡ false → cs ≡ []
+    go : (cs : List Change) → has_changes cs ≡ false → cs ≡ []
     go [] none = refl
     go (c ∷ cs) none = absurd (true≢false none)
 
@@ -80,32 +80,32 @@ settings-of-good t kept = elim (or_cases (is_decided t.stage || not (has_setting
 
 -- ---- others that wait
 
-pub in_others-plain : (s : Durable) (u : Recorded) → IsIn u s.transactions → is_decided u.stage ≡ false → IsIn u (others s None)
+pub in_others-plain : (s : Durable) (u : Recorded) → IsIn u s.transactions → is_decided u.stage ≡ false → IsIn u (others_waiting s None)
 in_others-plain s u there waiting = IsIn-kept waits s.transactions u there (not_from_false _ waiting)
 
-pub in_others : (s : Durable) (id : Id) (u : Recorded) → IsIn u s.transactions → is_decided u.stage ≡ false → (u.id ≡ id → ⊥) → IsIn u (others s (Some id))
+pub in_others : (s : Durable) (id : Id) (u : Recorded) → IsIn u s.transactions → is_decided u.stage ≡ false → (u.id ≡ id → ⊥) → IsIn u (others_waiting s (Some id))
 in_others s id u there waiting other =
     IsIn-kept (λ t. not (is_decided t.stage) && not (same_id t.id id)) s.transactions u there
     (and_from _ _ (not_from_false _ waiting) (not_from_false _ (false_from_ne_true _ (λ same. other (same_id-equal u.id id same)))))
 
 pub changes_apply-all : (s : Durable) (who : Option Id) (cs : List Change) → changes_apply s who cs ≡ true → apply_all s.tree cs ≡ true
-changes_apply-all s who cs apply = (and_parts (list_all _ (others s who)) (apply_all s.tree cs) (and_parts _ (list_all (is_new_in s.tree) cs) apply).0).1
+changes_apply-all s who cs apply = (and_parts (list_all _ (others_waiting s who)) (apply_all s.tree cs) (and_parts _ (list_all (is_new_in s.tree) cs) apply).0).1
 
 -- and the nodes that they make are new
 pub changes_apply-new : (s : Durable) (who : Option Id) (cs : List Change) → changes_apply s who cs ≡ true → list_all (is_new_in s.tree) cs ≡ true
 changes_apply-new s who cs apply = (and_parts _ (list_all (is_new_in s.tree) cs) apply).1
 
 -- changes that apply are apart from those of others that wait
-pub changes_apply-apart : (s : Durable) (who : Option Id) (cs : List Change) → changes_apply s who cs ≡ true → (u : Recorded) → IsIn u (others s who) → apply_all s.tree (changes_of u) ≡ true
+pub changes_apply-apart : (s : Durable) (who : Option Id) (cs : List Change) → changes_apply s who cs ≡ true → (u : Recorded) → IsIn u (others_waiting s who) → apply_all s.tree (changes_of u) ≡ true
     → AreFootprintsApart (footprint s.tree cs) (footprint s.tree (changes_of u))
 changes_apply-apart s who cs apply u there all =
-    let parts = and_parts (list_all (λ t. not (list_any (meets (holds_in s t)) (acts_of_all s.tree cs)) && not (list_any (λ change. is_make change && is_made_in (changes_of t) (node_of change)) cs)) (others s who)) (apply_all s.tree cs) (and_parts _ (list_all (is_new_in s.tree) cs) apply).0 in
-    let both = and_parts (not (list_any (meets (holds_in s u)) (acts_of_all s.tree cs))) (not (list_any (λ change. is_make change && is_made_in (changes_of u) (node_of change)) cs)) (list_all-at _ (others s who) parts.0 u there) in
+    let parts = and_parts (list_all (λ t. not (list_any (meets (holds_in s t)) (acts_of_all s.tree cs)) && not (list_any (λ change. is_make change && has_made (changes_of t) (node_of change)) cs)) (others_waiting s who)) (apply_all s.tree cs) (and_parts _ (list_all (is_new_in s.tree) cs) apply).0 in
+    let both = and_parts (not (list_any (meets (holds_in s u)) (acts_of_all s.tree cs))) (not (list_any (λ change. is_make change && has_made (changes_of u) (node_of change)) cs)) (list_all-at _ (others_waiting s who) parts.0 u there) in
     AreFootprintsApart-sym (footprint s.tree (changes_of u)) (footprint s.tree cs)
     (meeting_law s.tree (changes_of u) cs [] all parts.1 (not-true _ both.0) (not-true _ both.1))
 
-pub settings_apply-apart : (s : Durable) (who : Option Id) (ss : OwnSettings) → settings_apply s who ss ≡ true → (u : Recorded) → IsIn u (others s who) → set_both ss (settings_of u) ≡ false
-settings_apply-apart s who ss apply u there = not-true _ (list_all-at (λ t. not (set_both ss (settings_of t))) (others s who) apply u there)
+pub settings_apply-apart : (s : Durable) (who : Option Id) (ss : OwnSettings) → settings_apply s who ss ≡ true → (u : Recorded) → IsIn u (others_waiting s who) → set_both ss (settings_of u) ≡ false
+settings_apply-apart s who ss apply u there = not-true _ (list_all-at (λ t. not (set_both ss (settings_of t))) (others_waiting s who) apply u there)
 
 pub apart-from-none : (tree : Tree) (cs : List Change) → AreFootprintsApart (footprint tree []) (footprint tree cs)
 apart-from-none tree cs = record {

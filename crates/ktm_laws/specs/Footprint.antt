@@ -2,8 +2,8 @@
 use Rattle.std.specs.Prelude.{◌≡◌, ◌⊎◌, ℕ, ◌&&◌, true, false, List, [], ◌∷◌, map}
 use Rattle.std.specs.List.{list_any}
 use Rattle.ktm_types.specs.declared.change.Change.{Change}
-use Rattle.ktm_world.specs.Changes.{changed_all, apply_all, is_make, node_of}
-use Rattle.ktm_world.specs.Durable.{acts_of_all, is_made_in}
+use Rattle.ktm_world.specs.Changes.{changed_all, apply_all, is_make, node_of, has_made}
+use Rattle.ktm_world.specs.Durable.{acts_of_all}
 use Rattle.ktm_world.specs.Holds.{Place, each_change, holds_by, meets, same_place, places_of, dropped_directory, moved_directory}
 use Rattle.ktm_world.specs.Tree.{Tree, IsWellFormed}
 
@@ -50,5 +50,5 @@ ListsLaw = (tree : Tree) (bs cs : List Change) → IsWellFormed tree → apply_a
 -- changes that meet no hold of others on the same tree, and make no node that those make, are apart from them, whatever files those have open for writing
 abbrev pub MeetingLaw : Type 0
 MeetingLaw = (tree : Tree) (bs cs : List Change) (writes : List ℕ) → apply_all tree bs ≡ true → apply_all tree cs ≡ true
-    → list_any (meets (holds_by tree bs writes)) (acts_of_all tree cs) ≡ false → list_any (λ c. is_make c && is_made_in bs (node_of c)) cs ≡ false
+    → list_any (meets (holds_by tree bs writes)) (acts_of_all tree cs) ≡ false → list_any (λ c. is_make c && has_made bs (node_of c)) cs ≡ false
     → AreFootprintsApart (footprint tree bs) (footprint tree cs)

@@ -10,8 +10,8 @@ use Rattle.ktm_types.specs.declared.event.DonePart.{DonePart}
 use Rattle.ktm_keyed.specs.declared.keyed.Keyed.{Keyed}
 use Rattle.ktm_types.specs.declared.event.Part.{Part}
 use Rattle.ktm_types.specs.declared.event.Part.TheVariants.{Enlistment}
-use Rattle.ktm_world.specs.Changes.{apply_all, bytes_in, is_empty_list, is_make, node_of}
-use Rattle.ktm_world.specs.Durable.{Durable, Recorded, is_ready, is_held, is_decided, changes_of, settings_of, enlistments_of, is_before, holds_in, is_part_of, is_sole, is_manager, is_new_in, is_some_change, are_recorded_changes, has_changes_part, has_settings_part, has_part, waiting, is_within_limits}
+use Rattle.ktm_world.specs.Changes.{apply_all, bytes_in, is_empty_list, is_make, node_of, has_changes}
+use Rattle.ktm_world.specs.Durable.{Durable, Recorded, is_ready, is_held, is_decided, changes_of, settings_of, enlistments_of, is_before, holds_in, is_part_of, is_sole, is_manager, is_new_in, are_recorded_changes, has_changes_part, has_settings_part, has_part, waiting, is_within_limits}
 use Rattle.ktm_keyed.specs.Keyed.{is_rising}
 use Rattle.ktm_world.specs.Keys.{are_good_settings, is_bad_key, is_bad_value}
 use Rattle.ktm_world.specs.Lawful.{are_apart, set_both}
@@ -74,7 +74,7 @@ is_done_well t p = not p.is_done || (is_decided t.stage && is_sole p.part)
 
 -- a decided transaction has no changes left, and the changes of any other have the form in which they are recorded
 abbrev pub are_kept_changes : Recorded → Bool
-are_kept_changes t = (not (is_decided t.stage) || not (is_some_change (changes_of t))) && (is_decided t.stage || not (has_changes_part t) || are_recorded_changes (changes_of t))
+are_kept_changes t = (not (is_decided t.stage) || not (has_changes (changes_of t))) && (is_decided t.stage || not (has_changes_part t) || are_recorded_changes (changes_of t))
 
 -- a decided transaction has no settings left, and the settings of any other may be recorded
 abbrev pub are_kept_settings : Recorded → Bool

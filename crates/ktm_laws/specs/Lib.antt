@@ -23,3 +23,4 @@ pub mod SoundCourse
 pub mod SoundCourses
 pub mod SoundFiles
 pub mod SoundWorlds
+pub mod Kept

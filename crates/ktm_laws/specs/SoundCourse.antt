@@ -15,10 +15,11 @@ use Rattle.ktm_world.specs.Files.{own_changes}
 use Rattle.ktm_world.specs.HandleCalls.{is_handle}
 use Rattle.ktm_world.specs.Keys.{own_settings}
 use Rattle.ktm_world.specs.Limits.{most_information, most_number}
-use Rattle.ktm_world.specs.Phases.{has_changes, has_settings}
+use Rattle.ktm_world.specs.Phases.{has_settings, is_single_phase}
 use Rattle.ktm_world.specs.Present.{Present}
-use Rattle.ktm_world.specs.TransactionCalls.{is_in_doubt, is_one_phase}
+use Rattle.ktm_world.specs.TransactionCalls.{is_in_doubt}
 use Rattle.ktm_world.specs.Transactions.{same_id, is_committed, is_aborted, is_undecided}
+use Rattle.ktm_world.specs.Changes.{has_changes}
 use Rattle.ktm_laws.specs.GoodState.{each_pair}
 
 -- ---- Ids
@@ -187,7 +188,7 @@ is_recorded_as_asked ms es t = is_recorded_as t.phase ms es t.id t.is_recorded
 
 -- has a transaction that one enlistment commits in one phase changed and set nothing of its own
 abbrev pub is_alone_in_one_phase : Present → Transaction → Bool
-is_alone_in_one_phase x t = not (is_one_phase t.phase) || (not (has_changes (own_changes x.files.table.own t.id)) && not (has_settings (own_settings x.keys.own t.id)))
+is_alone_in_one_phase x t = not (is_single_phase t.phase) || (not (has_changes (own_changes x.files.table.own t.id)) && not (has_settings (own_settings x.keys.own t.id)))
 
 -- ---- all of it
 

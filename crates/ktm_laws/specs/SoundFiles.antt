@@ -6,17 +6,16 @@ use Rattle.ktm_types.specs.declared.change.Change.{Change}
 use Rattle.ktm_types.specs.declared.recorded.Node.{Node}
 use Rattle.ktm_types.specs.declared.object.Object.{Object}
 use Rattle.ktm_types.specs.declared.object.Transaction.{Transaction}
-use Rattle.ktm_world.specs.Changes.{apply_all, changes_bytes, is_drop, is_make, node_of}
+use Rattle.ktm_world.specs.Changes.{apply_all, changes_bytes, is_drop, is_make, node_of, has_changes, has_made}
 use Rattle.ktm_world.specs.Committed.{Version, version_of, changes_to_commit}
 use Rattle.ktm_world.specs.Conflicts.{holds_now, writes}
-use Rattle.ktm_world.specs.Durable.{is_some_change}
-use Rattle.ktm_world.specs.Files.{FilesNow, FirstOpen, OpenFile, OwnChanges, own_changes, has_made, first_open_of, is_last_version, tree_of, tree_seen, bytes_seen}
+use Rattle.ktm_world.specs.Files.{FilesNow, FirstOpen, OpenFile, OwnChanges, own_changes, first_open_of, is_last_version, tree_of, tree_seen, bytes_seen}
 use Rattle.ktm_world.specs.HandleCalls.{has_handle}
 use Rattle.ktm_world.specs.Holds.{is_in}
 use Rattle.ktm_world.specs.Keys.{Own, are_good_settings, own_settings}
 use Rattle.ktm_keyed.specs.Keyed.{is_rising}
 use Rattle.ktm_world.specs.Labels.{holds_of}
-use Rattle.ktm_world.specs.Lawful.{are_apart, set_both, is_alone, others, undecided}
+use Rattle.ktm_world.specs.Lawful.{are_apart, set_both, is_alone, others_undecided, undecided}
 use Rattle.ktm_world.specs.Present.{Present}
 use Rattle.ktm_world.specs.Transactions.{same_id, is_undecided, transaction_at}
 use Rattle.ktm_world.specs.Tree.{Tree, IsWellFormed, bytes_of, is_directory, is_file, is_there, node_at}
@@ -42,7 +41,7 @@ set_apart x t u = not (set_both (own_settings x.keys.own t.id) (own_settings x.k
 
 -- do no two undecided transactions set the same key
 abbrev pub all_set_apart : Present → Bool
-all_set_apart x = list_all (λ t. list_all (set_apart x t) (others x.transactions.items (Some t.id))) (undecided x)
+all_set_apart x = list_all (λ t. list_all (set_apart x t) (others_undecided x.transactions.items (Some t.id))) (undecided x)
 
 -- the committed keys are good, and what waits is set by undecided transactions, by each in one entry, and no key by two
 pub record IsSoundKeys (x : Present) : Type 0 where
@@ -144,7 +143,7 @@ files_apart x t u = are_apart (holds_now x.files t.id) (holds_now x.files u.id)
 
 -- do no two undecided transactions hold the same of the files
 abbrev pub all_files_apart : Present → Bool
-all_files_apart x = list_all (λ t. list_all (files_apart x t) (others x.transactions.items (Some t.id))) (undecided x)
+all_files_apart x = list_all (λ t. list_all (files_apart x t) (others_undecided x.transactions.items (Some t.id))) (undecided x)
 
 -- what undecided transactions changed of the files applies and is in its last form, what they opened they may write, and nobody holds
 -- what another holds
@@ -154,7 +153,7 @@ pub record IsSoundFiles (x : Present) : Type 0 where
   -- it has one entry
   pub own_once : each_pair changed_by_two x.files.table.own ≡ true
   -- its changes are some
-  pub own_some : list_all (λ o. is_some_change o.changes) x.files.table.own ≡ true
+  pub own_some : list_all (λ o. has_changes o.changes) x.files.table.own ≡ true
   -- they are in the form in which they are committed
   pub own_final : All (λ o. changes_to_commit o.changes (bytes_seen x.files (Some o.transaction)) ≡ o.changes) x.files.table.own
   -- they apply to the committed files

@@ -8,7 +8,7 @@ use Rattle.ktm_types.specs.declared.options.Disposition.{Disposition}
 use Rattle.ktm_types.specs.declared.options.ShareMode.{ShareMode}
 use Rattle.ktm_types.specs.declared.reply.Reply.TheVariants.{Refused, Done, Guid, Information, Restarted}
 use Rattle.ktm_types.specs.declared.reply.TransactionState.{TransactionState}
-use Rattle.ktm_world.specs.Scripts.{Answered, blank, p, p1, p2, tick, crash, restart, bad_line, h1, h2, h5, h6, transaction_guid}
+use Rattle.ktm_world.specs.Scripts.{Answered, blank, p, p1, p2, time_passes, crash, restart, bad_line, h1, h2, h5, h6, transaction_guid}
 
 -- a transaction rolls back with its last handle, also where its first process has ended
 abbrev pub HandlesAndExit : Type 0
@@ -35,7 +35,7 @@ LinesAndMachine = Answered blank (
     ∷ (crash, Done)
     ∷ (p1 Exit, Refused MachineDown)
     ∷ (bad_line, Refused BadLine)
-    ∷ (tick 5, Refused MachineDown)
+    ∷ (time_passes 5, Refused MachineDown)
     ∷ (crash, Refused MachineDown)
     ∷ (restart 1, Restarted 1 0)
     ∷ (p1 (CloseHandle h1), Refused InvalidHandle)

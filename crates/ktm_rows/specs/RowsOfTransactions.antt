@@ -11,7 +11,7 @@ use Rattle.ktm_types.specs.declared.options.EnlistmentKind.{EnlistmentKind}
 use Rattle.ktm_types.specs.declared.options.ShareMode.{ShareMode}
 use Rattle.ktm_types.specs.declared.reply.Reply.TheVariants.{Refused, Done, Guid, Committed, Pending, Information, Contents, Restarted}
 use Rattle.ktm_types.specs.declared.reply.TransactionState.{TransactionState}
-use Rattle.ktm_world.specs.Scripts.{Answered, blank, p1, tick, crash, restart, h1, h2, h3, h4, h9, transaction_guid, manager_guid, enlistment_guid, told}
+use Rattle.ktm_world.specs.Scripts.{Answered, blank, p1, time_passes, crash, restart, h1, h2, h3, h4, h9, transaction_guid, manager_guid, enlistment_guid, told}
 
 -- an enlistment that rolls back before it has prepared aborts the transaction, also for one that has prepared
 abbrev pub VoteAgainst : Type 0
@@ -92,9 +92,9 @@ Timeout = Answered blank (
     ∷ (p1 (GetNotificationResourceManager h1), told Notify.PrePrepare 1)
     ∷ (p1 (PrePrepareComplete h3), Done)
     ∷ (p1 (GetNotificationResourceManager h1), told Notify.Prepare 1)
-    ∷ (tick 99, Done)
+    ∷ (time_passes 99, Done)
     ∷ (p1 (GetTransactionInformation h2), Information (transaction_guid 1) TransactionState.Normal TransactionOutcome.Undetermined)
-    ∷ (tick 1, Done)
+    ∷ (time_passes 1, Done)
     ∷ (p1 (GetNotificationResourceManager h1), told Notify.Rollback 1)
     ∷ (p1 (PrepareComplete h3), Refused TransactionRequestNotValid)
     ∷ (p1 (RollbackComplete h3), Done)

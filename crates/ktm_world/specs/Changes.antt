@@ -85,6 +85,15 @@ abbrev pub is_make : Change → Bool
 is_make (Make node parent kind name) = true
 is_make _ = false
 
+-- do the changes make the node
+abbrev pub has_made : List Change → ℕ → Bool
+has_made changes node = list_any (λ change. is_make change && node_of change == node) changes
+
+-- are there any changes
+abbrev pub has_changes : List Change → Bool
+has_changes [] = false
+has_changes (change ∷ changes) = true
+
 -- does the change make a file
 abbrev pub is_make_of_file : Change → Bool
 is_make_of_file (Make node parent File name) = true

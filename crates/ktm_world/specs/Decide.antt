@@ -13,7 +13,7 @@ use Rattle.ktm_types.specs.declared.event.Event.TheVariants.{Plain}
 use Rattle.ktm_types.specs.declared.object.Object.{Object}
 use Rattle.ktm_types.specs.declared.reply.Reply.TheVariants.{Done}
 use Rattle.ktm_world.specs.Outcome.{first_refusal, Outcome, only_reply, refuse_or, within_log}
-use Rattle.ktm_world.specs.Enlistments.{owes_pre_prepare, owes_prepare, owes_commit, owes_rollback}
+use Rattle.ktm_world.specs.Enlistments.{is_live_enlistment, owes_pre_prepare, owes_prepare, owes_commit, owes_rollback}
 use Rattle.ktm_world.specs.FileCalls.{create_file_tests, create_file, read_file_tests, read_file, write_access_test, write_file_tests, write_file, set_end_tests, set_end, get_size, flush_file, delete_file_tests, delete_file, create_directory_tests, create_directory, remove_directory_tests, remove_directory, move_file_tests, move_file, find_files_tests, find_files}
 use Rattle.ktm_world.specs.FileOutcome.{FileOutcome, works_of, openings_of, table_after}
 use Rattle.ktm_world.specs.Files.{OpenFile}
@@ -22,7 +22,7 @@ use Rattle.ktm_world.specs.KeyCalls.{KeyOutcome, kv_set_tests, kv_set, kv_unset_
 use Rattle.ktm_world.specs.Labels.{transaction_named, manager_named, enlistment_named, file_named, invalid_handle, transaction_tests, view_tests, viewer, file_tests, id_of_named, binding}
 use Rattle.ktm_world.specs.Present.{Present}
 use Rattle.ktm_world.specs.Uses.{file_room, key_room}
-use Rattle.ktm_world.specs.TransactionCalls.{bound_test, create_transaction_tests, create_transaction, open_transaction_tests, open_transaction, commit_transaction, rollback_transaction_tests, rollback_transaction, get_transaction_information, create_resource_manager_tests, create_resource_manager, open_resource_manager_tests, open_resource_manager, recover_resource_manager, get_notification_tests, get_notification, create_enlistment_tests, create_enlistment, open_enlistment_tests, open_enlistment, enlistment_tests, superior_tests, may_recover, may_vote, may_reject_one_phase, may_roll_back_by, before_pre_prepare, before_prepare, waits_for_superior, is_live_now, recover_enlistment, pre_prepare_complete, prepare_complete, read_only_enlistment, commit_complete, rollback_complete, single_phase_reject, rollback_enlistment, pre_prepare_enlistment, prepare_enlistment, commit_enlistment, set_information_tests, set_information, get_information}
+use Rattle.ktm_world.specs.TransactionCalls.{bound_test, create_transaction_tests, create_transaction, open_transaction_tests, open_transaction, commit_transaction, rollback_transaction_tests, rollback_transaction, get_transaction_information, create_resource_manager_tests, create_resource_manager, open_resource_manager_tests, open_resource_manager, recover_resource_manager, get_notification_tests, get_notification, create_enlistment_tests, create_enlistment, open_enlistment_tests, open_enlistment, enlistment_tests, superior_tests, may_recover, may_vote, may_reject_one_phase, may_roll_back_by, before_pre_prepare, before_prepare, waits_for_superior, recover_enlistment, pre_prepare_complete, prepare_complete, read_only_enlistment, commit_complete, rollback_complete, single_phase_reject, rollback_enlistment, pre_prepare_enlistment, prepare_enlistment, commit_enlistment, set_information_tests, set_information, get_information}
 
 -- the transaction in which a call is made
 abbrev pub caller : Present → Pid → Label → Option Id
@@ -102,7 +102,7 @@ command_tests x process (PrePrepareEnlistment label) = superior_tests x (enlistm
 command_tests x process (PrepareEnlistment label) = superior_tests x (enlistment_named x process label) before_prepare
 command_tests x process (CommitEnlistment label) = superior_tests x (enlistment_named x process label) waits_for_superior
 command_tests x process (SetEnlistmentRecoveryInformation label information) = set_information_tests x (enlistment_named x process label) information
-command_tests x process (GetEnlistmentRecoveryInformation label) = enlistment_tests (enlistment_named x process label) (is_live_now x)
+command_tests x process (GetEnlistmentRecoveryInformation label) = enlistment_tests (enlistment_named x process label) (is_live_enlistment x.transactions.items)
 command_tests x process (CreateFile label path access share disposition) = bound_test x process label ∷ create_file_tests x.files (file_room x) None path access share disposition
 command_tests x process (CreateFileTransacted label path access share disposition transaction) = transacted x process transaction (bound_test x process label ∷ create_file_tests x.files (file_room x) (caller x process transaction) path access share disposition)
 command_tests x process (ReadFile file offset many) = on_file_tests x process file (λ o. read_file_tests o many)

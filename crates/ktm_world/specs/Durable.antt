@@ -16,7 +16,7 @@ use Rattle.ktm_types.specs.declared.event.Part.TheVariants.{Enlistment, Changes,
 use Rattle.ktm_world.specs.Keys.{are_good_settings, Store, OwnSettings, stored_all}
 use Rattle.ktm_keyed.specs.Keyed.{value_at}
 use Rattle.ktm_world.specs.Transactions.{same_id}
-use Rattle.ktm_world.specs.Changes.{changed, changed_all, apply_all, node_of, changes_bytes, is_make, next_after, nodes_made}
+use Rattle.ktm_world.specs.Changes.{changed, changed_all, apply_all, node_of, changes_bytes, is_make, next_after, nodes_made, has_made, has_changes}
 use Rattle.ktm_world.specs.Committed.{written_files}
 use Rattle.ktm_world.specs.Holds.{Holds, holds_by, Act, place, opens, deletes, moves_file, makes, drops_directory, moves_directory, meets}
 use Rattle.ktm_world.specs.Tree.{Tree, node_at, bytes_or_none, bytes_of, units_of}
@@ -133,8 +133,8 @@ abbrev pub next_after_all : ℕ → List Change → ℕ
 next_after_all next changes = fold next_after next changes
 
 -- changes and settings are committed
-abbrev pub committing : Durable → List Change → OwnSettings → Durable
-committing s changes settings = record s { tree = changed_all s.tree changes; keys = stored_all s.keys settings; next_node = next_after_all s.next_node changes }
+abbrev pub with_committed : Durable → List Change → OwnSettings → Durable
+with_committed s changes settings = record s { tree = changed_all s.tree changes; keys = stored_all s.keys settings; next_node = next_after_all s.next_node changes }
 
 -- a list that was committed is not kept
 abbrev pub emptied : Part → Part
@@ -153,7 +153,7 @@ while_not_done ts t = if list_any (λ p. not p.is_done) t.parts then with_record
 -- a transaction commits what it changes and sets, and stays as a decided one while a part of it is not done
 abbrev pub decide_recorded : Durable → Option Recorded → Durable
 decide_recorded s None = s
-decide_recorded s (Some t) = record (committing s (changes_of t) (settings_of t)) {
+decide_recorded s (Some t) = record (with_committed s (changes_of t) (settings_of t)) {
   transactions = while_not_done s.transactions (record t { stage = Stage.Decided; parts = map emptied_part t.parts });
 }
 
@@ -194,9 +194,9 @@ hold_recorded s id superior = record s { transactions = with_recorded s.transact
 abbrev pub fact_of : Durable → Event → Durable
 fact_of s (Boot boot) = record s { boots = boot; transactions = filter (λ t. not (is_ready t.stage)) s.transactions }
 fact_of s (MadeRm manager) = record s { managers = with_manager s.managers manager }
-fact_of s (Plain change) = committing s (change ∷ []) []
+fact_of s (Plain change) = with_committed s (change ∷ []) []
 fact_of s (Ready transaction part) = with_part s transaction part
-fact_of s (Single transaction part) = committing s (changes_in part) (settings_in part)
+fact_of s (Single transaction part) = with_committed s (changes_in part) (settings_in part)
 fact_of s (Held transaction enlistment manager information) = hold_recorded s transaction (record { enlistment = enlistment; manager = manager; information = information })
 fact_of s (Decide transaction) = decide_recorded s (recorded_at s.transactions transaction)
 fact_of s (Undo transaction) = record s { transactions = without_recorded s.transactions transaction }
@@ -242,13 +242,9 @@ abbrev pub holds_in : Durable → Recorded → Holds
 holds_in s t = holds_by s.tree (changes_of t) []
 
 -- the waiting transactions but this one
-abbrev pub others : Durable → Option Id → List Recorded
-others s None = filter (λ t. not (is_decided t.stage)) s.transactions
-others s (Some id) = filter (λ t. not (is_decided t.stage) && not (same_id t.id id)) s.transactions
-
--- do the changes make this node
-abbrev pub is_made_in : List Change → ℕ → Bool
-is_made_in changes node = list_any (λ change. is_make change && node_of change == node) changes
+abbrev pub others_waiting : Durable → Option Id → List Recorded
+others_waiting s None = filter (λ t. not (is_decided t.stage)) s.transactions
+others_waiting s (Some id) = filter (λ t. not (is_decided t.stage) && not (same_id t.id id)) s.transactions
 
 -- does the change make no node that the tree has
 abbrev pub is_new_in : Tree → Change → Bool
@@ -257,13 +253,13 @@ is_new_in tree change = not (is_make change) || is_none (node_at tree (node_of c
 -- changes that apply, meet no hold of another transaction, and make no node that is in the tree or is made in another one's waiting work
 abbrev pub changes_apply : Durable → Option Id → List Change → Bool
 changes_apply s who changes =
-    list_all (λ t. not (list_any (meets (holds_in s t)) (acts_of_all s.tree changes)) && not (list_any (λ change. is_make change && is_made_in (changes_of t) (node_of change)) changes)) (others s who)
+    list_all (λ t. not (list_any (meets (holds_in s t)) (acts_of_all s.tree changes)) && not (list_any (λ change. is_make change && has_made (changes_of t) (node_of change)) changes)) (others_waiting s who)
     && apply_all s.tree changes && list_all (is_new_in s.tree) changes
 
 -- settings that meet no hold of another transaction
 abbrev pub settings_apply : Durable → Option Id → OwnSettings → Bool
 settings_apply s who settings =
-    list_all (λ t. not (list_any (λ setting. is_some (value_at (settings_of t) setting.key)) settings)) (others s who)
+    list_all (λ t. not (list_any (λ setting. is_some (value_at (settings_of t) setting.key)) settings)) (others_waiting s who)
 
 -- is the file the one that was just cut
 abbrev pub was_cut : Option ℕ → ℕ → Bool
@@ -290,14 +286,9 @@ gives_bytes changes file = list_any (λ change. changes_bytes change && node_of 
 abbrev pub made_files : List Change → List ℕ
 made_files changes = written_files (filter (λ change. not (changes_bytes change)) changes)
 
--- is there a change at all
-abbrev pub is_some_change : List Change → Bool
-is_some_change [] = false
-is_some_change (change ∷ changes) = true
-
 -- changes as a transaction records them: some at least, its bytes last, and the bytes of each file that it made and left
 abbrev pub are_recorded_changes : List Change → Bool
-are_recorded_changes changes = is_some_change changes && ends_in_bytes changes && list_all (gives_bytes changes) (made_files changes)
+are_recorded_changes changes = has_changes changes && ends_in_bytes changes && list_all (gives_bytes changes) (made_files changes)
 
 -- is there a durable resource manager with this Id
 abbrev pub is_manager : Durable → Id → Bool

@@ -1,5 +1,5 @@
 -- Enlistments, resource managers and their notifications.
-use Rattle.std.specs.Prelude.{ℕ, ◌&&◌, ◌||◌, not, Bool, true, false, List, map, filter, find, Option, Some, None, if◌then◌else◌}
+use Rattle.std.specs.Prelude.{ℕ, ◌&&◌, ◌||◌, not, Bool, true, false, List, map, filter, find, Option, Some, if◌then◌else◌}
 use Rattle.std.specs.List.{list_any}
 use Rattle.ktm_base.specs.declared.id.Id.{Id}
 use Rattle.ktm_base.specs.declared.notify.Notify.{Notify}
@@ -7,7 +7,7 @@ use Rattle.ktm_types.specs.declared.object.Phase.{Phase}
 use Rattle.ktm_types.specs.declared.object.Phase.TheVariants.{Ended}
 use Rattle.ktm_types.specs.declared.object.Transaction.{Transaction}
 use Rattle.ktm_types.specs.declared.options.EnlistmentKind.{EnlistmentKind}
-use Rattle.ktm_world.specs.Transactions.{same_id}
+use Rattle.ktm_world.specs.Transactions.{same_id, is_of}
 
 -- what an enlistment owes an answer to
 pub data Owed : Type 0 where
@@ -138,14 +138,9 @@ is_durable_at ms id = list_any (λ m. same_id m.id id && m.is_durable) ms
 abbrev pub notes_for : Id → List Sent → List Note
 notes_for id sent = map (λ s. s.note) (filter (λ s. same_id s.manager id) sent)
 
--- is this the resource manager that takes a notification
-abbrev pub is_taker : Id → Option Id → Bool
-is_taker id None = false
-is_taker id (Some other) = same_id id other
-
 -- how many notifications a manager takes: one at most
 abbrev pub taken_count : Id → Option Id → ℕ
-taken_count id took = if is_taker id took then 1 else 0
+taken_count id took = if is_of id took then 1 else 0
 
 -- a notification of this kind, to the manager of an enlistment
 abbrev pub tell : Notify → Enlistment → Sent

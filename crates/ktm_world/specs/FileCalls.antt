@@ -17,11 +17,12 @@ use Rattle.ktm_types.specs.declared.options.ShareMode.{ShareMode}
 use Rattle.ktm_types.specs.declared.reply.Reply.TheVariants.{Done, Contents as Bytes, Size, Names}
 use Rattle.ktm_keyed.specs.Keyed.{comes_before}
 use Rattle.ktm_world.specs.Conflicts.{conflicts, violates_sharing, is_open_in, reads, writes}
-use Rattle.ktm_world.specs.Files.{FilesNow, OpenFile, own_changes, has_made, first_open_of, tree_seen, bytes_seen}
+use Rattle.ktm_world.specs.Files.{FilesNow, OpenFile, own_changes, first_open_of, tree_seen, bytes_seen}
 use Rattle.ktm_world.specs.FileOutcome.{FileOutcome, FileRoom, answering, changing, lacks_quota, lacks_disk}
 use Rattle.ktm_world.specs.Holds.{Act, place, opens, deletes, moves_file, makes, drops_directory, moves_directory}
 use Rattle.ktm_world.specs.Paths.{Search, path_of, pattern_of}
 use Rattle.ktm_world.specs.Tree.{Tree, root, child_of, has_entries, is_at_or_below}
+use Rattle.ktm_world.specs.Changes.{has_made}
 
 -- ---- where a text leads
 

@@ -1,12 +1,11 @@
 -- The files as they are now, and what a transaction sees of them.
 use Rattle.std.specs.Prelude.{ℕ, ◌==◌, ◌&&◌, not, Bool, List, [], ◌∷◌, ◌++◌, filter, find, Option, Some, None, if◌then◌else◌}
-use Rattle.std.specs.List.{list_any}
 use Rattle.ktm_base.specs.declared.id.Id.{Id}
 use Rattle.ktm_types.specs.declared.change.Change.{Change}
 use Rattle.ktm_types.specs.declared.options.Access.{Access}
 use Rattle.ktm_types.specs.declared.options.ShareMode.{ShareMode}
 use Rattle.ktm_world.specs.Transactions.{same_id, is_of}
-use Rattle.ktm_world.specs.Changes.{changed_all, node_of, changes_bytes, is_make}
+use Rattle.ktm_world.specs.Changes.{changed_all, node_of, changes_bytes, has_made}
 use Rattle.ktm_world.specs.Keys.{Store}
 use Rattle.ktm_world.specs.Committed.{Committed, Version, version_of, changes_to_commit}
 use Rattle.ktm_world.specs.Tree.{Tree, is_file, bytes_of}
@@ -86,10 +85,6 @@ without_transaction table id = record table {
   own = filter (λ o. not (same_id o.transaction id)) table.own;
   opens = filter (λ o. not (is_of id o.transaction)) table.opens;
 }
-
--- did a transaction make the node
-abbrev pub has_made : List Change → ℕ → Bool
-has_made changes node = list_any (λ change. is_make change && node_of change == node) changes
 
 -- a transaction's first open of a file
 abbrev pub first_open_of : List FirstOpen → Id → ℕ → Option FirstOpen

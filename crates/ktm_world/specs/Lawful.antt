@@ -14,7 +14,7 @@ use Rattle.ktm_world.specs.Logs.{is_up}
 use Rattle.ktm_world.specs.Changes.{apply_all, node_of, changes_bytes, is_drop}
 use Rattle.ktm_world.specs.Committed.{Committed, Work, with_work}
 use Rattle.ktm_world.specs.Conflicts.{holds_now, writes}
-use Rattle.ktm_world.specs.Durable.{Recorded, changes_of, settings_of, log_applies, stand}
+use Rattle.ktm_world.specs.Durable.{Recorded, changes_of, settings_of, log_applies, stand, is_ready}
 use Rattle.ktm_world.specs.Enlistments.{Enlistment, is_durable_at, superior_of, takes_part}
 use Rattle.ktm_world.specs.Files.{OpenFile, own_changes}
 use Rattle.ktm_world.specs.Holds.{Holds, is_in, meet_in, is_place_in}
@@ -46,16 +46,16 @@ abbrev pub hold_apart : Present → Transaction → Transaction → Bool
 hold_apart x t u = are_apart (holds_now x.files t.id) (holds_now x.files u.id) && not (set_both (own_settings x.keys.own t.id) (own_settings x.keys.own u.id))
 
 -- the undecided transactions but this one
-abbrev pub others : List Transaction → Option Id → List Transaction
-others ts who = filter (λ t. is_undecided t && not (is_of t.id who)) ts
+abbrev pub others_undecided : List Transaction → Option Id → List Transaction
+others_undecided ts who = filter (λ t. is_undecided t && not (is_of t.id who)) ts
 
 -- the undecided transactions
 abbrev pub undecided : Present → List Transaction
-undecided x = others x.transactions.items None
+undecided x = others_undecided x.transactions.items None
 
 -- do no two undecided transactions hold the same
 abbrev pub all_apart : Present → Bool
-all_apart x = list_all (λ t. list_all (hold_apart x t) (others x.transactions.items (Some t.id))) (undecided x)
+all_apart x = list_all (λ t. list_all (hold_apart x t) (others_undecided x.transactions.items (Some t.id))) (undecided x)
 
 -- ---- a version that a transaction writes over stays the last one
 
@@ -135,11 +135,6 @@ abbrev pub superior_now : Option Enlistment → Option Superior
 superior_now None = None
 superior_now (Some e) = Some (record { enlistment = e.id; manager = e.manager; information = e.information })
 
--- is the stage Ready
-abbrev pub is_ready_stage : Stage → Bool
-is_ready_stage Stage.Ready = true
-is_ready_stage _ = false
-
 -- is the stage Held
 abbrev pub is_held_stage : Stage → Bool
 is_held_stage Stage.Held = true
@@ -151,7 +146,7 @@ abbrev pub summary_now : Present → Transaction → Stage → Summary
 summary_now x t stage = record {
   id = t.id;
   stage = stage;
-  superior = if is_ready_stage stage then None else superior_now (superior_of x.transactions.enlistments t.id);
+  superior = if is_ready stage then None else superior_now (superior_of x.transactions.enlistments t.id);
   enlistments = recorded_enlistments x t.id;
   changes = if is_held_stage stage then own_changes x.files.table.own t.id else [];
   settings = if is_held_stage stage then own_settings x.keys.own t.id else [];

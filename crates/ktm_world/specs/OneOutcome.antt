@@ -74,9 +74,9 @@ told_of_named (Information transaction state outcome) = told_outcome outcome
 told_of_named _ = None
 
 -- what is said of a transaction, where one is meant and something is said of it
-abbrev pub telling : Option Id → Option Bool → List Telling
-telling (Some id) (Some committed) = record { transaction = id; has_committed = committed } ∷ []
-telling _ _ = []
+abbrev pub telling_of : Option Id → Option Bool → List Telling
+telling_of (Some id) (Some committed) = record { transaction = id; has_committed = committed } ∷ []
+telling_of _ _ = []
 
 -- the transaction of the enlistment with a GUID
 abbrev pub transaction_of_enlistment : World → List ℕ → Option Id
@@ -90,8 +90,8 @@ named_by w process (Some label) = transaction_id (object_at w.handles process la
 
 -- what a call and its reply tell
 abbrev pub tells : World → Pid → Command → Reply → List Telling
-tells w process command (Notification kind (Some guid)) = telling (transaction_of_enlistment w guid) (told_by kind)
-tells w process command reply = telling (named_by w process (transaction_label command)) (told_of_named reply)
+tells w process command (Notification kind (Some guid)) = telling_of (transaction_of_enlistment w guid) (told_by kind)
+tells w process command reply = telling_of (named_by w process (transaction_label command)) (told_of_named reply)
 
 -- what a line and its reply tell; only a call tells anything
 abbrev pub line_tells : World → Option Line → Reply → List Telling

@@ -16,6 +16,7 @@ use Rattle.ktm_world.specs.Keys.{OwnSettings}
 use Rattle.ktm_world.specs.Transactions.{same_id}
 use Rattle.ktm_world.specs.Committed.{Work}
 use Rattle.ktm_world.specs.Enlistments.{Owed, pre_prepare, prepare, commit, rollback, Enlistment, Sent, Manager, is_superior, asks_pre_prepare, allows_one_phase, takes_part, is_unfinished, is_durable_at, with_enlistments, superior_of, has_id, tell}
+use Rattle.ktm_world.specs.Changes.{has_changes}
 
 -- a transaction on its way, with all that one command does to it
 pub record Course : Type 0 where
@@ -74,11 +75,6 @@ is_its_superior c e = same_id e.transaction c.transaction.id && is_superior e
 -- does some enlistment of it pass the test
 abbrev pub some_enlistment : Course → (Enlistment → Bool) → Bool
 some_enlistment c test = list_any (λ e. takes_part c.transaction.id e && test e) c.enlistments
-
--- do the files take part
-abbrev pub has_changes : List Change → Bool
-has_changes [] = false
-has_changes (c ∷ cs) = true
 
 -- do the keys take part
 abbrev pub has_settings : OwnSettings → Bool
@@ -293,8 +289,8 @@ rollback_answered c e = ended_if_finished (finished c e) Aborted
 -- ---- recovering an enlistment that a restart brought back
 
 -- the enlistment is recovered from now on
-abbrev pub brought_back : Course → Enlistment → Course
-brought_back c e = changing_one c e.id (λ e. record e { is_recovered = true })
+abbrev pub recovering : Course → Enlistment → Course
+recovering c e = changing_one c e.id (λ e. record e { is_recovered = true })
 
 -- the enlistment is told how its transaction stands in this phase
 abbrev pub recovered_in : Phase → Course → Enlistment → Course
@@ -306,4 +302,4 @@ recovered_in _ c e = c
 -- an enlistment recovers: a superior is asked to decide, and another one is told how its transaction stands
 unfoldable pub recovered : Course → Enlistment → Course
 recovered c e =
-    if is_superior e then telling (brought_back c e) (has_id e.id) Notify.RecoverQuery unchanged else recovered_in c.transaction.phase (brought_back c e) e
+    if is_superior e then telling (recovering c e) (has_id e.id) Notify.RecoverQuery unchanged else recovered_in c.transaction.phase (recovering c e) e

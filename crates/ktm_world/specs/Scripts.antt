@@ -85,8 +85,8 @@ abbrev pub p2 : Command → Option Line
 p2 command = Some (Process (p 2) command)
 
 -- so many milliseconds pass
-abbrev pub tick : ℕ → Option Line
-tick ms = Some (Tick ms)
+abbrev pub time_passes : ℕ → Option Line
+time_passes ms = Some (Tick ms)
 
 -- the power goes
 abbrev pub crash : Option Line

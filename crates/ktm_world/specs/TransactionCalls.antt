@@ -1,6 +1,5 @@
 -- The calls on transactions, resource managers and enlistments: for each the tests in their order, and what it does.
 use Rattle.std.specs.Prelude.{ℕ, ◌+◌, ◌-◌, ◌^◌, ◌==◌, ◌&&◌, ◌||◌, not, Bool, true, false, List, [], ◌∷◌, ◌++◌, length, map, filter, find, min, count_by, nat_lt, nat_le, Option, Some, None, is_some, is_none, option_map, if◌then◌else◌, bytes_eq}
-use Rattle.std.specs.List.{list_any}
 use Rattle.ktm_base.specs.Guid.{guid_of}
 use Rattle.ktm_base.specs.declared.id.Id.{Id}
 use Rattle.ktm_base.specs.declared.id.Label.{Label}
@@ -25,12 +24,12 @@ use Rattle.ktm_types.specs.declared.reply.TransactionState.TheVariants.{Normal, 
 use Rattle.ktm_world.specs.Handles.{no_handle_left}
 use Rattle.ktm_world.specs.Keys.{own_settings, without_own}
 use Rattle.ktm_world.specs.Transactions.{same_id, transaction_at, change_at, is_live, is_undecided}
-use Rattle.ktm_world.specs.Enlistments.{Enlistment, Manager, Note, Sent, is_superior, is_open_for_votes, owes_commit, is_live_in, is_live_enlistment, is_ended, has_id, with_enlistments, superior_of}
+use Rattle.ktm_world.specs.Enlistments.{Enlistment, Manager, Note, Sent, is_superior, is_open_for_votes, owes_commit, is_live_enlistment, is_ended, has_id, with_enlistments, superior_of}
 use Rattle.ktm_world.specs.Files.{own_changes, without_transaction}
 use Rattle.ktm_world.specs.Labels.{is_bound, holds_of, invalid_handle, outcome_tests, transaction_tests, binding}
 use Rattle.ktm_world.specs.Limits.{most_information, most_live, most_number}
 use Rattle.ktm_world.specs.Outcome.{Outcome, only_reply, and_then}
-use Rattle.ktm_world.specs.Phases.{Course, aborting, committing, to_commit, to_pre_prepare, to_prepare, pre_prepare_answered, prepare_answered, read_only_answered, commit_answered, rollback_answered, single_phase_rejected, recovered}
+use Rattle.ktm_world.specs.Phases.{Course, aborting, committing, to_commit, to_pre_prepare, to_prepare, pre_prepare_answered, prepare_answered, read_only_answered, commit_answered, rollback_answered, single_phase_rejected, recovered, is_single_phase}
 use Rattle.ktm_world.specs.Present.{Present, Transactions}
 
 -- ---- a transaction's course, and what it comes to
@@ -345,15 +344,11 @@ create_enlistment_tests x process label m t kind =
     ∷ quota_test x (no_enlistment_left x.transactions)
     ∷ [])
 
--- is the enlistment live in its transaction
-abbrev pub is_live_now : Present → Enlistment → Bool
-is_live_now x e = list_any (λ t. is_live_in t e) x.transactions.items
-
 -- the live enlistment of a resource manager with a GUID
 abbrev pub enlistment_with : Present → Option Manager → List ℕ → Option Enlistment
 enlistment_with x None guid = None
 enlistment_with x (Some m) guid =
-    find (λ e. same_id e.manager m.id && is_live_now x e && bytes_eq (guid_in x ObjectKind.Enlistment e.id) guid) x.transactions.enlistments
+    find (λ e. same_id e.manager m.id && is_live_enlistment x.transactions.items e && bytes_eq (guid_in x ObjectKind.Enlistment e.id) guid) x.transactions.enlistments
 
 -- the label is bound to the enlistment
 abbrev pub open_to_enlistment : Present → Pid → Label → Option Enlistment → Outcome
@@ -401,10 +396,6 @@ before_prepare phase = elim phase as (λ _. Bool) [ Active ↦ true | Requested 
 abbrev pub waits_for_superior : Phase → Bool
 waits_for_superior phase = elim phase as (λ _. Bool) [ Held ↦ true | InDoubt ↦ true | _ ↦ false ]
 
--- the phase in which an enlistment commits in one phase
-abbrev pub is_one_phase : Phase → Bool
-is_one_phase phase = elim phase as (λ _. Bool) [ SinglePhase ↦ true | _ ↦ false ]
-
 -- ---- when a call of an enlistment is allowed
 
 -- an ordinary enlistment that has not voted yet, in a phase in which it may
@@ -417,7 +408,7 @@ may_roll_back_by x e = if is_superior e then phase_passes x lets_superior_roll_b
 
 -- is it asked to commit in one phase, and has it not answered
 abbrev pub may_reject_one_phase : Present → Enlistment → Bool
-may_reject_one_phase x e = phase_passes x is_one_phase e && owes_commit e
+may_reject_one_phase x e = phase_passes x is_single_phase e && owes_commit e
 
 -- it was brought back and not recovered yet, a superior's transaction being in doubt
 abbrev pub may_recover : Present → Enlistment → Bool
