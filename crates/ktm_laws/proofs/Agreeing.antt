@@ -23,6 +23,7 @@ use Rattle.ktm_world.specs.Outcome.{Outcome, apply, committed_now, served}
 use Rattle.ktm_world.specs.Present.{Present}
 use Rattle.ktm_world.specs.World.{by_rising_id}
 use Rattle.ktm_laws.specs.Footprint.{IsIn}
+use Rattle.ktm_laws.specs.Kept.{are_carried_out}
 use Rattle.ktm_laws.specs.SoundCourse.{IsSoundCourse, is_recorded_as}
 use Rattle.ktm_laws.proofs.Committing.{next-rises}
 use Rattle.ktm_laws.proofs.Elements.{list_all-at}
@@ -151,17 +152,25 @@ table-next files who o = go o.opened
 
 -- ---- what records and commits nothing
 
+-- what was recorded agrees with what is so now, and each decided transaction has its files and its keys done
+pub record Agreed (x : Present) : Type 0 where
+  pub agrees : Agrees x
+  pub carried : are_carried_out x.recorded ≡ true
+
 pub summaries-stay : (x y : Present) → y.transactions.items ≡ x.transactions.items → ((t : Transaction) → IsIn t x.transactions.items → t.is_recorded ≡ true → IsAsBefore x y t) → summaries_now y ≡ summaries_now x
 summaries-stay x y same before = ap (flat_map (summaries y)) same ∙ flat_map-alike (summaries y) (summaries x) x.transactions.items (λ t there. summaries-kept x y t (before t there))
 
-pub agrees-still : (x : Present) (o : Outcome) → Agrees x → o.events ≡ [] → o.works ≡ [] → durable_managers (apply x o) ≡ durable_managers x → x.files.table.next_node ≤ o.table.next_node
-    → summaries_now (apply x o) ≡ summaries_now x → Agrees (apply x o)
-agrees-still x o agrees no_events no_works managers next same = record {
-  tree = ap (λ es. (after_events x.recorded es).tree) no_events ∙ agrees.tree ∙ sym (ap (λ ws. (committed_with (committed_now x) ws).tree) no_works);
-  keys = ap (λ es. (after_events x.recorded es).keys) no_events ∙ agrees.keys ∙ sym (ap (λ ws. (committed_with (committed_now x) ws).store) no_works);
-  managers = ap (λ es. (after_events x.recorded es).managers) no_events ∙ agrees.managers ∙ sym managers;
-  transactions = ap (λ es. map summary_of (after_events x.recorded es).transactions) no_events ∙ agrees.transactions ∙ sym same;
-  next_node = subst (λ es. (after_events x.recorded es).next_node ≤ o.table.next_node) (sym no_events) (omega (arith, agrees.next_node, next));
+pub agreed-still : (x : Present) (o : Outcome) → Agreed x → o.events ≡ [] → o.works ≡ [] → durable_managers (apply x o) ≡ durable_managers x → x.files.table.next_node ≤ o.table.next_node
+    → summaries_now (apply x o) ≡ summaries_now x → Agreed (apply x o)
+agreed-still x o agreed no_events no_works managers next same = record {
+  agrees = record {
+    tree = ap (λ es. (after_events x.recorded es).tree) no_events ∙ (agreed.agrees).tree ∙ sym (ap (λ ws. (committed_with (committed_now x) ws).tree) no_works);
+    keys = ap (λ es. (after_events x.recorded es).keys) no_events ∙ (agreed.agrees).keys ∙ sym (ap (λ ws. (committed_with (committed_now x) ws).store) no_works);
+    managers = ap (λ es. (after_events x.recorded es).managers) no_events ∙ (agreed.agrees).managers ∙ sym managers;
+    transactions = ap (λ es. map summary_of (after_events x.recorded es).transactions) no_events ∙ (agreed.agrees).transactions ∙ sym same;
+    next_node = subst (λ es. (after_events x.recorded es).next_node ≤ o.table.next_node) (sym no_events) (omega (arith, (agreed.agrees).next_node, next));
+  };
+  carried = subst (λ es. are_carried_out (after_events x.recorded es) ≡ true) (sym no_events) agreed.carried;
 }
 
 -- where transactions, enlistments and resource managers stay, and what recorded transactions changed and set
@@ -175,16 +184,16 @@ as-owned x o t none same changes settings = record {
 }
 
 -- so it is by a reply, and by what changes handles alone
-pub agrees-reply : (x : Present) (o : Outcome) → Agrees x → o.events ≡ [] → o.works ≡ [] → o.made ≡ [] → o.transactions.items ≡ x.transactions.items → o.transactions.enlistments ≡ x.transactions.enlistments → o.table ≡ x.files.table
-    → o.own ≡ x.keys.own → Agrees (apply x o)
-agrees-reply x o agrees no_events no_works none items enlistments table own =
-    agrees-still x o agrees no_events no_works (managers-stay x o none) (subst (λ (t : FileTable). x.files.table.next_node ≤ t.next_node) (sym table) (omega arith))
+pub agreed-reply : (x : Present) (o : Outcome) → Agreed x → o.events ≡ [] → o.works ≡ [] → o.made ≡ [] → o.transactions.items ≡ x.transactions.items → o.transactions.enlistments ≡ x.transactions.enlistments → o.table ≡ x.files.table
+    → o.own ≡ x.keys.own → Agreed (apply x o)
+agreed-reply x o agrees no_events no_works none items enlistments table own =
+    agreed-still x o agrees no_events no_works (managers-stay x o none) (subst (λ (t : FileTable). x.files.table.next_node ≤ t.next_node) (sym table) (omega arith))
     (summaries-stay x (apply x o) items (λ t there recorded. as-owned x o t none enlistments (ap (λ (t' : FileTable). own_changes t'.own t.id) table) (ap (λ os. own_settings os t.id) own)))
 
 -- ---- calls on files
 
-pub agrees-of_files : (x : Present) (who : Option Id) (o : FileOutcome) → IsSoundCourse x → Agrees x → IsActiveCaller x who → Agrees (apply x (of_files x who o))
-agrees-of_files x who o sound agrees active = go who o.change refl active
+pub agreed-of_files : (x : Present) (who : Option Id) (o : FileOutcome) → IsSoundCourse x → Agreed x → IsActiveCaller x who → Agreed (apply x (of_files x who o))
+agreed-of_files x who o sound agreed active = go who o.change refl active
   where
     kept : (who : Option Id) → IsActiveCaller x who → summaries_now (apply x (of_files x who o)) ≡ summaries_now x
     kept who active = summaries-stay x (apply x (of_files x who o)) refl (λ t there recorded. as-owned x (of_files x who o) t refl refl
@@ -197,14 +206,17 @@ agrees-of_files x who o sound agrees active = go who o.change refl active
     rises None = omega arith
     rises (Some change) = next-rises (change ∷ []) x.files.table.next_node
 
-    go : (who : Option Id) (change : Option Change) → o.change ≡ change → IsActiveCaller x who → Agrees (apply x (of_files x who o))
-    go (Some id) change is active = agrees-still x (of_files x (Some id) o) agrees refl refl (managers-stay x (of_files x (Some id) o) refl) (next (Some id) change is (rises change)) (kept (Some id) active)
-    go None None is active = agrees-still x (of_files x None o) agrees (ap (events_of None) is) (ap (works_of None) is) (managers-stay x (of_files x None o) refl) (next None None is (rises None)) (kept None active)
+    go : (who : Option Id) (change : Option Change) → o.change ≡ change → IsActiveCaller x who → Agreed (apply x (of_files x who o))
+    go (Some id) change is active = agreed-still x (of_files x (Some id) o) agreed refl refl (managers-stay x (of_files x (Some id) o) refl) (next (Some id) change is (rises change)) (kept (Some id) active)
+    go None None is active = agreed-still x (of_files x None o) agreed (ap (events_of None) is) (ap (works_of None) is) (managers-stay x (of_files x None o) refl) (next None None is (rises None)) (kept None active)
     go None (Some change) is active = record {
-      tree = ap (λ c. (after_events x.recorded (events_of None c)).tree) is ∙ ap (λ tree. changed tree change) agrees.tree ∙ sym (ap (λ c. (committed_with (committed_now x) (works_of None c)).tree) is);
-      keys = ap (λ c. (after_events x.recorded (events_of None c)).keys) is ∙ agrees.keys ∙ sym (ap (λ c. (committed_with (committed_now x) (works_of None c)).store) is);
-      managers = ap (λ c. (after_events x.recorded (events_of None c)).managers) is ∙ agrees.managers ∙ sym (managers-stay x (of_files x None o) refl);
-      transactions = ap (λ c. map summary_of (after_events x.recorded (events_of None c)).transactions) is ∙ agrees.transactions ∙ sym (kept None active);
-      next_node = subst (λ c. (after_events x.recorded (events_of None c)).next_node ≤ (table_after x.files None o).next_node) (sym is)
-          (subst (λ n. next_after x.recorded.next_node change ≤ n) (sym (table-next x.files None o ∙ ap (next_node_after x.files.table.next_node) is)) (next_after-both change x.recorded.next_node x.files.table.next_node agrees.next_node));
+      agrees = record {
+        tree = ap (λ c. (after_events x.recorded (events_of None c)).tree) is ∙ ap (λ tree. changed tree change) (agreed.agrees).tree ∙ sym (ap (λ c. (committed_with (committed_now x) (works_of None c)).tree) is);
+        keys = ap (λ c. (after_events x.recorded (events_of None c)).keys) is ∙ (agreed.agrees).keys ∙ sym (ap (λ c. (committed_with (committed_now x) (works_of None c)).store) is);
+        managers = ap (λ c. (after_events x.recorded (events_of None c)).managers) is ∙ (agreed.agrees).managers ∙ sym (managers-stay x (of_files x None o) refl);
+        transactions = ap (λ c. map summary_of (after_events x.recorded (events_of None c)).transactions) is ∙ (agreed.agrees).transactions ∙ sym (kept None active);
+        next_node = subst (λ c. (after_events x.recorded (events_of None c)).next_node ≤ (table_after x.files None o).next_node) (sym is)
+            (subst (λ n. next_after x.recorded.next_node change ≤ n) (sym (table-next x.files None o ∙ ap (next_node_after x.files.table.next_node) is)) (next_after-both change x.recorded.next_node x.files.table.next_node (agreed.agrees).next_node));
+      };
+      carried = subst (λ c. are_carried_out (after_events x.recorded (events_of None c)) ≡ true) (sym is) agreed.carried;
     }

@@ -32,14 +32,15 @@ use Rattle.ktm_world.specs.Keys.{Own, Store, own_settings}
 use Rattle.ktm_world.specs.Lawful.{Agrees, brought_back, stage_in, summaries_now, superior_now}
 use Rattle.ktm_world.specs.Labels.{holds_of}
 use Rattle.ktm_world.specs.Outcome.{Outcome, and_then, apply, committed_now, joined, only_reply, served}
-use Rattle.ktm_world.specs.Present.{Present, Transactions}
+use Rattle.ktm_world.specs.Present.{Present}
 use Rattle.ktm_world.specs.TransactionCalls.{aborted_by, aborted_if_due, aborted_in_turn, create_enlistment, create_resource_manager, create_transaction, enlistment_tests, is_due, keep_information, may_roll_back, may_set_information, phase_passes, set_information_tests, tick, transaction_in, waits_for_superior, with_clock}
 use Rattle.ktm_world.specs.Transactions.{is_active, is_committed, is_undecided, same_id, transaction_at}
 use Rattle.ktm_world.specs.World.{by_rising_id}
 use Rattle.ktm_world.specs.Tree.{Tree}
 use Rattle.ktm_laws.specs.Footprint.{IsIn}
+use Rattle.ktm_laws.specs.Kept.{are_carried_out}
 use Rattle.ktm_laws.specs.SoundCourse.{IsSoundCourse, has_manager, is_counted, is_outcome_of}
-use Rattle.ktm_laws.proofs.Agreeing.{agrees-reply, agrees-still, as-owned, durable_ids, durable-stays, enlistments-kept, filter-alike, filter-step, find-step, flat_map-alike, ids-append, ids-served, managers-stay, recorded-later, summaries, summaries-kept, summaries-stay}
+use Rattle.ktm_laws.proofs.Agreeing.{Agreed, agreed-reply, agreed-still, as-owned, durable_ids, durable-stays, enlistments-kept, filter-alike, filter-step, find-step, flat_map-alike, ids-append, ids-served, managers-stay, recorded-later, summaries, summaries-kept, summaries-stay}
 use Rattle.ktm_laws.proofs.Answering.{can_roll_back}
 use Rattle.ktm_laws.proofs.Beginnings.{new_enlistment, sound-clock}
 use Rattle.ktm_laws.proofs.Bindings.{StaysSound, soundly-gone, stays-closed, stays-closed_all, stays-due, stays-in_turn, stays-sound, stays-unbound}
@@ -53,37 +54,41 @@ use Rattle.ktm_laws.proofs.Placing.{before-not}
 use Rattle.ktm_laws.proofs.Releasing.{transaction_at-there}
 use Rattle.ktm_laws.proofs.Settling.{IsQuiet, served-then}
 use Rattle.ktm_laws.proofs.Tables.{same_id-equal, same_id-sym}
-use Rattle.ktm_laws.proofs.Undoing.{agrees-aborted_by}
+use Rattle.ktm_laws.proofs.Undoing.{agreed-aborted_by}
 use Rattle.ktm_laws.proofs.Views.{durable-served}
 
 -- what agreement is of
 abbrev Parts : Type 0
-Parts = Durable × Tree × Store × List Manager × Transactions × FileTable × List Own
+Parts = Durable × Tree × Store × List Manager × List Transaction × List Enlistment × FileTable × List Own
 
 -- those of what is so now
 abbrev pub parts_of : Present → Parts
-parts_of x = (x.recorded, x.files.tree, x.keys.store, x.managers, x.transactions, x.files.table, x.keys.own)
+parts_of x = (x.recorded, x.files.tree, x.keys.store, x.managers, x.transactions.items, x.transactions.enlistments, x.files.table, x.keys.own)
 
 -- something that has them
 abbrev with_parts : Present → Parts → Present
-with_parts x (s, tree, store, ms, ts, table, own) = record x { recorded = s; managers = ms; transactions = ts; files = record x.files { tree = tree; table = table }; keys = record { store = store; own = own } }
+with_parts x (s, tree, store, ms, ts, es, table, own) = record x { recorded = s; managers = ms; transactions = record x.transactions { items = ts; enlistments = es }; files = record x.files { tree = tree; table = table }; keys = record { store = store; own = own } }
 
 -- where these are the same, both agree or none does
-pub agrees-alike : (x y : Present) → parts_of x ≡ parts_of y → Agrees x → Agrees y
+agrees-alike : (x y : Present) → parts_of x ≡ parts_of y → Agrees x → Agrees y
 agrees-alike x y same agrees =
     let moved : Agrees (with_parts x (parts_of y)) = subst (λ p. Agrees (with_parts x p)) same (record { tree = agrees.tree; keys = agrees.keys; managers = agrees.managers; transactions = agrees.transactions; next_node = agrees.next_node }) in
     record { tree = moved.tree; keys = moved.keys; managers = moved.managers; transactions = moved.transactions; next_node = moved.next_node }
 
-pub agrees-joined : (x : Present) (a b : Outcome) → IsQuiet b → Agrees (apply (apply x a) b) → Agrees (apply x (joined a b))
-agrees-joined x a b quiet agrees = agrees-alike (apply (apply x a) b) (apply x (joined a b)) (λ i. (
+pub agreed-alike : (x y : Present) → parts_of x ≡ parts_of y → Agreed x → Agreed y
+agreed-alike x y same agreed = record { agrees = agrees-alike x y same agreed.agrees; carried = subst (λ (p : Parts). are_carried_out p.0 ≡ true) same agreed.carried }
+
+agreed-joined : (x : Present) (a b : Outcome) → IsQuiet b → Agreed (apply (apply x a) b) → Agreed (apply x (joined a b))
+agreed-joined x a b quiet agreed = agreed-alike (apply (apply x a) b) (apply x (joined a b)) (λ i. (
   sym (fold-append after_event x.recorded a.events b.events) i,
   (committed i).tree,
   (committed i).store,
   managers i,
-  b.transactions,
+  b.transactions.items,
+  b.transactions.enlistments,
   b.table,
   b.own,
-)) agrees
+)) agreed
   where
     committed : committed_with (committed_with (committed_now x) a.works) b.works ≡ committed_with (committed_now x) (a.works ++ b.works)
     committed = sym (fold-append with_work (committed_now x) a.works b.works)
@@ -96,76 +101,76 @@ agrees-joined x a b quiet agrees = agrees-alike (apply (apply x a) b) (apply x (
 
 -- ---- the last handle, and the end of a process
 
-agrees-then : (x : Present) (a : Outcome) (next : Present → Outcome) → StaysSound x a → Agrees (apply x a) → (IsSoundCourse (apply x a) → Agrees (apply x a) → StaysSound (apply x a) (next (apply x a)) × Agrees (apply (apply x a) (next (apply x a))))
-    → Agrees (apply x (and_then x a next))
-agrees-then x a next first agrees second = let rest = second first.sound agrees in agrees-joined x a (next (apply x a)) rest.0.quiet rest.1
+agreed-then : (x : Present) (a : Outcome) (next : Present → Outcome) → StaysSound x a → Agreed (apply x a) → (IsSoundCourse (apply x a) → Agreed (apply x a) → StaysSound (apply x a) (next (apply x a)) × Agreed (apply (apply x a) (next (apply x a))))
+    → Agreed (apply x (and_then x a next))
+agreed-then x a next first agreed second = let rest = second first.sound agreed in agreed-joined x a (next (apply x a)) rest.0.quiet rest.1
 
-pub agrees-only_reply : (x : Present) (reply : Reply) → Agrees x → Agrees (apply x (only_reply x reply))
-agrees-only_reply x reply agrees = agrees-reply x (only_reply x reply) agrees refl refl refl refl refl refl refl
+pub agreed-only_reply : (x : Present) (reply : Reply) → Agreed x → Agreed (apply x (only_reply x reply))
+agreed-only_reply x reply agreed = agreed-reply x (only_reply x reply) agreed refl refl refl refl refl refl refl
 
-agrees-abort_active : (x : Present) (o : Option Transaction) → IsSoundCourse x → Agrees x → ((t : Transaction) → o ≡ Some t → IsIn t x.transactions.items) → Agrees (apply x (abort_active x o))
-agrees-abort_active x None sound agrees there = agrees-only_reply x Done agrees
-agrees-abort_active x (Some t) sound agrees there = if_cases (λ o. Agrees (apply x o)) (is_active t) (aborted_by x t None Done) (only_reply x Done)
-    (λ active. agrees-aborted_by x sound agrees t (there t refl) None Done (subst (λ phase. can_roll_back phase ≡ true) (sym (active-phase t active)) refl))
-    (λ other. agrees-only_reply x Done agrees)
+agreed-abort_active : (x : Present) (o : Option Transaction) → IsSoundCourse x → Agreed x → ((t : Transaction) → o ≡ Some t → IsIn t x.transactions.items) → Agreed (apply x (abort_active x o))
+agreed-abort_active x None sound agreed there = agreed-only_reply x Done agreed
+agreed-abort_active x (Some t) sound agreed there = if_cases (λ o. Agreed (apply x o)) (is_active t) (aborted_by x t None Done) (only_reply x Done)
+    (λ active. agreed-aborted_by x sound agreed t (there t refl) None Done (subst (λ phase. can_roll_back phase ≡ true) (sym (active-phase t active)) refl))
+    (λ other. agreed-only_reply x Done agreed)
 
-agrees-last : (x : Present) (object : Object) → IsSoundCourse x → Agrees x → Agrees (apply x (last_handle_gone x object))
-agrees-last x (TransactionObject id) sound agrees = agrees-abort_active x (transaction_at x.transactions.items id) sound agrees (λ t is. (transaction_at-found x.transactions.items id t is).0)
-agrees-last x (ManagerObject id) sound agrees = agrees-only_reply x Done agrees
-agrees-last x (EnlistmentObject id) sound agrees = agrees-only_reply x Done agrees
-agrees-last x (FileObject number) sound agrees =
+agreed-last : (x : Present) (object : Object) → IsSoundCourse x → Agreed x → Agreed (apply x (last_handle_gone x object))
+agreed-last x (TransactionObject id) sound agreed = agreed-abort_active x (transaction_at x.transactions.items id) sound agreed (λ t is. (transaction_at-found x.transactions.items id t is).0)
+agreed-last x (ManagerObject id) sound agreed = agreed-only_reply x Done agreed
+agreed-last x (EnlistmentObject id) sound agreed = agreed-only_reply x Done agreed
+agreed-last x (FileObject number) sound agreed =
     let o = record (only_reply x Done) { table = closed_file x.files.table number } in
-    agrees-still x o agrees refl refl (managers-stay x o refl) (omega arith) (summaries-stay x (apply x o) refl (λ t there recorded. as-owned x o t refl refl refl refl))
+    agreed-still x o agreed refl refl (managers-stay x o refl) (omega arith) (summaries-stay x (apply x o) refl (λ t there recorded. as-owned x o t refl refl refl refl))
 
-agrees-gone : (o : Option Object) (x : Present) → IsSoundCourse x → Agrees x → Agrees (apply x (handle_gone o x))
-agrees-gone None x sound agrees = agrees-only_reply x Done agrees
-agrees-gone (Some object) x sound agrees =
-    if_cases (λ o. Agrees (apply x o)) (has_handle x.handles object) (only_reply x Done) (last_handle_gone x object) (λ has. agrees-only_reply x Done agrees) (λ last. agrees-last x object sound agrees)
+agreed-gone : (o : Option Object) (x : Present) → IsSoundCourse x → Agreed x → Agreed (apply x (handle_gone o x))
+agreed-gone None x sound agreed = agreed-only_reply x Done agreed
+agreed-gone (Some object) x sound agreed =
+    if_cases (λ o. Agreed (apply x o)) (has_handle x.handles object) (only_reply x Done) (last_handle_gone x object) (λ has. agreed-only_reply x Done agreed) (λ last. agreed-last x object sound agreed)
 
-pub agrees-closed : (x : Present) (process : Pid) (label : Label) → IsSoundCourse x → Agrees x → Agrees (apply x (close_handle x process label))
+pub agreed-closed : (x : Present) (process : Pid) (label : Label) → IsSoundCourse x → Agreed x → Agreed (apply x (close_handle x process label))
 unfolding close_handle
-agrees-closed x process label sound agrees =
+agreed-closed x process label sound agreed =
     let unbound = record (only_reply x Done) { handles = without_handle x.handles process label } in
-    agrees-then x unbound (handle_gone (object_at x.handles process label)) (stays-unbound x process label sound) (agrees-reply x unbound agrees refl refl refl refl refl refl refl)
-    (λ sound' agrees'. (stays-sound _ _ (soundly-gone (object_at x.handles process label) _ sound'), agrees-gone (object_at x.handles process label) _ sound' agrees'))
+    agreed-then x unbound (handle_gone (object_at x.handles process label)) (stays-unbound x process label sound) (agreed-reply x unbound agreed refl refl refl refl refl refl refl)
+    (λ sound' agreed'. (stays-sound _ _ (soundly-gone (object_at x.handles process label) _ sound'), agreed-gone (object_at x.handles process label) _ sound' agreed'))
 
-agrees-closed_all : (labels : List Label) (x : Present) (process : Pid) → IsSoundCourse x → Agrees x → Agrees (apply x (closed_in_turn x process labels))
-agrees-closed_all [] x process sound agrees = agrees-only_reply x Done agrees
-agrees-closed_all (label ∷ labels) x process sound agrees = agrees-then x (close_handle x process label) (λ next. closed_in_turn next process labels) (stays-closed x process label sound) (agrees-closed x process label sound agrees)
-    (λ sound' agrees'. (stays-closed_all labels _ process sound', agrees-closed_all labels _ process sound' agrees'))
+agreed-closed_all : (labels : List Label) (x : Present) (process : Pid) → IsSoundCourse x → Agreed x → Agreed (apply x (closed_in_turn x process labels))
+agreed-closed_all [] x process sound agreed = agreed-only_reply x Done agreed
+agreed-closed_all (label ∷ labels) x process sound agreed = agreed-then x (close_handle x process label) (λ next. closed_in_turn next process labels) (stays-closed x process label sound) (agreed-closed x process label sound agreed)
+    (λ sound' agreed'. (stays-closed_all labels _ process sound', agreed-closed_all labels _ process sound' agreed'))
 
-pub agrees-exit : (x : Present) (process : Pid) → IsSoundCourse x → Agrees x → Agrees (apply x (exit x process))
+pub agreed-exit : (x : Present) (process : Pid) → IsSoundCourse x → Agreed x → Agreed (apply x (exit x process))
 unfolding exit
-agrees-exit x process sound agrees = agrees-closed_all (labels_of x.handles process) x process sound agrees
+agreed-exit x process sound agreed = agreed-closed_all (labels_of x.handles process) x process sound agreed
 
 -- ---- time
 
-agrees-due : (x : Present) (o : Option Transaction) → IsSoundCourse x → Agrees x → ((t : Transaction) → o ≡ Some t → IsIn t x.transactions.items) → Agrees (apply x (aborted_if_due x o))
-agrees-due x None sound agrees there = agrees-only_reply x Done agrees
-agrees-due x (Some t) sound agrees there = if_cases (λ o. Agrees (apply x o)) (is_due x.transactions.clock t) (aborted_by x t None Done) (only_reply x Done)
-    (λ due. agrees-aborted_by x sound agrees t (there t refl) None Done (may-roll t (and_parts _ (may_roll_back t) due).1))
-    (λ other. agrees-only_reply x Done agrees)
+pub agreed-due : (x : Present) (o : Option Transaction) → IsSoundCourse x → Agreed x → ((t : Transaction) → o ≡ Some t → IsIn t x.transactions.items) → Agreed (apply x (aborted_if_due x o))
+agreed-due x None sound agreed there = agreed-only_reply x Done agreed
+agreed-due x (Some t) sound agreed there = if_cases (λ o. Agreed (apply x o)) (is_due x.transactions.clock t) (aborted_by x t None Done) (only_reply x Done)
+    (λ due. agreed-aborted_by x sound agreed t (there t refl) None Done (may-roll t (and_parts _ (may_roll_back t) due).1))
+    (λ other. agreed-only_reply x Done agreed)
 
-agrees-in_turn : (ts : List Transaction) (x : Present) → IsSoundCourse x → Agrees x → Agrees (apply x (aborted_in_turn x ts))
-agrees-in_turn [] x sound agrees = agrees-only_reply x Done agrees
-agrees-in_turn (t ∷ ts) x sound agrees =
+agreed-in_turn : (ts : List Transaction) (x : Present) → IsSoundCourse x → Agreed x → Agreed (apply x (aborted_in_turn x ts))
+agreed-in_turn [] x sound agreed = agreed-only_reply x Done agreed
+agreed-in_turn (t ∷ ts) x sound agreed =
     let named = λ (u : Transaction) (is : transaction_at x.transactions.items t.id ≡ Some u). (transaction_at-found x.transactions.items t.id u is).0 in
-    agrees-then x (aborted_if_due x (transaction_at x.transactions.items t.id)) (λ next. aborted_in_turn next ts) (stays-due x (transaction_at x.transactions.items t.id) sound named)
-    (agrees-due x (transaction_at x.transactions.items t.id) sound agrees named) (λ sound' agrees'. (stays-in_turn ts _ sound', agrees-in_turn ts _ sound' agrees'))
+    agreed-then x (aborted_if_due x (transaction_at x.transactions.items t.id)) (λ next. aborted_in_turn next ts) (stays-due x (transaction_at x.transactions.items t.id) sound named)
+    (agreed-due x (transaction_at x.transactions.items t.id) sound agreed named) (λ sound' agreed'. (stays-in_turn ts _ sound', agreed-in_turn ts _ sound' agreed'))
 
-pub agrees-tick : (x : Present) (ms : ℕ) → IsSoundCourse x → Agrees x → Agrees (apply x (tick x ms))
+pub agreed-tick : (x : Present) (ms : ℕ) → IsSoundCourse x → Agreed x → Agreed (apply x (tick x ms))
 unfolding tick
-agrees-tick x ms sound agrees =
-    let later = agrees-in_turn x.transactions.items (with_clock x ms) (sound-clock x ms sound) (record { tree = agrees.tree; keys = agrees.keys; managers = agrees.managers; transactions = agrees.transactions; next_node = agrees.next_node }) in
-    record { tree = later.tree; keys = later.keys; managers = later.managers; transactions = later.transactions; next_node = later.next_node }
+agreed-tick x ms sound agreed =
+    let later = agreed-in_turn x.transactions.items (with_clock x ms) (sound-clock x ms sound) (agreed-alike x (with_clock x ms) refl agreed) in
+    agreed-alike (apply (with_clock x ms) (aborted_in_turn (with_clock x ms) x.transactions.items)) (apply x (aborted_in_turn (with_clock x ms) x.transactions.items)) refl later
 
 -- ---- objects are made
 
-pub agrees-create_transaction : (x : Present) (process : Pid) (label : Label) (timeout : ℕ) → Agrees x → Agrees (apply x (create_transaction x process label timeout))
+pub agreed-create_transaction : (x : Present) (process : Pid) (label : Label) (timeout : ℕ) → Agreed x → Agreed (apply x (create_transaction x process label timeout))
 unfolding create_transaction
-agrees-create_transaction x process label timeout agrees =
+agreed-create_transaction x process label timeout agreed =
     let o = create_transaction x process label timeout in
-    agrees-still x o agrees refl refl (managers-stay x o refl) (omega arith)
+    agreed-still x o agreed refl refl (managers-stay x o refl) (omega arith)
     (flat_map-append (summaries (apply x o)) x.transactions.items _ ∙ append-nil (flat_map (summaries (apply x o)) x.transactions.items)
     ∙ flat_map-alike (summaries (apply x o)) (summaries x) x.transactions.items (λ t there. summaries-kept x (apply x o) t (λ recorded. as-owned x o t refl refl refl refl)))
 
@@ -174,9 +179,9 @@ with_manager-last : (ids : List Id) (id : Id) → ((a : Id) → IsIn a ids → i
 with_manager-last [] id before = refl
 with_manager-last (a ∷ ids) id before = rw (before-not a id (before a (inl refl))) (ap (λ rest. a ∷ rest) (with_manager-last ids id (λ b there. before b (inr there))))
 
-pub agrees-create_manager : (x : Present) (process : Pid) (label : Label) (durability : Durability) → IsSoundCourse x → Agrees x → Agrees (apply x (create_resource_manager x process label durability))
+pub agreed-create_manager : (x : Present) (process : Pid) (label : Label) (durability : Durability) → IsSoundCourse x → Agreed x → Agreed (apply x (create_resource_manager x process label durability))
 unfolding create_resource_manager
-agrees-create_manager x process label durability sound agrees = go durability
+agreed-create_manager x process label durability sound agreed = go durability
   where
     id : Id
     id = next_id x.recorded.boots x.transactions.last_manager
@@ -212,15 +217,18 @@ agrees-create_manager x process label durability sound agrees = go durability
     ids : (durable : Bool) → durable_ids (map (served None []) (x.managers ++ record { id = id; is_durable = durable; queue = [] } ∷ [])) ≡ durable_ids x.managers ++ durable_ids (record { id = id; is_durable = durable; queue = [] } ∷ [])
     ids durable = ids-served None [] (x.managers ++ record { id = id; is_durable = durable; queue = [] } ∷ []) ∙ ids-append x.managers (record { id = id; is_durable = durable; queue = [] } ∷ [])
 
-    go : (d : Durability) → Agrees (apply x (o d))
-    go Durability.Volatile = agrees-still x (o Durability.Volatile) agrees refl refl (ids false ∙ append-nil (durable_ids x.managers)) (omega arith) (kept false (apply x (o Durability.Volatile)) refl refl refl refl refl)
+    go : (d : Durability) → Agreed (apply x (o d))
+    go Durability.Volatile = agreed-still x (o Durability.Volatile) agreed refl refl (ids false ∙ append-nil (durable_ids x.managers)) (omega arith) (kept false (apply x (o Durability.Volatile)) refl refl refl refl refl)
     go Durability.Durable = record {
-      tree = agrees.tree;
-      keys = agrees.keys;
-      managers = ap (λ ids. with_manager ids id) agrees.managers
-          ∙ with_manager-last (durable_ids x.managers) id (ids-in x.managers (λ m there. counted-before x.recorded.boots x.transactions.last_manager m.id (counted m there))) ∙ sym (ids true);
-      transactions = agrees.transactions ∙ sym (kept true (apply x (o Durability.Durable)) refl refl refl refl refl);
-      next_node = agrees.next_node;
+      agrees = record {
+        tree = (agreed.agrees).tree;
+        keys = (agreed.agrees).keys;
+        managers = ap (λ ids. with_manager ids id) (agreed.agrees).managers
+            ∙ with_manager-last (durable_ids x.managers) id (ids-in x.managers (λ m there. counted-before x.recorded.boots x.transactions.last_manager m.id (counted m there))) ∙ sym (ids true);
+        transactions = (agreed.agrees).transactions ∙ sym (kept true (apply x (o Durability.Durable)) refl refl refl refl refl);
+        next_node = (agreed.agrees).next_node;
+      };
+      carried = agreed.carried;
     }
 
 -- ---- enlistments
@@ -230,15 +238,15 @@ active-other : (x : Present) → IsSoundCourse x → (t u : Transaction) → IsI
 active-other x sound t u there there' active recorded = false_from_ne_true _ (λ same.
     recorded-later x u sound there' recorded (ap (λ (v : Transaction). v.phase) (same-by_id (λ (v : Transaction). v.id) x.transactions.items sound.transactions_rise u t there' there (sym (same_id-equal t.id u.id same))) ∙ active))
 
-pub agrees-create_enlistment : (x : Present) (process : Pid) (label : Label) (m : Option Manager) (t : Option Transaction) (kind : EnlistmentKind) → IsSoundCourse x → Agrees x
-    → ((u : Transaction) → t ≡ Some u → IsIn u x.transactions.items × (u.phase ≡ Active)) → Agrees (apply x (create_enlistment x process label m t kind))
+pub agreed-create_enlistment : (x : Present) (process : Pid) (label : Label) (m : Option Manager) (t : Option Transaction) (kind : EnlistmentKind) → IsSoundCourse x → Agreed x
+    → ((u : Transaction) → t ≡ Some u → IsIn u x.transactions.items × (u.phase ≡ Active)) → Agreed (apply x (create_enlistment x process label m t kind))
 unfolding create_enlistment
-agrees-create_enlistment x process label None t kind sound agrees active = agrees-only_reply x Done agrees
-agrees-create_enlistment x process label (Some m) None kind sound agrees active = agrees-only_reply x Done agrees
-agrees-create_enlistment x process label (Some m) (Some t) kind sound agrees active =
+agreed-create_enlistment x process label None t kind sound agreed active = agreed-only_reply x Done agreed
+agreed-create_enlistment x process label (Some m) None kind sound agreed active = agreed-only_reply x Done agreed
+agreed-create_enlistment x process label (Some m) (Some t) kind sound agreed active =
     let o = create_enlistment x process label (Some m) (Some t) kind in
     let e = new_enlistment x m t kind in
-    agrees-still x o agrees refl refl (managers-stay x o refl) (omega arith) (summaries-stay x (apply x o) refl (λ u there recorded.
+    agreed-still x o agreed refl refl (managers-stay x o refl) (omega arith) (summaries-stay x (apply x o) refl (λ u there recorded.
     let other = active-other x sound t u (active t refl).0 there (active t refl).1 recorded in record {
       enlistments = ap (λ es. by_rising_id (map brought_back es)) (
           filter-silent (λ f. takes_part u.id f && is_durable_at (apply x o).managers f.manager && f.is_prepared && not f.is_finished) x.transactions.enlistments e (rw other refl)
@@ -249,11 +257,11 @@ agrees-create_enlistment x process label (Some m) (Some t) kind sound agrees act
       settings = refl;
     }))
 
-pub agrees-keep_information : (x : Present) (o : Option Enlistment) (information : List ℕ) → IsSoundCourse x → Agrees x → ((e : Enlistment) → o ≡ Some e → IsIn e x.transactions.enlistments) → Passes (set_information_tests x o information)
-    → Agrees (apply x (keep_information x o information))
-agrees-keep_information x None information sound agrees there passes = agrees-only_reply x Done agrees
-agrees-keep_information x (Some e) information sound agrees there passes =
-    agrees-still x o agrees refl refl (managers-stay x o refl) (omega arith) (summaries-stay x (apply x o) refl (λ u there' recorded. record {
+pub agreed-keep_information : (x : Present) (o : Option Enlistment) (information : List ℕ) → IsSoundCourse x → Agreed x → ((e : Enlistment) → o ≡ Some e → IsIn e x.transactions.enlistments) → Passes (set_information_tests x o information)
+    → Agreed (apply x (keep_information x o information))
+agreed-keep_information x None information sound agreed there passes = agreed-only_reply x Done agreed
+agreed-keep_information x (Some e) information sound agreed there passes =
+    agreed-still x o agreed refl refl (managers-stay x o refl) (omega arith) (summaries-stay x (apply x o) refl (λ u there' recorded. record {
       enlistments = ap (λ es. by_rising_id (map brought_back es)) (
           filter-step (λ f. takes_part u.id f && is_durable_at (apply x o).managers f.manager && f.is_prepared && not f.is_finished) informed x.transactions.enlistments (λ f in_list.
           either (λ f. takes_part u.id f && is_durable_at (apply x o).managers f.manager && f.is_prepared && not f.is_finished) (λ f. refl) (no-part u.id) f in_list)

@@ -36,14 +36,14 @@ RiseEnlistments es = each_pair (λ (e f : Enlistment). is_before e.id f.id) es �
 
 -- ---- what is owed
 
-owed-pre_prepare : (e : Enlistment) → owes_pre_prepare e ≡ true → e.owes ≡ Some pre_prepare
+pub owed-pre_prepare : (e : Enlistment) → owes_pre_prepare e ≡ true → e.owes ≡ Some pre_prepare
 owed-pre_prepare e = go e.owes
   where
     go : (o : Option Owed) → owes_pre_prepare (record e { owes = o }) ≡ true → o ≡ Some pre_prepare
     go (Some pre_prepare) is = refl
     go _ is = absurd (true≢false (sym is))
 
-owed-prepare : (e : Enlistment) → owes_prepare e ≡ true → e.owes ≡ Some prepare
+pub owed-prepare : (e : Enlistment) → owes_prepare e ≡ true → e.owes ≡ Some prepare
 owed-prepare e = go e.owes
   where
     go : (o : Option Owed) → owes_prepare (record e { owes = o }) ≡ true → o ≡ Some prepare
@@ -84,14 +84,14 @@ not-both (Some owed) none some = true≢false (sym none)
 owes_none : (e : Enlistment) (owed : Owed) → e.owes ≡ Some owed → is_none e.owes ≡ true → ⊥
 owes_none e owed is none = true≢false (sym none ∙ ap is_none is)
 
-until-owed : (owes : Enlistment → Bool) (e : Enlistment) (owed : Owed) → e.owes ≡ Some owed → owes_until_finished owes e ≡ true → (owes e ≡ true) × (e.is_recovered ≡ true) × (e.is_finished ≡ false)
+pub until-owed : (owes : Enlistment → Bool) (e : Enlistment) (owed : Owed) → e.owes ≡ Some owed → owes_until_finished owes e ≡ true → (owes e ≡ true) × (e.is_recovered ≡ true) × (e.is_finished ≡ false)
 until-owed owes e owed is until = elim (cases_Bool (e.is_recovered && not e.is_finished)) [
   | inl both ↦ let parts = and_parts e.is_recovered (not e.is_finished) both in (rw both at until, parts.0, not-true _ parts.1)
   | inr other ↦ absurd (owes_none e owed is (rw other at until))
 ]
 
 -- one that takes part is prepared, or owes that
-preparing-parts : (e : Enlistment) → is_part_as Preparing e ≡ true → (is_waiting e ≡ true) ⊎ ((e.is_prepared ≡ false) × (owes_prepare e ≡ true) × (e.is_finished ≡ false))
+pub preparing-parts : (e : Enlistment) → is_part_as Preparing e ≡ true → (is_waiting e ≡ true) ⊎ ((e.is_prepared ≡ false) × (owes_prepare e ≡ true) × (e.is_finished ≡ false))
 preparing-parts e part = elim (if_parts e.is_prepared (is_waiting e) (owes_prepare e && not e.is_finished) part) [
   | inl waits ↦ inl waits.1
   | inr owes ↦ let both = and_parts (owes_prepare e) (not e.is_finished) owes.1 in inr (owes.0, both.0, not-true _ both.1)
@@ -117,12 +117,12 @@ answer-of SinglePhase e owed is part =
 answer-of Committing e owed is part = owed-commit e (until-owed owes_commit e owed is (and_parts e.is_prepared (owes_until_finished owes_commit e) part).1).0
 answer-of Aborting e owed is part = owed-rollback e (until-owed owes_rollback e owed is part).0
 
-is-pre_preparing : (phase : Phase) → answer_in phase ≡ Some pre_prepare → phase ≡ PrePreparing
+pub is-pre_preparing : (phase : Phase) → answer_in phase ≡ Some pre_prepare → phase ≡ PrePreparing
 unfolding answer_in
 is-pre_preparing PrePreparing is = refl
 is-pre_preparing _ is = absurd cc
 
-is-preparing : (phase : Phase) → answer_in phase ≡ Some prepare → phase ≡ Preparing
+pub is-preparing : (phase : Phase) → answer_in phase ≡ Some prepare → phase ≡ Preparing
 unfolding answer_in
 is-preparing Preparing is = refl
 is-preparing _ is = absurd cc
@@ -244,7 +244,7 @@ module _ (boot : ℕ) (c : Course) (stands : Stands boot c) (brought : (e : Enli
   moved-one f same recovered = moved-changing c (has_id e.id) f c.sent (changes-one f same recovered) (λ s sent. inl sent)
 
   -- one that owes something takes part, and is recovered
-  takes_part-owing : (owed : Owed) → e.owes ≡ Some owed → takes_part (c.transaction).id e ≡ true
+  pub takes_part-owing : (owed : Owed) → e.owes ≡ Some owed → takes_part (c.transaction).id e ≡ true
   takes_part-owing owed is = elim (cases_Bool (takes_part (c.transaction).id e)) [
     | inl part ↦ part
     | inr other ↦
@@ -382,17 +382,17 @@ module _ (boot : ℕ) (c : Course) (stands : Stands boot c) (brought : (e : Enli
     is_prepare : e.owes ≡ Some prepare
     is_prepare = owed-prepare e owes
 
-    phase_preparing : (c.transaction).phase ≡ Preparing
+    pub phase_preparing : (c.transaction).phase ≡ Preparing
     phase_preparing = is-preparing (c.transaction).phase (phase-owing prepare is_prepare)
 
     at_preparing : Stands boot (in_phase c Preparing)
     at_preparing = stands-in boot c Preparing phase_preparing stands
 
-    part_preparing : takes_part (c.transaction).id e ≡ true
+    pub part_preparing : takes_part (c.transaction).id e ≡ true
     part_preparing = takes_part-owing prepare is_prepare
 
     -- it was not prepared before
-    unprepared : (e.is_prepared ≡ false) × (owes_prepare e ≡ true) × (e.is_finished ≡ false)
+    pub unprepared : (e.is_prepared ≡ false) × (owes_prepare e ≡ true) × (e.is_finished ≡ false)
     unprepared = elim (preparing-parts e ((at_preparing.stand).parts e there part_preparing)) [ inl waits ↦ absurd (owes_none e prepare is_prepare (waiting-parts e waits).0) | inr parts ↦ parts ]
 
     stand_prepared : Stand (with_enlistments (has_id e.id) prepared c.enlistments) (c.transaction).id (is_part_as Preparing)
@@ -461,10 +461,10 @@ module _ (boot : ℕ) (c : Course) (stands : Stands boot c) (brought : (e : Enli
   c_left = changing_one c e.id left
 
   module _ (ordinary : is_superior e ≡ false) (votes : is_open_for_votes e ≡ true) (voting : is_voting (c.transaction).phase ≡ true) where
-    part_left : takes_part (c.transaction).id e ≡ true
+    pub part_left : takes_part (c.transaction).id e ≡ true
     part_left = and_from _ _ (and_from _ _ own (not_from_false _ ordinary)) (and_parts (not e.is_read_only) (not e.is_prepared) votes).0
 
-    unprepared_left : e.is_prepared ≡ false
+    pub unprepared_left : e.is_prepared ≡ false
     unprepared_left = not-true _ (and_parts (not e.is_read_only) (not e.is_prepared) votes).1
 
     moved_left : Moved c c_left

@@ -23,7 +23,7 @@ use Rattle.ktm_world.specs.Transactions.{same_id, change_at}
 use Rattle.ktm_world.specs.Changes.{has_changes}
 use Rattle.ktm_laws.specs.Footprint.{IsIn}
 use Rattle.ktm_laws.specs.GoodState.{each_pair}
-use Rattle.ktm_laws.specs.SoundCourse.{IsSoundCourse, is_counted, has_transaction, has_manager, has_enlistment, is_object_there, is_last_recover, is_note_of, are_not_both_superiors, is_superior_durable, is_unrecovered_well, is_outcome_of, is_of_its_boot, is_superior_as, has_superior_as_asked, is_idle, is_part_as, is_enlistment_as, are_enlistments_as_asked, is_awaited_as, is_awaited, is_recorded_as, is_recorded_as_asked, is_alone_in_one_phase}
+use Rattle.ktm_laws.specs.SoundCourse.{IsSoundCourse, is_counted, is_made_with_it, has_transaction, has_manager, has_enlistment, is_object_there, is_last_recover, is_note_of, are_not_both_superiors, is_superior_durable, is_unrecovered_well, is_outcome_of, is_of_its_boot, is_superior_as, has_superior_as_asked, is_idle, is_part_as, is_enlistment_as, are_enlistments_as_asked, is_awaited_as, is_awaited, is_recorded_as, is_recorded_as_asked, is_alone_in_one_phase}
 use Rattle.ktm_laws.proofs.Lists.{IsIn-unmap}
 use Rattle.ktm_laws.proofs.Elements.{list_all-at, list_all-from, list_any-from}
 use Rattle.ktm_laws.proofs.Tables.{same_id-equal, same_id-from, same_id-sym, before_other}
@@ -266,6 +266,8 @@ module _ (x : Present) (sound : IsSoundCourse x) (t : Transaction) (there : IsIn
         (λ v is other. list_all-at (λ (v : Transaction). is_counted (x.recorded).boots (x.transactions).last_transaction v.id) ts sound.transactions_counted v is);
     enlistments_counted = each-enlistment (λ e. is_counted (x.recorded).boots (x.transactions).last_enlistment e.id)
         (λ e is. subst (λ id. is_counted (x.recorded).boots (x.transactions).last_enlistment id ≡ true) (sym (id-same e)) (list_all-at (λ (e : Enlistment). is_counted (x.recorded).boots (x.transactions).last_enlistment e.id) es sound.enlistments_counted e is));
+    enlistments_made = each-enlistment (is_made_with_it (x.recorded).boots)
+        (λ e is. (λ i. is_made_with_it (x.recorded).boots (record e { id = id-same e i; transaction = (moved.same e).transaction i })) ∙ list_all-at (is_made_with_it (x.recorded).boots) es sound.enlistments_made e is);
     managers_counted = sound.managers_counted;
     labels_differ = sound.labels_differ;
     booted = sound.booted;

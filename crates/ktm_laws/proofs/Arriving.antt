@@ -35,15 +35,15 @@ pub named : (x : Present) → IsSoundFiles x → (o : OpenFile) → IsIn o x.fil
 named x sound o there = list_all-at (λ (p : OpenFile). has_handle x.handles (Object.File p.number)) x.files.table.opens sound.opens_named o there
 
 -- the changes that works commit
-OfWorks : (x : Present) (works : List Work) (cs : List Change) → Type 0
+pub OfWorks : (x : Present) (works : List Work) (cs : List Change) → Type 0
 OfWorks x works cs = ((committed_with (committed_now x) works).tree ≡ (fold with_change (committed_files x.files []) cs).tree)
     × ((committed_with (committed_now x) works).versions ≡ (fold with_change (committed_files x.files []) cs).versions)
 
-of_none : (x : Present) (works : List Work) → works ≡ [] → OfWorks x works []
+pub of_none : (x : Present) (works : List Work) → works ≡ [] → OfWorks x works []
 unfolding OfWorks
 of_none x works none = (ap (λ ws. (committed_with (committed_now x) ws).tree) none, ap (λ ws. (committed_with (committed_now x) ws).versions) none)
 
-of_one : (x : Present) (works : List Work) (w : Work) (cs : List Change) → works ≡ w ∷ [] → w.changes ≡ cs → OfWorks x works cs
+pub of_one : (x : Present) (works : List Work) (w : Work) (cs : List Change) → works ≡ w ∷ [] → w.changes ≡ cs → OfWorks x works cs
 unfolding OfWorks
 of_one x works w cs one changes = (
   ap (λ ws. (committed_with (committed_now x) ws).tree) one ∙ ap (λ ds. (fold with_change (committed_now x) ds).tree) changes ∙ tree-store cs (committed_now x) (committed_files x.files []) refl refl,
@@ -55,7 +55,7 @@ module _ (lists : ListsLaw) (formed : FormedLaw) where
 
   module _ (x : Present) (order : AreInOrder x) (sound : IsSoundFiles x) (t : Transaction) (there : IsIn t x.transactions.items) (ss : OwnSettings) (c : Course) (reply : Reply)
       (is : IsCourse t (own_changes x.files.table.own t.id) ss c) where
-    abbrev bare : Outcome
+    abbrev pub bare : Outcome
     bare = record (only_reply x reply) {
       events = c.events;
       works = c.works;
@@ -64,7 +64,7 @@ module _ (lists : ListsLaw) (formed : FormedLaw) where
     }
 
     -- its outcome is known
-    abbrev gone : Outcome
+    abbrev pub gone : Outcome
     gone = record bare {
       forgotten = c.transaction.id ∷ [];
       table = without_transaction bare.table c.transaction.id;
@@ -72,13 +72,13 @@ module _ (lists : ListsLaw) (formed : FormedLaw) where
     }
 
     -- what is of others
-    abbrev others_keep : Option Id → Bool
+    abbrev pub others_keep : Option Id → Bool
     others_keep other = not (is_of t.id other)
 
     boots : (after_events x.recorded c.events).boots ≡ x.recorded.boots
     boots = boots-all c.events x.recorded is.events
 
-    end-files : (cs : List Change) → OfWorks x c.works cs → (apply x gone).files ≡ passed x.files cs others_keep x.files.table.next_node
+    pub end-files : (cs : List Change) → OfWorks x c.works cs → (apply x gone).files ≡ passed x.files cs others_keep x.files.table.next_node
     unfolding OfWorks
     end-files cs of i = record {
       tree = of.0 i;
@@ -172,7 +172,7 @@ module _ (lists : ListsLaw) (formed : FormedLaw) where
   pub only_reply-goes : (x : Present) (reply : Reply) → Goes x (only_reply x reply)
   only_reply-goes x reply = record { opens = refl; keeps = λ order sound. (record { transactions_rise = order.transactions_rise; labels_differ = order.labels_differ }, only_reply-sound x reply sound) }
 
-  both-forgotten : (as' bs : List Id) (fs : List FirstOpen) → filter (λ f. not (is_forgotten (as' ++ bs) f.transaction)) fs ≡ filter (λ f. not (is_forgotten bs f.transaction)) (filter (λ f. not (is_forgotten as' f.transaction)) fs)
+  pub both-forgotten : (as' bs : List Id) (fs : List FirstOpen) → filter (λ f. not (is_forgotten (as' ++ bs) f.transaction)) fs ≡ filter (λ f. not (is_forgotten bs f.transaction)) (filter (λ f. not (is_forgotten as' f.transaction)) fs)
   both-forgotten as' bs [] = refl
   both-forgotten as' bs (f ∷ fs) = elim (cases_Bool (is_forgotten as' f.transaction)) [
     | inl first ↦ rw (list_any-append (same_id f.transaction) as' bs, first) (both-forgotten as' bs fs)

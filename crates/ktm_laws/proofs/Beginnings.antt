@@ -1,7 +1,7 @@
 -- New transactions, resource managers and enlistments leave a machine sound, and so do recovery information and the passing of time.
 use Rattle.std.specs.Prelude.{if◌then◌else◌}
 use Rattle.std.proofs.Common.{◌≡◌, ℕ, ◌+◌, ◌≤◌, ◌==◌, ◌&&◌, ◌||◌, not, Bool, true, false, List, [], ◌∷◌, ◌++◌, length, map, filter, count_by, nat_lt, nat_le, Option, Some, None, is_some, is_none, refl, sym, ◌∙◌, ap, subst, arith, inl, inr}
-use Rattle.std.proofs.lemmas.Bool.{cases_Bool, and_parts, and_from, and_left, or_left, or_right, ltb-true, le-leb, leb-true, true≢false, not_from_false, false_from_ne_true}
+use Rattle.std.proofs.lemmas.Bool.{cases_Bool, and_parts, and_from, and_left, or_left, or_right, eq-eqb, ltb-true, le-leb, leb-true, true≢false, not_from_false, false_from_ne_true}
 use Rattle.std.proofs.lemmas.List.Sums.{length-filter}
 use Rattle.std.specs.List.{list_any, list_all}
 use Rattle.ktm_base.specs.declared.id.Id.{Id}
@@ -19,7 +19,7 @@ use Rattle.ktm_world.specs.Present.{Present}
 use Rattle.ktm_world.specs.Transactions.{same_id}
 use Rattle.ktm_laws.specs.Footprint.{IsIn}
 use Rattle.ktm_laws.specs.GoodState.{each_pair}
-use Rattle.ktm_laws.specs.SoundCourse.{IsSoundCourse, is_counted, has_transaction, has_manager, has_enlistment_of, is_object_there, is_last_recover, is_note_of, are_not_both_superiors, is_superior_durable, is_unrecovered_well, is_outcome_of, is_of_its_boot, is_superior_as, has_superior_as_asked, is_enlistment_as, are_enlistments_as_asked, is_awaited_as, is_awaited, is_recorded_as, is_recorded_as_asked, is_alone_in_one_phase}
+use Rattle.ktm_laws.specs.SoundCourse.{IsSoundCourse, is_counted, is_made_with_it, has_transaction, has_manager, has_enlistment_of, is_object_there, is_last_recover, is_note_of, are_not_both_superiors, is_superior_durable, is_unrecovered_well, is_outcome_of, is_of_its_boot, is_superior_as, has_superior_as_asked, is_enlistment_as, are_enlistments_as_asked, is_awaited_as, is_awaited, is_recorded_as, is_recorded_as_asked, is_alone_in_one_phase}
 use Rattle.ktm_laws.proofs.Lists.{IsIn-unmap}
 use Rattle.ktm_laws.proofs.Elements.{list_all-at, list_all-from, list_any-at, list_any-from}
 use Rattle.ktm_laws.proofs.Tables.{same_id-equal, same_id-from, same_id-sym}
@@ -85,6 +85,7 @@ module _ (x : Present) (timeout : ℕ) (sound : IsSoundCourse x) (fits : (x.tran
         (list_all-at (λ (t : Transaction). is_counted (x.recorded).boots (x.transactions).last_transaction t.id) ts sound.transactions_counted u there)))
         (counted-next (x.recorded).boots (x.transactions).last_transaction sound.booted fits);
     enlistments_counted = sound.enlistments_counted;
+    enlistments_made = sound.enlistments_made;
     managers_counted = sound.managers_counted;
     labels_differ = sound.labels_differ;
     booted = sound.booted;
@@ -159,6 +160,7 @@ module _ (x : Present) (durable : Bool) (sound : IsSoundCourse x) (fits : (x.tra
     managers_rise = each_pair-push (λ (m n : Manager). is_before m.id n.id) x.managers m sound.managers_rise (λ n there. counted-before (x.recorded).boots (x.transactions).last_manager n.id (counted-manager n there));
     transactions_counted = sound.transactions_counted;
     enlistments_counted = sound.enlistments_counted;
+    enlistments_made = sound.enlistments_made;
     managers_counted = list_all-push (λ (n : Manager). is_counted (x.recorded).boots ((x.transactions).last_manager + 1) n.id) x.managers m
         (list_all-from (λ (n : Manager). is_counted (x.recorded).boots ((x.transactions).last_manager + 1) n.id) x.managers (λ n there. counted-more (x.recorded).boots (x.transactions).last_manager n.id (counted-manager n there)))
         (counted-next (x.recorded).boots (x.transactions).last_manager sound.booted fits);
@@ -283,6 +285,7 @@ module _ (x : Present) (m : Manager) (t : Transaction) (kind : EnlistmentKind) (
     enlistments_counted = list_all-push (λ (f : Enlistment). is_counted (x.recorded).boots ((x.transactions).last_enlistment + 1) f.id) es-e e
         (list_all-from (λ (f : Enlistment). is_counted (x.recorded).boots ((x.transactions).last_enlistment + 1) f.id) es-e (λ f there. counted-more (x.recorded).boots (x.transactions).last_enlistment f.id (counted-enlistment f there)))
         (counted-next (x.recorded).boots (x.transactions).last_enlistment sound.booted fits);
+    enlistments_made = list_all-push (is_made_with_it (x.recorded).boots) es-e e sound.enlistments_made (or_right _ _ (eq-eqb (x.recorded).boots (x.recorded).boots refl));
     managers_counted = sound.managers_counted;
     labels_differ = sound.labels_differ;
     booted = sound.booted;
@@ -328,6 +331,7 @@ sound-clock x ms sound = record {
   managers_rise = sound.managers_rise;
   transactions_counted = sound.transactions_counted;
   enlistments_counted = sound.enlistments_counted;
+  enlistments_made = sound.enlistments_made;
   managers_counted = sound.managers_counted;
   labels_differ = sound.labels_differ;
   booted = sound.booted;
@@ -452,6 +456,7 @@ module _ (x : Present) (id : Id) (information : List ℕ) (sound : IsSoundCourse
     managers_rise = sound.managers_rise;
     transactions_counted = sound.transactions_counted;
     enlistments_counted = same-all (λ e. is_counted (x.recorded).boots (x.transactions).last_enlistment e.id) (λ e. refl) ∙ sound.enlistments_counted;
+    enlistments_made = same-all (is_made_with_it (x.recorded).boots) (λ e. refl) ∙ sound.enlistments_made;
     managers_counted = sound.managers_counted;
     labels_differ = sound.labels_differ;
     booted = sound.booted;

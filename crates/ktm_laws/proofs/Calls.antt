@@ -114,7 +114,7 @@ module _ (x : Present) (sound : IsSoundCourse x) (t : Transaction) (there : IsIn
   stands : Stands boot c
   stands = stands-now x t caller sound there
 
-  fresh-active : t.phase ≡ Active → Fresh boot c
+  pub fresh-active : t.phase ≡ Active → Fresh boot c
   fresh-active is = let at = stands-in boot c Active is stands in fresh-from boot c at.outcome (here-from boot (record t { phase = Active }) refl at.boots) at.recorded at.stand (brought-now x t caller sound)
 
   fresh-requested : t.phase ≡ Requested → Fresh boot c
@@ -123,13 +123,13 @@ module _ (x : Present) (sound : IsSoundCourse x) (t : Transaction) (there : IsIn
   fresh-pre_prepared : t.phase ≡ PrePrepared → Fresh boot c
   fresh-pre_prepared is = let at = stands-in boot c PrePrepared is stands in fresh-from boot c at.outcome (here-from boot (record t { phase = PrePrepared }) refl at.boots) at.recorded at.stand (brought-now x t caller sound)
 
-  fresh-before_prepare : (phase : Phase) → t.phase ≡ phase → before_prepare phase ≡ true → Fresh boot c
+  pub fresh-before_prepare : (phase : Phase) → t.phase ≡ phase → before_prepare phase ≡ true → Fresh boot c
   fresh-before_prepare Active is before = fresh-active is
   fresh-before_prepare Requested is before = fresh-requested is
   fresh-before_prepare PrePrepared is before = fresh-pre_prepared is
   fresh-before_prepare _ is before = absurd (true≢false (sym before))
 
-  fresh-before_pre_prepare : (phase : Phase) → t.phase ≡ phase → before_pre_prepare phase ≡ true → Fresh boot c
+  pub fresh-before_pre_prepare : (phase : Phase) → t.phase ≡ phase → before_pre_prepare phase ≡ true → Fresh boot c
   fresh-before_pre_prepare Active is before = fresh-active is
   fresh-before_pre_prepare Requested is before = fresh-requested is
   fresh-before_pre_prepare _ is before = absurd (true≢false (sym before))

@@ -78,11 +78,8 @@ module _ (x y : Present) (keep : OpenFile → Bool) (sound : IsSoundFiles x) (st
   stays id was = subst (λ ts. is_undecided_in ts id ≡ true) (sym step.items) was
 
   last-still : (o : FirstOpen) → is_open_last x.files o ≡ true → is_open_last z.files o ≡ true
-  last-still o was = elim (or_cases (not (is_in (holds_now x.files o.transaction).nodes o.file) || has_dropped (own_changes x.files.table.own o.transaction) o.file) (is_last_version x.files o) was) [
-    | inl first ↦ elim (or_cases (not (is_in (holds_now x.files o.transaction).nodes o.file)) (has_dropped (own_changes x.files.table.own o.transaction) o.file) first) [
-      | inl free ↦ or_left _ _ (or_left _ _ (not_from_false _ (not-held o.transaction o.file (not-true _ free))))
-      | inr dropped ↦ or_left _ _ (or_right _ _ dropped)
-    ]
+  last-still o was = elim (or_cases (not (is_in (holds_now x.files o.transaction).nodes o.file)) (is_last_version x.files o) was) [
+    | inl free ↦ or_left _ _ (not_from_false _ (not-held o.transaction o.file (not-true _ free)))
     | inr last ↦ or_right _ _ last
   ]
 
@@ -160,7 +157,7 @@ module _ (x y : Present) (keep : OpenFile → Bool) (sound : IsSoundFiles x) (st
 -- ---- handles
 
 -- a label that is bound to one object is bound to no other
-bound-object : (hs : List Handle) (process : Pid) (label : Label) (object : Object) → each_pair is_labelled_apart hs ≡ true → object_at hs process label ≡ Some object
+pub bound-object : (hs : List Handle) (process : Pid) (label : Label) (object : Object) → each_pair is_labelled_apart hs ≡ true → object_at hs process label ≡ Some object
     → (h : Handle) → IsIn h hs → is_handle process label h ≡ true → h.object ≡ object
 bound-object [] process label object differ bound h there is = absurd there
 bound-object (g ∷ gs) process label object differ bound h there is =
@@ -182,7 +179,7 @@ bound-object (g ∷ gs) process label object differ bound h there is =
       ]
     ]
 
-unbound : (hs : List Handle) (process : Pid) (label : Label) → object_at hs process label ≡ None → (h : Handle) → IsIn h hs → is_handle process label h ≡ false
+pub unbound : (hs : List Handle) (process : Pid) (label : Label) → object_at hs process label ≡ None → (h : Handle) → IsIn h hs → is_handle process label h ≡ false
 unbound [] process label none h there = absurd there
 unbound (g ∷ gs) process label none h there = elim (cases_Bool (is_handle process label g)) [
   | inl here ↦ absurd (none-some g.object (sym (rw here at none)))
@@ -200,7 +197,7 @@ still-named hs process label other apart has =
 -- ---- CloseHandle and exit
 
 module _ (lists : ListsLaw) (formed : FormedLaw) where
-  abbrev unbinding : Present → Pid → Label → Outcome
+  abbrev pub unbinding : Present → Pid → Label → Outcome
   unbinding x process label = record (only_reply x Done) { handles = without_handle x.handles process label }
 
   order-unbound : (x y : Present) (process : Pid) (label : Label) → y.transactions.items ≡ x.transactions.items → y.handles ≡ without_handle x.handles process label → AreInOrder x → AreInOrder y
@@ -210,7 +207,7 @@ module _ (lists : ListsLaw) (formed : FormedLaw) where
   }
 
   -- the label of an object that is no file is unbound
-  unbinding-goes : (x : Present) (process : Pid) (label : Label) → (AreInOrder x → (n : ℕ) (h : Handle) → IsIn h x.handles → is_handle process label h ≡ true → same_object h.object (FileObject n) ≡ false)
+  pub unbinding-goes : (x : Present) (process : Pid) (label : Label) → (AreInOrder x → (n : ℕ) (h : Handle) → IsIn h x.handles → is_handle process label h ≡ true → same_object h.object (FileObject n) ≡ false)
       → Goes lists formed x (unbinding x process label)
   unbinding-goes x process label apart = record {
     opens = refl;
@@ -228,7 +225,7 @@ module _ (lists : ListsLaw) (formed : FormedLaw) where
       first-same : (x : Present) → filter (λ (f : FirstOpen). true) (x.files.first_opens ++ []) ≡ x.files.first_opens
       first-same x = filter-true (x.files.first_opens ++ []) ∙ append-nil x.files.first_opens
 
-  abort_active-goes : (y : Present) (id : Id) → Goes lists formed y (abort_active y (transaction_at y.transactions.items id))
+  pub abort_active-goes : (y : Present) (id : Id) → Goes lists formed y (abort_active y (transaction_at y.transactions.items id))
   abort_active-goes y id = go (transaction_at y.transactions.items id) refl
     where
       go : (t : Option Transaction) → transaction_at y.transactions.items id ≡ t → Goes lists formed y (abort_active y t)
@@ -238,11 +235,11 @@ module _ (lists : ListsLaw) (formed : FormedLaw) where
           (course-goes lists formed y t None aborting (λ c. Done) (transaction_at-in y.transactions.items id t found) aborting-is) (only_reply-goes lists formed y Done)
 
   -- the last handle of a transaction, a resource manager or an enlistment is gone
-  gone-goes : (y : Present) (object : Object) → Goes lists formed y (last_handle_gone y object) → Goes lists formed y (handle_gone (Some object) y)
+  pub gone-goes : (y : Present) (object : Object) → Goes lists formed y (last_handle_gone y object) → Goes lists formed y (handle_gone (Some object) y)
   gone-goes y object last = either-goes lists formed y (has_handle y.handles object) (only_reply y Done) (last_handle_gone y object) (only_reply-goes lists formed y Done) last
 
   -- the handle of a file is closed, and the file ends where it was the last one
-  file-goes : (x : Present) (process : Pid) (label : Label) (n : ℕ) → object_at x.handles process label ≡ Some (FileObject n) → Goes lists formed x (and_then x (unbinding x process label) (handle_gone (Some (FileObject n))))
+  pub file-goes : (x : Present) (process : Pid) (label : Label) (n : ℕ) → object_at x.handles process label ≡ Some (FileObject n) → Goes lists formed x (and_then x (unbinding x process label) (handle_gone (Some (FileObject n))))
   file-goes x process label n bound = go (has_handle (without_handle x.handles process label) (FileObject n)) refl
     where
       x1 : Present

@@ -1,5 +1,5 @@
 -- Elements of lists, and tests of each and of each two of them.
-use Rattle.std.proofs.Common.{◌≡◌, Bool, true, find, Some, List, [], ◌∷◌, ◌++◌, filter, refl, sym, ◌∙◌, subst, inl, inr, ◌⊎◌}
+use Rattle.std.proofs.Common.{◌≡◌, Bool, true, find, Some, List, [], ◌∷◌, ◌++◌, filter, refl, sym, ◌∙◌, ap, subst, inl, inr, ◌⊎◌}
 use Rattle.std.proofs.lemmas.Bool.{cases_Bool, and_parts, and_from, true≢false}
 use Rattle.std.proofs.lemmas.Option.{none-some, same_Some}
 use Rattle.std.specs.List.{list_all, list_any, flat_map}
@@ -40,6 +40,25 @@ IsIn-unflat f (z ∷ zs) y there = elim (IsIn-cases y (f z) (flat_map f zs) ther
   | inl here ↦ (z, inl refl, here)
   | inr later ↦ let rest = IsIn-unflat f zs y later in (rest.0, inr rest.1, rest.2)
 ]
+
+-- ---- equal lists
+
+pub some-not_none : {X : Type 0} (x : X) (xs : List X) → x ∷ xs ≡ [] → ⊥
+some-not_none x xs same = absurd (cc)
+
+pub first-same : {X : Type 0} (x y : X) (xs ys : List X) → x ∷ xs ≡ y ∷ ys → x ≡ y
+first-same {X} x y xs ys same = ap first_or same
+  where
+    first_or : List X → X
+    first_or [] = x
+    first_or (z ∷ zs) = z
+
+pub rest-same : {X : Type 0} (x y : X) (xs ys : List X) → x ∷ xs ≡ y ∷ ys → xs ≡ ys
+rest-same {X} x y xs ys same = ap behind_first same
+  where
+    behind_first : List X → List X
+    behind_first [] = []
+    behind_first (z ∷ zs) = zs
 
 -- ---- a test of each
 
@@ -142,6 +161,18 @@ each_pair-flat given test f (z ∷ zs) pairs each across =
     each_pair-append test (f z) (flat_map f zs) (each z (inl refl))
     (each_pair-flat given test f zs parts.1 (λ x there. each x (inr there)) (λ x y there there'. across x y (inr there) (inr there')))
     (λ a b there there'. let of = IsIn-unflat f zs b there' in across z of.0 (inl refl) (inr of.1) (list_all-at (given z) zs parts.0 of.0 of.1) a b there of.2)
+
+-- of the lists of those that are kept each two pass too
+pub each_pair-flat_kept : {X Y : Type 0} (test : Y → Y → Bool) (f : X → List Y) (keep : X → Bool) (xs : List X) → each_pair test (flat_map f xs) ≡ true → each_pair test (flat_map f (filter keep xs)) ≡ true
+each_pair-flat_kept test f keep [] pairs = refl
+each_pair-flat_kept test f keep (x ∷ xs) pairs = elim (cases_Bool (keep x)) [
+  | inr out ↦ rw out (each_pair-flat_kept test f keep xs (each_pair-right test (f x) (flat_map f xs) pairs))
+  | inl stays ↦ rw stays (each_pair-append test (f x) (flat_map f (filter keep xs)) (each_pair-left test (f x) (flat_map f xs) pairs)
+      (each_pair-flat_kept test f keep xs (each_pair-right test (f x) (flat_map f xs) pairs))
+      (λ a b there there'.
+      let from = IsIn-unflat f (filter keep xs) b there' in
+      each_pair-across test (f x) (flat_map f xs) pairs a b there (IsIn-flat_map f xs from.0 b (IsIn-filter keep xs from.0 from.1).0 from.2)))
+]
 
 pub each_pair-unflat : {X Y : Type 0} (test : Y → Y → Bool) (f : X → List Y) (xs : List X) → each_pair test (flat_map f xs) ≡ true → (x : X) → IsIn x xs → each_pair test (f x) ≡ true
 each_pair-unflat test f [] pairs x there = absurd there

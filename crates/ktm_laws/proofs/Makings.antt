@@ -108,6 +108,7 @@ sound-handles x handles sound apart there = record {
   managers_rise = sound.managers_rise;
   transactions_counted = sound.transactions_counted;
   enlistments_counted = sound.enlistments_counted;
+  enlistments_made = sound.enlistments_made;
   managers_counted = sound.managers_counted;
   labels_differ = apart;
   booted = sound.booted;

@@ -327,14 +327,14 @@ ends-there by (f ∷ fs) file rises there = elim (cases_Bool (f == file)) [
 abbrev none_at_all : List ℕ
 none_at_all = []
 
-cut-none : (bs : List ℕ) → cut_to bs 0 ≡ []
+pub cut-none : (bs : List ℕ) → cut_to bs 0 ≡ []
 cut-none bs = let e : 0 - length bs ≡ 0 = omega arith in ap (λ n. take 0 bs ++ replicate n 0) e
 
 drop-none : (n : ℕ) → drop n (none_at_all) ≡ none_at_all
 drop-none zero = refl
 drop-none (suc n) = refl
 
-put-none : (old bs : List ℕ) → old ≡ [] → put_over old 0 bs ≡ bs
+pub put-none : (old bs : List ℕ) → old ≡ [] → put_over old 0 bs ≡ bs
 put-none old bs none =
     ap (λ o. put_over o 0 bs) none ∙ ap (λ o. o ++ bs ++ drop (0 + length bs) []) (cut-none []) ∙ ap (λ o. bs ++ o) (drop-none (0 + length bs)) ∙ append-nil bs
 
@@ -404,7 +404,7 @@ ends-apply by (g ∷ gs) tree are = go (λ t still. ends-apply by gs t still) (b
         let put-applies : applies t put ≡ true = applies-from t put (is_file-kept tree (Cut g 0 []) cut-applies refl g (are g (inl refl)), refl) in
         and_from _ _ cut-applies (and_from _ _ put-applies (rest (changed t put) (λ f there. is_file-kept t put put-applies refl f (is_file-kept tree (Cut g 0 []) cut-applies refl f (are f (inr there))))))
 
-changed_all-append : (tree : Tree) (as' bs : List Change) → changed_all tree (as' ++ bs) ≡ changed_all (changed_all tree as') bs
+pub changed_all-append : (tree : Tree) (as' bs : List Change) → changed_all tree (as' ++ bs) ≡ changed_all (changed_all tree as') bs
 changed_all-append tree as' bs = fold-append changed tree as' bs
 
 -- the files with bytes are files once one change more has applied to the names

@@ -43,6 +43,7 @@ use Rattle.ktm_laws.specs.Formed.{FormedLaw}
 use Rattle.ktm_laws.specs.GoodState.{puts_some}
 use Rattle.ktm_laws.specs.Openings.{with_file}
 use Rattle.ktm_laws.specs.OwnChange.{Owns, owned}
+use Rattle.ktm_laws.specs.PlainChange.{Lands}
 use Rattle.ktm_laws.specs.SoundFiles.{IsSoundFiles, has_dropped, is_drawn_node, is_gone, is_undecided_in, made_or_opened, may_use, opens_no_directory}
 use Rattle.ktm_laws.proofs.Applying.{Applies-from, Fits-from, applies-from}
 use Rattle.ktm_laws.proofs.Arriving.{named}
@@ -87,7 +88,7 @@ made-file tree n directory name is =
     let c = Make n directory File name in ap (λ o. is_some (content_of o)) (node_at-there tree c (Fits-from tree c (Applies-from tree c is)))
 
 -- a file that may be cut is
-cut-applies : (tree : Tree) (n : ℕ) → is_file tree n ≡ true → applies tree (Cut n 0 []) ≡ true
+pub cut-applies : (tree : Tree) (n : ℕ) → is_file tree n ≡ true → applies tree (Cut n 0 []) ≡ true
 cut-applies tree n file = applies-from tree (Cut n 0 []) (file, refl)
 
 -- ---- what another transaction holds
@@ -137,20 +138,25 @@ changing-act files who n changes is none = subst (λ b. conflicts files who (ope
 module _ (lists : ListsLaw) (formed : FormedLaw) where
   -- ---- writing
 
+  -- a plain handle that may write its file puts or cuts it
+  pub lands-written : (x : Present) → IsSoundFiles x → (o : OpenFile) → IsIn o x.files.table.opens → writes o.access ≡ true → (c : Change) → changes_bytes c ≡ true → node_of c ≡ o.node
+      → ((tree : Tree) → is_file tree o.node ≡ true → applies tree c ≡ true) → o.transaction ≡ None → Lands x c
+  lands-written x sound o there may c bytes at applies of =
+      let plain : is_none o.transaction ≡ true = ap is_none of in
+      write-lands x c o sound there plain may (applies x.files.tree ((spares-none x (λ t. true) sound).plain o there plain may)) bytes at
+
   -- what is open and may be written is written
   writes-change : (x : Present) → IsSoundFiles x → (o : OpenFile) → IsIn o x.files.table.opens → writes o.access ≡ true → (c : Change) → changes_bytes c ≡ true → node_of c ≡ o.node → puts_some c ≡ true
       → ((tree : Tree) → is_file tree o.node ≡ true → applies tree c ≡ true) → IsSoundFiles (apply x (of_files x o.transaction (changing c)))
   writes-change x sound o there may c bytes at puts applies = go o.transaction refl
     where
       go : (t : Option Id) → o.transaction ≡ t → IsSoundFiles (apply x (of_files x t (changing c)))
-      go None of =
-          let plain : is_none o.transaction ≡ true = ap is_none of in
-          lands-sound lists formed x c sound (write-lands x c o sound there plain may (applies x.files.tree ((spares-none x (λ t. true) sound).plain o there plain may)) bytes at)
+      go None of = lands-sound lists formed x c sound (lands-written x sound o there may c bytes at applies of)
       go (Some id) of =
           let used = used-in x sound o there id of in
           owned-call lists formed x id c sound (owns-write formed x sound id used.who c o there of may bytes at puts (applies (tree_seen x.files (Some id)) (used.sees may)))
 
-  file-in : (x : Present) (process : Pid) (label : Label) (o : OpenFile) → file_named x process label ≡ Some o → IsIn o x.files.table.opens
+  pub file-in : (x : Present) (process : Pid) (label : Label) (o : OpenFile) → file_named x process label ≡ Some o → IsIn o x.files.table.opens
   file-in x process label o found = go (file_number (object_at x.handles process label)) found
     where
       go : (number : Option ℕ) → option_and_then (open_file_at x.files.table.opens) number ≡ Some o → IsIn o x.files.table.opens
@@ -158,7 +164,7 @@ module _ (lists : ListsLaw) (formed : FormedLaw) where
       go (Some number) found = (find-in (λ p. p.number == number) x.files.table.opens o found).0
 
   -- the tests of a call on an open file are those on its handle, and its own
-  own-passes : (x : Present) (process : Pid) (label : Label) (tests : OpenFile → List (Bool × Refusal)) → Passes (on_file_tests x process label tests) → Passes (own_tests (file_named x process label) tests)
+  pub own-passes : (x : Present) (process : Pid) (label : Label) (tests : OpenFile → List (Bool × Refusal)) → Passes (on_file_tests x process label tests) → Passes (own_tests (file_named x process label) tests)
   own-passes x process label tests passes = (passed (passed (passed passes).1).1).1
 
   pub writes-file : (x : Present) (process : Pid) (label : Label) (offset : ℕ) (bytes : List ℕ) → AreInOrder x → IsSoundFiles x → Passes (on_file_tests x process label (λ o. write_file_tests x.files (file_room x) o offset bytes))
@@ -184,6 +190,21 @@ module _ (lists : ListsLaw) (formed : FormedLaw) where
       go (Some o) found tests = writes-change x sound o (file-in x process label o found) (not-not (writes o.access) (passed tests).0) (Cut o.node size []) refl refl refl (λ tree file. applies-from tree (Cut o.node size []) (file, refl))
 
   -- ---- opening a plain file
+
+  -- a file is made under a free name
+  pub lands-new : (x : Present) → IsSoundFiles x → (room : FileRoom) (directory : ℕ) (name : List ℕ) (access : Access) (mode : ShareMode) (d : Disposition) → Leads x.files.tree (free directory name) → conflicts x.files None (makes (place directory name)) ≡ false
+      → lacks_quota x.files room None (create_at x.files None (free directory name) access mode d) ≡ false → Lands x (Make x.files.table.next_node directory File name)
+  lands-new x sound room directory name access mode d leads none fits =
+      let c = Make x.files.table.next_node directory File name in
+      let limit = enough-numbers x.files room None (create_at x.files None (free directory name) access mode d) c refl fits in
+      lands-call lists formed x c (makes (place directory name)) sound (make-applies x File directory name sound leads limit) (λ make. refl) refl none (λ drop. absurd (true≢false (sym drop))) limit
+
+  -- one that is there is emptied
+  pub lands-emptied : (x : Present) → IsSoundFiles x → (node : Node) (access : Access) (d : Disposition) → Leads x.files.tree (at_node node) → is_some node.content ≡ true → conflicts x.files None (opens node.number (writes access || empties d)) ≡ false
+      → empties d ≡ true → Lands x (Cut node.number 0 [])
+  lands-emptied x sound node access d leads some none emptied =
+      lands-call lists formed x (Cut node.number 0 []) (opens node.number true) sound (cut-applies x.files.tree node.number (file-at x.files.tree node leads.0 some)) (λ make. absurd (true≢false (sym make)))
+      (acts-at x.files.tree node (Cut node.number 0 []) leads.0 refl refl) (changing-act x.files None node.number (writes access || empties d) (or_right (writes access) _ emptied) none) (λ drop. absurd (true≢false (sym drop))) sound.next_to
 
   module _ (x : Present) (order : AreInOrder x) (sound : IsSoundFiles x) (process : Pid) (label : Label) where
     -- a plain file is opened in what its call makes of the machine
@@ -211,7 +232,7 @@ module _ (lists : ListsLaw) (formed : FormedLaw) where
         let limit = enough-numbers x.files room None (create_at x.files None (free directory name) access mode d) c refl fits in
         let applies = make-applies x File directory name sound leads limit in
         let y = apply x (of_files x None (changing c)) in
-        plain-open y (lands-sound lists formed x c sound (lands-call lists formed x c (makes (place directory name)) sound applies (λ make. refl) refl none (λ drop. absurd (true≢false (sym drop))) limit))
+        plain-open y (lands-sound lists formed x c sound (lands-new x sound room directory name access mode d leads none fits))
         (new_open x.files None n access mode) refl refl (and_from _ _ (le-leb 2 n sound.next_from) (lt-ltb n (max n (n + 1)) (omega arith))) (λ may. made-file x.files.tree n directory name applies) (λ may v. untouched-next x sound v)
 
     -- where a file is
@@ -240,11 +261,7 @@ module _ (lists : ListsLaw) (formed : FormedLaw) where
         go : (b : Bool) → empties d ≡ b → IsSoundFiles (apply x (opening x process label None (result (if b then Some (Cut n 0 []) else None))))
         go false kept = plain-open (apply x (of_files x None (answering Done))) (answers_file lists formed x None (answering Done) refl refl refl order sound) o refl refl drawn (λ may. file) free'
         go true emptied =
-            let act = changing-act x.files None n (writes access || empties d) (or_right (writes access) _ emptied) none in
-            plain-open (apply x (of_files x None (changing (Cut n 0 []))))
-            (lands-sound lists formed x (Cut n 0 []) sound (lands-call lists formed x (Cut n 0 []) (opens n true) sound (cut-applies x.files.tree n file) (λ make. absurd (true≢false (sym make)))
-            (acts-at x.files.tree node (Cut n 0 []) leads.0 refl refl) act (λ drop. absurd (true≢false (sym drop))) sound.next_to))
-            o refl refl drawn (λ may. is_file-kept x.files.tree (Cut n 0 []) (cut-applies x.files.tree n file) refl n file) free'
+            plain-open (apply x (of_files x None (changing (Cut n 0 [])))) (lands-sound lists formed x (Cut n 0 []) sound (lands-emptied x sound node access d leads some none emptied)) o refl refl drawn (λ may. is_file-kept x.files.tree (Cut n 0 []) (cut-applies x.files.tree n file) refl n file) free'
 
     pub creates-file : (path : List ℕ) (access : Access) (mode : ShareMode) (d : Disposition) → Passes (create_file_tests x.files (file_room x) None path access mode d) → IsSoundFiles (apply x (opening x process label None (create_file x.files None path access mode d)))
     unfolding create_file create_file_tests
@@ -418,7 +435,7 @@ module _ (lists : ListsLaw) (formed : FormedLaw) where
             fresh = λ make. absurd (true≢false (sym make));
             alone = λ v there other. holds-nothing formed x sound id c (opens n true) (cut-applies seen n file) (acts-at seen node c leads.0 refl refl) act (λ make. absurd (true≢false (sym make))) v other;
             plain = not-written x.files id (opens n true) act n (inl refl);
-            last = λ f there of at. inl (is.last act f there of at);
+            last = λ f there of at. is.last act f there of at;
             kept = λ drop. absurd (true≢false (sym drop));
             limit = sound.next_to;
           } in

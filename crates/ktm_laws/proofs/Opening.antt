@@ -1,5 +1,5 @@
 -- An open file more keeps sound what undecided transactions own of the files.
-use Rattle.std.proofs.Common.{◌≡◌, ℕ, ◌≤◌, ◌==◌, ◌&&◌, ◌||◌, not, Bool, true, false, is_none, is_some, filter, map, List, [], ◌∷◌, Option, Some, None, refl, sym, ◌∙◌, ap, subst, arith, inl, inr, ◌⊎◌}
+use Rattle.std.proofs.Common.{◌≡◌, ℕ, ◌≤◌, ◌==◌, ◌&&◌, not, Bool, true, false, is_none, is_some, filter, map, List, [], ◌∷◌, Option, Some, None, refl, sym, ◌∙◌, ap, subst, arith, inl, inr, ◌⊎◌}
 use Rattle.std.proofs.lemmas.Bool.{cases_Bool, le-leb, leb-true, ne_eqb, eqb-true, lt-ltb, and_parts, and_from, or_cases, or_left, or_right, or_parts, or_from, not-true, not_from_false, true≢false, false_from_ne_true}
 use Rattle.std.specs.List.{list_all, list_any}
 use Rattle.std.specs.Prelude.{nat_le}
@@ -17,7 +17,7 @@ use Rattle.ktm_world.specs.Present.{Present}
 use Rattle.ktm_world.specs.Transactions.{is_of, is_undecided, same_id}
 use Rattle.ktm_laws.specs.Footprint.{IsIn}
 use Rattle.ktm_laws.specs.Openings.{with_file, MayOpen, OpeningLaw}
-use Rattle.ktm_laws.specs.SoundFiles.{IsSoundFiles, opens_rise, has_dropped, is_open_last, is_plain_well, is_own_well, files_apart, all_files_apart, opens_no_directory}
+use Rattle.ktm_laws.specs.SoundFiles.{IsSoundFiles, opens_rise, is_open_last, is_plain_well, is_own_well, files_apart, all_files_apart, opens_no_directory}
 use Rattle.ktm_laws.proofs.Diamonds.{IsIn-right, IsIn-map, no_test, none-from}
 use Rattle.ktm_laws.proofs.Elements.{IsIn-filter, IsIn-kept, list_all-at, list_all-from, list_any-at, list_any-from, each_pair-append}
 use Rattle.ktm_laws.proofs.Lists.{IsIn-left, IsIn-cases, IsIn-unmap}
@@ -94,19 +94,16 @@ module _ (x : Present) (o : OpenFile) (handles : List Handle) (sound : IsSoundFi
       (list_all-at (λ (v : Transaction). list_all (files_apart x v) (others_undecided x.transactions.items (Some v.id))) (undecided x) sound.apart t there) u there')))
 
   last-still : (f : FirstOpen) → IsIn f x.files.first_opens → is_open_last z.files f ≡ true
-  last-still f there = elim (or_cases (not (is_in (holds_now x.files f.transaction).nodes f.file) || has_dropped (own_changes x.files.table.own f.transaction) f.file) (is_last_version x.files f) (list_all-at (is_open_last x.files) x.files.first_opens sound.first_last f there)) [
+  last-still f there = elim (or_cases (not (is_in (holds_now x.files f.transaction).nodes f.file)) (is_last_version x.files f) (list_all-at (is_open_last x.files) x.files.first_opens sound.first_last f there)) [
     | inr last ↦ or_right _ _ last
-    | inl first ↦ elim (or_cases (not (is_in (holds_now x.files f.transaction).nodes f.file)) (has_dropped (own_changes x.files.table.own f.transaction) f.file) first) [
-      | inr dropped ↦ or_left _ _ (or_right _ _ dropped)
-      | inl free ↦ elim (cases_Bool (is_in (holds_now z.files f.transaction).nodes f.file)) [
-        | inr free' ↦ or_left _ _ (or_left _ _ (not_from_false _ free'))
-        | inl held ↦
-            let found = list_any-at (λ m. m == f.file) (holds_now z.files f.transaction).nodes held in
-            elim (nodes-more f.transaction found.0 found.1) [
-              | inl old ↦ absurd (true≢false (sym (list_any-from (λ m. m == f.file) (holds_now x.files f.transaction).nodes found.0 old found.2) ∙ not-true _ free))
-              | inr (of, writing, is) ↦ or_right _ _ (may.last writing f there of (is ∙ eqb-true _ _ found.2))
-            ]
-      ]
+    | inl free ↦ elim (cases_Bool (is_in (holds_now z.files f.transaction).nodes f.file)) [
+      | inr free' ↦ or_left _ _ (not_from_false _ free')
+      | inl held ↦
+          let found = list_any-at (λ m. m == f.file) (holds_now z.files f.transaction).nodes held in
+          elim (nodes-more f.transaction found.0 found.1) [
+            | inl old ↦ absurd (true≢false (sym (list_any-from (λ m. m == f.file) (holds_now x.files f.transaction).nodes found.0 old found.2) ∙ not-true _ free))
+            | inr (of, writing, is) ↦ or_right _ _ (may.last writing f there of (is ∙ eqb-true _ _ found.2))
+          ]
     ]
   ]
 

@@ -26,7 +26,7 @@ pub stay-push : (ts : List Transaction) (t : Transaction) → OutcomesStay ts (t
 stay-push ts t = record { each = λ u there. (u, IsIn-left u ts (t ∷ []) there, refl, λ known. refl) }
 
 -- the one that is changed is there
-changed-itself : (ts : List Transaction) (u v : Transaction) → IsIn v ts → same_id v.id u.id ≡ true → IsIn u (changed_to ts u)
+pub changed-itself : (ts : List Transaction) (u v : Transaction) → IsIn v ts → same_id v.id u.id ≡ true → IsIn u (changed_to ts u)
 changed-itself [] u v there same = absurd there
 changed-itself (a ∷ ts) u v there same = elim (cases_Bool (same_id a.id u.id)) [
   | inl here ↦ rw here (inl refl)

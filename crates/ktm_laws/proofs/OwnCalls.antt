@@ -1,5 +1,5 @@
 -- Calls in a transaction that make, drop and move names, and what is written there, keep sound what undecided transactions own of the files.
-use Rattle.std.proofs.Common.{◌≡◌, ℕ, ◌≤◌, ◌^◌, ◌==◌, ◌&&◌, not, Bool, true, false, is_none, is_some, if◌then◌else◌, filter, map, List, [], ◌∷◌, ◌++◌, Option, Some, None, refl, sym, ◌∙◌, ap, subst, arith, inl, inr, ◌⊎◌}
+use Rattle.std.proofs.Common.{◌≡◌, ℕ, ◌≤◌, ◌^◌, ◌==◌, ◌&&◌, not, Bool, true, false, is_none, is_some, if◌then◌else◌, filter, map, List, [], ◌∷◌, ◌++◌, Option, Some, None, refl, sym, ◌∙◌, ap, subst, arith, inl, inr}
 use Rattle.std.proofs.lemmas.Bool.{cases_Bool, eq-eqb, ltb-false, lt-ltb, le-leb, leb-true, and_parts, and_from, or_parts, or_cases, not-true, true≢false}
 use Rattle.std.proofs.lemmas.List.{append-nil}
 use Rattle.std.specs.Prelude.{nat_lt}
@@ -35,7 +35,7 @@ use Rattle.ktm_laws.specs.Formed.{FormedLaw}
 use Rattle.ktm_laws.specs.GoodState.{puts_some}
 use Rattle.ktm_laws.specs.OwnChange.{Owns, owned}
 use Rattle.ktm_laws.specs.SoundCourse.{IsSoundCourse, is_counted, is_of_its_boot}
-use Rattle.ktm_laws.specs.SoundFiles.{IsSoundFiles, is_drawn_node, is_no_directory, is_open_last, is_plain_well, is_undecided_in, has_dropped, made_or_opened, opens_no_directory}
+use Rattle.ktm_laws.specs.SoundFiles.{IsSoundFiles, is_drawn_node, is_no_directory, is_open_last, is_plain_well, is_undecided_in, made_or_opened, opens_no_directory}
 use Rattle.ktm_laws.proofs.Applying.{applies-from}
 use Rattle.ktm_laws.proofs.Arriving.{named}
 use Rattle.ktm_laws.proofs.Calls.{Passes, passed, not-not, transaction-named, active-phase}
@@ -98,7 +98,7 @@ module _ (formed : FormedLaw) (x : Present) (sound : IsSoundFiles x) (id : Id) (
   pub owns-call : (c : Change) (act : Act) → applies seen c ≡ true → acts_of seen c ≡ act ∷ [] → conflicts x.files (Some id) act ≡ false → (changes_bytes c ≡ true → made_or_opened x.files id (node_of c) ≡ true) → puts_some c ≡ true
       → (is_make c ≡ true → node_of c ≡ x.files.table.next_node)
       → ((o : OpenFile) → IsIn o x.files.table.opens → is_none o.transaction ≡ true → writes o.access ≡ true → node_of c ≡ o.node → ⊥)
-      → ((o : FirstOpen) → IsIn o x.files.first_opens → o.transaction ≡ id → node_of c ≡ o.file → (is_last_version x.files o ≡ true) ⊎ (is_drop c ≡ true))
+      → ((o : FirstOpen) → IsIn o x.files.first_opens → o.transaction ≡ id → node_of c ≡ o.file → is_last_version x.files o ≡ true)
       → (is_drop c ≡ true → (o : OpenFile) → IsIn o x.files.table.opens → is_of id o.transaction ≡ true → node_of c ≡ o.node → ⊥)
       → next_after x.files.table.next_node c ≤ 2 ^ 63 → Owns x id c
   owns-call c act applies acts none opened puts fresh plain last kept limit = record {
@@ -172,13 +172,10 @@ module _ (formed : FormedLaw) (x : Present) (sound : IsSoundFiles x) (id : Id) (
         let t = undecided-entry x.transactions.items id who in
         true≢false (sym (list_any-from (λ (q : OpenFile). is_of t.0.id q.transaction && q.node == p.node) x.files.table.opens o there (and_from _ _ (subst (λ s. is_of t.0.id s ≡ true) (sym of) (same_id-from t.0.id id t.2)) (eq-eqb _ _ (sym at ∙ same))))
         ∙ (or_parts (is_in (holds_now x.files t.0.id).nodes p.node) _ (writer-alone x sound p t.0 p-there plain writing t.1)).1);
-    last = λ f f-there mine same. inl (elim (or_cases _ (is_last_version x.files f) (list_all-at (is_open_last x.files) x.files.first_opens sound.first_last f f-there)) [
+    last = λ f f-there mine same. elim (or_cases _ (is_last_version x.files f) (list_all-at (is_open_last x.files) x.files.first_opens sound.first_last f f-there)) [
       | inr last ↦ last
-      | inl first ↦ elim (or_cases (not (is_in (holds_now x.files f.transaction).nodes f.file)) (has_dropped (own_changes x.files.table.own f.transaction) f.file) first) [
-        | inl free' ↦ absurd (true≢false (sym (subst (λ i. is_in (holds_now x.files i).nodes f.file ≡ true) (sym mine) (list_any-from (λ m. m == f.file) (holds_now x.files id).nodes o.node held (eq-eqb _ _ (sym at ∙ same)))) ∙ not-true _ free'))
-        | inr dropped ↦ absurd (true≢false (sym (subst (λ i. has_dropped (own_changes x.files.table.own i) o.node ≡ true) mine (subst (λ n. has_dropped (own_changes x.files.table.own f.transaction) n ≡ true) (sym (sym at ∙ same)) dropped)) ∙ used.kept))
-      ]
-    ]);
+      | inl free' ↦ absurd (true≢false (sym (subst (λ i. is_in (holds_now x.files i).nodes f.file ≡ true) (sym mine) (list_any-from (λ m. m == f.file) (holds_now x.files id).nodes o.node held (eq-eqb _ _ (sym at ∙ same)))) ∙ not-true _ free'))
+    ];
     kept = λ drop. absurd (true≢false (sym drop ∙ no-drop c bytes));
     limit = subst (λ n. n ≤ 2 ^ 63) (sym (no-number x.files.table.next_node c bytes)) sound.next_to;
   }
@@ -212,7 +209,8 @@ module _ (lists : ListsLaw) (formed : FormedLaw) where
         let is = some-from node.content file in
         owned-call x id (Drop node.number) sound (owns-call formed x sound id who (Drop node.number) (deletes node.number (place node.parent node.name))
         (delete-applies (tree_seen x.files (Some id)) (seen-formed formed x sound id) node leads is) (delete-acts (tree_seen x.files (Some id)) node leads is) none (λ bytes. absurd (true≢false (sym bytes))) refl (λ make. absurd (true≢false (sym make)))
-        (not-written x.files id (deletes node.number (place node.parent node.name)) none node.number (inl refl)) (λ o there of at. inr refl) (λ drop. closed-here formed x sound id who node.number (rw is at closed)) sound.next_to)
+        (not-written x.files id (deletes node.number (place node.parent node.name)) none node.number (inl refl))
+        (λ o there of at. still-last x sound id (deletes node.number (place node.parent node.name)) none node.number (inl refl) o there of at) (λ drop. closed-here formed x sound id who node.number (rw is at closed)) sound.next_to)
     delete-at no_path leads file none closed = only-answers
     delete-at no_way leads file none closed = only-answers
     delete-at (free directory name) leads file none closed = only-answers
@@ -230,7 +228,7 @@ module _ (lists : ListsLaw) (formed : FormedLaw) where
         let is = is-directory (tree_seen x.files (Some id)) node.number node leads.0 dir in
         owned-call x id (Drop node.number) sound (owns-call formed x sound id who (Drop node.number) (drops_directory node.number (place node.parent node.name))
         (remove-applies (tree_seen x.files (Some id)) node leads empty) (remove-acts (tree_seen x.files (Some id)) node leads dir) none (λ bytes. absurd (true≢false (sym bytes))) refl (λ make. absurd (true≢false (sym make)))
-        (directory-plain formed x sound id who node.number is) (λ o there of at. inr refl) (λ drop. directory-open formed x sound id who node.number is) sound.next_to)
+        (directory-plain formed x sound id who node.number is) (λ o there of at. absurd (directory-first formed x sound id who node.number is o there of at)) (λ drop. directory-open formed x sound id who node.number is) sound.next_to)
     remove-at no_path leads dir empty none = only-answers
     remove-at no_way leads dir empty none = only-answers
     remove-at (free directory name) leads dir empty none = only-answers
@@ -269,7 +267,7 @@ module _ (lists : ListsLaw) (formed : FormedLaw) where
         (move-applies (tree_seen x.files (Some id)) node directory name leads leads' outside)
         (acts-at (tree_seen x.files (Some id)) node (Move node.number directory name) leads.0 refl refl ∙ ap (λ b. (if b then moves_file node.number (place node.parent node.name) (place directory name) else moves_directory node.number (place node.parent node.name) (place directory name)) ∷ []) file)
         none (λ bytes. absurd (true≢false (sym bytes))) refl (λ make. absurd (true≢false (sym make)))
-        (not-written x.files id act none node.number (inl refl)) (λ o there of at. inl (still-last x sound id act none node.number (inl refl) o there of at)) (λ drop. absurd (true≢false (sym drop))) sound.next_to
+        (not-written x.files id act none node.number (inl refl)) (λ o there of at. still-last x sound id act none node.number (inl refl) o there of at) (λ drop. absurd (true≢false (sym drop))) sound.next_to
     move-node node directory name leads leads' outside false dir none =
         let act = moves_directory node.number (place node.parent node.name) (place directory name) in
         let is = is-directory (tree_seen x.files (Some id)) node.number node leads.0 dir in

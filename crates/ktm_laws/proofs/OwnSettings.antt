@@ -22,6 +22,14 @@ abbrev pub entry_with : List Own → Id → List ℕ → Option (List ℕ) → O
 entry_with own id key value = record { transaction = id; settings = put (own_settings own id) key value }
 
 -- the first entry of a transaction
+-- the settings of an entry are those of its transaction
+pub own_settings-of : (own : List Own) → each_pair set_by_two own ≡ true → (o : Own) → IsIn o own → own_settings own o.transaction ≡ o.settings
+own_settings-of [] once o there = absurd there
+own_settings-of (p ∷ ps) once o (inl e) = rw (same_id-from p.transaction o.transaction (ap (λ (q : Own). q.transaction) e)) (ap (λ (q : Own). q.settings) e)
+own_settings-of (p ∷ ps) once o (inr there) =
+    let parts = and_parts (list_all (set_by_two p) ps) (each_pair set_by_two ps) once in
+    rw (not-true _ (list_all-at (set_by_two p) ps parts.0 o there)) (own_settings-of ps parts.1 o there)
+
 pub own_settings-found : (own : List Own) (id : Id) → (own_settings own id ≡ []) ⊎ ((o : Own) × IsIn o own × (o.transaction ≡ id) × (o.settings ≡ own_settings own id))
 own_settings-found [] id = inl refl
 own_settings-found (o ∷ os) id = elim (cases_Bool (same_id o.transaction id)) [

@@ -305,12 +305,6 @@ module _ (x : Present) (id : Id) (c : Change) (sound : IsSoundFiles x) (owns : O
       let parts = and_parts (is_make found.0) (node_of found.0 == n) found.2 in
       list_any-from (λ change. is_make change && node_of change == n) new found.0 (name-final cs by found.0 (IsIn-left found.0 ms (c ∷ []) found.1) (names-if-make found.0 parts.0)) found.2
 
-  dropped-still : (n : ℕ) → has_dropped ms n ≡ true → has_dropped new n ≡ true
-  dropped-still n dropped =
-      let found = list_any-at (λ change. is_drop change && node_of change == n) ms dropped in
-      let parts = and_parts (is_drop found.0) (node_of found.0 == n) found.2 in
-      list_any-from (λ change. is_drop change && node_of change == n) new found.0 (name-final cs by found.0 (IsIn-left found.0 ms (c ∷ []) found.1) (names-if-drop found.0 parts.0)) found.2
-
   pub not-dropped : (n : ℕ) → has_dropped ms n ≡ false → (is_drop c ≡ true → node_of c ≡ n → ⊥) → has_dropped new n ≡ false
   not-dropped n free other = none-from (λ change. is_drop change && node_of change == n) new (λ d there. false_from_ne_true _ (λ is.
       let parts = and_parts (is_drop d) (node_of d == n) is in
@@ -508,37 +502,28 @@ module _ (x : Present) (id : Id) (c : Change) (sound : IsSoundFiles x) (owns : O
   last-still : (o : FirstOpen) → IsIn o x.files.first_opens → is_open_last z.files o ≡ true
   last-still o there = elim (cases_Bool (same_id id o.transaction)) [
     | inr other ↦
-        ap (λ h. not (is_in h.nodes o.file) || has_dropped (own_changes z.files.table.own o.transaction) o.file || is_last_version x.files o) (others-hold o.transaction other)
-        ∙ ap (λ ds. not (is_in (holds_now x.files o.transaction).nodes o.file) || has_dropped ds o.file || is_last_version x.files o) (own-other o.transaction other)
+        ap (λ h. not (is_in h.nodes o.file) || is_last_version x.files o) (others-hold o.transaction other)
         ∙ list_all-at (is_open_last x.files) x.files.first_opens sound.first_last o there
     | inl is ↦
         let e = same_id-equal id o.transaction is in
-        let was : (not (is_in (holds_now x.files id).nodes o.file) || has_dropped ms o.file || is_last_version x.files o) ≡ true = subst (λ (i : Id). (not (is_in (holds_now x.files i).nodes o.file) || has_dropped (own_changes x.files.table.own i) o.file || is_last_version x.files o) ≡ true) (sym e)
+        let was : (not (is_in (holds_now x.files id).nodes o.file) || is_last_version x.files o) ≡ true = subst (λ (i : Id). (not (is_in (holds_now x.files i).nodes o.file) || is_last_version x.files o) ≡ true) (sym e)
         (list_all-at (is_open_last x.files) x.files.first_opens sound.first_last o there) in
-        subst (λ (i : Id). (not (is_in (holds_now z.files i).nodes o.file) || has_dropped (own_changes z.files.table.own i) o.file || is_last_version x.files o) ≡ true) e
-        (ap (λ h. not (is_in h.nodes o.file) || has_dropped (own_changes z.files.table.own id) o.file || is_last_version x.files o) mine-holds
-        ∙ ap (λ ds. not (is_in mine.nodes o.file) || has_dropped ds o.file || is_last_version x.files o) own-itself
+        subst (λ (i : Id). (not (is_in (holds_now z.files i).nodes o.file) || is_last_version x.files o) ≡ true) e
+        (ap (λ h. not (is_in h.nodes o.file) || is_last_version x.files o) mine-holds
         ∙ go (sym e) was (cases_Bool (is_in mine.nodes o.file)))
   ]
     where
-      go : o.transaction ≡ id → (not (is_in (holds_now x.files id).nodes o.file) || has_dropped ms o.file || is_last_version x.files o) ≡ true → (is_in mine.nodes o.file ≡ true) ⊎ (is_in mine.nodes o.file ≡ false)
-          → (not (is_in mine.nodes o.file) || has_dropped new o.file || is_last_version x.files o) ≡ true
-      go of was (inr free) = or_left _ _ (or_left _ _ (not_from_false _ free))
+      go : o.transaction ≡ id → (not (is_in (holds_now x.files id).nodes o.file) || is_last_version x.files o) ≡ true → (is_in mine.nodes o.file ≡ true) ⊎ (is_in mine.nodes o.file ≡ false)
+          → (not (is_in mine.nodes o.file) || is_last_version x.files o) ≡ true
+      go of was (inr free) = or_left _ _ (not_from_false _ free)
       go of was (inl held) =
           let found = list_any-at (λ m. m == o.file) mine.nodes held in
           elim (nodes-mine found.0 found.1) [
             | inl old ↦ elim (or_cases _ (is_last_version x.files o) was) [
               | inr last ↦ or_right _ _ last
-              | inl first ↦ elim (or_cases _ (has_dropped ms o.file) first) [
-                | inl free ↦ absurd (true≢false (sym (list_any-from (λ m. m == o.file) (holds_now x.files id).nodes found.0 old found.2) ∙ not-true _ free))
-                | inr dropped ↦ or_left _ _ (or_right _ _ (dropped-still o.file dropped))
-              ]
+              | inl free ↦ absurd (true≢false (sym (list_any-from (λ m. m == o.file) (holds_now x.files id).nodes found.0 old found.2) ∙ not-true _ free))
             ]
-            | inr e ↦ elim (owns.last o there of (e ∙ eqb-true _ _ found.2)) [
-              | inl last ↦ or_right _ _ last
-              | inr drop ↦ or_left _ _ (or_right _ _ (list_any-from (λ change. is_drop change && node_of change == o.file) new c
-                  (name-final cs by c (IsIn-right c ms (c ∷ []) (inl refl)) (names-if-drop c drop)) (and_from _ _ drop (eq-eqb _ _ (e ∙ eqb-true _ _ found.2)))))
-            ]
+            | inr e ↦ or_right _ _ (owns.last o there of (e ∙ eqb-true _ _ found.2))
           ]
 
   pub seen-after : (tree-is : Unit {0}) → tree_seen z.files (Some id) ≡ changed_all seen (names_of (c ∷ []))

@@ -361,8 +361,7 @@ module _ (lists : ListsLaw) (formed : FormedLaw) (x y : Present) (cs : List Chan
   first-last o there =
       let kept = first-kept o there in
       let t = o.transaction in
-      ap (λ h. not (is_in h.nodes o.file) || has_dropped (own_changes z.files.table.own t) o.file || is_last_version z.files o) (left t kept.1).holds
-      ∙ ap (λ ds. not (is_in (holds_now x.files t).nodes o.file) || has_dropped ds o.file || is_last_version z.files o) (own-left t kept.1.0)
+      ap (λ h. not (is_in h.nodes o.file) || is_last_version z.files o) (left t kept.1).holds
       ∙ go (cases_Bool (is_in (holds_now x.files t).nodes o.file)) kept (list_all-at (is_open_last x.files) x.files.first_opens sound.first_last o kept.0)
     where
       last-same : (IsIn o.file (map node_of cs) → ⊥) → is_last_version z.files o ≡ is_last_version x.files o
@@ -370,10 +369,10 @@ module _ (lists : ListsLaw) (formed : FormedLaw) (x y : Present) (cs : List Chan
           ∙ ap (λ v. is_file x.files.tree o.file && o.version == v) (version-all cs (committed_files x.files []) o.file other)
 
       go : (is_in (holds_now x.files o.transaction).nodes o.file ≡ true) ⊎ (is_in (holds_now x.files o.transaction).nodes o.file ≡ false) → IsIn o x.files.first_opens × Kept o.transaction → is_open_last x.files o ≡ true
-          → (not (is_in (holds_now x.files o.transaction).nodes o.file) || has_dropped (own_changes x.files.table.own o.transaction) o.file || is_last_version z.files o) ≡ true
-      go (inr free) kept was = or_left _ _ (or_left _ _ (not_from_false _ free))
+          → (not (is_in (holds_now x.files o.transaction).nodes o.file) || is_last_version z.files o) ≡ true
+      go (inr free) kept was = or_left _ _ (not_from_false _ free)
       go (inl held) kept was =
-          ap (λ b. not (is_in (holds_now x.files o.transaction).nodes o.file) || has_dropped (own_changes x.files.table.own o.transaction) o.file || b) (last-same (clear-of o.transaction kept.1 o.file (list_all-at (λ (p : FirstOpen). is_drawn_node x.files p.file) x.files.first_opens sound.first_drawn o kept.0) held)) ∙ was
+          ap (λ b. not (is_in (holds_now x.files o.transaction).nodes o.file) || b) (last-same (clear-of o.transaction kept.1 o.file (list_all-at (λ (p : FirstOpen). is_drawn_node x.files p.file) x.files.first_opens sound.first_drawn o kept.0) held)) ∙ was
 
   -- ---- the tree
 

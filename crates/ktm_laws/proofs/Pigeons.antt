@@ -29,7 +29,7 @@ length-without-le (x ∷ xs) m = let ih = length-without-le xs m in elim (cases_
   | inr other ↦ rw other (omega (arith, ih))
 ]
 
-length-without : (tree : Tree) (m : ℕ) → is_some (node_at tree m) ≡ true → length (without_node tree m) < length tree
+pub length-without : (tree : Tree) (m : ℕ) → is_some (node_at tree m) ≡ true → length (without_node tree m) < length tree
 length-without [] m there = absurd (cc)
 length-without (x ∷ xs) m there = elim (cases_Bool (x.number == m)) [
   | inl is ↦ rw is (let le = length-without-le xs m in omega (arith, le))

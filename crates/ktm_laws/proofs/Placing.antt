@@ -1,18 +1,19 @@
 -- The place of one transaction among those that the log has, by rising Id.
 use Rattle.std.specs.Prelude.{if◌then◌else◌}
-use Rattle.std.proofs.Common.{◌≡◌, not, Bool, true, false, List, [], ◌∷◌, ◌++◌, map, filter, refl, sym, ◌∙◌, ap, subst, inl, inr, ◌⊎◌}
+use Rattle.std.proofs.Common.{◌≡◌, Bool, true, false, List, [], ◌∷◌, ◌++◌, map, Option, Some, None, refl, sym, ◌∙◌, ap, subst, inl, inr}
 use Rattle.std.proofs.lemmas.Bool.{cases_Bool, and_parts, false_from_ne_true}
 use Rattle.std.proofs.lemmas.Grind.{flat_map-append}
+use Rattle.std.proofs.lemmas.Option.{none-some, same_Some}
 use Rattle.std.specs.List.{flat_map, list_all}
 use Rattle.ktm_base.specs.declared.id.Id.{Id}
 use Rattle.ktm_types.specs.declared.object.Transaction.{Transaction}
-use Rattle.ktm_world.specs.Durable.{Recorded, is_before, with_recorded, without_recorded}
-use Rattle.ktm_world.specs.Lawful.{Summary, summary_of}
+use Rattle.ktm_world.specs.Durable.{Recorded, is_before, recorded_at, recorded_or_new, while_not_done, with_recorded, without_recorded}
 use Rattle.ktm_world.specs.Transactions.{change_at, same_id}
 use Rattle.ktm_laws.specs.Footprint.{IsIn}
 use Rattle.ktm_laws.specs.GoodState.{each_pair}
-use Rattle.ktm_laws.proofs.Elements.{each_pair-across, each_pair-right, list_all-at}
-use Rattle.ktm_laws.proofs.Tables.{before_other, is_before-then, same_id-equal, same_id-from}
+use Rattle.ktm_laws.proofs.Elements.{each_pair-across, each_pair-right, first-same, list_all-at, rest-same, some-not_none}
+use Rattle.ktm_laws.proofs.OwnGroups.{is_open}
+use Rattle.ktm_laws.proofs.Tables.{before_other, fresh, is_before-then, same_id-equal, same_id-from}
 
 -- ---- one among transactions
 
@@ -65,68 +66,122 @@ placed (a ∷ before) behind t u earlier = rw (earlier-other a.id t.id (earlier 
 pub gathered-at : {Y : Type 0} (f : Transaction → List Y) (before behind : List Transaction) (t : Transaction) → flat_map f (before ++ t ∷ behind) ≡ flat_map f before ++ (f t ++ flat_map f behind)
 gathered-at f before behind t = flat_map-append f before (t ∷ behind)
 
--- ---- one among what was recorded
+-- ---- one among those that were recorded
 
--- a summary at its place by rising Id, in place of the one with its Id
-abbrev pub with_summary : List Summary → Summary → List Summary
-with_summary [] s = s ∷ []
-with_summary (a ∷ ss) s = if same_id a.id s.id then s ∷ ss else (if is_before s.id a.id then s ∷ a ∷ ss else a ∷ with_summary ss s)
+-- it, if it is there
+abbrev pub if_there : Option Recorded → List Recorded
+if_there None = []
+if_there (Some r) = r ∷ []
 
--- the summaries but the one with this Id
-abbrev pub without_summary : List Summary → Id → List Summary
-without_summary ss id = filter (λ s. not (same_id s.id id)) ss
+-- it, or a new one that is ready
+abbrev pub or_new : Option Recorded → Id → Recorded
+or_new None id = fresh id
+or_new (Some r) id = r
 
-pub summaries-with : (rs : List Recorded) (r : Recorded) → map summary_of (with_recorded rs r) ≡ with_summary (map summary_of rs) (summary_of r)
-summaries-with [] r = refl
-summaries-with (a ∷ rs) r = elim (cases_Bool (same_id a.id r.id)) [
-  | inl same ↦ rw same refl
-  | inr other ↦ elim (cases_Bool (is_before r.id a.id)) [
-    | inl before ↦ rw (other, before) refl
-    | inr behind ↦ rw (other, behind) (ap (λ ss. summary_of a ∷ ss) (summaries-with rs r))
-  ]
+-- it, while a part of it is not done
+abbrev pub while_open : Recorded → Option Recorded
+while_open r = if is_open r then Some r else None
+
+pub in-while : (r q : Recorded) → IsIn q (if_there (while_open r)) → r ≡ q
+in-while r q = go (is_open r)
+  where
+    go : (b : Bool) → IsIn q (if_there (if b then Some r else None)) → r ≡ q
+    go true (inl same) = same
+    go true (inr none) = absurd none
+    go false none = absurd none
+
+-- the transactions are those before this Id, at most one that has it, and those behind it
+pub record Among (ts : List Recorded) (id : Id) (before : List Recorded) (o : Option Recorded) (behind : List Recorded) : Type 0 where
+  pub all : ts ≡ before ++ (if_there o ++ behind)
+  pub itself : (r : Recorded) → o ≡ Some r → r.id ≡ id
+  pub earlier : (u : Recorded) → IsIn u before → is_before u.id id ≡ true
+  pub later : (u : Recorded) → IsIn u behind → is_before id u.id ≡ true
+
+recorded_at-behind : (behind : List Recorded) (id : Id) → ((u : Recorded) → IsIn u behind → is_before id u.id ≡ true) → recorded_at behind id ≡ None
+recorded_at-behind [] id later = refl
+recorded_at-behind (u ∷ us) id later = rw (later-other id u.id (later u (inl refl))) (recorded_at-behind us id (λ v there. later v (inr there)))
+
+pub recorded_at-among : {ts : List Recorded} {id : Id} {before : List Recorded} {o : Option Recorded} {behind : List Recorded} → Among ts id before o behind → recorded_at ts id ≡ o
+recorded_at-among {ts} {id} {before} {o} {behind} among = ap (λ us. recorded_at us id) among.all ∙ go before among.earlier
+  where
+    here : (o : Option Recorded) → ((r : Recorded) → o ≡ Some r → r.id ≡ id) → recorded_at (if_there o ++ behind) id ≡ o
+    here None itself = recorded_at-behind behind id among.later
+    here (Some r) itself = rw (same_id-from r.id id (itself r refl)) refl
+
+    go : (before : List Recorded) → ((u : Recorded) → IsIn u before → is_before u.id id ≡ true) → recorded_at (before ++ (if_there o ++ behind)) id ≡ o
+    go [] earlier = here o among.itself
+    go (u ∷ us) earlier = rw (earlier-other u.id id (earlier u (inl refl))) (go us (λ v there. earlier v (inr there)))
+
+recorded_or_new-at : (ts : List Recorded) (id : Id) → recorded_or_new ts id ≡ or_new (recorded_at ts id) id
+recorded_or_new-at [] id = refl
+recorded_or_new-at (t ∷ ts) id = elim (cases_Bool (same_id t.id id)) [ inl same ↦ rw same refl | inr other ↦ rw other (recorded_or_new-at ts id) ]
+
+pub recorded_or_new-among : {ts : List Recorded} {id : Id} {before : List Recorded} {o : Option Recorded} {behind : List Recorded} → Among ts id before o behind → recorded_or_new ts id ≡ or_new o id
+recorded_or_new-among {ts} {id} {before} {o} {behind} among = recorded_or_new-at ts id ∙ ap (λ o. or_new o id) (recorded_at-among among)
+
+pub or_new-id : (o : Option Recorded) (id : Id) → ((r : Recorded) → o ≡ Some r → r.id ≡ id) → (or_new o id).id ≡ id
+or_new-id None id itself = refl
+or_new-id (Some r) id itself = itself r refl
+
+-- another one in its place
+pub among-with : {ts : List Recorded} {id : Id} {before : List Recorded} {o : Option Recorded} {behind : List Recorded} → Among ts id before o behind → (r : Recorded) → r.id ≡ id → Among (with_recorded ts r) id before (Some r) behind
+among-with {ts} {id} {before} {o} {behind} among r same = record {
+  all = ap (λ us. with_recorded us r) among.all ∙ go before among.earlier;
+  itself = λ u is. ap (λ (v : Recorded). v.id) (sym (same_Some r u is)) ∙ same;
+  earlier = among.earlier;
+  later = among.later;
+}
+  where
+    last : (behind : List Recorded) → ((u : Recorded) → IsIn u behind → is_before id u.id ≡ true) → with_recorded behind r ≡ r ∷ behind
+    last [] later = refl
+    last (u ∷ us) later =
+        let behind' : is_before r.id u.id ≡ true = subst (λ id. is_before id u.id ≡ true) (sym same) (later u (inl refl)) in rw (later-other r.id u.id behind', behind') refl
+
+    here : (o : Option Recorded) → ((r : Recorded) → o ≡ Some r → r.id ≡ id) → with_recorded (if_there o ++ behind) r ≡ r ∷ behind
+    here None itself = last behind among.later
+    here (Some u) itself = rw (same_id-from u.id r.id (itself u refl ∙ sym same)) refl
+
+    go : (before : List Recorded) → ((u : Recorded) → IsIn u before → is_before u.id id ≡ true) → with_recorded (before ++ (if_there o ++ behind)) r ≡ before ++ (r ∷ behind)
+    go [] earlier = here o among.itself
+    go (u ∷ us) earlier =
+        let before' : is_before u.id r.id ≡ true = subst (λ id. is_before u.id id ≡ true) (sym same) (earlier u (inl refl)) in
+        rw (earlier-other u.id r.id before', before-not u.id r.id before') (ap (λ vs. u ∷ vs) (go us (λ v there. earlier v (inr there))))
+
+-- and none
+pub among-without : {ts : List Recorded} {id : Id} {before : List Recorded} {o : Option Recorded} {behind : List Recorded} → Among ts id before o behind → Among (without_recorded ts id) id before None behind
+among-without {ts} {id} {before} {o} {behind} among = record {
+  all = ap (λ us. without_recorded us id) among.all ∙ go before among.earlier;
+  itself = λ r none. absurd (none-some r none);
+  earlier = among.earlier;
+  later = among.later;
+}
+  where
+    last : (behind : List Recorded) → ((u : Recorded) → IsIn u behind → is_before id u.id ≡ true) → without_recorded behind id ≡ behind
+    last [] later = refl
+    last (u ∷ us) later = rw (later-other id u.id (later u (inl refl))) (ap (λ vs. u ∷ vs) (last us (λ v there. later v (inr there))))
+
+    here : (o : Option Recorded) → ((r : Recorded) → o ≡ Some r → r.id ≡ id) → without_recorded (if_there o ++ behind) id ≡ behind
+    here None itself = last behind among.later
+    here (Some r) itself = rw (same_id-from r.id id (itself r refl)) (last behind among.later)
+
+    go : (before : List Recorded) → ((u : Recorded) → IsIn u before → is_before u.id id ≡ true) → without_recorded (before ++ (if_there o ++ behind)) id ≡ before ++ behind
+    go [] earlier = here o among.itself
+    go (u ∷ us) earlier = rw (earlier-other u.id id (earlier u (inl refl))) (ap (λ vs. u ∷ vs) (go us (λ v there. earlier v (inr there))))
+
+-- it stays while a part of it is not done
+pub among-while : {ts : List Recorded} {id : Id} {before : List Recorded} {o : Option Recorded} {behind : List Recorded} → Among ts id before o behind → (r : Recorded) → r.id ≡ id
+    → Among (while_not_done ts r) id before (while_open r) behind
+among-while {ts} {id} {before} {o} {behind} among r same = elim (cases_Bool (is_open r)) [
+  | inl stays ↦ rw stays (among-with among r same)
+  | inr closed ↦ rw closed (subst (λ i. Among (without_recorded ts i) id before None behind) (sym same) (among-without among))
 ]
 
-pub summaries-without : (rs : List Recorded) (id : Id) → map summary_of (without_recorded rs id) ≡ without_summary (map summary_of rs) id
-summaries-without [] id = refl
-summaries-without (a ∷ rs) id = elim (cases_Bool (same_id a.id id)) [
-  | inl same ↦ rw same (summaries-without rs id)
-  | inr other ↦ rw other (ap (λ ss. summary_of a ∷ ss) (summaries-without rs id))
-]
+-- ---- lists in two parts
 
--- do all of them come before this Id
-abbrev pub AreBefore : List Summary → Id → Type 0
-AreBefore ss id = (s : Summary) → IsIn s ss → is_before s.id id ≡ true
-
--- or behind it
-abbrev pub AreBehind : List Summary → Id → Type 0
-AreBehind ss id = (s : Summary) → IsIn s ss → is_before id s.id ≡ true
-
--- or have it
-abbrev pub AreAt : List Summary → Id → Type 0
-AreAt ss id = (s : Summary) → IsIn s ss → s.id ≡ id
-
-without-behind : (ss : List Summary) (id : Id) → AreBehind ss id → without_summary ss id ≡ ss
-without-behind [] id behind = refl
-without-behind (s ∷ ss) id behind = rw (later-other id s.id (behind s (inl refl))) (ap (λ rest. s ∷ rest) (without-behind ss id (λ u there. behind u (inr there))))
-
-without-at : (at ss : List Summary) (id : Id) → AreAt at id → AreBehind ss id → without_summary (at ++ ss) id ≡ ss
-without-at [] ss id is behind = without-behind ss id behind
-without-at (s ∷ at) ss id is behind = rw (same_id-from s.id id (is s (inl refl))) (without-at at ss id (λ u there. is u (inr there)) behind)
-
-pub without-among : (before at behind : List Summary) (id : Id) → AreBefore before id → AreAt at id → AreBehind behind id → without_summary (before ++ (at ++ behind)) id ≡ before ++ behind
-without-among [] at behind id earlier is later = without-at at behind id is later
-without-among (s ∷ before) at behind id earlier is later = rw (earlier-other s.id id (earlier s (inl refl))) (ap (λ rest. s ∷ rest) (without-among before at behind id (λ u there. earlier u (inr there)) is later))
-
--- at most one has this Id
-abbrev pub AtMostOne : List Summary → Id → Type 0
-AtMostOne at id = (at ≡ []) ⊎ ((s : Summary) × (at ≡ s ∷ []) × (s.id ≡ id))
-
-with-behind : (behind : List Summary) (s : Summary) → AreBehind behind s.id → with_summary behind s ≡ s ∷ behind
-with-behind [] s later = refl
-with-behind (b ∷ behind) s later = rw (later-other s.id b.id (later b (inl refl)), later b (inl refl)) refl
-
-pub with-among : (before at behind : List Summary) (s : Summary) → AreBefore before s.id → AtMostOne at s.id → AreBehind behind s.id → with_summary (before ++ (at ++ behind)) s ≡ before ++ (s ∷ behind)
-with-among [] at behind s earlier (inl none) later = ap (λ at. with_summary (at ++ behind) s) none ∙ with-behind behind s later
-with-among [] at behind s earlier (inr (a, one, is)) later = ap (λ at. with_summary (at ++ behind) s) one ∙ rw (same_id-from a.id s.id is) refl
-with-among (a ∷ before) at behind s earlier one later =
-    rw (earlier-other a.id s.id (earlier a (inl refl)), before-not a.id s.id (earlier a (inl refl))) (ap (λ rest. a ∷ rest) (with-among before at behind s (λ u there. earlier u (inr there)) one later))
+-- what two lists gather was gathered of two parts
+pub unmap-append : {X Y : Type 0} (f : X → Y) (xs : List X) (ls ms : List Y) → map f xs ≡ ls ++ ms → (ys : List X) × (zs : List X) × (xs ≡ ys ++ zs) × (map f ys ≡ ls) × (map f zs ≡ ms)
+unmap-append f xs [] ms all = ([], xs, refl, refl, all)
+unmap-append f [] (a ∷ ls) ms all = absurd (some-not_none a (ls ++ ms) (sym all))
+unmap-append f (x ∷ xs) (a ∷ ls) ms all =
+    let rest = unmap-append f xs ls ms (rest-same (f x) a (map f xs) (ls ++ ms) all) in
+    (x ∷ rest.0, rest.1, ap (λ us. x ∷ us) rest.2, (λ i. first-same (f x) a (map f xs) (ls ++ ms) all i ∷ rest.3 i), rest.4)

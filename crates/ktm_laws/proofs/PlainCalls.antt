@@ -1,5 +1,5 @@
 -- Plain calls that make, drop and move names keep sound what undecided transactions own of the files.
-use Rattle.std.proofs.Common.{◌≡◌, ℕ, ◌≤◌, ◌<◌, ◌^◌, ◌==◌, ◌&&◌, not, Bool, true, false, is_none, is_some, if◌then◌else◌, List, [], ◌∷◌, Option, Some, None, refl, sym, ◌∙◌, ap, subst, arith, inl, inr}
+use Rattle.std.proofs.Common.{◌≡◌, ◌⊎◌, ℕ, ◌≤◌, ◌<◌, ◌^◌, ◌==◌, ◌&&◌, not, Bool, true, false, is_none, is_some, if◌then◌else◌, List, [], ◌∷◌, Option, Some, None, refl, sym, ◌∙◌, ap, subst, arith, inl, inr}
 use Rattle.std.proofs.lemmas.Bool.{eq-eqb, ne_eqb, eqb-true, ltb-true, ltb-false, lt-ltb, le-leb, and_parts, and_from, or_right, or_parts, or_from, not-true, true≢false, false_from_ne_true}
 use Rattle.std.specs.Prelude.{nat_lt, nat_le}
 use Rattle.ktm_base.specs.declared.id.Id.{Id}
@@ -18,7 +18,7 @@ use Rattle.ktm_world.specs.FileCalls.{Whereabouts, no_path, no_way, free, at_roo
 use Rattle.ktm_world.specs.FileOutcome.{FileOutcome, FileRoom, answering, changing, lacks_quota, files_after, with_open, own_after, next_node_after}
 use Rattle.ktm_world.specs.Files.{FilesNow, OpenFile}
 use Rattle.ktm_world.specs.Holds.{Act, place, makes, deletes, drops_directory, moves_file, moves_directory}
-use Rattle.ktm_world.specs.Outcome.{first_refusal}
+use Rattle.ktm_world.specs.Outcome.{apply, first_refusal}
 use Rattle.ktm_world.specs.Present.{Present}
 use Rattle.ktm_world.specs.Tree.{Tree, IsWellFormed, root, node_at, is_there, is_file, is_directory, content_of, has_entries, is_at_or_below}
 use Rattle.ktm_world.specs.Uses.{file_room}
@@ -115,6 +115,10 @@ make-applies x kind directory name sound leads fits =
 
 -- ---- the calls
 
+-- a plain call only answers, or commits one change that it may
+abbrev pub IsPlain : Present → FileOutcome → Type 0
+IsPlain x o = (o ≡ answering Done) ⊎ ((change : Change) × (o ≡ changing change) × Lands x change)
+
 module _ (lists : ListsLaw) (formed : FormedLaw) where
   -- a change that a plain call makes, which meets nothing
   pub lands-call : (x : Present) (change : Change) (act : Act) → IsSoundFiles x → applies x.files.tree change ≡ true → (is_make change ≡ true → node_of change ≡ x.files.table.next_node) → acts_of x.files.tree change ≡ act ∷ []
@@ -131,7 +135,7 @@ module _ (lists : ListsLaw) (formed : FormedLaw) where
   }
 
   -- a file that is open nowhere is dropped
-  not-open : (x : Present) (n : ℕ) → is_open_in x.files.table.opens None n ≡ false → (o : OpenFile) → IsIn o x.files.table.opens → is_none o.transaction ≡ true → n ≡ o.node → ⊥
+  pub not-open : (x : Present) (n : ℕ) → is_open_in x.files.table.opens None n ≡ false → (o : OpenFile) → IsIn o x.files.table.opens → is_none o.transaction ≡ true → n ≡ o.node → ⊥
   not-open x n closed o there plain at =
       true≢false (no_test (λ (p : OpenFile). true) o (opened_in x.files.table.opens None n) closed
       (IsIn-kept (λ (p : OpenFile). same_group p.transaction None && p.node == n) x.files.table.opens o there (and_from _ _ (grouped o.transaction plain) (eq-eqb _ _ (sym at)))))
@@ -140,80 +144,108 @@ module _ (lists : ListsLaw) (formed : FormedLaw) where
       grouped None is = refl
       grouped (Some id) is = absurd (true≢false (sym is))
 
-  only-answers : (x : Present) → KeepsFiles x (of_files x None (answering Done))
-  only-answers x = answers_file lists formed x None (answering Done) refl refl refl
+  -- so what undecided transactions own stays sound
+  keeps-plain : (x : Present) (o : FileOutcome) → (IsSoundFiles x → IsPlain x o) → KeepsFiles x (of_files x None o)
+  keeps-plain x o plain order sound = elim (plain sound) [
+    | inl answers ↦ subst (λ o. IsSoundFiles (apply x (of_files x None o))) (sym answers) (answers_file lists formed x None (answering Done) refl refl refl order sound)
+    | inr (change, changes, lands) ↦ subst (λ o. IsSoundFiles (apply x (of_files x None o))) (sym changes) (lands-sound lists formed x change sound lands)
+  ]
 
-  delete-at : (x : Present) (w : Whereabouts) → Leads x.files.tree w → is_at_directory w ≡ false → (conflict_test x.files None (delete_act w)).0 ≡ false → is_open_at x.files None w ≡ false → KeepsFiles x (of_files x None (drop_at w))
-  delete-at x (at_node node) leads file none closed order sound =
+  delete-at : (x : Present) (w : Whereabouts) → Leads x.files.tree w → is_at_directory w ≡ false → (conflict_test x.files None (delete_act w)).0 ≡ false → is_open_at x.files None w ≡ false → IsSoundFiles x → IsPlain x (drop_at w)
+  delete-at x (at_node node) leads file none closed sound =
       let is = some-from node.content file in
-      lands-sound lists formed x (Drop node.number) sound (lands-call x (Drop node.number) (deletes node.number (place node.parent node.name)) sound
-      (delete-applies x.files.tree sound.formed node leads is) (λ make. absurd (true≢false (sym make))) (delete-acts x.files.tree node leads is) none
-      (λ drop o there plain may at. not-open x node.number (rw is at closed) o there plain at) sound.next_to)
-  delete-at x no_path leads file none closed order sound = only-answers x order sound
-  delete-at x no_way leads file none closed order sound = only-answers x order sound
-  delete-at x (free directory name) leads file none closed order sound = only-answers x order sound
-  delete-at x at_root leads file none closed order sound = only-answers x order sound
+      inr (
+        Drop node.number,
+        refl,
+        lands-call x (Drop node.number) (deletes node.number (place node.parent node.name)) sound
+            (delete-applies x.files.tree sound.formed node leads is) (λ make. absurd (true≢false (sym make))) (delete-acts x.files.tree node leads is) none
+            (λ drop o there plain may at. not-open x node.number (rw is at closed) o there plain at) sound.next_to,
+      )
+  delete-at x no_path leads file none closed sound = inl refl
+  delete-at x no_way leads file none closed sound = inl refl
+  delete-at x (free directory name) leads file none closed sound = inl refl
+  delete-at x at_root leads file none closed sound = inl refl
 
-  pub deletes-file : (x : Present) (path : List ℕ) (test : Bool × Refusal) → first_refusal (test ∷ delete_file_tests x.files (file_room x) None path) ≡ None → KeepsFiles x (of_files x None (delete_file x.files None path))
+  pub plain-deleted : (x : Present) (path : List ℕ) (test : Bool × Refusal) → first_refusal (test ∷ delete_file_tests x.files (file_room x) None path) ≡ None → IsSoundFiles x → IsPlain x (delete_file x.files None path)
   unfolding delete_file delete_file_tests
-  deletes-file x path test none order sound =
+  plain-deleted x path test none sound =
       let no = not_refused (test ∷ delete_file_tests x.files (file_room x) None path) none in
       delete-at x (find_path x.files.tree path) (find_path-leads x.files.tree sound.formed path)
-      (no _ (inr (inr (inr (inr (inl refl)))))) (no _ (inr (inr (inr (inr (inr (inl refl))))))) (no _ (inr (inr (inr (inr (inr (inr (inl refl)))))))) order sound
+      (no _ (inr (inr (inr (inr (inl refl)))))) (no _ (inr (inr (inr (inr (inr (inl refl))))))) (no _ (inr (inr (inr (inr (inr (inr (inl refl)))))))) sound
 
-  remove-at : (x : Present) (w : Whereabouts) → Leads x.files.tree w → is_at_file w ≡ false → is_not_empty x.files.tree w ≡ false → (conflict_test x.files None (remove_act w)).0 ≡ false → KeepsFiles x (of_files x None (drop_at w))
-  remove-at x (at_node node) leads dir empty none order sound =
-      lands-sound lists formed x (Drop node.number) sound (lands-call x (Drop node.number) (drops_directory node.number (place node.parent node.name)) sound
-      (remove-applies x.files.tree node leads empty) (λ make. absurd (true≢false (sym make))) (remove-acts x.files.tree node leads dir) none
-      (λ drop o there plain may at.
-      true≢false (sym ((spares-none x (λ t. true) sound).plain o there plain may) ∙ subst (λ n. is_file x.files.tree n ≡ false) at (ap (λ n. is_some (content_of n)) leads.0 ∙ dir))) sound.next_to)
-  remove-at x no_path leads dir empty none order sound = only-answers x order sound
-  remove-at x no_way leads dir empty none order sound = only-answers x order sound
-  remove-at x (free directory name) leads dir empty none order sound = only-answers x order sound
-  remove-at x at_root leads dir empty none order sound = only-answers x order sound
+  pub deletes-file : (x : Present) (path : List ℕ) (test : Bool × Refusal) → first_refusal (test ∷ delete_file_tests x.files (file_room x) None path) ≡ None → KeepsFiles x (of_files x None (delete_file x.files None path))
+  deletes-file x path test none = keeps-plain x (delete_file x.files None path) (plain-deleted x path test none)
 
-  pub removes-directory : (x : Present) (path : List ℕ) (test : Bool × Refusal) → first_refusal (test ∷ remove_directory_tests x.files (file_room x) None path) ≡ None → KeepsFiles x (of_files x None (remove_directory x.files None path))
+  remove-at : (x : Present) (w : Whereabouts) → Leads x.files.tree w → is_at_file w ≡ false → is_not_empty x.files.tree w ≡ false → (conflict_test x.files None (remove_act w)).0 ≡ false → IsSoundFiles x → IsPlain x (drop_at w)
+  remove-at x (at_node node) leads dir empty none sound =
+      inr (
+        Drop node.number,
+        refl,
+        lands-call x (Drop node.number) (drops_directory node.number (place node.parent node.name)) sound
+            (remove-applies x.files.tree node leads empty) (λ make. absurd (true≢false (sym make))) (remove-acts x.files.tree node leads dir) none
+            (λ drop o there plain may at.
+            true≢false (sym ((spares-none x (λ t. true) sound).plain o there plain may) ∙ subst (λ n. is_file x.files.tree n ≡ false) at (ap (λ n. is_some (content_of n)) leads.0 ∙ dir))) sound.next_to,
+      )
+  remove-at x no_path leads dir empty none sound = inl refl
+  remove-at x no_way leads dir empty none sound = inl refl
+  remove-at x (free directory name) leads dir empty none sound = inl refl
+  remove-at x at_root leads dir empty none sound = inl refl
+
+  pub plain-removed : (x : Present) (path : List ℕ) (test : Bool × Refusal) → first_refusal (test ∷ remove_directory_tests x.files (file_room x) None path) ≡ None → IsSoundFiles x → IsPlain x (remove_directory x.files None path)
   unfolding remove_directory remove_directory_tests
-  removes-directory x path test none order sound =
+  plain-removed x path test none sound =
       let no = not_refused (test ∷ remove_directory_tests x.files (file_room x) None path) none in
       remove-at x (find_path x.files.tree path) (find_path-leads x.files.tree sound.formed path)
-      (no _ (inr (inr (inr (inr (inr (inl refl))))))) (no _ (inr (inr (inr (inr (inr (inr (inl refl)))))))) (no _ (inr (inr (inr (inr (inr (inr (inr (inl refl))))))))) order sound
+      (no _ (inr (inr (inr (inr (inr (inl refl))))))) (no _ (inr (inr (inr (inr (inr (inr (inl refl)))))))) (no _ (inr (inr (inr (inr (inr (inr (inr (inl refl))))))))) sound
 
-  make-at : (x : Present) (room : FileRoom) (w : Whereabouts) → Leads x.files.tree w → (conflict_test x.files None (make_act w)).0 ≡ false → lacks_quota x.files room None (make_at x.files w) ≡ false → KeepsFiles x (of_files x None (make_at x.files w))
-  make-at x room (free directory name) leads none fits order sound =
+  pub removes-directory : (x : Present) (path : List ℕ) (test : Bool × Refusal) → first_refusal (test ∷ remove_directory_tests x.files (file_room x) None path) ≡ None → KeepsFiles x (of_files x None (remove_directory x.files None path))
+  removes-directory x path test none = keeps-plain x (remove_directory x.files None path) (plain-removed x path test none)
+
+  make-at : (x : Present) (room : FileRoom) (w : Whereabouts) → Leads x.files.tree w → (conflict_test x.files None (make_act w)).0 ≡ false → lacks_quota x.files room None (make_at x.files w) ≡ false → IsSoundFiles x → IsPlain x (make_at x.files w)
+  make-at x room (free directory name) leads none fits sound =
       let change = Make x.files.table.next_node directory Directory name in
       let limit = enough-numbers x.files room None (changing change) change refl fits in
-      lands-sound lists formed x change sound (lands-call x change (makes (place directory name)) sound (make-applies x Directory directory name sound leads limit) (λ make. refl) refl none (λ drop. absurd (true≢false (sym drop))) limit)
-  make-at x room no_path leads none fits order sound = only-answers x order sound
-  make-at x room no_way leads none fits order sound = only-answers x order sound
-  make-at x room at_root leads none fits order sound = only-answers x order sound
-  make-at x room (at_node node) leads none fits order sound = only-answers x order sound
+      inr (change, refl, lands-call x change (makes (place directory name)) sound (make-applies x Directory directory name sound leads limit) (λ make. refl) refl none (λ drop. absurd (true≢false (sym drop))) limit)
+  make-at x room no_path leads none fits sound = inl refl
+  make-at x room no_way leads none fits sound = inl refl
+  make-at x room at_root leads none fits sound = inl refl
+  make-at x room (at_node node) leads none fits sound = inl refl
 
-  pub creates-directory : (x : Present) (path : List ℕ) (test : Bool × Refusal) → first_refusal (test ∷ create_directory_tests x.files (file_room x) None path) ≡ None → KeepsFiles x (of_files x None (create_directory x.files None path))
+  pub plain-made : (x : Present) (path : List ℕ) (test : Bool × Refusal) → first_refusal (test ∷ create_directory_tests x.files (file_room x) None path) ≡ None → IsSoundFiles x → IsPlain x (create_directory x.files None path)
   unfolding create_directory create_directory_tests
-  creates-directory x path test none order sound =
+  plain-made x path test none sound =
       let no = not_refused (test ∷ create_directory_tests x.files (file_room x) None path) none in
       make-at x (file_room x) (find_path x.files.tree path) (find_path-leads x.files.tree sound.formed path)
-      (no _ (inr (inr (inr (inr (inl refl)))))) (no _ (inr (inr (inr (inr (inr (inl refl))))))) order sound
+      (no _ (inr (inr (inr (inr (inl refl)))))) (no _ (inr (inr (inr (inr (inr (inl refl))))))) sound
 
-  move-at : (x : Present) (w v : Whereabouts) → Leads x.files.tree w → Leads x.files.tree v → is_into_itself x.files.tree w v ≡ false → (conflict_test x.files None (move_act w v)).0 ≡ false → KeepsFiles x (of_files x None (move_at w v))
-  move-at x (at_node node) (free directory name) leads leads' outside none order sound =
+  pub creates-directory : (x : Present) (path : List ℕ) (test : Bool × Refusal) → first_refusal (test ∷ create_directory_tests x.files (file_room x) None path) ≡ None → KeepsFiles x (of_files x None (create_directory x.files None path))
+  creates-directory x path test none = keeps-plain x (create_directory x.files None path) (plain-made x path test none)
+
+  move-at : (x : Present) (w v : Whereabouts) → Leads x.files.tree w → Leads x.files.tree v → is_into_itself x.files.tree w v ≡ false → (conflict_test x.files None (move_act w v)).0 ≡ false → IsSoundFiles x → IsPlain x (move_at w v)
+  move-at x (at_node node) (free directory name) leads leads' outside none sound =
       let change = Move node.number directory name in
       let act = if is_some node.content then moves_file node.number (place node.parent node.name) (place directory name) else moves_directory node.number (place node.parent node.name) (place directory name) in
-      lands-sound lists formed x change sound (lands-call x change act sound (move-applies x.files.tree node directory name leads leads' outside) (λ make. absurd (true≢false (sym make)))
-      (acts-at x.files.tree node change leads.0 refl refl) none (λ drop. absurd (true≢false (sym drop))) sound.next_to)
-  move-at x (at_node node) no_path leads leads' outside none order sound = only-answers x order sound
-  move-at x (at_node node) no_way leads leads' outside none order sound = only-answers x order sound
-  move-at x (at_node node) at_root leads leads' outside none order sound = only-answers x order sound
-  move-at x (at_node node) (at_node other) leads leads' outside none order sound = only-answers x order sound
-  move-at x no_path v leads leads' outside none order sound = only-answers x order sound
-  move-at x no_way v leads leads' outside none order sound = only-answers x order sound
-  move-at x (free directory name) v leads leads' outside none order sound = only-answers x order sound
-  move-at x at_root v leads leads' outside none order sound = only-answers x order sound
+      inr (
+        change,
+        refl,
+        lands-call x change act sound (move-applies x.files.tree node directory name leads leads' outside) (λ make. absurd (true≢false (sym make)))
+            (acts-at x.files.tree node change leads.0 refl refl) none (λ drop. absurd (true≢false (sym drop))) sound.next_to,
+      )
+  move-at x (at_node node) no_path leads leads' outside none sound = inl refl
+  move-at x (at_node node) no_way leads leads' outside none sound = inl refl
+  move-at x (at_node node) at_root leads leads' outside none sound = inl refl
+  move-at x (at_node node) (at_node other) leads leads' outside none sound = inl refl
+  move-at x no_path v leads leads' outside none sound = inl refl
+  move-at x no_way v leads leads' outside none sound = inl refl
+  move-at x (free directory name) v leads leads' outside none sound = inl refl
+  move-at x at_root v leads leads' outside none sound = inl refl
 
-  pub moves-file : (x : Present) (source target : List ℕ) (test : Bool × Refusal) → first_refusal (test ∷ move_file_tests x.files (file_room x) None source target) ≡ None → KeepsFiles x (of_files x None (move_file x.files None source target))
+  pub plain-moved : (x : Present) (source target : List ℕ) (test : Bool × Refusal) → first_refusal (test ∷ move_file_tests x.files (file_room x) None source target) ≡ None → IsSoundFiles x → IsPlain x (move_file x.files None source target)
   unfolding move_file move_file_tests
-  moves-file x source target test none order sound =
+  plain-moved x source target test none sound =
       let no = not_refused (test ∷ move_file_tests x.files (file_room x) None source target) none in
       move-at x (find_path x.files.tree source) (find_path x.files.tree target) (find_path-leads x.files.tree sound.formed source) (find_path-leads x.files.tree sound.formed target)
-      (or_parts _ _ (no _ (inr (inr (inr (inr (inr (inl refl)))))))).1 (no _ (inr (inr (inr (inr (inr (inr (inl refl)))))))) order sound
+      (or_parts _ _ (no _ (inr (inr (inr (inr (inr (inl refl)))))))).1 (no _ (inr (inr (inr (inr (inr (inr (inl refl)))))))) sound
+
+  pub moves-file : (x : Present) (source target : List ℕ) (test : Bool × Refusal) → first_refusal (test ∷ move_file_tests x.files (file_room x) None source target) ≡ None → KeepsFiles x (of_files x None (move_file x.files None source target))
+  moves-file x source target test none = keeps-plain x (move_file x.files None source target) (plain-moved x source target test none)

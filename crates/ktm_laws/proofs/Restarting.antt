@@ -14,7 +14,7 @@ use Rattle.ktm_world.specs.Conflicts.{holds_now}
 use Rattle.ktm_world.specs.Durable.{Durable, Recorded, changes_of, settings_of, has_changes_part, has_settings_part, is_decided, is_held, are_recorded_changes, stand, is_new_in}
 use Rattle.ktm_world.specs.Files.{OwnChanges, own_changes, first_bytes, bytes_with, bytes_seen, tree_of}
 use Rattle.ktm_world.specs.Holds.{holds_by, is_in}
-use Rattle.ktm_world.specs.Keys.{Own, OwnSettings, are_good_settings}
+use Rattle.ktm_world.specs.Keys.{Own, OwnSettings, are_good_settings, own_settings}
 use Rattle.ktm_world.specs.Lawful.{are_apart, others_undecided, undecided}
 use Rattle.ktm_world.specs.Logs.{Group}
 use Rattle.ktm_world.specs.Present.{Present}
@@ -30,6 +30,7 @@ use Rattle.ktm_laws.proofs.Elements.{IsIn-filter, IsIn-kept, list_all-at, list_a
 use Rattle.ktm_laws.proofs.Fitting.{Core, TableOf, table-of}
 use Rattle.ktm_laws.proofs.Lists.{IsIn-unmap}
 use Rattle.ktm_laws.proofs.Meeting.{are_apart-from}
+use Rattle.ktm_laws.proofs.OwnSettings.{own_settings-found, own_settings-of}
 use Rattle.ktm_laws.proofs.Passing.{All-in, All-by, made-by, made-node, own_changes-of}
 use Rattle.ktm_laws.proofs.Releasing.{is_created_before, transaction_at-there}
 use Rattle.ktm_laws.proofs.Reserving.{own_changes-found}
@@ -126,10 +127,36 @@ module _ (base : Durable) (room : ℕ) (log : List Group) (good : IsGoodState (s
     ]
   ]
 
+  abbrev set : List Own
+  set = filter has_own_settings (map set_by (in_doubt s))
+
+  set-once : each_pair set_by_two set ≡ true
+  set-once = pairs set_by has_own_settings set_by_two (λ t u there there' held held' other. not_from_false _ (false_from_ne_true _ (λ same. other (same_id-equal t.id u.id same))))
+
+  -- what a transaction that waited set it has set
+  pub set-back : (t : Recorded) → IsIn t s.transactions → is_held t.stage ≡ true → own_settings set t.id ≡ settings_of t
+  set-back t there held = elim (cases_Bool (has_own_settings (set_by t))) [
+    | inl some ↦ own_settings-of set set-once (set_by t) (IsIn-kept has_own_settings (map set_by (in_doubt s)) (set_by t) (IsIn-map set_by t (in_doubt s) (IsIn-kept (λ (r : Recorded). is_held r.stage) s.transactions t there held)) some)
+    | inr none ↦ elim (own_settings-found set t.id) [
+      | inl nothing ↦ nothing ∙ sym (none-set (settings_of t) none)
+      | inr (o, in_set, is, settings) ↦
+          let k = kept set_by has_own_settings o in_set in
+          elim (each_pair-either is_earlier s.transactions good.transactions_rise k.t t k.there there) [
+            | inl same ↦ sym settings ∙ ap (λ (p : Own). p.settings) (sym k.is) ∙ ap settings_of same
+            | inr (inl before) ↦ absurd (before_other (k.t).id t.id before (ap (λ (p : Own). p.transaction) k.is ∙ is))
+            | inr (inr after) ↦ absurd (before_other t.id (k.t).id after (sym (ap (λ (p : Own). p.transaction) k.is ∙ is)))
+          ]
+    ]
+  ]
+    where
+      none-set : (ss : OwnSettings) → not (length ss == 0) ≡ false → ss ≡ []
+      none-set [] none = refl
+      none-set (a ∷ ss) none = absurd (true≢false (sym (not_from_false _ (ne_eqb (length (a ∷ ss)) 0 (λ e. omega (arith, e)))) ∙ none))
+
   pub keys-opened : IsSoundKeys x
   keys-opened = record {
     undecided = each set_by has_own_settings (λ o. is_undecided_in x.transactions.items o.transaction) (λ t there held some. undecided-back t there held);
-    once = pairs set_by has_own_settings set_by_two (λ t u there there' held held' other. not_from_false _ (false_from_ne_true _ (λ same. other (same_id-equal t.id u.id same))));
+    once = set-once;
     settings = each set_by has_own_settings (λ o. are_good_settings o.settings) settings-good;
     apart = pairs set_by has_own_settings set_no_key (λ t u there there' held held' other. not_from_false _ ((table.beside t u there there' other).keys (held-waits t held) (held-waits u held')));
     rises = good.keys_rise;
@@ -155,7 +182,7 @@ module _ (base : Durable) (room : ℕ) (log : List Group) (good : IsGoodState (s
   none-left (c ∷ cs) none = absurd (true≢false (sym (not_from_false _ (ne_eqb (length (c ∷ cs)) 0 (λ e. omega (arith, e)))) ∙ none))
 
   -- what a transaction that waited changed it owns
-  own-back : (t : Recorded) → IsIn t s.transactions → is_held t.stage ≡ true → own_changes own t.id ≡ changes_of t
+  pub own-back : (t : Recorded) → IsIn t s.transactions → is_held t.stage ≡ true → own_changes own t.id ≡ changes_of t
   own-back t there held = elim (cases_Bool (has_own_changes (changed_by t))) [
     | inl some ↦ own_changes-of own own-once (changed_by t) (entry t there held some)
     | inr none ↦ elim (own_changes-found own t.id) [

@@ -1,6 +1,6 @@
 -- What a rollback records applies.
 use Rattle.std.specs.Prelude.{if◌then◌else◌}
-use Rattle.std.proofs.Common.{◌≡◌, ◌+◌, ◌<◌, ◌^◌, ◌&&◌, ◌||◌, not, Bool, true, false, List, [], ◌∷◌, ◌++◌, map, Option, Some, refl, sym, ◌∙◌, ap, subst, inl}
+use Rattle.std.proofs.Common.{◌≡◌, ◌+◌, ◌<◌, ◌^◌, ◌&&◌, ◌||◌, not, Bool, true, false, [], ◌∷◌, Option, Some, refl, sym, ◌∙◌, ap, subst, inl}
 use Rattle.std.proofs.lemmas.Bool.{and_from, lt-ltb, not_from_false, true≢false}
 use Rattle.ktm_base.specs.declared.id.Id.{Id}
 use Rattle.ktm_types.specs.declared.event.Event.{Event}
@@ -20,12 +20,11 @@ use Rattle.ktm_laws.specs.Footprint.{IsIn}
 use Rattle.ktm_laws.specs.GoodState.{IsGoodState}
 use Rattle.ktm_laws.specs.Rollbacks.{RollbacksLaw}
 use Rattle.ktm_laws.specs.SoundCourse.{IsSoundCourse, is_outcome_of}
-use Rattle.ktm_laws.proofs.Diamonds.{IsIn-right}
 use Rattle.ktm_laws.proofs.Elements.{list_all-at, list_any-from}
-use Rattle.ktm_laws.proofs.Following.{arrival, course_in, course_now, course_summaries, begun, front, rest, was}
+use Rattle.ktm_laws.proofs.Following.{arrival, course_in, course_now, course_summaries, begun, placed-at, was, was-in}
 use Rattle.ktm_laws.proofs.Limits.{Less-filter, limits-less}
 use Rattle.ktm_laws.proofs.Lists.{IsIn-unmap}
-use Rattle.ktm_laws.proofs.Moves.{Moved-refl}
+use Rattle.ktm_laws.proofs.Placing.{if_there}
 use Rattle.ktm_laws.proofs.Tables.{same_id-from}
 use Rattle.ktm_laws.proofs.Undoing.{aborting-undone}
 
@@ -39,12 +38,12 @@ unknown t undecided = go t.outcome undecided
     go Aborted is = absurd (true≢false (sym is))
 
 -- an undecided transaction that the log has waits there
-record Waits (phase : Phase) : Type 0 where
-  stage : Stage
-  stands : stage_in phase ≡ Some stage
-  waiting : is_decided stage ≡ false
+pub record Waits (phase : Phase) : Type 0 where
+  pub stage : Stage
+  pub stands : stage_in phase ≡ Some stage
+  pub waiting : is_decided stage ≡ false
 
-waits : (t : Transaction) → is_undecided t ≡ true → (phase : Phase) → is_outcome_of phase t ≡ true → Waits phase
+pub waits : (t : Transaction) → is_undecided t ≡ true → (phase : Phase) → is_outcome_of phase t ≡ true → Waits phase
 waits t undecided Phase.Committing is = absurd (true≢false (sym is ∙ (unknown t undecided).0))
 waits t undecided Phase.Aborting is = absurd (true≢false (sym is ∙ (unknown t undecided).1))
 waits t undecided Phase.Ended is = absurd (true≢false (sym is ∙ (λ i. (unknown t undecided).0 i || (unknown t undecided).1 i)))
@@ -56,12 +55,6 @@ module _ (x : Present) (t : Transaction) (caller : Option Id) (sound : IsSoundCo
     (few : x.recorded.events + 1 < 2 ^ 63) where
   abbrev c : Course
   c = course_of x t caller
-
-  abbrev before : List Summary
-  before = front x sound t there caller c (Moved-refl c)
-
-  abbrev behind : List Summary
-  behind = rest x sound t there caller c (Moved-refl c)
 
   at : Waits t.phase
   at = waits t undecided t.phase (list_all-at (λ t. is_outcome_of t.phase t) x.transactions.items sound.outcomes t there)
@@ -75,9 +68,9 @@ module _ (x : Present) (t : Transaction) (caller : Option Id) (sound : IsSoundCo
   has : t.is_recorded ≡ true → (r : Recorded) × (summary_of r ≡ course_now c at.stage) × IsIn r x.recorded.transactions
   has recorded =
       let mine : course_summaries c ≡ course_now c at.stage ∷ [] = (λ i. if recorded i then course_in c (stage_in t.phase) else []) ∙ ap (course_in c) at.stands ∙ one at.stage at.waiting in
-      let all : map summary_of x.recorded.transactions ≡ before ++ ((course_now c at.stage ∷ []) ++ behind) =
-      was x sound t there caller c (Moved-refl c) agrees ∙ ap (λ ss. before ++ (ss ++ behind)) (begun x sound t there caller c (Moved-refl c) ∙ mine) in
-      IsIn-unmap summary_of (course_now c at.stage) x.recorded.transactions (subst (IsIn (course_now c at.stage)) (sym all) (IsIn-right (course_now c at.stage) before ((course_now c at.stage ∷ []) ++ behind) (inl refl)))
+      let had = was x sound t there agrees in
+      let r = IsIn-unmap summary_of (course_now c at.stage) (if_there had.o) (subst (IsIn (course_now c at.stage)) (sym (had.own ∙ begun x t caller ∙ mine)) (inl refl)) in
+      (r.0, r.1, was-in x t (placed-at x sound t there) had r.0 r.2)
 
   applies : (b : Bool) → t.is_recorded ≡ b → events_apply x.recorded (event_if b (Event.Undo t.id)) ≡ true
   applies false is = refl

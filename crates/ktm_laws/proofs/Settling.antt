@@ -49,7 +49,7 @@ finished-kept : (s : Durable) (done : DonePart) (t : Option Recorded) → ((fini
 finished-kept s done None = (refl, refl)
 finished-kept s done (Some t) = (refl, refl)
 
-event-kept : (s : Durable) (event : Event) → is_boot event ≡ false → ((after_event s event).boots ≡ s.boots) × ((after_event s event).image ≡ s.image)
+pub event-kept : (s : Durable) (event : Event) → is_boot event ≡ false → ((after_event s event).boots ≡ s.boots) × ((after_event s event).image ≡ s.image)
 event-kept s (Boot boot) other = absurd (true≢false other)
 event-kept s (Decide transaction) other = decided-kept s (recorded_at s.transactions transaction)
 event-kept s (Done transaction done) other = finished-kept s done (recorded_at s.transactions transaction)
@@ -118,6 +118,7 @@ sound-own x table own sound same = record {
   managers_rise = sound.managers_rise;
   transactions_counted = sound.transactions_counted;
   enlistments_counted = sound.enlistments_counted;
+  enlistments_made = sound.enlistments_made;
   managers_counted = sound.managers_counted;
   labels_differ = sound.labels_differ;
   booted = sound.booted;

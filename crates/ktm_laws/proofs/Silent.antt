@@ -1,6 +1,6 @@
 -- What was recorded agrees with what is so now after steps of a transaction that record nothing.
 use Rattle.std.specs.Prelude.{if◌then◌else◌}
-use Rattle.std.proofs.Common.{◌≡◌, ◌&&◌, not, Bool, true, false, List, [], ◌∷◌, ◌++◌, map, filter, Option, Some, None, refl, sym, ◌∙◌, ap, inl, inr}
+use Rattle.std.proofs.Common.{◌≡◌, ◌&&◌, not, Bool, true, false, List, [], ◌∷◌, map, filter, Option, Some, None, refl, sym, ◌∙◌, ap, inl, inr}
 use Rattle.std.proofs.lemmas.Bool.{cases_Bool}
 use Rattle.std.specs.List.{list_any}
 use Rattle.ktm_base.specs.declared.id.Id.{Id}
@@ -12,7 +12,7 @@ use Rattle.ktm_types.specs.declared.object.TransactionOutcome.TheVariants.{Abort
 use Rattle.ktm_types.specs.declared.recorded.Stage.{Stage}
 use Rattle.ktm_types.specs.declared.reply.Reply.{Reply}
 use Rattle.ktm_world.specs.Enlistments.{Enlistment, Sent, commit, has_id, is_durable_at, is_superior, is_unfinished, rollback, superior_of, takes_part, with_enlistments}
-use Rattle.ktm_world.specs.Lawful.{Agrees, brought_back, is_held_stage, stage_in, stays, superior_now}
+use Rattle.ktm_world.specs.Lawful.{brought_back, is_held_stage, stage_in, stays, superior_now}
 use Rattle.ktm_world.specs.Outcome.{apply}
 use Rattle.ktm_world.specs.Phases.{Course, recovering, ended, finished, owing, recovered, recovered_in, rollback_answered, single_phase_rejected, telling, unchanged}
 use Rattle.ktm_world.specs.Present.{Present}
@@ -22,10 +22,10 @@ use Rattle.ktm_world.specs.World.{by_rising_id}
 use Rattle.ktm_world.specs.Durable.{is_ready}
 use Rattle.ktm_laws.specs.Footprint.{IsIn}
 use Rattle.ktm_laws.specs.SoundCourse.{IsSoundCourse}
-use Rattle.ktm_laws.proofs.Following.{agrees-arrived, begun, course_in, course_summaries, follows-from, front, rest, was}
+use Rattle.ktm_laws.proofs.Agreeing.{Agreed, filter-alike}
+use Rattle.ktm_laws.proofs.Following.{agreed-arrived, begun, carried-itself, course_enlistments, course_in, course_summaries, follows-from, none-in, none-unrecorded, was}
 use Rattle.ktm_laws.proofs.Moves.{if_cases}
 use Rattle.ktm_laws.proofs.Procedures.{Arrives}
-use Rattle.ktm_laws.proofs.Undoing.{none-in}
 
 -- a step records and commits nothing, and the log has to have of the transaction what it had to have
 pub record IsSilent (c d : Course) : Type 0 where
@@ -33,14 +33,12 @@ pub record IsSilent (c d : Course) : Type 0 where
   pub works : d.works ≡ c.works
   pub summaries : course_summaries d ≡ course_summaries c
 
-pub agrees-silent : (x : Present) (t : Transaction) (caller : Option Id) (d : Course) (reply : Reply) → IsSoundCourse x → Agrees x → IsIn t x.transactions.items → Arrives x.recorded.boots (course_of x t caller) d → IsSilent (course_of x t caller) d
-    → Agrees (apply x (arrived x d reply))
-agrees-silent x t caller d reply sound agrees there arrives silent =
-    let before = front x sound t there caller d arrives.moved in
-    let behind = rest x sound t there caller d arrives.moved in
-    agrees-arrived x sound t there caller d arrives.moved reply arrives.stands.outcome agrees
-    (follows-from x before behind d [] [] silent.events silent.works agrees.tree agrees.keys refl agrees.next_node
-    (was x sound t there caller d arrives.moved agrees ∙ ap (λ ss. before ++ (ss ++ behind)) (begun x sound t there caller d arrives.moved ∙ sym silent.summaries)))
+pub agreed-silent : (x : Present) (t : Transaction) (caller : Option Id) (d : Course) (reply : Reply) (sound : IsSoundCourse x) (agreed : Agreed x) (there : IsIn t x.transactions.items) → Arrives x.recorded.boots (course_of x t caller) d
+    → IsSilent (course_of x t caller) d → Agreed (apply x (arrived x d reply))
+agreed-silent x t caller d reply sound agreed there arrives silent =
+    let had = was x sound t there agreed.agrees in
+    agreed-arrived x sound agreed t there caller d arrives.moved reply arrives.stands.outcome
+    (follows-from x t.id had.before had.behind d had.o [] [] silent.events silent.works had.tracks (had.own ∙ begun x t caller ∙ sym silent.summaries) (carried-itself x sound agreed t there))
 
 -- ---- enlistments that are as they would be brought back
 
@@ -62,6 +60,14 @@ alike-stepped test f alike e = if_cases (λ g. IsBackAlike e g) (test e) (f e) e
 abbrev pub is_kept : Course → Enlistment → Bool
 is_kept c e = takes_part c.transaction.id e && is_durable_at c.managers e.manager && e.is_prepared && not e.is_finished
 
+-- where none is there is none to be brought back
+pub none-kept : (c : Course) → ((e : Enlistment) → IsIn e c.enlistments → is_kept c e ≡ false) → course_enlistments c ≡ []
+none-kept c none = ap (λ es. by_rising_id (map brought_back es)) (filter-alike (is_kept c) (λ e. false) c.enlistments none ∙ filter-false c.enlistments)
+  where
+    filter-false : (es : List Enlistment) → filter (λ (e : Enlistment). false) es ≡ []
+    filter-false [] = refl
+    filter-false (e ∷ es) = filter-false es
+
 kept-alike : (c : Course) (step : Enlistment → Enlistment) → ((e : Enlistment) → IsBackAlike e (step e)) → (es : List Enlistment) → map brought_back (filter (is_kept c) (map step es)) ≡ map brought_back (filter (is_kept c) es)
 kept-alike c step alike [] = refl
 kept-alike c step alike (e ∷ es) =
@@ -81,7 +87,11 @@ superior-alike id step alike (e ∷ es) =
       | inr other ↦ rw (same ∙ other, other) (superior-alike id step alike es)
     ]
 
--- so the log has to have the same
+-- so the log has to have the same enlistments
+pub enlistments-alike : (c : Course) (test : Enlistment → Bool) (f : Enlistment → Enlistment) → ((e : Enlistment) → IsBackAlike e (f e)) → course_enlistments (record c { enlistments = with_enlistments test f c.enlistments }) ≡ course_enlistments c
+enlistments-alike c test f alike = ap by_rising_id (kept-alike c (λ e. if test e then f e else e) (alike-stepped test f alike) c.enlistments)
+
+-- and the same of it
 pub in-alike : (c : Course) (step : Enlistment → Enlistment) (sent : List Sent) → ((e : Enlistment) → IsBackAlike e (step e)) → (stage : Option Stage) → course_in (record c { enlistments = map step c.enlistments; sent = sent }) stage ≡ course_in c stage
 in-alike c step sent alike None = refl
 in-alike c step sent alike (Some stage) = ap (λ s. filter stays (s ∷ [])) (λ i. record {
@@ -93,7 +103,7 @@ in-alike c step sent alike (Some stage) = ap (λ s. filter stays (s ∷ [])) (λ
   settings = if is_held_stage stage then c.settings else [];
 })
 
-pub summaries-alike : (c : Course) (step : Enlistment → Enlistment) (sent : List Sent) → ((e : Enlistment) → IsBackAlike e (step e)) → course_summaries (record c { enlistments = map step c.enlistments; sent = sent }) ≡ course_summaries c
+summaries-alike : (c : Course) (step : Enlistment → Enlistment) (sent : List Sent) → ((e : Enlistment) → IsBackAlike e (step e)) → course_summaries (record c { enlistments = map step c.enlistments; sent = sent }) ≡ course_summaries c
 summaries-alike c step sent alike = elim (cases_Bool c.transaction.is_recorded) [ inl recorded ↦ rw recorded (in-alike c step sent alike (stage_in c.transaction.phase)) | inr other ↦ rw other refl ]
 
 -- ---- steps
@@ -111,10 +121,7 @@ silent-changing c test f sent alike = record {
 
 -- where the log does not have it, and goes on not to have it
 silent-unrecorded : (c d : Course) → d.events ≡ c.events → d.works ≡ c.works → c.transaction.is_recorded ≡ false → d.transaction.is_recorded ≡ c.transaction.is_recorded → IsSilent c d
-silent-unrecorded c d events works other same = record { events = events; works = works; summaries = nothing d (same ∙ other) ∙ sym (nothing c other) }
-  where
-    nothing : (c : Course) → c.transaction.is_recorded ≡ false → course_summaries c ≡ []
-    nothing c other = rw other refl
+silent-unrecorded c d events works other same = record { events = events; works = works; summaries = none-unrecorded d (same ∙ other) ∙ sym (none-unrecorded c other) }
 
 -- where its phase is one of which the log has nothing
 silent-nothing : (c d : Course) → d.events ≡ c.events → d.works ≡ c.works → stage_in c.transaction.phase ≡ None → stage_in d.transaction.phase ≡ None → IsSilent c d

@@ -1,8 +1,7 @@
 -- What a restart of a good state makes is sound.
 use Rattle.std.specs.Prelude.{if◌then◌else◌}
-use Rattle.std.proofs.Common.{◌≡◌, ℕ, ◌+◌, ◌≤◌, ◌&&◌, ◌||◌, not, Bool, true, false, List, [], ◌∷◌, ◌++◌, length, map, filter, nat_lt, nat_le, Option, Some, None, is_some, is_none, refl, sym, ◌∙◌, ap, subst, arith, inl, inr, ◌⊎◌}
+use Rattle.std.proofs.Common.{◌≡◌, ℕ, ◌+◌, ◌≤◌, ◌&&◌, ◌||◌, not, Bool, true, false, List, [], ◌∷◌, length, map, nat_lt, nat_le, Option, Some, None, is_some, is_none, refl, sym, ◌∙◌, ap, subst, arith, inl, inr, ◌⊎◌}
 use Rattle.std.proofs.lemmas.Bool.{cases_Bool, and_parts, and_from, and_left, or_cases, or_left, or_right, lt-ltb, le-leb, leb-true, true≢false, not-true, not_from_false, false_from_ne_true}
-use Rattle.std.proofs.lemmas.List.{map-append}
 use Rattle.std.proofs.lemmas.Option.{same_Some}
 use Rattle.std.specs.List.{list_any, list_all, flat_map}
 use Rattle.ktm_base.specs.declared.id.Id.{Id}
@@ -16,136 +15,45 @@ use Rattle.ktm_types.specs.declared.object.Phase.TheVariants.{InDoubt, Committin
 use Rattle.ktm_types.specs.declared.object.Transaction.{Transaction}
 use Rattle.ktm_types.specs.declared.object.TransactionOutcome.{TransactionOutcome}
 use Rattle.ktm_types.specs.declared.options.EnlistmentKind.{EnlistmentKind}
-use Rattle.ktm_world.specs.Durable.{Durable, Recorded, after_event, after_events, enlistments_in, enlistments_of, superior_ids, has_undone, is_before, is_decided, is_held, is_manager, stand}
+use Rattle.ktm_world.specs.Durable.{Durable, Recorded, after_event, after_events, enlistments_of, has_undone, is_before, is_decided, is_held, is_manager, stand}
 use Rattle.ktm_world.specs.Enlistments.{Enlistment, Manager, is_superior, is_unfinished, is_durable_at, superior_of}
 use Rattle.ktm_world.specs.Limits.{most_information, most_number}
 use Rattle.ktm_world.specs.Logs.{Group}
 use Rattle.ktm_world.specs.Present.{Present}
 use Rattle.ktm_world.specs.Transactions.{same_id}
-use Rattle.ktm_world.specs.World.{ManagerPast, manager_now, present, opened, own_events, own_group, done_if, enlistment_back, superior_back, enlistments_back, with_enlistment, by_rising_id, is_enlistment_part, is_brought_back, transaction_back, back}
+use Rattle.ktm_world.specs.World.{ManagerPast, manager_now, present, opened, own_events, own_group, done_if, enlistment_back, superior_back, enlistments_back, by_rising_id, is_enlistment_part, is_brought_back, transaction_back, back}
 use Rattle.ktm_laws.specs.Footprint.{IsIn}
 use Rattle.ktm_laws.specs.GoodState.{each_pair, is_of_object, is_drawn, enlisted_in, superiors_in, enlisted, is_held_well, IsGoodState}
-use Rattle.ktm_laws.specs.SoundCourse.{IsSoundCourse, is_note_of, is_idle, is_waiting, is_part_as, is_counted, has_transaction, has_manager, are_not_both_superiors, is_superior_durable, is_unrecovered_well, is_outcome_of, is_of_its_boot, has_superior_as_asked, is_enlistment_as, are_enlistments_as_asked, is_awaited, is_recorded_as_asked, is_alone_in_one_phase}
+use Rattle.ktm_laws.specs.SoundCourse.{IsSoundCourse, is_note_of, is_idle, is_waiting, is_part_as, is_counted, is_made_with_it, has_transaction, has_manager, are_not_both_superiors, is_superior_durable, is_unrecovered_well, is_outcome_of, is_of_its_boot, has_superior_as_asked, is_enlistment_as, are_enlistments_as_asked, is_awaited, is_recorded_as_asked, is_alone_in_one_phase}
 use Rattle.ktm_laws.proofs.Diamonds.{IsIn-right}
 use Rattle.ktm_laws.proofs.Lists.{IsIn-left, IsIn-cases, IsIn-unmap}
-use Rattle.ktm_laws.proofs.Elements.{IsIn-filter, IsIn-kept, IsIn-flat_map, IsIn-unflat, list_all-at, list_all-from, list_any-at, list_any-from, each_pair-filter, each_pair-from, each_pair-append, each_pair-left, each_pair-right, each_pair-across}
-use Rattle.ktm_laws.proofs.Tables.{same_id-equal, same_id-from, same_id-sym, is_before-then, is_before-turned, before_other}
+use Rattle.ktm_laws.proofs.Elements.{IsIn-filter, IsIn-kept, IsIn-flat_map, IsIn-unflat, list_all-at, list_all-from, list_any-at, list_any-from, each_pair-filter, each_pair-from, each_pair-flat_kept}
+use Rattle.ktm_laws.proofs.Tables.{same_id-equal, same_id-from, before_other}
 use Rattle.ktm_laws.proofs.Moves.{same-by_id, if_first, if_second, IsIn-map, NoBoots, NoBoots-none, NoBoots-one, NoBoots-append}
 use Rattle.ktm_laws.proofs.Procedures.{superior-found}
 use Rattle.ktm_laws.proofs.Answering.{RiseEnlistments}
+use Rattle.ktm_laws.proofs.Rising.{IsIn-rising, IsIn-into_rising, earlier, differ_in_id, Rises-by_rising_id, map-flat, ids-back}
 use Rattle.ktm_laws.proofs.Settling.{events-kept}
 use Rattle.ktm_laws.proofs.Views.{list_all-map, each_pair-map, sound-alike}
 
--- ---- enlistments by rising Id
-
-IsIn-with_enlistment : (es : List Enlistment) (e x : Enlistment) → IsIn x (with_enlistment es e) → (x ≡ e) ⊎ IsIn x es
-IsIn-with_enlistment [] e x (inl is) = inl (sym is)
-IsIn-with_enlistment [] e x (inr none) = absurd none
-IsIn-with_enlistment (a ∷ es) e x there = elim (cases_Bool (is_before e.id a.id)) [
-  | inl before ↦ let there' : IsIn x (e ∷ a ∷ es) = rw before at there in elim there' [ inl is ↦ inl (sym is) | inr later ↦ inr later ]
-  | inr behind ↦
-      let there' : IsIn x (a ∷ with_enlistment es e) = rw behind at there in
-      elim there' [ inl is ↦ inr (inl is) | inr later ↦ elim (IsIn-with_enlistment es e x later) [ inl is ↦ inl is | inr old ↦ inr (inr old) ] ]
-]
-
-IsIn-with_enlistment-itself : (es : List Enlistment) (e : Enlistment) → IsIn e (with_enlistment es e)
-IsIn-with_enlistment-itself [] e = inl refl
-IsIn-with_enlistment-itself (a ∷ es) e = elim (cases_Bool (is_before e.id a.id)) [ inl before ↦ rw before (inl refl) | inr behind ↦ rw behind (inr (IsIn-with_enlistment-itself es e)) ]
-
-IsIn-with_enlistment-other : (es : List Enlistment) (e x : Enlistment) → IsIn x es → IsIn x (with_enlistment es e)
-IsIn-with_enlistment-other [] e x there = absurd there
-IsIn-with_enlistment-other (a ∷ es) e x there = elim (cases_Bool (is_before e.id a.id)) [
-  | inl before ↦ rw before (inr there)
-  | inr behind ↦ rw behind (elim there [ inl is ↦ inl is | inr later ↦ inr (IsIn-with_enlistment-other es e x later) ])
-]
-
-IsIn-rising : (es : List Enlistment) (x : Enlistment) → IsIn x (by_rising_id es) → IsIn x es
-IsIn-rising [] x there = there
-IsIn-rising (e ∷ es) x there = elim (IsIn-with_enlistment (by_rising_id es) e x there) [ inl is ↦ inl (sym is) | inr later ↦ inr (IsIn-rising es x later) ]
-
-IsIn-into_rising : (es : List Enlistment) (x : Enlistment) → IsIn x es → IsIn x (by_rising_id es)
-IsIn-into_rising [] x there = there
-IsIn-into_rising (e ∷ es) x (inl is) = subst (λ y. IsIn y (with_enlistment (by_rising_id es) e)) is (IsIn-with_enlistment-itself (by_rising_id es) e)
-IsIn-into_rising (e ∷ es) x (inr there) = IsIn-with_enlistment-other (by_rising_id es) e x (IsIn-into_rising es x there)
-
--- does the first enlistment come before the second
-abbrev earlier : Enlistment → Enlistment → Bool
-earlier e f = is_before e.id f.id
-
-Rises-with_enlistment : (es : List Enlistment) (e : Enlistment) → RiseEnlistments es → ((x : Enlistment) → IsIn x es → same_id e.id x.id ≡ false) → RiseEnlistments (with_enlistment es e)
-Rises-with_enlistment [] e rises other = refl
-Rises-with_enlistment (a ∷ es) e rises other =
-    let parts = and_parts (list_all (earlier a) es) (each_pair earlier es) rises in
-    elim (cases_Bool (is_before e.id a.id)) [
-      | inl before ↦ rw before (and_from _ _ (and_from _ _ before (list_all-from (earlier e) es (λ x there. is_before-then e.id a.id x.id before (list_all-at (earlier a) es parts.0 x there)))) rises)
-      | inr behind ↦ rw behind (and_from _ _
-          (list_all-from (earlier a) (with_enlistment es e) (λ x there. elim (IsIn-with_enlistment es e x there) [
-            | inl is ↦ subst (λ y. earlier a y ≡ true) (sym is) (is_before-turned a.id e.id (same_id-sym e.id a.id (other a (inl refl))) behind)
-            | inr old ↦ list_all-at (earlier a) es parts.0 x old
-          ]))
-          (Rises-with_enlistment es e parts.1 (λ x there. other x (inr there))))
-    ]
-
--- do two enlistments differ in their Ids
-abbrev differ_in_id : Enlistment → Enlistment → Bool
-differ_in_id e f = not (same_id e.id f.id)
-
-Rises-by_rising_id : (es : List Enlistment) → each_pair differ_in_id es ≡ true → RiseEnlistments (by_rising_id es)
-Rises-by_rising_id [] differ = refl
-Rises-by_rising_id (e ∷ es) differ =
-    let parts = and_parts (list_all (differ_in_id e) es) (each_pair differ_in_id es) differ in
-    Rises-with_enlistment (by_rising_id es) e (Rises-by_rising_id es parts.1) (λ x there. not-true _ (list_all-at (differ_in_id e) es parts.0 x (IsIn-rising es x there)))
-
 -- ---- what is brought back
 
--- of the lists of those that are kept each two pass too
-each_pair-flat_kept : {X Y : Type 0} (test : Y → Y → Bool) (f : X → List Y) (keep : X → Bool) (xs : List X) → each_pair test (flat_map f xs) ≡ true → each_pair test (flat_map f (filter keep xs)) ≡ true
-each_pair-flat_kept test f keep [] pairs = refl
-each_pair-flat_kept test f keep (x ∷ xs) pairs = elim (cases_Bool (keep x)) [
-  | inr out ↦ rw out (each_pair-flat_kept test f keep xs (each_pair-right test (f x) (flat_map f xs) pairs))
-  | inl stays ↦ rw stays (each_pair-append test (f x) (flat_map f (filter keep xs)) (each_pair-left test (f x) (flat_map f xs) pairs)
-      (each_pair-flat_kept test f keep xs (each_pair-right test (f x) (flat_map f xs) pairs))
-      (λ a b there there'.
-      let from = IsIn-unflat f (filter keep xs) b there' in
-      each_pair-across test (f x) (flat_map f xs) pairs a b there (IsIn-flat_map f xs from.0 b (IsIn-filter keep xs from.0 from.1).0 from.2)))
-]
-
-ids-superior : (id : Id) (superior : Option Superior) → map (λ (e : Enlistment). e.id) (superior_back id superior) ≡ superior_ids superior
-ids-superior id None = refl
-ids-superior id (Some s) = refl
-
-ids-part : (id : Id) (p : RecordedPart) → map (λ (e : Enlistment). e.id) (enlistment_back id p) ≡ enlistments_in p.part
-ids-part id p = go p.part
-  where
-    go : (part : Part) → map (λ (e : Enlistment). e.id) (enlistment_back id (record p { part = part })) ≡ enlistments_in part
-    go (EnlistmentPart enlistment manager information) = refl
-    go (Changes changes) = refl
-    go (Settings settings) = refl
-
-map-flat : {X Y Z : Type 0} (g : Y → Z) (f : X → List Y) (h : X → List Z) → ((x : X) → map g (f x) ≡ h x) → (xs : List X) → map g (flat_map f xs) ≡ flat_map h xs
-map-flat g f h same [] = refl
-map-flat g f h same (x ∷ xs) = map-append g (f x) (flat_map f xs) ∙ (λ i. same x i ++ map-flat g f h same xs i)
-
-ids-back : (t : Recorded) → map (λ (e : Enlistment). e.id) (enlistments_back t) ≡ enlistments_of t
-ids-back t = map-append (λ (e : Enlistment). e.id) (superior_back t.id t.superior) (flat_map (enlistment_back t.id) t.parts)
-    ∙ (λ i. ids-superior t.id t.superior i ++ map-flat (λ (e : Enlistment). e.id) (enlistment_back t.id) (λ (p : RecordedPart). enlistments_in p.part) (ids-part t.id) t.parts i)
-
 -- the enlistment, as it was recorded
-abbrev recorded_as : Enlistment → Superior
+abbrev pub recorded_as : Enlistment → Superior
 recorded_as e = record { enlistment = e.id; manager = e.manager; information = e.information }
 
 -- what an enlistment is that is brought back
-record IsBack (t : Recorded) (e : Enlistment) : Type 0 where
-  transaction : e.transaction ≡ t.id
-  recovered : e.is_recovered ≡ false
-  owes : is_none e.owes ≡ true
-  read_only : e.is_read_only ≡ false
-  finished : e.is_finished ≡ false
-  prepared : ((is_superior e ≡ true) × (e.is_prepared ≡ false)) ⊎ ((is_superior e ≡ false) × (e.is_prepared ≡ true))
-  superior : is_superior e ≡ true → t.superior ≡ Some (recorded_as e)
-  enlisted : IsIn (recorded_as e) (enlisted t)
+pub record IsBack (t : Recorded) (e : Enlistment) : Type 0 where
+  pub transaction : e.transaction ≡ t.id
+  pub recovered : e.is_recovered ≡ false
+  pub owes : is_none e.owes ≡ true
+  pub read_only : e.is_read_only ≡ false
+  pub finished : e.is_finished ≡ false
+  pub prepared : ((is_superior e ≡ true) × (e.is_prepared ≡ false)) ⊎ ((is_superior e ≡ false) × (e.is_prepared ≡ true))
+  pub superior : is_superior e ≡ true → t.superior ≡ Some (recorded_as e)
+  pub enlisted : IsIn (recorded_as e) (enlisted t)
 
-is-back : (t : Recorded) (e : Enlistment) → IsIn e (enlistments_back t) → IsBack t e
+pub is-back : (t : Recorded) (e : Enlistment) → IsIn e (enlistments_back t) → IsBack t e
 is-back t e there = elim (IsIn-cases e (superior_back t.id t.superior) (flat_map (enlistment_back t.id) t.parts) there) [
   | inl above ↦ superior t.superior refl above
   | inr below ↦ let from = IsIn-unflat (enlistment_back t.id) t.parts e below in part from.0 from.1 (from.0).part refl from.2
@@ -246,13 +154,14 @@ module _ (base : Durable) (room : ℕ) (log : List Group) (good : IsGoodState (s
     t : Recorded
     there : IsIn t s.transactions
     brought : is_brought_back t ≡ true
+    within : IsIn e (enlistments_back t)
     is : IsBack t e
 
   from : (e : Enlistment) → IsIn e es → From e
   from e there =
       let at = IsIn-unflat enlistments_back (back s) e (IsIn-rising (flat_map enlistments_back (back s)) e there) in
       let kept = IsIn-filter is_brought_back s.transactions at.0 at.1 in
-      record { t = at.0; there = kept.0; brought = kept.1; is = is-back at.0 e at.2 }
+      record { t = at.0; there = kept.0; brought = kept.1; within = at.2; is = is-back at.0 e at.2 }
 
   -- what was recorded of it
   enlisted-fact : (test : Superior → Bool) → list_all test (flat_map enlisted s.transactions) ≡ true → (e : Enlistment) → IsIn e es → test (recorded_as e) ≡ true
@@ -277,6 +186,10 @@ module _ (base : Durable) (room : ℕ) (log : List Group) (good : IsGoodState (s
   managers-known : (e : Enlistment) → IsIn e es → is_manager s e.manager ≡ true
   managers-known e there = enlisted-fact (λ (e : Superior). is_manager s e.manager) good.managers_there e there
 
+  -- and its resource manager is durable
+  pub durable-back : (e : Enlistment) → IsIn e es → is_durable_at ms e.manager ≡ true
+  durable-back e there = (manager-back e.manager (managers-known e there)).1
+
   -- it waits, or it commits and has an enlistment
   stages : (t : Recorded) → is_brought_back t ≡ true → (P : Transaction → Type 0)
       → (is_held t.stage ≡ true → P (record (transaction_back t) { phase = InDoubt; outcome = TransactionOutcome.Undetermined }))
@@ -287,34 +200,41 @@ module _ (base : Durable) (room : ℕ) (log : List Group) (good : IsGoodState (s
       (λ not_held. decided (elim (or_cases (is_held t.stage) _ brought) [ inl is ↦ absurd (true≢false (sym is ∙ not_held)) | inr commits ↦ (and_parts (is_decided t.stage) (list_any is_enlistment_part t.parts) commits).1 ]))
 
   -- an enlistment with a transaction's Id was brought back with it
-  own : (t : Recorded) → IsIn t s.transactions → (e : Enlistment) → IsIn e es → same_id e.transaction t.id ≡ true → IsBack t e
-  own t there e in_es same =
+  pub own-within : (t : Recorded) → IsIn t s.transactions → (e : Enlistment) → IsIn e es → same_id e.transaction t.id ≡ true → IsIn e (enlistments_back t)
+  own-within t there e in_es same =
       let f = from e in_es in
-      subst (λ u. IsBack u e) (same-by_id (λ (r : Recorded). r.id) s.transactions good.transactions_rise f.t t f.there there (sym (f.is).transaction ∙ same_id-equal e.transaction t.id same)) f.is
+      subst (λ u. IsIn e (enlistments_back u)) (same-by_id (λ (r : Recorded). r.id) s.transactions good.transactions_rise f.t t f.there there (sym (f.is).transaction ∙ same_id-equal e.transaction t.id same)) f.within
 
-  in-es : (t : Recorded) → IsIn t s.transactions → is_brought_back t ≡ true → (e : Enlistment) → IsIn e (enlistments_back t) → IsIn e es
+  own : (t : Recorded) → IsIn t s.transactions → (e : Enlistment) → IsIn e es → same_id e.transaction t.id ≡ true → IsBack t e
+  own t there e in_es same = is-back t e (own-within t there e in_es same)
+
+  pub in-es : (t : Recorded) → IsIn t s.transactions → is_brought_back t ≡ true → (e : Enlistment) → IsIn e (enlistments_back t) → IsIn e es
   in-es t there brought e is = IsIn-into_rising (flat_map enlistments_back (back s)) e (IsIn-flat_map enlistments_back (back s) t e (IsIn-kept is_brought_back s.transactions t there brought) is)
 
-  -- one that waits has its superior
+  -- its superior is there, where it has one
+  pub superior-there : (t : Recorded) → IsIn t s.transactions → is_brought_back t ≡ true → (sup : Superior) → t.superior ≡ Some sup → is_some (superior_of es t.id) ≡ true
+  superior-there t there brought sup is =
+      let e : Enlistment = record {
+        id = sup.enlistment;
+        manager = sup.manager;
+        transaction = t.id;
+        kind = EnlistmentKind.Superior;
+        owes = None;
+        is_read_only = false;
+        is_prepared = false;
+        is_finished = false;
+        is_recovered = false;
+        information = sup.information;
+      } in
+      superior-found t.id es e (in-es t there brought e (IsIn-left e (superior_back t.id t.superior) (flat_map (enlistment_back t.id) t.parts) (subst (λ o. IsIn e (superior_back t.id o)) (sym is) (inl refl)))) (and_from _ _ (same_id-from t.id t.id refl) refl)
+
+  -- one that waits has it
   superior-back : (t : Recorded) → IsIn t s.transactions → is_brought_back t ≡ true → is_held t.stage ≡ true → is_some (superior_of es t.id) ≡ true
   superior-back t there brought held = go t.superior refl (elim (or_cases (not (is_held t.stage)) (is_some t.superior) (list_all-at is_held_well s.transactions good.held t there)) [ inl other ↦ absurd (true≢false (sym held ∙ not-true _ other)) | inr has ↦ has ])
     where
       go : (o : Option Superior) → t.superior ≡ o → is_some o ≡ true → is_some (superior_of es t.id) ≡ true
       go None is has = absurd (true≢false (sym has))
-      go (Some sup) is has =
-          let e : Enlistment = record {
-            id = sup.enlistment;
-            manager = sup.manager;
-            transaction = t.id;
-            kind = EnlistmentKind.Superior;
-            owes = None;
-            is_read_only = false;
-            is_prepared = false;
-            is_finished = false;
-            is_recovered = false;
-            information = sup.information;
-          } in
-          superior-found t.id es e (in-es t there brought e (IsIn-left e (superior_back t.id t.superior) (flat_map (enlistment_back t.id) t.parts) (subst (λ o. IsIn e (superior_back t.id o)) (sym is) (inl refl)))) (and_from _ _ (same_id-from t.id t.id refl) refl)
+      go (Some sup) is has = superior-there t there brought sup is
 
   -- and one that commits an enlistment that has not finished
   unfinished-back : (t : Recorded) → IsIn t s.transactions → is_brought_back t ≡ true → list_any is_enlistment_part t.parts ≡ true → list_any (is_unfinished t.id) es ≡ true
@@ -351,6 +271,9 @@ module _ (base : Durable) (room : ℕ) (log : List Group) (good : IsGoodState (s
     transactions_counted = each (λ t. is_counted (s.boots + 1) 0 t.id) (λ t there brought. counted t.id (list_all-at (λ (t : Recorded). is_drawn s t.id) s.transactions good.transactions_drawn t there));
     enlistments_counted = list_all-from (λ (e : Enlistment). is_counted (s.boots + 1) 0 e.id) es (λ e there.
         counted e.id (enlisted-fact (λ (e : Superior). is_drawn s e.enlistment) good.enlistments_drawn e there));
+    enlistments_made = list_all-from (is_made_with_it (s.boots + 1)) es (λ e there.
+        let f = from e there in
+        or_left _ _ (subst (λ (id : Id). nat_lt id.boot (s.boots + 1) ≡ true) (sym (f.is).transaction) (lt-ltb _ _ (let boot = drawn-boot f.t.id (list_all-at (λ (t : Recorded). is_drawn s t.id) s.transactions good.transactions_drawn f.t f.there) in omega (arith, boot)))));
     managers_counted = list_all-map (λ (m : Manager). is_counted (s.boots + 1) 0 m.id) (λ (m : ManagerPast). is_counted (s.boots + 1) 0 m.id) manager_now (λ m. refl) (map manager_back s.managers)
         ∙ list_all-map (λ (m : ManagerPast). is_counted (s.boots + 1) 0 m.id) (λ id. is_counted (s.boots + 1) 0 id) manager_back (λ id. refl) s.managers
         ∙ list_all-from (λ id. is_counted (s.boots + 1) 0 id) s.managers (λ id there. counted id (list_all-at (is_drawn s) s.managers good.managers_drawn id there));

@@ -147,7 +147,7 @@ fit-raised tree tree' vs n fit kept file = record {
 fit-same : (tree tree' : Tree) (vs : List Version) → FitVersions tree vs → ((m : ℕ) → is_file tree m ≡ true → is_file tree' m ≡ true) → FitVersions tree' vs
 fit-same tree tree' vs fit kept = record { rise = fit.rise; each = λ v there. let is = fit.each v there in (kept v.file is.0, is.1) }
 
-fit-after : (tree : Tree) (vs : List Version) (c : Change) → applies tree c ≡ true → FitVersions tree vs → FitVersions (changed tree c) (versions_after vs c)
+pub fit-after : (tree : Tree) (vs : List Version) (c : Change) → applies tree c ≡ true → FitVersions tree vs → FitVersions (changed tree c) (versions_after vs c)
 fit-after tree vs (Make node parent kind name) is fit = fit-same tree _ vs fit (is_file-kept tree (Make node parent kind name) is refl)
 fit-after tree vs (Put node offset contents) is fit = fit-raised tree _ vs node fit (is_file-kept tree (Put node offset contents) is refl) (Applies-from tree (Put node offset contents) is).0
 fit-after tree vs (Cut node size pages) is fit = fit-raised tree _ vs node fit (is_file-kept tree (Cut node size pages) is refl) (Applies-from tree (Cut node size pages) is).0
@@ -197,7 +197,7 @@ shows-raised tree tree' vs o rises file shows =
       bytes = λ file' last. absurd (omega (arith, before, last, now));
     }
 
-shows-after : (tree : Tree) (vs : List Version) (c : Change) (o : FirstOpen) → applies tree c ≡ true → each_pair files_rise vs ≡ true → (is_make c ≡ true → node_of c ≡ o.file → ⊥)
+pub shows-after : (tree : Tree) (vs : List Version) (c : Change) (o : FirstOpen) → applies tree c ≡ true → each_pair files_rise vs ≡ true → (is_make c ≡ true → node_of c ≡ o.file → ⊥)
     → Shows tree vs o → Shows (changed tree c) (versions_after vs c) o
 shows-after tree vs c o is rises fresh shows = elim (cases_Bool (node_of c == o.file)) [
   | inl here ↦ there c is fresh (eqb-true _ _ here)

@@ -1,5 +1,5 @@
 -- One change more of a transaction.
-use Rattle.std.specs.Prelude.{◌≡◌, ◌⊎◌, ℕ, ◌≤◌, ◌^◌, true, false, Some, is_none}
+use Rattle.std.specs.Prelude.{◌≡◌, ℕ, ◌≤◌, ◌^◌, true, false, Some, is_none}
 use Rattle.ktm_base.specs.declared.id.Id.{Id}
 use Rattle.ktm_types.specs.declared.change.Change.{Change}
 use Rattle.ktm_types.specs.declared.object.Transaction.{Transaction}
@@ -39,8 +39,8 @@ pub record Owns (x : Present) (id : Id) (c : Change) : Type 0 where
   pub alone : (v : Transaction) → IsIn v (undecided x) → same_id id v.id ≡ false → HoldsNothing (holds_now x.files v.id) (tree_seen x.files (Some id)) c
   -- nor may a plain handle write its file
   pub plain : (o : OpenFile) → IsIn o x.files.table.opens → is_none o.transaction ≡ true → writes o.access ≡ true → node_of c ≡ o.node → ⊥
-  -- a file that it does not drop has its last version in the transaction
-  pub last : (o : FirstOpen) → IsIn o x.files.first_opens → o.transaction ≡ id → node_of c ≡ o.file → (is_last_version x.files o ≡ true) ⊎ (is_drop c ≡ true)
+  -- its file has its last version in the transaction
+  pub last : (o : FirstOpen) → IsIn o x.files.first_opens → o.transaction ≡ id → node_of c ≡ o.file → is_last_version x.files o ≡ true
   -- a file that it drops is not open in the transaction
   pub kept : is_drop c ≡ true → (o : OpenFile) → IsIn o x.files.table.opens → is_of id o.transaction ≡ true → node_of c ≡ o.node → ⊥
   -- the numbers of nodes have not come to their end

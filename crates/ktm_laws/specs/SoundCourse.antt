@@ -28,6 +28,10 @@ use Rattle.ktm_laws.specs.GoodState.{each_pair}
 abbrev pub is_counted : ℕ → ℕ → Id → Bool
 is_counted boot last id = nat_le 1 id.boot && nat_le id.boot boot && nat_le 1 id.number && nat_le id.number most_number && (nat_lt id.boot boot || nat_le id.number last)
 
+-- was an enlistment made in this boot, where its transaction was
+abbrev pub is_made_with_it : ℕ → Enlistment → Bool
+is_made_with_it boot e = nat_lt (e.transaction).boot boot || ((e.id).boot == boot)
+
 -- have two handles not the same label of the same process
 abbrev pub have_labels_apart : Handle → Handle → Bool
 have_labels_apart a b = not (is_handle a.process a.label b)
@@ -206,6 +210,8 @@ pub record IsSoundCourse (x : Present) : Type 0 where
   pub enlistments_counted : list_all (λ e. is_counted x.recorded.boots x.transactions.last_enlistment e.id) x.transactions.enlistments ≡ true
   -- and of each resource manager
   pub managers_counted : list_all (λ m. is_counted x.recorded.boots x.transactions.last_manager m.id) x.managers ≡ true
+  -- an enlistment was made in this boot, where its transaction was
+  pub enlistments_made : list_all (is_made_with_it x.recorded.boots) x.transactions.enlistments ≡ true
   -- no label of a process is bound twice
   pub labels_differ : each_pair have_labels_apart x.handles ≡ true
   -- there was a boot

@@ -98,9 +98,9 @@ is_gone tree change = not (is_drop change) || not (is_there tree (node_of change
 abbrev pub opened_apart : FirstOpen → FirstOpen → Bool
 opened_apart a b = not (same_id a.transaction b.transaction && a.file == b.file)
 
--- a transaction that changed the file, or may write it, has its last version, until it drops it
+-- a transaction that changed the file, or may write it, has its last version
 abbrev pub is_open_last : FilesNow → FirstOpen → Bool
-is_open_last files o = not (is_in (holds_now files o.transaction).nodes o.file) || has_dropped (own_changes files.table.own o.transaction) o.file || is_last_version files o
+is_open_last files o = not (is_in (holds_now files o.transaction).nodes o.file) || is_last_version files o
 
 -- ---- versions and open files
 

@@ -2,17 +2,20 @@
 ghost use Rattle.ktm_laws.specs.Agreeing.{AgreeingLaw};
 ghost use Rattle.ktm_laws.specs.FirstOpening.{FirstOpeningLaw};
 ghost use Rattle.ktm_laws.specs.FilesKept.{FilesKeptLaw};
+ghost use Rattle.ktm_laws.specs.LimitsKept.{LimitsLaw};
 ghost use Rattle.ktm_laws.specs.MadeManagers.{MadeManagersLaw};
 ghost use Rattle.ktm_laws.specs.Openings.{OpeningLaw};
 ghost use Rattle.ktm_laws.specs.OwnChange.{OwnChangeLaw};
 ghost use Rattle.ktm_laws.specs.OwnKeys.{OwnKeysLaw};
 ghost use Rattle.ktm_laws.specs.PlainChange.{PlainChangeLaw};
+ghost use Rattle.ktm_laws.specs.RecordedFacts.{RecordedFactsLaw};
 ghost use Rattle.ktm_laws.specs.Recordings.{RecordingsLaw};
 ghost use Rattle.ktm_laws.specs.Reservations.{ReservationsLaw};
 ghost use Rattle.ktm_laws.specs.Rollbacks.{RollbacksLaw};
 ghost use Rattle.ktm_laws.specs.SoundWorlds.{SoundWorldsLaw};
+ghost use Rattle.ktm_laws.specs.Spelling.{SpellingLaw};
 
-use crate::{law_of_courses, law_of_forms, law_of_lists};
+use crate::{law_of_courses, law_of_forms, law_of_lists, law_of_named_objects};
 use ktm_world::{law_of_first_opens, law_of_step};
 
 /// What transactions set of the keys stays as good as what is committed, whatever is called and however much time passes.
@@ -40,7 +43,7 @@ pub fn law_of_recordings()
     ensures { RecordingsLaw }
 {}
 
-/// What was recorded goes on to agree with what is so now, by commands that bring no transaction further, by decisions, by rollbacks and by time.
+/// What was recorded goes on to agree with what is so now, whatever is called, however much time passes, and from a restart on.
 pub fn law_of_agreement()
     ensures { AgreeingLaw }
 {
@@ -56,6 +59,14 @@ pub fn law_of_rollbacks()
 pub fn law_of_made_managers()
     ensures { MadeManagersLaw }
 {}
+
+/// What a machine records applies, but for the limits.
+pub fn law_of_recorded_facts()
+    ensures { RecordedFactsLaw }
+{
+    law_of_lists();
+    law_of_forms();
+}
 
 /// Every world of a run is sound, where it began with a restart of a good state.
 pub fn law_of_sound_worlds()
@@ -91,4 +102,22 @@ pub fn law_of_plain_changes()
 {
     law_of_forms();
     law_of_lists();
+}
+
+/// No command and no passing of time passes a limit, in what is so now or in what is recorded.
+pub fn law_of_limits()
+    ensures { LimitsLaw }
+{
+    law_of_lists();
+    law_of_forms();
+    law_of_files_kept();
+    law_of_agreement();
+}
+
+/// What a machine records can be spelled.
+pub fn law_of_spelling()
+    ensures { SpellingLaw }
+{
+    law_of_named_objects();
+    law_of_recorded_facts();
 }

@@ -1,0 +1,403 @@
+-- Every world of a run is such a world, and such a world is lawful.
+use Rattle.std.proofs.Common.{◌≡◌, ℕ, ◌+◌, ◌-◌, ◌≤◌, ◌&&◌, not, Bool, true, false, List, [], ◌∷◌, ◌++◌, length, drop, nat_le, Option, Some, None, refl, sym, ◌∙◌, ap, subst, arith, inl, inr, ◌⊎◌, length-append}
+use Rattle.std.proofs.Math.Bool.{and_assoc}
+use Rattle.std.proofs.lemmas.Bool.{cases_Bool, and_from, and_parts, or_cases, or_left, or_right, le-leb, leb-true, not-true, not_from_false, true≢false}
+use Rattle.std.proofs.lemmas.List.Folds.{list_all-append}
+use Rattle.std.proofs.lemmas.List.Sums.{sum_by-cons}
+use Rattle.std.specs.List.{list_any, list_all}
+use Rattle.ktm_base.specs.declared.id.Pid.{Pid}
+use Rattle.ktm_types.specs.declared.command.Command.{Command}
+use Rattle.ktm_types.specs.declared.command.Line.{Line}
+use Rattle.ktm_types.specs.declared.command.Line.TheVariants.{Tick, Cut, Crash, Restart, Process}
+use Rattle.ktm_types.specs.declared.event.Event.{Event}
+use Rattle.ktm_types.specs.declared.reply.Reply.{Reply}
+use Rattle.ktm_types.specs.Sizes.{frame_size, log_size}
+use Rattle.ktm_world.specs.Changes.{apply_all}
+use Rattle.ktm_world.specs.Committed.{Committed, Work, with_work, committed_with}
+use Rattle.ktm_world.specs.Conflicts.{holds_now}
+use Rattle.ktm_world.specs.Decide.{decide}
+use Rattle.ktm_world.specs.Durable.{Durable, after_events, events_apply, log_applies, stand}
+use Rattle.ktm_world.specs.Files.{OpenFile, OwnChanges, is_last_version}
+use Rattle.ktm_world.specs.Holds.{is_in}
+use Rattle.ktm_world.specs.Lawful.{Agrees, IsLawful, works_apply, ends_version, hold_apart, all_apart, others_undecided, undecided, is_fixed_last, is_alone}
+use Rattle.ktm_world.specs.Laws.{FirstOpensLaw, StepLaw}
+use Rattle.ktm_world.specs.Logs.{Group, down, is_up, as_groups}
+use Rattle.ktm_world.specs.Outcome.{Outcome, apply, is_full}
+use Rattle.ktm_world.specs.Present.{Present}
+use Rattle.ktm_world.specs.Transcript.{Step, answered, interrupted, found, full, Finds, CallDoes, IsAnswered, CrashDoes, RestartDoes, Does, Transcript}
+use Rattle.ktm_world.specs.Uses.{changes_waiting, is_over_quota, is_over_disk}
+use Rattle.ktm_world.specs.World.{World, OpenedAfter, committed, first_open_now, present, extend, after, decide_tick, possible_logs, interrupted_by, crashed, own_group, interrupted_restart, found_full, opened}
+use Rattle.ktm_world.proofs.Durables.{stand-append, stand-as_groups, log_applies-append, log_applies-as_groups}
+use Rattle.ktm_world.proofs.SizeLemmas.{log_size-append}
+use Rattle.ktm_laws.specs.Agreeing.{AgreeingLaw}
+use Rattle.ktm_laws.specs.Footprint.{IsIn, ListsLaw}
+use Rattle.ktm_laws.specs.Formed.{FormedLaw}
+use Rattle.ktm_laws.specs.GoodState.{IsGoodState}
+use Rattle.ktm_laws.specs.GoodStates.{GoodStatesLaw}
+use Rattle.ktm_laws.specs.Grammatical.{names_objects, is_grammatical}
+use Rattle.ktm_laws.specs.Kept.{IsWithin, are_carried_out, facts_apply, limits_hold}
+use Rattle.ktm_laws.specs.NamedObjects.{NamedLaw}
+use Rattle.ktm_laws.specs.Notes.{AreNotesTrue, NotesLaw}
+use Rattle.ktm_laws.specs.OwnGroup.{OwnGroupLaw}
+use Rattle.ktm_laws.specs.OwnKeys.{OwnKeysLaw}
+use Rattle.ktm_laws.specs.RecordedFacts.{RecordedFactsLaw}
+use Rattle.ktm_laws.specs.Running.{IsRoomy, is_log_grammatical, is_good_log, is_last_since, IsRunning, LawfulWorldsLaw}
+use Rattle.ktm_laws.specs.SoundFiles.{files_apart, is_open_last, set_apart}
+use Rattle.ktm_laws.specs.SoundWorlds.{IsSound, SoundWorldsLaw}
+use Rattle.ktm_laws.specs.LimitsKept.{AreVersionsFixed, LimitsLaw}
+use Rattle.ktm_laws.proofs.Counting.{apply-from, frame-counts, log-events, room-for, within-log, log-grows, own-grammatical, own-frame, own-applies}
+use Rattle.ktm_laws.proofs.Diamonds.{IsIn-map}
+use Rattle.ktm_laws.proofs.Elements.{list_all-at, list_all-from}
+use Rattle.ktm_laws.proofs.Falling.{contains-passes, left-with, left-all, kept-all, left-extend, left-restart}
+use Rattle.ktm_laws.proofs.Lasting.{last-extend}
+use Rattle.ktm_laws.proofs.Passing.{All-by}
+use Rattle.ktm_laws.proofs.Sayings.{puts_all}
+use Rattle.ktm_laws.proofs.Written.{IsWritten, MakesNone, written-decided, written-ticked}
+
+-- ---- logs
+
+good-log-from : (base : Durable) (room : ℕ) (log : List Group) → is_log_grammatical log ≡ true → log_applies base log ≡ true → is_good_log base room log ≡ true
+good-log-from base room log grammatical applies = or_right (not (nat_le (log_size log) room)) _ (and_from _ _ grammatical applies)
+
+-- a log that has room
+good-log-parts : (base : Durable) (room : ℕ) (log : List Group) → log_size log ≤ room → is_good_log base room log ≡ true → (is_log_grammatical log ≡ true) × (log_applies base log ≡ true)
+good-log-parts base room log fits good = elim (or_cases (not (nat_le (log_size log) room)) (is_log_grammatical log && log_applies base log) good) [
+  | inl over ↦ absurd (true≢false (sym (le-leb _ _ fits) ∙ not-true _ over))
+  | inr both ↦ and_parts (is_log_grammatical log) (log_applies base log) both
+]
+
+groups-grammatical : (log : List Group) (events : List Event) → is_log_grammatical log ≡ true → list_all is_grammatical events ≡ true → is_log_grammatical (log ++ as_groups events) ≡ true
+groups-grammatical log [] first second = list_all-append (λ (g : Group). list_all is_grammatical g) log [] ∙ and_from _ _ first refl
+groups-grammatical log (event ∷ events) first second = list_all-append (λ (g : Group). list_all is_grammatical g) log ((event ∷ events) ∷ []) ∙ and_from _ _ first (and_from _ _ second refl)
+
+groups-count : (events : List Event) → length events ≤ log_size (as_groups events)
+groups-count [] = omega arith
+groups-count (event ∷ events) =
+    let few = frame-counts (event ∷ events) in
+    let all = sum_by-cons frame_size (event ∷ events) [] in
+    omega (arith, few, all)
+
+works_apply-append : (c : Committed) (ws vs : List Work) → works_apply c (ws ++ vs) ≡ (works_apply c ws && works_apply (committed_with c ws) vs)
+works_apply-append c [] vs = refl
+works_apply-append c (w ∷ ws) vs =
+    ap (λ b. apply_all c.tree w.changes && b) (works_apply-append (with_work c w) ws vs)
+    ∙ sym (and_assoc (apply_all c.tree w.changes) (works_apply (with_work c w) ws) (works_apply (committed_with (with_work c w) ws) vs))
+
+grammatical-both : (events : List Event) → list_all names_objects events ≡ true → list_all puts_all events ≡ true → list_all is_grammatical events ≡ true
+grammatical-both events named puts = list_all-from is_grammatical events (λ event there. and_from _ _ (list_all-at names_objects events named event there) (list_all-at puts_all events puts event there))
+
+-- ---- what an outcome makes of a world of a run
+
+-- what is so of the outcome of a command, and of that of the passing of time
+pub record IsTaken (w : World) (o : Outcome) : Type 0 where
+  pub sound : IsSound (present (extend w o))
+  pub agrees : Agrees (apply (present w) o)
+  pub carried_out : are_carried_out (apply (present w) o).recorded ≡ true
+  pub within : IsWithin (apply (present w) o)
+  pub versions : AreVersionsFixed (apply (present w) o)
+  pub notes : AreNotesTrue (apply (present w) o)
+  pub applies : events_apply w.recorded o.events ≡ true
+  pub grammatical : list_all is_grammatical o.events ≡ true
+  pub fits : log_size (w.log ++ as_groups o.events) ≤ w.room
+  pub written : IsWritten (present w) o
+
+within-falls : (w : World) (may : List (List Group)) → IsWithin (present w) → IsWithin (present (record w { power = down may }))
+unfolding changes_waiting is_over_quota is_over_disk
+within-falls w may within = within
+
+module _ (step : StepLaw) (openings : FirstOpensLaw) (lists : ListsLaw) (formed : FormedLaw) (states : GoodStatesLaw) (own_groups : OwnGroupLaw) (named : NamedLaw) (worlds : SoundWorldsLaw) (own_keys : OwnKeysLaw) (notes : NotesLaw) where
+  running-extend : (w : World) (o : Outcome) → IsRunning w → IsTaken w o → IsRunning (extend w o)
+  running-extend w o run taken =
+      let is = step.0 w o run.openings in
+      let grammatical = groups-grammatical w.log o.events run.grammatical taken.grammatical in
+      let applies = log_applies-append w.base w.log (as_groups o.events)
+      ∙ and_from _ _ run.applies (log_applies-as_groups (stand w.base w.log) o.events ∙ ap (λ s. events_apply s o.events) run.comes_to ∙ taken.applies) in
+      record {
+        base = run.base;
+        roomy = run.roomy;
+        openings = openings.1 w o run.openings;
+        now = record {
+          sound = taken.sound;
+          good = states.2 w.recorded o.events run.now.good taken.grammatical taken.applies;
+          carried_out = taken.carried_out;
+          agrees = subst Agrees (sym is) taken.agrees;
+          within = subst IsWithin (sym is) taken.within;
+        };
+        versions = subst AreVersionsFixed (sym is) taken.versions;
+        notes = subst AreNotesTrue (sym is) taken.notes;
+        formed = run.formed;
+        works = works_apply-append w.start w.works o.works ∙ and_from _ _ run.works (written taken.written.works);
+        last = last-extend w o run.openings run.now.sound.files taken.written run.last;
+        grammatical = grammatical;
+        applies = applies;
+        comes_to = stand-append w.base w.log (as_groups o.events) ∙ stand-as_groups (stand w.base w.log) o.events ∙ ap (λ s. after_events s o.events) run.comes_to;
+        fits = taken.fits;
+        kept = kept-all w.kept w.log o.events run.kept;
+        possible = left-extend (is_good_log w.base w.room) w o run.kept (good-log-from w.base w.room (w.log ++ as_groups o.events) grammatical applies) run.possible;
+      }
+    where
+      written : (o.works ≡ []) ⊎ ((v : Work) × (o.works ≡ v ∷ []) × (apply_all (committed w).tree v.changes ≡ true) × MakesNone (present w) v.changes) → works_apply (committed w) o.works ≡ true
+      written (inl none) = ap (works_apply (committed w)) none
+      written (inr (v, one, all, makes)) = ap (works_apply (committed w)) one ∙ and_from _ _ all refl
+
+  -- only the power is another one
+  running-falls : (w : World) (may : List (List Group)) → IsRunning w → list_all (is_good_log w.base w.room) may ≡ true → IsRunning (record w { power = down may })
+  running-falls w may run possible = record {
+    base = run.base;
+    roomy = run.roomy;
+    openings = record { works = run.openings.works };
+    now = record {
+      sound = (worlds.falls w (down may) (record { openings = run.openings; now = run.now.sound })).now;
+      good = run.now.good;
+      carried_out = run.now.carried_out;
+      agrees = record { tree = run.now.agrees.tree; keys = run.now.agrees.keys; managers = run.now.agrees.managers; transactions = run.now.agrees.transactions; next_node = run.now.agrees.next_node };
+      within = within-falls w may run.now.within;
+    };
+    versions = record { same = run.versions.same };
+    notes = notes.falls w (down may) run.notes;
+    formed = run.formed;
+    works = run.works;
+    last = run.last;
+    grammatical = run.grammatical;
+    applies = run.applies;
+    comes_to = run.comes_to;
+    fits = run.fits;
+    kept = run.kept;
+    possible = possible;
+  }
+
+  module _ (agrees : AgreeingLaw) (facts : RecordedFactsLaw) (limits : LimitsLaw) where
+    -- ---- commands and time
+
+    applies-of : (w : World) (events : List Event) → IsRunning w → facts_apply w.recorded events ≡ true → limits_hold w.recorded events ≡ true → log_size (w.log ++ as_groups events) ≤ w.room → events_apply w.recorded events ≡ true
+    applies-of w events run fact limit fits =
+        let before = log-events w.log w.base in
+        let same = ap (λ (s : Durable). s.events) run.comes_to in
+        let few = groups-count events in
+        let all = log_size-append w.log (as_groups events) in
+        let end = run.roomy.events in
+        apply-from events w.recorded fact limit (omega (arith, before, same, few, all, fits, end))
+
+    fits-of : (w : World) (o : Outcome) → IsRunning w → is_full (present w).machine.left o.events ≡ false → log_size (w.log ++ as_groups o.events) ≤ w.room
+    fits-of w o run room = log-grows w.room w.log o.events run.fits room
+
+    pub taken-command : (w : World) (process : Pid) (command : Command) → IsRunning w → IsTaken w (decide (present w) process command)
+    taken-command w process command run =
+        let x = present w in
+        let o = decide x process command in
+        let fits = fits-of w o run (within-log x _) in
+        let agree = agrees.commands x process command run.now.sound run.now.good run.now.carried_out run.now.agrees in
+        let written = written-decided lists formed x run.now.sound.course run.now.sound.files process command in
+        record {
+          sound = (worlds.commands w process command (record { openings = run.openings; now = run.now.sound })).now;
+          agrees = agree.0;
+          carried_out = agree.1;
+          within = limits.commands x process command run.now run.versions;
+          versions = limits.versions x process command run.now run.versions;
+          notes = notes.commands x process command run.now.sound.course run.notes;
+          applies = applies-of w o.events run (facts.commands x process command run.now) (limits.recorded x process command run.now) fits;
+          grammatical = grammatical-both o.events (named.commands x process command run.now.sound.course) written.puts;
+          fits = fits;
+          written = written;
+        }
+
+    pub taken-tick : (w : World) (ms : ℕ) → IsRunning w → IsTaken w (decide_tick (present w) ms)
+    taken-tick w ms run =
+        let x = present w in
+        let o = decide_tick x ms in
+        let fits = fits-of w o run (within-log x _) in
+        let agree = agrees.ticks x ms run.now.sound.course run.now.carried_out run.now.agrees in
+        let written = written-ticked lists formed x run.now.sound.course run.now.sound.files ms in
+        record {
+          sound = (worlds.ticks w ms (record { openings = run.openings; now = run.now.sound })).now;
+          agrees = agree.0;
+          carried_out = agree.1;
+          within = limits.ticks x ms run.now run.versions;
+          versions = limits.later_versions x ms run.now run.versions;
+          notes = notes.ticks x ms run.now.sound.course run.notes;
+          applies = applies-of w o.events run (facts.ticks x ms run.now) (limits.later x ms run.now) fits;
+          grammatical = grammatical-both o.events (named.ticks x ms run.now.sound.course) written.puts;
+          fits = fits;
+          written = written;
+        }
+
+    pub running-command : (w : World) (process : Pid) (command : Command) → IsRunning w → IsRunning (after w process command)
+    running-command w process command run = running-extend w (decide (present w) process command) run (taken-command w process command run)
+
+    pub running-tick : (w : World) (ms : ℕ) → IsRunning w → IsRunning (extend w (decide_tick (present w) ms))
+    running-tick w ms run = running-extend w (decide_tick (present w) ms) run (taken-tick w ms run)
+
+    -- ---- losses of power
+
+    good-now : (w : World) → IsRunning w → is_good_log w.base w.room w.log ≡ true
+    good-now w run = good-log-from w.base w.room w.log run.grammatical run.applies
+
+    interrupted-by : (w : World) (o : Outcome) → IsRunning w → IsTaken w o → IsRunning (interrupted_by w o)
+    interrupted-by w o run taken =
+        let then = running-extend w o run taken in
+        running-falls w _ run (left-with (is_good_log w.base w.room) w.log w.kept o.events run.kept (good-now w run) (good-log-from w.base w.room (w.log ++ as_groups o.events) then.grammatical then.applies))
+
+    pub running-crash : (w : World) → IsRunning w → IsRunning (crashed w)
+    running-crash w run = running-falls w (possible_logs w) run run.possible
+
+    -- a good log with what a restart records
+    good-restart : (base : Durable) (room : ℕ) (log : List Group) → IsGoodState base → IsRoomy base room → is_good_log base room log ≡ true → is_good_log base room (log ++ own_group (stand base log) ∷ []) ≡ true
+    good-restart base room log good roomy is = elim (cases_Bool (nat_le (log_size (log ++ own_group (stand base log) ∷ [])) room)) [
+      | inr over ↦ or_left _ _ (not_from_false _ over)
+      | inl fits ↦
+          let s = stand base log in
+          let enough = leb-true _ _ fits in
+          let all = log_size-append log (own_group s ∷ []) in
+          let parts = good-log-parts base room log (omega (arith, enough, all)) is in
+          let good' = states.3 base log good parts.0 parts.1 in
+          let own = own-applies own_groups base room log roomy parts.1 good' enough in
+          good-log-from base room (log ++ own_group s ∷ [])
+          (list_all-append (λ (g : Group). list_all is_grammatical g) log (own_group s ∷ []) ∙ and_from _ _ parts.0 (and_from _ _ (own-grammatical s good') refl))
+          (log_applies-append base log (own_group s ∷ []) ∙ and_from _ _ parts.1 (and_from _ _ own refl))
+    ]
+
+    pub running-interrupted_restart : (w : World) → IsRunning w → IsRunning (interrupted_restart w)
+    running-interrupted_restart w run = running-falls w _ run (left-restart (is_good_log w.base w.room) w (λ l is. good-restart w.base w.room l run.base run.roomy is) (possible_logs w) run.possible)
+
+    pub running-full : (w : World) (log : List Group) → Finds w log true → IsRunning w → IsRunning (found_full w log)
+    running-full w log finds run = running-falls w (log ∷ []) run (and_from _ _ (contains-passes (is_good_log w.base w.room) (possible_logs w) log run.possible finds.possible) refl)
+
+    -- ---- restarts
+
+    pub running-begins : (base : Durable) (room : ℕ) (log : List Group) → IsGoodState base → IsRoomy base room → is_log_grammatical log ≡ true → log_applies base log ≡ true
+        → is_full (room - log_size log) (own_group (stand base log)) ≡ false → IsRunning (opened base room log)
+    running-begins base room log good roomy grammatical applies space =
+        let s = stand base log in
+        let own = own_group s in
+        let enough = room-for (room - log_size log) own space in
+        let frame = own-frame s in
+        let one = sum_by-cons frame_size own [] in
+        let fits = log-grows room log own (omega (arith, enough, frame, one)) space in
+        let good' = states.3 base log good grammatical applies in
+        let own-good = own-grammatical s good' in
+        let takes = own-applies own_groups base room log roomy applies good' fits in
+        let sound = worlds.restarts base room log good' in
+        let agree = agrees.restarts base room log good' in
+        let grammatical' = list_all-append (λ (g : Group). list_all is_grammatical g) log (own ∷ []) ∙ and_from _ _ grammatical (and_from _ _ own-good refl) in
+        let applies' = log_applies-append base log (own ∷ []) ∙ and_from _ _ applies (and_from _ _ takes refl) in
+        let kept : length log + 1 ≡ length (log ++ own ∷ []) = sym (length-append log (own ∷ [])) in
+        record {
+          base = good;
+          roomy = roomy;
+          openings = sound.openings;
+          now = record { sound = sound.now; good = states.2 s own good' own-good takes; carried_out = agree.1; agrees = agree.0; within = limits.restarts base room log good' };
+          versions = limits.first_versions base room log;
+          notes = notes.restarts base room log;
+          formed = good'.files;
+          works = refl;
+          last = refl;
+          grammatical = grammatical';
+          applies = applies';
+          comes_to = stand-append base log (own ∷ []);
+          fits = fits;
+          kept = kept;
+          possible = left-all (is_good_log base room) (log ++ own ∷ []) (length log + 1) kept (good-log-from base room (log ++ own ∷ []) grammatical' applies');
+        }
+
+    pub running-found : (w : World) (log : List Group) → Finds w log false → IsRunning w → IsRunning (opened w.base w.room log)
+    running-found w log finds run =
+        let own = own_group (stand w.base log) in
+        let enough = room-for (w.room - log_size log) own finds.room in
+        let frame = own-frame (stand w.base log) in
+        let one = sum_by-cons frame_size own [] in
+        let parts = good-log-parts w.base w.room log (omega (arith, enough, frame, one)) (contains-passes (is_good_log w.base w.room) (possible_logs w) log run.possible finds.possible) in
+        running-begins w.base w.room log run.base run.roomy parts.0 parts.1 finds.room
+
+    -- ---- every line
+
+    call-does : (w : World) (o : Outcome) (step : Step) (reply : Reply) (new : World) → CallDoes w o step reply new → IsTaken w o → IsRunning w → IsRunning new
+    call-does w o answered reply new (says, becomes) taken run = subst IsRunning (sym becomes) (running-extend w o run taken)
+    call-does w o interrupted reply new (on, says, becomes) taken run = subst IsRunning (sym becomes) (interrupted-by w o run taken)
+    call-does w o (found log) reply new never taken run = absurd never
+    call-does w o (full log) reply new never taken run = absurd never
+
+    answered-does : (w : World) (says : Reply) (step : Step) (reply : Reply) (new : World) → IsAnswered w says step reply new → IsRunning w → IsRunning new
+    answered-does w says answered reply new (is, becomes) run = subst IsRunning (sym becomes) run
+    answered-does w says interrupted reply new never run = absurd never
+    answered-does w says (found log) reply new never run = absurd never
+    answered-does w says (full log) reply new never run = absurd never
+
+    crash-does : (on : Bool) (w : World) (step : Step) (reply : Reply) (new : World) → CrashDoes on w step reply new → IsRunning w → IsRunning new
+    crash-does true w answered reply new (says, becomes) run = subst IsRunning (sym becomes) (running-crash w run)
+    crash-does true w interrupted reply new never run = absurd never
+    crash-does true w (found log) reply new never run = absurd never
+    crash-does true w (full log) reply new never run = absurd never
+    crash-does false w step reply new does run = answered-does w _ step reply new does run
+
+    restart-does : (on : Bool) (w : World) (step : Step) (reply : Reply) (new : World) → RestartDoes on w step reply new → IsRunning w → IsRunning new
+    restart-does true w step reply new does run = answered-does w _ step reply new does run
+    restart-does false w answered reply new never run = absurd never
+    restart-does false w interrupted reply new (says, becomes) run = subst IsRunning (sym becomes) (running-interrupted_restart w run)
+    restart-does false w (found log) reply new (finds, says, becomes) run = subst IsRunning (sym becomes) (running-found w log finds run)
+    restart-does false w (full log) reply new (finds, says, becomes) run = subst IsRunning (sym becomes) (running-full w log finds run)
+
+    pub running-line : (w : World) (line : Option Line) (step : Step) (reply : Reply) (new : World) → Does w line step reply new → IsRunning w → IsRunning new
+    running-line w (Some (Process process command)) step reply new does run = call-does w (decide (present w) process command) step reply new does (taken-command w process command run) run
+    running-line w (Some (Tick ms)) step reply new does run = call-does w (decide_tick (present w) ms) step reply new does (taken-tick w ms run) run
+    running-line w (Some (Cut calls)) step reply new does run = answered-does w _ step reply new does run
+    running-line w (Some Crash) step reply new does run = crash-does (is_up w.power) w step reply new does run
+    running-line w (Some (Restart pick)) step reply new does run = restart-does (is_up w.power) w step reply new does run
+    running-line w None step reply new does run = answered-does w _ step reply new does run
+
+    running-lines : (w : World) (lines : List (Option Line)) (steps : List Step) (replies : List Reply) (new : World) → Transcript w lines steps replies new → IsRunning w → IsRunning new
+    running-lines w [] [] [] new same run = subst IsRunning (sym same) run
+    running-lines w [] [] (reply ∷ replies) new never run = absurd never
+    running-lines w [] (step ∷ steps) replies new never run = absurd never
+    running-lines w (line ∷ lines) [] replies new never run = absurd never
+    running-lines w (line ∷ lines) (step ∷ steps) [] new never run = absurd never
+    running-lines w (line ∷ lines) (step ∷ steps) (reply ∷ replies) new (mid, does, rest) run = running-lines mid lines steps replies new rest (running-line w line step reply mid does run)
+
+    -- ---- lawful worlds
+
+    apart-of : (x : Present) → IsSound x → all_apart x ≡ true
+    apart-of x sound =
+        let keys = own_keys.3 x sound.keys in
+        list_all-from _ (undecided x) (λ t there. list_all-from (hold_apart x t) (others_undecided x.transactions.items (Some t.id)) (λ u there'. and_from _ _
+        (list_all-at (files_apart x t) (others_undecided x.transactions.items (Some t.id)) (list_all-at (λ t. list_all (files_apart x t) (others_undecided x.transactions.items (Some t.id))) (undecided x) sound.files.apart t there) u there')
+        (list_all-at (set_apart x t) (others_undecided x.transactions.items (Some t.id)) (list_all-at (λ t. list_all (set_apart x t) (others_undecided x.transactions.items (Some t.id))) (undecided x) keys t there) u there')))
+
+    fixed-of : (w : World) → IsRunning w → (o : OpenedAfter) → IsIn o w.first_opens → is_fixed_last w o ≡ true
+    fixed-of w run o there =
+        let last = list_all-at (is_last_since w) w.first_opens run.last o there in
+        elim (or_cases (not (is_in (holds_now (present w).files o.transaction).nodes o.file)) (is_last_version (present w).files (first_open_now w o))
+        (list_all-at (is_open_last (present w).files) (present w).files.first_opens run.now.sound.files.first_last (first_open_now w o) (IsIn-map (first_open_now w) o w.first_opens there))) [
+          | inl free ↦ or_left _ _ free
+          | inr is ↦ elim (or_cases (not (is_last_version (present w).files (first_open_now w o))) (not (list_any (λ work. ends_version work o.file) (drop o.works w.works))) last) [
+            | inl not' ↦ absurd (true≢false (sym is ∙ not-true _ not'))
+            | inr none ↦ or_right _ _ none
+          ]
+        ]
+
+    pub lawful-of : (w : World) → IsRunning w → IsLawful w
+    lawful-of w run = record {
+      works = (run.formed, run.works);
+      own = All-by (λ (o : OwnChanges). apply_all (committed w).tree o.changes ≡ true) w.table.own (list_all-at (λ (o : OwnChanges). apply_all (committed w).tree o.changes) w.table.own run.now.sound.files.own_apply);
+      apart = apart-of (present w) run.now.sound;
+      fixed = All-by (λ (o : OpenedAfter). is_fixed_last w o ≡ true) w.first_opens (fixed-of w run);
+      writers = All-by (λ (o : OpenFile). is_alone (present w) o ≡ true) w.table.opens (list_all-at (is_alone (present w)) w.table.opens run.now.sound.files.writers);
+      limits = run.now.within;
+      stands = λ on. record { applies = run.applies; comes_to = run.comes_to; agrees = run.now.agrees };
+    }
+
+    pub lawful_worlds_law : LawfulWorldsLaw
+    lawful_worlds_law = record {
+      begins = running-begins;
+      commands = running-command;
+      ticks = running-tick;
+      records = λ w process command run. (taken-command w process command run).applies;
+      later_records = λ w ms run. (taken-tick w ms run).applies;
+      interrupted_commands = λ w process command run. interrupted-by w (decide (present w) process command) run (taken-command w process command run);
+      interrupted_ticks = λ w ms run. interrupted-by w (decide_tick (present w) ms) run (taken-tick w ms run);
+      crashes = running-crash;
+      interrupted_restarts = running-interrupted_restart;
+      restarts = running-found;
+      full_restarts = running-full;
+      lines = running-line;
+      transcripts = running-lines;
+      lawful = lawful-of;
+    }
