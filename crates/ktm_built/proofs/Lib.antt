@@ -1,4 +1,5 @@
 pub mod Alone
+pub mod Bases
 pub mod Ids
 pub mod Found
 pub mod Rollbacks
@@ -15,6 +16,4 @@ pub mod Limits
 pub mod Outcomes
 pub mod Now
 pub mod Worlds
-pub mod Told
-pub mod Tellings
 pub mod Guids

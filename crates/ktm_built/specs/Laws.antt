@@ -1,5 +1,5 @@
 -- Laws of worlds that have only what built forms make.
-use Rattle.std.specs.Prelude.{◌≡◌, ℕ, ◌+◌, ◌-◌, ◌^◌, ◌==◌, ◌<◌, ◌&&◌, nat_lt, nat_le, true, false, List, [], length, filter, find, fold, All, Contains, IfSome, Option, Some, None, option_and_then}
+use Rattle.std.specs.Prelude.{◌≡◌, ℕ, ◌+◌, ◌-◌, ◌^◌, ◌==◌, ◌<◌, ◌≤◌, ◌&&◌, nat_lt, nat_le, Bool, true, false, List, [], length, filter, find, fold, All, Contains, IfSome, Option, Some, None, option_and_then}
 use Rattle.std.specs.List.{list_all}
 use Rattle.ktm_base.specs.declared.id.Id.{Id}
 use Rattle.ktm_base.specs.Guid.{IsId, guid_of}
@@ -9,7 +9,7 @@ use Rattle.ktm_base.specs.declared.id.Pid.{Pid}
 use Rattle.ktm_base.specs.declared.refusal.Refusal.{Refusal}
 use Rattle.ktm_base.specs.declared.refusal.Refusal.TheVariants.{MachineDown}
 use Rattle.ktm_types.specs.declared.command.Command.{Command}
-use Rattle.ktm_types.specs.declared.command.Line.{Line}
+use Rattle.ktm_types.specs.declared.event.Event.{Event}
 use Rattle.ktm_types.specs.declared.event.Event.TheVariants.{Boot, Single}
 use Rattle.ktm_types.specs.declared.event.Part.TheVariants.{Settings}
 use Rattle.ktm_types.specs.declared.object.Object.{Object}
@@ -17,24 +17,23 @@ use Rattle.ktm_types.specs.declared.object.Object.TheVariants.{Transaction as Tr
 use Rattle.ktm_types.specs.declared.object.Transaction.{Transaction}
 use Rattle.ktm_types.specs.declared.reply.Reply.{Reply}
 use Rattle.ktm_types.specs.declared.reply.Reply.TheVariants.{Refused, Done}
-use Rattle.ktm_world.specs.Built.{is_built_command, is_built_event, is_built_log, is_built_line, IsBuiltState}
+use Rattle.ktm_world.specs.Built.{is_built_command, is_built_event, is_built_log, IsBuiltState}
 use Rattle.ktm_world.specs.Decide.{decide, with_room, command_effect, refusal_of, of_keys}
-use Rattle.ktm_world.specs.Durable.{Durable, stand, after_event, event_applies, events_apply, log_applies}
+use Rattle.ktm_world.specs.Durable.{Durable, empty_state, stand, after_event, event_applies, events_apply, log_applies}
 use Rattle.ktm_world.specs.HandleCalls.{close_handle, duplicate_handle, exit}
 use Rattle.ktm_world.specs.Handles.{object_at}
 use Rattle.ktm_world.specs.KeyCalls.{keys_with, kv_set, kv_unset}
 use Rattle.ktm_world.specs.Keys.{OwnSettings, own_settings, stored_all, are_good_settings}
 use Rattle.ktm_world.specs.Labels.{transaction_named}
 use Rattle.ktm_world.specs.Logs.{Group, is_up}
-use Rattle.ktm_world.specs.OneOutcome.{HasOneOutcome, tellings}
 use Rattle.ktm_world.specs.Outcome.{apply, only_reply}
 use Rattle.ktm_world.specs.Present.{Present}
 use Rattle.ktm_types.specs.Sizes.{frame_size, log_size}
 use Rattle.ktm_world.specs.Transactions.{same_id, transaction_at, is_live}
 use Rattle.ktm_world.specs.TransactionCalls.{create_transaction, commit_transaction, rollback_transaction, get_transaction_information, information_of, open_transaction, transaction_with, later, is_due, with_clock, tick}
-use Rattle.ktm_world.specs.Transcript.{Step, Transcript}
 use Rattle.ktm_types.specs.Values.{IsCommand}
 use Rattle.ktm_world.specs.World.{World, present, extend, after, decide_tick, crashed, interrupted_by, interrupted_restart, found_full, opened, own_group, possible_logs}
+use Rattle.ktm_laws.specs.GoodState.{IsGoodState}
 use Rattle.ktm_built.specs.Forms.{ComesTo, with_transaction, commit_outcome, with_commit, with_rollback, with_bound, with_handle_closed, with_process_gone, with_tick}
 use Rattle.ktm_built.specs.Spelling.{IsShortEvent, IsShortWork}
 use Rattle.ktm_built.specs.Standing.{IsBuiltNow, IsSoundNow, IsStandingNow, IsStanding, fresh}
@@ -54,6 +53,16 @@ StateLaw = ((s : Durable) (boot : ℕ) → IsBuiltState s
     × ((s : Durable) (transaction : Id) (settings : OwnSettings) → IsBuiltState s
     → after_event s (Single transaction (Settings settings)) ≡ record s { events = s.events + 1; keys = stored_all s.keys settings })
     × ((base : Durable) (log : List Group) → IsBuiltState base → is_built_log log ≡ true → IsBuiltState (stand base log))
+
+-- does an event name a boot that there was
+abbrev pub names_boot : Event → Bool
+names_boot (Single transaction part) = nat_le 1 transaction.boot
+names_boot _ = true
+
+-- a log of built events that apply to a new image, and name boots that there were, comes to a good state
+abbrev pub BaseLaw : Type 0
+BaseLaw = (units image : ℕ) (log : List Group) → 16 ≤ units → image < 2 ^ 16 → is_built_log log ≡ true → log_applies (empty_state units image) log ≡ true → list_all (list_all names_boot) log ≡ true
+    → IsGoodState (stand (empty_state units image) log)
 
 -- ---- what the commands come to
 
@@ -153,10 +162,3 @@ FallenLaw = ((w : World) → IsStanding w → IsStanding (crashed w))
     × ((w : World) → IsStanding w → IsStanding (interrupted_restart w))
     × ((w : World) (log : List Group) → Contains (possible_logs w) log → IsStanding w → IsStanding (found_full w log))
     × ((w : World) (ms : ℕ) → IsStanding w → IsStanding (interrupted_by w (decide_tick (present w) ms)))
-
--- ---- what is told
-
--- no transcript of built lines tells a transaction two outcomes, from a world that stands
-abbrev pub OutcomeLaw : Type 0
-OutcomeLaw = (w : World) (lines : List (Option Line)) (steps : List Step) (replies : List Reply) (new : World)
-    → IsStanding w → list_all is_built_line lines ≡ true → Transcript w lines steps replies new → HasOneOutcome (tellings w lines steps replies)

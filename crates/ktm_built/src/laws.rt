@@ -1,10 +1,19 @@
 // Laws of worlds that have only what built forms make, each the contract of a function that does nothing.
-ghost use Rattle.ktm_built.specs.Laws.{StateLaw, FormsLaw, TimeoutLaw, NamedLaw, GuidLaw, DecidedLaw, EventsLaw, NowLaw, LawfulLaw, OpenedLaw, FreshLaw, FallenLaw, OutcomeLaw};
+ghost use Rattle.ktm_built.specs.Laws.{StateLaw, BaseLaw, FormsLaw, TimeoutLaw, NamedLaw, GuidLaw, DecidedLaw, EventsLaw, NowLaw, LawfulLaw, OpenedLaw, FreshLaw, FallenLaw};
+
+use ktm_laws::law_of_good_states;
 
 /// What a built state takes, and what built events make of it.
 pub fn law_of_states()
     ensures { StateLaw }
 {}
+
+/// What built events make of a new image is good.
+pub fn law_of_bases()
+    ensures { BaseLaw }
+{
+    law_of_good_states();
+}
 
 /// Each call changes its own part of what is so now.
 pub fn law_of_forms()
@@ -59,9 +68,4 @@ pub fn law_of_fresh()
 /// A loss of power leaves a world that stands.
 pub fn law_of_fallen()
     ensures { FallenLaw }
-{}
-
-/// No transaction is told two outcomes.
-pub fn law_of_outcomes()
-    ensures { OutcomeLaw }
 {}

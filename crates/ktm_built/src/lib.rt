@@ -4,7 +4,7 @@
 mod laws;
 
 pub use laws::{
-    law_of_decided, law_of_events, law_of_fallen, law_of_forms, law_of_fresh, law_of_guids,
-    law_of_lawful, law_of_named, law_of_now, law_of_opened, law_of_outcomes, law_of_states,
+    law_of_bases, law_of_decided, law_of_events, law_of_fallen, law_of_forms, law_of_fresh,
+    law_of_guids, law_of_lawful, law_of_named, law_of_now, law_of_opened, law_of_states,
     law_of_timeouts,
 };

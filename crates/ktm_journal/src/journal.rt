@@ -1,5 +1,5 @@
 // The journal of an image, and how it grows.
-ghost use Rattle.std.specs.Prelude.{◌≡◌, ◌↔◌, ℕ, ◌+◌, ◌-◌, ◌*◌, ◌<◌, ◌≤◌, List, [], ◌∷◌, ◌++◌, length, IfOk, OnOk, OnErr, IfErr, IsTrue, Err, false, is_err, vec_capacity};
+ghost use Rattle.std.specs.Prelude.{◌^◌, ◌≡◌, ◌↔◌, ℕ, ◌+◌, ◌-◌, ◌*◌, ◌<◌, ◌≤◌, List, [], ◌∷◌, ◌++◌, length, IfOk, OnOk, OnErr, IfErr, IsTrue, Err, false, is_err, vec_capacity};
 ghost use Rattle.ktm_base.specs.Told.{IfTold, Tells, Goes};
 ghost use Rattle.ktm_base.specs.Disk.{DeviceCalls, IsSafe};
 ghost use Rattle.ktm_log.specs.Fault.{IfAppendDown, append_went_down};
@@ -80,6 +80,7 @@ impl Journal {
     ) -> Result<Loaded, LoadFault>
         ensures units { IfOk result (λ loaded. (loaded.journal.units ≡ loaded.state.units) × (16 ≤ loaded.state.units) × (loaded.state.units ≤ 1024)) }
         ensures image { IfOk result (λ loaded. loaded.journal.image ≡ loaded.state.image) }
+        ensures number { IfOk result (λ loaded. loaded.state.image < 2 ^ 16) }
         ensures area { IfOk result (λ loaded. loaded.journal.log.area ≡ log_area loaded.state.units) }
         ensures keys { IfOk result (λ loaded. length loaded.state.keys ≤ loaded.state.units) }
         ensures built { IfOk result (λ loaded. IsBuiltState loaded.state) }
@@ -118,6 +119,7 @@ impl Journal {
         requires formatted { IfTold (D.told disk.old) (λ s. IsFormatted header.units header.image s.seen) }
         ensures units { IfOk result (λ loaded. (loaded.journal.units ≡ header.units) × (loaded.state.units ≡ header.units)) }
         ensures image { IfOk result (λ loaded. (loaded.journal.image ≡ header.image) × (loaded.state.image ≡ header.image)) }
+        ensures number { IfOk result (λ loaded. loaded.state.image < 2 ^ 16) }
         ensures area { IfOk result (λ loaded. loaded.journal.log.area ≡ log_area header.units) }
         ensures keys { IfOk result (λ loaded. length loaded.state.keys ≤ loaded.state.units) }
         ensures built { IfOk result (λ loaded. IsBuiltState loaded.state) }

@@ -175,18 +175,18 @@ module _ (units image : ℕ) (before log : List Group) (state : Durable) (is : I
   -- of the journal that the group of the restart was added to
   module _ (may : events_apply state (own_group state) ≡ true) (j k : JournalState) (units_are : j.units ≡ state.units) (image_is : j.image ≡ state.image) (old new : Option DiskState)
       (at : Tells old (JournalAt j (before ++ log))) (events : EventsState) (holds : Holds events (own_group state)) where
-    pub started : (kernel : KernelState) (left count : ℕ) → kernel.journal ≡ k → kernel.now ≡ fresh state left → left ≡ k.log.area.len - k.log.end → count ≡ state.events
+    pub started : state.image < 2 ^ 16 → (kernel : KernelState) (left count : ℕ) → kernel.journal ≡ k → kernel.now ≡ fresh state left → left ≡ k.log.area.len - k.log.end → count ≡ state.events
         → k.units ≡ j.units → k.image ≡ j.image → k.log.area ≡ j.log.area → ((group : Group) → Holds events group → k.log.end ≡ j.log.end + frame_size group)
         → is_full_in (j.log.area.len - j.log.end) (own_group state) ≡ false
         → ((gs : List Group) (group : Group) → Holds events group → Tells old (JournalAt j gs) → Tells new (JournalAt k (gs ++ group ∷ [])))
         → Started units image before log kernel count 0 new
-    started kernel left count journal now left_is count_is k_units k_image area end fits added = record {
+    started number kernel left count journal now left_is count_is k_units k_image area end fits added = record {
       room = sym (is_full j old units_are at) ∙ fits;
       stands = record {
         now = now ∙ fresh_is left (omega (arith, left_is, ap (λ (a : Area). a.len) area, end (own_group state) holds, left_found j old units_are at, own_size state built_state_is));
         standing = standing may;
         before = before;
-        began = rw (journal, k_units ∙ units_are ∙ is.units_are, k_image ∙ image_is ∙ is.image_is) (record { built = made.0; applies = applied.0; base = refl; room = refl });
+        began = rw (journal, k_units ∙ units_are ∙ is.units_are, k_image ∙ image_is ∙ is.image_is) (record { number = subst (λ (n : ℕ). n < 2 ^ 16) is.image_is number; built = made.0; applies = applied.0; base = refl; room = refl });
         disk = subst (λ i. Tells new (JournalAt i (before ++ (log ++ own_group (stand base log) ∷ [])))) (sym journal)
             (subst (λ (gs : List Group). Tells new (JournalAt k gs)) (append_assoc before log (own_group (stand base log) ∷ []))
             (subst (λ (s : Durable). Tells new (JournalAt k ((before ++ log) ++ own_group s ∷ []))) is.is (added (before ++ log) (own_group state) holds at)));

@@ -47,7 +47,7 @@ up_by (down may) k told w is fallen on = let off = sym on ∙ ap (λ x. x.machin
 
 -- what a run began with, for a journal of the same image and a world of the same run
 pub began_on : (j k : JournalState) (before : List Group) (w v : World) → k.units ≡ j.units → k.image ≡ j.image → v.base ≡ w.base → v.room ≡ w.room → Began j before w → Began k before v
-began_on j k before w v units image base room began = rw (units, image) (record { built = began.built; applies = began.applies; base = base ∙ began.base; room = room ∙ began.room })
+began_on j k before w v units image base room began = rw (units, image) (record { number = began.number; built = began.built; applies = began.applies; base = base ∙ began.base; room = room ∙ began.room })
 
 -- ---- outcomes of which the laws of what is built hold
 

@@ -6,4 +6,5 @@ pub mod Breaks
 pub mod Answering
 pub mod Openings
 pub mod Theorems
+pub mod Lawful
 pub mod Probed

@@ -77,6 +77,8 @@ module _ (left : Option (List ℕ)) (a b : Option (List ℕ)) (disk : Option Dis
       world = h.world;
       mean = h.mean;
       transcript = h.transcript;
+      lawful = h.lawful;
+      lawful_before = h.lawful_before;
       one_outcome = h.one_outcome;
       wrote = Appends-after a b at.taken _ keeps h.wrote;
       counts = h.counts;

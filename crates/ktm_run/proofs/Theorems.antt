@@ -1,27 +1,23 @@
 -- From the lines that were answered to what a run comes to.
-use Rattle.std.proofs.Common.{◌≡◌, ◌⊎◌, inl, inr, ℕ, ◌+◌, ◌*◌, ◌<◌, ◌≤◌, true, false, List, [], ◌∷◌, ◌++◌, length, take, Option, Some, None, refl, ◌∙◌, ap, arith, add-mul}
-use Rattle.std.proofs.lemmas.Bool.{and_from}
+use Rattle.std.proofs.Common.{◌≡◌, ◌⊎◌, inl, inr, ℕ, ◌+◌, ◌*◌, ◌<◌, ◌≤◌, false, List, [], ◌∷◌, ◌++◌, length, take, Option, Some, None, refl, ◌∙◌, ap, arith, add-mul}
 use Rattle.std.proofs.lemmas.List.{append-nil}
 use Rattle.std.specs.Io.KnownBytes.{Consumes, IsAtEnd}
-use Rattle.std.specs.List.{list_all, filter}
 use Rattle.ktm_base.specs.declared.power.PowerCall.{PowerCall}
 use Rattle.ktm_base.specs.declared.power.PowerCall.TheVariants.{Power}
 use Rattle.ktm_base.specs.Count.{Rose}
 use Rattle.ktm_base.specs.Disk.{DiskState, DiskStatus, HasLengths}
 use Rattle.ktm_base.specs.Told.{IfTold, Tells}
 use Rattle.ktm_base.proofs.Images.{seen_law}
-use Rattle.ktm_built.proofs.Tellings.{outcome_law}
 use Rattle.ktm_kernel.specs.Stands.{KernelState, KernelAt, LeavesStates}
 use Rattle.ktm_kernel.proofs.Left.{left_law}
 use Rattle.ktm_run.specs.declared.status.Status.{Status}
 use Rattle.ktm_run.specs.declared.status.Status.TheVariants.{Done, Usage, SourceFault, SinkFault, NoMemory, BadImage, DiskFault, ScriptTooLong, LogFull}
+use Rattle.ktm_run.specs.Lawful.{RunIsLawful}
 use Rattle.ktm_run.specs.Progress.{Scene, Now, Counts, Ran, Progress, Broke, Stops}
-use Rattle.ktm_run.specs.Script.{has_reply, Means, MeanAll, cut_lines, lines_from, most_script}
+use Rattle.ktm_run.specs.Script.{Means, cut_lines, lines_from, most_script}
 use Rattle.ktm_run.specs.Early.{Outside, Ends, FoundDown}
 use Rattle.ktm_run.specs.Theorem.{HoldsStates, Moment, moment_of, RunCounts, LineCounts, Replied, RunTheorem, EndedBetween, Unanswered, HalfWritten, EndedWithin, EndedEarly}
-use Rattle.ktm_types.specs.declared.command.Line.{Line}
 use Rattle.ktm_types.specs.declared.command.Line.TheVariants.{Restart}
-use Rattle.ktm_world.specs.Built.{is_built_line}
 use Rattle.ktm_world.specs.Durable.{Durable}
 use Rattle.ktm_world.specs.Logs.{is_up}
 use Rattle.ktm_world.specs.Outcome.{is_full}
@@ -37,16 +33,6 @@ all_counts base room old first last n plan fell opening counts = record {
   plan_is = counts.plan_is ∙ ap (λ (l : List PowerCall). l ++ plan) (opening.plan_is ∙ append-nil old.plan);
   few = few_lines old.calls first.status.calls last.status.calls n (16 * base.units + 256) opening.few counts.few;
 }
-
--- ---- what is told of a run
-
--- the lines that were executed are built
-built_of : (lines : List (List ℕ)) (meant : List (Option Line)) → MeanAll lines meant → list_all is_built_line meant ≡ true
-built_of [] [] mean = refl
-built_of [] (line ∷ meant) mean = absurd mean
-built_of (bytes ∷ lines) [] mean = absurd mean
-built_of (bytes ∷ lines) (None ∷ meant) mean = built_of lines meant mean.1
-built_of (bytes ∷ lines) (Some line ∷ meant) mean = and_from _ _ mean.0.1 (built_of lines meant mean.1)
 
 -- what is read is one of the images that may be left
 holds_of : (told : Option DiskState) (w : World) → IfTold told HasLengths → Tells told (LeavesStates w) → Tells told (HoldsStates w)
@@ -96,7 +82,7 @@ module _ (base : Durable) (room : ℕ) (old new : Outside) (first : Scene) (mach
   abbrev ended : Now
   ended = record { scene = record { machine = machine; disk = new.disk; status = new.status }; taken = new.taken }
 
-  module _ (stands : KernelAt first.machine first.disk (opened base room [])) (fits : is_full room (own_group base) ≡ false) (opening : RunCounts base.units old.status first.status 0 [] 0) where
+  module _ (stands : KernelAt first.machine first.disk (opened base room [])) (fits : is_full room (own_group base) ≡ false) (opening : RunCounts base.units old.status first.status 0 [] 0) (law : RunIsLawful base room) where
     abbrev replied : (at : Now) (lines : List (List ℕ)) → IfTold at.scene.disk HasLengths → Ran (opened base room []) begun at lines → Replied base room (moment_of old) (moment_at at) lines
     replied at lines long ran = record {
       meant = ran.meant;
@@ -105,7 +91,9 @@ module _ (base : Durable) (room : ℕ) (old new : Outside) (first : Scene) (mach
       world = ran.world;
       mean = ran.mean;
       transcript = ran.run;
-      one_outcome = outcome_law (opened base room []) ran.meant ran.steps ran.replies ran.world stands.standing (built_of (filter has_reply lines) ran.meant ran.mean) ran.run;
+      lawful = law.lawful ran.meant ran.steps ran.replies ran.world ran.run;
+      lawful_before = λ n mid run. law.lawful _ _ _ mid run;
+      one_outcome = law.one_outcome ran.meant ran.steps ran.replies ran.world ran.run;
       wrote = ran.wrote;
       counts = all_counts base room old.status first at.scene _ _ _ opening ran.counts;
       holds = holds_of at.scene.disk ran.world long (left_law at.scene.machine at.scene.disk ran.world ran.stands);

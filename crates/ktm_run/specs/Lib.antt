@@ -6,3 +6,4 @@ pub mod Progress
 pub mod Opening
 pub mod Early
 pub mod Theorem
+pub mod Lawful

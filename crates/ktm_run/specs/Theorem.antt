@@ -9,6 +9,7 @@ use Rattle.ktm_base.specs.Told.{Tells}
 use Rattle.ktm_journal.specs.Image.{HoldsLog, StandsFor, left_after}
 use Rattle.ktm_kernel.specs.Stands.{LeavesStates}
 use Rattle.ktm_world.specs.Durable.{Durable, empty_state, stand}
+use Rattle.ktm_world.specs.Lawful.{IsLawful}
 use Rattle.ktm_world.specs.OneOutcome.{HasOneOutcome, tellings}
 use Rattle.ktm_world.specs.Transcript.{Does, Transcript, Step}
 use Rattle.ktm_world.specs.World.{World, opened, own_group, possible_logs}
@@ -83,6 +84,10 @@ pub record Replied (base : Durable) (room : ℕ) (old new : Moment) (lines : Lis
   pub mean : MeanAll (filter has_reply lines) meant
   -- by explicit steps: answered, interrupted, or a restart that found a log
   pub transcript : Transcript (opened base room []) meant steps replies world
+  -- the world that they come to is lawful
+  pub lawful : IsLawful world
+  -- and so was each before it
+  pub lawful_before : (n : ℕ) (mid : World) → Transcript (opened base room []) (take n meant) (take n steps) (take n replies) mid → IsLawful mid
   -- over all its restarts no transaction is told to have committed and to have rolled back
   pub one_outcome : HasOneOutcome (tellings (opened base room []) meant steps replies)
   pub wrote : Appends old.taken new.taken (written_replies replies)

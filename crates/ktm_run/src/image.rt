@@ -11,6 +11,7 @@ ghost use Rattle.ktm_run.specs.Script.{AppendsPart, most_script};
 ghost use Rattle.ktm_world.specs.Durable.{Durable};
 
 use crate::fault::OpenFault;
+use crate::laws::law_of_runs;
 use crate::line::MOST_KEPT;
 use crate::open::open_kernel;
 use crate::script::run_script;
@@ -68,5 +69,6 @@ pub fn run_image<S: Source, K: Sink, D: PowerDisk>(
         Err(OpenFault::Full) => return Status::LogFull,
         Err(OpenFault::NoMemory) => return Status::NoMemory,
     };
+    law_of_runs();
     run_script(alloc, &mut kernel, source, sink, disk, &mut kept)
 }

@@ -5,6 +5,7 @@ mod answer;
 mod fault;
 mod form;
 mod image;
+mod laws;
 mod line;
 mod open;
 mod program;

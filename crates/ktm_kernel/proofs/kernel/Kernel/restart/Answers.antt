@@ -48,7 +48,7 @@ returns-clause-starts g c = λ units image before log holds.
     (c.in-Ok-append.ensures.units ∙ c.in-Ok.ensures.units.0) (c.in-Ok-append.ensures.image ∙ c.in-Ok.ensures.image)
     (omega (arith, c.in-Ok-append.ensures.counted _ own, c.in-Ok.ensures.counted, own_length c.in-Ok.loaded.state c.in-Ok.ensures.built)) refl fresh in
     started units image before log c.in-Ok.loaded.state is (next_applies c.in-Ok.loaded.state c.in-Ok.loaded.journal.log c.in-Ok.ensures.built c.in-Ok.ensures.keys c.in-Ok.ensures.units.1 c.in-Ok.ensures.events c.in-Ok.ensures.inside c.in-Ok.ensures.area c.in-Ok.ensures.units.2) c.in-Ok.loaded.journal c.append.new.self c.in-Ok.ensures.units.0 c.in-Ok.ensures.image
-    (g.D.Disk.told c.load.new.disk) (g.D.Disk.told c.append.new.disk) at c.push.new.self own
+    (g.D.Disk.told c.load.new.disk) (g.D.Disk.told c.append.new.disk) at c.push.new.self own c.in-Ok.ensures.number
     (record { now = now_of c.append.new.self (held c.start.result); journal = c.append.new.self }) (c.append.new.self.log.area.len - c.append.new.self.log.end) c.events-found.result refl now refl c.events-found.ensures
     c.in-Ok-append.ensures.units c.in-Ok-append.ensures.image c.in-Ok-append.ensures.area c.in-Ok-append.ensures.end
     (not_full c.in-Ok-append.field-0 _ (c.in-Ok-append.ensures.full _ own).1)
