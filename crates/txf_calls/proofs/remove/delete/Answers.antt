@@ -1,0 +1,15 @@
+use Rattle.std.proofs.Common.{◌∙◌, sym}
+use Rattle.ktm_world.specs.FileCalls.{find_path}
+use Rattle.ktm_world.specs.Files.{tree_seen}
+use Rattle.txf_calls.proofs.Paths.{delete-is, delete-no-path}
+use Rattle.txf_calls.proofs.remove.delete.Goals as goal
+
+pub returns-in_default : goal.returns-in_default
+returns-in_default g c =
+    c.refused.ensures ∙ sym (delete-no-path (g.V.Volume.files c.args.volume.now) c.args.room.now c.args.who c.args.path.now (rw c.in_default.is at c.in_ok-path.ensures))
+
+pub returns : goal.returns
+returns g c =
+    let files = g.V.Volume.files c.args.volume.now in
+    c.delete_at.ensures (find_path (tree_seen files c.args.who) c.args.path.now) (c.whereabouts-there.ensures c.args.path.now (rw c.in-Some.is at c.in_ok-path.ensures))
+    ∙ sym (delete-is files c.args.room.now c.args.who c.args.path.now)

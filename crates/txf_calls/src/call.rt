@@ -1,0 +1,90 @@
+// The calls on files.
+use ktm_base::{Bytes, Id, Text};
+use ktm_types::{Access, Disposition, ShareMode};
+use std::marker::Model;
+
+/// An open file; a plain one has no transaction.
+#[derive(Clone, Copy, Debug)]
+pub struct OpenFile {
+    /// It counts from 1 in each boot, and is never used again in that boot.
+    pub number: u32,
+    pub node: u64,
+    pub transaction: Option<Id>,
+    pub access: Access,
+    pub share: ShareMode,
+}
+
+/// How many handles are free, how many changes of files may wait, and how many units of 4,096 bytes, and as many nodes,
+/// may be in use.
+#[derive(Drop)]
+pub struct Room {
+    pub handles: u32,
+    pub changes: u32,
+    pub units: u32,
+}
+
+impl Model for Room {
+    ghost use Rattle.ktm_world.specs.FileOutcome.{FileRoom};
+
+    ghost Value = { FileRoom };
+
+    ghost view = { λ r. record { handles = r.handles; changes = r.changes; units = r.units } };
+}
+
+/// A call on files, plain or in a transaction. A call on an open file is one of the transaction in which that is open.
+#[derive(Debug, Drop)]
+pub enum FileCall {
+    /// Makes or opens a file, as the disposition says.
+    Create {
+        path: Text,
+        access: Access,
+        share: ShareMode,
+        disposition: Disposition,
+    },
+    /// Reads at most so many bytes from an offset on.
+    Read {
+        file: OpenFile,
+        offset: u64,
+        length: u64,
+    },
+    /// Writes bytes at an offset.
+    Write {
+        file: OpenFile,
+        offset: u64,
+        bytes: Bytes,
+    },
+    /// Makes a file so long.
+    SetEnd {
+        file: OpenFile,
+        size: u64,
+    },
+    /// Tells how many bytes a file has.
+    Size {
+        file: OpenFile,
+    },
+    /// Makes sure that what was written is safe.
+    Flush {
+        file: OpenFile,
+    },
+    /// Deletes a file.
+    Delete {
+        path: Text,
+    },
+    /// Makes a directory.
+    MakeDirectory {
+        path: Text,
+    },
+    /// Removes a directory without entries.
+    RemoveDirectory {
+        path: Text,
+    },
+    /// Moves a file or a directory to a free name.
+    Move {
+        source: Text,
+        target: Text,
+    },
+    /// Lists the names that a pattern matches.
+    Find {
+        pattern: Text,
+    },
+}

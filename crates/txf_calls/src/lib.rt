@@ -1,0 +1,22 @@
+//! The calls on files: each is refused, or planned, by the files that its caller sees and by what others hold.
+#![tactic(auto)]
+
+mod act;
+mod call;
+mod caller;
+mod create;
+mod directory;
+mod forms;
+mod handle;
+mod modes;
+mod moves;
+mod plan;
+mod remove;
+mod search;
+mod volume;
+
+pub use act::{Act, Place};
+pub use call::{FileCall, OpenFile, Room};
+pub use forms::decide;
+pub use plan::Plan;
+pub use volume::Volume;

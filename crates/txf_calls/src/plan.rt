@@ -1,0 +1,92 @@
+// What a call comes to.
+ghost use Rattle.std.specs.Prelude.{◌≡◌, Some, None};
+ghost use Rattle.ktm_types.specs.declared.reply.Reply.TheVariants.{Done, Refused};
+ghost use Rattle.std.specs.Prelude.{◌∷◌, []};
+ghost use Rattle.ktm_base.specs.declared.refusal.Refusal.TheVariants.{NotEnoughQuota};
+ghost use Rattle.ktm_world.specs.FileCalls.{limit_tests};
+ghost use Rattle.ktm_world.specs.FileOutcome.{answering, changing, lacks_quota};
+ghost use Rattle.ktm_world.specs.Outcome.{first_refusal};
+ghost use Rattle.txf_calls.specs.Calls.{unless_refused};
+
+use crate::call::{OpenFile, Room};
+use crate::volume::Volume;
+use ktm_base::{Id, Refusal};
+use ktm_types::{Change, Reply};
+use std::marker::Model;
+
+/// What a call comes to: its reply, and what of the files it changes.
+#[derive(Debug, Drop)]
+pub struct Plan {
+    pub reply: Reply,
+    /// A change, which a plain call commits, and a transaction keeps.
+    pub change: Option<Change>,
+    /// A file that the transaction opens first.
+    pub first: Option<u64>,
+    /// A file that is open from now on.
+    pub opened: Option<OpenFile>,
+}
+
+impl Model for Plan {
+    ghost use Rattle.std.specs.Option.{option_map};
+    ghost use Rattle.ktm_world.specs.FileOutcome.{FileOutcome};
+    ghost use Rattle.txf_calls.specs.Views.{open_of};
+
+    ghost Value = { FileOutcome };
+
+    ghost view = { λ p. record { reply = p.reply; change = p.change; first = p.first; opened = option_map open_of p.opened } };
+}
+
+impl Plan {
+    /// Nothing but a reply.
+    pub(crate) fn answering(reply: Reply) -> Plan
+        ensures { result ≡ answering reply }
+    {
+        Plan {
+            reply,
+            change: None,
+            first: None,
+            opened: None,
+        }
+    }
+
+    pub(crate) fn refused(refusal: Refusal) -> Plan
+        ensures { result ≡ answering (Refused refusal) }
+    {
+        Plan::answering(Reply::Refused(refusal))
+    }
+
+    /// One change.
+    pub(crate) fn changing(change: Change) -> Plan
+        ensures { result ≡ changing change }
+    {
+        Plan {
+            reply: Reply::Done,
+            change: Some(change),
+            first: None,
+            opened: None,
+        }
+    }
+}
+
+/// The plan, where it passes no quota.
+pub(crate) fn within_quota<V: Volume>(volume: &V, who: Option<Id>, plan: Plan, room: &Room) -> Plan
+    ensures { result ≡ unless_refused (first_refusal ((lacks_quota (V.files volume.now) room.now who plan, NotEnoughQuota) ∷ [])) plan }
+{
+    if volume.lacks_quota(who, &plan, room) {
+        return Plan::refused(Refusal::NotEnoughQuota);
+    }
+    plan
+}
+
+/// The plan, where it passes no limit.
+pub(crate) fn within_limits<V: Volume>(volume: &V, who: Option<Id>, plan: Plan, room: &Room) -> Plan
+    ensures { result ≡ unless_refused (first_refusal (limit_tests (V.files volume.now) room.now who plan)) plan }
+{
+    if volume.lacks_quota(who, &plan, room) {
+        return Plan::refused(Refusal::NotEnoughQuota);
+    }
+    if volume.lacks_disk(who, &plan, room) {
+        return Plan::refused(Refusal::DiskFull);
+    }
+    plan
+}

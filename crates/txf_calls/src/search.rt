@@ -1,0 +1,71 @@
+// FindFiles, plain or in a transaction.
+ghost use Rattle.std.specs.Prelude.{◌≡◌, IfOk, MatchOption, None, Some};
+ghost use Rattle.ktm_world.specs.Paths.{pattern_of};
+ghost use Rattle.txf_calls.specs.Calls.{file_outcome};
+ghost use Rattle.txf_calls.specs.Steps.{is_no_name, search_of};
+ghost use Rattle.txf_calls.specs.declared.call.FileCall.TheVariants.{Find};
+ghost use Rattle.ktm_world.specs.FileCalls.{searched_directory};
+ghost use Rattle.ktm_world.specs.Files.{tree_seen};
+
+use crate::call::Room;
+use crate::caller::Caller;
+use crate::plan::Plan;
+use crate::volume::Volume;
+use ktm_base::{Id, NoMemory, Refusal, Text, TextList};
+use ktm_names::{PathFault, Pattern};
+use ktm_types::Reply;
+use ktm_world::law_of_paths;
+use std::alloc::Global;
+use txf_paths::directory_at;
+
+// The pattern that a text is, if it is one.
+fn pattern_of(alloc: Global, text: &Text) -> Result<Option<Pattern>, NoMemory>
+    ensures { IfOk result (λ pattern. MatchOption pattern (pattern_of text.now ≡ None) (λ pattern. pattern_of text.now ≡ Some (search_of pattern))) }
+{
+    law_of_paths();
+    match Pattern::read(alloc, text.as_slice()) {
+        Ok(pattern) => Ok(Some(pattern)),
+        Err(PathFault::NotAPath) => Ok(None),
+        Err(PathFault::NoMemory) => Err(NoMemory),
+    }
+}
+
+// The directory that a pattern looks at, if it is there.
+fn searched<V: Volume>(volume: &V, who: Option<Id>, pattern: &Pattern) -> Option<u64>
+    ensures { result ≡ searched_directory (tree_seen (V.files volume.now) who) (Some (search_of pattern.now)) }
+{
+    directory_at(&Caller { volume, who }, pattern.directory())
+}
+
+// Are there no names.
+fn is_none(names: &TextList) -> bool
+    ensures { result ≡ is_no_name names.now }
+{
+    match names.as_slice() {
+        [] => true,
+        _ => false,
+    }
+}
+
+/// Lists the names that a pattern matches.
+pub(crate) fn find_files<V: Volume>(
+    alloc: Global,
+    volume: &V,
+    who: Option<Id>,
+    text: &Text,
+    room: &Room,
+) -> Result<Plan, NoMemory>
+    ensures { IfOk result (λ plan. plan ≡ file_outcome (V.files volume.now) room.now who (Find text.now)) }
+{
+    let Some(pattern) = pattern_of(alloc, text)? else {
+        return Ok(Plan::refused(Refusal::InvalidName));
+    };
+    let Some(directory) = searched(volume, who, &pattern) else {
+        return Ok(Plan::refused(Refusal::PathNotFound));
+    };
+    let names = volume.found(alloc, who, directory, &pattern)?;
+    if is_none(&names) {
+        return Ok(Plan::refused(Refusal::FileNotFound));
+    }
+    Ok(Plan::answering(Reply::Names(names)))
+}
