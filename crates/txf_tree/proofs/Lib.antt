@@ -1,0 +1,12 @@
+mod Applying
+mod Changing
+mod Counting
+mod Digits
+mod Filling
+mod InPlace
+mod Listing
+mod Naming
+mod Numbering
+mod Renaming
+mod Restart
+mod Upward

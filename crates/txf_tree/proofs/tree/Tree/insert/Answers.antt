@@ -1,0 +1,21 @@
+use Rattle.std.proofs.Common.{◌≡◌, ◌∙◌, None, ap₂}
+use Rattle.txf_tree.specs.Indexes.{child_name, name_of, under}
+use Rattle.txf_tree.proofs.Applying.{name_key_free, under-here, under-same}
+use Rattle.txf_tree.proofs.Naming.{name_free}
+use Rattle.txf_tree.proofs.Renaming.{IsTree-with}
+use Rattle.txf_tree.proofs.tree.Tree.insert.Goals as goal
+
+pub insert-requires-2-clause-free : goal.insert-requires-2-clause-free
+insert-requires-2-clause-free c =
+    rw (c.child_name-name.ensures, c.parent.ensures, c.name.ensures.name)
+    (name_key_free c.self.inside.names.entries (child_name c.args.node.node.parent c.args.node.node.name) (name_free _ _ c.args.node.node.parent c.args.node.node.name c.self.invariant (rw (← c.self.view_is) at c.requires.name)))
+
+pub invariant_of-self : goal.invariant_of-self
+invariant_of-self c =
+    let name : c.child_name-name.result ≡ name_of c.args.node.node = c.child_name-name.ensures ∙ ap₂ child_name c.parent.ensures c.name.ensures.name in
+    let free : under c.self.inside.names.entries (name_of c.args.node.node) ≡ None =
+    name_free _ _ c.args.node.node.parent c.args.node.node.name c.self.invariant (rw (← c.self.view_is) at c.requires.name) in
+    rw c.insert.ensures.nodes
+    (IsTree-with _ _ c.insert-2.new.self.entries c.args.node c.self.invariant (rw (← c.self.view_is) at c.requires.number) (rw c.name.ensures.name at c.name.ensures.few) free
+    (under-here c.insert-2.new.self.entries (name_of c.args.node.node) c.insert-2.result _ (rw (name, c.number-number.ensures) at c.insert-2.ensures.under))
+    (λ q differs. under-same _ _ q (c.insert-2.ensures.other_names q (λ same. differs (same ∙ name)))))

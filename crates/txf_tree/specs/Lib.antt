@@ -1,0 +1,3 @@
+pub mod Children
+pub mod Indexes
+pub mod TreeState

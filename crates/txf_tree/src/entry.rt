@@ -1,0 +1,54 @@
+// What is lent of a tree.
+ghost use Rattle.std.specs.Prelude.{◌≡◌, map};
+
+use std::marker::Model;
+
+/// A node: its content, if it is a file, and its name are lent.
+#[derive(Clone, Copy, Debug)]
+pub struct NodeRef<'a> {
+    pub number: u64,
+    /// The number of the directory that it is in.
+    pub parent: u64,
+    pub name: &'a [u8],
+    /// The bytes of a file; a directory has none.
+    pub content: Option<&'a [u8]>,
+}
+
+/// What a directory has under a name.
+#[derive(Clone, Copy, Debug)]
+pub struct Entry<'a> {
+    pub name: &'a [u8],
+    pub is_directory: bool,
+}
+
+/// The entries of a directory, by rising folded name.
+#[derive(Debug, Drop)]
+pub struct Entries<'a> {
+    items: Vec<Entry<'a>>,
+}
+
+impl<'a> Model for Entries<'a> {
+    ghost use Rattle.std.specs.Prelude.{List, map};
+    ghost use Rattle.txf_tree.specs.Children.{Shown, entry_seen};
+
+    ghost Value = { List Shown };
+
+    ghost view = { λ e. map entry_seen e.items.items };
+}
+
+impl<'a> Entries<'a> {
+    ghost use Rattle.txf_tree.specs.Children.{entry_seen};
+
+    /// These entries, which the caller has put in order.
+    pub fn new(items: Vec<Entry<'a>>) -> Self
+        ensures { result ≡ map entry_seen items.entry.items }
+    {
+        Entries { items }
+    }
+
+    pub fn as_slice(&self) -> &[Entry<'a>]
+        ensures { map entry_seen result.now ≡ self.now }
+    {
+        &self.items
+    }
+}

@@ -1,0 +1,13 @@
+//! The committed files and directories: nodes by number, children by directory and folded name, the bytes of each file
+//! and how often they changed.
+#![tactic(auto)]
+
+mod bytes;
+mod entry;
+mod name;
+mod nodes;
+mod stored;
+mod tree;
+
+pub use entry::{Entries, Entry, NodeRef};
+pub use tree::Tree;

@@ -1,0 +1,508 @@
+// The tree.
+ghost use Rattle.std.specs.Prelude.{◌≡◌, ◌+◌, ◌-◌, ◌^◌, ◌<◌, ◌≤◌, ℕ, [], None, Some, true, is_some, length, OnOk, IsOk, IfOk, IfSome, IfNone, All, fold, ◌≢◌};
+ghost use Rattle.std.specs.Option.{option_map};
+ghost use Rattle.ktm_base.specs.Names.{IsName};
+ghost use Rattle.ktm_types.specs.declared.change.Change.TheVariants.{Make, Put, Cut, Move, Drop};
+ghost use Rattle.ktm_links.specs.Mapped.{Begins, IsNotBelow};
+ghost use Rattle.ktm_world.specs.Changes.{applies, bytes_in, changed, changed_all, new_content, node_of};
+ghost use Rattle.ktm_world.specs.Committed.{final_bytes, version_of, versions_after};
+ghost use Rattle.ktm_world.specs.Tree.{bytes_of, child_of, content_of, has_entries, is_at_or_below, is_directory, is_file, node_at, numbers_rise, parent_of, with_node};
+ghost use Rattle.txf_tree.specs.Children.{node_seen, entries_in};
+ghost use Rattle.txf_tree.specs.Indexes.{entries_behind, entries_from, number_bytes, under, with_now, IsApplied, IsFirstUnder, IsNoneUnder};
+ghost use Rattle.txf_tree.specs.TreeState.{dropped, fits, now_at, room_of, has_room, takes, tree_of, versions_of, KeepsRoom, KeepsRooms};
+
+use crate::entry::{Entries, Entry, NodeRef};
+use crate::name::{ChildName, after_child, child_name, number_bytes};
+use crate::nodes::Nodes;
+use crate::stored::Stored;
+use ktm_base::{Bytes, NoMemory, Text};
+use ktm_links::{Chains, Name};
+use ktm_types::{Change, Contents, Node, NodeKind};
+use std::alloc::Global;
+use std::marker::Model;
+
+/// The number of the root.
+const ROOT: u64 = 1;
+
+/// The most characters of a name.
+const MOST_CHARACTERS: usize = 255;
+
+/// The committed files and directories.
+#[derive(Drop)]
+pub struct Tree {
+    alloc: Global,
+    nodes: Nodes,
+    // The numbers of the nodes, by their directories' numbers and their folded names.
+    names: Chains<ChildName, u64>,
+}
+
+impl Model for Tree {
+    ghost use Rattle.std.specs.Prelude.{min};
+    ghost use Rattle.txf_tree.specs.TreeState.{TreeState};
+
+    ghost Value = { TreeState };
+
+    ghost use Rattle.txf_tree.specs.Indexes.{IsTree};
+
+    ghost view = { λ t. record {
+      nodes = t.nodes.nodes;
+      spare = min t.nodes.spare t.names.spare;
+    } };
+
+    ghost invariant = { λ t. IsTree t.nodes.nodes t.names.entries };
+}
+
+// The number that stands under the name.
+fn number_under(names: &Chains<ChildName, u64>, name: &[u8]) -> Option<u64>
+    ensures { result ≡ under names.now.entries name.now }
+{
+    match names.find(name) {
+        Some(key) => names.get(key).copied(),
+        None => None,
+    }
+}
+
+// The number under the first of the names that are not below this one.
+fn first_under(names: &Chains<ChildName, u64>, from: &[u8]) -> Option<u64>
+    ensures first { IfSome result (λ number. IsFirstUnder (λ q. IsNotBelow q from.now) names.now.entries number) }
+    ensures none { IfNone result (IsNoneUnder (λ q. IsNotBelow q from.now) names.now.entries) }
+{
+    match names.first_from(from) {
+        Some(key) => names.get(key).copied(),
+        None => None,
+    }
+}
+
+// How many changes give a file these bytes: it is cut, and they are put where there are any.
+fn changes_to(bytes: &Bytes) -> u64
+    ensures changes { (file : ℕ) → result ≡ length (final_bytes file bytes.now) }
+    ensures few { result ≤ 2 }
+{
+    if bytes.is_empty() { 1 } else { 2 }
+}
+
+fn new_content(alloc: Global, kind: NodeKind) -> Option<Bytes>
+    ensures { result ≡ new_content kind }
+{
+    match kind {
+        NodeKind::File => Some(Bytes::new(Vec::new(alloc))),
+        NodeKind::Directory => None,
+    }
+}
+
+fn bytes_in(contents: &Contents) -> &[u8]
+    ensures { result.now ≡ bytes_in contents.now }
+{
+    match contents {
+        Contents::Whole(bytes) => bytes.as_slice(),
+        Contents::Paged(_) => &[],
+    }
+}
+
+impl Tree {
+    /// A tree of the root alone.
+    pub fn new(alloc: Global) -> Self
+        ensures tree { tree_of result ≡ [] }
+        ensures versions { versions_of result ≡ [] }
+    {
+        Tree {
+            alloc,
+            nodes: Nodes::new(alloc),
+            names: Chains::new(alloc),
+        }
+    }
+
+    /// The tree of these nodes, as a restart finds them, whose bytes were not changed since.
+    pub fn with_nodes(alloc: Global, nodes: Vec<Node>) -> Result<Self, NoMemory>
+        requires names { All (λ node. IsName node.name) nodes.items }
+        requires one_each { All (λ node. child_of nodes.items node.parent node.name ≡ Some node) nodes.items }
+        requires rise { numbers_rise nodes.items ≡ true }
+        ensures tree { IfOk result (λ tree. tree_of tree ≡ nodes.items) }
+        ensures versions { IfOk result (λ tree. versions_of tree ≡ []) }
+    {
+        let mut tree = Tree::new(alloc);
+        if let Err(NoMemory) = tree.reserve(nodes.len()) {
+            return Err(NoMemory);
+        }
+        for node in nodes {
+            tree.push(node);
+        }
+        Ok(tree)
+    }
+
+    /// How many nodes there are beside the root.
+    pub fn len(&self) -> usize
+        ensures { result ≡ length (tree_of self.now) }
+    {
+        self.nodes.len()
+    }
+
+    /// The node with the number. The root has none.
+    pub fn node(&self, number: u64) -> Option<NodeRef<'_>>
+        ensures { option_map node_seen result ≡ node_at (tree_of self.now) number }
+    {
+        match self.nodes.get(number) {
+            Some(node) => Some(node.as_node()),
+            None => None,
+        }
+    }
+
+    pub fn is_file(&self, number: u64) -> bool
+        ensures { result ≡ is_file (tree_of self.now) number }
+    {
+        match self.nodes.get(number) {
+            Some(node) => node.is_file(),
+            None => false,
+        }
+    }
+
+    /// The root is a directory.
+    pub fn is_directory(&self, number: u64) -> bool
+        ensures { result ≡ is_directory (tree_of self.now) number }
+    {
+        match self.nodes.get(number) {
+            Some(node) => !node.is_file(),
+            None => number == ROOT,
+        }
+    }
+
+    /// The bytes of a file.
+    pub fn content(&self, file: u64) -> &[u8]
+        ensures { result.now ≡ bytes_of (tree_of self.now) file }
+    {
+        match self.nodes.get(file) {
+            Some(node) => node.bytes(),
+            None => &[],
+        }
+    }
+
+    /// How often the bytes of a file were changed since the restart.
+    pub fn version(&self, file: u64) -> u64
+        ensures { result ≡ version_of (versions_of self.now) file }
+    {
+        match self.nodes.get(file) {
+            Some(node) => node.version(),
+            None => 0,
+        }
+    }
+
+    /// The number of the node with the name in the directory. It takes no memory.
+    pub fn child(&self, directory: u64, name: &[u8]) -> Option<u64>
+        ensures { result ≡ option_map (λ node. node.number) (child_of (tree_of self.now) directory name.now) }
+    {
+        let names = &self.names;
+        if name.len() > MOST_CHARACTERS {
+            return None;
+        }
+        number_under(names, child_name(directory, name).as_slice())
+    }
+
+    /// Is anything in the directory.
+    pub fn has_entries(&self, directory: u64) -> bool
+        ensures { result ≡ has_entries (tree_of self.now) directory }
+    {
+        self.names.first_with(&number_bytes(directory)).is_some()
+    }
+
+    /// Is the node with the number the other one, or below it. It goes up from the node, and ends at the root.
+    pub fn is_at_or_below(&self, number: u64, other: u64) -> bool
+        ensures { result ≡ is_at_or_below (tree_of self.now) number other }
+    {
+        let mut at = number;
+        for _ in 0..self.len() {
+            if at == other {
+                return true;
+            }
+            let above = self.parent_of(at);
+            if above == at {
+                return false;
+            }
+            at = above;
+        }
+        at == other
+    }
+
+    /// The entries of a directory, by rising folded name. Their names are lent.
+    pub fn entries(&self, directory: u64) -> Result<Entries<'_>, NoMemory>
+        ensures { IfOk result (λ entries. entries ≡ entries_in (tree_of self.now) directory) }
+    {
+        let mut entries = Vec::new(self.alloc);
+        let mut next = self.entry_from(directory, &number_bytes(directory));
+        while let Some(entry) = next {
+            if let Err(_) = entries.push(entry) {
+                return Err(NoMemory);
+            }
+            next = self.entry_from(directory, after_child(directory, entry.name).as_slice());
+        }
+        Ok(Entries::new(entries))
+    }
+
+    /// Makes room for so many more nodes. It fails where the memory does not reach, or where the tree has had nearly 2^64
+    /// nodes and names.
+    pub fn reserve(&mut self, n: usize) -> Result<(), NoMemory>
+        ensures room { OnOk result (n ≤ self.new.spare) }
+        ensures enough { n ≤ self.old.spare → IsOk result }
+        ensures nodes { self.new.nodes ≡ self.old.nodes }
+        ensures spare { self.old.spare ≤ self.new.spare }
+    {
+        if let Err(NoMemory) = self.nodes.reserve(n) {
+            return Err(NoMemory);
+        }
+        if let Err(NoMemory) = self.names.reserve(n) {
+            return Err(NoMemory);
+        }
+        Ok(())
+    }
+
+    /// Takes the memory that a change needs, so that it fits.
+    pub fn prepare(&mut self, change: &Change) -> Result<(), NoMemory>
+        ensures fits { OnOk result (fits self.new change.now ≡ true) }
+        ensures enough { fits self.old change.now ≡ true → IsOk result }
+        ensures tree { tree_of self.new ≡ tree_of self.old }
+        ensures versions { versions_of self.new ≡ versions_of self.old }
+        ensures rooms { KeepsRooms self.old self.new }
+        ensures spare { self.old.spare ≤ self.new.spare }
+    {
+        match change {
+            Change::Make { .. } => self.reserve(1),
+            Change::Put {
+                node,
+                offset,
+                contents,
+            } => self.reserve_bytes(*node, *offset, bytes_in(contents).len()),
+            Change::Cut { node, size, .. } => self.reserve_bytes(*node, *size, 0),
+            Change::Move { .. } => self.reserve(1),
+            Change::Drop { .. } => Ok(()),
+        }
+    }
+
+    /// Makes a change that applies and for which the memory is there, and hands out the bytes of a file that it drops. The
+    /// bytes of a Put are written where they go, and nothing else is copied.
+    pub fn apply(&mut self, change: Change) -> Option<Bytes>
+        requires applies { applies (tree_of self.old) change ≡ true }
+        requires fits { fits self.old change ≡ true }
+        requires few { version_of (versions_of self.old) (node_of change) < 2 ^ 64 - 2 }
+        ensures bytes { result ≡ dropped (tree_of self.old) change }
+        ensures tree { tree_of self.new ≡ changed (tree_of self.old) change }
+        ensures versions { versions_of self.new ≡ versions_after (versions_of self.old) change }
+        ensures rooms { KeepsRoom self.old self.new change }
+        ensures spare { self.old.spare ≤ self.new.spare + takes change }
+    {
+        match change {
+            Change::Make {
+                node,
+                parent,
+                kind,
+                name,
+            } => {
+                self.make(node, parent, kind, name);
+                None
+            }
+            Change::Put {
+                node,
+                offset,
+                contents,
+            } => {
+                self.put(node, offset, &contents);
+                None
+            }
+            Change::Cut { node, size, .. } => {
+                self.cut(node, size);
+                None
+            }
+            Change::Move { node, parent, name } => {
+                self.rename(node, parent, name);
+                None
+            }
+            Change::Drop { node } => self.remove(node),
+        }
+    }
+
+    /// Gives a file other bytes, which a commit has put together, and hands out those that it had. No byte is copied.
+    pub fn replace(&mut self, file: u64, bytes: Bytes) -> Bytes
+        requires file { is_file (tree_of self.old) file ≡ true }
+        requires few { version_of (versions_of self.old) file < 2 ^ 64 - 2 }
+        ensures bytes { result ≡ bytes_of (tree_of self.old) file }
+        ensures tree { tree_of self.new ≡ changed_all (tree_of self.old) (final_bytes file bytes) }
+        ensures versions { versions_of self.new ≡ fold versions_after (versions_of self.old) (final_bytes file bytes) }
+        ensures rooms { (other : ℕ) → other ≢ file → room_of self.new other ≡ room_of self.old other }
+        ensures spare { self.new.spare ≡ self.old.spare }
+    {
+        let changes = changes_to(&bytes);
+        let mut stored = self.nodes.replace(Stored::hollow(self.alloc, file));
+        let was = stored.replace(bytes, changes);
+        self.nodes.replace(stored);
+        was
+    }
+
+    // The number of the directory that the node is in. The root is its own parent.
+    fn parent_of(&self, number: u64) -> u64
+        ensures { result ≡ parent_of (node_at (tree_of self.now) number) }
+    {
+        match self.nodes.get(number) {
+            Some(node) => node.parent(),
+            None => ROOT,
+        }
+    }
+
+    // The first entry of the directory whose name is not below this one.
+    fn entry_from(&self, directory: u64, from: &[u8]) -> Option<Entry<'_>>
+        requires { Begins (number_bytes directory) from.now }
+        ensures entries { entries_from directory from.now (entries_in (tree_of self.now) directory) ≡ entries_behind directory (entries_in (tree_of self.now) directory) result }
+        ensures few { IfSome result (λ entry. length entry.name.now ≤ 255) }
+    {
+        let Some(number) = first_under(&self.names, from) else {
+            return None;
+        };
+        let Some(node) = self.nodes.get(number) else {
+            unreachable!();
+        };
+        if node.parent() != directory {
+            return None;
+        }
+        Some(node.as_entry())
+    }
+
+    // Puts a node whose number and name are free, and whose bytes were never changed. It takes no memory.
+    fn push(&mut self, node: Node)
+        requires spare { 0 < self.old.spare }
+        requires few { length node.name ≤ 255 }
+        requires number { node_at (tree_of self.old) node.number ≡ None }
+        requires name { child_of (tree_of self.old) node.parent node.name ≡ None }
+        ensures tree { tree_of self.new ≡ with_node (tree_of self.old) node }
+        ensures versions { versions_of self.new ≡ versions_of self.old }
+        ensures rooms { KeepsRooms self.old self.new }
+        ensures spare { self.new.spare + 1 ≡ self.old.spare }
+    {
+        self.insert(Stored::new(node));
+    }
+
+    // Puts a node whose number and name are free at its place, and takes no memory.
+    fn insert(&mut self, node: Stored)
+        requires spare { 0 < self.old.spare }
+        requires number { now_at self.old.nodes node.node.number ≡ None }
+        requires name { child_of (tree_of self.old) node.node.parent node.node.name ≡ None }
+        ensures nodes { self.new.nodes ≡ with_now self.old.nodes node }
+        ensures spare { self.new.spare + 1 ≡ self.old.spare }
+    {
+        let number = node.number();
+        let name = child_name(node.parent(), node.name());
+        self.nodes.insert(node);
+        self.names.insert(name, number);
+    }
+
+    // Makes a node, for which the memory is there.
+    fn make(&mut self, node: u64, parent: u64, kind: NodeKind, name: Text)
+        requires applies { applies (tree_of self.old) (Make node parent kind name) ≡ true }
+        requires fits { fits self.old (Make node parent kind name) ≡ true }
+        ensures { IsApplied self.old self.new (Make node parent kind name) }
+    {
+        let content = new_content(self.alloc, kind);
+        self.push(Node {
+            number: node,
+            parent,
+            name,
+            content,
+        });
+    }
+
+    // Puts bytes into a file that has room for them.
+    fn put(&mut self, node: u64, offset: u64, contents: &Contents)
+        requires applies { applies (tree_of self.old) (Put node offset contents.now) ≡ true }
+        requires fits { fits self.old (Put node offset contents.now) ≡ true }
+        requires few { version_of (versions_of self.old) node < 2 ^ 64 - 2 }
+        ensures { IsApplied self.old self.new (Put node offset contents.now) }
+    {
+        let mut stored = self.nodes.replace(Stored::hollow(self.alloc, node));
+        stored.put(offset as usize, bytes_in(contents));
+        self.nodes.replace(stored);
+    }
+
+    // Cuts a file, or fills it up within its room.
+    fn cut(&mut self, node: u64, size: u64)
+        requires file { is_file (tree_of self.old) node ≡ true }
+        requires fits { fits self.old (Cut node size []) ≡ true }
+        requires few { version_of (versions_of self.old) node < 2 ^ 64 - 2 }
+        ensures { IsApplied self.old self.new (Cut node size []) }
+    {
+        let mut stored = self.nodes.replace(Stored::hollow(self.alloc, node));
+        stored.cut(size as usize);
+        self.nodes.replace(stored);
+    }
+
+    // Gives a node another name, or another directory.
+    fn rename(&mut self, node: u64, parent: u64, name: Text)
+        requires applies { applies (tree_of self.old) (Move node parent name) ≡ true }
+        requires fits { fits self.old (Move node parent name) ≡ true }
+        ensures { IsApplied self.old self.new (Move node parent name) }
+    {
+        let mut stored = self.nodes.replace(Stored::hollow(self.alloc, node));
+        let was = child_name(stored.parent(), stored.name());
+        self.names.remove(was.as_slice());
+        self.names.insert(child_name(parent, name.as_slice()), node);
+        stored.rename(parent, name);
+        self.nodes.replace(stored);
+    }
+
+    // Takes a node out, and hands out the bytes of a file.
+    fn remove(&mut self, node: u64) -> Option<Bytes>
+        ensures bytes { result ≡ content_of (node_at (tree_of self.old) node) }
+        ensures applied { IsApplied self.old self.new (Drop node) }
+    {
+        match self.nodes.remove(node) {
+            Some(stored) => {
+                self.names
+                    .remove(child_name(stored.parent(), stored.name()).as_slice());
+                stored.into_bytes()
+            }
+            None => None,
+        }
+    }
+
+    // Takes the memory with which a file, if it is one, can have so many bytes from the offset on.
+    fn reserve_bytes(&mut self, file: u64, offset: u64, many: usize) -> Result<(), NoMemory>
+        ensures fits { OnOk result (has_room self.new file (offset + many) ≡ true) }
+        ensures enough { has_room self.old file (offset + many) ≡ true → IsOk result }
+        ensures tree { tree_of self.new ≡ tree_of self.old }
+        ensures versions { versions_of self.new ≡ versions_of self.old }
+        ensures rooms { KeepsRooms self.old self.new }
+        ensures spare { self.new.spare ≡ self.old.spare }
+    {
+        let Some(room) = self.room(file) else {
+            return Ok(());
+        };
+        let Some(size) = (offset as usize).checked_add(many) else {
+            return Err(NoMemory);
+        };
+        if size <= room {
+            return Ok(());
+        }
+        self.grow(file, size)
+    }
+
+    // For how many bytes a file has room, if it is one.
+    fn room(&self, file: u64) -> Option<usize>
+        ensures some { IfSome result (λ room. room ≡ room_of self.now file) }
+        ensures file { is_some result ≡ is_file (tree_of self.now) file }
+    {
+        match self.nodes.get(file) {
+            Some(node) if node.is_file() => Some(node.room()),
+            _ => None,
+        }
+    }
+
+    // Takes the memory with which a file can have so many bytes.
+    fn grow(&mut self, file: u64, size: usize) -> Result<(), NoMemory>
+        requires { is_file (tree_of self.old) file ≡ true }
+        ensures room { OnOk result (size ≤ room_of self.new file) }
+        ensures tree { tree_of self.new ≡ tree_of self.old }
+        ensures versions { versions_of self.new ≡ versions_of self.old }
+        ensures rooms { KeepsRooms self.old self.new }
+        ensures spare { self.new.spare ≡ self.old.spare }
+    {
+        let mut stored = self.nodes.replace(Stored::hollow(self.alloc, file));
+        let outcome = stored.reserve(size);
+        self.nodes.replace(stored);
+        outcome
+    }
+}
