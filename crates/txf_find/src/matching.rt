@@ -1,0 +1,38 @@
+// Entries that match.
+ghost use Rattle.std.specs.Prelude.{◌≡◌, ℕ, Some, IfOk, map};
+ghost use Rattle.ktm_world.specs.FileCalls.{listed, entries as matching};
+ghost use Rattle.ktm_world.specs.Tree.{Tree};
+ghost use Rattle.txf_find.specs.Found.{shown_text};
+ghost use Rattle.txf_tree.specs.Children.{entries_in, entry_seen};
+
+use ktm_base::{NoMemory, Text, TextList};
+use ktm_names::Pattern;
+use std::alloc::Global;
+use txf_tree::{Entries, Entry};
+
+// The name of an entry as it is listed, a directory's with a backslash behind it.
+fn text_of(alloc: Global, entry: &Entry<'_>) -> Result<Text, NoMemory>
+    ensures { IfOk result (λ text. text ≡ shown_text (entry_seen entry.now)) }
+{
+    let mut bytes = Vec::with_capacity(alloc, entry.name.len() + 1)?;
+    bytes.extend_from_slice(entry.name)?;
+    if entry.is_directory {
+        bytes.push(b'\\')?;
+    }
+    Ok(Text::new(bytes))
+}
+
+/// The names of the entries that the pattern matches, in their order, a directory's with a backslash behind it. No other
+/// name is copied.
+pub fn find(alloc: Global, entries: &Entries<'_>, pattern: &Pattern) -> Result<TextList, NoMemory>
+    ensures { IfOk result (λ texts. (tree : Tree) (directory : ℕ) → entries.now ≡ entries_in tree directory → texts ≡ map listed (matching tree (Some directory) pattern.now.last)) }
+{
+    let entries = entries.as_slice();
+    let mut texts = Vec::with_capacity(alloc, entries.len())?;
+    for entry in entries {
+        if pattern.matches(entry.name) {
+            texts.push(text_of(alloc, entry)?)?;
+        }
+    }
+    Ok(TextList::new(texts))
+}
