@@ -1,0 +1,7 @@
+pub mod Apart
+pub mod Holding
+pub mod Indexes
+pub mod NamesTold
+pub mod Ready
+pub mod Sorted
+pub mod Tests

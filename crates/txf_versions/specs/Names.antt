@@ -1,0 +1,32 @@
+-- The names under which first opens and versions are sorted. No public clause cites this module.
+use Rattle.std.specs.Prelude.{ℕ, ◌/◌, ◌%◌, List, [], ◌∷◌}
+use Rattle.ktm_base.specs.declared.id.Id.{Id}
+use Rattle.txf_versions.specs.declared.opened.Opened.{Opened}
+
+-- a number below 2 ^ 32, its greatest byte first, and then these bytes
+abbrev pub word_bytes : ℕ → List ℕ → List ℕ
+word_bytes n rest = n / 16777216 ∷ n / 65536 % 256 ∷ n / 256 % 256 ∷ n % 256 ∷ rest
+
+-- a number below 2 ^ 64, its greatest byte first, and then these bytes
+abbrev pub long_bytes : ℕ → List ℕ → List ℕ
+long_bytes n rest = word_bytes (n / 4294967296) (word_bytes (n % 4294967296) rest)
+
+-- a transaction, and then these bytes
+abbrev pub transaction_bytes : Id → List ℕ → List ℕ
+transaction_bytes id rest = word_bytes id.boot (word_bytes id.number rest)
+
+-- a version of a file, and then these bytes
+abbrev pub version_bytes : ℕ → ℕ → List ℕ → List ℕ
+version_bytes file version rest = long_bytes file (long_bytes version rest)
+
+-- a transaction and a file
+abbrev pub open_name : Id → ℕ → List ℕ
+open_name transaction file = transaction_bytes transaction (long_bytes file [])
+
+-- by which name a first open stands among those of its transaction
+abbrev pub own_name : Opened → List ℕ
+own_name o = open_name o.transaction o.file
+
+-- by which name a first open stands among those of its version
+abbrev pub holder_name : Opened → List ℕ
+holder_name o = version_bytes o.file o.version (transaction_bytes o.transaction [])
