@@ -1,0 +1,158 @@
+-- Lemmas on the open files in order, each with its key.
+use Rattle.std.proofs.Common.{◌≡◌, ◌⊎◌, Bool, true, false, not, List, [], ◌∷◌, ◌++◌, filter, Some, None, refl, sym, ap, ◌∙◌, inl, inr}
+use Rattle.std.specs.List.{list_any, find}
+use Rattle.std.proofs.lemmas.Bool.{cases_Bool, or_cases, or_left, or_right, or_parts}
+use Rattle.std.proofs.lemmas.Option.{same_Some}
+use Rattle.ktm_world.specs.Files.{OpenFile}
+use Rattle.ktm_links.specs.declared.list.Key.{Key}
+use Rattle.ktm_links.specs.Items.{Item, item, same_key, value_at, without}
+use Rattle.ktm_links.proofs.Keys.{same_key-true, same_key-self, value_at-others, value_at-push_other}
+use Rattle.txf_opens.specs.declared.file.OpenFile.{OpenFile as Kept}
+use Rattle.txf_opens.specs.Indexed.{AreDistinct, opens_of}
+use Rattle.txf_opens.specs.OpensState.{open_of}
+
+pub cases_key : (a b : Key) → (a ≡ b) ⊎ (a ≡ b → ⊥)
+cases_key a b =
+    elim (cases_Bool (same_key a b)) [
+      | inl same ↦ inl (same_key-true a b same)
+      | inr differs ↦ inr (λ same. let is = same_key-self a b same in absurd (cc))
+    ]
+
+-- ---- distinct keys
+pub AreDistinct-push : (xs : List (Item Kept)) (key : Key) (e : Kept) → AreDistinct xs → value_at xs key ≡ None → AreDistinct (xs ++ item key e ∷ [])
+AreDistinct-push [] key e distinct none = (refl, tt)
+AreDistinct-push (x ∷ xs) key e distinct none =
+    elim (cases_Bool (same_key x.key key)) [
+      | inl same ↦ absurd (let some = rw same at none in cc)
+      | inr differs ↦ (
+        value_at-push_other xs (item key e) x.key (λ same. absurd (let is = same_key-self x.key key same in cc)) ∙ distinct.0,
+        AreDistinct-push xs key e distinct.1 (rw differs at none),
+      )
+    ]
+
+pub AreDistinct-without : (xs : List (Item Kept)) (key : Key) → AreDistinct xs → AreDistinct (without xs key)
+AreDistinct-without [] key distinct = tt
+AreDistinct-without (x ∷ xs) key distinct =
+    elim (cases_Bool (same_key x.key key)) [
+      | inl same ↦ rw same distinct.1
+      | inr differs ↦
+          rw differs
+          ((
+            value_at-others xs key x.key (λ same. absurd (let is = same_key-self x.key key (sym same) in cc)) ∙ distinct.0,
+            AreDistinct-without xs key distinct.1,
+          ))
+    ]
+
+-- the first one is there under its key
+pub value_at-here : (x : Item Kept) (xs : List (Item Kept)) → value_at (x ∷ xs) x.key ≡ Some x.value
+value_at-here x xs = rw (same_key-self x.key x.key refl) refl
+
+-- and each behind it under its own
+pub value_at-behind : (x : Item Kept) (xs : List (Item Kept)) (key : Key) (e : Kept) → AreDistinct (x ∷ xs) → value_at xs key ≡ Some e → value_at (x ∷ xs) key ≡ Some e
+value_at-behind x xs key e distinct there =
+    elim (cases_Bool (same_key x.key key)) [
+      | inl same ↦ absurd (let none = ap (value_at xs) (sym (same_key-true x.key key same)) ∙ distinct.0 in cc)
+      | inr differs ↦ rw differs there
+    ]
+
+-- ---- whether one passes a test
+-- an open file that passes
+pub record IsListed (p : OpenFile → Bool) (items : List (Item Kept)) : Type 0 where
+  pub key : Key
+  pub file : Kept
+  pub there : value_at items key ≡ Some file
+  pub so : p (open_of file) ≡ true
+
+pub any_from : (p : OpenFile → Bool) (items : List (Item Kept)) (key : Key) (e : Kept) → value_at items key ≡ Some e → p (open_of e) ≡ true → list_any p (opens_of items) ≡ true
+any_from p [] key e there so = absurd (cc)
+any_from p (x ∷ xs) key e there so =
+    elim (cases_Bool (same_key x.key key)) [
+      | inl same ↦
+          let value : x.value ≡ e = same_Some x.value e (rw same at there) in
+          or_left (p (open_of x.value)) (list_any p (opens_of xs)) (ap (λ (k : Kept). p (open_of k)) value ∙ so)
+      | inr differs ↦ or_right (p (open_of x.value)) (list_any p (opens_of xs)) (any_from p xs key e (rw differs at there) so)
+    ]
+
+pub any_to : (p : OpenFile → Bool) (items : List (Item Kept)) → AreDistinct items → list_any p (opens_of items) ≡ true → IsListed p items
+any_to p [] distinct any = absurd (cc)
+any_to p (x ∷ xs) distinct any =
+    elim (or_cases (p (open_of x.value)) (list_any p (opens_of xs)) any) [
+      | inl here ↦ record { key = x.key; file = x.value; there = value_at-here x xs; so = here }
+      | inr behind ↦
+          let rest = any_to p xs distinct.1 behind in
+          record { key = rest.key; file = rest.file; there = value_at-behind x xs rest.key rest.file distinct rest.there; so = rest.so }
+    ]
+
+-- none passes where none that is there does
+pub none_passes : (p : OpenFile → Bool) (items : List (Item Kept)) → AreDistinct items → ((key : Key) (e : Kept) → value_at items key ≡ Some e → p (open_of e) ≡ true → ⊥)
+    → list_any p (opens_of items) ≡ false
+none_passes p items distinct none =
+    elim (cases_Bool (list_any p (opens_of items))) [
+      | inl some ↦ let one = any_to p items distinct some in absurd (none one.key one.file one.there one.so)
+      | inr not_any ↦ not_any
+    ]
+
+-- ---- the one that passes
+-- no other open file than that of the key passes
+abbrev pub IsOnly : (OpenFile → Bool) → List (Item Kept) → Key → Type 0
+IsOnly p items key = (k : Key) (e : Kept) → value_at items k ≡ Some e → p (open_of e) ≡ true → k ≡ key
+
+IsOnly-behind : (p : OpenFile → Bool) (x : Item Kept) (xs : List (Item Kept)) (key : Key) → AreDistinct (x ∷ xs) → IsOnly p (x ∷ xs) key → IsOnly p xs key
+IsOnly-behind p x xs key distinct only = λ k e there so. only k e (value_at-behind x xs k e distinct there) so
+
+other_passes_not : (p : OpenFile → Bool) (x : Item Kept) (xs : List (Item Kept)) (key : Key) → IsOnly p (x ∷ xs) key → same_key x.key key ≡ false → p (open_of x.value) ≡ false
+other_passes_not p x xs key only other =
+    elim (cases_Bool (p (open_of x.value))) [
+      | inl so ↦ absurd (let same = same_key-self x.key key (only x.key x.value (value_at-here x xs) so) in cc)
+      | inr not_so ↦ not_so
+    ]
+
+pub find-there : (p : OpenFile → Bool) (items : List (Item Kept)) (key : Key) (e : Kept) → AreDistinct items → IsOnly p items key → value_at items key ≡ Some e → p (open_of e) ≡ true
+    → find p (opens_of items) ≡ Some (open_of e)
+find-there p [] key e distinct only there so = absurd (cc)
+find-there p (x ∷ xs) key e distinct only there so =
+    elim (cases_Bool (same_key x.key key)) [
+      | inl same ↦
+          let value : x.value ≡ e = same_Some x.value e (rw same at there) in
+          let passes : p (open_of x.value) ≡ true = ap (λ (k : Kept). p (open_of k)) value ∙ so in
+          rw passes (ap (λ (k : Kept). Some (open_of k)) value)
+      | inr other ↦
+          rw (other_passes_not p x xs key only other)
+          (find-there p xs key e distinct.1 (IsOnly-behind p x xs key distinct only) (rw other at there) so)
+    ]
+
+pub find-none : (p : OpenFile → Bool) (os : List OpenFile) → list_any p os ≡ false → find p os ≡ None
+find-none p [] none = refl
+find-none p (o ∷ os) none =
+    let parts = or_parts (p o) (list_any p os) none in
+    rw parts.0 (find-none p os parts.1)
+
+-- ---- without those that pass
+pub filter-none : (p : OpenFile → Bool) (os : List OpenFile) → list_any p os ≡ false → filter (λ o. not (p o)) os ≡ os
+filter-none p [] none = refl
+filter-none p (o ∷ os) none =
+    let parts = or_parts (p o) (list_any p os) none in
+    rw parts.0 (ap (λ l. o ∷ l) (filter-none p os parts.1))
+
+pub filter-without : (p : OpenFile → Bool) (items : List (Item Kept)) (key : Key) (e : Kept) → AreDistinct items → IsOnly p items key → value_at items key ≡ Some e → p (open_of e) ≡ true
+    → opens_of (without items key) ≡ filter (λ o. not (p o)) (opens_of items)
+filter-without p [] key e distinct only there so = absurd (cc)
+filter-without p (x ∷ xs) key e distinct only there so =
+    elim (cases_Bool (same_key x.key key)) [
+      | inl same ↦
+          let value : x.value ≡ e = same_Some x.value e (rw same at there) in
+          let passes : p (open_of x.value) ≡ true = ap (λ (k : Kept). p (open_of k)) value ∙ so in
+          let none = none_passes p xs distinct.1 (λ k v is yes.
+          let here = only k v (value_at-behind x xs k v distinct is) yes in
+          let gone : value_at xs k ≡ None = ap (value_at xs) (here ∙ sym (same_key-true x.key key same)) ∙ distinct.0 in
+          absurd (cc)) in
+          rw (same, passes) (sym (filter-none p (opens_of xs) none))
+      | inr other ↦
+          rw (other, other_passes_not p x xs key only other)
+          (ap (λ l. open_of x.value ∷ l)
+          (filter-without p xs key e distinct.1 (IsOnly-behind p x xs key distinct only) (rw other at there) so))
+    ]
+
+pub opens_of-push : (items : List (Item Kept)) (key : Key) (e : Kept) → opens_of (items ++ item key e ∷ []) ≡ opens_of items ++ open_of e ∷ []
+opens_of-push [] key e = refl
+opens_of-push (x ∷ xs) key e = ap (λ l. open_of x.value ∷ l) (opens_of-push xs key e)

@@ -1,0 +1,4 @@
+pub mod Indexed
+pub mod Names
+pub mod OpensState
+pub mod Writers

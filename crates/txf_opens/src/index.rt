@@ -1,0 +1,66 @@
+// Maps from names to the keys of open files.
+ghost use Rattle.std.specs.Prelude.{◌≡◌, ℕ, List, ◌<◌, ◌≤◌, ◌+◌, None, IfNone, IfSome, true};
+ghost use Rattle.std.specs.Bool.{MatchBool};
+ghost use Rattle.ktm_links.specs.Mapped.{Begins, IsNotBelow};
+ghost use Rattle.txf_opens.specs.Indexed.{key_under, Adds, HasUnder, IsFirstUnder, IsNoneUnder, Takes};
+
+use ktm_links::{Chains, Key, Name};
+
+/// The key that the map has under the name.
+pub(crate) fn key_under<K: Name>(map: &Chains<K, Key>, name: &[u8]) -> Option<Key>
+    ensures { result ≡ key_under map.now.entries name.now }
+{
+    match map.find(name) {
+        Some(key) => map.get(key).copied(),
+        None => None,
+    }
+}
+
+/// The key under the first of the names that begin with these bytes.
+pub(crate) fn first_under<K: Name>(map: &Chains<K, Key>, prefix: &[u8]) -> Option<Key>
+    ensures first { IfSome result (λ key. IsFirstUnder (Begins prefix.now) map.now.entries key) }
+    ensures none { IfNone result (IsNoneUnder (Begins prefix.now) map.now.entries) }
+{
+    match map.first_with(prefix) {
+        Some(own) => map.get(own).copied(),
+        None => None,
+    }
+}
+
+/// The key under the first of the names that are not below this one.
+pub(crate) fn first_from<K: Name>(map: &Chains<K, Key>, name: &[u8]) -> Option<Key>
+    ensures first { IfSome result (λ key. IsFirstUnder (λ q. IsNotBelow q name.now) map.now.entries key) }
+    ensures none { IfNone result (IsNoneUnder (λ q. IsNotBelow q name.now) map.now.entries) }
+{
+    match map.first_from(name) {
+        Some(own) => map.get(own).copied(),
+        None => None,
+    }
+}
+
+/// Does a name begin with these bytes.
+pub(crate) fn has_under<K: Name>(map: &Chains<K, Key>, prefix: &[u8]) -> bool
+    ensures { MatchBool result (HasUnder (Begins prefix.now) map.now.entries) (IsNoneUnder (Begins prefix.now) map.now.entries) }
+{
+    first_under(map, prefix).is_some()
+}
+
+/// Puts a key under a name that is free, where this is so.
+pub(crate) fn add<K: Name>(map: &mut Chains<K, Key>, is_so: bool, name: K, key: Key)
+    requires spare { 0 < map.old.spare }
+    requires free { key_under map.old.entries (K.bytes name) ≡ None }
+    ensures adds { Adds is_so (K.bytes name) key map.old.entries map.new.entries }
+    ensures spare { map.old.spare ≤ map.new.spare + 1 }
+{
+    if is_so {
+        map.insert(name, key);
+    }
+}
+
+/// Takes the key under the name out, if there is one.
+pub(crate) fn take<K: Name>(map: &mut Chains<K, Key>, name: &[u8])
+    ensures takes { Takes name.now map.old.entries map.new.entries }
+    ensures spare { map.old.spare ≤ map.new.spare }
+{
+    map.remove(name);
+}
