@@ -1,0 +1,6 @@
+pub mod Changing
+pub mod Holding
+pub mod Meets
+pub mod Others
+pub mod PairNames
+pub mod Present
