@@ -1,0 +1,12 @@
+pub mod Brought
+pub mod Files
+pub mod Kept
+pub mod Laws
+pub mod Listing
+pub mod Maps
+pub mod Names
+pub mod Nodes
+pub mod OverlayState
+pub mod Sight
+pub mod Views
+pub mod Written

@@ -1,0 +1,232 @@
+// What a transaction changed.
+ghost use Rattle.std.specs.Prelude.{◌≡◌, ◌<◌, ◌≤◌, ◌^◌, ◌+◌, [], true, length, not, IsOk, OnOk, OnErr, IfNone, ◌++◌, option_to_list};
+ghost use Rattle.std.specs.List.{list_all};
+ghost use Rattle.std.specs.Option.{option_copied};
+ghost use Rattle.txf_overlay.specs.Written.{IsRising, bytes_at, bytes_or, first_from, total_units, with_bytes};
+ghost use Rattle.txf_overlay.specs.OverlayState.{is_of_names, own_of};
+ghost use Rattle.ktm_world.specs.Changes.{has_changes, has_made, nodes_made};
+ghost use Rattle.ktm_world.specs.Tree.{cut_to, put_over};
+
+use crate::name::{PlaceName, number_name};
+use crate::node::{Nodes, seen};
+use crate::written::{Files, WrittenFile, bytes_of, close, open, take_file};
+use ktm_base::NoMemory;
+use ktm_links::Chains;
+use ktm_types::Change;
+use std::alloc::Global;
+use std::marker::Model;
+
+/// What one transaction made, moved and dropped, in order, and the bytes of the files that it wrote.
+#[derive(Drop)]
+pub struct Overlay {
+    pub(crate) alloc: Global,
+    pub(crate) names: Vec<Change>,
+    // What became of each node that it made, moved or dropped.
+    pub(crate) nodes: Nodes,
+    // Which node stands now at each place that it held.
+    pub(crate) seats: Chains<PlaceName, Option<u64>>,
+    pub(crate) files: Files,
+    // How many nodes it made and did not drop, and how many units its files take.
+    pub(crate) made: usize,
+    pub(crate) units: u64,
+}
+
+impl Model for Overlay {
+    ghost use Rattle.std.specs.Prelude.{◌-◌, ◌/◌, min, vec_len, vec_capacity};
+    ghost use Rattle.txf_overlay.specs.OverlayState.{OverlayState};
+
+    ghost Value = { OverlayState };
+
+    ghost use Rattle.txf_overlay.specs.Files.{files_in};
+    ghost use Rattle.txf_overlay.specs.Kept.{seats_in, IsKept};
+
+    ghost view = { λ o. record {
+      names = o.names.items;
+      held = seats_in o.seats.entries;
+      written = files_in o.files.entries;
+      spare = min (vec_capacity o.names - vec_len o.names) (min o.nodes.spare (min (o.seats.spare / 2) o.files.spare));
+    } };
+
+    ghost invariant = { λ o. IsKept o.names.items o.nodes.entries o.files.entries o.made o.units };
+}
+
+impl Overlay {
+    /// What changes nothing.
+    pub fn new(alloc: Global) -> Self
+        ensures names { result.names ≡ [] }
+        ensures held { result.held ≡ [] }
+        ensures written { result.written ≡ [] }
+    {
+        Overlay {
+            alloc,
+            names: Vec::new(alloc),
+            nodes: Chains::new(alloc),
+            seats: Chains::new(alloc),
+            files: Chains::new(alloc),
+            made: 0,
+            units: 0,
+        }
+    }
+
+    /// What it made, moved and dropped, in order.
+    pub fn names(&self) -> &[Change]
+        ensures names { result.now ≡ self.now.names }
+        ensures only { list_all is_of_names self.now.names ≡ true }
+        ensures rise { IsRising self.now.written }
+    {
+        &self.names
+    }
+
+    /// How many changes of names there are.
+    pub fn changes_len(&self) -> usize
+        ensures { result ≡ length self.now.names }
+    {
+        self.names.len()
+    }
+
+    /// Has it changed nothing.
+    pub fn is_empty(&self) -> bool
+        ensures { result ≡ not (has_changes (own_of self.now)) }
+    {
+        match self.written_from(0) {
+            Some(_) => false,
+            None => self.names().is_empty(),
+        }
+    }
+
+    /// The first file, by number, that is written and whose number is not below this one: so all of them one after another.
+    pub fn written_from(&self, from: u64) -> Option<&WrittenFile>
+        ensures { option_copied result ≡ first_from self.now.written from }
+    {
+        match self.files.first_from(&number_name(from)) {
+            Some(key) => self.files.get(key),
+            None => None,
+        }
+    }
+
+    /// Has it made the node, whatever it did with it then.
+    pub fn has_made(&self, node: u64) -> bool
+        ensures { result ≡ has_made self.now.names node }
+    {
+        match seen(&self.nodes, node) {
+            Some(seen) => seen.made.is_some(),
+            None => false,
+        }
+    }
+
+    /// All bytes of a file that it wrote.
+    pub fn bytes(&self, file: u64) -> Option<&[u8]>
+        ensures { option_copied result ≡ bytes_at self.now.written file }
+    {
+        bytes_of(&self.files, file)
+    }
+
+    /// How many nodes there are that it made and did not drop.
+    pub fn nodes_made(&self) -> usize
+        ensures { result ≡ nodes_made self.now.names }
+    {
+        self.made
+    }
+
+    /// How many units of 4,096 bytes the files take that it wrote.
+    pub fn units(&self) -> u64
+        ensures { result ≡ total_units self.now.written }
+    {
+        self.units
+    }
+
+    /// For how many changes of names, and files, there is room.
+    pub fn spare(&self) -> usize
+        ensures { result ≡ self.now.spare }
+    {
+        let names = self.names.capacity() - self.names.len();
+        let maps = (self.seats.spare() / 2).min(self.files.spare());
+        names.min(self.nodes.spare().min(maps))
+    }
+
+    /// Makes room for so many more changes of names, and files.
+    pub fn reserve(&mut self, n: usize) -> Result<(), NoMemory>
+        ensures room { OnOk result (n ≤ self.new.spare) }
+        ensures enough { n ≤ self.old.spare → IsOk result }
+        ensures names { self.new.names ≡ self.old.names }
+        ensures held { self.new.held ≡ self.old.held }
+        ensures written { self.new.written ≡ self.old.written }
+        ensures spare { self.old.spare ≤ self.new.spare }
+    {
+        if n <= self.spare() {
+            return Ok(());
+        }
+        let Some(places) = n.checked_mul(2) else {
+            return Err(NoMemory);
+        };
+        self.names.reserve(n)?;
+        self.nodes.reserve(n)?;
+        self.seats.reserve(places)?;
+        self.files.reserve(n)
+    }
+
+    /// Puts bytes of a file over what is there, from the offset on; a gap is filled with zeros. A file that is not written
+    /// has these first bytes before. It fails for want of memory.
+    pub fn put(
+        &mut self,
+        file: u64,
+        first: &[u8],
+        offset: u64,
+        bytes: &[u8],
+    ) -> Result<(), NoMemory>
+        requires few { total_units (with_bytes self.old.written file (put_over (bytes_or first.now (bytes_at self.old.written file)) offset bytes.now)) < 2 ^ 64 }
+        ensures ok { OnOk result (self.new.written ≡ with_bytes self.old.written file (put_over (bytes_or first.now (bytes_at self.old.written file)) offset bytes.now)) }
+        ensures err { OnErr result (self.new.written ≡ self.old.written) }
+        ensures names { self.new.names ≡ self.old.names }
+        ensures held { self.new.held ≡ self.old.held }
+        ensures spare { self.old.spare ≤ self.new.spare }
+    {
+        let room = self.spare() + 1;
+        self.files.reserve(room)?;
+        let mut opened = open(&mut self.files, self.alloc, file, first)?;
+        let done = opened.file.put(offset, bytes);
+        close(&mut self.files, &mut self.units, opened, done)
+    }
+
+    /// Leaves so many bytes of a file: it is cut, or filled with zeros. A file that is not written has these first bytes
+    /// before. It fails for want of memory.
+    pub fn cut(&mut self, file: u64, first: &[u8], size: u64) -> Result<(), NoMemory>
+        requires few { total_units (with_bytes self.old.written file (cut_to (bytes_or first.now (bytes_at self.old.written file)) size)) < 2 ^ 64 }
+        ensures ok { OnOk result (self.new.written ≡ with_bytes self.old.written file (cut_to (bytes_or first.now (bytes_at self.old.written file)) size)) }
+        ensures err { OnErr result (self.new.written ≡ self.old.written) }
+        ensures names { self.new.names ≡ self.old.names }
+        ensures held { self.new.held ≡ self.old.held }
+        ensures spare { self.old.spare ≤ self.new.spare }
+    {
+        let room = self.spare() + 1;
+        self.files.reserve(room)?;
+        let mut opened = open(&mut self.files, self.alloc, file, first)?;
+        let done = opened.file.cut(size);
+        close(&mut self.files, &mut self.units, opened, done)
+    }
+
+    /// Takes out the first file, by number, with its bytes, as a commit needs them. It takes no memory.
+    pub fn pop_written(&mut self) -> Option<WrittenFile>
+        ensures written { self.old.written ≡ option_to_list result ++ self.new.written }
+        ensures none { IfNone result (self.new.written ≡ []) }
+        ensures names { self.new.names ≡ self.old.names }
+        ensures held { self.new.held ≡ self.old.held }
+        ensures spare { self.old.spare ≤ self.new.spare }
+    {
+        let file = match self.written_from(0) {
+            Some(written) => written.file(),
+            None => return None,
+        };
+        let (written, units) = take_file(&mut self.files, file);
+        self.units -= units;
+        written
+    }
+
+    /// What it made, moved and dropped, in order, with its memory.
+    pub fn into_names(self) -> Vec<Change>
+        ensures { result.items ≡ self.names }
+    {
+        let Overlay { names, .. } = self;
+        names
+    }
+}
