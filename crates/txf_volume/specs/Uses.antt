@@ -1,0 +1,142 @@
+-- How much of the files is in use once a call has settled, by what was in use before. No public clause cites this module.
+use Rattle.std.specs.Prelude.{◌≡◌, ⊤, ℕ, ◌+◌, ◌≤◌, ◌==◌, ◌&&◌, ◌||◌, not, Bool, true, false, List, [], ◌∷◌, nat_lt, sum_by, Option, Some, None, is_some, All, if◌then◌else◌}
+use Rattle.std.specs.List.{list_all, list_any}
+use Rattle.ktm_base.specs.declared.id.Id.{Id}
+use Rattle.ktm_types.specs.declared.change.Change.{Change}
+use Rattle.ktm_types.specs.declared.change.Change.TheVariants.{Put, Cut}
+use Rattle.ktm_types.specs.declared.recorded.Node.{Node}
+use Rattle.ktm_world.specs.Changes.{bytes_in, changes_bytes, is_drop, is_make, node_of}
+use Rattle.ktm_world.specs.Committed.{Version, version_of, written_files, changes_to_commit}
+use Rattle.ktm_world.specs.FileOutcome.{FileOutcome, files_after}
+use Rattle.ktm_world.specs.Files.{FilesNow, FirstOpen, OwnChanges, own_changes, is_last_version, bytes_seen}
+use Rattle.ktm_world.specs.FileUses.{units_used, nodes_used, file_changes_waiting}
+use Rattle.ktm_world.specs.Holds.{is_in}
+use Rattle.ktm_world.specs.Transactions.{same_id}
+use Rattle.ktm_world.specs.Tree.{Tree, bytes_of, bytes_or_none, cut_to, is_file, node_at, numbers_rise, put_over, units_of}
+
+-- ---- what is so at every moment
+
+-- is it so of each two
+abbrev pub each_pair : {X : Type 0} → (X → X → Bool) → List X → Bool
+each_pair test [] = true
+each_pair test (x ∷ xs) = list_all (test x) xs && each_pair test xs
+
+-- are they entries of two transactions
+abbrev pub changed_by_two : OwnChanges → OwnChanges → Bool
+changed_by_two a b = not (same_id a.transaction b.transaction)
+
+-- do the files of versions rise
+abbrev pub files_rise : Version → Version → Bool
+files_rise a b = nat_lt a.file b.file
+
+-- own changes are in the form in which they are committed, numbers rise, and first opens are of versions that there were
+pub record IsSteady (files : FilesNow) : Type 0 where
+  -- a transaction has one entry among the own changes
+  pub once : each_pair changed_by_two files.table.own ≡ true
+  -- its changes are in the form in which they are committed
+  pub final : All (λ o. changes_to_commit o.changes (bytes_seen files (Some o.transaction)) ≡ o.changes) files.table.own
+  -- the numbers of committed nodes rise
+  pub rise : numbers_rise files.tree ≡ true
+  -- so do those of the files that have versions
+  pub versions : each_pair files_rise files.versions ≡ true
+  -- a first open is of a version that there was
+  pub first_versions : All (λ o. is_file files.tree o.file ≡ true → o.version ≤ version_of files.versions o.file) files.first_opens
+  -- the bytes of the last version are the committed ones
+  pub first_bytes : All (λ o. is_last_version files o ≡ true → o.bytes ≡ bytes_of files.tree o.file) files.first_opens
+
+-- a change makes a node that is not there, and that nobody opened, or puts or cuts bytes of a file that is there
+pub record Suits (tree : Tree) (opens : List FirstOpen) (change : Change) : Type 0 where
+  pub fits : is_make change ≡ true → node_at tree (node_of change) ≡ None
+  pub fresh : is_make change ≡ true → list_any (λ o. o.file == node_of change) opens ≡ false
+  pub file : changes_bytes change ≡ true → is_file tree (node_of change) ≡ true
+
+-- ---- units
+
+-- the units of a node
+abbrev pub node_units : Node → ℕ
+node_units node = units_of (bytes_or_none node.content)
+
+-- the units of all committed files
+abbrev pub tree_units : Tree → ℕ
+tree_units tree = sum_by node_units tree
+
+-- the units that a change gives its file, which had these bytes
+abbrev pub gain : List ℕ → Change → ℕ
+gain bytes (Put node offset contents) = units_of (put_over bytes offset (bytes_in contents))
+gain bytes (Cut node size pages) = units_of (cut_to bytes size)
+gain bytes _ = 0
+
+-- does the change end what its file was
+abbrev pub ends : Change → Bool
+ends change = changes_bytes change || is_drop change
+
+-- the units that these bytes had, where the change ends them
+abbrev pub loss : List ℕ → Change → ℕ
+loss bytes change = if ends change then units_of bytes else 0
+
+-- did somebody first open the last version of the file
+abbrev pub is_last_opened : FilesNow → ℕ → Bool
+is_last_opened files file = list_any (λ o. o.file == file && o.version == version_of files.versions file) files.first_opens
+
+-- the units of what a plain change ends, where somebody first opened it, and it is kept
+abbrev pub kept : FilesNow → Change → ℕ
+kept files change = if is_last_opened files (node_of change) then loss (bytes_of files.tree (node_of change)) change else 0
+
+-- the bytes that a transaction has of its own of a file, which are none where it has not written it
+abbrev pub own_bytes : FilesNow → Id → ℕ → List ℕ
+own_bytes files id file = if is_in (written_files (own_changes files.table.own id)) file then bytes_seen files (Some id) file else []
+
+-- ---- nodes and changes that wait
+
+-- one where it is so
+abbrev pub one_if : Bool → ℕ
+one_if b = if b then 1 else 0
+
+-- how many changes more wait: one of names that a transaction makes
+abbrev pub names_added : Option Id → Option Change → ℕ
+names_added None change = 0
+names_added (Some id) None = 0
+names_added (Some id) (Some change) = one_if (not (changes_bytes change))
+
+-- ---- all of it
+
+-- what is in use once a plain change is committed
+pub record PlainUses (files : FilesNow) (o : FileOutcome) (change : Change) : Type 0 where
+  pub units : units_used (files_after files None o) + loss (bytes_of files.tree (node_of change)) change ≡ units_used files + gain (bytes_of files.tree (node_of change)) change + kept files change
+  pub nodes : nodes_used (files_after files None o) + one_if (is_drop change && is_some (node_at files.tree (node_of change))) ≡ nodes_used files + one_if (is_make change)
+
+-- what is in use once a transaction has made a change, and has first opened the last version of a file
+pub record OwnUses (files : FilesNow) (id : Id) (o : FileOutcome) (change : Change) : Type 0 where
+  pub units : units_used (files_after files (Some id) o) + loss (own_bytes files id (node_of change)) change ≡ units_used files + gain (bytes_seen files (Some id) (node_of change)) change
+  pub nodes : is_drop change ≡ false → nodes_used (files_after files (Some id) o) ≡ nodes_used files + one_if (is_make change)
+
+-- what is in use is the same
+pub record SameUses (files files' : FilesNow) : Type 0 where
+  pub units : units_used files' ≡ units_used files
+  pub nodes : nodes_used files' ≡ nodes_used files
+
+-- is the file that is first opened a committed one, if there is one
+abbrev pub opens_file : Tree → Option ℕ → Bool
+opens_file tree None = true
+opens_file tree (Some file) = is_file tree file
+
+-- what a call adds to what is in use, and takes from it
+pub record UsesLaw : Type 0 where
+  pub plain : (files : FilesNow) (o : FileOutcome) (change : Change) → IsSteady files → o.change ≡ Some change → Suits files.tree files.first_opens change → PlainUses files o change
+  pub own : (files : FilesNow) (id : Id) (o : FileOutcome) (change : Change) → IsSteady files → o.change ≡ Some change → opens_file files.tree o.first ≡ true → OwnUses files id o change
+  pub none : (files : FilesNow) (who : Option Id) (o : FileOutcome) → IsSteady files → o.change ≡ None → opens_file files.tree o.first ≡ true → SameUses files (files_after files who o)
+  pub waiting : (files : FilesNow) (who : Option Id) (o : FileOutcome) → IsSteady files → file_changes_waiting (files_after files who o) ≡ file_changes_waiting files + names_added who o.change
+
+-- ---- when it can be told
+
+-- the change suits what is committed, or is one of a transaction that drops nothing
+abbrev pub FitsChange : FilesNow → Option Id → Option Change → Type 0
+FitsChange files who None = ⊤
+FitsChange files None (Some change) = Suits files.tree files.first_opens change
+FitsChange files (Some id) (Some change) = is_drop change ≡ false
+
+-- what the call comes to can be told by what is counted
+pub record IsFit (files : FilesNow) (who : Option Id) (o : FileOutcome) : Type 0 where
+  pub change : FitsChange files who o.change
+  -- a file that is first opened is a committed one
+  pub first : opens_file files.tree o.first ≡ true

@@ -1,0 +1,148 @@
+// The files in memory.
+ghost use Rattle.std.specs.Prelude.{◌≡◌, [], IfSome, Some};
+ghost use Rattle.std.specs.Option.{option_copied};
+ghost use Rattle.ktm_world.specs.Files.{bytes_seen, first_open_of, fixed_bytes};
+ghost use Rattle.ktm_world.specs.Tree.{bytes_of};
+ghost use Rattle.txf_tree.specs.TreeState.{tree_of};
+ghost use Rattle.txf_overlay.specs.Laws.{IsOwn};
+ghost use Rattle.txf_volume.specs.Ties.{IsOver};
+ghost use Rattle.txf_volume.specs.Held.{files_of, overlay_in, version_bytes};
+
+use crate::own::{Own, overlay_of};
+use ktm_base::Id;
+use std::alloc::Global;
+use std::marker::Model;
+use txf_opens::Opens;
+use txf_overlay::Overlay;
+use txf_reserve::Reserve;
+use txf_tree::Tree;
+use txf_versions::Versions;
+
+/// The files as the machine has them in memory.
+#[derive(Drop)]
+pub struct Files {
+    alloc: Global,
+    pub(crate) tree: Tree,
+    pub(crate) versions: Versions,
+    // In the order of the transactions' first changes.
+    pub(crate) overlays: Vec<Own>,
+    pub(crate) opens: Opens,
+    pub(crate) reserve: Reserve,
+    pub(crate) next_node: u64,
+    // Of the committed files.
+    pub(crate) units: u64,
+}
+
+impl Model for Files {
+    ghost use Rattle.txf_volume.specs.Held.{FilesHeld};
+
+    ghost Value = { FilesHeld };
+
+    ghost use Rattle.txf_volume.specs.Ties.{AreTied};
+
+    ghost view = { λ f. record {
+      tree = f.tree;
+      versions = f.versions;
+      overlays = f.overlays.items;
+      opens = f.opens;
+      reserve = f.reserve;
+      next_node = f.next_node;
+    } };
+
+    ghost invariant = { λ f. AreTied (record {
+      tree = f.tree;
+      versions = f.versions;
+      overlays = f.overlays.items;
+      opens = f.opens;
+      reserve = f.reserve;
+      next_node = f.next_node;
+    }) f.units };
+}
+
+/// The number of the first node that is made; the root's is the one before.
+const FIRST_NODE: u64 = 2;
+
+impl Files {
+    /// No files but the root, in a boot in which none was opened.
+    pub fn new(alloc: Global) -> Self
+        ensures tree { (files_of result).tree ≡ [] }
+        ensures versions { (files_of result).versions ≡ [] }
+        ensures first_opens { (files_of result).first_opens ≡ [] }
+        ensures own { (files_of result).table.own ≡ [] }
+        ensures opens { (files_of result).table.opens ≡ [] }
+        ensures last_open { (files_of result).table.last_open ≡ 0 }
+        ensures next_node { (files_of result).table.next_node ≡ 2 }
+    {
+        Files {
+            alloc,
+            tree: Tree::new(alloc),
+            versions: Versions::new(alloc),
+            overlays: Vec::new(alloc),
+            opens: Opens::new(alloc),
+            reserve: Reserve::new(alloc),
+            next_node: FIRST_NODE,
+            units: 0,
+        }
+    }
+
+    // What a transaction changed, if it changed anything.
+    pub(crate) fn overlay(&self, transaction: Id) -> Option<&Overlay>
+        ensures overlay { option_copied result ≡ overlay_in self.now.overlays transaction }
+        ensures over { IfSome result (λ overlay. IsOver (tree_of self.now.tree) overlay.now) }
+    {
+        overlay_of(&self.overlays, transaction)
+    }
+
+    // The bytes of a version of a file.
+    fn version_bytes(&self, file: u64, version: u64) -> &[u8]
+        ensures { result.now ≡ version_bytes (tree_of self.now.tree) self.now.versions.older file version }
+    {
+        match self.versions.older_bytes(file, version) {
+            Some(bytes) => bytes,
+            None => self.tree.content(file),
+        }
+    }
+
+    // The bytes of a file that a transaction found as it first opened it, or else the last committed ones.
+    fn fixed_bytes(&self, transaction: Id, file: u64) -> &[u8]
+        ensures { result.now ≡ fixed_bytes (files_of self.now) file (first_open_of (files_of self.now).first_opens transaction file) }
+    {
+        match self.versions.first_open(transaction, file) {
+            Some(version) => self.version_bytes(file, version),
+            None => self.tree.content(file),
+        }
+    }
+
+    // The bytes of a file that a transaction sees where it has changed something.
+    fn bytes_over<'a>(&'a self, overlay: &'a Overlay, transaction: Id, file: u64) -> &'a [u8]
+        requires there { overlay_in self.now.overlays transaction ≡ Some overlay.now }
+        requires own { IsOwn overlay.now }
+        ensures { result.now ≡ bytes_seen (files_of self.now) (Some transaction) file }
+    {
+        match overlay.bytes(file) {
+            Some(bytes) => bytes,
+            None if overlay.has_made(file) => &[],
+            None => self.fixed_bytes(transaction, file),
+        }
+    }
+
+    // The bytes of a file that a transaction sees.
+    pub(crate) fn bytes_in(&self, transaction: Id, file: u64) -> &[u8]
+        ensures { result.now ≡ bytes_seen (files_of self.now) (Some transaction) file }
+    {
+        match self.overlay(transaction) {
+            Some(overlay) => self.bytes_over(overlay, transaction, file),
+            None => self.fixed_bytes(transaction, file),
+        }
+    }
+
+    /// The bytes of a file that the caller sees.
+    pub fn bytes(&self, who: Option<Id>, file: u64) -> &[u8]
+        ensures { result.now ≡ bytes_seen (files_of self.now) who file }
+    {
+        match who {
+            Some(transaction) => self.bytes_in(transaction, file),
+            None => self.tree.content(file),
+        }
+    }
+}

@@ -1,0 +1,228 @@
+// Whether a call would pass a limit.
+ghost use Rattle.std.specs.Prelude.{◌≡◌, ◌<◌, ◌^◌, ◌+◌, ◌≤◌, ◌==◌, ◌&&◌, ◌||◌, Option, Some, None, true, false, is_some, nat_lt};
+ghost use Rattle.ktm_base.specs.declared.id.Id.{Id};
+ghost use Rattle.ktm_world.specs.Changes.{is_drop, node_of};
+ghost use Rattle.ktm_world.specs.FileOutcome.{FileOutcome, files_after, lacks_disk, lacks_quota, next_node_after};
+ghost use Rattle.ktm_world.specs.FileUses.{file_changes_waiting, nodes_used, units_used};
+ghost use Rattle.ktm_world.specs.Limits.{end_of_nodes, most_number};
+ghost use Rattle.ktm_world.specs.Tree.{node_at};
+ghost use Rattle.txf_tree.specs.TreeState.{tree_of};
+ghost use Rattle.txf_volume.specs.Held.{files_of};
+ghost use Rattle.txf_volume.specs.Uses.{kept, one_if, opens_file, own_bytes, IsFit, IsSteady, Suits};
+
+use crate::change::{changes_bytes, gain, is_drop, is_make, loss, node_of};
+use crate::files::Files;
+use crate::own::{names_of, nodes_of, units_of};
+use ktm_base::Id;
+use ktm_types::Change;
+use txf_calls::{Plan, Room};
+
+/// Numbers of open files end here in each boot.
+const MOST_NUMBER: u64 = u32::MAX as u64;
+
+/// Node numbers end below this.
+const END_OF_NODES: u64 = 1 << 63;
+
+// One where it is so.
+fn one_if(so: bool) -> u128
+    ensures one { result ≡ one_if so }
+    ensures few { result ≤ 1 }
+{
+    if so { 1 } else { 0 }
+}
+
+// Is a file opened while no handle is free.
+fn lacks_handles(plan: &Plan, room: &Room) -> bool
+    ensures { result ≡ (is_some plan.now.opened && room.now.handles == 0) }
+{
+    plan.opened.is_some() && room.handles == 0
+}
+
+impl Files {
+    // The units in use.
+    fn units_used(&self) -> u128
+        ensures units { result ≡ units_used (files_of self.now) }
+        ensures steady { IsSteady (files_of self.now) }
+        ensures few { result < 2 ^ 66 }
+    {
+        let own = units_of(&self.overlays) as u128;
+        self.units as u128 + own + self.versions.older_units() as u128
+    }
+
+    // The nodes in use.
+    fn nodes_used(&self) -> u128
+        ensures nodes { result ≡ nodes_used (files_of self.now) }
+        ensures steady { IsSteady (files_of self.now) }
+        ensures few { result < 2 ^ 66 }
+    {
+        1 + self.tree.len() as u128 + nodes_of(&self.overlays) as u128
+    }
+
+    // The changes of names that wait.
+    fn names_waiting(&self) -> u64
+        ensures names { result ≡ file_changes_waiting (files_of self.now) }
+        ensures steady { IsSteady (files_of self.now) }
+        ensures few { result < 2 ^ 63 }
+    {
+        names_of(&self.overlays)
+    }
+
+    // The units of what a plain change ends, where it is kept since somebody first opened it.
+    fn kept(&self, change: &Change) -> u128
+        ensures kept { result ≡ kept (files_of self.now) change.now }
+        ensures few { result < 2 ^ 66 }
+    {
+        let file = node_of(change);
+        if self.versions.is_pinned(file, self.tree.version(file)) {
+            loss(self.tree.content(file), change)
+        } else {
+            0
+        }
+    }
+
+    // The bytes that a transaction has of its own of a file.
+    fn own_bytes(&self, transaction: Id, file: u64) -> &[u8]
+        ensures { result.now ≡ own_bytes (files_of self.now) transaction file }
+    {
+        match self.overlay(transaction) {
+            Some(overlay) => match overlay.bytes(file) {
+                Some(bytes) => bytes,
+                None => &[],
+            },
+            None => &[],
+        }
+    }
+
+    // The units in use once a plain change is committed.
+    fn units_with(&self, change: &Change) -> u128
+        requires { Suits (tree_of self.now.tree) (files_of self.now).first_opens change.now }
+        ensures { (o : FileOutcome) → o.change ≡ Some change.now → result ≡ units_used (files_after (files_of self.now) None o) }
+    {
+        let was = self.tree.content(node_of(change));
+        self.units_used() + gain(was, change) + self.kept(change) - loss(was, change)
+    }
+
+    // The units in use once a transaction has made a change.
+    fn units_with_own(&self, transaction: Id, change: &Change) -> u128
+        ensures { (o : FileOutcome) → o.change ≡ Some change.now → opens_file (tree_of self.now.tree) o.first ≡ true → result ≡ units_used (files_after (files_of self.now) (Some transaction) o) }
+    {
+        let file = node_of(change);
+        let added = gain(self.bytes_in(transaction, file), change);
+        self.units_used() + added - loss(self.own_bytes(transaction, file), change)
+    }
+
+    // The units in use once a call has settled.
+    fn units_after(&self, who: Option<Id>, plan: &Plan) -> u128
+        requires { IsFit (files_of self.now) who plan.now }
+        ensures { result ≡ units_used (files_after (files_of self.now) who plan.now) }
+    {
+        match (&plan.change, who) {
+            (None, _) => self.units_used(),
+            (Some(change), None) => self.units_with(change),
+            (Some(change), Some(transaction)) => self.units_with_own(transaction, change),
+        }
+    }
+
+    // Does a change drop a committed node.
+    fn drops_committed(&self, change: &Change) -> bool
+        ensures { result ≡ (is_drop change.now && is_some (node_at (tree_of self.now.tree) (node_of change.now))) }
+    {
+        is_drop(change) && self.tree.node(node_of(change)).is_some()
+    }
+
+    // The nodes in use once a plain change is committed.
+    fn nodes_with(&self, change: &Change) -> u128
+        requires { Suits (tree_of self.now.tree) (files_of self.now).first_opens change.now }
+        ensures { (o : FileOutcome) → o.change ≡ Some change.now → result ≡ nodes_used (files_after (files_of self.now) None o) }
+    {
+        self.nodes_used() + one_if(is_make(change)) - one_if(self.drops_committed(change))
+    }
+
+    // The nodes in use once a transaction has made a change that drops none.
+    fn nodes_with_own(&self, transaction: Id, change: &Change) -> u128
+        requires { is_drop change.now ≡ false }
+        ensures { (o : FileOutcome) → o.change ≡ Some change.now → opens_file (tree_of self.now.tree) o.first ≡ true → result ≡ nodes_used (files_after (files_of self.now) (Some transaction) o) }
+    {
+        self.nodes_used() + one_if(is_make(change))
+    }
+
+    // The nodes in use once a call has settled.
+    fn nodes_after(&self, who: Option<Id>, plan: &Plan) -> u128
+        requires { IsFit (files_of self.now) who plan.now }
+        ensures { result ≡ nodes_used (files_after (files_of self.now) who plan.now) }
+    {
+        match (&plan.change, who) {
+            (None, _) => self.nodes_used(),
+            (Some(change), None) => self.nodes_with(change),
+            (Some(change), Some(transaction)) => self.nodes_with_own(transaction, change),
+        }
+    }
+
+    /// Would the disk be too full: more units or nodes than the image has units. It can be told of a plain change that
+    /// suits what is committed, and of one of a transaction that drops nothing.
+    #[tactic(auto, unfolding(ktm_world::specs::FileOutcome::lacks_disk))]
+    pub fn lacks_disk(&self, who: Option<Id>, plan: &Plan, room: &Room) -> bool
+        requires { IsFit (files_of self.now) who plan.now }
+        ensures { result ≡ lacks_disk (files_of self.now) room.now who plan.now }
+    {
+        let units = room.units as u128;
+        self.units_after(who, plan) > units || self.nodes_after(who, plan) > units
+    }
+
+    // The changes of names that wait once a call has settled.
+    fn waiting_after(&self, who: Option<Id>, plan: &Plan) -> u64
+        ensures { result ≡ file_changes_waiting (files_after (files_of self.now) who plan.now) }
+    {
+        let waiting = self.names_waiting();
+        match (&plan.change, who) {
+            (Some(change), Some(_)) if !changes_bytes(change) => waiting + 1,
+            _ => waiting,
+        }
+    }
+
+    // Would a node number be beyond the last one.
+    fn passes_nodes(&self, plan: &Plan) -> bool
+        ensures { result ≡ nat_lt end_of_nodes (next_node_after self.now.next_node plan.now.change) }
+    {
+        match &plan.change {
+            Some(Change::Make { node, .. }) => {
+                self.next_node > END_OF_NODES || *node >= END_OF_NODES
+            }
+            _ => self.next_node > END_OF_NODES,
+        }
+    }
+
+    // The number of the file that is opened last once a call has settled.
+    fn last_open_after(&self, plan: &Plan) -> u32
+        ensures { (who : Option Id) → result ≡ (files_after (files_of self.now) who plan.now).table.last_open }
+    {
+        match plan.opened {
+            Some(file) => file.number,
+            None => self.opens.last(),
+        }
+    }
+
+    // Would more changes wait than may.
+    fn lacks_changes(&self, who: Option<Id>, plan: &Plan, room: &Room) -> bool
+        ensures { result ≡ nat_lt room.now.changes (file_changes_waiting (files_after (files_of self.now) who plan.now)) }
+    {
+        self.waiting_after(who, plan) > room.changes as u64
+    }
+
+    // Would the numbers of open files or nodes be beyond the last ones.
+    fn passes_numbers(&self, plan: &Plan) -> bool
+        ensures { (who : Option Id) → result ≡ (nat_lt most_number (files_after (files_of self.now) who plan.now).table.last_open || nat_lt end_of_nodes (files_after (files_of self.now) who plan.now).table.next_node) }
+    {
+        self.last_open_after(plan) as u64 > MOST_NUMBER || self.passes_nodes(plan)
+    }
+
+    /// Would a quota be passed: changes that wait, handles, the numbers of open files and nodes.
+    #[tactic(auto, unfolding(ktm_world::specs::FileOutcome::lacks_quota))]
+    pub fn lacks_quota(&self, who: Option<Id>, plan: &Plan, room: &Room) -> bool
+        ensures { result ≡ lacks_quota (files_of self.now) room.now who plan.now }
+    {
+        self.lacks_changes(who, plan, room)
+            || lacks_handles(plan, room)
+            || self.passes_numbers(plan)
+    }
+}
