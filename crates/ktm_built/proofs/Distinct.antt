@@ -1,47 +1,71 @@
--- No two transactions have the same Id, and each is found by its own.
-use Rattle.std.proofs.Common.{◌≡◌, ℕ, ◌+◌, false, List, [], ◌∷◌, ◌++◌, Some, refl, sym, ◌∙◌, subst, inl, inr, arith, ne_eqb}
-use Rattle.std.proofs.lemmas.Bool.{cases_Bool, and_right, or_from, or_parts}
-use Rattle.std.specs.List.{AllByRecursion, list_any}
+-- Transactions that stand by rising Id: no two have the same one, and each is found by its own.
+use Rattle.std.proofs.Common.{◌≡◌, ◌&&◌, true, false, List, [], ◌∷◌, Some, refl, sym, ◌∙◌, ap, subst, inl, inr}
+use Rattle.std.proofs.lemmas.Bool.{cases_Bool, and_parts, or_from, or_parts}
+use Rattle.std.specs.List.{AllByRecursion, list_all, list_any}
 use Rattle.ktm_base.specs.declared.id.Id.{Id}
 use Rattle.ktm_types.specs.declared.object.Transaction.{Transaction}
 use Rattle.ktm_types.specs.declared.object.TransactionOutcome.{TransactionOutcome}
+use Rattle.ktm_world.specs.Durable.{is_before}
 use Rattle.ktm_world.specs.Transactions.{same_id, transaction_at, change_at}
-use Rattle.ktm_built.specs.Standing.{IsSoundTransaction, AreDistinct}
+use Rattle.ktm_laws.specs.GoodState.{each_pair}
+use Rattle.ktm_laws.proofs.Tables.{before_other}
 use Rattle.ktm_built.proofs.Ids.{same_id-equal, same_id-self, same_id-turned}
 use Rattle.ktm_built.proofs.Leaves.{ended_with}
 
--- ---- they stay distinct
+-- they stand by rising Id
+abbrev pub Rise : List Transaction → Type 0
+Rise ts = each_pair (λ (t u : Transaction). is_before t.id u.id) ts ≡ true
 
--- a change that keeps the Ids
-none-ended : (outcome : TransactionOutcome) (ts : List Transaction) (id a : Id) → list_any (λ u. same_id u.id a) (change_at ts id (ended_with outcome)) ≡ list_any (λ u. same_id u.id a) ts
-none-ended outcome [] id a = refl
-none-ended outcome (t ∷ ts) id a =
-    let rest = none-ended outcome ts id a in
-    elim (cases_Bool (same_id t.id id)) [ inl same ↦ rw same refl | inr other ↦ rw other (rw rest refl) ]
+-- ---- no two have the same Id
 
-pub distinct-ended : (outcome : TransactionOutcome) (ts : List Transaction) (id : Id) → AreDistinct ts → AreDistinct (change_at ts id (ended_with outcome))
-distinct-ended outcome [] id distinct = tt
-distinct-ended outcome (t ∷ ts) id distinct =
-    let rest = distinct-ended outcome ts id distinct.1 in
-    let none = none-ended outcome ts id t.id ∙ distinct.0 in
-    elim (cases_Bool (same_id t.id id)) [ inl same ↦ rw same distinct | inr other ↦ rw other (none, rest) ]
+before-apart : (a b : Id) → is_before a b ≡ true → same_id b a ≡ false
+before-apart a b first = elim (cases_Bool (same_id b a)) [
+  | inl same ↦ absurd (before_other a b first (sym (same_id-equal b a same)))
+  | inr other ↦ other
+]
 
-none-push : (ts : List Transaction) (new : Transaction) (a : Id) → list_any (λ u. same_id u.id a) ts ≡ false → same_id new.id a ≡ false → list_any (λ u. same_id u.id a) (ts ++ new ∷ []) ≡ false
-none-push [] new a none other = or_from _ _ other refl
-none-push (t ∷ ts) new a none other =
-    let parts = or_parts (same_id t.id a) (list_any (λ u. same_id u.id a) ts) none in or_from _ _ parts.0 (none-push ts new a parts.1 other)
+none-behind : (a : Id) (ts : List Transaction) → list_all (λ (u : Transaction). is_before a u.id) ts ≡ true → list_any (λ u. same_id u.id a) ts ≡ false
+none-behind a [] all = refl
+none-behind a (t ∷ ts) all =
+    let parts = and_parts (is_before a t.id) (list_all (λ (u : Transaction). is_before a u.id) ts) all in
+    or_from _ _ (before-apart a t.id parts.0) (none-behind a ts parts.1)
 
--- a transaction with a greater number than all
-pub distinct-push : (boot last : ℕ) (ts : List Transaction) (new : Transaction) → AllByRecursion (IsSoundTransaction boot last) ts → new.id.number ≡ last + 1 → AreDistinct ts → AreDistinct (ts ++ new ∷ [])
-distinct-push boot last [] new all next distinct = (refl, tt)
-distinct-push boot last (t ∷ ts) new all next distinct =
-    let other : same_id new.id t.id ≡ false = and_right _ _ (ne_eqb new.id.number t.id.number (λ e. omega (arith, e, next, all.0.number_to))) in
-    (none-push ts new t.id distinct.0 other, distinct-push boot last ts new all.1 next distinct.1)
+-- none behind the first one has its Id
+pub rise-first : (t : Transaction) (ts : List Transaction) → Rise (t ∷ ts) → list_any (λ u. same_id u.id t.id) ts ≡ false
+rise-first t ts rise = none-behind t.id ts (and_parts (list_all (λ (u : Transaction). is_before t.id u.id) ts) (each_pair (λ (t u : Transaction). is_before t.id u.id) ts) rise).0
+
+pub rise-rest : (t : Transaction) (ts : List Transaction) → Rise (t ∷ ts) → Rise ts
+rise-rest t ts rise = (and_parts (list_all (λ (u : Transaction). is_before t.id u.id) ts) (each_pair (λ (t u : Transaction). is_before t.id u.id) ts) rise).1
+
+-- ---- they go on to rise
+
+-- one that ends keeps its Id
+behind-ended : (outcome : TransactionOutcome) (a : Id) (ts : List Transaction) (id : Id)
+    → list_all (λ (u : Transaction). is_before a u.id) (change_at ts id (ended_with outcome)) ≡ list_all (λ (u : Transaction). is_before a u.id) ts
+behind-ended outcome a [] id = refl
+behind-ended outcome a (t ∷ ts) id =
+    let rest = behind-ended outcome a ts id in
+    elim (cases_Bool (same_id t.id id)) [ inl same ↦ rw same refl | inr other ↦ rw other (ap (λ b. is_before a t.id && b) rest) ]
+
+rise-changed : (outcome : TransactionOutcome) (ts : List Transaction) (id : Id)
+    → each_pair (λ (t u : Transaction). is_before t.id u.id) (change_at ts id (ended_with outcome)) ≡ each_pair (λ (t u : Transaction). is_before t.id u.id) ts
+rise-changed outcome [] id = refl
+rise-changed outcome (t ∷ ts) id =
+    let rest = rise-changed outcome ts id in
+    let here = behind-ended outcome t.id ts id in
+    elim (cases_Bool (same_id t.id id)) [
+      | inl same ↦ rw same refl
+      | inr other ↦ rw other (ap (λ b. b && each_pair (λ (t u : Transaction). is_before t.id u.id) (change_at ts id (ended_with outcome))) here
+          ∙ ap (λ b. list_all (λ (u : Transaction). is_before t.id u.id) ts && b) rest)
+    ]
+
+pub rise-ended : (outcome : TransactionOutcome) (ts : List Transaction) (id : Id) → Rise ts → Rise (change_at ts id (ended_with outcome))
+rise-ended outcome ts id rise = rise-changed outcome ts id ∙ rise
 
 -- ---- each is found by its Id
 
 -- one that is changed is found by no other Id
-pub found-ended : (outcome : TransactionOutcome) (ts : List Transaction) (id a : Id) → same_id id a ≡ false → transaction_at (change_at ts id (ended_with outcome)) a ≡ transaction_at ts a
+found-ended : (outcome : TransactionOutcome) (ts : List Transaction) (id a : Id) → same_id id a ≡ false → transaction_at (change_at ts id (ended_with outcome)) a ≡ transaction_at ts a
 found-ended outcome [] id a other = refl
 found-ended outcome (t ∷ ts) id a other =
     let rest = found-ended outcome ts id a other in
@@ -63,9 +87,9 @@ found-behind t all (u ∷ us) none found =
     let here = found.0 in
     (rw other here, found-behind t all us parts.1 found.1)
 
-pub distinct_found : (ts : List Transaction) → AreDistinct ts → AreFound ts ts
-distinct_found [] distinct = tt
-distinct_found (t ∷ ts) distinct = let same = same_id-self t.id in (rw same refl, found-behind t ts ts distinct.0 (distinct_found ts distinct.1))
+pub rise-found : (ts : List Transaction) → Rise ts → AreFound ts ts
+rise-found [] rise = tt
+rise-found (t ∷ ts) rise = let same = same_id-self t.id in (rw same refl, found-behind t ts ts (rise-first t ts rise) (rise-found ts (rise-rest t ts rise)))
 
 -- once one has ended, those are found that have other Ids
 pub found-once_ended : (outcome : TransactionOutcome) (all ts : List Transaction) (id : Id) → list_any (λ u. same_id u.id id) ts ≡ false → AreFound all ts → AreFound (change_at all id (ended_with outcome)) ts

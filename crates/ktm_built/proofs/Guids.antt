@@ -1,20 +1,18 @@
 -- Transactions by their GUIDs.
-use Rattle.std.proofs.Common.{◌≡◌, ℕ, ◌^◌, ◌<◌, ◌≤◌, ◌-◌, ◌&&◌, Bool, false, List, [], ◌∷◌, cond, Option, Some, None, refl, sym, ◌∙◌, ap, arith, inl, inr}
+use Rattle.std.proofs.Common.{◌≡◌, ℕ, ◌^◌, ◌<◌, ◌&&◌, ◌||◌, Bool, true, false, List, [], ◌∷◌, cond, nat_lt, nat_le, Option, Some, None, refl, sym, ◌∙◌, ap, arith, inl, inr}
 use Rattle.std.specs.Prelude.{bytes_eq, find, option_and_then}
-use Rattle.std.specs.List.{AllByRecursion}
-use Rattle.std.proofs.lemmas.Bool.{cases_Bool, and_right, both_ways}
-use Rattle.std.proofs.lemmas.List.Elements.{recursion_from_All}
+use Rattle.std.specs.List.{AllByRecursion, list_all}
+use Rattle.std.proofs.lemmas.Bool.{cases_Bool, and_parts, and_right, both_ways, leb-true}
 use Rattle.std.proofs.lemmas.Slice.Eq.{bytes_eq-Decides}
 use Rattle.ktm_base.specs.declared.id.Id.{Id}
 use Rattle.ktm_base.specs.declared.id.ObjectKind.{ObjectKind}
 use Rattle.ktm_base.specs.Guid.{IsId, guid_of}
 use Rattle.ktm_types.specs.declared.object.Transaction.{Transaction}
-use Rattle.ktm_world.specs.Present.{Present}
+use Rattle.ktm_world.specs.Limits.{most_number}
 use Rattle.ktm_world.specs.Transactions.{same_id, is_of, is_live}
+use Rattle.ktm_laws.specs.SoundCourse.{is_counted}
 use Rattle.ktm_built.specs.Laws.{GuidLaw, LeadsTo}
-use Rattle.ktm_built.specs.Standing.{IsSoundTransaction}
 use Rattle.ktm_built.proofs.Ids.{same_id-equal, same_id-self}
-use Rattle.ktm_built.proofs.Now.{plain_of}
 
 -- an Id has the GUID where the GUID leads to it, and only there
 leads : (kind : ObjectKind) (image : ℕ) (guid : List ℕ) (found : Option Id) (id : Id) → LeadsTo kind image guid found → IsId id → bytes_eq (guid_of kind image id) guid ≡ is_of id found
@@ -49,27 +47,30 @@ find_of ts None = none ts
     none [] = refl
     none (t ∷ ts) = ap (λ b. cond b (Some t) (find (λ t. is_live t && false) ts)) (and_right (is_live t) false refl) ∙ none ts
 
--- a sound transaction has an Id of the system
-sound_id : (boots last : ℕ) (t : Transaction) → 1 ≤ boots → boots < 2 ^ 32 → last ≤ 2 ^ 32 - 1 → IsSoundTransaction boots last t → IsId t.id
-sound_id boots last t from fits most sound = record {
-  boot_from = omega (arith, from, sound.boot_is);
-  boot_fits = omega (arith, fits, sound.boot_is);
-  number_from = sound.number_from;
-  number_fits = omega (arith, most, sound.number_to);
-}
+-- an Id that was counted is one of the system
+pub counted_id : (boots last : ℕ) (id : Id) → boots < 2 ^ 32 → is_counted boots last id ≡ true → IsId id
+counted_id boots last id fits counted =
+    let all = and_parts _ (nat_lt id.boot boots || nat_le id.number last) counted in
+    let most = and_parts _ (nat_le id.number most_number) all.0 in
+    let from = and_parts _ (nat_le 1 id.number) most.0 in
+    let boot = and_parts (nat_le 1 id.boot) (nat_le id.boot boots) from.0 in
+    record {
+      boot_from = leb-true _ _ boot.0;
+      boot_fits = omega (arith, fits, leb-true _ _ boot.1);
+      number_from = leb-true _ _ from.1;
+      number_fits = omega (arith, leb-true _ _ most.1);
+    }
 
-all_lead : (x : Present) (guid : List ℕ) (found : Option Id) (last : ℕ) (ts : List Transaction) → 1 ≤ x.recorded.boots → x.recorded.boots < 2 ^ 32 → last ≤ 2 ^ 32 - 1 → LeadsTo ObjectKind.Transaction x.recorded.image guid found
-    → AllByRecursion (IsSoundTransaction x.recorded.boots last) ts
-    → AllByRecursion (λ t. (is_live t && bytes_eq (guid_of ObjectKind.Transaction x.recorded.image t.id) guid) ≡ (is_live t && is_of t.id found)) ts
-all_lead x guid found last [] from fits most leads_to all = tt
-all_lead x guid found last (t ∷ ts) from fits most leads_to all = (
-  ap (λ b. is_live t && b) (leads ObjectKind.Transaction x.recorded.image guid found t.id leads_to (sound_id x.recorded.boots last t from fits most all.0)),
-  all_lead x guid found last ts from fits most leads_to all.1,
-)
+all_lead : (boots last image : ℕ) (guid : List ℕ) (found : Option Id) (ts : List Transaction) → boots < 2 ^ 32 → LeadsTo ObjectKind.Transaction image guid found
+    → list_all (λ (t : Transaction). is_counted boots last t.id) ts ≡ true
+    → AllByRecursion (λ t. (is_live t && bytes_eq (guid_of ObjectKind.Transaction image t.id) guid) ≡ (is_live t && is_of t.id found)) ts
+all_lead boots last image guid found [] fits leads_to counted = tt
+all_lead boots last image guid found (t ∷ ts) fits leads_to counted =
+    let parts = and_parts (is_counted boots last t.id) (list_all (λ (t : Transaction). is_counted boots last t.id) ts) counted in
+    (ap (λ b. is_live t && b) (leads ObjectKind.Transaction image guid found t.id leads_to (counted_id boots last t.id fits parts.0)), all_lead boots last image guid found ts fits leads_to parts.1)
 
 pub guid_law : GuidLaw
-guid_law x guid found standing fits leads_to =
-    let plain = plain_of x standing in
+guid_law x guid found course leads_to =
     find_alike _ _ x.transactions.items
-    (all_lead x guid found x.transactions.last_transaction x.transactions.items plain.sound.boots_from fits plain.within.last leads_to (recursion_from_All _ _ plain.sound.transactions))
+    (all_lead x.recorded.boots x.transactions.last_transaction x.recorded.image guid found x.transactions.items course.boots_fit leads_to course.transactions_counted)
     ∙ find_of x.transactions.items found

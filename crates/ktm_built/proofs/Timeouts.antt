@@ -8,21 +8,20 @@ use Rattle.ktm_world.specs.Transactions.{transaction_at}
 use Rattle.ktm_world.specs.TransactionCalls.{is_due, with_clock}
 use Rattle.ktm_built.specs.Forms.{with_rollback, with_rollback_if_due}
 use Rattle.ktm_built.specs.Laws.{TimeoutLaw}
-use Rattle.ktm_built.specs.Standing.{AreDistinct}
-use Rattle.ktm_built.proofs.Distinct.{AreFound, distinct_found, found-once_ended}
+use Rattle.ktm_built.proofs.Distinct.{AreFound, Rise, found-once_ended, rise-first, rise-found, rise-rest}
 
 -- one after another, where each is found as it was
-pub in_turn : (x : Present) (ts : List Transaction) → AreDistinct ts → AreFound x.transactions.items ts
+pub in_turn : (x : Present) (ts : List Transaction) → Rise ts → AreFound x.transactions.items ts
     → fold (λ y t. with_rollback_if_due y (transaction_at y.transactions.items t.id)) x ts ≡ fold with_rollback x (filter (is_due x.transactions.clock) ts)
-in_turn x [] distinct found = refl
-in_turn x (t ∷ ts) distinct found =
+in_turn x [] rise found = refl
+in_turn x (t ∷ ts) rise found =
     ap (λ y. fold (λ y t. with_rollback_if_due y (transaction_at y.transactions.items t.id)) y ts) (ap (with_rollback_if_due x) found.0)
     ∙ elim (cases_Bool (is_due x.transactions.clock t)) [
       | inl due ↦
-          (let then = in_turn (with_rollback x t) ts distinct.1 (found-once_ended TransactionOutcome.Aborted x.transactions.items ts t.id distinct.0 found.1) in
+          (let then = in_turn (with_rollback x t) ts (rise-rest t ts rise) (found-once_ended TransactionOutcome.Aborted x.transactions.items ts t.id (rise-first t ts rise) found.1) in
           rw due then)
-      | inr later ↦ (let then = in_turn x ts distinct.1 found.1 in rw later then)
+      | inr later ↦ (let then = in_turn x ts (rise-rest t ts rise) found.1 in rw later then)
     ]
 
 pub timeout_law : TimeoutLaw
-timeout_law x ms sound = in_turn (with_clock x ms) x.transactions.items sound.distinct (distinct_found x.transactions.items sound.distinct)
+timeout_law x ms course = in_turn (with_clock x ms) x.transactions.items course.transactions_rise (rise-found x.transactions.items course.transactions_rise)

@@ -1,5 +1,5 @@
 -- Laws of worlds that have only what built forms make.
-use Rattle.std.specs.Prelude.{◌≡◌, ℕ, ◌+◌, ◌-◌, ◌^◌, ◌==◌, ◌<◌, ◌≤◌, ◌&&◌, nat_lt, nat_le, Bool, true, false, List, [], length, filter, find, fold, All, Contains, IfSome, Option, Some, None, option_and_then}
+use Rattle.std.specs.Prelude.{◌≡◌, ℕ, ◌+◌, ◌-◌, ◌^◌, ◌==◌, ◌<◌, ◌≤◌, ◌&&◌, nat_lt, nat_le, Bool, true, false, List, [], length, filter, find, fold, IfSome, Option, Some, None, option_and_then}
 use Rattle.std.specs.List.{list_all}
 use Rattle.ktm_base.specs.declared.id.Id.{Id}
 use Rattle.ktm_base.specs.Guid.{IsId, guid_of}
@@ -23,20 +23,22 @@ use Rattle.ktm_world.specs.Durable.{Durable, empty_state, stand, after_event, ev
 use Rattle.ktm_world.specs.HandleCalls.{close_handle, duplicate_handle, exit}
 use Rattle.ktm_world.specs.Handles.{object_at}
 use Rattle.ktm_world.specs.KeyCalls.{keys_with, kv_set, kv_unset}
-use Rattle.ktm_world.specs.Keys.{OwnSettings, own_settings, stored_all, are_good_settings}
+use Rattle.ktm_world.specs.Keys.{OwnSettings, stored_all, are_good_settings}
 use Rattle.ktm_world.specs.Labels.{transaction_named}
-use Rattle.ktm_world.specs.Logs.{Group, is_up}
-use Rattle.ktm_world.specs.Outcome.{apply, only_reply}
+use Rattle.ktm_world.specs.Logs.{Group}
+use Rattle.ktm_world.specs.Outcome.{apply, is_full, only_reply}
 use Rattle.ktm_world.specs.Present.{Present}
 use Rattle.ktm_types.specs.Sizes.{frame_size, log_size}
 use Rattle.ktm_world.specs.Transactions.{same_id, transaction_at, is_live}
 use Rattle.ktm_world.specs.TransactionCalls.{create_transaction, commit_transaction, rollback_transaction, get_transaction_information, information_of, open_transaction, transaction_with, later, is_due, with_clock, tick}
 use Rattle.ktm_types.specs.Values.{IsCommand}
-use Rattle.ktm_world.specs.World.{World, present, extend, after, decide_tick, crashed, interrupted_by, interrupted_restart, found_full, opened, own_group, possible_logs}
+use Rattle.ktm_world.specs.Transcript.{Finds}
+use Rattle.ktm_world.specs.World.{World, present, extend, after, decide_tick, crashed, interrupted_by, interrupted_restart, found_full, opened, own_group}
 use Rattle.ktm_laws.specs.GoodState.{IsGoodState}
+use Rattle.ktm_laws.specs.Running.{IsRoomy, is_log_grammatical}
+use Rattle.ktm_laws.specs.SoundCourse.{IsSoundCourse}
 use Rattle.ktm_built.specs.Forms.{ComesTo, with_transaction, commit_outcome, with_commit, with_rollback, with_bound, with_handle_closed, with_process_gone, with_tick}
-use Rattle.ktm_built.specs.Spelling.{IsShortEvent, IsShortWork}
-use Rattle.ktm_built.specs.Standing.{IsBuiltNow, IsSoundNow, IsStandingNow, IsStanding, fresh}
+use Rattle.ktm_built.specs.Standing.{IsBuiltNow, IsStandingNow, IsStanding, fresh}
 
 -- ---- what a built state takes
 
@@ -89,7 +91,7 @@ FormsLaw = ((x : Present) (reply : Reply) → IsBuiltNow x → apply x (only_rep
 
 -- the passing of time rolls back the transactions that are due then, in order of creation
 abbrev pub TimeoutLaw : Type 0
-TimeoutLaw = (x : Present) (ms : ℕ) → IsSoundNow x
+TimeoutLaw = (x : Present) (ms : ℕ) → IsSoundCourse x
     → with_tick x ms ≡ fold with_rollback (with_clock x ms) (filter (is_due (later x.transactions.clock ms)) x.transactions.items)
 
 -- the transaction that a label names is the one with its Id
@@ -103,7 +105,7 @@ pub record LeadsTo (kind : ObjectKind) (image : ℕ) (guid : List ℕ) (found : 
 
 -- the live transaction with a GUID is the live one with the Id that the GUID leads to, and none where it leads to none
 abbrev pub GuidLaw : Type 0
-GuidLaw = (x : Present) (guid : List ℕ) (found : Option Id) → IsStandingNow x → x.recorded.boots < 2 ^ 32 → LeadsTo ObjectKind.Transaction x.recorded.image guid found
+GuidLaw = (x : Present) (guid : List ℕ) (found : Option Id) → IsSoundCourse x → LeadsTo ObjectKind.Transaction x.recorded.image guid found
     → transaction_with x guid ≡ option_and_then (λ id. find (λ t. is_live t && same_id t.id id) x.transactions.items) found
 
 -- a refused command only replies; a command whose effect records nothing finds the log with room; an outcome that stops the machine
@@ -119,40 +121,35 @@ DecidedLaw = ((x : Present) (process : Pid) (command : Command) (refusal : Refus
 
 -- ---- what they record
 
--- the events of a built command are built, apply to what was recorded where there are few enough, and can be spelled; so can a
--- transaction's own settings; and the passing of time records nothing
+-- the events of a built command are built, and the passing of time records nothing
 abbrev pub EventsLaw : Type 0
-EventsLaw = ((x : Present) (process : Pid) (command : Command) → is_built_command command ≡ true → IsStandingNow x
-    → let events = (decide x process command).events in
-    (list_all is_built_event events ≡ true) × (x.recorded.events + length events < 2 ^ 63 → events_apply x.recorded events ≡ true) × All (IsShortEvent x.recorded.units) events)
-    × ((x : Present) (t : Transaction) → IsStandingNow x → transaction_at x.transactions.items t.id ≡ Some t → IsShortWork x.recorded.units t.id (own_settings x.keys.own t.id))
+EventsLaw = ((x : Present) (process : Pid) (command : Command) → is_built_command command ≡ true → IsBuiltNow x → list_all is_built_event (decide x process command).events ≡ true)
     × ((x : Present) (ms : ℕ) → IsBuiltNow x → (decide_tick x ms).events ≡ [])
 
 -- ---- what they keep
 
--- a built command keeps what the machine keeps of what is so now, and so does the passing of time; and that is kept of each world that
--- stands, while its machine is up
+-- a built command keeps what the machine keeps of what is so now, and so does the passing of time
 abbrev pub NowLaw : Type 0
 NowLaw = ((x : Present) (process : Pid) (command : Command) → IsCommand command → is_built_command command ≡ true → IsStandingNow x → IsStandingNow (apply x (decide x process command)))
-    × ((w : World) → IsStanding w → is_up w.power ≡ true → IsStandingNow (present w))
     × ((x : Present) (ms : ℕ) → IsStandingNow x → IsStandingNow (apply x (decide_tick x ms)))
 
--- after a built command a world stands that stood before, while there are fewer than 2^63 events; and so it does after the passing of time
+-- after a built command a world stands that stood before, and so it does after the passing of time
 abbrev pub LawfulLaw : Type 0
-LawfulLaw = ((w : World) (process : Pid) (command : Command) → IsCommand command → is_built_command command ≡ true → (after w process command).recorded.events < 2 ^ 63
-    → IsStanding w → IsStanding (after w process command))
+LawfulLaw = ((w : World) (process : Pid) (command : Command) → is_built_command command ≡ true → IsStanding w → IsStanding (after w process command))
     × ((w : World) (ms : ℕ) → IsStanding w → IsStanding (extend w (decide_tick (present w) ms)))
 
--- a restart opens a world that stands, from a log of built events that applies, where its own group applies too
+-- a restart opens a world that stands, from a good state of keys alone whose counts do not end, and a log of built events that applies, with
+-- room for what the restart records
 abbrev pub OpenedLaw : Type 0
-OpenedLaw = (base : Durable) (room : ℕ) (log : List Group) → IsBuiltState base → is_built_log log ≡ true → log_applies base log ≡ true
-    → events_apply (stand base log) (own_group (stand base log)) ≡ true → IsStanding (opened base room log)
+OpenedLaw = (base : Durable) (room : ℕ) (log : List Group) → IsGoodState base → IsBuiltState base → IsRoomy base room → is_log_grammatical log ≡ true → is_built_log log ≡ true → log_applies base log ≡ true
+    → is_full (room - log_size log) (own_group (stand base log)) ≡ false → IsStanding (opened base room log)
 
--- what is so then is what a machine that starts from a built state has, which stands where the boot applies
+-- what is so then is what a machine that starts from a built state has, which stands where the boot applies, on an image with a number that
+-- an image can have
 abbrev pub FreshLaw : Type 0
 FreshLaw = ((base : Durable) (room : ℕ) (log : List Group) → IsBuiltState base → is_built_log log ≡ true
     → let s = stand base log in present (opened base room log) ≡ fresh s (room - log_size log - frame_size (own_group s)))
-    × ((s : Durable) (left : ℕ) → IsBuiltState s → events_apply s (own_group s) ≡ true → IsStandingNow (fresh s left))
+    × ((s : Durable) (left : ℕ) → IsBuiltState s → s.image < 2 ^ 16 → events_apply s (own_group s) ≡ true → IsStandingNow (fresh s left))
 
 -- a loss of power leaves a world that stands: by itself, in a built command, in a restart or while time passes; and so does a restart that
 -- finds a full log
@@ -160,5 +157,5 @@ abbrev pub FallenLaw : Type 0
 FallenLaw = ((w : World) → IsStanding w → IsStanding (crashed w))
     × ((w : World) (process : Pid) (command : Command) → is_built_command command ≡ true → IsStanding w → IsStanding (interrupted_by w (decide (present w) process command)))
     × ((w : World) → IsStanding w → IsStanding (interrupted_restart w))
-    × ((w : World) (log : List Group) → Contains (possible_logs w) log → IsStanding w → IsStanding (found_full w log))
+    × ((w : World) (log : List Group) → Finds w log true → IsStanding w → IsStanding (found_full w log))
     × ((w : World) (ms : ℕ) → IsStanding w → IsStanding (interrupted_by w (decide_tick (present w) ms)))

@@ -1,4 +1,3 @@
 pub mod Standing
 pub mod Forms
-pub mod Spelling
 pub mod Laws

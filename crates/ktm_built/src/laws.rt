@@ -1,7 +1,7 @@
 // Laws of worlds that have only what built forms make, each the contract of a function that does nothing.
 ghost use Rattle.ktm_built.specs.Laws.{StateLaw, BaseLaw, FormsLaw, TimeoutLaw, NamedLaw, GuidLaw, DecidedLaw, EventsLaw, NowLaw, LawfulLaw, OpenedLaw, FreshLaw, FallenLaw};
 
-use ktm_laws::law_of_good_states;
+use ktm_laws::{law_of_courses, law_of_good_states, law_of_lawful_worlds, law_of_spelling};
 
 /// What a built state takes, and what built events make of it.
 pub fn law_of_states()
@@ -40,7 +40,7 @@ pub fn law_of_decided()
     ensures { DecidedLaw }
 {}
 
-/// What a command records is built, applies, and can be spelled.
+/// What a command records is built.
 pub fn law_of_events()
     ensures { EventsLaw }
 {}
@@ -48,17 +48,24 @@ pub fn law_of_events()
 /// A command keeps what the machine keeps of what is so now.
 pub fn law_of_now()
     ensures { NowLaw }
-{}
+{
+    law_of_courses();
+    law_of_spelling();
+}
 
 /// A command keeps what the machine keeps of a world.
 pub fn law_of_lawful()
     ensures { LawfulLaw }
-{}
+{
+    law_of_lawful_worlds();
+}
 
 /// A restart opens a world that stands.
 pub fn law_of_opened()
     ensures { OpenedLaw }
-{}
+{
+    law_of_lawful_worlds();
+}
 
 /// What is so in the world that a restart opens.
 pub fn law_of_fresh()
@@ -68,4 +75,6 @@ pub fn law_of_fresh()
 /// A loss of power leaves a world that stands.
 pub fn law_of_fallen()
     ensures { FallenLaw }
-{}
+{
+    law_of_lawful_worlds();
+}

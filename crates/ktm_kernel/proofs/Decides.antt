@@ -1,8 +1,9 @@
 -- Decisions of the layers.
-use Rattle.std.proofs.Common.{◌≡◌, ℕ, ◌+◌, ◌^◌, ◌<◌, ◌≤◌, true, false, eqb, List, [], ◌∷◌, length, Option, Some, None, is_some, IfSome, Result, Ok, Err, IfOk, refl, sym, ◌∙◌, ap, subst, arith}
-use Rattle.std.proofs.lemmas.Bool.{eqb-true}
-use Rattle.std.proofs.lemmas.List.Elements.{All-weaker}
+use Rattle.std.proofs.Common.{◌≡◌, ℕ, ◌+◌, ◌^◌, ◌<◌, ◌≤◌, ◌==◌, not, true, false, eqb, nat_lt, List, [], ◌∷◌, length, Option, Some, None, is_some, IfSome, Result, Ok, Err, IfOk, refl, sym, ◌∙◌, ap, subst, arith}
+use Rattle.std.proofs.lemmas.Bool.{and_parts, eqb-true, ltb-false, not-true, or_parts}
+use Rattle.std.proofs.lemmas.List.Elements.{All-from_recursion, recursion_from_All}
 use Rattle.std.proofs.lemmas.List.Sums.{sum_by-le}
+use Rattle.std.specs.List.{AllByRecursion, list_all}
 use Rattle.std.specs.Prelude.{All}
 use Rattle.ktm_base.specs.declared.id.Id.{Id}
 use Rattle.ktm_base.specs.declared.id.Label.{Label}
@@ -26,7 +27,9 @@ use Rattle.ktm_world.specs.KeyCalls.{KeyOutcome}
 use Rattle.ktm_world.specs.HandleCalls.{duplicate_handle}
 use Rattle.ktm_world.specs.Handles.{object_at}
 use Rattle.ktm_world.specs.Labels.{with_handle}
-use Rattle.ktm_world.specs.Keys.{OwnSettings, own_settings}
+use Rattle.ktm_keyed.specs.declared.keyed.Keyed.{Keyed}
+use Rattle.ktm_types.specs.Values.{IsText}
+use Rattle.ktm_world.specs.Keys.{OwnSettings, is_bad_key, is_bad_set_to, is_good_setting, own_settings}
 use Rattle.ktm_world.specs.Outcome.{Outcome, only_reply}
 use Rattle.ktm_world.specs.Present.{Present}
 use Rattle.ktm_types.specs.Sizes.{event_size, setting_size}
@@ -34,13 +37,19 @@ use Rattle.ktm_world.specs.Transactions.{transaction_at}
 use Rattle.ktm_world.specs.TransactionCalls.{commit_transaction, create_transaction, get_transaction_information, information_of, opened_object, tick}
 use Rattle.ktm_world.specs.Uses.{key_room}
 use Rattle.ktm_built.specs.Forms.{ComesTo, commit_events, commit_outcome, with_bound, with_tick, with_transaction}
-use Rattle.ktm_built.specs.Spelling.{IsShortSetting}
 use Rattle.ktm_built.specs.Standing.{IsBuiltNow, IsStandingNow}
 use Rattle.ktm_built.proofs.Forms.{forms_law}
-use Rattle.ktm_built.proofs.Now.{events_law}
+use Rattle.ktm_built.proofs.Found.{transaction_at-of}
+use Rattle.ktm_built.proofs.Guids.{counted_id}
+use Rattle.ktm_laws.specs.SoundCourse.{is_counted}
+use Rattle.ktm_laws.proofs.Elements.{list_all-at}
+use Rattle.ktm_laws.proofs.OwnSettings.{own_settings-good}
+use Rattle.ktm_laws.proofs.OwnTexts.{HasTextKey, texts-own_settings}
+use Rattle.ktm_laws.proofs.Passing.{All-by}
+use Rattle.ktm_world.proofs.KeyLemmas.{length-own_settings-le}
 use Rattle.ktm_kernel.specs.declared.settlement.Settlement.{Settlement}
 use Rattle.ktm_kernel.specs.declared.settlement.Settlement.TheVariants.{Nothing, Create, Commit, Tick}
-use Rattle.ktm_built.proofs.Limits.{within_limits}
+use Rattle.ktm_built.proofs.Limits.{within_each}
 use Rattle.ktm_kernel.specs.declared.decide.Asked.{Asked}
 use Rattle.ktm_kernel.specs.Route.{asked_outcome}
 use Rattle.ktm_kernel.proofs.Routes.{up_or}
@@ -114,7 +123,7 @@ tick_decided j m ms events up standing holds =
     let x = now_of j (held m) in
     subst (λ o. Decides j (held m) o Done (Tick ms) events m) (sym (up_or x [] (tick x ms) up))
     (quiet_decided j (held m) m (tick x ms) Done (with_tick x ms) (Tick ms) events (forms_law.10 x ms standing.built) refl refl
-    (standing.sound.distinct, (within_limits x standing.built standing.sound.units_from standing.limits).live) holds)
+    (standing.course.transactions_rise, (within_each x standing.built standing.within).live) holds)
 
 -- ---- CreateTransaction
 
@@ -188,36 +197,75 @@ commit_decided j h n t events built there same may holds = record {
 
 -- ---- what is committed has bytes, and room in the list of events
 
-short_value-of : (value : Option (List ℕ)) → IfSome value (λ bytes. length bytes ≤ 960) → IfSome value (λ bytes. length bytes < 2 ^ 16)
-short_value-of None short = tt
-short_value-of (Some value) short = omega arith
+-- a value that may be set is short
+short_value-of : (value : Option (List ℕ)) → is_bad_set_to value ≡ false → IfSome value (λ bytes. length bytes ≤ 960)
+short_value-of None good = tt
+short_value-of (Some value) good = ltb-false _ _ good
 
-pub spellable : (x : Present) (t : Transaction) → IsStandingNow x → transaction_at x.transactions.items t.id ≡ Some t → x.recorded.units ≤ 1024 → AreSpellableSettings (own_settings x.keys.own t.id)
-spellable x t standing there units =
-    let short = events_law.1 x t standing there in
+-- a setting within the limits is short
+short_setting : (s : Keyed (Option (List ℕ))) → is_good_setting s ≡ true → (length s.key ≤ 64) × IfSome s.value (λ bytes. length bytes ≤ 960)
+short_setting s good =
+    let parts = and_parts (not (is_bad_key s.key)) (not (is_bad_set_to s.value)) good in
+    let key = or_parts (length s.key == 0) (nat_lt 64 (length s.key)) (not-true (is_bad_key s.key) parts.0) in
+    (ltb-false _ _ key.1, short_value-of s.value (not-true (is_bad_set_to s.value) parts.1))
+
+fits_two : (value : Option (List ℕ)) → IfSome value (λ bytes. length bytes ≤ 960) → IfSome value (λ bytes. length bytes < 2 ^ 16)
+fits_two None short = tt
+fits_two (Some value) short = omega arith
+
+spellable_setting : (s : Keyed (Option (List ℕ))) → is_good_setting s ≡ true → IsText s.key → IsSpellableSetting s
+spellable_setting s good text = let short = short_setting s good in record { text = text; short_key = omega (arith, short.0); short_value = fits_two s.value short.1 }
+
+spellable_settings : (ss : OwnSettings) → list_all is_good_setting ss ≡ true → AllByRecursion HasTextKey ss → AllByRecursion IsSpellableSetting ss
+spellable_settings [] good texts = tt
+spellable_settings (s ∷ ss) good texts =
+    let parts = and_parts (is_good_setting s) (list_all is_good_setting ss) good in (spellable_setting s parts.0 texts.0, spellable_settings ss parts.1 texts.1)
+
+-- a transaction has no more settings than there may be keys and changes
+few_settings : (x : Present) (id : Id) → IsStandingNow x → length (own_settings x.keys.own id) ≤ x.recorded.units + x.recorded.units
+few_settings x id standing =
+    let within = within_each x standing.built standing.within in
+    let less = length-own_settings-le x.keys id in
+    omega (arith, less, within.keys, within.changes)
+
+pub spellable : (x : Present) (t : Transaction) → IsStandingNow x → x.recorded.units ≤ 1024 → AreSpellableSettings (own_settings x.keys.own t.id)
+spellable x t standing units =
+    let good = own_settings-good x.keys.own t.id standing.settings in
+    let texts = texts-own_settings x.keys.own t.id (recursion_from_All _ _ standing.texts.own) in
+    let few = few_settings x t.id standing in
     record {
-      rising = short.rising;
-      few = omega (arith, short.few);
-      each = All-weaker IsShortSetting IsSpellableSetting
-          (λ s within. record { text = within.text; short_key = omega (arith, within.short_key); short_value = short_value-of s.value within.short_value })
-          (own_settings x.keys.own t.id) short.short;
+      rising = good.0;
+      few = omega (arith, few, units);
+      each = All-from_recursion IsSpellableSetting (own_settings x.keys.own t.id) (spellable_settings (own_settings x.keys.own t.id) good.1 (recursion_from_All _ _ texts));
     }
 
-short_size : (value : Option (List ℕ)) (key : List ℕ) → length key ≤ 64 → IfSome value (λ bytes. length bytes ≤ 960) → setting_size (record { key = key; value = value }) ≤ 1028
-short_size None key k v = omega arith
-short_size (Some value) key k v = omega arith
+size_of : (value : Option (List ℕ)) (key : List ℕ) → length key ≤ 64 → IfSome value (λ bytes. length bytes ≤ 960) → setting_size (record { key = key; value = value }) ≤ 1028
+size_of None key k v = omega arith
+size_of (Some value) key k v = omega arith
 
-pub fits : (x : Present) (t : Transaction) (settings : OwnSettings) → IsStandingNow x → transaction_at x.transactions.items t.id ≡ Some t → x.recorded.units ≤ 1024 → settings ≡ own_settings x.keys.own t.id
+settings_size : (ss : OwnSettings) → list_all is_good_setting ss ≡ true → AllByRecursion (λ (s : Keyed (Option (List ℕ))). setting_size s ≤ 1028) ss
+settings_size [] good = tt
+settings_size (s ∷ ss) good =
+    let parts = and_parts (is_good_setting s) (list_all is_good_setting ss) good in
+    let short = short_setting s parts.0 in
+    (size_of s.value s.key short.0 short.1, settings_size ss parts.1)
+
+pub fits : (x : Present) (t : Transaction) (settings : OwnSettings) → IsStandingNow x → x.recorded.units ≤ 1024 → settings ≡ own_settings x.keys.own t.id
     → event_size (Single t.id (Settings settings)) + 9 ≤ area_len x.recorded.units
-fits x t settings standing there units own =
-    let short = events_law.1 x t standing there in
-    let each : All (λ s. setting_size s ≤ 1028) (own_settings x.keys.own t.id) = All-weaker IsShortSetting (λ s. setting_size s ≤ 1028) (λ s within. short_size s.value s.key within.short_key within.short_value) (own_settings x.keys.own t.id) short.short in
+fits x t settings standing units own =
+    let good = own_settings-good x.keys.own t.id standing.settings in
+    let each : All (λ (s : Keyed (Option (List ℕ))). setting_size s ≤ 1028) (own_settings x.keys.own t.id) = All-from_recursion _ _ (settings_size (own_settings x.keys.own t.id) good.1) in
     let size = sum_by-le setting_size 1028 (own_settings x.keys.own t.id) each in
-    rw own (omega (arith, size, short.few))
+    let few = few_settings x t.id standing in
+    rw own (omega (arith, size, few))
 
 -- the transaction's Id can be spelled
 pub committing_id : (x : Present) (t : Transaction) → IsStandingNow x → transaction_at x.transactions.items t.id ≡ Some t → IsSpellableId t.id
-committing_id x t standing there = let short = events_law.1 x t standing there in record { boot_from = short.boot_from; number_from = short.number_from }
+committing_id x t standing there =
+    let test = λ (u : Transaction). is_counted x.recorded.boots x.transactions.last_transaction u.id in
+    let counted = transaction_at-of (λ u. test u ≡ true) x.transactions.items t.id t (All-by (λ u. test u ≡ true) x.transactions.items (list_all-at test x.transactions.items standing.course.transactions_counted)) there in
+    let id = counted_id x.recorded.boots x.transactions.last_transaction t.id standing.course.boots_fit counted in
+    record { boot_from = id.boot_from; number_from = id.number_from }
 
 -- what it records, where it set something, and where it did not
 pub some_recorded : (id : Id) (settings : OwnSettings) → eqb (length settings) 0 ≡ false → Single id (Settings settings) ∷ [] ≡ commit_events id settings

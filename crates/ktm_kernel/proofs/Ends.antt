@@ -1,17 +1,14 @@
 -- How an outcome ends: recorded, refused by a full log, or cut off.
-use Rattle.std.proofs.Common.{◌≡◌, ◌≢◌, ◌⊎◌, ℕ, ◌+◌, ◌-◌, ◌*◌, ◌^◌, ◌<◌, ◌≤◌, ◌&&◌, Bool, true, false, cond, List, [], ◌∷◌, ◌++◌, length, Option, Result, Ok, Err, refl, sym, ◌∙◌, ap, subst, arith, inl, inr}
+use Rattle.std.proofs.Common.{◌≡◌, ◌≢◌, ◌⊎◌, ℕ, ◌-◌, ◌≤◌, ◌&&◌, Bool, true, false, cond, List, [], ◌∷◌, ◌++◌, Option, Result, Ok, Err, refl, sym, ◌∙◌, ap, subst, arith, inl, inr}
 use Rattle.std.proofs.Math.Bool.{and-false}
-use Rattle.std.proofs.lemmas.Bool.{ltb-false, cases_eq, both_ways}
+use Rattle.std.proofs.lemmas.Bool.{cases_eq, both_ways}
 use Rattle.std.proofs.lemmas.List.{append-nil}
-use Rattle.std.proofs.lemmas.List.Sums.{sum_by-cons}
-use Rattle.std.specs.Prelude.{IsTrue, sum_by}
+use Rattle.std.specs.Prelude.{IsTrue}
 use Rattle.ktm_base.specs.declared.refusal.Refusal.TheVariants.{LogFull, MachineDown}
 use Rattle.ktm_base.specs.Disk.{DiskState}
 use Rattle.ktm_base.specs.Told.{Tells}
-use Rattle.ktm_event.proofs.LeastSizes.{event_size-least}
 use Rattle.ktm_event.specs.Kept.{EventsState, Holds}
-use Rattle.ktm_journal.specs.Image.{JournalState, JournalAt, LeavesGroupOrNot, log_area}
-use Rattle.ktm_log.specs.declared.area.Area.{Area}
+use Rattle.ktm_journal.specs.Image.{JournalState, JournalAt, LeavesGroupOrNot}
 use Rattle.ktm_log.specs.declared.fault.AppendFault.{AppendFault}
 use Rattle.ktm_log.specs.declared.fault.AppendFault.TheVariants.{Down, Full}
 use Rattle.ktm_log.specs.Fault.{IfAppendDown}
@@ -21,12 +18,11 @@ use Rattle.ktm_types.specs.declared.reply.Reply.TheVariants.{Refused}
 use Rattle.ktm_world.specs.Logs.{Group, as_groups}
 use Rattle.ktm_world.specs.Outcome.{Outcome, apply, is_full, only_reply, within_log}
 use Rattle.ktm_world.specs.Present.{Present}
-use Rattle.ktm_types.specs.Sizes.{event_size, frame_size, log_size}
 use Rattle.ktm_built.specs.Standing.{IsBuiltNow}
 use Rattle.ktm_built.proofs.Forms.{forms_law}
 use Rattle.ktm_kernel.specs.declared.settlement.Settlement.{Settlement}
 use Rattle.ktm_kernel.specs.Decided.{Decides}
-use Rattle.ktm_kernel.specs.Done.{Ends, FewEvents, IsDone, IsCutOff, LeavesWithOr, TouchesNothing, fallen}
+use Rattle.ktm_kernel.specs.Done.{Ends, IsDone, IsCutOff, LeavesWithOr, TouchesNothing, fallen}
 use Rattle.ktm_kernel.specs.Stands.{KernelState}
 use Rattle.ktm_kernel.specs.Memory.{Held, IsRoomy, MemoryState, appended, held, now_of, settled}
 
@@ -39,26 +35,9 @@ with_room_done x o room = ap (λ b. cond b (record (only_reply x (Refused LogFul
 with_full_log : (x : Present) (o : Outcome) → is_full x.machine.left o.events ≡ true → within_log x o ≡ record (only_reply x (Refused LogFull)) { stops = true }
 with_full_log x o full = ap (λ b. cond b (record (only_reply x (Refused LogFull)) { stops = true }) o) full
 
--- each event has five bytes at least
-all_sized : (es : List Event) → 5 * length es ≤ sum_by event_size es
-all_sized [] = omega arith
-all_sized (e ∷ es) = omega (arith, sum_by-cons event_size e es, event_size-least e, all_sized es)
-
 -- the journal with a group more is as the machine keeps it
-pub kept : (j k : JournalState) (e f : EventsState) (group : Group) → k ≡ appended j group → IsRoomy j e → f.room ≡ e.room → j.log.area ≡ log_area j.units → 5 * j.events ≤ j.log.end
-    → IsRoomy k f × (k.log.area ≡ log_area k.units) × (5 * k.events ≤ k.log.end)
-kept j k e f group grown roomy room area counted = rw grown (record { most = roomy.most; room = omega (arith, roomy.room, room) }, area, more group)
-  where
-    more : (group : Group) → 5 * (j.events + length group) ≤ j.log.end + log_size (as_groups group)
-    more [] = omega (arith, counted)
-    more (x ∷ xs) = omega (arith, counted, all_sized (x ∷ xs))
-
--- so there are numbers for the events that it has room for
-few : (j : JournalState) (es : List Event) → j.units ≤ 1024 → j.log.area ≡ log_area j.units → 5 * j.events ≤ j.log.end → is_full (j.log.area.len - j.log.end) es ≡ false
-    → es ≡ [] ⊎ (j.events + length es < 2 ^ 63)
-few j [] most area counted room = inl refl
-few j (e ∷ es) most area counted room =
-    inr (omega (arith, most, ap (λ (a : Area). a.len) area, counted, ltb-false (j.log.area.len - j.log.end) (frame_size (e ∷ es) + 1) room, all_sized (e ∷ es)))
+pub kept : (j k : JournalState) (e f : EventsState) (group : Group) → k ≡ appended j group → IsRoomy j e → f.room ≡ e.room → IsRoomy k f
+kept j k e f group grown roomy room = rw grown (record { most = roomy.most; room = omega (arith, roomy.room, room) })
 
 of_group : (events : EventsState) (j : JournalState) (log : List Group) (now : Option DiskState) → 1 ≤ events.count → (group : Group) → Holds events group
     → Tells now (LeavesGroupOrNot j log group) → Tells now (LeavesWithOr j log (as_groups group))
@@ -99,24 +78,18 @@ module _ (j : JournalState) (h : Held) (o : Outcome) (reply : Reply) (then : Set
   abbrev pub x : Present
   x = now_of j h
 
-  few_events : j.units ≤ 1024 → j.log.area ≡ log_area j.units → 5 * j.events ≤ j.log.end → is_full (j.log.area.len - j.log.end) o.events ≡ false → FewEvents x (within_log x o)
-  few_events most area counted room =
-      subst (λ (d : Outcome). FewEvents x d) (sym (with_room_done x o room)) (few j o.events most area counted room)
-
   -- the group was recorded, where there is one, and memory has settled
   pub done : (k : JournalState) (m : MemoryState) (before now : Option DiskState)
-      → j.units ≤ 1024 → j.log.area ≡ log_area j.units → 5 * j.events ≤ j.log.end
       → ((group : Group) → Holds events group → k ≡ appended j group) → ((i : JournalState) → now_of i (held m) ≡ settled (now_of i (held n)) then)
       → ((group : Group) → Holds events group → is_full (j.log.area.len - j.log.end) group ≡ false)
       → ((log : List Group) (group : Group) → Holds events group → Tells before (JournalAt j log) → Tells now (JournalAt k (log ++ as_groups group)))
       → IsDone (record { now = x; journal = j }) (within_log x o) reply (record { now = now_of k (held m); journal = k }) before now
-  done k m before now most area counted grows settles room log =
+  done k m before now grows settles room log =
       let same = with_room_done x o (room o.events decided.records) in
       let grown = grows o.events decided.records in
       record {
         says = decided.says ∙ ap (λ (d : Outcome). d.reply) (sym same);
         state = ap (λ i. now_of i (held m)) grown ∙ settles (appended j o.events) ∙ decided.comes_to ∙ ap (apply x) (sym same);
-        few = few_events most area counted (room o.events decided.records);
         units = ap (λ (i : JournalState). i.units) grown;
         image = ap (λ (i : JournalState). i.image) grown;
         log = λ gs at. subst (λ (d : Outcome). Tells now (JournalAt k (gs ++ as_groups d.events))) (sym same) (log gs o.events decided.records at);
@@ -133,7 +106,6 @@ module _ (j : JournalState) (h : Held) (o : Outcome) (reply : Reply) (then : Set
       record {
         says = ap (λ (d : Outcome). d.reply) (sym stops);
         state = ap (λ i. now_of i (held m)) same ∙ ap (now_of j) (falls ∙ ap (λ (g : Held). record g { is_up = false }) was) ∙ fallen_is built ∙ ap (apply x) (sym stops);
-        few = inl (ap (λ (d : Outcome). d.events) stops);
         units = ap (λ (i : JournalState). i.units) same;
         image = ap (λ (i : JournalState). i.image) same;
         log = λ gs at. subst (λ (es : List Event). Tells now (JournalAt k (gs ++ as_groups es))) (ap (λ (d : Outcome). d.events) (sym stops))
@@ -147,18 +119,16 @@ module _ (j : JournalState) (h : Held) (o : Outcome) (reply : Reply) (then : Set
 
   -- the power went
   pub cut : (k : JournalState) (m : MemoryState) (before now : Option DiskState)
-      → j.units ≤ 1024 → j.log.area ≡ log_area j.units → 5 * j.events ≤ j.log.end
       → k ≡ j → held m ≡ record (held n) { is_up = false } → (Holds events [] → ⊥)
       → ((group : Group) → Holds events group → is_full (j.log.area.len - j.log.end) group ≡ false)
       → ((log : List Group) (group : Group) → Holds events group → Tells before (JournalAt j log) → Tells now (LeavesWithOr j log (as_groups group)))
       → IsCutOff (record { now = x; journal = j }) (within_log x o) (Refused MachineDown) (record { now = now_of k (held m); journal = k }) before now
-  cut k m before now most area counted same falls some room left =
+  cut k m before now same falls some room left =
       let is = with_room_done x o (room o.events decided.records) in
       let was = decided.waits (λ none. some (subst (Holds events) none decided.records)) in
       record {
         says = refl;
         state = ap (λ i. now_of i (held m)) same ∙ ap (now_of j) (falls ∙ ap (λ (g : Held). record g { is_up = false }) was);
-        few = few_events most area counted (room o.events decided.records);
         journal = same;
         log = λ gs at. subst (λ (d : Outcome). Tells now (LeavesWithOr j gs (as_groups d.events))) (sym is) (left gs o.events decided.records at);
       }

@@ -61,8 +61,8 @@ pub left_up : (k : KernelState) (told : Option DiskState) (w : World) → w.powe
 left_up k told w on stands = Tells-map told (JournalAt k.journal (stands.before ++ w.log)) (LeavesPossible k.journal stands.before w) stands.disk
     (λ s at image left. (
       w.log,
-      log_is_possible w on (stands.standing.kept (ap is_up on)),
-      record { is = what_is_left k.journal (stands.before ++ w.log) s image at left; built = both_built k.journal stands.before w stands.began w.log stands.standing.built.log; applies = both_apply k.journal stands.before w stands.began w.log (stands.standing.lawful.stands (ap is_up on)).applies },
+      log_is_possible w on (stands.standing.running.kept),
+      record { is = what_is_left k.journal (stands.before ++ w.log) s image at left; built = both_built k.journal stands.before w stands.began w.log stands.standing.built.log; applies = both_apply k.journal stands.before w stands.began w.log stands.standing.running.applies },
     ))
 
 left_by : (power : Power) (k : KernelState) (told : Option DiskState) (w : World) → w.power ≡ power → StandsBy (is_up power) k told w → Tells told (LeavesStates w)

@@ -2,20 +2,23 @@
 use Rattle.std.proofs.Common.{◌≡◌, ℕ, ◌+◌, ◌-◌, ◌^◌, ◌≤◌, ◌<◌, nat_le, true, false, List, [], ◌∷◌, ◌++◌, length, Bool, Ok, Err, Option, None, Some, refl, sym, ◌∙◌, ap, subst, arith, inl, inr, append_assoc}
 use Rattle.std.proofs.lemmas.Bool.{and_from, and_parts, eq-eqb, le-leb, lt-ltb, false_from_ne_true}
 use Rattle.std.proofs.lemmas.List.Folds.{list_all-append}
+use Rattle.std.proofs.lemmas.List.Sums.{sum_by-cons}
 use Rattle.std.specs.List.{list_all}
 use Rattle.std.specs.Prelude.{IsTrue}
 use Rattle.ktm_base.specs.Disk.{DiskState, DiskStatus, IsSafe}
+use Rattle.ktm_base.specs.Grammar.{IsRow}
 use Rattle.ktm_base.specs.Told.{IfTold, Tells}
 use Rattle.ktm_base.proofs.Images.{safe_law}
 use Rattle.ktm_base.proofs.ToldSteps.{Tells-map}
 use Rattle.ktm_log.specs.declared.area.Area.{Area}
 use Rattle.ktm_log.specs.Log.{LogState}
-use Rattle.ktm_journal.specs.Image.{AreInLog, JournalState, JournalAt, IsImage, HoldsLog, IsFormatted, StandsFor, LeavesGroupOrNot, left_after, log_area}
+use Rattle.ktm_journal.specs.Image.{AreInLog, HoldGroups, JournalState, JournalAt, IsImage, HoldsLog, IsFormatted, StandsFor, LeavesGroupOrNot, left_after, log_area}
 use Rattle.ktm_journal.proofs.LogLoads.{journal_left}
 use Rattle.ktm_journal.proofs.OneImage.{one_image}
 use Rattle.ktm_event.specs.Kept.{EventsState, Holds}
 use Rattle.ktm_types.specs.declared.event.Event.{Event}
-use Rattle.ktm_types.specs.declared.event.Event.TheVariants.{Boot}
+use Rattle.ktm_types.specs.declared.event.Event.TheVariants.{Boot, Single}
+use Rattle.ktm_types.specs.EventGrammar.{IsEventOf, IsGroupOf}
 use Rattle.ktm_world.specs.Built.{is_built_event, is_built_log, IsBuiltState}
 use Rattle.ktm_world.specs.Durable.{Durable, empty_state, stand, fact_applies, fact_of, is_within_limits, events_apply, log_applies}
 use Rattle.ktm_types.specs.Sizes.{frame_size, log_size}
@@ -25,9 +28,12 @@ use Rattle.ktm_world.specs.World.{own_group, opened, present}
 use Rattle.ktm_world.proofs.BuiltStates.{built_log, built_stand, own_is, within_built}
 use Rattle.ktm_world.proofs.Durables.{stand-append, log_applies-append}
 use Rattle.ktm_world.proofs.SizeLemmas.{log_size-append}
-use Rattle.ktm_built.specs.Standing.{IsStanding, IsStandingNow}
-use Rattle.ktm_built.proofs.Worlds.{fresh_law, opened_law}
-use Rattle.ktm_built.specs.Standing.{fresh}
+use Rattle.ktm_built.specs.Laws.{BaseLaw, OpenedLaw, names_boot}
+use Rattle.ktm_built.specs.Standing.{IsStanding, IsStandingNow, fresh}
+use Rattle.ktm_built.proofs.Worlds.{fresh_law}
+use Rattle.ktm_laws.specs.GoodState.{IsGoodState}
+use Rattle.ktm_laws.specs.Running.{IsRoomy, is_log_grammatical}
+use Rattle.ktm_laws.proofs.Counting.{log-boots, log-events, own-frame, room-for}
 use Rattle.ktm_kernel.specs.Memory.{Held, MemoryState, held, now_of}
 use Rattle.ktm_object.specs.Table.{handles_of}
 use Rattle.ktm_world.specs.Keys.{Store}
@@ -35,11 +41,36 @@ use Rattle.ktm_log.specs.declared.fault.AppendFault.TheVariants.{Full}
 use Rattle.ktm_kernel.specs.Restarts.{HoldsBoth, base_of, is_full_for_own, Started, LeavesOwnOrNot}
 use Rattle.ktm_kernel.specs.Stands.{KernelState, IsReady}
 
+-- ---- what the grammar has
+
+-- it has no transaction of no boot
+event_named : (event : Event) (bytes : List ℕ) → IsEventOf event bytes → names_boot event ≡ true
+event_named (Single id part) bytes (rest, split, (first, second, parts, is_id, is_part)) = le-leb 1 id.boot is_id.boot_from
+event_named _ bytes is = refl
+
+row_named : (events : List Event) (bytes : List ℕ) → IsRow IsEventOf events bytes → list_all names_boot events ≡ true
+row_named [] bytes is = refl
+row_named (event ∷ events) bytes (first, second, split, is, more) = and_from _ _ (event_named event first is) (row_named events second more)
+
+group_named : (events : List Event) (bytes : List ℕ) → IsGroupOf events bytes → list_all names_boot events ≡ true
+group_named [] bytes is = absurd is
+group_named (event ∷ events) bytes (count, row, split, is_count, is_row) = row_named (event ∷ events) row is_row
+
+log_named : (before behind : List Group) (payloads : List (List ℕ)) → HoldGroups (before ++ behind) payloads → list_all (list_all names_boot) before ≡ true
+log_named [] behind payloads hold = refl
+log_named (group ∷ before) behind [] hold = absurd hold
+log_named (group ∷ before) behind (payload ∷ payloads) hold = and_from _ _ (group_named group payload hold.0) (log_named before behind payloads hold.1)
+
+-- ---- what a restart reads
+
 -- the state that was read is what the groups that are there come to
 pub record IsFound (units image : ℕ) (before log : List Group) (state : Durable) : Type 0 where
   pub units_are : state.units ≡ units
   pub image_is : state.image ≡ image
   pub is : state ≡ stand (base_of units image before) log
+  pub least : 16 ≤ units
+  -- what the run began with names boots that there were
+  pub named : list_all (list_all names_boot) before ≡ true
   pub built : IsTrue (is_built_log (before ++ log))
   pub applies : IsTrue (log_applies (empty_state units image) (before ++ log))
 
@@ -51,6 +82,8 @@ found_in units image before log state bytes stands holds =
       image_is = i;
       is = stands.comes_to ∙ ap (λ n. stand (empty_state n state.image) stands.log) u ∙ ap (λ n. stand (empty_state units n) stands.log) i
           ∙ ap (λ (gs : List Group). stand (empty_state units image) gs) l ∙ stand-append (empty_state units image) before log;
+      least = holds.is.formatted.headed.least;
+      named = log_named before log holds.is.payloads holds.is.groups;
       built = holds.built;
       applies = holds.applies;
     }
@@ -159,8 +192,22 @@ module _ (units image : ℕ) (before log : List Group) (state : Durable) (is : I
   own_applies : events_apply state (own_group state) ≡ true → IsTrue (events_apply (stand base log) (own_group (stand base log)))
   own_applies may = subst (λ (s : Durable). IsTrue (events_apply s (own_group s))) is.is may
 
-  standing : events_apply state (own_group state) ≡ true → IsStanding (opened base (left_after units before) log)
-  standing may = opened_law base (left_after units before) log built_base made.1 applied.1 (own_applies may)
+  good_base : BaseLaw → image < 2 ^ 16 → IsGoodState base
+  good_base bases number = bases units image before is.least number made.0 applied.0 is.named
+
+  -- its counts do not end, since each event and each boot takes bytes of the log
+  roomy : units ≤ 1024 → is_full_for_own units image before log ≡ false → IsRoomy base (left_after units before)
+  roomy most fits =
+      let events = log-events before (empty_state units image) in
+      let boots = log-boots before (empty_state units image) applied.0 in
+      let own = own-frame (stand base log) in
+      let left = room-for (left_after units before - log_size log) (own_group (stand base log)) fits in
+      let one = sum_by-cons frame_size (own_group (stand base log)) [] in
+      record { events = omega (arith, events, own, left, one, most); boots = omega (arith, boots, own, left, one, most) }
+
+  standing : BaseLaw → OpenedLaw → image < 2 ^ 16 → units ≤ 1024 → is_full_for_own units image before log ≡ false → is_log_grammatical log ≡ true → IsStanding (opened base (left_after units before) log)
+  standing bases opens number most fits grammatical =
+      opens base (left_after units before) log (good_base bases number) built_base (roomy most fits) grammatical made.1 applied.1 fits
 
   -- what is so then is that of the world that was opened
   fresh_is : (left : ℕ) → left ≡ left_after units before - log_size log - 14 → fresh state left ≡ present (opened base (left_after units before) log)
@@ -175,18 +222,18 @@ module _ (units image : ℕ) (before log : List Group) (state : Durable) (is : I
   -- of the journal that the group of the restart was added to
   module _ (may : events_apply state (own_group state) ≡ true) (j k : JournalState) (units_are : j.units ≡ state.units) (image_is : j.image ≡ state.image) (old new : Option DiskState)
       (at : Tells old (JournalAt j (before ++ log))) (events : EventsState) (holds : Holds events (own_group state)) where
-    pub started : state.image < 2 ^ 16 → (kernel : KernelState) (left count : ℕ) → kernel.journal ≡ k → kernel.now ≡ fresh state left → left ≡ k.log.area.len - k.log.end → count ≡ state.events
+    pub started : BaseLaw → OpenedLaw → state.image < 2 ^ 16 → state.units ≤ 1024 → (kernel : KernelState) (left count : ℕ) → kernel.journal ≡ k → kernel.now ≡ fresh state left → left ≡ k.log.area.len - k.log.end → count ≡ state.events
         → k.units ≡ j.units → k.image ≡ j.image → k.log.area ≡ j.log.area → ((group : Group) → Holds events group → k.log.end ≡ j.log.end + frame_size group)
         → is_full_in (j.log.area.len - j.log.end) (own_group state) ≡ false
         → ((gs : List Group) (group : Group) → Holds events group → Tells old (JournalAt j gs) → Tells new (JournalAt k (gs ++ group ∷ [])))
         → Started units image before log kernel count 0 new
-    started number kernel left count journal now left_is count_is k_units k_image area end fits added = record {
+    started bases opens number most kernel left count journal now left_is count_is k_units k_image area end fits added = record {
       room = sym (is_full j old units_are at) ∙ fits;
-      stands = record {
+      stands = λ grammatical. record {
         now = now ∙ fresh_is left (omega (arith, left_is, ap (λ (a : Area). a.len) area, end (own_group state) holds, left_found j old units_are at, own_size state built_state_is));
-        standing = standing may;
+        standing = standing bases opens (subst (λ (n : ℕ). n < 2 ^ 16) is.image_is number) (subst (λ (n : ℕ). n ≤ 1024) is.units_are most) (sym (is_full j old units_are at) ∙ fits) grammatical;
         before = before;
-        began = rw (journal, k_units ∙ units_are ∙ is.units_are, k_image ∙ image_is ∙ is.image_is) (record { number = subst (λ (n : ℕ). n < 2 ^ 16) is.image_is number; built = made.0; applies = applied.0; base = refl; room = refl });
+        began = rw (journal, k_units ∙ units_are ∙ is.units_are, k_image ∙ image_is ∙ is.image_is) (record { built = made.0; applies = applied.0; base = refl; room = refl });
         disk = subst (λ i. Tells new (JournalAt i (before ++ (log ++ own_group (stand base log) ∷ [])))) (sym journal)
             (subst (λ (gs : List Group). Tells new (JournalAt k gs)) (append_assoc before log (own_group (stand base log) ∷ []))
             (subst (λ (s : Durable). Tells new (JournalAt k ((before ++ log) ++ own_group s ∷ []))) is.is (added (before ++ log) (own_group state) holds at)));
@@ -226,12 +273,12 @@ fresh_now k h state left built units image events left_is is =
     (ap (λ (s : Durable). fresh (record s { events = state.events; boots = state.boots; keys = state.keys }) (k.log.area.len - k.log.end)) (sym built))
 
 -- a machine that started is ready for calls
-pub fresh_ready : (kernel : KernelState) (state : Durable) (left : ℕ) (told : Option DiskState) (status : DiskStatus) → kernel.now ≡ fresh state left → IsBuiltState state → events_apply state (own_group state) ≡ true
+pub fresh_ready : (kernel : KernelState) (state : Durable) (left : ℕ) (told : Option DiskState) (status : DiskStatus) → kernel.now ≡ fresh state left → IsBuiltState state → state.image < 2 ^ 16 → events_apply state (own_group state) ≡ true
     → status.is_down ≡ false → status.pending ≡ 0 → IfTold told (λ s. IsFormatted kernel.journal.units kernel.journal.image s.seen) → IsReady kernel told status × (kernel.now.machine.is_up ≡ true)
-fresh_ready kernel state left told status now built may up settled formatted = (
+fresh_ready kernel state left told status now built number may up settled formatted = (
   record {
     powered = record { power = λ on. up; settled = λ on. settled; image = λ on. formatted };
-    standing = λ on. subst IsStandingNow (sym now) (fresh_law.1 state left built may);
+    standing = λ on. subst IsStandingNow (sym now) (fresh_law.1 state left built number may);
   },
   ap (λ x. x.machine.is_up) now,
 )

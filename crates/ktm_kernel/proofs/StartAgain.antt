@@ -1,5 +1,8 @@
 -- A machine that is down, whose disk has the power back, and is started again.
 use Rattle.std.proofs.Common.{◌≡◌, ℕ, ◌+◌, ◌-◌, ◌*◌, ◌≤◌, Bool, true, false, List, [], ◌∷◌, ◌++◌, length, Option, None, Some, refl, sym, ◌∙◌, ap, subst, arith, inl, inr}
+use Rattle.std.proofs.lemmas.Bool.{and_parts}
+use Rattle.std.proofs.lemmas.List.Folds.{list_all-append}
+use Rattle.std.specs.List.{list_all}
 use Rattle.std.specs.Prelude.{Contains}
 use Rattle.ktm_base.specs.declared.refusal.Refusal.TheVariants.{MachineDown, LogFull}
 use Rattle.ktm_base.specs.Disk.{DiskState}
@@ -18,7 +21,9 @@ use Rattle.ktm_types.specs.Sizes.{log_size}
 use Rattle.ktm_world.specs.World.{World, present, own_group, opened, in_doubt, possible_logs, interrupted_restart, found_full, is_full_to_open}
 use Rattle.ktm_world.specs.Built.{is_built_log}
 use Rattle.ktm_world.proofs.BuiltStates.{built_stand}
-use Rattle.ktm_built.proofs.Worlds.{fallen_law}
+use Rattle.ktm_built.specs.Laws.{FallenLaw}
+use Rattle.ktm_laws.specs.Grammatical.{is_grammatical}
+use Rattle.ktm_laws.specs.Running.{LawfulWorldsLaw, is_log_grammatical}
 use Rattle.ktm_world.specs.Logs.{Group, down, is_up}
 use Rattle.ktm_world.specs.Transcript.{Step, interrupted, found, full, RestartDoes, StartDoes}
 use Rattle.ktm_world.proofs.Durables.{stand-units}
@@ -33,8 +38,8 @@ use Rattle.ktm_kernel.proofs.Worlds.{began_on}
 off_present : (w : World) → is_up w.power ≡ false → (may : List (List Group)) → present w ≡ present (record w { power = down may })
 off_present w off may i = record (present w) { machine = record (present w).machine { is_up = off i } }
 
-pub power_law : PowerLaw
-power_law k old new w off at = (
+pub power_law : FallenLaw → PowerLaw
+power_law falls k old new w off at = (
   λ restored. record {
     off = off;
     now = fallen.now;
@@ -45,7 +50,7 @@ power_law k old new w off at = (
   },
   λ failed. record {
     now = fallen.now ∙ off_present w off (possible_logs (interrupted_restart w));
-    standing = fallen_law.2 w fallen.standing;
+    standing = falls.2 w fallen.standing;
     before = fallen.before;
     began = began_on k.journal k.journal fallen.before w (interrupted_restart w) refl refl refl refl fallen.began;
     disk = Tells-step old new (LeavesPossible k.journal fallen.before w) (LeavesPossible k.journal fallen.before (interrupted_restart w)) fallen.disk failed (λ a b leaves again image may.
@@ -58,7 +63,7 @@ power_law k old new w off at = (
     fallen = subst (λ b. StandsBy b k old w) off at
 
 -- the run's base and room are those that a restart speaks of
-module _ (k : KernelState) (told now : Option DiskState) (w : World) (pick : ℕ) (at : FoundAt k told w) where
+module _ (falls : FallenLaw) (k : KernelState) (told now : Option DiskState) (w : World) (pick : ℕ) (at : FoundAt k told w) where
   abbrev base : Durable
   base = base_of k.journal.units k.journal.image at.before
 
@@ -73,9 +78,15 @@ module _ (k : KernelState) (told now : Option DiskState) (w : World) (pick : ℕ
   none_back : (log : List Group) → Contains (possible_logs w) log → length (in_doubt (stand w.base log)) ≡ 0
   none_back log possible = ap (λ (s : Durable). length (in_doubt s)) (built_stand w.base log at.standing.built.base (contains_passes is_built_log (possible_logs w) log at.standing.built.logs possible))
 
-  started : (new : KernelState) (events in_doubt : ℕ) (log : List Group) → Contains (possible_logs w) log → Started k.journal.units k.journal.image at.before log new events in_doubt now
+  -- what it holds is in the grammar, since a world of a run has it
+  grammatical : LawfulWorldsLaw → (log : List Group) → Contains (possible_logs w) log → is_full_for_own k.journal.units k.journal.image at.before log ≡ false → is_log_grammatical log ≡ true
+  grammatical worlds log possible room =
+      let opens = worlds.restarts w log (record { possible = possible; room = full_is log false room }) at.standing.running in
+      (and_parts (is_log_grammatical log) _ (sym (list_all-append (λ (g : Group). list_all is_grammatical g) log (own_group (stand w.base log) ∷ [])) ∙ opens.grammatical)).0
+
+  started : LawfulWorldsLaw → (new : KernelState) (events in_doubt : ℕ) (log : List Group) → Contains (possible_logs w) log → Started k.journal.units k.journal.image at.before log new events in_doubt now
       → DoesLine w (Some (Restart pick)) (Restarted events in_doubt) new now
-  started new events doubts log possible starts = (
+  started worlds new events doubts log possible starts = (
     found log,
     opened w.base w.room log,
     off_does (found log) (Restarted events doubts) (opened w.base w.room log) (
@@ -83,7 +94,7 @@ module _ (k : KernelState) (told now : Option DiskState) (w : World) (pick : ℕ
       ap (λ n. Restarted n doubts) (starts.events_are ∙ ap (λ (s : Durable). (stand s log).events) (sym at.began.base)) ∙ ap (λ n. Restarted (stand w.base log).events n) (starts.none_in_doubt ∙ sym (none_back log possible)),
       refl,
     ),
-    subst (λ (s : Durable). KernelAt new now (opened s w.room log)) (sym at.began.base) (subst (λ n. KernelAt new now (opened base n log)) (sym at.began.room) starts.stands),
+    subst (λ (s : Durable). KernelAt new now (opened s w.room log)) (sym at.began.base) (subst (λ n. KernelAt new now (opened base n log)) (sym at.began.room) (starts.stands (grammatical worlds log possible starts.room))),
   )
 
   cut : (log : List Group) → Contains (possible_logs w) log → Tells now (LeavesOwnOrNot k.journal.units k.journal.image at.before log) → DoesLine w (Some (Restart pick)) (Refused MachineDown) k now
@@ -93,7 +104,7 @@ module _ (k : KernelState) (told now : Option DiskState) (w : World) (pick : ℕ
     off_does interrupted (Refused MachineDown) (interrupted_restart w) (refl, refl),
     record {
       now = at.now ∙ off_present w at.off (possible_logs (interrupted_restart w));
-      standing = fallen_law.2 w at.standing;
+      standing = falls.2 w at.standing;
       before = at.before;
       began = began_on k.journal k.journal at.before w (interrupted_restart w) refl refl refl refl at.began;
       disk = Tells-map now (LeavesOwnOrNot k.journal.units k.journal.image at.before log) (LeavesPossible k.journal at.before (interrupted_restart w)) leaves (λ s either image may. elim (either image may) [
@@ -115,7 +126,7 @@ module _ (k : KernelState) (told now : Option DiskState) (w : World) (pick : ℕ
     off_does (full log) (Refused LogFull) (found_full w log) (record { possible = possible; room = full_is log true is }, refl, refl),
     record {
       now = at.now ∙ off_present w at.off (log ∷ []);
-      standing = fallen_law.3 w log possible at.standing;
+      standing = falls.3 w log (record { possible = possible; room = full_is log true is }) at.standing;
       before = at.before;
       began = began_on k.journal k.journal at.before w (found_full w log) refl refl refl refl at.began;
       disk = Tells-map now (HoldsBoth k.journal.units k.journal.image at.before log) (LeavesPossible k.journal at.before (found_full w log)) holds (λ s held image may. (
@@ -128,32 +139,32 @@ module _ (k : KernelState) (told now : Option DiskState) (w : World) (pick : ℕ
 
 -- ---- the answers of a restart, for the log that the disk holds
 
-pub started_line : (k new : KernelState) (events in_doubt : ℕ) (told now : Option DiskState)
+pub started_line : LawfulWorldsLaw → FallenLaw → (k new : KernelState) (events in_doubt : ℕ) (told now : Option DiskState)
     → ((units image : ℕ) (before log : List Group) → Tells told (HoldsBoth units image before log) → Started units image before log new events in_doubt now)
     → (pick : ℕ) (w : World) → FoundAt k told w → DoesLine w (Some (Restart pick)) (Restarted events in_doubt) new now
-started_line k new events in_doubt None now starts pick w at = absurd at.disk
-started_line k new events in_doubt (Some s) now starts pick w at =
+started_line worlds falls k new events in_doubt None now starts pick w at = absurd at.disk
+started_line worlds falls k new events in_doubt (Some s) now starts pick w at =
     let (safe, held) = at.disk in
     let (log, possible, holds) = held in
-    started k (Some s) now w pick at new events in_doubt log possible (starts k.journal.units k.journal.image at.before log (safe, holds))
+    started falls k (Some s) now w pick at worlds new events in_doubt log possible (starts k.journal.units k.journal.image at.before log (safe, holds))
 
-pub interrupted_line : (k : KernelState) (told now : Option DiskState)
+pub interrupted_line : FallenLaw → (k : KernelState) (told now : Option DiskState)
     → ((units image : ℕ) (before log : List Group) → Tells told (HoldsBoth units image before log) → Tells now (LeavesOwnOrNot units image before log))
     → (pick : ℕ) (w : World) → FoundAt k told w → DoesLine w (Some (Restart pick)) (Refused MachineDown) k now
-interrupted_line k None now leaves pick w at = absurd at.disk
-interrupted_line k (Some s) now leaves pick w at =
+interrupted_line falls k None now leaves pick w at = absurd at.disk
+interrupted_line falls k (Some s) now leaves pick w at =
     let (safe, held) = at.disk in
     let (log, possible, holds) = held in
-    cut k (Some s) now w pick at log possible (leaves k.journal.units k.journal.image at.before log (safe, holds))
+    cut falls k (Some s) now w pick at log possible (leaves k.journal.units k.journal.image at.before log (safe, holds))
 
-pub full_line : (k : KernelState) (told now : Option DiskState) → now ≡ told
+pub full_line : FallenLaw → (k : KernelState) (told now : Option DiskState) → now ≡ told
     → ((units image : ℕ) (before log : List Group) → Tells told (HoldsBoth units image before log) → is_full_for_own units image before log ≡ true)
     → (pick : ℕ) (w : World) → FoundAt k told w → DoesLine w (Some (Restart pick)) (Refused LogFull) k now
-full_line k None now same is pick w at = absurd at.disk
-full_line k (Some s) now same is pick w at =
+full_line falls k None now same is pick w at = absurd at.disk
+full_line falls k (Some s) now same is pick w at =
     let (safe, held) = at.disk in
     let (log, possible, holds) = held in
-    stays k (Some s) now w pick at log possible (is k.journal.units k.journal.image at.before log (safe, holds))
+    stays falls k (Some s) now w pick at log possible (is k.journal.units k.journal.image at.before log (safe, holds))
     (subst (λ d. Tells d (HoldsBoth k.journal.units k.journal.image at.before log)) (sym same) (safe, holds))
 
 -- what holds one of the logs is not bad

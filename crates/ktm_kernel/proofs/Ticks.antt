@@ -10,8 +10,7 @@ use Rattle.ktm_world.specs.Present.{Present}
 use Rattle.ktm_world.specs.Transactions.{same_id, transaction_at, change_at, is_live}
 use Rattle.ktm_world.specs.TransactionCalls.{is_due, later, may_roll_back, with_clock}
 use Rattle.ktm_built.specs.Forms.{ended_aborted, with_rollback, with_tick}
-use Rattle.ktm_built.specs.Standing.{AreDistinct}
-use Rattle.ktm_built.proofs.Distinct.{distinct_found}
+use Rattle.ktm_built.proofs.Distinct.{Rise, rise-first, rise-found, rise-rest}
 use Rattle.ktm_built.proofs.Timeouts.{in_turn}
 use Rattle.ktm_built.proofs.Ids.{same_id-self, same_id-turned}
 
@@ -65,13 +64,13 @@ live_first u us rest none live (suc k) t at =
     let other : same_id u.id t.id ≡ false = same_id-turned t.id u.id (found_apart us u.id t.id t none then.found) in
     record { found = rw other then.found; here = rw live then.here; next = rw other (rw live then.next); fewer = rw other (rw live (omega (arith, then.fewer))) }
 
-pub live_at : (ts : List Transaction) (i : ℕ) (t : Transaction) → AreDistinct ts → slice_get (filter is_live ts) i ≡ Some t → IsLiveAt ts i t
-live_at [] i t distinct at = absurd (cc)
-live_at (u ∷ us) i t distinct at = elim (cases_Bool (is_live u)) [
-  | inl live ↦ live_first u us (λ k t at. live_at us k t distinct.1 at) distinct.0 live i t (rw live at at)
+pub live_at : (ts : List Transaction) (i : ℕ) (t : Transaction) → Rise ts → slice_get (filter is_live ts) i ≡ Some t → IsLiveAt ts i t
+live_at [] i t rise at = absurd (cc)
+live_at (u ∷ us) i t rise at = elim (cases_Bool (is_live u)) [
+  | inl live ↦ live_first u us (λ k t at. live_at us k t (rise-rest u us rise) at) (rise-first u us rise) live i t (rw live at at)
   | inr ended ↦
-      (let then = live_at us i t distinct.1 (rw ended at at) in
-      let other : same_id u.id t.id ≡ false = same_id-turned t.id u.id (found_apart us u.id t.id t distinct.0 then.found) in
+      (let then = live_at us i t (rise-rest u us rise) (rw ended at at) in
+      let other : same_id u.id t.id ≡ false = same_id-turned t.id u.id (found_apart us u.id t.id t (rise-first u us rise) then.found) in
       record { found = rw other then.found; here = rw ended then.here; next = rw other (rw ended then.next); fewer = rw other (rw ended then.fewer) })
 ]
 
@@ -88,10 +87,10 @@ none_left (t ∷ ts) (suc i) at = none_left ts i at
 abbrev pub ticked_from : Present → ℕ → Present
 ticked_from x i = fold with_rollback x (filter (is_due x.transactions.clock) (drop i (filter is_live x.transactions.items)))
 
-pub ticked_all : (x : Present) (ms : ℕ) → AreDistinct x.transactions.items → ticked_from (with_clock x ms) 0 ≡ with_tick x ms
-ticked_all x ms distinct =
+pub ticked_all : (x : Present) (ms : ℕ) → Rise x.transactions.items → ticked_from (with_clock x ms) 0 ≡ with_tick x ms
+ticked_all x ms rise =
     ap (λ (ts : List Transaction). fold with_rollback (with_clock x ms) ts) (due_live (later x.transactions.clock ms) x.transactions.items)
-    ∙ sym (in_turn (with_clock x ms) x.transactions.items distinct (distinct_found x.transactions.items distinct))
+    ∙ sym (in_turn (with_clock x ms) x.transactions.items rise (rise-found x.transactions.items rise))
 
 pub ticked_over : (x : Present) (i : ℕ) (t : Transaction) → IsLiveAt x.transactions.items i t → is_due x.transactions.clock t ≡ false → ticked_from x (suc i) ≡ ticked_from x i
 ticked_over x i t at later = sym (rw at.here (rw later refl))

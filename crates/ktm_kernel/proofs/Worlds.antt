@@ -1,8 +1,7 @@
 -- From what an outcome did to what it is for the world that the machine stands for.
-use Rattle.std.proofs.Common.{◌≡◌, ℕ, ◌<◌, ◌^◌, ◌+◌, Bool, true, false, List, [], ◌++◌, length, Option, Some, refl, sym, ◌∙◌, ap, subst, inl, inr, arith, append_assoc}
-use Rattle.std.proofs.lemmas.Bool.{and_from}
+use Rattle.std.proofs.Common.{◌≡◌, ℕ, Bool, true, false, List, [], ◌++◌, length, Option, Some, refl, sym, ◌∙◌, ap, subst, inl, inr, append_assoc}
 use Rattle.std.proofs.lemmas.List.{append-nil}
-use Rattle.std.specs.Prelude.{Contains, IsTrue}
+use Rattle.std.specs.Prelude.{Contains}
 use Rattle.ktm_base.specs.declared.id.Pid.{Pid}
 use Rattle.ktm_base.specs.declared.refusal.Refusal.TheVariants.{MachineDown}
 use Rattle.ktm_base.specs.Disk.{DiskState}
@@ -15,23 +14,21 @@ use Rattle.ktm_types.specs.declared.command.Line.TheVariants.{Crash}
 use Rattle.ktm_types.specs.declared.event.Event.{Event}
 use Rattle.ktm_types.specs.declared.reply.Reply.{Reply}
 use Rattle.ktm_types.specs.declared.reply.Reply.TheVariants.{Refused, Done}
-use Rattle.ktm_types.specs.Values.{IsCommand}
 use Rattle.ktm_world.specs.Built.{is_built_command}
 use Rattle.ktm_world.specs.Decide.{decide}
-use Rattle.ktm_world.specs.Durable.{Durable, events_apply, log_applies, stand}
 use Rattle.ktm_world.specs.Logs.{Group, Power, up, down, is_up, as_groups, prefixes_from, possible_by}
 use Rattle.ktm_world.specs.Outcome.{Outcome, apply}
 use Rattle.ktm_world.specs.Present.{Present}
 use Rattle.ktm_world.specs.Transcript.{Step, answered, interrupted, CallDoes, CrashDoes}
 use Rattle.ktm_world.specs.World.{World, present, extend, decide_tick, power_after, crashed, interrupted_by}
 use Rattle.ktm_world.proofs.Worlds.{step_law, refusal_law}
-use Rattle.ktm_world.proofs.Durables.{after_events-events, log_applies-append, log_applies-as_groups}
+use Rattle.ktm_built.specs.Laws.{FallenLaw, LawfulLaw}
 use Rattle.ktm_built.specs.Standing.{IsStanding}
 use Rattle.ktm_built.proofs.Decided.{decided_law}
-use Rattle.ktm_built.proofs.Now.{events_law, now_law}
-use Rattle.ktm_built.proofs.Worlds.{lawful_law, fallen_law, lie_within, down_refuses}
+use Rattle.ktm_built.proofs.Now.{events_law}
+use Rattle.ktm_built.proofs.Worlds.{down_refuses}
 use Rattle.ktm_kernel.specs.Stands.{KernelState, Began, Stands, HasFallen, StandsBy, KernelAt, LeavesPossible, DoesLine}
-use Rattle.ktm_kernel.specs.Done.{FewEvents, IsDone, IsCutOff, Ends, fallen}
+use Rattle.ktm_kernel.specs.Done.{IsDone, IsCutOff, Ends, fallen}
 use Rattle.ktm_kernel.proofs.Left.{both_apply, both_built, log_is_possible, left_up}
 use Rattle.ktm_kernel.proofs.Possible.{log_possible, groups_possible}
 
@@ -47,46 +44,31 @@ up_by (down may) k told w is fallen on = let off = sym on ∙ ap (λ x. x.machin
 
 -- what a run began with, for a journal of the same image and a world of the same run
 pub began_on : (j k : JournalState) (before : List Group) (w v : World) → k.units ≡ j.units → k.image ≡ j.image → v.base ≡ w.base → v.room ≡ w.room → Began j before w → Began k before v
-began_on j k before w v units image base room began = rw (units, image) (record { number = began.number; built = began.built; applies = began.applies; base = base ∙ began.base; room = room ∙ began.room })
+began_on j k before w v units image base room began = rw (units, image) (record { built = began.built; applies = began.applies; base = base ∙ began.base; room = room ∙ began.room })
 
 -- ---- outcomes of which the laws of what is built hold
 
--- the world stands after the outcome, whose events apply, where they are few enough, and where the power goes in it; and one that stops the
--- machine records nothing
-pub record IsKept (w : World) (o : Outcome) : Type 0 where
-  pub stands : FewEvents (present w) o → IsStanding (extend w o)
-  pub applies : FewEvents (present w) o → events_apply w.recorded o.events ≡ true
+-- the world stands after the outcome, and where the power goes in it; and one that stops the machine records nothing
+pub record GoesOn (w : World) (o : Outcome) : Type 0 where
+  pub stands : IsStanding (extend w o)
   pub falls : IsStanding (interrupted_by w o)
   pub stops : o.stops ≡ true → o.events ≡ []
 
--- there is a number for each event
-few_then : (w : World) (o : Outcome) → w.recorded.events < 2 ^ 63 → FewEvents (present w) o → w.recorded.events + length o.events < 2 ^ 63
-few_then w o few at = elim at [
-  | inl none ↦ let zero : length o.events ≡ 0 = ap (λ (es : List Event). length es) none in omega (arith, zero, few)
-  | inr some ↦ some
-]
+-- so it is of the outcome of a built command
+pub call_goes_on : LawfulLaw → FallenLaw → (process : Pid) (command : Command) → is_built_command command ≡ true → (w : World) → IsStanding w → GoesOn w (decide (present w) process command)
+call_goes_on lawful fallen process command built w standing = record {
+  stands = lawful.0 w process command built standing;
+  falls = fallen.1 w process command built standing;
+  stops = decided_law.3 (present w) process command built;
+}
 
--- the outcome of a built command is kept
-pub call_kept : (w : World) (process : Pid) (command : Command) → IsCommand command → is_built_command command ≡ true → is_up w.power ≡ true → IsStanding w → IsKept w (decide (present w) process command)
-call_kept w process command is built on standing =
-    let events = (decide (present w) process command).events in
-    record {
-      stands = λ few. lawful_law.0 w process command is built (omega (arith, after_events-events w.recorded events, few_then w (decide (present w) process command) standing.few few)) standing;
-      applies = λ few. (events_law.0 (present w) process command built (now_law.1 w standing on)).1 (few_then w (decide (present w) process command) standing.few few);
-      falls = fallen_law.1 w process command built standing;
-      stops = decided_law.3 (present w) process command built;
-    }
-
--- and so is what the passing of time does, which records nothing
-pub tick_kept : (w : World) (ms : ℕ) → IsStanding w → IsKept w (decide_tick (present w) ms)
-tick_kept w ms standing =
-    let none = events_law.2 (present w) ms standing.built.now in
-    record {
-      stands = λ few. lawful_law.1 w ms standing;
-      applies = λ few. ap (events_apply w.recorded) none;
-      falls = fallen_law.4 w ms standing;
-      stops = λ stops. none;
-    }
+-- and of that of the passing of time, which records nothing
+pub tick_goes_on : LawfulLaw → FallenLaw → (ms : ℕ) (w : World) → IsStanding w → GoesOn w (decide_tick (present w) ms)
+tick_goes_on lawful fallen ms w standing = record {
+  stands = lawful.1 w ms standing;
+  falls = fallen.4 w ms standing;
+  stops = λ stops. events_law.1 (present w) ms standing.built.now;
+}
 
 -- ---- a machine that was up
 
@@ -94,27 +76,12 @@ tick_kept w ms standing =
 abbrev pub DoesCall : World → Outcome → Reply → KernelState → Option DiskState → Type 0
 DoesCall w o reply k told = (step : Step) × (new : World) × CallDoes w o step reply new × KernelAt k told new
 
-module _ (old new : KernelState) (o : Outcome) (reply : Reply) (before now : Option DiskState) (w : World) (on : w.power ≡ up) (stands : Stands old before w) (keeps : IsKept w o) where
+module _ (old new : KernelState) (o : Outcome) (reply : Reply) (before now : Option DiskState) (w : World) (on : w.power ≡ up) (stands : Stands old before w) (keeps : GoesOn w o) where
   groups : List Group
   groups = as_groups o.events
 
-  few_now : FewEvents old.now o → FewEvents (present w) o
-  few_now few = subst (λ x. FewEvents x o) stands.now few
-
-  applies_now : IsTrue (log_applies w.base w.log)
-  applies_now = (stands.standing.lawful.stands (ap is_up on)).applies
-
-  -- the log applies with the group of the outcome behind it
-  applies_then : FewEvents old.now o → IsTrue (log_applies w.base (w.log ++ groups))
-  unfolding groups
-  applies_then few =
-      let recorded : stand w.base w.log ≡ w.recorded = (stands.standing.lawful.stands (ap is_up on)).comes_to in
-      log_applies-append w.base w.log (as_groups o.events)
-      ∙ and_from (log_applies w.base w.log) (log_applies (stand w.base w.log) (as_groups o.events)) applies_now
-      (ap (λ (s : Durable). log_applies s (as_groups o.events)) recorded ∙ log_applies-as_groups w.recorded o.events ∙ keeps.applies (few_now few))
-
   now_then : IsDone old o reply new before now → new.now ≡ present (extend w o)
-  now_then done = done.state ∙ ap (λ x. apply x o) stands.now ∙ sym (step_law.0 w o (lie_within w stands.standing.built.now))
+  now_then done = done.state ∙ ap (λ x. apply x o) stands.now ∙ sym (step_law.0 w o stands.standing.running.openings)
 
   log_then : IsDone old o reply new before now → Tells now (JournalAt new.journal ((stands.before ++ w.log) ++ groups))
   unfolding groups
@@ -124,7 +91,7 @@ module _ (old new : KernelState) (o : Outcome) (reply : Reply) (before now : Opt
   unfolding groups
   done_up done = record {
     now = now_then done;
-    standing = keeps.stands (few_now done.few);
+    standing = keeps.stands;
     before = stands.before;
     began = began_on old.journal new.journal stands.before w (extend w o) done.units done.image refl refl stands.began;
     disk = subst (λ (l : List Group). Tells now (JournalAt new.journal l)) (append_assoc stands.before w.log groups) (log_then done);
@@ -134,16 +101,16 @@ module _ (old new : KernelState) (o : Outcome) (reply : Reply) (before now : Opt
   unfolding groups
   done_stopped done stops = record {
     now = now_then done;
-    standing = keeps.stands (few_now done.few);
+    standing = keeps.stands;
     before = stands.before;
     began = began_on old.journal new.journal stands.before w (extend w o) done.units done.image refl refl stands.began;
     disk = Tells-map now (JournalAt new.journal ((stands.before ++ w.log) ++ groups)) (LeavesPossible new.journal stands.before (extend w o)) (log_then done) (λ s at image left. (
       w.log,
-      subst (λ b. Contains (possible_by (power_after b w) (extend w o).kept (extend w o).log) w.log) (sym stops) (log_is_possible w on (stands.standing.kept (ap is_up on))),
+      subst (λ b. Contains (possible_by (power_after b w) (extend w o).kept (extend w o).log) w.log) (sym stops) (log_is_possible w on stands.standing.running.kept),
       record {
         is = subst (λ (l : List Group). IsImage new.journal.units new.journal.image l image) same (what_is_left new.journal ((stands.before ++ w.log) ++ groups) s image at left);
         built = both_built new.journal stands.before w began w.log stands.standing.built.log;
-        applies = both_apply new.journal stands.before w began w.log applies_now;
+        applies = both_apply new.journal stands.before w began w.log stands.standing.running.applies;
       },
     ));
   }
@@ -165,20 +132,20 @@ module _ (old new : KernelState) (o : Outcome) (reply : Reply) (before now : Opt
   unfolding groups
   left cut = Tells-map now _ (LeavesPossible new.journal stands.before (interrupted_by w o)) (cut.log (stands.before ++ w.log) stands.disk)
       (λ s either image may. elim (either image may) [
-        | inl without ↦ (w.log, kept (log_possible w.log groups), same (record { is = without; built = both_built old.journal stands.before w stands.began w.log stands.standing.built.log; applies = both_apply old.journal stands.before w stands.began w.log applies_now }))
+        | inl without ↦ (w.log, kept (log_possible w.log groups), same (record { is = without; built = both_built old.journal stands.before w stands.began w.log stands.standing.built.log; applies = both_apply old.journal stands.before w stands.began w.log stands.standing.running.applies }))
         | inr with_it ↦ (
           w.log ++ groups,
           kept (groups_possible w.log o.events),
           same (record {
             is = subst (λ (l : List Group). IsImage old.journal.units old.journal.image l image) (append_assoc stands.before w.log groups) with_it;
-            built = both_built old.journal stands.before w stands.began (w.log ++ groups) (keeps.stands (few_now cut.few)).built.log;
-            applies = both_apply old.journal stands.before w stands.began (w.log ++ groups) (applies_then cut.few);
+            built = both_built old.journal stands.before w stands.began (w.log ++ groups) keeps.stands.built.log;
+            applies = both_apply old.journal stands.before w stands.began (w.log ++ groups) keeps.stands.running.applies;
           }),
         )
       ])
     where
       kept : {log : List Group} → Contains (prefixes_from (length w.log) (w.log ++ groups)) log → Contains (prefixes_from w.kept (w.log ++ groups)) log
-      kept {log} there = subst (λ n. Contains (prefixes_from n (w.log ++ groups)) log) (sym (stands.standing.kept (ap is_up on))) there
+      kept {log} there = subst (λ n. Contains (prefixes_from n (w.log ++ groups)) log) (sym stands.standing.running.kept) there
 
       same : {log : List Group} {image : List ℕ} → HoldsLog old.journal.units old.journal.image log image → HoldsLog new.journal.units new.journal.image log image
       same {log} {image} holds = subst (λ j. HoldsLog j.units j.image log image) (sym cut.journal) holds
@@ -199,14 +166,14 @@ module _ (old new : KernelState) (o : Outcome) (reply : Reply) (before now : Opt
 
 -- by whether the disk is down then, for what is decided on what is so now
 pub ended_line : (f : Present → Outcome) (is_down : Bool) (old new : KernelState) (reply : Reply) (before now : Option DiskState) → old.now.machine.is_up ≡ true
-    → ((w : World) → is_up w.power ≡ true → IsStanding w → IsKept w (f (present w)))
+    → ((w : World) → IsStanding w → GoesOn w (f (present w)))
     → Ends is_down old (f old.now) reply new before now → (w : World) → KernelAt old before w → DoesCall w (f (present w)) reply new now
 ended_line f false old new reply before now on keeps done w at =
     let (power, stands) = up_by w.power old before w refl at on in
-    done_line old new (f (present w)) reply before now w power stands (keeps w (ap is_up power) stands.standing) (subst (λ x. IsDone old (f x) reply new before now) stands.now done)
+    done_line old new (f (present w)) reply before now w power stands (keeps w stands.standing) (subst (λ x. IsDone old (f x) reply new before now) stands.now done)
 ended_line f true old new reply before now on keeps cut w at =
     let (power, stands) = up_by w.power old before w refl at on in
-    cut_line old new (f (present w)) reply before now w power stands (keeps w (ap is_up power) stands.standing) (subst (λ x. IsCutOff old (f x) reply new before now) stands.now cut)
+    cut_line old new (f (present w)) reply before now w power stands (keeps w stands.standing) (subst (λ x. IsCutOff old (f x) reply new before now) stands.now cut)
 
 -- ---- a machine that was down
 
@@ -227,15 +194,15 @@ down_tick k told ms off w at =
 -- ---- a crash
 
 -- a machine whose power goes while nothing is recorded
-pub crash_line : (k : KernelState) → k.now.machine.is_up ≡ true → (told : Option DiskState) (w : World) → KernelAt k told w → DoesLine w (Some Crash) Done (record k { now = fallen k.now }) told
-crash_line k on told w at =
+pub crash_line : FallenLaw → (k : KernelState) → k.now.machine.is_up ≡ true → (told : Option DiskState) (w : World) → KernelAt k told w → DoesLine w (Some Crash) Done (record k { now = fallen k.now }) told
+crash_line falls k on told w at =
     let (power, stands) = up_by w.power k told w refl at on in (
       answered,
       crashed w,
       subst (λ p. CrashDoes (is_up p) w answered Done (crashed w)) (sym power) (refl, refl),
       record {
         now = ap fallen stands.now;
-        standing = fallen_law.0 w stands.standing;
+        standing = falls.0 w stands.standing;
         before = stands.before;
         began = began_on k.journal k.journal stands.before w (crashed w) refl refl refl refl stands.began;
         disk = left_up k told w power stands;

@@ -1,5 +1,5 @@
 -- What an outcome did to the machine and to the groups on its disk, for whatever world it stands for.
-use Rattle.std.specs.Prelude.{◌≡◌, ◌≢◌, ◌⊎◌, ℕ, ◌+◌, ◌^◌, ◌<◌, Bool, true, false, List, [], ◌++◌, length, Option}
+use Rattle.std.specs.Prelude.{◌≡◌, ◌≢◌, ◌⊎◌, ℕ, Bool, true, false, List, [], ◌++◌, Option}
 use Rattle.ktm_base.specs.declared.refusal.Refusal.{Refusal}
 use Rattle.ktm_base.specs.declared.refusal.Refusal.TheVariants.{MachineDown}
 use Rattle.ktm_base.specs.Disk.{DiskState, MayLeave}
@@ -12,15 +12,10 @@ use Rattle.ktm_world.specs.Logs.{Group, as_groups}
 use Rattle.ktm_world.specs.Outcome.{Outcome, apply}
 use Rattle.ktm_kernel.specs.Stands.{KernelState}
 
--- there are fewer than 2^63 events, where it recorded any
-abbrev pub FewEvents : Present → Outcome → Type 0
-FewEvents x o = o.events ≡ [] ⊎ x.recorded.events + length o.events < 2 ^ 63
-
 -- it was answered, and its group was recorded, where it has one
 pub record IsDone (old : KernelState) (o : Outcome) (reply : Reply) (new : KernelState) (before now : Option DiskState) : Type 0 where
   pub says : reply ≡ o.reply
   pub state : new.now ≡ apply old.now o
-  pub few : FewEvents old.now o
   pub units : new.journal.units ≡ old.journal.units
   pub image : new.journal.image ≡ old.journal.image
   pub log : (log : List Group) → Tells before (JournalAt old.journal log) → Tells now (JournalAt new.journal (log ++ as_groups o.events))
@@ -37,7 +32,6 @@ LeavesWithOr j log more s = (image : List ℕ) → MayLeave s image → IsImage 
 pub record IsCutOff (old : KernelState) (o : Outcome) (reply : Reply) (new : KernelState) (before now : Option DiskState) : Type 0 where
   pub says : reply ≡ Refused MachineDown
   pub state : new.now ≡ fallen old.now
-  pub few : FewEvents old.now o
   pub journal : new.journal ≡ old.journal
   pub log : (log : List Group) → Tells before (JournalAt old.journal log) → Tells now (LeavesWithOr old.journal log (as_groups o.events))
 

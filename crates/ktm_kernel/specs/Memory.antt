@@ -3,9 +3,10 @@ use Rattle.std.specs.Prelude.{◌≡◌, ℕ, ◌+◌, ◌-◌, ◌≤◌, Bool,
 use Rattle.ktm_base.specs.declared.id.Label.{Label}
 use Rattle.ktm_base.specs.declared.id.Pid.{Pid}
 use Rattle.ktm_built.specs.Forms.{with_bound, with_commit, with_handle_closed, with_process_gone, with_rollback, with_tick, with_transaction}
-use Rattle.ktm_built.specs.Standing.{AreDistinct, no_files}
+use Rattle.ktm_built.specs.Standing.{no_files}
 use Rattle.ktm_event.specs.Kept.{EventsState}
 use Rattle.ktm_journal.specs.Image.{JournalState, area_len}
+use Rattle.ktm_laws.specs.GoodState.{each_pair}
 use Rattle.ktm_object.specs.Table.{HandleTable, handles_of}
 use Rattle.ktm_tm.specs.TmState.{TmState}
 use Rattle.ktm_types.specs.declared.event.Event.{Event}
@@ -13,6 +14,7 @@ use Rattle.ktm_types.specs.declared.object.Handle.{Handle}
 use Rattle.ktm_types.specs.declared.object.Object.{Object}
 use Rattle.ktm_types.specs.declared.object.Transaction.{Transaction}
 use Rattle.ktm_world.specs.Built.{built_state}
+use Rattle.ktm_world.specs.Durable.{is_before}
 use Rattle.ktm_world.specs.Handles.{object_at}
 use Rattle.ktm_world.specs.Keys.{KeysNow, own_settings}
 use Rattle.ktm_world.specs.Limits.{most_live}
@@ -72,7 +74,7 @@ MaySettle m (Duplicate process label from source) =
     (1 ≤ m.handles.spare) × (object_at (handles_of m.handles) process label ≡ None) × (is_some (object_at (handles_of m.handles) from source) ≡ true)
 MaySettle m (Close process label) = Unit {0}
 MaySettle m (Exit process) = Unit {0}
-MaySettle m (Tick ms) = AreDistinct m.tm.now.items × (count_by is_live m.tm.now.items ≤ most_live)
+MaySettle m (Tick ms) = (each_pair (λ (t u : Transaction). is_before t.id u.id) m.tm.now.items ≡ true) × (count_by is_live m.tm.now.items ≤ most_live)
 
 -- the transaction has committed, but for its group in the log: it has ended, and its settings are in the store
 abbrev pub with_commit_settled : Present → Transaction → Present

@@ -1,5 +1,5 @@
 -- When a machine with its disk stands for a world.
-use Rattle.std.specs.Prelude.{◌≡◌, ℕ, ◌^◌, ◌<◌, Bool, true, false, List, ◌++◌, Option, Contains, IsTrue}
+use Rattle.std.specs.Prelude.{◌≡◌, ℕ, Bool, true, false, List, ◌++◌, Option, Contains, IsTrue}
 use Rattle.ktm_base.specs.Disk.{DiskState, DiskStatus, MayLeave, IsSafe}
 use Rattle.ktm_base.specs.Power.{Restored, NotRestored}
 use Rattle.ktm_base.specs.Told.{Tells, IfTold, Goes}
@@ -21,7 +21,6 @@ pub record KernelState : Type 0 where
 
 -- the world's run began with an image of this journal that held these groups
 pub record Began (j : JournalState) (before : List Group) (w : World) : Type 0 where
-  pub number : j.image < 2 ^ 16
   pub built : IsTrue (is_built_log before)
   pub applies : IsTrue (log_applies (empty_state j.units j.image) before)
   pub base : w.base ≡ stand (empty_state j.units j.image) before

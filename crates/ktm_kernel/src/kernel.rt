@@ -18,6 +18,7 @@ use crate::memory::Memory;
 use crate::record::record;
 use crate::settlement::Decision;
 use ktm_base::{Disk, NoMemory, Pid, Refusal};
+use ktm_built::{law_of_fallen, law_of_lawful, law_of_now};
 use ktm_event::Events;
 use ktm_journal::{AppendFault, Journal};
 use ktm_types::{Command, Reply};
@@ -35,8 +36,6 @@ pub struct Kernel {
 }
 
 impl Model for Kernel {
-    ghost use Rattle.std.specs.Prelude.{◌≡◌, ◌*◌, ◌≤◌};
-    ghost use Rattle.ktm_journal.specs.Image.{log_area};
     ghost use Rattle.ktm_kernel.specs.Memory.{IsRoomy, held, now_of};
     ghost use Rattle.ktm_kernel.specs.Stands.{KernelState};
 
@@ -44,7 +43,7 @@ impl Model for Kernel {
 
     ghost view = { λ k. record { now = now_of k.journal (held k.memory); journal = k.journal } };
 
-    ghost invariant = { λ k. IsRoomy k.journal k.events × (k.journal.log.area ≡ log_area k.journal.units) × (5 * k.journal.events ≤ k.journal.log.end) };
+    ghost invariant = { λ k. IsRoomy k.journal k.events };
 }
 
 impl Kernel {
@@ -61,6 +60,7 @@ impl Kernel {
         ensures fallen { self.new ≡ record self.old { now = fallen self.old.now } }
         ensures does { (told : Option DiskState) (w : World) → KernelAt self.old told w → DoesLine w (Some Crash) Done self.new told }
     {
+        law_of_fallen();
         self.memory.fall();
     }
 
@@ -85,6 +85,9 @@ impl Kernel {
         ensures untouched { IfOk result (λ reply. TouchesNothing (decide self.old.now process command) reply → (D.told disk.new ≡ D.told disk.old) × (D.status disk.new ≡ D.status disk.old)) }
         ensures no_memory { OnErr result ((D.told disk.new ≡ D.told disk.old) × (D.status disk.new ≡ D.status disk.old)) }
     {
+        law_of_lawful();
+        law_of_fallen();
+        law_of_now();
         if !self.is_up() {
             return Ok(Reply::Refused(Refusal::MachineDown));
         }
@@ -101,6 +104,9 @@ impl Kernel {
         ensures ready { IsReady self.new (D.told disk.new) (D.status disk.new) }
         ensures untouched { (D.told disk.new ≡ D.told disk.old) × (D.status disk.new ≡ D.status disk.old) }
     {
+        law_of_lawful();
+        law_of_fallen();
+        law_of_now();
         if !self.is_up() {
             return Reply::Refused(Refusal::MachineDown);
         }

@@ -1,6 +1,8 @@
 // Laws of when a machine stands for a world.
 ghost use Rattle.ktm_kernel.specs.Stands.{LeftLaw, PowerLaw, FoundLaw};
 
+use ktm_built::law_of_fallen;
+
 /// Of a disk on which a machine stands for a world, each image that a loss of power may leave stands for the state of a
 /// possible log.
 pub fn law_of_what_is_left()
@@ -10,7 +12,9 @@ pub fn law_of_what_is_left()
 /// What the disk of a machine that is down holds once it has the power back.
 pub fn law_of_power()
     ensures { PowerLaw }
-{}
+{
+    law_of_fallen();
+}
 
 /// What a loss of power leaves where a machine that is down has its power back.
 pub fn law_of_what_is_found()

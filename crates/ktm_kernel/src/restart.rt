@@ -18,8 +18,10 @@ ghost use Rattle.ktm_kernel.specs.Stands.{IsReady, FoundAt, DoesLine};
 use crate::kernel::Kernel;
 use crate::memory::Memory;
 use ktm_base::{Disk, NoMemory, Refusal};
+use ktm_built::{law_of_bases, law_of_fallen, law_of_opened};
 use ktm_event::Events;
 use ktm_journal::{AppendFault, Journal, LoadFault, Loaded};
+use ktm_laws::law_of_lawful_worlds;
 use ktm_types::{Event, Reply};
 use std::alloc::Global;
 use std::mem::replace;
@@ -84,6 +86,8 @@ impl Kernel {
         ensures calls { DeviceCalls (8 * 1024 + 68) (D.status disk.old) (D.status disk.new) (restart_went_down result) }
         ensures few { (units image : ℕ) → Tells (D.told disk.old) (λ s. IsHeaded units image s.seen) → (D.status disk.new).calls ≤ (D.status disk.old).calls + (8 * units + 68) }
     {
+        law_of_bases();
+        law_of_opened();
         let Loaded { journal, state } = match Journal::load(alloc, disk, buffer) {
             Ok(loaded) => loaded,
             Err(LoadFault::Down) => return Err(RestartFault::Down),
@@ -140,6 +144,8 @@ impl Kernel {
         ensures unwritten { IfOk result (λ reply. IfUnwrittenBy reply ((D.told disk.new ≡ D.told disk.old) × ((D.status disk.new).is_down ≡ false) × ((D.status disk.new).pending ≡ 0) × (self.new ≡ self.old))) }
         ensures no_memory { OnErr result ((D.told disk.new ≡ D.told disk.old) × ((D.status disk.new).is_down ≡ false) × ((D.status disk.new).pending ≡ 0) × (self.new ≡ self.old)) }
     {
+        law_of_lawful_worlds();
+        law_of_fallen();
         let none = Events::new(self.alloc, 0)?;
         let mut buffer = replace(&mut self.events, none).into_buffer();
         match Kernel::restart(self.alloc, disk, &mut buffer) {

@@ -112,8 +112,6 @@ impl Memory {
         requires { IsStandingNow (now_of journal.now (held self.now)) }
         ensures { result ≡ transaction_with (now_of journal.now (held self.now)) guid.now }
     {
-        // The Ids of all transactions have this number, which fits.
-        let _boot = self.tm.boot();
         let Some(id) = id_of(ObjectKind::Transaction, journal.image(), guid) else {
             return None;
         };

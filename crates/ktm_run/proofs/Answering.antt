@@ -10,9 +10,9 @@ use Rattle.ktm_base.specs.Count.{Rose}
 use Rattle.ktm_base.specs.Disk.{DiskState, DiskStatus, DeviceCalls}
 use Rattle.ktm_base.specs.Power.{after_off, planned, Restored, NotRestored}
 use Rattle.ktm_base.specs.Told.{Tells, Goes}
-use Rattle.ktm_kernel.specs.Stands.{KernelState, StandsBy, KernelAt, FoundAt, DoesLine, LeavesStates}
+use Rattle.ktm_kernel.specs.Stands.{KernelState, StandsBy, KernelAt, FoundAt, DoesLine, LeavesStates, PowerLaw}
 use Rattle.ktm_kernel.proofs.Left.{left_law}
-use Rattle.ktm_kernel.proofs.StartAgain.{power_law, found_law}
+use Rattle.ktm_kernel.proofs.StartAgain.{found_law}
 use Rattle.ktm_run.proofs.Counting.{RoseBy-none}
 use Rattle.ktm_run.specs.Plan.{plan_of, falls_of, RoseBy}
 use Rattle.ktm_run.specs.Progress.{Scene, Counts, Answers, Unanswered}
@@ -154,21 +154,21 @@ is_down_still k told a off = λ w at. record {
 -- ---- a restart
 
 -- the power failed again
-pub failed_again : (k : KernelState) (before now : Option DiskState) (a b : DiskStatus) (pick : ℕ) → k.now.machine.is_up ≡ false
+pub failed_again : PowerLaw → (k : KernelState) (before now : Option DiskState) (a b : DiskStatus) (pick : ℕ) → k.now.machine.is_up ≡ false
     → b ≡ record (planned a (Power pick)) { is_down = true; downs = b.downs } → Rose a.downs b.downs → Goes NotRestored before now
     → Answers (record { machine = k; disk = before; status = a }) (record { machine = k; disk = now; status = b }) (Some (Restart pick)) (Refused MachineDown)
-failed_again k before now a b pick off is rose goes = λ w at.
+failed_again law k before now a b pick off is rose goes = λ w at.
     let down = off_of k before w off at in record {
       step = interrupted;
       world = interrupted_restart w;
       does = subst (λ b. RestartDoes b w interrupted (Refused MachineDown) (interrupted_restart w)) (sym down) (refl, refl);
-      stands = (power_law k before now w down at).1 goes;
+      stands = (law k before now w down at).1 goes;
       counts = counted w k k before now a b (Power pick ∷ []) 1 rose (ap (λ s. s.plan) is) (let few = ap (λ s. s.calls) is in omega arith);
     }
 
 -- the power is back
-pub found_at : (k : KernelState) (before now : Option DiskState) → k.now.machine.is_up ≡ false → Goes Restored before now → (w : World) → KernelAt k before w → FoundAt k now w
-found_at k before now off goes w at = (power_law k before now w (off_of k before w off at) at).0 goes
+found_at : PowerLaw → (k : KernelState) (before now : Option DiskState) → k.now.machine.is_up ≡ false → Goes Restored before now → (w : World) → KernelAt k before w → FoundAt k now w
+found_at law k before now off goes w at = (law k before now w (off_of k before w off at) at).0 goes
 
 -- the disk once its power is back
 abbrev powered : DiskStatus → ℕ → DiskStatus
@@ -194,19 +194,19 @@ started_rose w new pick (found log) reply a b does cause later = RoseBy-none a.d
 started_rose w new pick (full log) reply a b does cause later = RoseBy-none a.downs b.downs later
 
 -- a machine that starts again, on a disk whose power came back
-module _ (k n : KernelState) (before mid now : Option DiskState) (a m b : DiskStatus) (pick : ℕ)
+module _ (law : PowerLaw) (k n : KernelState) (before mid now : Option DiskState) (a m b : DiskStatus) (pick : ℕ)
     (off : k.now.machine.is_up ≡ false) (power : m ≡ powered a pick) (goes : Goes Restored before mid)
     (calls : DeviceCalls (8 * 1024 + 68) m b b.is_down) (few : (w : World) → FoundAt k mid w → b.calls ≤ m.calls + (8 * w.base.units + 68)) where
   starts_counted : (w : World) (fell : ℕ) → KernelAt k before w → RoseBy fell m.downs b.downs → Counts w (record { machine = k; disk = before; status = a }) (record { machine = n; disk = now; status = b }) 1 (Power pick ∷ []) fell
   starts_counted w fell at rose = counted w k n before now a b (Power pick ∷ []) fell
       (subst (λ d. RoseBy fell d b.downs) (ap (λ s. s.downs) power) rose)
       (calls.plan ∙ ap (λ s. s.plan) power)
-      (subst (λ d. b.calls ≤ d + (8 * w.base.units + 68)) (ap (λ s. s.calls) power) (few w (found_at k before mid off goes w at)))
+      (subst (λ d. b.calls ≤ d + (8 * w.base.units + 68)) (ap (λ s. s.calls) power) (few w (found_at law k before mid off goes w at)))
 
   pub started : (reply : Reply) → ((pick : ℕ) (w : World) → FoundAt k mid w → DoesLine w (Some (Restart pick)) reply n now) → (reply ≡ Refused MachineDown → Rose m.downs b.downs)
       → Answers (record { machine = k; disk = before; status = a }) (record { machine = n; disk = now; status = b }) (Some (Restart pick)) reply
   started reply does cause = λ w at.
-      let (step, new, done, stands) = does pick w (found_at k before mid off goes w at) in
+      let (step, new, done, stands) = does pick w (found_at law k before mid off goes w at) in
       let starts = starts_of w new pick step reply (off_of k before w off at) done in record {
         step = step;
         world = new;
@@ -220,7 +220,7 @@ module _ (k n : KernelState) (before mid now : Option DiskState) (a m b : DiskSt
   pub not_started : now ≡ mid → (line : List ℕ) (w : World) → Means line (Some (Restart pick)) → KernelAt k before w
       → Unanswered w (record { machine = k; disk = before; status = a }) (record { machine = n; disk = now; status = b }) line
   not_started same line w means at = record {
-    leaves = subst (λ (o : Option DiskState). Tells o (LeavesStates w)) (sym same) (found_law k mid w (found_at k before mid off goes w at));
+    leaves = subst (λ (o : Option DiskState). Tells o (LeavesStates w)) (sym same) (found_law k mid w (found_at law k before mid off goes w at));
     counts = inr (pick, means, off_of k before w off at, starts_counted w 0 at (RoseBy-none m.downs b.downs calls.later));
   }
 

@@ -10,7 +10,7 @@ ghost use Rattle.ktm_types.specs.declared.command.Line.{Line};
 ghost use Rattle.ktm_types.specs.declared.command.Line.TheVariants.{Cut, Crash, Restart, Process, Tick};
 
 use ktm_base::{Down, NoMemory, Pid, PowerDisk, Refusal};
-use ktm_kernel::Kernel;
+use ktm_kernel::{Kernel, law_of_power};
 use ktm_script::{LineFault, read_line};
 use ktm_types::{Command, Line, Reply};
 use ktm_world::is_built;
@@ -92,6 +92,7 @@ fn restart<D: PowerDisk>(kernel: &mut Kernel, disk: &mut D, pick: u64) -> Result
     ensures ready { OnOk result (IsReady kernel.new (D.told disk.new) (D.status disk.new)) }
     ensures no_memory { OnErr result ((line : List ℕ) (w : World) → Means line (Some (Restart pick)) → KernelAt kernel.old (D.told disk.old) w → Unanswered w (record { machine = kernel.old; disk = D.told disk.old; status = D.status disk.old }) (record { machine = kernel.new; disk = D.told disk.new; status = D.status disk.new }) line) }
 {
+    law_of_power();
     if kernel.is_up() {
         return Ok(Reply::Refused(Refusal::MachineUp));
     }

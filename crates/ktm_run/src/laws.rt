@@ -1,7 +1,6 @@
 // What is so of every run, as the contract of a function that does nothing.
 ghost use Rattle.ktm_run.specs.Lawful.{RunLaw};
 
-use ktm_built::law_of_bases;
 use ktm_laws::{law_of_lawful_worlds, law_of_one_outcome};
 
 // Each world that a run comes to is lawful, and no transaction is told two outcomes.
@@ -10,5 +9,4 @@ pub fn law_of_runs()
 {
     law_of_lawful_worlds();
     law_of_one_outcome();
-    law_of_bases();
 }

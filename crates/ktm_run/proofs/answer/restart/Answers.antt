@@ -4,19 +4,19 @@ use Rattle.ktm_run.proofs.answer.restart.Goals as goal
 
 pub returns-in-Err-clause-does : goal.returns-in-Err-clause-does
 returns-in-Err-clause-does g c =
-    failed_again c.args.kernel.now (g.D.Disk.told c.args.disk.now) (g.D.Disk.told c.power.new.self) (g.D.Disk.status c.args.disk.now) (g.D.Disk.status c.power.new.self) c.args.pick
+    failed_again c.law_of_power.ensures c.args.kernel.now (g.D.Disk.told c.args.disk.now) (g.D.Disk.told c.power.new.self) (g.D.Disk.status c.args.disk.now) (g.D.Disk.status c.power.new.self) c.args.pick
     (sym c.is_up.ensures ∙ c.if-is_up.false) c.in-Err.ensures.status.0 c.in-Err.ensures.status.1 c.in-Err.ensures.err
 
 pub returns-in-Ok-clause-does : goal.returns-in-Ok-clause-does
 returns-in-Ok-clause-does g c =
-    started c.args.kernel.now c.start_again.new.self (g.D.Disk.told c.args.disk.now) (g.D.Disk.told c.power.new.self) (g.D.Disk.told c.start_again.new.disk)
+    started c.law_of_power.ensures c.args.kernel.now c.start_again.new.self (g.D.Disk.told c.args.disk.now) (g.D.Disk.told c.power.new.self) (g.D.Disk.told c.start_again.new.disk)
     (g.D.Disk.status c.args.disk.now) (g.D.Disk.status c.power.new.self) (g.D.Disk.status c.start_again.new.disk) c.args.pick
     (sym c.is_up.ensures ∙ c.if-is_up.false) c.in_default.ensures.status c.in_default.ensures.ok c.in-Ok.ensures.calls c.in-Ok.ensures.few
     c.in-Ok.reply c.in-Ok.ensures.does c.in-Ok.ensures.cause
 
 pub returns-in-Err-start_again-clause-no_memory : goal.returns-in-Err-start_again-clause-no_memory
 returns-in-Err-start_again-clause-no_memory g c =
-    not_started c.args.kernel.now c.start_again.new.self (g.D.Disk.told c.args.disk.now) (g.D.Disk.told c.power.new.self) (g.D.Disk.told c.start_again.new.disk)
+    not_started c.law_of_power.ensures c.args.kernel.now c.start_again.new.self (g.D.Disk.told c.args.disk.now) (g.D.Disk.told c.power.new.self) (g.D.Disk.told c.start_again.new.disk)
     (g.D.Disk.status c.args.disk.now) (g.D.Disk.status c.power.new.self) (g.D.Disk.status c.start_again.new.disk) c.args.pick
     (sym c.is_up.ensures ∙ c.if-is_up.false) c.in_default.ensures.status c.in_default.ensures.ok c.in-Err-start_again.ensures.calls c.in-Err-start_again.ensures.few
     c.in-Err-start_again.ensures.no_memory.0

@@ -77,5 +77,5 @@ returns-clause-run g c = λ base room tells.
     let made = c.run_script.ensures in
     run_ended base room _ _ (record { machine = c.in-Ok-open_kernel.kernel; disk = g.D.Disk.told c.open_kernel.new.disk; status = g.D.Disk.status c.open_kernel.new.disk }) c.run_script.new.kernel
     (g.met.D.Disk.lengths c.run_script.new.disk)
-    stands fits (c.in-Ok-open_kernel.ensures.counts base room tells) (c.law_of_runs.ensures _ _ base room stands fits) c.run_script.result
+    stands fits (c.in-Ok-open_kernel.ensures.counts base room tells) (c.law_of_runs.ensures _ _ base room stands) c.run_script.result
     made.done made.between made.behind made.within made.not_usage made.not_image made.not_disk made.not_full

@@ -11,7 +11,7 @@ use Rattle.ktm_kernel.proofs.kernel.Kernel.answer.Goals as goal
 pub invariant_of-self-in-Ok : goal.invariant_of-self-in-Ok
 invariant_of-self-in-Ok g c =
     let decided = c.in_ok-reply.ensures.ok in
-    kept c.self.inside.journal c.record.new.journal c.self.inside.events c.decide.new.events _ (c.in-Ok.ensures.grows _ decided.records) c.self.invariant.0 (c.decide.ensures.room ∙ c.clear.ensures.room) c.self.invariant.1 c.self.invariant.2
+    kept c.self.inside.journal c.record.new.journal c.self.inside.events c.decide.new.events _ (c.in-Ok.ensures.grows _ decided.records) c.self.invariant (c.decide.ensures.room ∙ c.clear.ensures.room)
 
 pub returns-in-Ok-clause-ends : goal.returns-in-Ok-clause-ends
 returns-in-Ok-clause-ends g c =
@@ -20,7 +20,7 @@ returns-in-Ok-clause-ends g c =
     (record { now = now_of c.record.new.journal (held c.settle.new.self); journal = c.record.new.journal }) (g.D.Disk.told c.args.disk.now) (g.D.Disk.told c.record.new.disk)
     c.in-Ok.ensures.up c.self.view_is (done c.self.inside.journal (held c.self.inside.memory) _ c.in_ok-reply.field-0.reply c.in_ok-reply.field-0.settlement c.decide.new.events c.decide.new.self c.in_ok-reply.ensures.ok
     c.record.new.journal c.settle.new.self (g.D.Disk.told c.args.disk.now) (g.D.Disk.told c.record.new.disk)
-    c.self.invariant.0.most c.self.invariant.1 c.self.invariant.2 c.in-Ok.ensures.grows c.settle.ensures c.in-Ok.ensures.room c.in-Ok.ensures.log)
+    c.in-Ok.ensures.grows c.settle.ensures c.in-Ok.ensures.room c.in-Ok.ensures.log)
 
 pub returns-in-Ok-clause-untouched : goal.returns-in-Ok-clause-untouched
 returns-in-Ok-clause-untouched g c = λ touches.
@@ -35,5 +35,5 @@ returns-in-Err-Down-clause-ends g c =
     (record { now = now_of c.record.new.journal (held c.fall.new.self); journal = c.record.new.journal }) (g.D.Disk.told c.args.disk.now) (g.D.Disk.told c.record.new.disk)
     (calls.down ∙ or_right _ true refl) c.self.view_is (cut c.self.inside.journal (held c.self.inside.memory) _ c.in_ok-reply.field-0.reply c.in_ok-reply.field-0.settlement c.decide.new.events c.decide.new.self c.in_ok-reply.ensures.ok
     c.record.new.journal c.fall.new.self (g.D.Disk.told c.args.disk.now) (g.D.Disk.told c.record.new.disk)
-    c.self.invariant.0.most c.self.invariant.1 c.self.invariant.2 c.in-Err-Down.ensures.refused (ap held c.fall.ensures) c.in-Err-Down.ensures.some
+    c.in-Err-Down.ensures.refused (ap held c.fall.ensures) c.in-Err-Down.ensures.some
     (rw c.in-Err-Down.field-0-is at c.in-Err-Down.ensures.cut_room) (rw c.in-Err-Down.field-0-is at c.in-Err-Down.ensures.cut))

@@ -1,10 +1,9 @@
 use Rattle.std.proofs.Common.{sym, ◌∙◌}
 use Rattle.ktm_world.specs.Decide.{decide}
 use Rattle.ktm_built.proofs.Decided.{decided_law}
-use Rattle.ktm_built.proofs.Now.{now_law}
 use Rattle.ktm_kernel.proofs.Decides.{IfOk-map}
 use Rattle.ktm_kernel.proofs.Ready.{ready_after, down_causes}
-use Rattle.ktm_kernel.proofs.Worlds.{call_kept, ended_line, down_call}
+use Rattle.ktm_kernel.proofs.Worlds.{call_goes_on, ended_line, down_call}
 use Rattle.ktm_kernel.proofs.kernel.Kernel.call.Goals as goal
 
 pub returns-then-not-is_up-clause-does : goal.returns-then-not-is_up-clause-does
@@ -13,7 +12,7 @@ returns-then-not-is_up-clause-does g c = down_call c.args.self.now _ c.args.proc
 pub returns-clause-does : goal.returns-clause-does
 returns-clause-does g c = IfOk-map c.answer.result _ _
     (λ reply ends. ended_line (λ x. decide x c.args.process c.args.command) (g.D.Disk.status c.answer.new.disk).is_down c.args.self.now c.answer.new.self reply (g.D.Disk.told c.args.disk.now) (g.D.Disk.told c.answer.new.disk)
-    (sym c.is_up.ensures ∙ c.if-not-is_up.false) (λ w on standing. call_kept w c.args.process c.args.command c.requires.command c.requires.built on standing) ends)
+    (sym c.is_up.ensures ∙ c.if-not-is_up.false) (call_goes_on c.law_of_lawful.ensures c.law_of_fallen.ensures c.args.process c.args.command c.requires.built) ends)
     c.answer.ensures.ends
 
 pub returns-clause-cause : goal.returns-clause-cause
@@ -26,4 +25,4 @@ pub returns-clause-ready : goal.returns-clause-ready
 returns-clause-ready g c =
     let up = sym c.is_up.ensures ∙ c.if-not-is_up.false in
     ready_after c.answer.result (g.D.Disk.status c.answer.new.disk) c.args.self.now c.answer.new.self _ (g.D.Disk.told c.args.disk.now) (g.D.Disk.told c.answer.new.disk)
-    (now_law.0 c.args.self.now.now c.args.process c.args.command c.requires.command c.requires.built (c.requires.ready.standing up)) c.answer.ensures.ends c.answer.ensures.powered
+    (c.law_of_now.ensures.0 c.args.self.now.now c.args.process c.args.command c.requires.command c.requires.built (c.requires.ready.standing up)) c.answer.ensures.ends c.answer.ensures.powered

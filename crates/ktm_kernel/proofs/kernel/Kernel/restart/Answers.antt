@@ -1,8 +1,7 @@
 use Rattle.std.proofs.Common.{Err, [], ◌+◌, ◌-◌, refl, ap, sym, ◌∙◌, arith}
-use Rattle.ktm_journal.specs.Image.{log_area}
 use Rattle.ktm_world.specs.World.{own_group}
 use Rattle.ktm_kernel.specs.Memory.{held, now_of}
-use Rattle.ktm_kernel.proofs.Restarts.{found, next_applies, own_held, own_length, own_size, unwritten_leaves, journal_at, is_full, not_full, started, cut_off, fresh_now, held_fresh, fresh_ready}
+use Rattle.ktm_kernel.proofs.Restarts.{found, next_applies, own_held, own_length, unwritten_leaves, journal_at, is_full, not_full, started, cut_off, fresh_now, held_fresh, fresh_ready}
 use Rattle.ktm_kernel.proofs.kernel.Kernel.restart.Goals as goal
 
 pub returns-in-Err-Down-clause-down : goal.returns-in-Err-Down-clause-down
@@ -28,15 +27,10 @@ returns-in-Err-Full-clause-full g c = λ units image before log holds.
     ∙ (c.in-Err-Full.ensures.full (own_group c.in-Ok.loaded.state) own).0 (ap Err c.in-Err-Full.field-0-is)
 
 pub invariant_of-result : goal.invariant_of-result
-invariant_of-result g c =
-    let own = own_held c.push.new.self c.in-Ok.loaded.state _ c.in-Ok.ensures.built (ap (λ n. n + 1) c.boots.ensures) (c.push.ensures.adds [] c.events_in-events.ensures.empty) in (
-      record {
-        most = omega (arith, c.in-Ok-append.ensures.units, c.in-Ok.ensures.units.0, c.in-Ok.ensures.units.2);
-        room = omega (arith, c.in-Ok-append.ensures.units, c.push.ensures.room, c.events_in-events.ensures.room);
-      },
-      c.in-Ok-append.ensures.area ∙ c.in-Ok.ensures.area ∙ ap log_area (sym (c.in-Ok-append.ensures.units ∙ c.in-Ok.ensures.units.0)),
-      omega (arith, c.in-Ok-append.ensures.counted _ own, c.in-Ok-append.ensures.end _ own, c.in-Ok.ensures.counted, c.in-Ok.ensures.events.events, own_length c.in-Ok.loaded.state c.in-Ok.ensures.built, own_size c.in-Ok.loaded.state c.in-Ok.ensures.built),
-    )
+invariant_of-result g c = record {
+  most = omega (arith, c.in-Ok-append.ensures.units, c.in-Ok.ensures.units.0, c.in-Ok.ensures.units.2);
+  room = omega (arith, c.in-Ok-append.ensures.units, c.push.ensures.room, c.events_in-events.ensures.room);
+}
 
 pub returns-clause-starts : goal.returns-clause-starts
 returns-clause-starts g c = λ units image before log holds.
@@ -48,7 +42,7 @@ returns-clause-starts g c = λ units image before log holds.
     (c.in-Ok-append.ensures.units ∙ c.in-Ok.ensures.units.0) (c.in-Ok-append.ensures.image ∙ c.in-Ok.ensures.image)
     (omega (arith, c.in-Ok-append.ensures.counted _ own, c.in-Ok.ensures.counted, own_length c.in-Ok.loaded.state c.in-Ok.ensures.built)) refl fresh in
     started units image before log c.in-Ok.loaded.state is (next_applies c.in-Ok.loaded.state c.in-Ok.loaded.journal.log c.in-Ok.ensures.built c.in-Ok.ensures.keys c.in-Ok.ensures.units.1 c.in-Ok.ensures.events c.in-Ok.ensures.inside c.in-Ok.ensures.area c.in-Ok.ensures.units.2) c.in-Ok.loaded.journal c.append.new.self c.in-Ok.ensures.units.0 c.in-Ok.ensures.image
-    (g.D.Disk.told c.load.new.disk) (g.D.Disk.told c.append.new.disk) at c.push.new.self own c.in-Ok.ensures.number
+    (g.D.Disk.told c.load.new.disk) (g.D.Disk.told c.append.new.disk) at c.push.new.self own c.law_of_bases.ensures c.law_of_opened.ensures c.in-Ok.ensures.number c.in-Ok.ensures.units.2
     (record { now = now_of c.append.new.self (held c.start.result); journal = c.append.new.self }) (c.append.new.self.log.area.len - c.append.new.self.log.end) c.events-found.result refl now refl c.events-found.ensures
     c.in-Ok-append.ensures.units c.in-Ok-append.ensures.image c.in-Ok-append.ensures.area c.in-Ok-append.ensures.end
     (not_full c.in-Ok-append.field-0 _ (c.in-Ok-append.ensures.full _ own).1)
@@ -62,4 +56,4 @@ returns-clause-ready g c =
     (c.in-Ok-append.ensures.units ∙ c.in-Ok.ensures.units.0) (c.in-Ok-append.ensures.image ∙ c.in-Ok.ensures.image)
     (omega (arith, c.in-Ok-append.ensures.counted _ own, c.in-Ok.ensures.counted, own_length c.in-Ok.loaded.state c.in-Ok.ensures.built)) refl fresh in
     fresh_ready (record { now = now_of c.append.new.self (held c.start.result); journal = c.append.new.self }) c.in-Ok.loaded.state (c.append.new.self.log.area.len - c.append.new.self.log.end) (g.D.Disk.told c.append.new.disk) (g.D.Disk.status c.append.new.disk)
-    now c.in-Ok.ensures.built (next_applies c.in-Ok.loaded.state c.in-Ok.loaded.journal.log c.in-Ok.ensures.built c.in-Ok.ensures.keys c.in-Ok.ensures.units.1 c.in-Ok.ensures.events c.in-Ok.ensures.inside c.in-Ok.ensures.area c.in-Ok.ensures.units.2) c.in-Ok-append.ensures.up c.in-Ok-append.ensures.pending c.in-Ok-append.ensures.formatted
+    now c.in-Ok.ensures.built c.in-Ok.ensures.number (next_applies c.in-Ok.loaded.state c.in-Ok.loaded.journal.log c.in-Ok.ensures.built c.in-Ok.ensures.keys c.in-Ok.ensures.units.1 c.in-Ok.ensures.events c.in-Ok.ensures.inside c.in-Ok.ensures.area c.in-Ok.ensures.units.2) c.in-Ok-append.ensures.up c.in-Ok-append.ensures.pending c.in-Ok-append.ensures.formatted

@@ -2,13 +2,13 @@ use Rattle.ktm_kernel.proofs.StartAgain.{started_line, interrupted_line, full_li
 use Rattle.ktm_kernel.proofs.kernel.Kernel.start_again.Goals as goal
 
 pub returns-in-Ok-clause-does : goal.returns-in-Ok-clause-does
-returns-in-Ok-clause-does g c = rw c.drop.view_is (started_line c.args.self.now _ _ _ (g.D.Disk.told c.args.disk.now) (g.D.Disk.told c.restart.new.disk) c.in-Ok.ensures.starts)
+returns-in-Ok-clause-does g c = rw c.drop.view_is (started_line c.law_of_lawful_worlds.ensures c.law_of_fallen.ensures c.args.self.now _ _ _ (g.D.Disk.told c.args.disk.now) (g.D.Disk.told c.restart.new.disk) c.in-Ok.ensures.starts)
 
 pub returns-in-Ok-clause-few : goal.returns-in-Ok-clause-few
 returns-in-Ok-clause-few g c = found_few c.args.self.now (g.D.Disk.told c.args.disk.now) _ _ c.in-Ok.ensures.few
 
 pub returns-in-Err-Down-clause-does : goal.returns-in-Err-Down-clause-does
-returns-in-Err-Down-clause-does g c = rw c.self.view_is (interrupted_line c.args.self.now (g.D.Disk.told c.args.disk.now) (g.D.Disk.told c.restart.new.disk) (rw c.in-Err-Down.field-0-is at c.in-Err-Down.ensures.down))
+returns-in-Err-Down-clause-does g c = rw c.self.view_is (interrupted_line c.law_of_fallen.ensures c.args.self.now (g.D.Disk.told c.args.disk.now) (g.D.Disk.told c.restart.new.disk) (rw c.in-Err-Down.field-0-is at c.in-Err-Down.ensures.down))
 
 pub returns-in-Err-Down-clause-few : goal.returns-in-Err-Down-clause-few
 returns-in-Err-Down-clause-few g c = found_few c.args.self.now (g.D.Disk.told c.args.disk.now) _ _ c.in-Err-Down.ensures.few
@@ -20,7 +20,7 @@ pub returns-in-Err-Bad-clause-few : goal.returns-in-Err-Bad-clause-few
 returns-in-Err-Bad-clause-few g c = found_few c.args.self.now (g.D.Disk.told c.args.disk.now) _ _ c.in-Err-Bad.ensures.few
 
 pub returns-in-Err-Full-clause-does : goal.returns-in-Err-Full-clause-does
-returns-in-Err-Full-clause-does g c = rw c.self.view_is (full_line c.args.self.now (g.D.Disk.told c.args.disk.now) (g.D.Disk.told c.restart.new.disk) (rw c.in-Err-Full.field-0-is at c.in-Err-Full.ensures.unwritten) (rw c.in-Err-Full.field-0-is at c.in-Err-Full.ensures.full))
+returns-in-Err-Full-clause-does g c = rw c.self.view_is (full_line c.law_of_fallen.ensures c.args.self.now (g.D.Disk.told c.args.disk.now) (g.D.Disk.told c.restart.new.disk) (rw c.in-Err-Full.field-0-is at c.in-Err-Full.ensures.unwritten) (rw c.in-Err-Full.field-0-is at c.in-Err-Full.ensures.full))
 
 pub returns-in-Err-Full-clause-few : goal.returns-in-Err-Full-clause-few
 returns-in-Err-Full-clause-few g c = found_few c.args.self.now (g.D.Disk.told c.args.disk.now) _ _ c.in-Err-Full.ensures.few

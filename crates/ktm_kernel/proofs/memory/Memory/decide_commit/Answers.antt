@@ -13,12 +13,12 @@ record_settings-requires-clause-id c = committing_id (now_of c.args.journal.now 
 pub record_settings-requires-clause-settings : goal.record_settings-requires-clause-settings
 record_settings-requires-clause-settings c =
     let own = c.own_settings.ensures ∙ ap (λ k. own_settings k.own c.args.t.id) c.in_ok-reserve.ensures.keys ∙ ap (λ m. own_settings m.keys.keys.own c.args.t.id) c.self.view_is in
-    subst AreSpellableSettings (sym own) (spellable (now_of c.args.journal.now (held c.args.self.now)) c.args.t c.requires.standing c.requires.there c.requires.roomy.most)
+    subst AreSpellableSettings (sym own) (spellable (now_of c.args.journal.now (held c.args.self.now)) c.args.t c.requires.standing c.requires.roomy.most)
 
 pub record_settings-requires-clause-fits : goal.record_settings-requires-clause-fits
 record_settings-requires-clause-fits c =
     let own = c.own_settings.ensures ∙ ap (λ k. own_settings k.own c.args.t.id) c.in_ok-reserve.ensures.keys ∙ ap (λ m. own_settings m.keys.keys.own c.args.t.id) c.self.view_is in
-    omega (arith, fits (now_of c.args.journal.now (held c.args.self.now)) c.args.t c.own_settings.result.now c.requires.standing c.requires.there c.requires.roomy.most own, c.requires.roomy.room)
+    omega (arith, fits (now_of c.args.journal.now (held c.args.self.now)) c.args.t c.own_settings.result.now c.requires.standing c.requires.roomy.most own, c.requires.roomy.room)
 
 pub returns-clause-ok : goal.returns-clause-ok
 returns-clause-ok c =

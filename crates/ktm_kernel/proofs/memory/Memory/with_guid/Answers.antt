@@ -1,4 +1,4 @@
-use Rattle.std.proofs.Common.{◌≡◌, ℕ, ◌&&◌, List, Option, Some, None, IfSome, ap, sym, ◌∙◌, arith}
+use Rattle.std.proofs.Common.{◌≡◌, ℕ, ◌&&◌, List, Option, Some, None, IfSome, ap, sym, ◌∙◌}
 use Rattle.std.specs.Prelude.{find, option_and_then}
 use Rattle.ktm_base.specs.declared.id.Id.{Id}
 use Rattle.ktm_base.specs.declared.id.ObjectKind.{ObjectKind}
@@ -18,7 +18,7 @@ leads n image guid (Some id) same has every = record { has = ap (λ i. guid_of O
 pub returns-in_default : goal.returns-in_default
 returns-in_default c =
     let x = now_of c.args.journal.now (held c.args.self.now) in
-    sym (guid_law x c.args.guid.now c.id_of.result c.requires (omega (arith, c.boot-boot.ensures, ap (λ m. m.tm.boot) c.self.view_is))
+    sym (guid_law x c.args.guid.now c.id_of.result c.requires.course
     (leads c.image.result x.recorded.image c.args.guid.now c.id_of.result c.image.ensures c.id_of.ensures.found c.id_of.ensures.every)
     ∙ ap (option_and_then (λ id. find (λ t. is_live t && same_id t.id id) x.transactions.items)) c.in_default.is)
 
@@ -27,6 +27,6 @@ returns c =
     let x = now_of c.args.journal.now (held c.args.self.now) in
     c.find_live.ensures.first
     ∙ ap (λ m. find (λ t. is_live t && same_id t.id c.in-Some.id) m.tm.now.items) c.self.view_is
-    ∙ sym (guid_law x c.args.guid.now c.id_of.result c.requires (omega (arith, c.boot-boot.ensures, ap (λ m. m.tm.boot) c.self.view_is))
+    ∙ sym (guid_law x c.args.guid.now c.id_of.result c.requires.course
     (leads c.image.result x.recorded.image c.args.guid.now c.id_of.result c.image.ensures c.id_of.ensures.found c.id_of.ensures.every)
     ∙ ap (option_and_then (λ id. find (λ t. is_live t && same_id t.id id) x.transactions.items)) c.in-Some.is)
