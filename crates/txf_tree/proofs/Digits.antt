@@ -5,7 +5,7 @@ use Rattle.std.specs.declared.cmp.Ordering.TheVariants.{Less}
 use Rattle.std.proofs.lemmas.Bool.{cases_lt, lt-ltb}
 use Rattle.std.proofs.lemmas.Cmp.{nat_cmp_total, tied_itself}
 use Rattle.ktm_links.specs.Mapped.{name_cmp, Begins}
-use Rattle.txf_tree.specs.Indexes.{digits, number_bytes}
+use Rattle.txf_tree.specs.Places.{digits, number_bytes}
 
 first_less : (a b : ℕ) (r s : List ℕ) → a < b → name_cmp (a ∷ r) (b ∷ s) ≡ Less
 first_less a b r s less = rw (lt-ltb a b less) refl

@@ -1,12 +1,13 @@
 mod Applying
 mod Changing
 mod Counting
-mod Digits
+pub mod Digits
 mod Filling
 mod InPlace
-mod Listing
+pub mod Listing
 mod Naming
 mod Numbering
+pub mod Ordered
 mod Renaming
 mod Restart
 mod Upward

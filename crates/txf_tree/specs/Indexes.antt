@@ -1,37 +1,17 @@
 -- How nodes are found by their numbers and by their names. No public clause cites this module.
-use Rattle.std.specs.Prelude.{◌≡◌, ℕ, zero, suc, ◌+◌, ◌<◌, ◌≤◌, ◌/◌, ◌%◌, not, true, List, [], ◌∷◌, ◌++◌, length, map, filter, Option, Some, None, is_some, if◌then◌else◌, nat_lt}
+use Rattle.std.specs.Prelude.{◌≡◌, ℕ, ◌+◌, ◌<◌, ◌≤◌, not, true, List, [], ◌∷◌, length, map, filter, Option, Some, None, is_some, if◌then◌else◌, nat_lt}
 use Rattle.std.specs.Option.{option_map}
-use Rattle.std.specs.Ordering.{is_lt}
-use Rattle.ktm_base.specs.Names.{folded}
 use Rattle.ktm_types.specs.declared.change.Change.{Change}
 use Rattle.ktm_types.specs.declared.recorded.Node.{Node}
 use Rattle.ktm_links.specs.declared.list.Key.{Key}
 use Rattle.ktm_links.specs.Items.{Item, value_at}
-use Rattle.ktm_links.specs.Mapped.{NamedItem, at, name_cmp, IsNotBelow}
+use Rattle.ktm_links.specs.Mapped.{NamedItem, at, IsNotBelow}
 use Rattle.ktm_world.specs.Changes.{changed}
 use Rattle.ktm_world.specs.Committed.{versions_after}
-use Rattle.txf_tree.specs.Children.{Shown, entry_seen}
-use Rattle.txf_tree.specs.declared.entry.Entry.{Entry}
+use Rattle.txf_tree.specs.Places.{child_name, number_bytes}
 use Rattle.txf_tree.specs.TreeState.{NodeNow, TreeState, is_numbered, now_at, takes, tree_of, versions_of, KeepsRoom}
 
 -- ---- names
-
--- the digits of a number to the base 256, the lowest last, with these behind them; the first is what is left of the number
-abbrev pub digits : ℕ → ℕ → List ℕ → List ℕ
-digits zero n behind = n ∷ behind
-digits (suc more) n behind = digits more (n / 256) (n % 256 ∷ behind)
-
--- the eight bytes of a number, the greatest first
-unfoldable pub number_bytes : ℕ → List ℕ
-number_bytes n = digits 7 n []
-
--- under which name a child of the directory stands
-abbrev pub child_name : ℕ → List ℕ → List ℕ
-child_name directory name = number_bytes directory ++ folded name
-
--- where the names begin that come after that of a child
-abbrev pub after_child : ℕ → List ℕ → List ℕ
-after_child directory name = child_name directory name ++ 0 ∷ []
 
 -- under which name the node stands in its directory
 abbrev pub name_of : Node → List ℕ
@@ -122,16 +102,7 @@ pub record IsApplied (old new : TreeState) (change : Change) : Type 0 where
   pub rooms : KeepsRoom old new change
   pub spare : old.spare ≤ new.spare + takes change
 
--- ---- entries in order
-
--- the entries whose names are not below this one
-abbrev pub entries_from : ℕ → List ℕ → List Shown → List Shown
-entries_from directory from entries = filter (λ entry. not (is_lt (name_cmp (child_name directory entry.name) from))) entries
-
--- what is left of the entries: this one, and those behind it
-abbrev pub entries_behind : ℕ → List Shown → Option Entry → List Shown
-entries_behind directory entries None = []
-entries_behind directory entries (Some entry) = entry_seen entry ∷ entries_from directory (after_child directory entry.name.now) entries
+-- ---- names in order
 
 -- the number is under the first of the names of which this is so
 pub record IsFirstUnder (P : List ℕ → Type 0) (names : List (NamedItem ℕ)) (number : ℕ) : Type 0 where

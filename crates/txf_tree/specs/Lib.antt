@@ -1,3 +1,4 @@
 pub mod Children
 pub mod Indexes
+pub mod Places
 pub mod TreeState

@@ -1,6 +1,8 @@
 // What is lent of a tree.
-ghost use Rattle.std.specs.Prelude.{◌≡◌, map};
+ghost use Rattle.std.specs.Prelude.{◌≡◌, ◌++◌, ◌∷◌, [], map, OnOk};
 
+use ktm_base::NoMemory;
+use std::alloc::Global;
 use std::marker::Model;
 
 /// A node: its content, if it is a file, and its name are lent.
@@ -39,11 +41,22 @@ impl<'a> Model for Entries<'a> {
 impl<'a> Entries<'a> {
     ghost use Rattle.txf_tree.specs.Children.{entry_seen};
 
-    /// These entries, which the caller has put in order.
-    pub fn new(items: Vec<Entry<'a>>) -> Self
-        ensures { result ≡ map entry_seen items.entry.items }
+    pub fn new(alloc: Global) -> Self
+        ensures { result ≡ [] }
     {
-        Entries { items }
+        Entries {
+            items: Vec::new(alloc),
+        }
+    }
+
+    /// One entry more, of which the caller knows that it comes behind the others.
+    pub fn push(&mut self, entry: Entry<'a>) -> Result<(), NoMemory>
+        ensures { OnOk result (self.new ≡ self.old ++ entry_seen entry.entry ∷ []) }
+    {
+        if let Err(_) = self.items.push(entry) {
+            return Err(NoMemory);
+        }
+        Ok(())
     }
 
     pub fn as_slice(&self) -> &[Entry<'a>]

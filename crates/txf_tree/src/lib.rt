@@ -10,4 +10,5 @@ mod stored;
 mod tree;
 
 pub use entry::{Entries, Entry, NodeRef};
+pub use name::{ChildName, NumberName, after_child, after_place, child_name, number_bytes};
 pub use tree::Tree;

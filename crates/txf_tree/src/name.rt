@@ -1,20 +1,20 @@
 // The names under which nodes stand.
-ghost use Rattle.std.specs.Prelude.{◌≡◌, ◌+◌, ◌≤◌, ◌++◌, length, drop};
+ghost use Rattle.std.specs.Prelude.{◌≡◌, ◌+◌, ◌≤◌, ◌++◌, ◌∷◌, [], length, drop};
 ghost use Rattle.ktm_base.specs.Bytes.{written};
 ghost use Rattle.ktm_base.specs.Names.{folded};
-ghost use Rattle.txf_tree.specs.Indexes.{after_child, child_name, number_bytes};
+ghost use Rattle.txf_tree.specs.Places.{after_child, child_name, number_bytes};
 
 use ktm_base::fold;
 use ktm_links::InlineName;
 
 /// The name of a node by its number, the greatest byte first.
-pub(crate) type NumberName = [u8; 8];
+pub type NumberName = [u8; 8];
 
-/// The name of a node by its directory's number, and then its folded name.
-pub(crate) type ChildName = InlineName<263>;
+/// The place of a node: its directory's number, and then its folded name.
+pub type ChildName = InlineName<263>;
 
 /// Names rise with the number.
-pub(crate) fn number_bytes(number: u64) -> NumberName
+pub fn number_bytes(number: u64) -> NumberName
     ensures { result ≡ number_bytes number }
 {
     number.to_be_bytes()
@@ -30,7 +30,7 @@ fn write_folded(room: &mut [u8], first: usize, name: &[u8])
     }
 }
 
-// Writes the name of a child of the directory.
+// Writes the place of a child of the directory.
 fn write_child(room: &mut [u8], directory: u64, name: &[u8])
     requires { 8 + length name.now ≤ length room.old }
     ensures { room.new ≡ child_name directory name.now ++ drop (8 + length name.now) room.old }
@@ -39,8 +39,8 @@ fn write_child(room: &mut [u8], directory: u64, name: &[u8])
     write_folded(room, 8, name);
 }
 
-/// The name of a child of the directory.
-pub(crate) fn child_name(directory: u64, name: &[u8]) -> ChildName
+/// The place of a child of the directory.
+pub fn child_name(directory: u64, name: &[u8]) -> ChildName
     requires { length name.now ≤ 255 }
     ensures { result ≡ child_name directory name.now }
 {
@@ -49,12 +49,30 @@ pub(crate) fn child_name(directory: u64, name: &[u8]) -> ChildName
     InlineName::new(&room[..8 + name.len()])
 }
 
-/// Where the names begin that come after that of the child.
-pub(crate) fn after_child(directory: u64, name: &[u8]) -> InlineName<264>
+/// The first place behind that of the child.
+pub fn after_child(directory: u64, name: &[u8]) -> InlineName<264>
     requires { length name.now ≤ 255 }
     ensures { result ≡ after_child directory name.now }
 {
     let mut room = [0; 264];
     write_child(&mut room, directory, name);
     InlineName::new(&room[..9 + name.len()])
+}
+
+// Writes bytes at the front.
+fn write_front(room: &mut [u8], bytes: &[u8])
+    requires { length bytes.now ≤ length room.old }
+    ensures { room.new ≡ bytes.now ++ drop (length bytes.now) room.old }
+{
+    room[..bytes.len()].copy_from_slice(bytes);
+}
+
+/// The first place behind this one.
+pub fn after_place(place: &[u8]) -> InlineName<264>
+    requires { length place.now ≤ 263 }
+    ensures { result ≡ place.now ++ 0 ∷ [] }
+{
+    let mut room = [0; 264];
+    write_front(&mut room, place);
+    InlineName::new(&room[..place.len() + 1])
 }

@@ -2,7 +2,8 @@
 ghost use Rattle.std.specs.Prelude.{◌≡◌, ◌+◌, ◌<◌, ◌≤◌, [], None, Some, length, option_copied, is_some, true, OnOk, IsOk};
 ghost use Rattle.std.specs.Option.{option_map};
 ghost use Rattle.ktm_world.specs.Tree.{node_at};
-ghost use Rattle.txf_tree.specs.Indexes.{number_bytes, replaced, under, with_now, without_now};
+ghost use Rattle.txf_tree.specs.Indexes.{replaced, under, with_now, without_now};
+ghost use Rattle.txf_tree.specs.Places.{number_bytes};
 ghost use Rattle.txf_tree.specs.TreeState.{now_at, plain, tree_in};
 
 use crate::name::{NumberName, number_bytes};

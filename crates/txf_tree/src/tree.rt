@@ -8,7 +8,8 @@ ghost use Rattle.ktm_world.specs.Changes.{applies, bytes_in, changed, changed_al
 ghost use Rattle.ktm_world.specs.Committed.{final_bytes, version_of, versions_after};
 ghost use Rattle.ktm_world.specs.Tree.{bytes_of, child_of, content_of, has_entries, is_at_or_below, is_directory, is_file, node_at, numbers_rise, parent_of, with_node};
 ghost use Rattle.txf_tree.specs.Children.{node_seen, entries_in};
-ghost use Rattle.txf_tree.specs.Indexes.{entries_behind, entries_from, number_bytes, under, with_now, IsApplied, IsFirstUnder, IsNoneUnder};
+ghost use Rattle.txf_tree.specs.Indexes.{under, with_now, IsApplied, IsFirstUnder, IsNoneUnder};
+ghost use Rattle.txf_tree.specs.Places.{entries_behind, entries_from, number_bytes};
 ghost use Rattle.txf_tree.specs.TreeState.{dropped, fits, now_at, room_of, has_room, takes, tree_of, versions_of, KeepsRoom, KeepsRooms};
 
 use crate::entry::{Entries, Entry, NodeRef};
@@ -226,15 +227,34 @@ impl Tree {
     pub fn entries(&self, directory: u64) -> Result<Entries<'_>, NoMemory>
         ensures { IfOk result (λ entries. entries ≡ entries_in (tree_of self.now) directory) }
     {
-        let mut entries = Vec::new(self.alloc);
-        let mut next = self.entry_from(directory, &number_bytes(directory));
+        let mut entries = Entries::new(self.alloc);
+        let mut next = self.next_entry(directory, &number_bytes(directory));
         while let Some(entry) = next {
-            if let Err(_) = entries.push(entry) {
+            if let Err(NoMemory) = entries.push(entry) {
                 return Err(NoMemory);
             }
-            next = self.entry_from(directory, after_child(directory, entry.name).as_slice());
+            next = self.next_entry(directory, after_child(directory, entry.name).as_slice());
         }
-        Ok(Entries::new(entries))
+        Ok(entries)
+    }
+
+    /// The first entry of the directory whose place is not below this one, so that an entry behind another is found without
+    /// memory.
+    pub fn next_entry(&self, directory: u64, from: &[u8]) -> Option<Entry<'_>>
+        requires { Begins (number_bytes directory) from.now }
+        ensures entries { entries_from directory from.now (entries_in (tree_of self.now) directory) ≡ entries_behind directory (entries_in (tree_of self.now) directory) result }
+        ensures few { IfSome result (λ entry. length entry.name.now ≤ 255) }
+    {
+        let Some(number) = first_under(&self.names, from) else {
+            return None;
+        };
+        let Some(node) = self.nodes.get(number) else {
+            unreachable!();
+        };
+        if node.parent() != directory {
+            return None;
+        }
+        Some(node.as_entry())
     }
 
     /// Makes room for so many more nodes. It fails where the memory does not reach, or where the tree has had nearly 2^64
@@ -343,24 +363,6 @@ impl Tree {
             Some(node) => node.parent(),
             None => ROOT,
         }
-    }
-
-    // The first entry of the directory whose name is not below this one.
-    fn entry_from(&self, directory: u64, from: &[u8]) -> Option<Entry<'_>>
-        requires { Begins (number_bytes directory) from.now }
-        ensures entries { entries_from directory from.now (entries_in (tree_of self.now) directory) ≡ entries_behind directory (entries_in (tree_of self.now) directory) result }
-        ensures few { IfSome result (λ entry. length entry.name.now ≤ 255) }
-    {
-        let Some(number) = first_under(&self.names, from) else {
-            return None;
-        };
-        let Some(node) = self.nodes.get(number) else {
-            unreachable!();
-        };
-        if node.parent() != directory {
-            return None;
-        }
-        Some(node.as_entry())
     }
 
     // Puts a node whose number and name are free, and whose bytes were never changed. It takes no memory.

@@ -1,7 +1,7 @@
 use Rattle.std.proofs.Common.{◌≡◌, ◌+◌, ◌-◌, length, take, ap, ◌∙◌, arith, length-append}
 use Rattle.std.proofs.lemmas.List.{length-map}
 use Rattle.ktm_base.specs.Names.{folded, folded_byte}
-use Rattle.txf_tree.specs.Indexes.{child_name, number_bytes}
+use Rattle.txf_tree.specs.Places.{child_name, number_bytes}
 use Rattle.txf_tree.proofs.Digits.{length-number_bytes}
 use Rattle.txf_tree.proofs.Filling.{take-room}
 use Rattle.txf_tree.proofs.name.after_child.Goals as goal

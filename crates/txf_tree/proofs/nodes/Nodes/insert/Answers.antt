@@ -1,5 +1,6 @@
 use Rattle.std.proofs.Common.{◌∙◌, ap}
-use Rattle.txf_tree.specs.Indexes.{number_bytes, with_now}
+use Rattle.txf_tree.specs.Indexes.{with_now}
+use Rattle.txf_tree.specs.Places.{number_bytes}
 use Rattle.txf_tree.specs.TreeState.{TreeState}
 use Rattle.txf_tree.proofs.Numbering.{free_key, IsIndexed-put}
 use Rattle.txf_tree.proofs.nodes.Nodes.insert.Goals as goal

@@ -1,5 +1,6 @@
 use Rattle.std.proofs.Common.{◌≡◌, ◌∙◌, None, ap₂}
-use Rattle.txf_tree.specs.Indexes.{child_name, name_of, under}
+use Rattle.txf_tree.specs.Indexes.{name_of, under}
+use Rattle.txf_tree.specs.Places.{child_name}
 use Rattle.txf_tree.proofs.Applying.{name_key_free, under-here, under-same}
 use Rattle.txf_tree.proofs.Naming.{name_free}
 use Rattle.txf_tree.proofs.Renaming.{IsTree-with}

@@ -1,7 +1,8 @@
 use Rattle.std.proofs.Common.{◌≡◌, ◌∙◌, ap, ap₂, sym, arith}
 use Rattle.std.specs.Option.{option_map}
 use Rattle.ktm_world.specs.Tree.{content_of}
-use Rattle.txf_tree.specs.Indexes.{child_name, name_of}
+use Rattle.txf_tree.specs.Indexes.{name_of}
+use Rattle.txf_tree.specs.Places.{child_name}
 use Rattle.txf_tree.specs.TreeState.{plain, tree_in, versions_in}
 use Rattle.txf_tree.proofs.Applying.{under-gone, under-same, without_now-none}
 use Rattle.txf_tree.proofs.Changing.{tree_in-without, versions_in-without}

@@ -1,6 +1,7 @@
 use Rattle.std.proofs.Common.{◌≡◌, ◌≤◌, ◌∙◌, None, length, ap, ap₂, sym, arith}
 use Rattle.ktm_types.specs.declared.recorded.Node.{Node}
-use Rattle.txf_tree.specs.Indexes.{child_name, name_of, under}
+use Rattle.txf_tree.specs.Indexes.{name_of, under}
+use Rattle.txf_tree.specs.Places.{child_name}
 use Rattle.txf_tree.proofs.Applying.{IsRenamed-from, can_move, still_free}
 use Rattle.txf_tree.proofs.InPlace.{IsSwapped-from, rooms-swapped, still_there, tree-swapped, versions-swapped}
 use Rattle.txf_tree.proofs.Naming.{name_free, named_now}

@@ -1,9 +1,9 @@
 use Rattle.std.proofs.Common.{◌∷◌, ◌∙◌, sym, ap}
 use Rattle.txf_tree.specs.Children.{Shown, entries_in}
-use Rattle.txf_tree.specs.Indexes.{after_child, entries_from}
+use Rattle.txf_tree.specs.Places.{after_child, entries_from}
 use Rattle.txf_tree.specs.TreeState.{tree_in}
 use Rattle.txf_tree.proofs.Listing.{entries_ended, entries_found, entries_passed}
-use Rattle.txf_tree.proofs.tree.Tree.entry_from.Goals as goal
+use Rattle.txf_tree.proofs.tree.Tree.next_entry.Goals as goal
 
 pub returns-in_default-clause-entries : goal.returns-in_default-clause-entries
 returns-in_default-clause-entries c =

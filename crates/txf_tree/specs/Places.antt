@@ -1,0 +1,33 @@
+-- The places of entries in their directories, and the entries from a place on.
+use Rattle.std.specs.Prelude.{ℕ, zero, suc, ◌/◌, ◌%◌, not, List, [], ◌∷◌, ◌++◌, filter, Option, Some, None}
+use Rattle.std.specs.Ordering.{is_lt}
+use Rattle.ktm_base.specs.Names.{folded}
+use Rattle.ktm_links.specs.Mapped.{name_cmp}
+use Rattle.txf_tree.specs.Children.{Shown, entry_seen}
+use Rattle.txf_tree.specs.declared.entry.Entry.{Entry}
+
+-- the digits of a number to the base 256, the lowest last, with these behind them; the first is what is left of the number
+abbrev pub digits : ℕ → ℕ → List ℕ → List ℕ
+digits zero n behind = n ∷ behind
+digits (suc more) n behind = digits more (n / 256) (n % 256 ∷ behind)
+
+-- the eight bytes of a number, the greatest first
+unfoldable pub number_bytes : ℕ → List ℕ
+number_bytes n = digits 7 n []
+
+-- the place of a child: the bytes of its directory's number, and behind them its folded name
+abbrev pub child_name : ℕ → List ℕ → List ℕ
+child_name directory name = number_bytes directory ++ folded name
+
+-- the first place behind that of a child
+abbrev pub after_child : ℕ → List ℕ → List ℕ
+after_child directory name = child_name directory name ++ 0 ∷ []
+
+-- the entries of a directory whose places are not below this one
+abbrev pub entries_from : ℕ → List ℕ → List Shown → List Shown
+entries_from directory from entries = filter (λ entry. not (is_lt (name_cmp (child_name directory entry.name) from))) entries
+
+-- the entry that is lent, if one is, and those of the directory that are behind it
+abbrev pub entries_behind : ℕ → List Shown → Option Entry → List Shown
+entries_behind directory entries None = []
+entries_behind directory entries (Some entry) = entry_seen entry ∷ entries_from directory (after_child directory entry.name.now) entries
