@@ -5,7 +5,7 @@ use Rattle.ktm_links.specs.Mapped.{NamedItem, without_name}
 use Rattle.ktm_world.specs.Tree.{units_of}
 use Rattle.txf_overlay.specs.Files.{files_in, IsFilesMap}
 use Rattle.txf_overlay.specs.Maps.{IsPut, IsSet}
-use Rattle.txf_overlay.specs.Names.{number_bytes}
+use Rattle.txf_tree.specs.Places.{number_bytes}
 use Rattle.txf_overlay.specs.OverlayState.{Written}
 use Rattle.txf_overlay.specs.Written.{bytes_at, bytes_or, file_of, total_units, with_bytes}
 use Rattle.txf_overlay.proofs.FilesMap.{files-set, units_at, units-with, units-without, with_bytes-same, IsFilesMap-set, under-bytes}

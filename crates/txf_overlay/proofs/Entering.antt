@@ -1,51 +1,37 @@
 -- Lemmas on the entries of a directory as they are seen.
-use Rattle.std.proofs.Common.{◌≡◌, ℕ, ◌+◌, ◌<◌, ◌≤◌, ◌==◌, not, Bool, true, false, is_none, filter, map, take, get_or, zero, suc, length, List, [], ◌∷◌, ◌++◌, Option, Some, None, refl, sym, ap, ◌∙◌, subst, arith, inl, inr, ◌⊎◌}
-use Rattle.std.specs.Prelude.{if◌then◌else◌}
-use Rattle.std.specs.Bool.{⊤}
-use Rattle.std.specs.Ordering.{is_lt, nat_cmp}
+use Rattle.std.proofs.Common.{◌≡◌, ℕ, ◌<◌, ◌≤◌, ◌==◌, not, Bool, true, false, is_some, filter, suc, length, List, [], ◌∷◌, ◌++◌, Option, Some, None, IfSome, refl, sym, ap, ◌∙◌, subst, arith, inl, inr, ◌⊎◌}
+use Rattle.std.specs.Prelude.{bytes_eq, IfNone}
+use Rattle.std.specs.Option.{option_map}
+use Rattle.std.specs.Ordering.{is_lt}
 use Rattle.std.specs.List.{list_all}
-use Rattle.std.specs.declared.cmp.Ordering.{Ordering}
-use Rattle.std.specs.declared.cmp.Ordering.TheVariants.{Less, Equal, Greater}
-use Rattle.std.specs.Cmp.Lexicographic.{slice_cmp}
-use Rattle.std.proofs.lemmas.Bool.{cases_Bool, cases_eq, eqb-true, eq-eqb, ne_eqb, or_cases, or_left, or_right, true≢false}
-use Rattle.std.proofs.lemmas.Cmp.{nat_list_cmp_total}
+use Rattle.std.specs.declared.cmp.Ordering.TheVariants.{Less}
+use Rattle.std.proofs.lemmas.Bool.{cases_Bool, eqb-true, eq-eqb, ne_eqb, not-true, true≢false}
 use Rattle.std.proofs.lemmas.Option.{none-some, same_Some}
-use Rattle.std.proofs.lemmas.List.{length-map, map-append, take_more}
+use Rattle.std.proofs.lemmas.List.{length-map}
+use Rattle.std.proofs.lemmas.Slice.Eq.{bytes_eq-Decides}
 use Rattle.ktm_base.specs.Names.{IsName, folded}
 use Rattle.ktm_keyed.specs.Keyed.{comes_before}
-use Rattle.ktm_links.proofs.Names.{name_equal, name_same, turned}
-use Rattle.ktm_types.specs.declared.change.Change.{Change}
+use Rattle.ktm_links.specs.Mapped.{name_cmp, Begins, IsNotBelow}
+use Rattle.ktm_links.proofs.Names.{name_same}
 use Rattle.ktm_types.specs.declared.recorded.Node.{Node}
-use Rattle.ktm_world.specs.Changes.{node_of}
 use Rattle.ktm_world.specs.FileCalls.{in_order, with_entry}
-use Rattle.ktm_world.specs.Holds.{each_change, place}
+use Rattle.ktm_world.specs.Holds.{each_change}
 use Rattle.ktm_world.specs.Tree.{IsWellFormed, Tree, has_entries, node_at}
 use Rattle.txf_tree.specs.Children.{Shown, shown, children, entries_in, entry_seen}
 use Rattle.txf_tree.specs.declared.entry.Entry.{Entry}
+use Rattle.txf_tree.specs.Places.{after_child, child_name, entries_behind, entries_from, number_bytes}
+use Rattle.txf_tree.proofs.Digits.{number_begins}
+use Rattle.txf_tree.proofs.Listing.{AreDistinct, in_order-ascends, in_order-from, in_order-in}
+use Rattle.txf_tree.proofs.Ordered.{AreAscending, IsIn, above_next, below_next, entries_begun, entries_from-first, entries_from-none, greater_from, in-map, less_from, not_below, not_below_upto, of-map}
+use Rattle.txf_overlay.specs.declared.listing.SeatRef.{SeatRef}
 use Rattle.txf_overlay.specs.OverlayState.{is_of_names, OverlayState, Seat, seen}
-use Rattle.txf_overlay.specs.Listing.{is_kept, own_entries, shown_by, shown_in, with_all, with_shown}
-use Rattle.txf_overlay.specs.Names.{number_bytes, place_bytes, place_in}
-use Rattle.txf_overlay.specs.Nodes.{if_of, last_of}
+use Rattle.txf_overlay.specs.Listing.{is_before, IsNextSeat, IsNoSeat}
+use Rattle.txf_overlay.specs.Names.{place_in}
 use Rattle.txf_overlay.specs.Views.{last_seat, seat_at, seats_of, StandsOver}
-use Rattle.txf_overlay.proofs.Options.{filter-append, or_none}
 use Rattle.txf_overlay.proofs.Trees.{Above, Rises, Rises-from, at-All}
-use Rattle.txf_overlay.proofs.Views.{IsOneEach, IsOneEach-from, Seated, seated, seated-touched, touched-held}
+use Rattle.txf_overlay.proofs.Views.{IsOneEach, IsOneEach-from, Seated, seated}
 
 -- ---- members
-abbrev pub IsIn : {X : Type 0} → X → List X → Type 0
-IsIn x [] = ⊥
-IsIn x (y ∷ ys) = (y ≡ x) ⊎ IsIn x ys
-
-in-map : {X Y : Type 0} (f : X → Y) (x : X) (xs : List X) → IsIn x xs → IsIn (f x) (map f xs)
-in-map f x [] there = absurd there
-in-map f x (y ∷ ys) (inl is) = inl (ap f is)
-in-map f x (y ∷ ys) (inr later) = inr (in-map f x ys later)
-
-of-map : {X Y : Type 0} (f : X → Y) (y : Y) (xs : List X) → IsIn y (map f xs) → (x : X) × (f x ≡ y) × IsIn x xs
-of-map f y [] there = absurd there
-of-map f y (x ∷ xs) (inl is) = (x, is, inl refl)
-of-map f y (x ∷ xs) (inr later) = let rest = of-map f y xs later in (rest.0, rest.1, inr rest.2)
-
 in-filter : {X : Type 0} (test : X → Bool) (x : X) (xs : List X) → IsIn x xs → test x ≡ true → IsIn x (filter test xs)
 in-filter test x [] there is = absurd there
 in-filter test x (y ∷ ys) (inl same) is = rw (subst (λ z. test z ≡ true) (sym same) is) (inl same)
@@ -65,228 +51,7 @@ of-filter test x (y ∷ ys) there = elim (cases_Bool (test y)) [
     both passes rest (inl same) = (inl same, subst (λ z. test z ≡ true) same passes)
     both passes rest (inr later) = let more = rest later in (inr more.0, more.1)
 
-in-append : {X : Type 0} (x : X) (xs ys : List X) → IsIn x xs ⊎ IsIn x ys → IsIn x (xs ++ ys)
-in-append x [] ys (inl none) = absurd none
-in-append x [] ys (inr there) = there
-in-append x (z ∷ xs) ys (inl (inl is)) = inl is
-in-append x (z ∷ xs) ys (inl (inr there)) = inr (in-append x xs ys (inl there))
-in-append x (z ∷ xs) ys (inr there) = inr (in-append x xs ys (inr there))
-
-of-append : {X : Type 0} (x : X) (xs ys : List X) → IsIn x (xs ++ ys) → IsIn x xs ⊎ IsIn x ys
-of-append x [] ys there = inr there
-of-append x (z ∷ xs) ys (inl is) = inl (inl is)
-of-append x (z ∷ xs) ys (inr there) = elim (of-append x xs ys there) [ inl left ↦ inl (inr left) | inr right ↦ inr right ]
-
--- ---- entries in order
-
--- by what an entry is sorted
-abbrev key_of : Shown → List ℕ
-key_of s = folded s.name
-
-before-then : (a b c : List ℕ) → comes_before a b ≡ true → comes_before b c ≡ true → comes_before a c ≡ true
-before-then a b c first second = rw (nat_list_cmp_total.trans a b c (less a b first) (less b c second)) refl
-  where
-    less : (a b : List ℕ) → comes_before a b ≡ true → slice_cmp nat_cmp a b ≡ Less
-    less a b is = go (slice_cmp nat_cmp a b) refl is
-      where
-        go : (o : Ordering) → slice_cmp nat_cmp a b ≡ o → is_lt o ≡ true → slice_cmp nat_cmp a b ≡ Less
-        go Less same lt = same
-        go Equal same lt = absurd (cc)
-        go Greater same lt = absurd (cc)
-
-before-other : (a b : List ℕ) → comes_before a b ≡ false → (a ≡ b → ⊥) → comes_before b a ≡ true
-before-other a b not_before apart = go (slice_cmp nat_cmp a b) refl
-  where
-    go : (o : Ordering) → slice_cmp nat_cmp a b ≡ o → comes_before b a ≡ true
-    go Less same = absurd (true≢false (sym (ap is_lt same) ∙ not_before))
-    go Equal same = absurd (apart (name_equal a b same))
-    go Greater same = ap is_lt (turned a b same)
-
-not-itself : (a b : List ℕ) → a ≡ b → comes_before a b ≡ true → ⊥
-not-itself a b same before = true≢false (sym before ∙ ap (λ c. comes_before c b) same ∙ ap is_lt (name_same b))
-
--- each entry comes behind this key
-abbrev AreBehind : List ℕ → List Shown → Type 0
-AreBehind key [] = ⊤
-AreBehind key (s ∷ ss) = (comes_before key (key_of s) ≡ true) × AreBehind key ss
-
--- each entry comes behind the one before it
-abbrev pub IsSorted : List Shown → Type 0
-IsSorted [] = ⊤
-IsSorted (s ∷ ss) = AreBehind (key_of s) ss × IsSorted ss
-
-behind-in : (key : List ℕ) (ss : List Shown) (s : Shown) → AreBehind key ss → IsIn s ss → comes_before key (key_of s) ≡ true
-behind-in key [] s behind there = absurd there
-behind-in key (x ∷ ss) s behind (inl is) = ap (λ y. comes_before key (key_of y)) (sym is) ∙ behind.0
-behind-in key (x ∷ ss) s behind (inr later) = behind-in key ss s behind.1 later
-
--- two sorted lists of the same entries are one
-same-sorted : (xs ys : List Shown) → IsSorted xs → IsSorted ys → ((s : Shown) → IsIn s xs → IsIn s ys) → ((s : Shown) → IsIn s ys → IsIn s xs) → xs ≡ ys
-same-sorted [] [] x_sorted y_sorted to from = refl
-same-sorted [] (y ∷ ys) x_sorted y_sorted to from = absurd (from y (inl refl))
-same-sorted (x ∷ xs) [] x_sorted y_sorted to from = absurd (to x (inl refl))
-same-sorted (x ∷ xs) (y ∷ ys) x_sorted y_sorted to from =
-    let head : x ≡ y = elim (to x (inl refl)) [
-      | inl same ↦ sym same
-      | inr later ↦ elim (from y (inl refl)) [
-        | inl same ↦ same
-        | inr later' ↦
-            absurd (not-itself (key_of x) (key_of x) refl
-            (before-then (key_of x) (key_of y) (key_of x) (behind-in (key_of x) xs y x_sorted.0 later') (behind-in (key_of y) ys x y_sorted.0 later)))
-      ]
-    ] in
-    let tail : xs ≡ ys = same-sorted xs ys x_sorted.1 y_sorted.1
-    (λ s there. elim (to s (inr there)) [
-      | inl same ↦ absurd (not-itself (key_of x) (key_of s) (ap key_of (head ∙ same)) (behind-in (key_of x) xs s x_sorted.0 there))
-      | inr later ↦ later
-    ])
-    (λ s there. elim (from s (inr there)) [
-      | inl same ↦ absurd (not-itself (key_of y) (key_of s) (ap key_of (sym head ∙ same)) (behind-in (key_of y) ys s y_sorted.0 there))
-      | inr later ↦ later
-    ]) in
-    λ i. head i ∷ tail i
-
-behind-lower : (a b : List ℕ) (ss : List Shown) → comes_before a b ≡ true → AreBehind b ss → AreBehind a ss
-behind-lower a b [] less behind = tt
-behind-lower a b (s ∷ ss) less behind = (before-then a b (key_of s) less behind.0, behind-lower a b ss less behind.1)
-
-behind-with : (key : List ℕ) (xs : List Shown) (s : Shown) → AreBehind key xs → comes_before key (key_of s) ≡ true → AreBehind key (with_shown xs s)
-behind-with key [] s behind less = (less, tt)
-behind-with key (x ∷ xs) s behind less = elim (cases_Bool (comes_before (key_of s) (key_of x))) [
-  | inl first ↦ rw first (less, behind)
-  | inr later ↦ rw later (behind.0, behind-with key xs s behind.1 less)
-]
-
--- no entry of the list has this key
-abbrev IsNew : Shown → List Shown → Type 0
-IsNew s xs = (x : Shown) → IsIn x xs → key_of s ≡ key_of x → ⊥
-
-sorted-with : (xs : List Shown) (s : Shown) → IsSorted xs → IsNew s xs → IsSorted (with_shown xs s)
-sorted-with [] s sorted new = (tt, tt)
-sorted-with (x ∷ xs) s sorted new = elim (cases_Bool (comes_before (key_of s) (key_of x))) [
-  | inl first ↦ rw first ((first, behind-lower (key_of s) (key_of x) xs first sorted.0), sorted)
-  | inr later ↦
-      rw later
-      (behind-with (key_of x) xs s sorted.0 (before-other (key_of s) (key_of x) later (new x (inl refl))), sorted-with xs s sorted.1 (λ y there. new y (inr there)))
-]
-
-in-with : (xs : List Shown) (s y : Shown) → IsIn y (with_shown xs s) → (s ≡ y) ⊎ IsIn y xs
-in-with [] s y (inl is) = inl is
-in-with [] s y (inr none) = absurd none
-in-with (x ∷ xs) s y there = elim (cases_Bool (comes_before (key_of s) (key_of x))) [
-  | inl first ↦ front (rw first at there)
-  | inr later ↦ back (in-with xs s y) (rw later at there)
-]
-  where
-    front : IsIn y (s ∷ x ∷ xs) → (s ≡ y) ⊎ IsIn y (x ∷ xs)
-    front (inl is) = inl is
-    front (inr rest) = inr rest
-
-    back : (IsIn y (with_shown xs s) → (s ≡ y) ⊎ IsIn y xs) → IsIn y (x ∷ with_shown xs s) → (s ≡ y) ⊎ IsIn y (x ∷ xs)
-    back rest (inl is) = inr (inl is)
-    back rest (inr later) = elim (rest later) [ inl is ↦ inl is | inr old ↦ inr (inr old) ]
-
-with-in : (xs : List Shown) (s y : Shown) → (s ≡ y) ⊎ IsIn y xs → IsIn y (with_shown xs s)
-with-in [] s y (inl is) = inl is
-with-in [] s y (inr none) = absurd none
-with-in (x ∷ xs) s y is = elim (cases_Bool (comes_before (key_of s) (key_of x))) [
-  | inl first ↦ rw first (front is)
-  | inr later ↦ rw later (back is (with-in xs s y))
-]
-  where
-    front : (s ≡ y) ⊎ IsIn y (x ∷ xs) → IsIn y (s ∷ x ∷ xs)
-    front (inl same) = inl same
-    front (inr old) = inr old
-
-    back : (s ≡ y) ⊎ IsIn y (x ∷ xs) → ((s ≡ y) ⊎ IsIn y xs → IsIn y (with_shown xs s)) → IsIn y (x ∷ with_shown xs s)
-    back (inl same) rest = inr (rest (inl same))
-    back (inr (inl same)) rest = inl same
-    back (inr (inr old)) rest = inr (rest (inr old))
-
-in-all : (ss xs : List Shown) (y : Shown) → IsIn y (with_all ss xs) → IsIn y ss ⊎ IsIn y xs
-in-all [] xs y there = inr there
-in-all (s ∷ ss) xs y there = elim (in-all ss (with_shown xs s) y there) [
-  | inl later ↦ inl (inr later)
-  | inr here ↦ elim (in-with xs s y here) [ inl same ↦ inl (inl same) | inr old ↦ inr old ]
-]
-
-all-in : (ss xs : List Shown) (y : Shown) → IsIn y ss ⊎ IsIn y xs → IsIn y (with_all ss xs)
-all-in [] xs y (inl none) = absurd none
-all-in [] xs y (inr there) = there
-all-in (s ∷ ss) xs y (inl (inl same)) = all-in ss (with_shown xs s) y (inr (with-in xs s y (inl same)))
-all-in (s ∷ ss) xs y (inl (inr later)) = all-in ss (with_shown xs s) y (inl later)
-all-in (s ∷ ss) xs y (inr there) = all-in ss (with_shown xs s) y (inr (with-in xs s y (inr there)))
-
--- no two of them have one key, and none has that of an entry of the list
-abbrev AreApart : List Shown → List Shown → Type 0
-AreApart [] xs = ⊤
-AreApart (s ∷ ss) xs = IsNew s xs × IsNew s ss × AreApart ss xs
-
-apart-with : (ss xs : List Shown) (s : Shown) → AreApart ss xs → IsNew s ss → AreApart ss (with_shown xs s)
-apart-with [] xs s apart new = tt
-apart-with (y ∷ ss) xs s apart new = (
-  λ x there same. elim (in-with xs s x there) [
-    | inl is ↦ new y (inl refl) (ap key_of is ∙ sym same)
-    | inr old ↦ apart.0 x old same
-  ],
-  apart.1,
-  apart-with ss xs s apart.2 (λ x there. new x (inr there)),
-)
-
-sorted-all : (ss xs : List Shown) → IsSorted xs → AreApart ss xs → IsSorted (with_all ss xs)
-sorted-all [] xs sorted apart = sorted
-sorted-all (s ∷ ss) xs sorted apart = sorted-all ss (with_shown xs s) (sorted-with xs s sorted apart.0) (apart-with ss xs s apart.2 apart.1)
-
-behind-filter : (test : Shown → Bool) (key : List ℕ) (xs : List Shown) → AreBehind key xs → AreBehind key (filter test xs)
-behind-filter test key [] behind = tt
-behind-filter test key (x ∷ xs) behind = elim (cases_Bool (test x)) [
-  | inl passes ↦ rw passes (behind.0, behind-filter test key xs behind.1)
-  | inr fails ↦ rw fails (behind-filter test key xs behind.1)
-]
-
-sorted-filter : (test : Shown → Bool) (xs : List Shown) → IsSorted xs → IsSorted (filter test xs)
-sorted-filter test [] sorted = tt
-sorted-filter test (x ∷ xs) sorted = elim (cases_Bool (test x)) [
-  | inl passes ↦ rw passes (behind-filter test (key_of x) xs sorted.0, sorted-filter test xs sorted.1)
-  | inr fails ↦ rw fails (sorted-filter test xs sorted.1)
-]
-
 -- ---- the entries of a directory of a tree
-shown-with : (ns : List Node) (n : Node) → map shown (with_entry ns n) ≡ with_shown (map shown ns) (shown n)
-shown-with [] n = refl
-shown-with (x ∷ ns) n = elim (cases_Bool (comes_before (folded n.name) (folded x.name))) [
-  | inl first ↦ rw first refl
-  | inr later ↦ rw later (ap (λ ss. shown x ∷ ss) (shown-with ns n))
-]
-
--- in order they are put in, the last first
-abbrev ordered : List Node → List Shown
-ordered ns = map shown (in_order ns)
-
-ordered-in : (ns : List Node) (s : Shown) → IsIn s (ordered ns) → (n : Node) × (shown n ≡ s) × IsIn n ns
-ordered-in [] s there = absurd there
-ordered-in (n ∷ ns) s there = elim (in-with (ordered ns) (shown n) s (subst (IsIn s) (shown-with (in_order ns) n) there)) [
-  | inl is ↦ (n, is, inl refl)
-  | inr old ↦ let rest = ordered-in ns s old in (rest.0, rest.1, inr rest.2)
-]
-
-in-ordered : (ns : List Node) (n : Node) → IsIn n ns → IsIn (shown n) (ordered ns)
-in-ordered [] n there = absurd there
-in-ordered (x ∷ ns) n (inl is) = subst (IsIn (shown n)) (sym (shown-with (in_order ns) x)) (with-in (ordered ns) (shown x) (shown n) (inl (ap shown is)))
-in-ordered (x ∷ ns) n (inr later) = subst (IsIn (shown n)) (sym (shown-with (in_order ns) x)) (with-in (ordered ns) (shown x) (shown n) (inr (in-ordered ns n later)))
-
--- no two nodes have one folded name
-abbrev AreDistinct : List Node → Type 0
-AreDistinct [] = ⊤
-AreDistinct (n ∷ ns) = ((m : Node) → IsIn m ns → folded n.name ≡ folded m.name → ⊥) × AreDistinct ns
-
-sorted-ordered : (ns : List Node) → AreDistinct ns → IsSorted (ordered ns)
-sorted-ordered [] distinct = tt
-sorted-ordered (n ∷ ns) distinct =
-    subst IsSorted (sym (shown-with (in_order ns) n))
-    (sorted-with (ordered ns) (shown n) (sorted-ordered ns distinct.1)
-    (λ s there same. let m = ordered-in ns s there in distinct.0 m.0 m.2 (same ∙ ap key_of (sym m.1))))
-
 at-in : (tree : Tree) (m : ℕ) (n : Node) → node_at tree m ≡ Some n → IsIn n tree
 at-in [] m n found = absurd (none-some n found)
 at-in (x ∷ xs) m n found = elim (cases_Bool (x.number == m)) [
@@ -330,23 +95,23 @@ distinct-children whole (x ∷ xs) directory one rises within sorted =
       | inr other ↦ rw other rest
     ]
 
-pub entries-sorted : (tree : Tree) (directory : ℕ) → IsWellFormed tree → IsSorted (entries_in tree directory)
-entries-sorted tree directory formed =
+pub entries-ascend : (tree : Tree) (directory : ℕ) → IsWellFormed tree → AreAscending (entries_in tree directory)
+entries-ascend tree directory formed =
     let rises = Rises-from tree formed.rise in
-    sorted-ordered (children tree directory) (distinct-children tree tree directory (IsOneEach-from tree formed) rises (λ n there. there) rises)
+    in_order-ascends (children tree directory) (distinct-children tree tree directory (IsOneEach-from tree formed) rises (λ n there. there) rises)
 
 -- the entry is that of a node in the directory
-pub record IsEntry (tree : Tree) (directory : ℕ) (s : Shown) : Type 0 where
-  pub number : ℕ
-  pub node : Node
-  pub found : node_at tree number ≡ Some node
-  pub inside : node.parent ≡ directory
-  pub is : shown node ≡ s
+record IsEntry (tree : Tree) (directory : ℕ) (s : Shown) : Type 0 where
+  number : ℕ
+  node : Node
+  found : node_at tree number ≡ Some node
+  inside : node.parent ≡ directory
+  is : shown node ≡ s
 
-pub entry-of : (tree : Tree) (directory : ℕ) (s : Shown) → IsWellFormed tree → IsIn s (entries_in tree directory) → IsEntry tree directory s
+entry-of : (tree : Tree) (directory : ℕ) (s : Shown) → IsWellFormed tree → IsIn s (entries_in tree directory) → IsEntry tree directory s
 entry-of tree directory s formed there =
-    let n = ordered-in (children tree directory) s there in
-    let is = of-filter (λ node. node.parent == directory) n.0 tree n.2 in
+    let n = of-map shown s (in_order (children tree directory)) there in
+    let is = of-filter (λ node. node.parent == directory) n.0 tree (in_order-from (children tree directory) n.0 n.2) in
     record {
       number = n.0.number;
       node = n.0;
@@ -355,235 +120,302 @@ entry-of tree directory s formed there =
       is = n.1;
     }
 
-pub entry-in : (tree : Tree) (directory : ℕ) (s : Shown) → IsEntry tree directory s → IsIn s (entries_in tree directory)
+entry-in : (tree : Tree) (directory : ℕ) (s : Shown) → IsEntry tree directory s → IsIn s (entries_in tree directory)
 entry-in tree directory s e =
     subst (λ s. IsIn s (entries_in tree directory)) e.is
-    (in-ordered (children tree directory) e.node
-    (in-filter (λ node. node.parent == directory) e.node tree (at-in tree e.number e.node e.found) (eq-eqb e.node.parent directory e.inside)))
+    (in-map shown e.node (in_order (children tree directory))
+    (in_order-in (children tree directory) e.node
+    (in-filter (λ node. node.parent == directory) e.node tree (at-in tree e.number e.node e.found) (eq-eqb e.node.parent directory e.inside))))
 
--- ---- the entries of nodes that changes are of
--- the entry is that of a node in the directory that the changes are of
-record IsOwn (tree : Tree) (directory : ℕ) (cs : List Change) (s : Shown) : Type 0 where
-  entry : IsEntry tree directory s
-  touched : last_of cs entry.number ≡ None → ⊥
+entry-place : (tree : Tree) (directory : ℕ) (s : Shown) → (e : IsEntry tree directory s) → place_in e.node ≡ child_name directory s.name
+entry-place tree directory s e = ap (λ d. child_name d e.node.name) e.inside ∙ ap (λ (s : Shown). child_name directory s.name) e.is
 
-shown-in : (tree : Tree) (directory : ℕ) (number : ℕ) (s : Shown) → IsIn s (shown_in directory (node_at tree number)) → (e : IsEntry tree directory s) × (e.number ≡ number)
-shown-in tree directory number s there = go (node_at tree number) refl there
-  where
-    go : (o : Option Node) → node_at tree number ≡ o → IsIn s (shown_in directory o) → (e : IsEntry tree directory s) × (e.number ≡ number)
-    go None found there = absurd there
-    go (Some n) found there = elim (cases_Bool (n.parent == directory)) [
-      | inl inside ↦ one inside (rw inside at there)
-      | inr outside ↦ none (rw outside at there)
-    ]
-      where
-        one : (n.parent == directory) ≡ true → IsIn s (shown n ∷ []) → (e : IsEntry tree directory s) × (e.number ≡ number)
-        one inside (inl is) = (record { number = number; node = n; found = found; inside = eqb-true n.parent directory inside; is = is }, refl)
-        one inside (inr none) = absurd none
+-- ---- the first entry from a place on
+-- the entry is the first of these whose places are not below this one
+record IsFirst (directory : ℕ) (from : List ℕ) (ss : List Shown) (s : Shown) : Type 0 where
+  there : IsIn s ss
+  high : IsNotBelow (child_name directory s.name) from
+  first : (x : Shown) → IsIn x ss → IsNotBelow (child_name directory x.name) from → IsNotBelow (child_name directory x.name) (child_name directory s.name)
 
-        none : IsIn s [] → (e : IsEntry tree directory s) × (e.number ≡ number)
-        none there = absurd there
+-- the entry that is lent is the first of these, or there is none
+abbrev IsFirstOf : ℕ → List ℕ → List Shown → Option Entry → Type 0
+IsFirstOf directory from ss None = (s : Shown) → IsIn s ss → IsNotBelow (child_name directory s.name) from → ⊥
+IsFirstOf directory from ss (Some e) = IsFirst directory from ss (entry_seen e)
 
-of-change : (c : Change) → if_of (node_of c) c ≡ None → ⊥
-of-change c none = none-some c (sym none ∙ rw (eq-eqb (node_of c) (node_of c) refl) refl)
+in-from : (directory : ℕ) (from : List ℕ) (ss : List Shown) (s : Shown) → IsIn s ss → IsNotBelow (child_name directory s.name) from → IsIn s (entries_from directory from ss)
+in-from directory from ss s there high =
+    in-filter (λ entry. not (is_lt (name_cmp (child_name directory entry.name) from))) s ss there (ap not high)
 
-own-in : (cs : List Change) (tree : Tree) (directory : ℕ) (s : Shown) → IsIn s (own_entries tree directory cs) → IsOwn tree directory cs s
-own-in [] tree directory s there = absurd there
-own-in (c ∷ cs) tree directory s there = elim (of-append s (shown_by tree directory cs c) (own_entries tree directory cs) there) [
-  | inl here ↦ elim (cases_Bool (is_none (last_of cs (node_of c)))) [
-    | inl last ↦ first (shown-in tree directory (node_of c) s (rw last at here))
-    | inr other ↦ nothing (rw other at here)
-  ]
-  | inr later ↦
-      let rest = own-in cs tree directory s later in
-      record { entry = rest.entry; touched = λ none. rest.touched (or_none (last_of cs rest.entry.number) (if_of rest.entry.number c) none).0 }
-]
-  where
-    first : (e : IsEntry tree directory s) × (e.number ≡ node_of c) → IsOwn tree directory (c ∷ cs) s
-    first e = record {
-      entry = e.0;
-      touched = λ none. of-change c (or_none (last_of cs (node_of c)) (if_of (node_of c) c) (subst (λ n. last_of (c ∷ cs) n ≡ None) e.1 none)).1;
+of-from : (directory : ℕ) (from : List ℕ) (ss : List Shown) (s : Shown) → IsIn s (entries_from directory from ss) → IsIn s ss × IsNotBelow (child_name directory s.name) from
+of-from directory from ss s there =
+    let is = of-filter (λ entry. not (is_lt (name_cmp (child_name directory entry.name) from))) s ss there in
+    (is.0, not-true _ is.1)
+
+not_below_itself : (a : List ℕ) → IsNotBelow a a
+not_below_itself a = ap is_lt (name_same a)
+
+not_below_next : (a : List ℕ) → IsNotBelow (a ++ 0 ∷ []) a
+not_below_next a = not_below a (a ++ 0 ∷ []) (below_next a)
+
+-- what the entries from a place on tell of the first one
+first-told : (directory : ℕ) (from : List ℕ) (ss : List Shown) (o : Option Entry) → entries_from directory from ss ≡ entries_behind directory ss o → IsFirstOf directory from ss o
+first-told directory from ss None is = λ s there high. subst (IsIn s) is (in-from directory from ss s there high)
+first-told directory from ss (Some e) is =
+    let here = of-from directory from ss (entry_seen e) (subst (IsIn (entry_seen e)) (sym is) (inl refl)) in
+    record {
+      there = here.0;
+      high = here.1;
+      first = λ x there high.
+          let at : (entry_seen e ≡ x) ⊎ IsIn x (entries_from directory (after_child directory e.name.now) ss) = subst (IsIn x) is (in-from directory from ss x there high) in
+          elim at [
+            | inl same ↦ subst (λ (x : Shown). IsNotBelow (child_name directory x.name) (child_name directory e.name.now)) same (not_below_itself (child_name directory e.name.now))
+            | inr later ↦
+                let rest = of-from directory (after_child directory e.name.now) ss x later in
+                not_below_upto (child_name directory x.name) (after_child directory e.name.now) (child_name directory e.name.now) rest.1 (not_below_next (child_name directory e.name.now))
+          ];
     }
 
-    nothing : IsIn s [] → IsOwn tree directory (c ∷ cs) s
-    nothing there = absurd there
+first-tells : (directory : ℕ) (from : List ℕ) (ss : List Shown) (o : Option Entry) → AreAscending ss → IsFirstOf directory from ss o
+    → entries_from directory from ss ≡ entries_behind directory ss o
+first-tells directory from ss None ascending none = entries_from-none directory from ss none
+first-tells directory from ss (Some e) ascending is = entries_from-first directory from (entry_seen e) ss ascending is.there is.high is.first
 
-in-own : (cs : List Change) (tree : Tree) (directory : ℕ) (s : Shown) → (e : IsEntry tree directory s) → (last_of cs e.number ≡ None → ⊥)
-    → IsIn s (own_entries tree directory cs)
-in-own [] tree directory s e touched = absurd (touched refl)
-in-own (c ∷ cs) tree directory s e touched = go (last_of cs e.number) refl (λ some. in-own cs tree directory s e some)
-  where
-    here : node_of c ≡ e.number → last_of cs e.number ≡ None → IsIn s (shown_by tree directory cs c)
-    here same none =
-        let last : is_none (last_of cs (node_of c)) ≡ true = ap (λ n. is_none (last_of cs n)) same ∙ ap is_none none in
-        rw (last, ap (node_at tree) same ∙ e.found, eq-eqb e.node.parent directory e.inside) (inl e.is)
-
-    go : (o : Option Change) → last_of cs e.number ≡ o → ((last_of cs e.number ≡ None → ⊥) → IsIn s (own_entries tree directory cs))
-        → IsIn s (own_entries tree directory (c ∷ cs))
-    go (Some d) is rest = in-append s (shown_by tree directory cs c) (own_entries tree directory cs) (inr (rest (λ none. none-some d (sym none ∙ is))))
-    go None is rest = elim (cases_eq (node_of c) e.number) [
-      | inl same ↦ in-append s (shown_by tree directory cs c) (own_entries tree directory cs) (inl (here same is))
-      | inr other ↦ absurd (touched (rw (is, ne_eqb (node_of c) e.number other) refl))
+same-from : (directory : ℕ) (a b : List ℕ) (ss : List Shown) → ((s : Shown) → IsIn s ss → IsNotBelow (child_name directory s.name) a → IsNotBelow (child_name directory s.name) b)
+    → ((s : Shown) → IsIn s ss → IsNotBelow (child_name directory s.name) b → IsNotBelow (child_name directory s.name) a) → entries_from directory a ss ≡ entries_from directory b ss
+same-from directory a b [] to back = refl
+same-from directory a b (x ∷ ss) to back =
+    let rest = same-from directory a b ss (λ s there. to s (inr there)) (λ s there. back s (inr there)) in
+    elim (cases_Bool (is_lt (name_cmp (child_name directory x.name) a))) [
+      | inl below ↦ elim (cases_Bool (is_lt (name_cmp (child_name directory x.name) b))) [
+        | inl below' ↦ rw (below, below') rest
+        | inr high ↦ absurd (true≢false (sym below ∙ back x (inl refl) high))
+      ]
+      | inr high ↦ rw (high, to x (inl refl) high) (ap (λ l. x ∷ l) rest)
     ]
 
--- two entries of one directory with one key are those of one node
-same-node : (tree : Tree) (directory : ℕ) (s r : Shown) → IsOneEach tree → (e : IsEntry tree directory s) → (f : IsEntry tree directory r) → key_of s ≡ key_of r → e.number ≡ f.number
-same-node tree directory s r one e f same =
-    one.one e.number f.number e.node f.node e.found f.found
-    (place-name directory e.node f.node e.inside f.inside (ap key_of e.is ∙ same ∙ ap key_of (sym f.is)))
+-- ---- what is seen of the tree and of the held places
+-- from the first place on the entries are those from another one on, from which these are the next entry of the tree and the next held place
+pub record IsReached (t : Tree) (o : OverlayState) (directory : ℕ) (from : List ℕ) (kept : Option Entry) (next : Option SeatRef) : Type 0 where
+  pub reached : List ℕ
+  pub same : entries_from directory from (entries_in (seen t o) directory) ≡ entries_from directory reached (entries_in (seen t o) directory)
+  pub behind : entries_from directory reached (entries_in t directory) ≡ entries_behind directory (entries_in t directory) kept
+  pub few : IfSome kept (λ entry. length entry.name.now ≤ 255)
+  pub held : IfSome next (λ seat. IsNextSeat o.held directory reached seat.place.now seat.node)
+  pub free : IfNone next (IsNoSeat o.held directory reached)
 
-own-apart : (cs : List Change) (tree : Tree) (directory : ℕ) (base : List Shown) → IsOneEach tree
-    → ((s : Shown) → IsIn s (own_entries tree directory cs) → IsNew s base) → AreApart (own_entries tree directory cs) base
-own-apart [] tree directory base one new = tt
-own-apart (c ∷ cs) tree directory base one new = elim (cases_Bool (is_none (last_of cs (node_of c)))) [
-  | inl last ↦ rw last (go last (node_at tree (node_of c)) refl (own-apart cs tree directory base one later))
-  | inr other ↦ rw other (own-apart cs tree directory base one later)
-]
-  where
-    later : (s : Shown) → IsIn s (own_entries tree directory cs) → IsNew s base
-    later s there = new s (in-append s (shown_by tree directory cs c) (own_entries tree directory cs) (inr there))
+begins-child : (directory : ℕ) (name : List ℕ) → Begins (number_bytes directory) (child_name directory name)
+begins-child directory name = record { after = folded name; is = refl }
 
-    go : is_none (last_of cs (node_of c)) ≡ true → (o : Option Node) → node_at tree (node_of c) ≡ o → AreApart (own_entries tree directory cs) base
-        → AreApart (shown_in directory o ++ own_entries tree directory cs) base
-    go last None found rest = rest
-    go last (Some n) found rest = elim (cases_Bool (n.parent == directory)) [
-      | inl inside ↦ rw inside (
-        new (shown n)
-            (in-append (shown n) (shown_by tree directory cs c) (own_entries tree directory cs) (inl (rw (last, found, inside) (inl refl)))),
-        λ s there same.
-            let own = own-in cs tree directory s there in
-            let e : IsEntry tree directory (shown n) =
-            record { number = node_of c; node = n; found = found; inside = eqb-true n.parent directory inside; is = refl } in
-            let number = same-node tree directory (shown n) s one e own.entry same in
-            own.touched (ap (last_of cs) (sym number) ∙ not-some (last_of cs (node_of c)) last),
-        rest,
-      )
-      | inr outside ↦ rw outside rest
-    ]
-      where
-        not-some : (o : Option Change) → is_none o ≡ true → o ≡ None
-        not-some None is = refl
-        not-some (Some d) is = absurd (cc)
-
--- ---- all that is seen
 module _ (t : Tree) (o : OverlayState) (directory : ℕ) (only : list_all is_of_names o.names ≡ true) (stands : StandsOver t o) where
-  seats : List Seat
-  seats = each_change seats_of t o.names
+  tells : Seated t (seen t o) (each_change seats_of t o.names)
+  tells = seated o.names t only stands.applies (IsOneEach-from t stands.before)
 
-  abbrev base : List Shown
-  base = filter (is_kept o.held directory) (entries_in t directory)
+  free-seat : (p q : List ℕ) → p ≡ q → seat_at o.held q ≡ None → last_seat (each_change seats_of t o.names) p ≡ None
+  free-seat p q same free = ap (last_seat (each_change seats_of t o.names)) same ∙ sym (stands.held q) ∙ free
 
-  seats-tell : Seated t (seen t o) (each_change seats_of t o.names)
-  seats-tell = seated o.names t only stands.applies (IsOneEach-from t stands.before)
+  -- at a place that is not held the same is seen as in the tree
+  to-kept : (s : Shown) → IsIn s (entries_in (seen t o) directory) → seat_at o.held (child_name directory s.name) ≡ None → IsIn s (entries_in t directory)
+  to-kept s there free =
+      let e = entry-of (seen t o) directory s stands.after there in
+      let last = free-seat (place_in e.node) (child_name directory s.name) (entry-place (seen t o) directory s e) free in
+      entry-in t directory s
+      (record { number = e.number; node = e.node; found = tells.kept (place_in e.node) last e.number e.node e.found refl; inside = e.inside; is = e.is })
 
-  -- an entry that is kept is seen, and its place is not held
-  record IsKeptEntry (s : Shown) : Type 0 where
-    entry : IsEntry (seen t o) directory s
-    free : last_seat (each_change seats_of t o.names) (place_in entry.node) ≡ None
+  to-seen : (s : Shown) → IsIn s (entries_in t directory) → seat_at o.held (child_name directory s.name) ≡ None → IsIn s (entries_in (seen t o) directory)
+  to-seen s there free =
+      let e = entry-of t directory s stands.before there in
+      let last = free-seat (place_in e.node) (child_name directory s.name) (entry-place t directory s e) free in
+      entry-in (seen t o) directory s
+      (record { number = e.number; node = e.node; found = tells.back (place_in e.node) last e.number e.node e.found refl; inside = e.inside; is = e.is })
 
-  not-held : (a : Option (Option ℕ)) → is_none a ≡ true → a ≡ None
-  not-held None is = refl
-  not-held (Some x) is = absurd (cc)
+  -- the node of a held place is seen there
+  own-in : (p : List ℕ) (n : ℕ) (x : Node) → seat_at o.held p ≡ Some (Some n) → Begins (number_bytes directory) p → node_at (seen t o) n ≡ Some x
+      → IsIn (shown x) (entries_in (seen t o) directory) × (child_name directory x.name ≡ p)
+  own-in p n x there begins found =
+      let at = tells.some p n (sym (stands.held p) ∙ there) in
+      let node : at.node ≡ x = same_Some at.node x (sym at.found ∙ found) in
+      let here : place_in x ≡ p = ap place_in (sym node) ∙ at.at in
+      let parent : x.parent ≡ directory = number_begins directory x.parent (folded x.name) (subst (Begins (number_bytes directory)) (sym here) begins) in (
+        entry-in (seen t o) directory (shown x) (record { number = n; node = x; found = found; inside = parent; is = refl }),
+        ap (λ d. child_name d x.name) (sym parent) ∙ here,
+      )
 
-  entry-place : (s : Shown) (n : Node) → n.parent ≡ directory → shown n ≡ s → place_bytes (place directory s.name) ≡ place_in n
-  entry-place s n inside is =
-      let parent : directory ≡ n.parent = sym inside in
-      let name : s.name ≡ n.name = ap (λ (s : Shown). s.name) (sym is) in
-      λ i. place_bytes (place (parent i) (name i))
+  -- nothing is seen at a held place at which no node stands
+  gone-out : (s : Shown) → IsIn s (entries_in (seen t o) directory) → seat_at o.held (child_name directory s.name) ≡ Some None → ⊥
+  gone-out s there gone =
+      let e = entry-of (seen t o) directory s stands.after there in
+      tells.none (child_name directory s.name) (sym (stands.held (child_name directory s.name)) ∙ gone) e.number
+      (record { node = e.node; found = e.found; at = entry-place (seen t o) directory s e })
 
-  kept-entry : (s : Shown) → IsIn s (filter (is_kept o.held directory) (entries_in t directory)) → IsKeptEntry s
-  kept-entry s there =
-      let is = of-filter (is_kept o.held directory) s (entries_in t directory) there in
-      let e = entry-of t directory s stands.before is.0 in
-      let free : last_seat (each_change seats_of t o.names) (place_in e.node) ≡ None =
-      ap (last_seat (each_change seats_of t o.names)) (sym (entry-place s e.node e.inside e.is))
-      ∙ sym (stands.held (place_bytes (place directory s.name))) ∙ not-held (seat_at o.held (place_bytes (place directory s.name))) is.1 in
-      record {
-        entry = record {
-          number = e.number;
-          node = e.node;
-          found = seats-tell.back (place_in e.node) free e.number e.node e.found refl;
-          inside = e.inside;
-          is = e.is;
-        };
-        free = free;
+  ascending : AreAscending (entries_in (seen t o) directory)
+  ascending = entries-ascend (seen t o) directory stands.after
+
+  -- the names that are seen are short
+  pub few-seen : (from : List ℕ) (r : Option Entry) → entries_from directory from (entries_in (seen t o) directory) ≡ entries_behind directory (entries_in (seen t o) directory) r
+      → IfSome r (λ entry. length entry.name.now ≤ 255)
+  few-seen from None is = tt
+  few-seen from (Some r) is =
+      let e = entry-of (seen t o) directory (entry_seen r) stands.after (first-told directory from (entries_in (seen t o) directory) (Some r) is).there in
+      subst (λ (s : Shown). length s.name ≤ 255) e.is (at-All (λ n. IsName n.name) (seen t o) stands.after.names e.number e.node e.found).few
+
+  -- ---- where no place is held any more
+  pub last-seen : (from : List ℕ) (kept : Option Entry) (next : Option SeatRef) → IsReached t o directory from kept next → next ≡ None
+      → entries_from directory from (entries_in (seen t o) directory) ≡ entries_behind directory (entries_in (seen t o) directory) kept
+  last-seen from kept next r is =
+      r.same ∙ first-tells directory r.reached (entries_in (seen t o) directory) kept ascending
+      (go kept (first-told directory r.reached (entries_in t directory) kept r.behind))
+    where
+      free : (s : Shown) → IsNotBelow (child_name directory s.name) r.reached → seat_at o.held (child_name directory s.name) ≡ None
+      free s high =
+          let none : IsNoSeat o.held directory r.reached = rw is at r.free in
+          none (child_name directory s.name) (begins-child directory s.name) high
+
+      go : (kept : Option Entry) → IsFirstOf directory r.reached (entries_in t directory) kept → IsFirstOf directory r.reached (entries_in (seen t o) directory) kept
+      go None none = λ s there high. none s (to-kept s there (free s high)) high
+      go (Some e) first = record {
+        there = to-seen (entry_seen e) first.there (free (entry_seen e) first.high);
+        high = first.high;
+        first = λ x there high. first.first x (to-kept x there (free x high)) high;
       }
 
-  pub entries-are : with_all (own_entries (seen t o) directory o.names) (filter (is_kept o.held directory) (entries_in t directory)) ≡ entries_in (seen t o) directory
-  entries-are =
-      same-sorted (with_all (own_entries (seen t o) directory o.names) (filter (is_kept o.held directory) (entries_in t directory))) (entries_in (seen t o) directory)
-      (sorted-all (own_entries (seen t o) directory o.names) (filter (is_kept o.held directory) (entries_in t directory))
-      (sorted-filter (is_kept o.held directory) (entries_in t directory) (entries-sorted t directory stands.before))
-      (own-apart o.names (seen t o) directory (filter (is_kept o.held directory) (entries_in t directory)) one new))
-      (entries-sorted (seen t o) directory stands.after)
-      (λ s there. elim (in-all (own_entries (seen t o) directory o.names) (filter (is_kept o.held directory) (entries_in t directory)) s there) [
-        | inl own ↦ entry-in (seen t o) directory s (own-in o.names (seen t o) directory s own).entry
-        | inr kept ↦ entry-in (seen t o) directory s (kept-entry s kept).entry
-      ])
-      (λ s there. all-in (own_entries (seen t o) directory o.names) (filter (is_kept o.held directory) (entries_in t directory)) s
-      (from s (entry-of (seen t o) directory s stands.after there)))
-    where
-      one : IsOneEach (seen t o)
-      one = IsOneEach-from (seen t o) stands.after
+  -- ---- where a place is held
+  module _ (kept : Option Entry) (place : List ℕ) (node : Option ℕ) (reached : List ℕ) (seat : IsNextSeat o.held directory reached place node) where
+    -- what is seen at a place that is not held is seen in the tree, and a held one is not below the first
+    where-seen : (s : Shown) → IsIn s (entries_in (seen t o) directory) → IsNotBelow (child_name directory s.name) reached
+        → IsIn s (entries_in t directory) ⊎ IsNotBelow (child_name directory s.name) place
+    where-seen s there high = go (seat_at o.held (child_name directory s.name)) refl
+      where
+        go : (v : Option (Option ℕ)) → seat_at o.held (child_name directory s.name) ≡ v → IsIn s (entries_in t directory) ⊎ IsNotBelow (child_name directory s.name) place
+        go None is = inl (to-kept s there is)
+        go (Some v) is = inr (seat.first (child_name directory s.name) high (ap is_some is))
 
-      new : (s : Shown) → IsIn s (own_entries (seen t o) directory o.names) → IsNew s (filter (is_kept o.held directory) (entries_in t directory))
-      new s there r kept same =
-          let own = own-in o.names (seen t o) directory s there in
-          let k = kept-entry r kept in
-          let number = same-node (seen t o) directory s r one own.entry k.entry same in
-          let node : own.entry.node ≡ k.entry.node =
-          same_Some own.entry.node k.entry.node (sym own.entry.found ∙ ap (node_at (seen t o)) number ∙ k.entry.found) in
-          touched-held o.names t own.entry.number own.entry.node only stands.applies own.touched own.entry.found
-          (ap (λ n. last_seat (each_change seats_of t o.names) (place_in n)) node ∙ k.free)
+    free-below : (q : List ℕ) → IsNotBelow q reached → name_cmp q place ≡ Less → seat_at o.held q ≡ None
+    free-below q high less = go (seat_at o.held q) refl
+      where
+        go : (v : Option (Option ℕ)) → seat_at o.held q ≡ v → seat_at o.held q ≡ None
+        go None is = is
+        go (Some v) is = absurd (true≢false (sym (ap is_lt less) ∙ seat.first q high (ap is_some is)))
 
-      from : (s : Shown) → IsEntry (seen t o) directory s → IsIn s (own_entries (seen t o) directory o.names) ⊎ IsIn s (filter (is_kept o.held directory) (entries_in t directory))
-      from s e = go (last_seat (each_change seats_of t o.names) (place_in e.node)) refl
-        where
-          go : (a : Option (Option ℕ)) → last_seat (each_change seats_of t o.names) (place_in e.node) ≡ a
-              → IsIn s (own_entries (seen t o) directory o.names) ⊎ IsIn s (filter (is_kept o.held directory) (entries_in t directory))
-          go None last =
-              let found = seats-tell.kept (place_in e.node) last e.number e.node e.found refl in
-              let there = entry-in t directory s (record { number = e.number; node = e.node; found = found; inside = e.inside; is = e.is }) in
-              let free : is_kept o.held directory s ≡ true =
-              ap (λ p. is_none (seat_at o.held p)) (entry-place s e.node e.inside e.is) ∙ ap is_none (stands.held (place_in e.node) ∙ last) in
-              inr (in-filter (is_kept o.held directory) s (entries_in t directory) there free)
-          go (Some None) last = absurd (seats-tell.none (place_in e.node) last e.number (record { node = e.node; found = e.found; at = refl }))
-          go (Some (Some m)) last =
-              let at = seats-tell.some (place_in e.node) m last in
-              let number : m ≡ e.number = one.one m e.number at.node e.node at.found e.found at.at in
-              inl
-              (in-own o.names (seen t o) directory s e
-              (λ none. seated-touched o.names t (place_in e.node) m only stands.applies last (ap (last_of o.names) number ∙ none)))
+    -- an entry of the tree before it is the first
+    pub kept-first : entries_from directory reached (entries_in t directory) ≡ entries_behind directory (entries_in t directory) kept → is_before directory kept place ≡ true
+        → entries_from directory reached (entries_in (seen t o) directory) ≡ entries_behind directory (entries_in (seen t o) directory) kept
+    kept-first is before = go kept (first-told directory reached (entries_in t directory) kept is) before
+      where
+        go : (kept : Option Entry) → IsFirstOf directory reached (entries_in t directory) kept → is_before directory kept place ≡ true
+            → entries_from directory reached (entries_in (seen t o) directory) ≡ entries_behind directory (entries_in (seen t o) directory) kept
+        go None first before = absurd (cc)
+        go (Some e) first before =
+            let less = less_from (name_cmp (child_name directory e.name.now) place) before in
+            first-tells directory reached (entries_in (seen t o) directory) (Some e) ascending
+            (record {
+              there = to-seen (entry_seen e) first.there (free-below (child_name directory e.name.now) first.high less);
+              high = first.high;
+              first = λ x there high. elim (where-seen x there high) [
+                | inl in_tree ↦ first.first x in_tree high
+                | inr behind ↦ not_below_upto (child_name directory x.name) place (child_name directory e.name.now) behind (not_below (child_name directory e.name.now) place less)
+              ];
+            })
 
--- ---- lists of what is lent
-in-get : (es : List Entry) (i : ℕ) (d : Entry) → i < length es → IsIn (get_or es i d) es
-in-get [] i d within = absurd (omega arith)
-in-get (e ∷ es) zero d within = inl refl
-in-get (e ∷ es) (suc i) d within = inr (in-get es i d (omega (arith, within)))
+    -- where no entry of the tree is before it, none that is seen is
+    none-before : entries_from directory reached (entries_in t directory) ≡ entries_behind directory (entries_in t directory) kept → is_before directory kept place ≡ false
+        → (s : Shown) → IsIn s (entries_in (seen t o) directory) → IsNotBelow (child_name directory s.name) reached → IsNotBelow (child_name directory s.name) place
+    none-before is later s there high = elim (where-seen s there high) [
+      | inl in_tree ↦ go kept (first-told directory reached (entries_in t directory) kept is) later in_tree
+      | inr behind ↦ behind
+    ]
+      where
+        go : (kept : Option Entry) → IsFirstOf directory reached (entries_in t directory) kept → is_before directory kept place ≡ false
+            → IsIn s (entries_in t directory) → IsNotBelow (child_name directory s.name) place
+        go None none later in_tree = absurd (none s in_tree high)
+        go (Some e) first later in_tree =
+            not_below_upto (child_name directory s.name) (child_name directory e.name.now) place (first.first s in_tree high) later
 
--- the names of entries of a tree are short
-pub short-at : (es : List Entry) (i : ℕ) (d : Entry) (tree : Tree) (directory : ℕ) → IsWellFormed tree → map entry_seen es ≡ entries_in tree directory → i < length es
-    → length (get_or es i d).name.now ≤ 255
-short-at es i d tree directory formed is within =
-    let there = subst (IsIn (entry_seen (get_or es i d))) is (in-map entry_seen (get_or es i d) es (in-get es i d within)) in
-    let e = entry-of tree directory (entry_seen (get_or es i d)) formed there in
-    let few = (at-All (λ n. IsName n.name) tree formed.names e.number e.node e.found).few in
-    subst (λ (s : Shown). length s.name ≤ 255) e.is few
+    -- the node that stands there is then the first
+    pub own-first : entries_from directory reached (entries_in t directory) ≡ entries_behind directory (entries_in t directory) kept → is_before directory kept place ≡ false
+        → (n : ℕ) → node ≡ Some n → (e : Entry) → Some (entry_seen e) ≡ option_map shown (node_at (seen t o) n)
+        → entries_from directory reached (entries_in (seen t o) directory) ≡ entries_behind directory (entries_in (seen t o) directory) (Some e)
+    own-first is later n node_is e entry = go (node_at (seen t o) n) refl entry
+      where
+        go : (x : Option Node) → node_at (seen t o) n ≡ x → Some (entry_seen e) ≡ option_map shown x
+            → entries_from directory reached (entries_in (seen t o) directory) ≡ entries_behind directory (entries_in (seen t o) directory) (Some e)
+        go None found entry = absurd (none-some (entry_seen e) (sym entry))
+        go (Some x) found entry =
+            let own = own-in place n x (seat.there ∙ ap Some node_is) seat.inside found in
+            let same : entry_seen e ≡ shown x = same_Some (entry_seen e) (shown x) entry in
+            let at : child_name directory e.name.now ≡ place = ap (λ (s : Shown). child_name directory s.name) same ∙ own.1 in
+            first-tells directory reached (entries_in (seen t o) directory) (Some e) ascending
+            (record {
+              there = subst (λ (s : Shown). IsIn s (entries_in (seen t o) directory)) (sym same) own.0;
+              high = subst (λ p. IsNotBelow p reached) (sym at) seat.high;
+              first = λ s there high. subst (λ p. IsNotBelow (child_name directory s.name) p) (sym at) (none-before is later s there high);
+            })
 
-pub kept-step : (test : Shown → Bool) (es kept new : List Entry) (i : ℕ) (d : Entry) (b : Bool) → i < length es
-    → map entry_seen kept ≡ filter test (map entry_seen (take i es)) → b ≡ test (entry_seen (get_or es i d))
-    → new ≡ kept ++ (if b then get_or es i d ∷ [] else []) → map entry_seen new ≡ filter test (map entry_seen (take (i + 1) es))
-kept-step test es kept new i d b within so_far is new_is =
-    let front : map entry_seen (take (i + 1) es) ≡ map entry_seen (take i es) ++ entry_seen (get_or es i d) ∷ [] =
-    ap (map entry_seen) (take_more es i d within) ∙ map-append entry_seen (take i es) (get_or es i d ∷ []) in
-    ap (map entry_seen) new_is ∙ map-append entry_seen kept (if b then get_or es i d ∷ [] else [])
-    ∙ ap (λ ss. ss ++ map entry_seen (if b then get_or es i d ∷ [] else [])) so_far
-    ∙ ap (λ ss. filter test (map entry_seen (take i es)) ++ ss) (one b is)
-    ∙ sym (ap (filter test) front ∙ filter-append test (map entry_seen (take i es)) (entry_seen (get_or es i d) ∷ []))
-  where
-    one : (b : Bool) → b ≡ test (entry_seen (get_or es i d)) → map entry_seen (if b then get_or es i d ∷ [] else []) ≡ filter test (entry_seen (get_or es i d) ∷ [])
-    one true is = rw (← is) refl
-    one false is = rw (← is) refl
+    -- where no node stands there, the entries are those from behind it on
+    pub gone-next : entries_from directory reached (entries_in t directory) ≡ entries_behind directory (entries_in t directory) kept → is_before directory kept place ≡ false → node ≡ None
+        → entries_from directory reached (entries_in (seen t o) directory) ≡ entries_from directory (place ++ 0 ∷ []) (entries_in (seen t o) directory)
+    gone-next is later node_is = same-from directory reached (place ++ 0 ∷ []) (entries_in (seen t o) directory)
+        (λ s there high.
+        let low = none-before is later s there high in
+        above_next place (child_name directory s.name)
+        (greater_from (child_name directory s.name) place low
+        (λ at. gone-out s there (ap (seat_at o.held) at ∙ seat.there ∙ ap Some node_is))))
+        (λ s there high.
+        not_below_upto (child_name directory s.name) place reached
+        (not_below_upto (child_name directory s.name) (place ++ 0 ∷ []) place high (not_below_next place)) seat.high)
+
+-- the entry of a node with this name, which is a file or is not
+pub own-entry : (o : Option Node) (x : Node) (name : List ℕ) (file : Bool) → o ≡ Some x → name ≡ x.name → file ≡ is_some x.content
+    → Some (record { name = name; is_directory = not file }) ≡ option_map shown o
+own-entry o x name file found name_is kind = rw found (λ i. Some (record { name = name_is i; is_directory = not (kind i) }))
+
+-- ---- the held places that are left
+abbrev is_left : List ℕ → Seat → Bool
+is_left from s = not (is_lt (name_cmp s.place from))
+
+-- how many seats are not below the next one
+abbrev pub seats_left : List Seat → Option SeatRef → ℕ
+seats_left held None = 0
+seats_left held (Some s) = length (filter (is_left s.place.now) held)
+
+left-upto : (a b : List ℕ) (held : List Seat) → IsNotBelow b a → length (filter (is_left b) held) ≤ length (filter (is_left a) held)
+left-upto a b [] high = omega arith
+left-upto a b (s ∷ held) high = elim (cases_Bool (is_lt (name_cmp s.place b))) [
+  | inl below ↦ elim (cases_Bool (is_lt (name_cmp s.place a))) [
+    | inl below' ↦ rw (below, below') (left-upto a b held high)
+    | inr high' ↦ rw (below, high') (omega (arith, left-upto a b held high))
+  ]
+  | inr over ↦ rw (over, not_below_upto s.place b a over high) (omega (arith, left-upto a b held high))
+]
+
+left-less : (a b : List ℕ) (held : List Seat) (v : Option ℕ) → seat_at held a ≡ Some v → name_cmp a b ≡ Less → length (filter (is_left b) held) < length (filter (is_left a) held)
+left-less a b [] v there less = absurd (none-some v there)
+left-less a b (s ∷ held) v there less = elim (cases_Bool (bytes_eq s.place a)) [
+  | inl same ↦
+      let at : s.place ≡ a = (bytes_eq-Decides s.place a).0 same in
+      let below : is_lt (name_cmp s.place b) ≡ true = ap (λ p. is_lt (name_cmp p b)) at ∙ ap is_lt less in
+      let high : is_lt (name_cmp s.place a) ≡ false = ap (λ p. is_lt (name_cmp p a)) at ∙ not_below_itself a in
+      rw (below, high) (omega (arith, left-upto a b held (not_below a b less)))
+  | inr other ↦
+      let rest = left-less a b held v (rw other at there) less in
+      elim (cases_Bool (is_lt (name_cmp s.place b))) [
+        | inl below ↦ elim (cases_Bool (is_lt (name_cmp s.place a))) [
+          | inl below' ↦ rw (below, below') rest
+          | inr high' ↦ rw (below, high') (omega (arith, rest))
+        ]
+        | inr over ↦ rw (over, not_below_upto s.place b a over (not_below a b less)) (omega (arith, rest))
+      ]
+]
+
+-- fewer are left behind a held place
+pub seats-less : (held : List Seat) (directory : ℕ) (s : SeatRef) (next : Option SeatRef) → seat_at held s.place.now ≡ Some s.node
+    → IfSome next (λ seat. IsNextSeat held directory (s.place.now ++ 0 ∷ []) seat.place.now seat.node) → seats_left held next < seats_left held (Some s)
+seats-less held directory s None there is =
+    let less = left-less s.place.now (s.place.now ++ 0 ∷ []) held s.node there (below_next s.place.now) in omega arith
+seats-less held directory s (Some n) there is =
+    let less = left-less s.place.now (s.place.now ++ 0 ∷ []) held s.node there (below_next s.place.now) in
+    let after : IsNextSeat held directory (s.place.now ++ 0 ∷ []) n.place.now n.node = is in
+    let upto = left-upto (s.place.now ++ 0 ∷ []) n.place.now held after.high in
+    omega arith
 
 -- ---- is there any
 with-some : (ns : List Node) (n : Node) → (length (with_entry ns n) == 0) ≡ false
@@ -593,7 +425,7 @@ with-some (x ∷ ns) n = elim (cases_Bool (comes_before (folded n.name) (folded 
   | inr later ↦ rw later (ne_eqb (suc (length (with_entry ns n))) 0 (λ same. omega arith))
 ]
 
-pub any-entries : (tree : Tree) (directory : ℕ) → not (length (entries_in tree directory) == 0) ≡ has_entries tree directory
+any-entries : (tree : Tree) (directory : ℕ) → not (length (entries_in tree directory) == 0) ≡ has_entries tree directory
 any-entries tree directory = ap (λ n. not (n == 0)) (length-map (in_order (children tree directory)) shown) ∙ go tree
   where
     go : (tree : Tree) → not (length (in_order (children tree directory)) == 0) ≡ has_entries tree directory
@@ -603,39 +435,11 @@ any-entries tree directory = ap (λ n. not (n == 0)) (length-map (in_order (chil
       | inr outside ↦ rw outside (go xs)
     ]
 
--- ---- a directory in which no place is held
-any-in : (tree : Tree) (directory : ℕ) → has_entries tree directory ≡ true → (n : Node) × (n.parent ≡ directory) × IsIn n tree
-any-in [] directory any = absurd (true≢false (sym any))
-any-in (x ∷ xs) directory any = elim (or_cases (x.parent == directory) (has_entries xs directory) any) [
-  | inl here ↦ (x, eqb-true x.parent directory here, inl refl)
-  | inr later ↦ let rest = any-in xs directory later in (rest.0, rest.1, inr rest.2)
-]
-
-in-any : (tree : Tree) (directory : ℕ) (n : Node) → n.parent ≡ directory → IsIn n tree → has_entries tree directory ≡ true
-in-any [] directory n inside there = absurd there
-in-any (x ∷ xs) directory n inside (inl is) =
-    or_left (x.parent == directory) (has_entries xs directory) (eq-eqb x.parent directory (ap (λ (n : Node). n.parent) is ∙ inside))
-in-any (x ∷ xs) directory n inside (inr later) = or_right (x.parent == directory) (has_entries xs directory) (in-any xs directory n inside later)
-
-both-ways : (a b : Bool) → (a ≡ true → b ≡ true) → (b ≡ true → a ≡ true) → a ≡ b
-both-ways true b to from = sym (to refl)
-both-ways false true to from = from refl
-both-ways false false to from = refl
-
-pub quiet-entries : (t : Tree) (o : OverlayState) (directory : ℕ) → list_all is_of_names o.names ≡ true → StandsOver t o
-    → ((name : List ℕ) → seat_at o.held (number_bytes directory ++ name) ≡ None) → has_entries t directory ≡ has_entries (seen t o) directory
-quiet-entries t o directory only stands quiet =
-    both-ways (has_entries t directory) (has_entries (seen t o) directory)
-    (λ any. let n = any-in t directory any in
-    let found = in-at t n.0 (Rises-from t stands.before.rise) n.2 in
-    in-any (seen t o) directory n.0 n.1 (at-in (seen t o) n.0.number n.0 (tells.back (place_in n.0) (free n.0 n.1) n.0.number n.0 found refl)))
-    (λ any. let n = any-in (seen t o) directory any in
-    let found = in-at (seen t o) n.0 (Rises-from (seen t o) stands.after.rise) n.2 in
-    in-any t directory n.0 n.1 (at-in t n.0.number n.0 (tells.kept (place_in n.0) (free n.0 n.1) n.0.number n.0 found refl)))
+pub any-seen : (tree : Tree) (directory : ℕ) (r : Option Entry)
+    → entries_from directory (number_bytes directory) (entries_in tree directory) ≡ entries_behind directory (entries_in tree directory) r → is_some r ≡ has_entries tree directory
+any-seen tree directory r is =
+    go r ∙ ap (λ (ss : List Shown). not (length ss == 0)) (sym is ∙ entries_begun directory (entries_in tree directory)) ∙ any-entries tree directory
   where
-    tells : Seated t (seen t o) (each_change seats_of t o.names)
-    tells = seated o.names t only stands.applies (IsOneEach-from t stands.before)
-
-    free : (n : Node) → n.parent ≡ directory → last_seat (each_change seats_of t o.names) (place_in n) ≡ None
-    free n inside =
-        sym (stands.held (place_in n)) ∙ ap (λ d. seat_at o.held (number_bytes d ++ folded n.name)) inside ∙ quiet (folded n.name)
+    go : (r : Option Entry) → is_some r ≡ not (length (entries_behind directory (entries_in tree directory) r) == 0)
+    go None = refl
+    go (Some e) = sym (ap not (ne_eqb (suc (length (entries_from directory (after_child directory e.name.now) (entries_in tree directory)))) 0 (λ same. omega arith)))

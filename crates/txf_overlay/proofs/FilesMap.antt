@@ -19,7 +19,7 @@ use Rattle.std.specs.List.{flat_map}
 use Rattle.txf_overlay.specs.Files.{AreFiles, files_in, IsFilesMap}
 use Rattle.txf_overlay.specs.Written.{AreOver, IsRising, bytes_at, bytes_or, file_of, first_from, with_bytes, with_file, with_made, without_file, total_units, units_in}
 use Rattle.txf_overlay.specs.Maps.{under, IsSet}
-use Rattle.txf_overlay.specs.Names.{number_bytes}
+use Rattle.txf_tree.specs.Places.{number_bytes}
 use Rattle.txf_overlay.specs.OverlayState.{Written, final_of}
 use Rattle.txf_overlay.proofs.Numbers.{name_cmp-numbers, cmp-less, cmp-same, cmp-more}
 

@@ -5,19 +5,19 @@ use Rattle.std.specs.List.{list_all}
 use Rattle.std.specs.Option.{option_map}
 use Rattle.std.specs.Ordering.{is_eq}
 use Rattle.std.proofs.lemmas.Bool.{cases_Bool, and_parts, and_from, or_parts, leb-true, eq-eqb, eqb-true, cases_eq, not-true, true≢false}
-use Rattle.std.proofs.lemmas.List.{append_assoc, append-nil}
+use Rattle.std.proofs.lemmas.List.{append_assoc, append-nil, length-append, length-map}
 use Rattle.std.proofs.lemmas.List.Sums.{fold-append}
 use Rattle.std.proofs.lemmas.Map.Text.{is_eq-slice_cmp}
-use Rattle.std.proofs.lemmas.Option.{same_Some}
+use Rattle.std.proofs.lemmas.Option.{none-some, same_Some}
 use Rattle.std.proofs.lemmas.Slice.Eq.{bytes_eq-Decides}
-use Rattle.ktm_base.specs.Names.{is_name_byte, last_byte}
+use Rattle.ktm_base.specs.Names.{IsName, folded, folded_byte, is_name_byte, last_byte}
 use Rattle.ktm_links.specs.Mapped.{NamedItem, name_cmp}
 use Rattle.ktm_types.specs.declared.change.Change.{Change}
 use Rattle.ktm_types.specs.declared.change.Change.TheVariants.{Make, Put, Cut, Move, Drop}
 use Rattle.ktm_types.specs.declared.change.NodeKind.{NodeKind}
 use Rattle.ktm_types.specs.declared.recorded.Node.{Node}
 use Rattle.ktm_world.specs.Changes.{applies, apply_all, changed, changed_all, is_drop, is_make, node_of, nodes_made}
-use Rattle.ktm_world.specs.Holds.{each_change}
+use Rattle.ktm_world.specs.Holds.{each_change, place}
 use Rattle.ktm_world.specs.Paths.{is_name}
 use Rattle.ktm_world.specs.Tree.{Tree, IsWellFormed, node_at}
 use Rattle.txf_overlay.specs.declared.node.NodeSeen.{NodeSeen}
@@ -25,14 +25,16 @@ use Rattle.txf_overlay.specs.Files.{files_in, IsFilesMap}
 use Rattle.txf_overlay.specs.Kept.{seats_in, IsKept}
 use Rattle.txf_overlay.specs.OverlayState.{is_of_names, OverlayState, Written, seen}
 use Rattle.txf_overlay.specs.Maps.{under}
-use Rattle.txf_overlay.specs.Names.{number_bytes, place_in}
-use Rattle.txf_overlay.specs.Nodes.{drop_it, one_if, times_made, was_counted, IsShort, WasSeen}
+use Rattle.txf_tree.specs.Places.{number_bytes}
+use Rattle.txf_tree.proofs.Digits.{length-number_bytes}
+use Rattle.txf_overlay.specs.Names.{place_bytes, place_in}
+use Rattle.txf_overlay.specs.Nodes.{drop_it, given, one_if, times_made, was_counted, IsShort, WasSeen}
 use Rattle.txf_overlay.specs.Views.{if_at, last_seat, left_by, or_before, seat_at, seats_of, StandsOver}
 use Rattle.txf_overlay.specs.Written.{total_units}
 use Rattle.txf_overlay.proofs.NodesSeen.{made-push, made-drop, was-counted, drops, lasts, AreSeen-push, IsNext}
-use Rattle.txf_overlay.proofs.Options.{or-assoc}
-use Rattle.txf_overlay.proofs.Views.{last_seat-append}
-use Rattle.txf_overlay.proofs.Trees.{Applies-from, node_at-elsewhere, node_at-there, remade}
+use Rattle.txf_overlay.proofs.Options.{or_some, or-assoc}
+use Rattle.txf_overlay.proofs.Views.{come_to, come-some, last_seat-append, left-some, puts, seats-are}
+use Rattle.txf_overlay.proofs.Trees.{Applies-from, at-All, node_at-elsewhere, node_at-there, remade}
 
 -- ---- lists of changes
 pub only-push : (cs : List Change) (c : Change) → list_all is_of_names cs ≡ true → is_of_names c ≡ true → list_all is_of_names (cs ++ c ∷ []) ≡ true
@@ -118,6 +120,54 @@ short-from t (Put node offset contents) is = tt
 short-from t (Cut node size pages) is = tt
 short-from t (Move node parent name) is = is_name-short name (Applies-from t (Move node parent name) is).2
 short-from t (Drop node) is = tt
+
+place-short : (directory : ℕ) (name : List ℕ) → length name ≤ 255 → length (place_bytes (place directory name)) ≤ 263
+place-short directory name short =
+    omega (arith, short, length-append (number_bytes directory) (folded name), length-number_bytes directory, length-map name folded_byte)
+
+-- a place that a change gives is as long as a short name makes it
+given-short : (c : Change) (p : List ℕ) → IsShort c → given c ≡ Some p → length p ≤ 263
+given-short (Make node parent kind name) p short is = subst (λ p. length p ≤ 263) (same_Some _ p is) (place-short parent name short)
+given-short (Put node offset contents) p short is = absurd (none-some p is)
+given-short (Cut node size pages) p short is = absurd (none-some p is)
+given-short (Move node parent name) p short is = subst (λ p. length p ≤ 263) (same_Some _ p is) (place-short parent name short)
+given-short (Drop node) p short is = absurd (none-some p is)
+
+-- the places of the nodes are short
+abbrev pub AreShort : Tree → Type 0
+AreShort t = (m : ℕ) (x : Node) → node_at t m ≡ Some x → length (place_in x) ≤ 263
+
+short-after : (t : Tree) (c : Change) → is_of_names c ≡ true → applies t c ≡ true → AreShort t → AreShort (changed t c)
+short-after t c names is short m x found = elim (cases_eq (node_of c) m) [
+  | inl same ↦ given-short c (place_in x) (short-from t c is) ((puts t c names is).here x (ap (node_at (changed t c)) same ∙ found))
+  | inr other ↦ short m x (sym (node_at-elsewhere t c is m other) ∙ found)
+]
+
+-- and so are the places that changes hold
+short-seats : (cs : List Change) (t : Tree) (p : List ℕ) (v : Option ℕ) → AreShort t → list_all is_of_names cs ≡ true → apply_all t cs ≡ true
+    → last_seat (each_change seats_of t cs) p ≡ Some v → length p ≤ 263
+short-seats [] t p v short names all seat = absurd (none-some v seat)
+short-seats (c ∷ cs) t p v short names all seat =
+    let names' = and_parts (is_of_names c) (list_all is_of_names cs) names in
+    let all' = and_parts (applies t c) (apply_all (changed t c) cs) all in
+    elim (or_some _ _ v (sym (last_seat-append (seats_of t c) (each_change seats_of (changed t c) cs) p) ∙ seat)) [
+      | inl later ↦ short-seats cs (changed t c) p v (short-after t c names'.0 all'.0 short) names'.1 all'.1 later
+      | inr earlier ↦
+          let here : last_seat (left_by (node_at t (node_of c)) ++ come_to (node_of c) (given c)) p ≡ Some v =
+          ap (λ ss. last_seat ss p) (sym (seats-are t c names'.0 all'.0)) ∙ earlier.1 in
+          elim (or_some _ _ v (sym (last_seat-append (left_by (node_at t (node_of c))) (come_to (node_of c) (given c)) p) ∙ here)) [
+            | inl come ↦ given-short c p (short-from t c all'.0) (come-some (node_of c) (given c) p v come).1
+            | inr left ↦
+                let was = (left-some (node_at t (node_of c)) p v left.1).1 in
+                subst (λ p. length p ≤ 263) was.2 (short (node_of c) was.0 was.1)
+          ]
+    ]
+
+pub short-place : (t : Tree) (o : OverlayState) (p : List ℕ) (v : Option ℕ) → list_all is_of_names o.names ≡ true → StandsOver t o → seat_at o.held p ≡ Some v
+    → length p ≤ 263
+short-place t o p v only stands seat =
+    short-seats o.names t p v (λ m x found. place-short x.parent x.name (at-All (λ n. IsName n.name) t stands.before.names m x found).few) only stands.applies
+    (sym (stands.held p) ∙ seat)
 
 -- ---- the parts stay together
 pub few-made : (cs : List Change) → nodes_made cs ≤ length cs

@@ -1,15 +1,14 @@
-pub mod Comparing
 pub mod Edits
 pub mod Entering
 pub mod Entries
 pub mod FilesMap
 pub mod Keeping
-pub mod Later
 pub mod NodesSeen
 pub mod Numbers
 pub mod Options
 pub mod OtherTrees
 pub mod OwnForms
+pub mod Seats
 pub mod Trees
 pub mod Upward
 pub mod Views

@@ -6,9 +6,9 @@ use Rattle.std.proofs.lemmas.Option.{none-some, same_Some}
 use Rattle.ktm_links.specs.Mapped.{NamedItem}
 use Rattle.txf_overlay.specs.declared.node.NodeSeen.{NodeSeen}
 use Rattle.txf_overlay.specs.Maps.{under}
-use Rattle.txf_overlay.specs.Names.{number_bytes}
+use Rattle.txf_tree.specs.Places.{number_bytes}
 use Rattle.txf_overlay.proofs.Options.{or_none, or-assoc, or-nothing}
-use Rattle.txf_overlay.proofs.Numbers.{number_bytes-apart}
+use Rattle.txf_tree.proofs.Digits.{number_bytes-one}
 use Rattle.std.specs.List.{list_any, slice_get}
 use Rattle.std.proofs.lemmas.Bool.{cases_Bool, cases_eq, eqb-true, eqb-false, eq-eqb, ne_eqb, or_right, and_right}
 use Rattle.ktm_types.specs.declared.change.Change.{Change}
@@ -223,7 +223,7 @@ AreSeen-push cs c old new name s are name_is here others next = record {
 }
   where
     apart : (node : ℕ) → (node_of c ≡ node → ⊥) → number_bytes node ≡ name → ⊥
-    apart node other same = other (number_bytes-apart (node_of c) node (sym name_is ∙ sym same))
+    apart node other same = other (number_bytes-one (node_of c) node (sym name_is ∙ sym same))
 
 pub was-seen : (cs : List Change) (es : List (NamedItem NodeSeen)) (node : ℕ) (o : Option NodeSeen) → AreSeen cs es → node < 2 ^ 64 → o ≡ under es (number_bytes node)
     → WasSeen cs node o

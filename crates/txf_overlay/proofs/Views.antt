@@ -16,11 +16,12 @@ use Rattle.ktm_world.specs.Changes.{applies, apply_all, changed, changed_all, ne
 use Rattle.ktm_world.specs.Holds.{Place, place, each_change}
 use Rattle.ktm_world.specs.Tree.{Tree, IsWellFormed, child_of, content_of, is_file, node_at, same_name}
 use Rattle.txf_overlay.specs.OverlayState.{is_of_names, Seat}
-use Rattle.txf_overlay.specs.Names.{number_bytes, place_bytes, place_in}
-use Rattle.txf_overlay.specs.Nodes.{given, given_parent, kind_if, kind_in, last_of, if_of, made_kind}
+use Rattle.txf_tree.specs.Places.{number_bytes}
+use Rattle.txf_overlay.specs.Names.{place_bytes, place_in}
+use Rattle.txf_overlay.specs.Nodes.{given, given_name, given_parent, kind_if, kind_in, last_of, if_of, made_kind}
 use Rattle.txf_overlay.specs.Sight.{sight_of}
 use Rattle.txf_overlay.specs.Views.{or_before, if_at, last_seat, left_by, seat, seats_of}
-use Rattle.txf_overlay.proofs.Numbers.{number_bytes-length, number_bytes-apart}
+use Rattle.txf_tree.proofs.Digits.{length-number_bytes, number_bytes-one}
 use Rattle.txf_overlay.proofs.Options.{or_none, or_some, or-assoc, or-nothing}
 use Rattle.txf_overlay.proofs.Trees.{Applies-from, Rises-from, at-All, fails-all, found-at, is_there-none, is_there-some, node_at-elsewhere, node_at-there, number-at, remade}
 
@@ -28,9 +29,9 @@ use Rattle.txf_overlay.proofs.Trees.{Applies-from, Rises-from, at-All, fails-all
 
 place-apart : (p q : Place) → place_bytes p ≡ place_bytes q → (p.directory ≡ q.directory) × (p.name ≡ q.name)
 place-apart p q same =
-    let p_8 = number_bytes-length p.directory in
-    let q_8 = number_bytes-length q.directory in (
-      number_bytes-apart p.directory q.directory
+    let p_8 = length-number_bytes p.directory in
+    let q_8 = length-number_bytes q.directory in (
+      number_bytes-one p.directory q.directory
           (sym (take_at (number_bytes p.directory) p.name 8 p_8) ∙ ap (take 8) same ∙ take_at (number_bytes q.directory) q.name 8 q_8),
       sym (drop_at (number_bytes p.directory) p.name 8 p_8) ∙ ap (drop 8) same ∙ drop_at (number_bytes q.directory) q.name 8 q_8,
     )
@@ -153,11 +154,11 @@ puts t (Move node parent name) names is = puts-move t node parent name is
 puts t (Drop node) names is = puts-drop t node is
 
 -- the seat to which a node comes
-abbrev come_to : ℕ → Option (List ℕ) → List Seat
+abbrev pub come_to : ℕ → Option (List ℕ) → List Seat
 come_to node None = []
 come_to node (Some p) = record { place = p; node = Some node } ∷ []
 
-seats-are : (t : Tree) (c : Change) → is_of_names c ≡ true → applies t c ≡ true → seats_of t c ≡ left_by (node_at t (node_of c)) ++ come_to (node_of c) (given c)
+pub seats-are : (t : Tree) (c : Change) → is_of_names c ≡ true → applies t c ≡ true → seats_of t c ≡ left_by (node_at t (node_of c)) ++ come_to (node_of c) (given c)
 seats-are t (Make node parent kind name) names is =
     let parts = Applies-from t (Make node parent kind name) is in
     rw (is_there-none t node parts.0) refl
@@ -181,7 +182,7 @@ at-if p s o is = elim (cases_Bool (bytes_eq s.place p)) [
 not-if : (p : List ℕ) (s : Seat) → if_at p s ≡ None → s.place ≡ p → ⊥
 not-if p s none at = none-some s.node (sym none ∙ rw ((bytes_eq-Decides s.place p).1 at) refl)
 
-come-some : (m : ℕ) (g : Option (List ℕ)) (p : List ℕ) (o : Option ℕ) → last_seat (come_to m g) p ≡ Some o → (Some m ≡ o) × (g ≡ Some p)
+pub come-some : (m : ℕ) (g : Option (List ℕ)) (p : List ℕ) (o : Option ℕ) → last_seat (come_to m g) p ≡ Some o → (Some m ≡ o) × (g ≡ Some p)
 come-some m None p o is = absurd (none-some o is)
 come-some m (Some q) p o is = let at = at-if p (record { place = q; node = Some m }) o is in (at.1, ap Some at.0)
 
@@ -189,7 +190,7 @@ come-none : (m : ℕ) (g : Option (List ℕ)) (p : List ℕ) → last_seat (come
 come-none m None p none is = none-some p is
 come-none m (Some q) p none is = not-if p (record { place = q; node = Some m }) none (same_Some q p is)
 
-left-some : (w : Option Node) (p : List ℕ) (o : Option ℕ) → last_seat (left_by w) p ≡ Some o → (None ≡ o) × ((y : Node) × (w ≡ Some y) × (place_in y ≡ p))
+pub left-some : (w : Option Node) (p : List ℕ) (o : Option ℕ) → last_seat (left_by w) p ≡ Some o → (None ≡ o) × ((y : Node) × (w ≡ Some y) × (place_in y ≡ p))
 left-some None p o is = absurd (none-some o is)
 left-some (Some y) p o is = let at = at-if p (seat (place y.parent y.name) None) o is in (at.1, (y, refl, at.0))
 
@@ -421,6 +422,18 @@ parent_of-given (Move node parent name) t x names is found =
     (sym (node_at-there t (Move node parent name) is node refl ∙ ap (remade (Move node parent name)) before.1) ∙ found)
 parent_of-given (Drop node) t x names is found = absurd (none-some x (sym (node_at-there t (Drop node) is node refl) ∙ found))
 
+name_of-given : (c : Change) (t : Tree) (x : Node) → is_of_names c ≡ true → applies t c ≡ true → node_at (changed t c) (node_of c) ≡ Some x → given_name c ≡ Some x.name
+name_of-given (Make node parent kind name) t x names is found =
+    ap (λ (o : Option Node). option_map (λ n. n.name) o) (sym (node_at-there t (Make node parent kind name) is node refl) ∙ found)
+name_of-given (Put node offset contents) t x names is found = absurd (cc)
+name_of-given (Cut node size pages) t x names is found = absurd (cc)
+name_of-given (Move node parent name) t x names is found =
+    let parts = Applies-from t (Move node parent name) is in
+    let before = is_there-some t node parts.0 parts.1 in
+    ap (λ (o : Option Node). option_map (λ n. n.name) o)
+    (sym (node_at-there t (Move node parent name) is node refl ∙ ap (remade (Move node parent name)) before.1) ∙ found)
+name_of-given (Drop node) t x names is found = absurd (none-some x (sym (node_at-there t (Drop node) is node refl) ∙ found))
+
 both-given : (c : Change) → given c ≡ None → given_parent c ≡ None
 both-given (Make node parent kind name) none = absurd (cc)
 both-given (Put node offset contents) none = refl
@@ -535,7 +548,7 @@ pub sight-none : (o : Option Node) → None ≡ option_map (λ n. n.parent) o �
 sight-none None is = refl
 sight-none (Some n) is = absurd (none-some n.parent is)
 
--- ---- held places and changed nodes
+-- ---- nodes at held places
 
 -- a node that stands at a held place was changed
 pub seated-touched : (cs : List Change) (t : Tree) (p : List ℕ) (m : ℕ) → list_all is_of_names cs ≡ true → apply_all t cs ≡ true
@@ -558,30 +571,29 @@ seated-touched (c ∷ cs) t p m names all last none =
           ]
     ]
 
--- a node that was changed stands at a held place
-pub touched-held : (cs : List Change) (t : Tree) (m : ℕ) (x : Node) → list_all is_of_names cs ≡ true → apply_all t cs ≡ true → (last_of cs m ≡ None → ⊥)
-    → node_at (changed_all t cs) m ≡ Some x → last_seat (each_change seats_of t cs) (place_in x) ≡ None → ⊥
-touched-held [] t m x names all touched found none = touched refl
-touched-held (c ∷ cs) t m x names all touched found none =
-    let names' = and_parts (is_of_names c) (list_all is_of_names cs) names in
-    let all' = and_parts (applies t c) (apply_all (changed t c) cs) all in
-    let both = or_none _ _ (sym (last_seat-append (seats_of t c) (each_change seats_of (changed t c) cs) (place_in x)) ∙ none) in
-    go names'.0 names'.1 all'.0 all'.1 both.0 both.1 (last_of cs m) refl (λ some. touched-held cs (changed t c) m x names'.1 all'.1 some found both.0)
+-- the node is seen, and its last change gave it its name
+pub record IsOwnNode (cs : List Change) (t' : Tree) (m : ℕ) : Type 0 where
+  pub node : Node
+  pub found : node_at t' m ≡ Some node
+  pub change : Change
+  pub last : last_of cs m ≡ Some change
+  pub name : given_name change ≡ Some node.name
+
+pub own-node : (cs : List Change) (t : Tree) (p : List ℕ) (m : ℕ) → list_all is_of_names cs ≡ true → apply_all t cs ≡ true → IsOneEach t
+    → last_seat (each_change seats_of t cs) p ≡ Some (Some m) → IsOwnNode cs (changed_all t cs) m
+own-node cs t p m names all one seat = go (last_of cs m) refl
   where
-    go : is_of_names c ≡ true → list_all is_of_names cs ≡ true → applies t c ≡ true → apply_all (changed t c) cs ≡ true
-        → last_seat (each_change seats_of (changed t c) cs) (place_in x) ≡ None → last_seat (seats_of t c) (place_in x) ≡ None
-        → (o : Option Change) → last_of cs m ≡ o → ((last_of cs m ≡ None → ⊥) → ⊥) → ⊥
-    go names_c names_cs all_c all_cs later here (Some d) is rest = rest (λ none. none-some d (sym none ∙ is))
-    go names_c names_cs all_c all_cs later here None is rest = of (if_of m c) refl
-      where
-        of : (o : Option Change) → if_of m c ≡ o → ⊥
-        of None none_c = touched (rw is none_c)
-        of (Some d) some_c =
-            let same = if-of m c d some_c in
-            let now : node_at (changed t c) (node_of c) ≡ Some x =
-            ap (node_at (changed t c)) same.1 ∙ sym (untouched cs (changed t c) m all_cs is) ∙ found in
-            let brought = (puts t c names_c all_c).here x now in
-            let seats : or_before (last_seat (come_to (node_of c) (given c)) (place_in x)) (last_seat (left_by (node_at t (node_of c))) (place_in x)) ≡ None =
-            sym (last_seat-append (left_by (node_at t (node_of c))) (come_to (node_of c) (given c)) (place_in x))
-            ∙ ap (λ ss. last_seat ss (place_in x)) (sym (seats-are t c names_c all_c)) ∙ here in
-            come-none (node_of c) (given c) (place_in x) (or_none _ _ seats).0 brought
+    here : IsAt (changed_all t cs) p m
+    here = (seated cs t names all one).some p m seat
+
+    go : (o : Option Change) → last_of cs m ≡ o → IsOwnNode cs (changed_all t cs) m
+    go None none = absurd (seated-touched cs t p m names all seat none)
+    go (Some c) is =
+        let last = last-is cs t m c names all is in
+        record {
+          node = here.node;
+          found = here.found;
+          change = c;
+          last = is;
+          name = name_of-given c last.tree here.node last.names last.applies (ap (node_at (changed last.tree c)) last.of ∙ sym last.left ∙ here.found);
+        }

@@ -1,7 +1,7 @@
 -- How the map of the files that are written stands for them. No public clause cites this module.
 use Rattle.std.specs.Prelude.{◌≡◌, ◌<◌, ◌^◌, List, [], ◌∷◌, map}
 use Rattle.ktm_links.specs.Mapped.{NamedItem}
-use Rattle.txf_overlay.specs.Names.{number_bytes}
+use Rattle.txf_tree.specs.Places.{number_bytes}
 use Rattle.txf_overlay.specs.OverlayState.{Written}
 use Rattle.txf_overlay.specs.Written.{IsRising}
 

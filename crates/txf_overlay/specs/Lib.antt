@@ -1,4 +1,3 @@
-pub mod Brought
 pub mod Files
 pub mod Kept
 pub mod Laws

@@ -1,12 +1,8 @@
--- The names under which numbers and places are sorted.
-use Rattle.std.specs.Prelude.{ℕ, ◌/◌, ◌^◌, List, ◌∷◌, ◌++◌}
-use Rattle.std.specs.Int.{bytes_high_first}
+-- The names under which places are sorted.
+use Rattle.std.specs.Prelude.{ℕ, List, ◌++◌}
 use Rattle.ktm_types.specs.declared.recorded.Node.{Node}
 use Rattle.ktm_world.specs.Holds.{Place, place}
-
--- the eight digits of a number to the base 256, the greatest first; that is what is left of the number
-unfoldable pub number_bytes : ℕ → List ℕ
-number_bytes n = n / 256 ^ 7 ∷ bytes_high_first 7 n
+use Rattle.txf_tree.specs.Places.{number_bytes}
 
 -- the number of the directory, and behind it the folded name
 abbrev pub place_bytes : Place → List ℕ

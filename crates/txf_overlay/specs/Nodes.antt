@@ -9,7 +9,8 @@ use Rattle.ktm_world.specs.Holds.{place}
 use Rattle.ktm_links.specs.Mapped.{NamedItem}
 use Rattle.txf_overlay.specs.declared.node.NodeSeen.{NodeSeen}
 use Rattle.txf_overlay.specs.Maps.{under}
-use Rattle.txf_overlay.specs.Names.{number_bytes, place_bytes}
+use Rattle.txf_tree.specs.Places.{number_bytes}
+use Rattle.txf_overlay.specs.Names.{place_bytes}
 use Rattle.txf_overlay.specs.Views.{or_before}
 
 -- the change, if it is of the node
@@ -41,6 +42,14 @@ given_parent (Put node offset contents) = None
 given_parent (Cut node size pages) = None
 given_parent (Move node parent name) = Some parent
 given_parent (Drop node) = None
+
+-- the name that a change gives its node
+abbrev pub given_name : Change → Option (List ℕ)
+given_name (Make node parent kind name) = Some name
+given_name (Put node offset contents) = None
+given_name (Cut node size pages) = None
+given_name (Move node parent name) = Some name
+given_name (Drop node) = None
 
 -- the name that it gives the node has at most 255 bytes
 abbrev pub IsShort : Change → Type 0

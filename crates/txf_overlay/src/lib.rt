@@ -5,7 +5,6 @@
 mod laws;
 mod listing;
 mod maps;
-mod name;
 mod names;
 mod node;
 mod overlay;

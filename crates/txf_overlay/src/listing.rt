@@ -1,193 +1,111 @@
 // The entries of a directory, as a transaction sees them.
-ghost use Rattle.std.specs.Prelude.{◌≡◌, ℕ, List, ◌+◌, ◌≤◌, ◌++◌, ◌∷◌, [], true, false, not, length, map, drop, filter, is_none, is_some, None, Some, IfOk, OnOk, if◌then◌else◌};
-ghost use Rattle.std.specs.List.{insert, list_all, slice_get};
+ghost use Rattle.std.specs.Prelude.{◌≡◌, ℕ, List, ◌≤◌, true, length, Some, IfOk, IfNone, IfSome};
+ghost use Rattle.std.specs.List.{list_all};
 ghost use Rattle.std.specs.Option.{option_map};
-ghost use Rattle.ktm_base.specs.Names.{folded};
-ghost use Rattle.ktm_keyed.specs.Keyed.{comes_before};
-ghost use Rattle.ktm_types.specs.declared.change.Change.{Change};
-ghost use Rattle.ktm_types.specs.declared.recorded.Node.{Node};
-ghost use Rattle.ktm_world.specs.Changes.{node_of};
+ghost use Rattle.ktm_links.specs.Mapped.{Begins};
 ghost use Rattle.ktm_world.specs.Tree.{has_entries, node_at};
-ghost use Rattle.txf_tree.specs.Children.{Shown, entry_seen, entries_in};
+ghost use Rattle.txf_tree.specs.Children.{entry_seen, entries_in, shown};
+ghost use Rattle.txf_tree.specs.Places.{entries_behind, entries_from, number_bytes};
 ghost use Rattle.txf_tree.specs.TreeState.{tree_of};
 ghost use Rattle.txf_overlay.specs.OverlayState.{is_of_names, seen};
-ghost use Rattle.txf_overlay.specs.Listing.{if_any, is_kept, shown_by, shown_in, with_all, with_shown};
-ghost use Rattle.txf_overlay.specs.Nodes.{last_of};
-ghost use Rattle.txf_overlay.specs.Names.{number_bytes};
+ghost use Rattle.txf_overlay.specs.Listing.{is_before, IsNextSeat, IsNoSeat};
 ghost use Rattle.txf_overlay.specs.Views.{seat_at, StandsOver};
-ghost use Rattle.txf_overlay.specs.Brought.{brought, bringing};
 
-use crate::name::number_name;
-use crate::node::seen;
+use crate::node::given_name;
 use crate::overlay::Overlay;
-use ktm_base::{NoMemory, fold};
-use ktm_types::Change;
-use txf_tree::{Entries, Entry, Tree};
+use ktm_base::NoMemory;
+use ktm_links::Name;
+use txf_tree::{Entries, Entry, Tree, after_child, after_place, child_name, number_bytes};
 
-/// To where a change brings its node.
+/// A place that the transaction holds, and the node that stands there now.
 #[derive(Clone, Copy)]
-pub(crate) struct Arrival<'a> {
-    pub(crate) node: u64,
-    pub(crate) parent: u64,
-    pub(crate) name: &'a [u8],
+pub(crate) struct SeatRef<'a> {
+    pub(crate) place: &'a [u8],
+    pub(crate) node: Option<u64>,
 }
 
-fn brought(change: &Change) -> Option<Arrival<'_>>
-    ensures { option_map bringing result ≡ brought change.now }
+// Does the entry of the directory, if there is one, stand before the place.
+fn is_before(directory: u64, entry: Option<Entry<'_>>, place: &[u8]) -> bool
+    requires { IfSome entry (λ entry. length entry.name.now ≤ 255) }
+    ensures { result ≡ is_before directory entry.entry place.now }
 {
-    match change {
-        Change::Make {
-            node,
-            parent,
-            name,
-            ..
-        } => Some(Arrival {
-            node: *node,
-            parent: *parent,
-            name: name.as_slice(),
-        }),
-        Change::Move { node, parent, name } => Some(Arrival {
-            node: *node,
-            parent: *parent,
-            name: name.as_slice(),
-        }),
-        _ => None,
+    match entry {
+        Some(entry) => child_name(directory, entry.name)
+            .as_slice()
+            .cmp(place)
+            .is_lt(),
+        None => false,
     }
-}
-
-// Does the first name come before the second, without case.
-fn comes_before(a: &[u8], b: &[u8]) -> bool
-    ensures { result ≡ comes_before (folded a.now) (folded b.now) }
-{
-    for (i, x) in a.iter().enumerate() {
-        let Some(y) = b.get(i) else {
-            return false;
-        };
-        let x = fold(*x);
-        let y = fold(*y);
-        if x != y {
-            return x < y;
-        }
-    }
-    a.len() < b.len()
-}
-
-// Where an entry with this name stands among others.
-fn slot(entries: &[Entry<'_>], name: &[u8]) -> usize
-    ensures slot { (s : Shown) → s.name ≡ name.now → with_shown (map entry_seen entries.now) s ≡ insert (map entry_seen entries.now) result s }
-    ensures within { result ≤ length entries.now }
-{
-    for (i, entry) in entries.iter().enumerate() {
-        if comes_before(name, entry.name) {
-            return i;
-        }
-    }
-    entries.len()
-}
-
-// One entry more, if there is one, at its place.
-fn add<'a>(entries: &mut Vec<Entry<'a>>, entry: Option<Entry<'a>>) -> Result<(), NoMemory>
-    ensures { OnOk result (map entry_seen entries.new.items ≡ with_all (if_any (option_map entry_seen entry.entry)) (map entry_seen entries.old.items)) }
-{
-    let Some(entry) = entry else {
-        return Ok(());
-    };
-    let place = slot(entries, entry.name);
-    if let Err(_) = entries.insert(place, entry) {
-        return Err(NoMemory);
-    }
-    Ok(())
-}
-
-// An entry, if it is kept, behind others.
-fn keep<'a>(entries: &mut Vec<Entry<'a>>, entry: &Entry<'a>, is_kept: bool) -> Result<(), NoMemory>
-    ensures { OnOk result (entries.new.items ≡ entries.old.items ++ (if is_kept then entry.now ∷ [] else [])) }
-{
-    if !is_kept {
-        return Ok(());
-    }
-    if let Err(_) = entries.push(*entry) {
-        return Err(NoMemory);
-    }
-    Ok(())
 }
 
 impl Overlay {
-    // Is this the place of the last change of its node.
-    fn is_last(&self, node: u64, place: usize) -> bool
-        requires { (c : Change) × (slice_get self.now.names place ≡ Some c) × (node_of c ≡ node) }
-        ensures last { result ≡ is_none (last_of (drop (place + 1) self.now.names) node) }
+    // The first held place of the directory that is not below this one, and the node that stands there now.
+    fn next_seat(&self, directory: u64, from: &[u8]) -> Option<SeatRef<'_>>
+        requires { Begins (number_bytes directory) from.now }
+        ensures some { IfSome result (λ seat. IsNextSeat self.now.held directory from.now seat.place.now seat.node) }
+        ensures none { IfNone result (IsNoSeat self.now.held directory from.now) }
         ensures only { list_all is_of_names self.now.names ≡ true }
     {
-        match seen(&self.nodes, node) {
-            Some(seen) => seen.last == place,
-            None => false,
-        }
-    }
-
-    // Does no held place hide the entry of the tree.
-    fn is_kept(&self, directory: u64, entry: &Entry<'_>) -> bool
-        requires { length entry.now.name.now ≤ 255 }
-        ensures { result ≡ is_kept self.now.held directory (entry_seen entry.now) }
-    {
-        self.seat(directory, entry.name).is_none()
-    }
-
-    // The entries of the tree at places that are not held.
-    fn kept_entries<'a>(&self, tree: &'a Tree, directory: u64) -> Result<Vec<Entry<'a>>, NoMemory>
-        requires { StandsOver (tree_of tree.now) self.now }
-        ensures { IfOk result (λ kept. map entry_seen kept.items ≡ filter (is_kept self.now.held directory) (entries_in (tree_of tree.now) directory)) }
-    {
-        let all = tree.entries(directory)?;
-        let entries = all.as_slice();
-        let mut kept = Vec::with_capacity(self.alloc, entries.len())?;
-        for entry in entries {
-            let is_kept = self.is_kept(directory, entry);
-            keep(&mut kept, entry, is_kept)?;
-        }
-        Ok(kept)
-    }
-
-    // The entry to which the last change of its node brings it, if that is in the directory.
-    fn entry_at<'a>(
-        &self,
-        tree: &Tree,
-        directory: u64,
-        place: usize,
-        at: Arrival<'a>,
-    ) -> Option<Entry<'a>>
-        requires stands { StandsOver (tree_of tree.now) self.now }
-        requires here { (c : Change) × (slice_get self.now.names place ≡ Some c) × (node_of c ≡ at.node) }
-        ensures other { is_none (last_of (drop (place + 1) self.now.names) at.entry.node) ≡ false → if_any (option_map entry_seen result) ≡ [] }
-        ensures last { (n : Node) → is_none (last_of (drop (place + 1) self.now.names) at.entry.node) ≡ true → node_at (seen (tree_of tree.now) self.now) at.entry.node ≡ Some n → n.parent ≡ at.entry.parent → n.name ≡ at.entry.name.now → if_any (option_map entry_seen result) ≡ shown_in directory (Some n) }
-        ensures only { list_all is_of_names self.now.names ≡ true }
-    {
-        if !self.is_last(at.node, place) || at.parent != directory {
+        let Some(key) = self.seats.first_from(from) else {
+            return None;
+        };
+        let Some(place) = self.seats.name(key) else {
+            unreachable!();
+        };
+        if !place.starts_with(&number_bytes(directory)) {
             return None;
         }
-        Some(Entry {
-            name: at.name,
-            is_directory: !self.is_file(tree, at.node),
-        })
+        match self.seats.get(key) {
+            Some(node) => Some(SeatRef { place, node: *node }),
+            None => unreachable!(),
+        }
     }
 
-    // The entry of the node of the change at this place, as it is seen, unless a later change is of it.
-    fn entry_by<'a>(
-        &self,
-        tree: &Tree,
+    // The entry of a node that stands at a held place.
+    fn own_entry(&self, tree: &Tree, node: u64) -> Entry<'_>
+        requires stands { StandsOver (tree_of tree.now) self.now }
+        requires here { (place : List ℕ) × (seat_at self.now.held place ≡ Some (Some node)) }
+        ensures { Some (entry_seen result) ≡ option_map shown (node_at (seen (tree_of tree.now) self.now) node) }
+    {
+        let Some(change) = self.last_change(node) else {
+            unreachable!();
+        };
+        let Some(name) = given_name(change) else {
+            unreachable!();
+        };
+        Entry {
+            name,
+            is_directory: !self.is_file(tree, node),
+        }
+    }
+
+    /// The first entry of the directory that is seen and whose place is not below this one. Of the entries of the tree, one
+    /// that stands before the next held place is not hidden.
+    pub fn next_entry<'a>(
+        &'a self,
+        tree: &'a Tree,
         directory: u64,
-        place: usize,
-        change: &'a Change,
+        from: &[u8],
     ) -> Option<Entry<'a>>
         requires stands { StandsOver (tree_of tree.now) self.now }
-        requires here { slice_get self.now.names place ≡ Some change.now }
-        requires only { list_all is_of_names self.now.names ≡ true }
-        ensures { if_any (option_map entry_seen result) ≡ shown_by (seen (tree_of tree.now) self.now) directory (drop (place + 1) self.now.names) change.now }
+        requires from { Begins (number_bytes directory) from.now }
+        ensures entries { entries_from directory from.now (entries_in (seen (tree_of tree.now) self.now) directory) ≡ entries_behind directory (entries_in (seen (tree_of tree.now) self.now) directory) result }
+        ensures few { IfSome result (λ entry. length entry.name.now ≤ 255) }
     {
-        match brought(change) {
-            Some(at) => self.entry_at(tree, directory, place, at),
-            None => None,
+        let mut kept = tree.next_entry(directory, from);
+        let mut next = self.next_seat(directory, from);
+        while let Some(seat) = next {
+            if is_before(directory, kept, seat.place) {
+                return kept;
+            }
+            if let Some(node) = seat.node {
+                return Some(self.own_entry(tree, node));
+            }
+            let behind = after_place(seat.place);
+            kept = tree.next_entry(directory, behind.as_slice());
+            next = self.next_seat(directory, behind.as_slice());
         }
+        kept
     }
 
     /// The entries of a directory that are seen, by rising folded name. Their names are lent.
@@ -195,35 +113,27 @@ impl Overlay {
         requires { StandsOver (tree_of tree.now) self.now }
         ensures { IfOk result (λ entries. entries ≡ entries_in (seen (tree_of tree.now) self.now) directory) }
     {
-        let mut entries = self.kept_entries(tree, directory)?;
-        let names = self.names();
-        for (place, change) in names.iter().enumerate() {
-            add(&mut entries, self.entry_by(tree, directory, place, change))?;
+        let mut entries = Entries::new(self.alloc);
+        let mut next = self.next_entry(tree, directory, &number_bytes(directory));
+        while let Some(entry) = next {
+            if let Err(NoMemory) = entries.push(entry) {
+                return Err(NoMemory);
+            }
+            next = self.next_entry(
+                tree,
+                directory,
+                after_child(directory, entry.name).as_slice(),
+            );
         }
-        Ok(Entries::new(entries))
+        Ok(entries)
     }
 
-    // Is any place in the directory held.
-    fn holds_in(&self, directory: u64) -> bool
-        ensures none { result ≡ false → (name : List ℕ) → seat_at self.now.held (number_bytes directory ++ name) ≡ None }
-        ensures only { list_all is_of_names self.now.names ≡ true }
-    {
-        match self.seats.first_with(&number_name(directory)) {
-            Some(_) => true,
-            None => false,
-        }
-    }
-
-    /// Is anything seen in the directory. It lists the directory where the transaction holds a place in it, and else takes no
-    /// memory.
-    pub fn has_entries(&self, tree: &Tree, directory: u64) -> Result<bool, NoMemory>
+    /// Is anything seen in the directory. It takes no memory.
+    pub fn has_entries(&self, tree: &Tree, directory: u64) -> bool
         requires { StandsOver (tree_of tree.now) self.now }
-        ensures { IfOk result (λ any. any ≡ has_entries (seen (tree_of tree.now) self.now) directory) }
+        ensures { result ≡ has_entries (seen (tree_of tree.now) self.now) directory }
     {
-        if !self.holds_in(directory) {
-            return Ok(tree.has_entries(directory));
-        }
-        let entries = self.entries(tree, directory)?;
-        Ok(!entries.as_slice().is_empty())
+        self.next_entry(tree, directory, &number_bytes(directory))
+            .is_some()
     }
 }

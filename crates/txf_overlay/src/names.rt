@@ -13,13 +13,12 @@ ghost use Rattle.txf_overlay.specs.Views.{StandsOver};
 ghost use Rattle.txf_overlay.specs.Written.{with_made, without_file};
 
 use crate::maps::set;
-use crate::name::{PlaceName, number_name, place_name};
 use crate::node::{NodeSeen, dropped, given, less, moved, one_more, seen};
 use crate::overlay::Overlay;
 use crate::written::{add_made, drop_file};
 use ktm_base::Text;
 use ktm_types::{Change, NodeKind};
-use txf_tree::Tree;
+use txf_tree::{ChildName, Tree, child_name, number_bytes};
 
 // One change more, for which there is room.
 fn push(names: &mut Vec<Change>, change: Change)
@@ -45,8 +44,8 @@ fn change_at(names: &[Change], place: usize) -> Option<&Change>
 }
 
 impl Overlay {
-    // The last change of a node.
-    pub(crate) fn last_change(&self, node: u64) -> Option<&Change>
+    /// The last change of a node, if it was made, moved or dropped.
+    pub fn last_change(&self, node: u64) -> Option<&Change>
         ensures last { option_copied result ≡ last_of self.now.names node }
         ensures only { list_all is_of_names self.now.names ≡ true }
     {
@@ -57,7 +56,7 @@ impl Overlay {
     }
 
     // The name of the place where a node is that is seen.
-    fn place_of(&self, tree: &Tree, node: u64) -> PlaceName
+    fn place_of(&self, tree: &Tree, node: u64) -> ChildName
         requires stands { StandsOver (tree_of tree.now) self.now }
         requires there { (x : _) × (node_at (seen (tree_of tree.now) self.now) node ≡ Some x) }
         ensures { Some result ≡ option_map place_in (node_at (seen (tree_of tree.now) self.now) node) }
@@ -68,7 +67,7 @@ impl Overlay {
                 None => unreachable!(),
             },
             None => match tree.node(node) {
-                Some(at) => place_name(at.parent, at.name),
+                Some(at) => child_name(at.parent, at.name),
                 None => unreachable!(),
             },
         }
@@ -89,9 +88,9 @@ impl Overlay {
             made: Some(kind),
             is_counted: true,
         };
-        let place = place_name(parent, name.as_slice());
+        let place = child_name(parent, name.as_slice());
         set(&mut self.seats, place, Some(node));
-        set(&mut self.nodes, number_name(node), made);
+        set(&mut self.nodes, number_bytes(node), made);
         add_made(&mut self.files, self.alloc, node, kind);
         push(
             &mut self.names,
@@ -116,11 +115,11 @@ impl Overlay {
         ensures spare { self.old.spare ≤ self.new.spare + 1 }
     {
         let from = self.place_of(tree, node);
-        let to = place_name(parent, name.as_slice());
+        let to = child_name(parent, name.as_slice());
         let after = moved(seen(&self.nodes, node), count(&self.names));
         set(&mut self.seats, from, None);
         set(&mut self.seats, to, Some(node));
-        set(&mut self.nodes, number_name(node), after);
+        set(&mut self.nodes, number_bytes(node), after);
         push(&mut self.names, Change::Move { node, parent, name });
     }
 
@@ -138,7 +137,7 @@ impl Overlay {
         let before = seen(&self.nodes, node);
         let after = dropped(before, count(&self.names));
         set(&mut self.seats, from, None);
-        set(&mut self.nodes, number_name(node), after);
+        set(&mut self.nodes, number_bytes(node), after);
         self.units -= drop_file(&mut self.files, node);
         self.made = less(self.made, before);
         push(&mut self.names, Change::Drop { node });

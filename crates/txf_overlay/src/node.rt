@@ -1,14 +1,15 @@
 // What became of a node.
 ghost use Rattle.std.specs.Prelude.{◌≡◌, ◌+◌, ◌<◌, ◌≤◌, false};
+ghost use Rattle.std.specs.Option.{option_copied};
 ghost use Rattle.ktm_world.specs.Holds.{place};
 ghost use Rattle.txf_overlay.specs.Maps.{under};
-ghost use Rattle.txf_overlay.specs.Names.{number_bytes};
-ghost use Rattle.txf_overlay.specs.Nodes.{given, given_parent, one_if, was_counted, was_made, IsShort};
+ghost use Rattle.txf_tree.specs.Places.{number_bytes};
+ghost use Rattle.txf_overlay.specs.Nodes.{given, given_name, given_parent, one_if, was_counted, was_made, IsShort};
 
 use crate::maps::get;
-use crate::name::{NumberName, PlaceName, number_name, place_name};
 use ktm_links::Chains;
 use ktm_types::{Change, NodeKind};
+use txf_tree::{ChildName, NumberName, child_name, number_bytes};
 
 /// What became of a node that the transaction made, moved or dropped.
 #[derive(Clone, Copy, Debug)]
@@ -27,7 +28,7 @@ pub(crate) type Nodes = Chains<NumberName, NodeSeen>;
 pub(crate) fn seen(nodes: &Nodes, node: u64) -> Option<NodeSeen>
     ensures { result ≡ under nodes.now.entries (number_bytes node) }
 {
-    get(nodes, &number_name(node)).copied()
+    get(nodes, &number_bytes(node)).copied()
 }
 
 // What became of a node that is moved by the change at this place.
@@ -83,13 +84,13 @@ pub(crate) fn less(made: usize, before: Option<NodeSeen>) -> usize
 }
 
 // The name of the place to which a change brings its node.
-pub(crate) fn given(change: &Change) -> Option<PlaceName>
+pub(crate) fn given(change: &Change) -> Option<ChildName>
     requires { IsShort change.now }
     ensures { result ≡ given change.now }
 {
     match change {
-        Change::Make { parent, name, .. } => Some(place_name(*parent, name.as_slice())),
-        Change::Move { parent, name, .. } => Some(place_name(*parent, name.as_slice())),
+        Change::Make { parent, name, .. } => Some(child_name(*parent, name.as_slice())),
+        Change::Move { parent, name, .. } => Some(child_name(*parent, name.as_slice())),
         _ => None,
     }
 }
@@ -101,6 +102,17 @@ pub(crate) fn given_parent(change: &Change) -> Option<u64>
     match change {
         Change::Make { parent, .. } => Some(*parent),
         Change::Move { parent, .. } => Some(*parent),
+        _ => None,
+    }
+}
+
+// The name that a change gives its node.
+pub(crate) fn given_name(change: &Change) -> Option<&[u8]>
+    ensures { option_copied result ≡ given_name change.now }
+{
+    match change {
+        Change::Make { name, .. } => Some(name.as_slice()),
+        Change::Move { name, .. } => Some(name.as_slice()),
         _ => None,
     }
 }

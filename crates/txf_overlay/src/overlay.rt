@@ -7,7 +7,6 @@ ghost use Rattle.txf_overlay.specs.OverlayState.{is_of_names, own_of};
 ghost use Rattle.ktm_world.specs.Changes.{has_changes, has_made, nodes_made};
 ghost use Rattle.ktm_world.specs.Tree.{cut_to, put_over};
 
-use crate::name::{PlaceName, number_name};
 use crate::node::{Nodes, seen};
 use crate::written::{Files, WrittenFile, bytes_of, close, open, take_file};
 use ktm_base::NoMemory;
@@ -15,6 +14,7 @@ use ktm_links::Chains;
 use ktm_types::Change;
 use std::alloc::Global;
 use std::marker::Model;
+use txf_tree::{ChildName, number_bytes};
 
 /// What one transaction made, moved and dropped, in order, and the bytes of the files that it wrote.
 #[derive(Drop)]
@@ -24,7 +24,7 @@ pub struct Overlay {
     // What became of each node that it made, moved or dropped.
     pub(crate) nodes: Nodes,
     // Which node stands now at each place that it held.
-    pub(crate) seats: Chains<PlaceName, Option<u64>>,
+    pub(crate) seats: Chains<ChildName, Option<u64>>,
     pub(crate) files: Files,
     // How many nodes it made and did not drop, and how many units its files take.
     pub(crate) made: usize,
@@ -98,7 +98,7 @@ impl Overlay {
     pub fn written_from(&self, from: u64) -> Option<&WrittenFile>
         ensures { option_copied result ≡ first_from self.now.written from }
     {
-        match self.files.first_from(&number_name(from)) {
+        match self.files.first_from(&number_bytes(from)) {
             Some(key) => self.files.get(key),
             None => None,
         }

@@ -14,12 +14,11 @@ ghost use Rattle.txf_overlay.specs.Views.{seat_at, StandsOver};
 ghost use Rattle.txf_overlay.specs.Sight.{sight_of};
 
 use crate::maps::get;
-use crate::name::place_name;
 use crate::node::{given_parent, seen};
 use crate::overlay::Overlay;
 use ktm_links::Name;
 use ktm_types::NodeKind;
-use txf_tree::Tree;
+use txf_tree::{Tree, child_name};
 
 /// The longest name of a node, in bytes.
 const LONGEST_NAME: usize = 255;
@@ -63,7 +62,7 @@ impl Overlay {
         ensures seat { result ≡ seat_at self.now.held (place_bytes (place directory name.now)) }
         ensures only { list_all is_of_names self.now.names ≡ true }
     {
-        get(&self.seats, place_name(directory, name).as_slice()).copied()
+        get(&self.seats, child_name(directory, name).as_slice()).copied()
     }
 
     // The number of the directory that a node is in that is seen.

@@ -6,16 +6,16 @@ ghost use Rattle.std.specs.Option.{option_copied, option_map};
 ghost use Rattle.txf_overlay.specs.Files.{files_in, IsFilesMap};
 ghost use Rattle.ktm_links.specs.Mapped.{key_at, without_name};
 ghost use Rattle.txf_overlay.specs.Maps.{IsPut};
-ghost use Rattle.txf_overlay.specs.Names.{number_bytes};
+ghost use Rattle.txf_tree.specs.Places.{number_bytes};
 ghost use Rattle.txf_overlay.specs.Written.{bytes_at, bytes_or, file_of, with_file, with_made, without_file};
 
 use crate::maps::{get, set};
-use crate::name::{NumberName, number_name};
 use ktm_base::{Bytes, NoMemory};
 use ktm_links::Chains;
 use ktm_types::NodeKind;
 use std::alloc::Global;
 use std::marker::Model;
+use txf_tree::{NumberName, number_bytes};
 
 /// The number of a file, and all of its bytes as the transaction sees them.
 #[derive(Drop)]
@@ -131,7 +131,7 @@ pub(crate) fn bytes_of(files: &Files, file: u64) -> Option<&[u8]>
     requires { IsFilesMap files.now.entries }
     ensures { option_copied result ≡ bytes_at (files_in files.now.entries) file }
 {
-    match get(files, &number_name(file)) {
+    match get(files, &number_bytes(file)) {
         Some(written) => Some(written.bytes()),
         None => None,
     }
@@ -156,7 +156,7 @@ fn take(files: &mut Files, file: u64) -> Option<WrittenFile>
     ensures none { IfNone result (files.new.entries ≡ files.old.entries) }
     ensures spare { files.old.spare ≤ files.new.spare }
 {
-    files.remove(&number_name(file))
+    files.remove(&number_bytes(file))
 }
 
 // Takes a file out of the map, or makes one of the bytes with which it begins.
@@ -200,7 +200,7 @@ fn put_back(files: &mut Files, opened: Opened)
     ensures spare { files.old.spare ≤ files.new.spare + 1 }
 {
     if !opened.is_new {
-        let name = number_name(opened.file.file());
+        let name = number_bytes(opened.file.file());
         files.insert(name, opened.file);
     }
 }
@@ -226,7 +226,7 @@ pub(crate) fn close(
     match done {
         Ok(()) => {
             *units = *units - opened.units + opened.file.units();
-            let name = number_name(opened.file.file());
+            let name = number_bytes(opened.file.file());
             files.insert(name, opened.file);
             Ok(())
         }
@@ -256,7 +256,7 @@ fn add_file(files: &mut Files, alloc: Global, file: u64)
     ensures spare { files.old.spare ≤ files.new.spare + 1 }
 {
     if !is_written(files, file) {
-        set(files, number_name(file), WrittenFile::empty(alloc, file));
+        set(files, number_bytes(file), WrittenFile::empty(alloc, file));
     }
 }
 

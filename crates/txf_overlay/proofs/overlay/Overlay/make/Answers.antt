@@ -15,8 +15,8 @@ use Rattle.txf_overlay.proofs.NodesSeen.{next-make}
 use Rattle.txf_overlay.proofs.Trees.{Applies-from, is_there-none}
 use Rattle.txf_overlay.proofs.overlay.Overlay.make.Goals as goal
 
-pub place_name-place-requires : goal.place_name-place-requires
-place_name-place-requires c =
+pub child_name-place-requires : goal.child_name-place-requires
+child_name-place-requires c =
     rw c.as_slice.ensures (short-from (seen c.requires.applies.0 c.args.self.now) (Make c.args.node c.args.parent c.args.kind c.args.name) c.requires.applies.2)
 
 pub one_more-self-inside-requires : goal.one_more-self-inside-requires
@@ -36,7 +36,7 @@ invariant_of-self c =
     let last : c.count-last.result ≡ length c.self.inside.names.items = c.count-last.ensures ∙ ap length c.deref.ensures.value in
     kept-next c.self.inside.names.items c.push.new.names.items c.self.inside.nodes.entries c.set-2.new.map.entries c.self.inside.files.entries
     c.add_made.new.files.entries c.self.inside.made c.one_more-self-inside.result c.self.inside.units c.self.inside.units
-    (Make c.args.node c.args.parent c.args.kind c.args.name) c.number_name.result _ c.self.invariant c.push.ensures.names refl c.number_name.ensures
+    (Make c.args.node c.args.parent c.args.kind c.args.name) c.number_bytes.result _ c.self.invariant c.push.ensures.names refl c.number_bytes.ensures
     c.set-2.ensures.under c.set-2.ensures.others
     (next-make c.self.inside.names.items c.args.node c.args.parent c.args.kind c.args.name _ last refl refl new) c.add_made.ensures.map
     (count-make c.self.inside.names.items c.self.inside.made c.one_more-self-inside.result c.args.node c.args.parent c.args.kind c.args.name
@@ -46,12 +46,12 @@ invariant_of-self c =
 
 pub returns-clause-stands : goal.returns-clause-stands
 returns-clause-stands c = λ tree stands is formed.
-    let at : c.place_name-place.result ≡ place_bytes (place c.args.parent c.args.name) = rw c.as_slice.ensures at c.place_name-place.ensures in
+    let at : c.child_name-place.result ≡ place_bytes (place c.args.parent c.args.name) = rw c.as_slice.ensures at c.child_name-place.ensures in
     stands-after tree c.args.self.now _ (Make c.args.node c.args.parent c.args.kind c.args.name) stands is formed
     (c.push.ensures.names ∙ ap (λ (o : OverlayState). o.names ++ Make c.args.node c.args.parent c.args.kind c.args.name ∷ []) c.self.view_is)
     (λ p.
     seat_at-under c.set.new.map.entries p
-    ∙ set-seat c.self.inside.seats.entries c.set.new.map.entries c.place_name-place.result (Some c.args.node) c.set.ensures.under c.set.ensures.others p
+    ∙ set-seat c.self.inside.seats.entries c.set.new.map.entries c.child_name-place.result (Some c.args.node) c.set.ensures.under c.set.ensures.others p
     ∙ ap (λ q. or_before (if_at p (record { place = q; node = Some c.args.node })) (under c.self.inside.seats.entries p)) at
     ∙ ap (or_before (if_at p (seat (place c.args.parent c.args.name) (Some c.args.node))))
     (sym (seat_at-under c.self.inside.seats.entries p) ∙ ap (λ (o : OverlayState). seat_at o.held p) c.self.view_is))

@@ -15,8 +15,8 @@ use Rattle.txf_overlay.proofs.NodesSeen.{next-move, was-seen}
 use Rattle.txf_overlay.proofs.Trees.{Applies-from, is_there-some}
 use Rattle.txf_overlay.proofs.overlay.Overlay.move_to.Goals as goal
 
-pub place_name-to-requires : goal.place_name-to-requires
-place_name-to-requires c =
+pub child_name-to-requires : goal.child_name-to-requires
+child_name-to-requires c =
     rw c.as_slice.ensures (short-from (seen (tree_of c.args.tree.now) c.args.self.now) (Move c.args.node c.args.parent c.args.name) c.requires.applies)
 
 pub place_of-from-requires-clause-there : goal.place_of-from-requires-clause-there
@@ -31,7 +31,7 @@ invariant_of-self c =
     let last : c.moved-after.result.last ≡ length c.self.inside.names.items = c.moved-after.ensures.last ∙ c.count.ensures ∙ ap length c.deref.ensures.value in
     kept-next c.self.inside.names.items c.push.new.names.items c.self.inside.nodes.entries c.set-3.new.map.entries c.self.inside.files.entries
     c.self.inside.files.entries c.self.inside.made c.self.inside.made c.self.inside.units c.self.inside.units
-    (Move c.args.node c.args.parent c.args.name) c.number_name.result c.moved-after.result c.self.invariant c.push.ensures.names refl c.number_name.ensures
+    (Move c.args.node c.args.parent c.args.name) c.number_bytes.result c.moved-after.result c.self.invariant c.push.ensures.names refl c.number_bytes.ensures
     c.set-3.ensures.under c.set-3.ensures.others
     (next-move c.self.inside.names.items c.args.node c.args.parent c.args.name c.seen.result c.moved-after.result was last c.moved-after.ensures.made
     c.moved-after.ensures.counted) c.self.invariant.files
@@ -40,13 +40,13 @@ invariant_of-self c =
 pub returns-clause-stands : goal.returns-clause-stands
 returns-clause-stands c = λ formed.
     let node : Option Node = node_at (seen (tree_of c.args.tree.now) c.args.self.now) c.args.node in
-    let to : c.place_name-to.result ≡ place_bytes (place c.args.parent c.args.name) = rw c.as_slice.ensures at c.place_name-to.ensures in
+    let to : c.child_name-to.result ≡ place_bytes (place c.args.parent c.args.name) = rw c.as_slice.ensures at c.child_name-to.ensures in
     let left : left_by node ≡ record { place = c.place_of-from.result; node = None } ∷ [] = left-is node c.place_of-from.result c.place_of-from.ensures in
     stands-after (tree_of c.args.tree.now) c.args.self.now _ (Move c.args.node c.args.parent c.args.name) c.requires.stands c.requires.applies formed
     (c.push.ensures.names ∙ ap (λ (o : OverlayState). o.names ++ Move c.args.node c.args.parent c.args.name ∷ []) c.self.view_is)
     (λ p.
     seat_at-under c.set-2.new.map.entries p
-    ∙ set-seats c.self.inside.seats.entries c.set.new.map.entries c.set-2.new.map.entries c.place_of-from.result c.place_name-to.result None (Some c.args.node)
+    ∙ set-seats c.self.inside.seats.entries c.set.new.map.entries c.set-2.new.map.entries c.place_of-from.result c.child_name-to.result None (Some c.args.node)
     c.set.ensures.under c.set.ensures.others c.set-2.ensures.under c.set-2.ensures.others p
     ∙ ap
     (λ q. or_before (last_seat (record { place = c.place_of-from.result; node = None } ∷ record { place = q; node = Some c.args.node } ∷ []) p)

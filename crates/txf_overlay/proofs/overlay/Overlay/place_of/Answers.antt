@@ -26,8 +26,8 @@ returns-in-Some-given c =
     let last = last-is c.args.self.now.names (tree_of c.args.tree.now) c.args.node c.in-Some.change.now c.last_change.ensures.only c.requires.stands.applies (sym c.in-Some.ensures.last) in
     c.in-Some-given.ensures ∙ sym (given-place _ c.args.node c.in-Some.change.now last)
 
-pub place_name-requires : goal.place_name-requires
-place_name-requires c =
+pub child_name-requires : goal.child_name-requires
+child_name-requires c =
     (at-All (λ n. IsName n.name) (tree_of c.args.tree.now) c.requires.stands.before.names c.args.node (node_seen c.in-Some-node.at) (sym c.in-Some-node.ensures)).few
 
 pub unreachable-requires-in-None-node : goal.unreachable-requires-in-None-node
@@ -38,4 +38,4 @@ unreachable-requires-in-None-node c =
 pub returns-in-Some-node : goal.returns-in-Some-node
 returns-in-Some-node c =
     let same = untouched c.args.self.now.names (tree_of c.args.tree.now) c.args.node c.requires.stands.applies (sym c.in-None.ensures.last) in
-    rw c.place_name.ensures (ap (option_map place_in) (c.in-Some-node.ensures ∙ sym same))
+    rw c.child_name.ensures (ap (option_map place_in) (c.in-Some-node.ensures ∙ sym same))

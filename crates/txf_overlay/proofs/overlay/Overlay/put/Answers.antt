@@ -1,6 +1,6 @@
 use Rattle.std.proofs.Common.{refl}
 use Rattle.ktm_world.specs.Tree.{put_over}
-use Rattle.txf_overlay.specs.Names.{number_bytes}
+use Rattle.txf_tree.specs.Places.{number_bytes}
 use Rattle.txf_overlay.proofs.Edits.{both_ok, both_err, edited, unedited, counted_anew, units-known, units-few, IsCounted}
 use Rattle.txf_overlay.proofs.FilesMap.{files-set}
 use Rattle.txf_overlay.proofs.overlay.Overlay.put.Goals as goal

@@ -37,7 +37,7 @@ invariant_of-self c =
     let last : c.dropped-after.result.last ≡ length c.self.inside.names.items = c.dropped-after.ensures.last ∙ c.count.ensures ∙ ap length c.deref.ensures.value in
     kept-next c.self.inside.names.items c.push.new.names.items c.self.inside.nodes.entries c.set-2.new.map.entries c.self.inside.files.entries
     c.drop_file.new.files.entries c.self.inside.made c.less-self-inside.result c.self.inside.units (c.self.inside.units - c.drop_file.result)
-    (Drop c.args.node) c.number_name.result c.dropped-after.result c.self.invariant c.push.ensures.names refl c.number_name.ensures
+    (Drop c.args.node) c.number_bytes.result c.dropped-after.result c.self.invariant c.push.ensures.names refl c.number_bytes.ensures
     c.set-2.ensures.under c.set-2.ensures.others
     (next-drop c.self.inside.names.items c.args.node c.seen-before.result c.dropped-after.result was last c.dropped-after.ensures.made
     c.dropped-after.ensures.counted) c.drop_file.ensures.map

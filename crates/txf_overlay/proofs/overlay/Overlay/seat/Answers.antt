@@ -6,5 +6,5 @@ use Rattle.txf_overlay.proofs.overlay.Overlay.seat.Goals as goal
 pub returns-clause-seat : goal.returns-clause-seat
 returns-clause-seat c =
     rw (← c.self.view_is)
-    (c.copied.ensures ∙ c.get.ensures ∙ ap (under c.self.inside.seats.entries) (c.as_slice.ensures ∙ c.place_name.ensures)
+    (c.copied.ensures ∙ c.get.ensures ∙ ap (under c.self.inside.seats.entries) (c.as_slice.ensures ∙ c.child_name.ensures)
     ∙ sym (seat_at-under c.self.inside.seats.entries _))

@@ -5,9 +5,9 @@ use Rattle.txf_overlay.proofs.overlay.Overlay.written_from.Goals as goal
 pub returns-in-Some : goal.returns-in-Some
 returns-in-Some c =
     rw (← c.self.view_is)
-    (c.get.ensures.value ∙ rw c.number_name.ensures at c.in-Some.ensures.value ∙ first_from-files _ c.args.from c.self.invariant.files.are c.ranges.from.fits)
+    (c.get.ensures.value ∙ rw c.number_bytes.ensures at c.in-Some.ensures.value ∙ first_from-files _ c.args.from c.self.invariant.files.are c.ranges.from.fits)
 
 pub returns-in-None : goal.returns-in-None
 returns-in-None c =
     rw (← c.self.view_is)
-    (first_from-none _ c.args.from c.self.invariant.files.are c.ranges.from.fits (rw c.number_name.ensures at c.in-None.ensures.key))
+    (first_from-none _ c.args.from c.self.invariant.files.are c.ranges.from.fits (rw c.number_bytes.ensures at c.in-None.ensures.key))
