@@ -1,7 +1,10 @@
 pub mod Creates
 pub mod Finds
+pub mod Fitting
+pub mod Leading
 pub mod Led
 pub mod Moving
+pub mod Numbered
 pub mod Paths
 pub mod Quotas
 pub mod Texts

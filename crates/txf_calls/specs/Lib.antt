@@ -1,4 +1,6 @@
 pub mod Calls
+pub mod Fits
+pub mod Found
 pub mod Steps
 pub mod There
 pub mod Views

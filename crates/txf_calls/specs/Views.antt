@@ -1,10 +1,10 @@
 -- How what the code passes on stands for what the model has.
-use Rattle.std.specs.Prelude.{◌||◌, Bool, false, Option}
+use Rattle.std.specs.Prelude.{◌≤◌, ◌||◌, All, Bool, false, length, Option}
 use Rattle.ktm_base.specs.declared.id.Id.{Id}
 use Rattle.ktm_world.specs.Conflicts.{is_open_in, violates_sharing, writes}
 use Rattle.ktm_world.specs.Files.{FilesNow, OpenFile}
 use Rattle.ktm_world.specs.Holds as holds
-use Rattle.ktm_world.specs.Holds.{Place as At, place}
+use Rattle.ktm_world.specs.Holds.{Place as At, place, places_changed}
 use Rattle.txf_calls.specs.declared.act.Act.{Act}
 use Rattle.txf_calls.specs.declared.act.Act.TheVariants.{Open, Delete, MoveFile, Make, DropDirectory, MoveDirectory}
 use Rattle.txf_calls.specs.declared.act.Place.{Place}
@@ -26,6 +26,10 @@ act_of (MoveFile file from to) = holds.moves_file file (place_in from) (place_in
 act_of (Make at) = holds.makes (place_in at)
 act_of (DropDirectory directory at) = holds.drops_directory directory (place_in at)
 act_of (MoveDirectory directory from to) = holds.moves_directory directory (place_in from) (place_in to)
+
+-- each name that the call changes has at most 255 bytes
+abbrev pub HasShortNames : Act → Type 0
+HasShortNames act = All (λ p. length p.name ≤ 255) (places_changed (act_of act))
 
 -- is it against the share mode of an open file of the caller's group: a file that is opened, deleted or moved
 abbrev pub is_against_sharing : FilesNow → Option Id → Act → Bool

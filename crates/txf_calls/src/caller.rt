@@ -3,6 +3,7 @@ ghost use Rattle.std.specs.Prelude.{◌≡◌, Some};
 ghost use Rattle.ktm_world.specs.FileCalls.{find_path};
 ghost use Rattle.ktm_world.specs.Files.{tree_seen};
 ghost use Rattle.ktm_world.specs.Paths.{path_of};
+ghost use Rattle.txf_calls.specs.Found.{IsFound};
 ghost use Rattle.txf_paths.specs.Leads.{Leads};
 ghost use Rattle.std.specs.Prelude.{ℕ, List, None, MatchOption, IfOk};
 
@@ -42,13 +43,15 @@ pub(crate) fn path_of(alloc: Global, text: &Text) -> Result<Option<Path>, NoMemo
     }
 }
 
-/// Where a path leads in what the caller sees.
+/// Where the path that a text is leads in what the caller sees.
 pub(crate) fn whereabouts<'a, V: Volume>(
     volume: &V,
     who: Option<Id>,
     path: &'a Path,
 ) -> Whereabouts<'a>
-    ensures { (text : List ℕ) → path_of text ≡ Some path.now → Leads result (find_path (tree_seen (V.files volume.now) who) text) }
+    ensures leads { (text : List ℕ) → path_of text ≡ Some path.now → Leads result (find_path (tree_seen (V.files volume.now) who) text) }
+    ensures found { (text : List ℕ) → path_of text ≡ Some path.now → IsFound (tree_seen (V.files volume.now) who) result }
 {
+    law_of_paths();
     find(&Caller { volume, who }, path)
 }

@@ -1,10 +1,14 @@
 // CreateFile, plain or in a transaction.
-ghost use Rattle.std.specs.Prelude.{◌≡◌, ◌&&◌, not, IfOk, IfSome, IfNone};
+ghost use Rattle.std.specs.Prelude.{◌≡◌, ◌≤◌, ◌&&◌, not, true, IfOk, IfSome, IfNone, length};
 ghost use Rattle.ktm_types.specs.declared.recorded.Node.{Node};
 ghost use Rattle.ktm_world.specs.Conflicts.{writes};
 ghost use Rattle.ktm_world.specs.FileCalls.{Whereabouts as There, at_node, create_at, empties, emptying, first_opening, free, is_truncate_existing, new_open};
+ghost use Rattle.ktm_world.specs.Files.{tree_seen};
 ghost use Rattle.ktm_world.specs.Limits.{most_number};
+ghost use Rattle.ktm_world.specs.Tree.{numbers_rise};
 ghost use Rattle.txf_calls.specs.Calls.{file_outcome};
+ghost use Rattle.txf_calls.specs.Fits.{IsOrderly};
+ghost use Rattle.txf_calls.specs.Found.{IsFound, has_file};
 ghost use Rattle.txf_calls.specs.Steps.{checked, taken};
 ghost use Rattle.txf_calls.specs.There.{create_there};
 ghost use Rattle.txf_calls.specs.Views.{open_of};
@@ -57,6 +61,8 @@ fn make_file<V: Volume>(
     modes: Modes,
     room: &Room,
 ) -> Result<Plan, NoMemory>
+    requires orderly { IsOrderly (V.files volume.now) }
+    requires short { length at.name.now ≤ 255 }
     ensures { IfOk result (λ plan. plan ≡ checked (V.files volume.now) room.now who (Make at.entry) (create_at (V.files volume.now) who (free at.entry.directory at.entry.name.now) modes.access modes.share modes.disposition)) }
 {
     if let Some(refusal) = volume.check(who, Act::Make { at }) {
@@ -97,7 +103,8 @@ fn emptying(alloc: Global, disposition: Disposition, file: u64) -> Option<Change
 
 // The file, where an open makes it the caller's first one.
 fn first_opening<V: Volume>(volume: &V, who: Option<Id>, file: u64) -> Option<u64>
-    ensures { result ≡ first_opening (V.files volume.now) who file }
+    ensures first { result ≡ first_opening (V.files volume.now) who file }
+    ensures rise { numbers_rise (V.files volume.now).tree ≡ true }
 {
     if volume.is_first_opening(who, file) {
         Some(file)
@@ -115,6 +122,7 @@ fn open_file<V: Volume>(
     modes: Modes,
     room: &Room,
 ) -> Plan
+    requires { has_file (tree_seen (V.files volume.now) who) file ≡ true }
     ensures { (node : Node) → file ≡ node.number → result ≡ checked (V.files volume.now) room.now who (Open file modes.access (empties modes.disposition) modes.share) (create_at (V.files volume.now) who (at_node node) modes.access modes.share modes.disposition) }
 {
     let act = Act::Open {
@@ -158,6 +166,7 @@ fn open_taken<V: Volume>(
     modes: Modes,
     room: &Room,
 ) -> Plan
+    requires { node.is_file ≡ true → has_file (tree_seen (V.files volume.now) who) node.number ≡ true }
     ensures { (other : Node) → node ≡ seen_of other → result ≡ create_there (V.files volume.now) room.now who modes.access modes.share modes.disposition (at_node other) }
 {
     if wants_new(modes.disposition) || !node.is_file {
@@ -175,6 +184,8 @@ fn make_free<V: Volume>(
     modes: Modes,
     room: &Room,
 ) -> Result<Plan, NoMemory>
+    requires orderly { IsOrderly (V.files volume.now) }
+    requires short { length at.name.now ≤ 255 }
     ensures { IfOk result (λ plan. plan ≡ create_there (V.files volume.now) room.now who modes.access modes.share modes.disposition (free at.entry.directory at.entry.name.now)) }
 {
     if wants_existing(modes.disposition) {
@@ -192,6 +203,8 @@ fn create_at<V: Volume>(
     modes: Modes,
     room: &Room,
 ) -> Result<Plan, NoMemory>
+    requires orderly { IsOrderly (V.files volume.now) }
+    requires found { IsFound (tree_seen (V.files volume.now) who) there }
     ensures { (w : There) → Leads there.entry w → IfOk result (λ plan. plan ≡ create_there (V.files volume.now) room.now who modes.access modes.share modes.disposition w) }
 {
     match there {
@@ -220,6 +233,7 @@ pub(crate) fn create<V: Volume>(
     modes: Modes,
     room: &Room,
 ) -> Result<Plan, NoMemory>
+    requires { IsOrderly (V.files volume.now) }
     ensures { IfOk result (λ plan. plan ≡ file_outcome (V.files volume.now) room.now who (Create path.now modes.access modes.share modes.disposition)) }
 {
     if lacks_access(modes) {

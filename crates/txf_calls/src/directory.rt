@@ -1,7 +1,10 @@
 // CreateDirectory, plain or in a transaction.
-ghost use Rattle.std.specs.Prelude.{◌≡◌, IfOk};
+ghost use Rattle.std.specs.Prelude.{◌≡◌, ◌≤◌, IfOk, length};
 ghost use Rattle.ktm_world.specs.FileCalls.{Whereabouts as There, free};
+ghost use Rattle.ktm_world.specs.Files.{tree_seen};
 ghost use Rattle.txf_calls.specs.Calls.{file_outcome};
+ghost use Rattle.txf_calls.specs.Fits.{IsOrderly};
+ghost use Rattle.txf_calls.specs.Found.{IsFound};
 ghost use Rattle.txf_calls.specs.There.{make_there};
 ghost use Rattle.txf_calls.specs.declared.call.FileCall.TheVariants.{MakeDirectory};
 ghost use Rattle.txf_paths.specs.Leads.{Leads};
@@ -24,6 +27,8 @@ fn make<V: Volume>(
     at: Place,
     room: &Room,
 ) -> Result<Plan, NoMemory>
+    requires orderly { IsOrderly (V.files volume.now) }
+    requires short { length at.name.now ≤ 255 }
     ensures { IfOk result (λ plan. plan ≡ make_there (V.files volume.now) room.now who (free at.entry.directory at.entry.name.now)) }
 {
     if let Some(refusal) = volume.check(who, Act::Make { at }) {
@@ -47,6 +52,8 @@ fn make_at<V: Volume>(
     there: Whereabouts,
     room: &Room,
 ) -> Result<Plan, NoMemory>
+    requires orderly { IsOrderly (V.files volume.now) }
+    requires found { IsFound (tree_seen (V.files volume.now) who) there }
     ensures { (w : There) → Leads there.entry w → IfOk result (λ plan. plan ≡ make_there (V.files volume.now) room.now who w) }
 {
     match there {
@@ -67,6 +74,7 @@ pub(crate) fn make_directory<V: Volume>(
     path: &Text,
     room: &Room,
 ) -> Result<Plan, NoMemory>
+    requires { IsOrderly (V.files volume.now) }
     ensures { IfOk result (λ plan. plan ≡ file_outcome (V.files volume.now) room.now who (MakeDirectory path.now)) }
 {
     let Some(path) = path_of(alloc, path)? else {

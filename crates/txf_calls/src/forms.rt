@@ -1,6 +1,7 @@
 // Each call by its form.
 ghost use Rattle.std.specs.Prelude.{◌≡◌, IfOk};
 ghost use Rattle.txf_calls.specs.Calls.{file_outcome};
+ghost use Rattle.txf_calls.specs.Fits.{IsOrderly, MayBeUsed};
 
 use crate::call::{FileCall, Room};
 use crate::create::{Modes, create};
@@ -23,6 +24,8 @@ pub fn decide<V: Volume>(
     call: FileCall,
     room: &Room,
 ) -> Result<Plan, NoMemory>
+    requires orderly { IsOrderly (V.files volume.now) }
+    requires usable { MayBeUsed (V.files volume.now) call }
     ensures { IfOk result (λ plan. plan ≡ file_outcome (V.files volume.now) room.now who call) }
 {
     match call {

@@ -5,6 +5,7 @@ ghost use Rattle.ktm_world.specs.FileCalls.{set_end, write_file};
 ghost use Rattle.ktm_world.specs.FileOutcome.{FileRoom, lacks_disk};
 ghost use Rattle.ktm_world.specs.Outcome.{first_refusal};
 ghost use Rattle.txf_calls.specs.Calls.{file_outcome, unless_refused};
+ghost use Rattle.txf_calls.specs.Fits.{IsFit, IsOnFile};
 ghost use Rattle.txf_calls.specs.Views.{open_of};
 ghost use Rattle.txf_calls.specs.declared.call.FileCall.TheVariants.{Flush, Read, SetEnd, Size, Write};
 
@@ -21,6 +22,7 @@ const MOST_AT_ONCE: usize = 65_536;
 
 // The plan, where it does not fill the disk.
 fn within_disk<V: Volume>(volume: &V, who: Option<Id>, plan: Plan, room: &Room) -> Plan
+    requires { IsFit (V.files volume.now) who plan }
     ensures { result ≡ unless_refused (first_refusal ((lacks_disk (V.files volume.now) room.now who plan, DiskFull) ∷ [])) plan }
 {
     if volume.lacks_disk(who, &plan, room) {
@@ -85,6 +87,7 @@ pub(crate) fn write<V: Volume>(
     bytes: Bytes,
     room: &Room,
 ) -> Plan
+    requires { IsOnFile (V.files volume.now) (open_of file) }
     ensures { (who : _) → result ≡ file_outcome (V.files volume.now) room.now who (Write file offset bytes) }
 {
     if bytes.len() > MOST_AT_ONCE {
@@ -117,6 +120,7 @@ pub(crate) fn set_end<V: Volume>(
     size: u64,
     room: &Room,
 ) -> Plan
+    requires { IsOnFile (V.files volume.now) (open_of file) }
     ensures { (who : _) → result ≡ file_outcome (V.files volume.now) room.now who (SetEnd file size) }
 {
     if !writes(file.access) {

@@ -1,5 +1,5 @@
 // MoveFile, plain or in a transaction.
-ghost use Rattle.std.specs.Prelude.{◌≡◌, ◌∷◌, [], IfOk};
+ghost use Rattle.std.specs.Prelude.{◌≡◌, ◌≤◌, ◌∷◌, [], IfOk, length};
 ghost use Rattle.ktm_base.specs.Names.{folded};
 ghost use Rattle.ktm_base.specs.declared.refusal.Refusal.TheVariants.{SharingViolation};
 ghost use Rattle.ktm_types.specs.declared.change.Change.TheVariants.{Move as Shift};
@@ -8,7 +8,9 @@ ghost use Rattle.ktm_types.specs.declared.reply.Reply.TheVariants.{Refused};
 ghost use Rattle.ktm_world.specs.FileCalls.{Whereabouts as There, at_node, at_root, conflict_test, free, is_open_at, move_act};
 ghost use Rattle.ktm_world.specs.FileOutcome.{answering};
 ghost use Rattle.ktm_world.specs.Outcome.{first_refusal};
+ghost use Rattle.ktm_world.specs.Files.{tree_seen};
 ghost use Rattle.txf_calls.specs.Calls.{file_outcome};
+ghost use Rattle.txf_calls.specs.Found.{IsFound, IsRoom};
 ghost use Rattle.txf_calls.specs.There.{move_there};
 ghost use Rattle.txf_calls.specs.declared.call.FileCall.TheVariants.{Move};
 ghost use Rattle.txf_paths.specs.Leads.{Leads, seen_of};
@@ -31,6 +33,8 @@ fn check<V: Volume>(
     name: &[u8],
     to: Place,
 ) -> Option<Refusal>
+    requires from { length name.now ≤ 255 }
+    requires to { length to.name.now ≤ 255 }
     ensures { (other : Node) → node ≡ seen_of other → folded other.name ≡ folded name.now
         → result ≡ first_refusal (conflict_test (V.files volume.now) who (move_act (at_node other) (free to.entry.directory to.entry.name.now)) ∷ (is_open_at (V.files volume.now) who (at_node other), SharingViolation) ∷ []) }
 {
@@ -75,6 +79,8 @@ fn move_node<V: Volume>(
     to: Place,
     room: &Room,
 ) -> Result<Plan, NoMemory>
+    requires from { length name.now ≤ 255 }
+    requires to { IsRoom (tree_seen (V.files volume.now) who) to.directory to.name.now }
     ensures { (other : Node) → node ≡ seen_of other → folded other.name ≡ folded name.now → IfOk result (λ plan. plan ≡ move_there (V.files volume.now) room.now who (at_node other) (free to.entry.directory to.entry.name.now)) }
 {
     if volume.is_at_or_below(who, to.directory, node.number) {
@@ -121,6 +127,8 @@ fn move_to<V: Volume>(
     to: Whereabouts,
     room: &Room,
 ) -> Result<Plan, NoMemory>
+    requires from { length name.now ≤ 255 }
+    requires to { IsFound (tree_seen (V.files volume.now) who) to }
     ensures { (other : Node) (w : There) → node ≡ seen_of other → folded other.name ≡ folded name.now → Leads to.entry w → IfOk result (λ plan. plan ≡ move_there (V.files volume.now) room.now who (at_node other) w) }
 {
     match to {
@@ -149,6 +157,8 @@ fn move_at<V: Volume>(
     to: Whereabouts,
     room: &Room,
 ) -> Result<Plan, NoMemory>
+    requires from { IsFound (tree_seen (V.files volume.now) who) from }
+    requires to { IsFound (tree_seen (V.files volume.now) who) to }
     ensures { (u w : There) → Leads from.entry u → Leads to.entry w → IfOk result (λ plan. plan ≡ move_there (V.files volume.now) room.now who u w) }
 {
     match from {

@@ -7,6 +7,7 @@ ghost use Rattle.ktm_world.specs.FileCalls.{limit_tests};
 ghost use Rattle.ktm_world.specs.FileOutcome.{answering, changing, lacks_quota};
 ghost use Rattle.ktm_world.specs.Outcome.{first_refusal};
 ghost use Rattle.txf_calls.specs.Calls.{unless_refused};
+ghost use Rattle.txf_calls.specs.Fits.{IsFit};
 
 use crate::call::{OpenFile, Room};
 use crate::volume::Volume;
@@ -80,6 +81,7 @@ pub(crate) fn within_quota<V: Volume>(volume: &V, who: Option<Id>, plan: Plan, r
 
 /// The plan, where it passes no limit.
 pub(crate) fn within_limits<V: Volume>(volume: &V, who: Option<Id>, plan: Plan, room: &Room) -> Plan
+    requires { IsFit (V.files volume.now) who plan }
     ensures { result ≡ unless_refused (first_refusal (limit_tests (V.files volume.now) room.now who plan)) plan }
 {
     if volume.lacks_quota(who, &plan, room) {

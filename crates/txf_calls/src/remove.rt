@@ -1,9 +1,11 @@
 // DeleteFile and RemoveDirectory, plain or in a transaction.
-ghost use Rattle.std.specs.Prelude.{◌≡◌, IfOk};
+ghost use Rattle.std.specs.Prelude.{◌≡◌, ◌≤◌, IfOk, length};
 ghost use Rattle.ktm_base.specs.Names.{folded};
 ghost use Rattle.ktm_types.specs.declared.recorded.Node.{Node};
 ghost use Rattle.ktm_world.specs.FileCalls.{Whereabouts as There, at_node};
+ghost use Rattle.ktm_world.specs.Files.{tree_seen};
 ghost use Rattle.txf_calls.specs.Calls.{file_outcome};
+ghost use Rattle.txf_calls.specs.Found.{IsFound};
 ghost use Rattle.txf_calls.specs.There.{delete_there, remove_there};
 ghost use Rattle.txf_calls.specs.declared.call.FileCall.TheVariants.{Delete, RemoveDirectory};
 ghost use Rattle.txf_paths.specs.Leads.{Leads, seen_of};
@@ -20,6 +22,7 @@ use txf_paths::{Seen, Whereabouts};
 
 // The file that is there is dropped.
 fn delete_node<V: Volume>(volume: &V, who: Option<Id>, node: Seen, name: &[u8], room: &Room) -> Plan
+    requires { length name.now ≤ 255 }
     ensures { (other : Node) → node ≡ seen_of other → folded other.name ≡ folded name.now → result ≡ delete_there (V.files volume.now) room.now who (at_node other) }
 {
     if !node.is_file {
@@ -41,6 +44,7 @@ fn delete_node<V: Volume>(volume: &V, who: Option<Id>, node: Seen, name: &[u8], 
 
 // What DeleteFile comes to where the path leads.
 fn delete_at<V: Volume>(volume: &V, who: Option<Id>, there: Whereabouts, room: &Room) -> Plan
+    requires { IsFound (tree_seen (V.files volume.now) who) there }
     ensures { (w : There) → Leads there.entry w → result ≡ delete_there (V.files volume.now) room.now who w }
 {
     match there {
@@ -70,6 +74,7 @@ pub(crate) fn delete<V: Volume>(
 
 // The directory that is there is dropped.
 fn remove_node<V: Volume>(volume: &V, who: Option<Id>, node: Seen, name: &[u8], room: &Room) -> Plan
+    requires { length name.now ≤ 255 }
     ensures { (other : Node) → node ≡ seen_of other → folded other.name ≡ folded name.now → result ≡ remove_there (V.files volume.now) room.now who (at_node other) }
 {
     if node.is_file {
@@ -94,6 +99,7 @@ fn remove_node<V: Volume>(volume: &V, who: Option<Id>, node: Seen, name: &[u8], 
 
 // What RemoveDirectory comes to where the path leads.
 fn remove_at<V: Volume>(volume: &V, who: Option<Id>, there: Whereabouts, room: &Room) -> Plan
+    requires { IsFound (tree_seen (V.files volume.now) who) there }
     ensures { (w : There) → Leads there.entry w → result ≡ remove_there (V.files volume.now) room.now who w }
 {
     match there {

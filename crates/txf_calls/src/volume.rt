@@ -1,5 +1,5 @@
 // What the calls ask of the files.
-ghost use Rattle.std.specs.Prelude.{◌≡◌, ◌∷◌, [], IfOk, Some, is_some, map};
+ghost use Rattle.std.specs.Prelude.{◌≡◌, ◌∷◌, [], IfOk, Some, true, is_some, map};
 ghost use Rattle.std.specs.Option.{option_map};
 ghost use Rattle.ktm_base.specs.declared.refusal.Refusal.TheVariants.{SharingViolation, TransactionalConflict};
 ghost use Rattle.ktm_world.specs.Conflicts.{conflicts};
@@ -7,8 +7,9 @@ ghost use Rattle.ktm_world.specs.FileCalls.{entries, first_opening, listed};
 ghost use Rattle.ktm_world.specs.FileOutcome.{lacks_disk, lacks_quota};
 ghost use Rattle.ktm_world.specs.Files.{FilesNow, bytes_seen, tree_seen};
 ghost use Rattle.ktm_world.specs.Outcome.{first_refusal};
-ghost use Rattle.ktm_world.specs.Tree.{child_of, has_entries, is_at_or_below};
-ghost use Rattle.txf_calls.specs.Views.{act_of, is_against_sharing};
+ghost use Rattle.ktm_world.specs.Tree.{child_of, has_entries, is_at_or_below, is_there, numbers_rise};
+ghost use Rattle.txf_calls.specs.Fits.{IsFit};
+ghost use Rattle.txf_calls.specs.Views.{HasShortNames, act_of, is_against_sharing};
 ghost use Rattle.txf_paths.specs.Leads.{seen_of};
 
 use crate::act::Act;
@@ -33,8 +34,9 @@ pub trait Volume {
     fn has_entries(&self, who: Option<Id>, directory: u64) -> bool
         ensures { result ≡ has_entries (tree_seen (files self.now) who) directory };
 
-    /// Is a node the other one, or below it.
+    /// Is a node that is seen, or the root, the other one, or below it.
     fn is_at_or_below(&self, who: Option<Id>, number: u64, other: u64) -> bool
+        requires { is_there (tree_seen (files self.now) who) number ≡ true }
         ensures { result ≡ is_at_or_below (tree_seen (files self.now) who) number other };
 
     /// The entries of a directory that a pattern matches, as they are listed: by rising folded name, each directory's with a
@@ -55,7 +57,9 @@ pub trait Volume {
     /// Does an open of the file make it the caller's first one: it is a transaction, and neither made the file nor opened it
     /// before.
     fn is_first_opening(&self, who: Option<Id>, file: u64) -> bool
-        ensures { result ≡ is_some (first_opening (files self.now) who file) };
+        ensures first { result ≡ is_some (first_opening (files self.now) who file) }
+        // no two committed nodes have the same number
+        ensures rise { numbers_rise (files self.now).tree ≡ true };
 
     /// The number of the next node.
     fn next_node(&self) -> u64
@@ -68,6 +72,7 @@ pub trait Volume {
     /// Is what the caller does refused for what another transaction holds or has open, for a plain handle, or for the share
     /// mode of an open file.
     fn check(&self, who: Option<Id>, act: Act<'_>) -> Option<Refusal>
+        requires { HasShortNames act }
         ensures { result ≡ first_refusal ((conflicts (files self.now) who (act_of act.entry), TransactionalConflict) ∷ (is_against_sharing (files self.now) who act.entry, SharingViolation) ∷ []) };
 
     /// Would a quota be passed: changes that wait, handles, the numbers of open files and nodes.
@@ -76,5 +81,6 @@ pub trait Volume {
 
     /// Would the disk be too full: more units or nodes than the image has units.
     fn lacks_disk(&self, who: Option<Id>, plan: &Plan, room: &Room) -> bool
+        requires { IsFit (files self.now) who plan.now }
         ensures { result ≡ lacks_disk (files self.now) room.now who plan.now };
 }

@@ -19,4 +19,4 @@ returns g c =
     let files = g.V.Volume.files c.args.volume.now in
     subst (λ o. IfOk c.create_at.result (λ plan. plan ≡ o))
     (sym (create-is files c.args.room.now c.args.who c.args.path.now c.args.modes.access c.args.modes.share c.args.modes.disposition (sym c.lacks_access.ensures ∙ c.if-lacks_access.false)))
-    (c.create_at.ensures (find_path (tree_seen files c.args.who) c.args.path.now) (c.whereabouts.ensures c.args.path.now (rw c.in-Some.is at c.in_ok-path.ensures)))
+    (c.create_at.ensures (find_path (tree_seen files c.args.who) c.args.path.now) (c.whereabouts.ensures.leads c.args.path.now (rw c.in-Some.is at c.in_ok-path.ensures)))

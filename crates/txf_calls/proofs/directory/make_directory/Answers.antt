@@ -12,4 +12,4 @@ pub returns : goal.returns
 returns g c =
     let files = g.V.Volume.files c.args.volume.now in
     subst (λ o. IfOk c.make_at.result (λ plan. plan ≡ o)) (sym (make-is files c.args.room.now c.args.who c.args.path.now))
-    (c.make_at.ensures (find_path (tree_seen files c.args.who) c.args.path.now) (c.whereabouts-there.ensures c.args.path.now (rw c.in-Some.is at c.in_ok-path.ensures)))
+    (c.make_at.ensures (find_path (tree_seen files c.args.who) c.args.path.now) (c.whereabouts-there.ensures.leads c.args.path.now (rw c.in-Some.is at c.in_ok-path.ensures)))

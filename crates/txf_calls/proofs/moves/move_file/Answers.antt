@@ -18,4 +18,4 @@ returns g c =
     let files = g.V.Volume.files c.args.volume.now in
     subst (λ o. IfOk c.move_at.result (λ plan. plan ≡ o)) (sym (move-is files c.args.room.now c.args.who c.args.source.now c.args.target.now))
     (c.move_at.ensures (find_path (tree_seen files c.args.who) c.args.source.now) (find_path (tree_seen files c.args.who) c.args.target.now)
-    (c.whereabouts-from.ensures c.args.source.now (rw c.in-Some.is at c.in_ok-source.ensures)) (c.whereabouts-to.ensures c.args.target.now (rw c.in-Some-2.is at c.in_ok-target.ensures)))
+    (c.whereabouts-from.ensures.leads c.args.source.now (rw c.in-Some.is at c.in_ok-source.ensures)) (c.whereabouts-to.ensures.leads c.args.target.now (rw c.in-Some-2.is at c.in_ok-target.ensures)))

@@ -11,5 +11,5 @@ returns-in_default g c =
 pub returns : goal.returns
 returns g c =
     let files = g.V.Volume.files c.args.volume.now in
-    c.remove_at.ensures (find_path (tree_seen files c.args.who) c.args.path.now) (c.whereabouts-there.ensures c.args.path.now (rw c.in-Some.is at c.in_ok-path.ensures))
+    c.remove_at.ensures (find_path (tree_seen files c.args.who) c.args.path.now) (c.whereabouts-there.ensures.leads c.args.path.now (rw c.in-Some.is at c.in_ok-path.ensures))
     ∙ sym (remove-is files c.args.room.now c.args.who c.args.path.now)
