@@ -19,7 +19,8 @@ use Rattle.ktm_world.specs.Changes.{node_of}
 use Rattle.ktm_world.specs.FileOutcome.{FileOutcome, files_after}
 use Rattle.ktm_world.specs.FileUses.{file_changes_waiting, units_used}
 use Rattle.ktm_world.specs.Tree.{bytes_of}
-use Rattle.txf_volume.specs.Uses.{IsSteady, Suits, gain, is_last_opened, kept, loss, names_added, opens_file, own_bytes}
+use Rattle.txf_calls.specs.Fits.{Suits, opens_file}
+use Rattle.txf_volume.specs.Uses.{IsSteady, gain, is_last_opened, kept, loss, names_added, own_bytes}
 use Rattle.txf_volume.proofs.OwnUses.{uses_law}
 use Rattle.txf_volume.proofs.Seen.{changes_in, own_changes-held, seen-some, fixed}
 

@@ -17,3 +17,15 @@ pub mod Counted
 pub mod Sights
 pub mod Beginning
 pub mod Folding
+pub mod TransactedEnds
+pub mod TransactedChange
+pub mod TransactedParts
+pub mod TransactedCalls
+pub mod CommitKept
+pub mod CommitVersions
+pub mod CommitParts
+pub mod CommitPlaces
+pub mod CommitRoom
+pub mod CommitTied
+pub mod PlainKept
+pub mod PlainTies

@@ -14,7 +14,8 @@ use Rattle.ktm_world.specs.Files.{FilesNow, FirstOpen, OpenFile, OwnChanges, own
 use Rattle.ktm_world.specs.FileUses.{own_units, older_versions, same_version, units_used, nodes_used, file_changes_waiting}
 use Rattle.ktm_world.specs.Transactions.{same_id}
 use Rattle.ktm_world.specs.Tree.{is_file, bytes_of, node_at, units_of}
-use Rattle.txf_volume.specs.Uses.{IsSteady, Suits, PlainUses, OwnUses, SameUses, UsesLaw, gain, loss, kept, names_added, one_if, own_bytes, opens_file, tree_units}
+use Rattle.txf_calls.specs.Fits.{Suits, opens_file}
+use Rattle.txf_volume.specs.Uses.{IsSteady, PlainUses, OwnUses, SameUses, UsesLaw, gain, loss, kept, names_added, one_if, own_bytes, tree_units}
 use Rattle.txf_volume.proofs.Elements.{IsIn, All-in}
 use Rattle.txf_volume.proofs.Forms.{bytes-final, names_only, written-final}
 use Rattle.txf_volume.proofs.Lookups.{Rises-from}

@@ -9,7 +9,8 @@ use Rattle.ktm_world.specs.Committed.{Version, version_of, versions_after}
 use Rattle.ktm_world.specs.Files.{FilesNow, FirstOpen, is_last_version}
 use Rattle.ktm_world.specs.FileUses.{same_version}
 use Rattle.ktm_world.specs.Tree.{Tree, node_at, content_of, is_file, bytes_of, bytes_or_none, units_of}
-use Rattle.txf_volume.specs.Uses.{IsSteady, Suits, each_pair, ends, files_rise, is_last_opened, kept}
+use Rattle.txf_calls.specs.Fits.{Suits}
+use Rattle.txf_volume.specs.Uses.{IsSteady, each_pair, ends, files_rise, is_last_opened, kept}
 use Rattle.txf_volume.proofs.Elements.{IsIn, All-in, list_any-from}
 use Rattle.txf_volume.proofs.Lookups.{map_node, node_at-elsewhere, node_at-there}
 use Rattle.txf_volume.proofs.OlderVersions.{list_any-alike, older-alike, older-more, older_units, version_units}
@@ -76,7 +77,7 @@ module _ (tree : Tree) (vs : List Version) (c : Change) (os : List FirstOpen) (s
           (ap (λ n. is_some (content_of n)) (node_at-there tree (Drop node) is.fits)) in
           rw gone (sym (either node e))
 
-eqb-turned : (a b : ℕ) → (a == b) ≡ (b == a)
+pub eqb-turned : (a b : ℕ) → (a == b) ≡ (b == a)
 eqb-turned a b = elim (cases_Bool (b == a)) [
   | inl same ↦ eq-eqb a b (sym (eqb-true b a same)) ∙ sym same
   | inr other ↦ ne_eqb a b (λ e. eqb-false b a other (sym e)) ∙ sym other

@@ -120,7 +120,7 @@ final-makes (w ∷ ws) n = go w.bytes (final-makes ws n)
     go [] rest = rest
     go (b ∷ bs) rest = rest
 
-made-append : (cs ds : List Change) (n : ℕ) → has_made ds n ≡ false → has_made (cs ++ ds) n ≡ has_made cs n
+pub made-append : (cs ds : List Change) (n : ℕ) → has_made ds n ≡ false → has_made (cs ++ ds) n ≡ has_made cs n
 made-append [] ds n none = none
 made-append (c ∷ cs) ds n none = ap (λ b. (is_make c && node_of c == n) || b) (made-append cs ds n none)
 

@@ -23,8 +23,9 @@ use Rattle.txf_versions.specs.VersionsState.{AreHeld, is_version, older_units as
 use Rattle.txf_versions.specs.declared.kept.Older.{Older}
 use Rattle.txf_versions.specs.declared.opened.Opened.{Opened}
 use Rattle.txf_volume.specs.Held.{FilesHeld, OwnHeld, changes_held, files_of, first_held, overlay_in, own_held, version_bytes}
-use Rattle.txf_volume.specs.Ties.{AreTied, IsKeptOpen, IsOver, held_by_two, is_last, names_held, nodes_held, units_held}
+use Rattle.txf_volume.specs.Ties.{AreFew, AreTied, IsKeptOpen, IsOver, held_by_two, is_last, names_held, nodes_held, units_held}
 use Rattle.txf_volume.specs.Uses.{IsSteady, changed_by_two, each_pair, files_rise}
+use Rattle.txf_volume.specs.Writes.{CanBeCounted}
 use Rattle.txf_volume.proofs.Elements.{IsIn, All-in, list_all-at}
 use Rattle.txf_volume.proofs.Forms.{AllBytes, ends_of, filter-append, names_of, names_only, no-names}
 use Rattle.txf_volume.proofs.Lookups.{Above, Rises, Rises-from}
@@ -38,15 +39,11 @@ use Rattle.txf_volume.proofs.Sums.{count-append, one_where, count-cons, sum-same
 
 -- ---- lists
 
-All-by : {X : Type 0} (P : X → Type 0) (xs : List X) → ((x : X) → IsIn x xs → P x) → All P xs
-All-by P [] each = All-nil P
-All-by P (y ∷ ys) each = All-cons P y ys (each y (inl refl)) (All-by P ys (λ x there. each x (inr there)))
-
-All-map : {X Y : Type 0} (P : Y → Type 0) (f : X → Y) (xs : List X) → ((x : X) → IsIn x xs → P (f x)) → All P (map f xs)
+pub All-map : {X Y : Type 0} (P : Y → Type 0) (f : X → Y) (xs : List X) → ((x : X) → IsIn x xs → P (f x)) → All P (map f xs)
 All-map P f [] each = All-nil P
 All-map P f (x ∷ xs) each = All-cons P (f x) (map f xs) (each x (inl refl)) (All-map P f xs (λ y there. each y (inr there)))
 
-sum-map : {X Y : Type 0} (g : Y → ℕ) (f : X → Y) (xs : List X) → sum_by g (map f xs) ≡ sum_by (λ x. g (f x)) xs
+pub sum-map : {X Y : Type 0} (g : Y → ℕ) (f : X → Y) (xs : List X) → sum_by g (map f xs) ≡ sum_by (λ x. g (f x)) xs
 sum-map g f [] = refl
 sum-map g f (x ∷ xs) = let rest = sum-map g f xs in let a = sum_by-cons g (f x) (map f xs) in let b = sum_by-cons (λ x. g (f x)) x xs in omega arith
 
@@ -59,7 +56,7 @@ pairs-held (o ∷ os) = λ i. all os i && pairs-held os i
     all (p ∷ ps) = ap (λ b. held_by_two o p && b) (all ps)
 
 -- what a transaction changed is found
-overlay-at : (overlays : List OwnHeld) → each_pair held_by_two overlays ≡ true → (o : OwnHeld) → IsIn o overlays → overlay_in overlays o.transaction ≡ Some o.overlay
+pub overlay-at : (overlays : List OwnHeld) → each_pair held_by_two overlays ≡ true → (o : OwnHeld) → IsIn o overlays → overlay_in overlays o.transaction ≡ Some o.overlay
 overlay-at [] once o there = absurd there
 overlay-at (p ∷ ps) once o (inl e) = rw (same_id-from p.transaction o.transaction (ap (λ (q : OwnHeld). q.transaction) e)) (ap (λ (q : OwnHeld). Some q.overlay) e)
 overlay-at (p ∷ ps) once o (inr there) =
@@ -82,7 +79,7 @@ final-bytes : (f : ℕ) (bs : List ℕ) (rest : List Change) → AllBytes rest �
 final-bytes f [] rest all = all
 final-bytes f (b ∷ bs) rest all = all
 
-finals-bytes : (ws : List Written) → AllBytes (flat_map final_of ws)
+pub finals-bytes : (ws : List Written) → AllBytes (flat_map final_of ws)
 finals-bytes [] = refl
 finals-bytes (w ∷ ws) = final-bytes w.file w.bytes (flat_map final_of ws) (finals-bytes ws)
 
@@ -99,37 +96,83 @@ ends-same : (by : ℕ → List ℕ) (ws : List Written) → ((w : Written) → I
 ends-same by [] same = refl
 ends-same by (w ∷ ws) same = λ i. final_bytes w.file (same w (inl refl) i) ++ ends-same by ws (λ v there. same v (inr there)) i
 
-module _ (h : FilesHeld) (units : ℕ) (tied : AreTied h units) where
-  over : (o : OwnHeld) → IsIn o h.overlays → IsOver (tree_of h.tree) o.overlay
-  over o there = All-in (λ (p : OwnHeld). IsOver (tree_of h.tree) p.overlay) h.overlays tied.over o there
+-- ---- versions
 
+later : (n : ℕ) (ns : List NodeNow) → Above n (map plain ns) → list_all (λ (v : Version). nat_lt n v.file) (versions_in ns) ≡ true
+later n [] above = refl
+later n (m ∷ ms) above = elim (cases_Bool (nat_lt 0 m.version)) [
+  | inl has ↦ rw has (and_from _ _ (lt-ltb n m.node.number above.0) (later n ms above.1))
+  | inr none ↦ rw none (later n ms above.1)
+]
+
+pub versions-rise : (ns : List NodeNow) → Rises (map plain ns) → each_pair files_rise (versions_in ns) ≡ true
+versions-rise [] rises = refl
+versions-rise (m ∷ ms) rises = elim (cases_Bool (nat_lt 0 m.version)) [
+  | inl has ↦ rw has (and_from _ _ (later m.node.number ms rises.0) (versions-rise ms rises.1))
+  | inr none ↦ rw none (versions-rise ms rises.1)
+]
+
+-- changes of names
+
+nodes-own : (o : OverlayState) → nodes_made (own_of o) ≡ nodes_made o.names
+nodes-own o =
+    let bytes = finals-bytes o.written in
+    made-append o.names (flat_map final_of o.written) (λ n. drops-bytes n (flat_map final_of o.written) bytes) ∙ (let none = made-bytes (flat_map final_of o.written) bytes in omega arith)
+
+count-all : (cs : List Change) → list_all is_of_names cs ≡ true → count_by names_only cs ≡ length cs
+count-all [] only = refl
+count-all (c ∷ cs) only =
+    let parts = and_parts (is_of_names c) (list_all is_of_names cs) only in
+    let rest = count-all cs parts.1 in
+    let all = count-cons names_only c cs in
+    let one : one_where names_only c ≡ 1 = rw parts.0 refl in
+    omega arith
+
+-- what transactions changed, in the form in which it is committed, each in one entry
+module _ (h : FilesHeld) (once : each_pair held_by_two h.overlays ≡ true) (owns : (o : OwnHeld) → IsIn o h.overlays → IsOwn o.overlay) where
   -- a transaction sees what it wrote
   sees : (o : OwnHeld) → IsIn o h.overlays → (w : Written) → IsIn w o.overlay.written → bytes_seen (files_of h) (Some o.transaction) w.file ≡ w.bytes
-  sees o there w has =
-      let own = (over o there).own in
-      seen-some h o.transaction w.file o.overlay (overlay-at h.overlays tied.once o there) own ∙ ap (bytes_or _) (bytes-at o.overlay.written own.rise w has)
+  sees o there w has = seen-some h o.transaction w.file o.overlay (overlay-at h.overlays once o there) (owns o there) ∙ ap (bytes_or _) (bytes-at o.overlay.written (owns o there).rise w has)
+
+  own-is : (o : OwnHeld) → IsIn o h.overlays → own_units (files_of h) (changes_held o) ≡ units_held o
+  own-is o there =
+      ap (sum_by (λ f. units_of (bytes_seen (files_of h) (Some o.transaction) f))) (owns o there).files
+      ∙ sum-map (λ f. units_of (bytes_seen (files_of h) (Some o.transaction) f)) number_of o.overlay.written
+      ∙ sum-same (λ (w : Written). units_of (bytes_seen (files_of h) (Some o.transaction) w.file)) units_in o.overlay.written (λ w has. ap units_of (sees o there w has))
+
+  own-sum : sum_by (own_units (files_of h)) (own_held h.overlays) ≡ sum_by units_held h.overlays
+  own-sum = sum-map (own_units (files_of h)) changes_held h.overlays ∙ sum-same (λ (o : OwnHeld). own_units (files_of h) (changes_held o)) units_held h.overlays own-is
+
+  nodes-sum : sum_by (λ o. nodes_made o.changes) (own_held h.overlays) ≡ sum_by nodes_held h.overlays
+  nodes-sum = sum-map (λ (o : OwnChanges). nodes_made o.changes) changes_held h.overlays ∙ sum-same (λ (o : OwnHeld). nodes_made (own_of o.overlay)) nodes_held h.overlays (λ o there. nodes-own o.overlay)
+
+  waiting-own : (o : OwnHeld) → IsIn o h.overlays → count_by names_only (own_of o.overlay) ≡ names_held o
+  waiting-own o there =
+      let all = count-append names_only o.overlay.names (flat_map final_of o.overlay.written) in
+      let names = count-all o.overlay.names (owns o there).only in
+      let none = waiting-bytes (flat_map final_of o.overlay.written) (finals-bytes o.overlay.written) in
+      omega arith
+
+  waiting-sum : sum_by (λ o. count_by names_only o.changes) (own_held h.overlays) ≡ sum_by names_held h.overlays
+  waiting-sum = sum-map (λ (o : OwnChanges). count_by names_only o.changes) changes_held h.overlays ∙ sum-same (λ (o : OwnHeld). count_by names_only (own_of o.overlay)) names_held h.overlays waiting-own
+
+  -- where all of the files can be counted, so can what transactions changed
+  pub few-counted : CanBeCounted (files_of h) → AreFew h.overlays
+  unfolding units_used nodes_used file_changes_waiting
+  few-counted counted = record {
+    units = let own = own-sum in let all = counted.units in omega arith;
+    nodes = let own = nodes-sum in let all = counted.nodes in omega arith;
+    names = let own = waiting-sum in let all = counted.names in omega arith;
+  }
+
+module _ (h : FilesHeld) (units : ℕ) (tied : AreTied h units) where
+  owns : (o : OwnHeld) → IsIn o h.overlays → IsOwn o.overlay
+  owns o there = (All-in (λ (p : OwnHeld). IsOver (tree_of h.tree) p.overlay) h.overlays tied.over o there).own
 
   final-own : (o : OwnHeld) → IsIn o h.overlays → changes_to_commit (own_of o.overlay) (bytes_seen (files_of h) (Some o.transaction)) ≡ own_of o.overlay
   final-own o there =
-      let own = (over o there).own in
-      (λ i. names-own o.overlay own i ++ ends_of (bytes_seen (files_of h) (Some o.transaction)) (own.files i))
-      ∙ ap (λ ds. o.overlay.names ++ ds) (ends-same (bytes_seen (files_of h) (Some o.transaction)) o.overlay.written (sees o there))
-
-  -- ---- versions
-
-  later : (n : ℕ) (ns : List NodeNow) → Above n (map plain ns) → list_all (λ (v : Version). nat_lt n v.file) (versions_in ns) ≡ true
-  later n [] above = refl
-  later n (m ∷ ms) above = elim (cases_Bool (nat_lt 0 m.version)) [
-    | inl has ↦ rw has (and_from _ _ (lt-ltb n m.node.number above.0) (later n ms above.1))
-    | inr none ↦ rw none (later n ms above.1)
-  ]
-
-  versions-rise : (ns : List NodeNow) → Rises (map plain ns) → each_pair files_rise (versions_in ns) ≡ true
-  versions-rise [] rises = refl
-  versions-rise (m ∷ ms) rises = elim (cases_Bool (nat_lt 0 m.version)) [
-    | inl has ↦ rw has (and_from _ _ (later m.node.number ms rises.0) (versions-rise ms rises.1))
-    | inr none ↦ rw none (versions-rise ms rises.1)
-  ]
+      (λ i. names-own o.overlay (owns o there) i ++ ends_of (bytes_seen (files_of h) (Some o.transaction)) ((owns o there).files i))
+      ∙ ap (λ ds. o.overlay.names ++ ds) (ends-same (bytes_seen (files_of h) (Some o.transaction)) o.overlay.written (sees h tied.once owns o there))
 
   -- ---- first opens
 
@@ -160,16 +203,6 @@ module _ (h : FilesHeld) (units : ℕ) (tied : AreTied h units) where
 
   -- ---- units
 
-  own-is : (o : OwnHeld) → IsIn o h.overlays → own_units (files_of h) (changes_held o) ≡ units_held o
-  own-is o there =
-      let own = (over o there).own in
-      ap (sum_by (λ f. units_of (bytes_seen (files_of h) (Some o.transaction) f))) own.files
-      ∙ sum-map (λ f. units_of (bytes_seen (files_of h) (Some o.transaction) f)) number_of o.overlay.written
-      ∙ sum-same (λ (w : Written). units_of (bytes_seen (files_of h) (Some o.transaction) w.file)) units_in o.overlay.written (λ w has. ap units_of (sees o there w has))
-
-  own-sum : sum_by (own_units (files_of h)) (own_held h.overlays) ≡ sum_by units_held h.overlays
-  own-sum = sum-map (own_units (files_of h)) changes_held h.overlays ∙ sum-same (λ (o : OwnHeld). own_units (files_of h) (changes_held o)) units_held h.overlays own-is
-
   older-sum : AreHeld h.versions.opens h.versions.older → sum_by (λ o. units_of o.bytes) (older_versions (files_of h) (files_of h).first_opens) ≡ kept_units h.versions.older
   older-sum held =
       ap (sum_by version_units) (older-is (files_of h) (files_of h).first_opens)
@@ -178,37 +211,14 @@ module _ (h : FilesHeld) (units : ℕ) (tied : AreTied h units) where
 
   pub units-now : AreHeld h.versions.opens h.versions.older → units_used (files_of h) ≡ units + sum_by units_held h.overlays + kept_units h.versions.older
   unfolding units_used
-  units-now held = let a = own-sum in let b = older-sum held in let c = tied.sum in omega arith
+  units-now held = let a = own-sum h tied.once owns in let b = older-sum held in let c = tied.sum in omega arith
 
   -- ---- nodes and changes that wait
 
-  nodes-own : (o : OverlayState) → nodes_made (own_of o) ≡ nodes_made o.names
-  nodes-own o =
-      let bytes = finals-bytes o.written in
-      made-append o.names (flat_map final_of o.written) (λ n. drops-bytes n (flat_map final_of o.written) bytes) ∙ (let none = made-bytes (flat_map final_of o.written) bytes in omega arith)
-
   pub nodes-now : nodes_used (files_of h) ≡ 1 + length (tree_of h.tree) + sum_by nodes_held h.overlays
   unfolding nodes_used
-  nodes-now =
-      let own = sum-map (λ (o : OwnChanges). nodes_made o.changes) changes_held h.overlays ∙ sum-same (λ (o : OwnHeld). nodes_made (own_of o.overlay)) nodes_held h.overlays (λ o there. nodes-own o.overlay) in
-      omega arith
-
-  count-all : (cs : List Change) → list_all is_of_names cs ≡ true → count_by names_only cs ≡ length cs
-  count-all [] only = refl
-  count-all (c ∷ cs) only =
-      let parts = and_parts (is_of_names c) (list_all is_of_names cs) only in
-      let rest = count-all cs parts.1 in
-      let all = count-cons names_only c cs in
-      let one : one_where names_only c ≡ 1 = rw parts.0 refl in
-      omega arith
-
-  waiting-own : (o : OwnHeld) → IsIn o h.overlays → count_by names_only (own_of o.overlay) ≡ names_held o
-  waiting-own o there =
-      let all = count-append names_only o.overlay.names (flat_map final_of o.overlay.written) in
-      let names = count-all o.overlay.names (over o there).own.only in
-      let none = waiting-bytes (flat_map final_of o.overlay.written) (finals-bytes o.overlay.written) in
-      omega arith
+  nodes-now = let own = nodes-sum h tied.once owns in omega arith
 
   pub waiting-now : file_changes_waiting (files_of h) ≡ sum_by names_held h.overlays
   unfolding file_changes_waiting
-  waiting-now = sum-map (λ (o : OwnChanges). count_by names_only o.changes) changes_held h.overlays ∙ sum-same (λ (o : OwnHeld). count_by names_only (own_of o.overlay)) names_held h.overlays waiting-own
+  waiting-now = waiting-sum h tied.once owns

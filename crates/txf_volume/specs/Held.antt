@@ -1,5 +1,5 @@
 -- What a contract sees of the files as the machine has them in memory, and what the model has of them.
-use Rattle.std.specs.Prelude.{ℕ, List, [], ◌∷◌, Option, Some, None, map, find, if◌then◌else◌}
+use Rattle.std.specs.Prelude.{ℕ, not, List, [], ◌∷◌, Option, Some, None, filter, map, find, if◌then◌else◌}
 use Rattle.std.specs.Option.{option_map}
 use Rattle.ktm_base.specs.declared.id.Id.{Id}
 use Rattle.ktm_world.specs.Files.{FilesNow, FirstOpen, OwnChanges}
@@ -33,6 +33,8 @@ pub record FilesHeld : Type 0 where
   pub reserve : ReserveState
   -- the number of the next node
   pub next_node : ℕ
+  -- for so many written files a commit has room
+  pub room : ℕ
 
 -- the changes of a transaction, in the form in which they are committed
 abbrev pub changes_held : OwnHeld → OwnChanges
@@ -63,3 +65,7 @@ files_of h = record {
 abbrev pub overlay_in : List OwnHeld → Id → Option OverlayState
 overlay_in [] id = None
 overlay_in (o ∷ os) id = if same_id o.transaction id then Some o.overlay else overlay_in os id
+
+-- what the other transactions changed
+abbrev pub without_own : List OwnHeld → Id → List OwnHeld
+without_own overlays id = filter (λ o. not (same_id o.transaction id)) overlays

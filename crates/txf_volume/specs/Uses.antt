@@ -1,5 +1,5 @@
 -- How much of the files is in use once a call has settled, by what was in use before. No public clause cites this module.
-use Rattle.std.specs.Prelude.{◌≡◌, ⊤, ℕ, ◌+◌, ◌≤◌, ◌==◌, ◌&&◌, ◌||◌, not, Bool, true, false, List, [], ◌∷◌, nat_lt, sum_by, Option, Some, None, is_some, All, if◌then◌else◌}
+use Rattle.std.specs.Prelude.{◌≡◌, ℕ, ◌+◌, ◌≤◌, ◌==◌, ◌&&◌, ◌||◌, not, Bool, true, false, List, [], ◌∷◌, nat_lt, sum_by, Option, Some, None, is_some, All, if◌then◌else◌}
 use Rattle.std.specs.List.{list_all, list_any}
 use Rattle.ktm_base.specs.declared.id.Id.{Id}
 use Rattle.ktm_types.specs.declared.change.Change.{Change}
@@ -8,11 +8,12 @@ use Rattle.ktm_types.specs.declared.recorded.Node.{Node}
 use Rattle.ktm_world.specs.Changes.{bytes_in, changes_bytes, is_drop, is_make, node_of}
 use Rattle.ktm_world.specs.Committed.{Version, version_of, written_files, changes_to_commit}
 use Rattle.ktm_world.specs.FileOutcome.{FileOutcome, files_after}
-use Rattle.ktm_world.specs.Files.{FilesNow, FirstOpen, OwnChanges, own_changes, is_last_version, bytes_seen}
+use Rattle.ktm_world.specs.Files.{FilesNow, OwnChanges, own_changes, is_last_version, bytes_seen}
 use Rattle.ktm_world.specs.FileUses.{units_used, nodes_used, file_changes_waiting}
 use Rattle.ktm_world.specs.Holds.{is_in}
 use Rattle.ktm_world.specs.Transactions.{same_id}
 use Rattle.ktm_world.specs.Tree.{Tree, bytes_of, bytes_or_none, cut_to, is_file, node_at, numbers_rise, put_over, units_of}
+use Rattle.txf_calls.specs.Fits.{Suits, opens_file}
 
 -- ---- what is so at every moment
 
@@ -43,12 +44,6 @@ pub record IsSteady (files : FilesNow) : Type 0 where
   pub first_versions : All (λ o. is_file files.tree o.file ≡ true → o.version ≤ version_of files.versions o.file) files.first_opens
   -- the bytes of the last version are the committed ones
   pub first_bytes : All (λ o. is_last_version files o ≡ true → o.bytes ≡ bytes_of files.tree o.file) files.first_opens
-
--- a change makes a node that is not there, and that nobody opened, or puts or cuts bytes of a file that is there
-pub record Suits (tree : Tree) (opens : List FirstOpen) (change : Change) : Type 0 where
-  pub fits : is_make change ≡ true → node_at tree (node_of change) ≡ None
-  pub fresh : is_make change ≡ true → list_any (λ o. o.file == node_of change) opens ≡ false
-  pub file : changes_bytes change ≡ true → is_file tree (node_of change) ≡ true
 
 -- ---- units
 
@@ -115,28 +110,9 @@ pub record SameUses (files files' : FilesNow) : Type 0 where
   pub units : units_used files' ≡ units_used files
   pub nodes : nodes_used files' ≡ nodes_used files
 
--- is the file that is first opened a committed one, if there is one
-abbrev pub opens_file : Tree → Option ℕ → Bool
-opens_file tree None = true
-opens_file tree (Some file) = is_file tree file
-
 -- what a call adds to what is in use, and takes from it
 pub record UsesLaw : Type 0 where
   pub plain : (files : FilesNow) (o : FileOutcome) (change : Change) → IsSteady files → o.change ≡ Some change → Suits files.tree files.first_opens change → PlainUses files o change
   pub own : (files : FilesNow) (id : Id) (o : FileOutcome) (change : Change) → IsSteady files → o.change ≡ Some change → opens_file files.tree o.first ≡ true → OwnUses files id o change
   pub none : (files : FilesNow) (who : Option Id) (o : FileOutcome) → IsSteady files → o.change ≡ None → opens_file files.tree o.first ≡ true → SameUses files (files_after files who o)
   pub waiting : (files : FilesNow) (who : Option Id) (o : FileOutcome) → IsSteady files → file_changes_waiting (files_after files who o) ≡ file_changes_waiting files + names_added who o.change
-
--- ---- when it can be told
-
--- the change suits what is committed, or is one of a transaction that drops nothing
-abbrev pub FitsChange : FilesNow → Option Id → Option Change → Type 0
-FitsChange files who None = ⊤
-FitsChange files None (Some change) = Suits files.tree files.first_opens change
-FitsChange files (Some id) (Some change) = is_drop change ≡ false
-
--- what the call comes to can be told by what is counted
-pub record IsFit (files : FilesNow) (who : Option Id) (o : FileOutcome) : Type 0 where
-  pub change : FitsChange files who o.change
-  -- a file that is first opened is a committed one
-  pub first : opens_file files.tree o.first ≡ true

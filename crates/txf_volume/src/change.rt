@@ -1,6 +1,6 @@
 // What a change adds to the units of its file, and takes from them.
-ghost use Rattle.std.specs.Prelude.{◌≡◌, ◌<◌, ◌+◌, ◌/◌, ◌^◌, length};
-ghost use Rattle.ktm_world.specs.Changes.{bytes_in, changes_bytes, is_drop, is_make, node_of};
+ghost use Rattle.std.specs.Prelude.{◌≡◌, ◌<◌, ◌+◌, ◌/◌, ◌^◌, length, true};
+ghost use Rattle.ktm_world.specs.Changes.{bytes_in, changes_bytes, is_drop, is_make, next_after, node_of};
 ghost use Rattle.ktm_world.specs.Tree.{units_of};
 ghost use Rattle.txf_volume.specs.Uses.{ends, gain, loss};
 
@@ -54,18 +54,18 @@ fn ends(change: &Change) -> bool
     changes_bytes(change) || is_drop(change)
 }
 
-// How many bytes contents have.
-fn len_in(contents: &Contents) -> usize
-    ensures { result ≡ length (bytes_in contents.now) }
+/// The bytes of contents.
+pub(crate) fn bytes_in(contents: &Contents) -> &[u8]
+    ensures { result.now ≡ bytes_in contents.now }
 {
     match contents {
-        Contents::Whole(bytes) => bytes.len(),
-        Contents::Paged(_) => 0,
+        Contents::Whole(bytes) => bytes.as_slice(),
+        Contents::Paged(_) => &[],
     }
 }
 
-// The units of so many bytes.
-fn units_in(len: u128) -> u128
+/// The units of so many bytes.
+pub(crate) fn units_in(len: u128) -> u128
     requires { len < 2 ^ 66 }
     ensures units { result ≡ (len + 4095) / 4096 }
     ensures few { result < 2 ^ 66 }
@@ -84,7 +84,7 @@ pub(crate) fn gain(bytes: &[u8], change: &Change) -> u128
             contents,
             ..
         } => {
-            let end = *offset as u128 + len_in(contents) as u128;
+            let end = *offset as u128 + bytes_in(contents).len() as u128;
             units_in(end.max(bytes.len() as u128))
         }
         Change::Cut { size, .. } => units_in(*size as u128),
@@ -101,5 +101,16 @@ pub(crate) fn loss(bytes: &[u8], change: &Change) -> u128
         units_in(bytes.len() as u128)
     } else {
         0
+    }
+}
+
+/// The number of the next node, once a change has made one.
+pub(crate) fn next_after(next: u64, change: &Change) -> u64
+    requires { is_make change.now ≡ true → node_of change.now < 2 ^ 63 }
+    ensures { result ≡ next_after next change.now }
+{
+    match change {
+        Change::Make { node, .. } => next.max(*node + 1),
+        _ => next,
     }
 }

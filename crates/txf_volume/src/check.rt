@@ -1,12 +1,9 @@
 // Whether a call is refused for what others hold and have open.
-ghost use Rattle.std.specs.Prelude.{◌≡◌, ◌==◌, ◌&&◌, ◌≤◌, ◌∷◌, [], Some, length, not, take};
+ghost use Rattle.std.specs.Prelude.{◌≡◌, ◌==◌, ◌&&◌, ◌≤◌, length, take};
 ghost use Rattle.ktm_base.specs.Names.{folded};
 ghost use Rattle.ktm_world.specs.Conflicts.{changes_outdated, conflicts, is_outdated};
 ghost use Rattle.ktm_world.specs.Files.{first_open_of};
 ghost use Rattle.ktm_world.specs.Holds.{Act as Deed, file_changed};
-ghost use Rattle.ktm_base.specs.declared.refusal.Refusal.TheVariants.{SharingViolation, TransactionalConflict};
-ghost use Rattle.ktm_world.specs.Outcome.{first_refusal};
-ghost use Rattle.txf_calls.specs.Views.{act_of, is_against_sharing};
 ghost use Rattle.txf_reserve.specs.Acts.{act_of as deed_of, place_in, listed, violates, HaveShortNames};
 ghost use Rattle.txf_reserve.specs.Checks.{refusal_of};
 ghost use Rattle.ktm_world.specs.Holds.{places_changed};
@@ -18,7 +15,6 @@ ghost use Rattle.txf_volume.specs.Held.{files_of};
 use crate::files::Files;
 use ktm_base::{Id, Refusal, fold};
 use ktm_links::{InlineName, Name};
-use txf_calls::Act;
 use txf_opens::asks_write;
 use txf_reserve::{Act as Held, Place};
 
@@ -35,8 +31,8 @@ fn write_folded(room: &mut [u8], name: &[u8])
     }
 }
 
-// The folded name.
-fn folded_name(name: &[u8]) -> InlineName<255>
+/// The folded name.
+pub(crate) fn folded_name(name: &[u8]) -> InlineName<255>
     requires { length name.now ≤ 255 }
     ensures { result ≡ folded name.now }
 {
@@ -45,8 +41,8 @@ fn folded_name(name: &[u8]) -> InlineName<255>
     InlineName::new(&room[..name.len()])
 }
 
-// The name in the directory.
-fn place(directory: u64, name: &InlineName<255>) -> Place<'_>
+/// The name in the directory.
+pub(crate) fn place(directory: u64, name: &InlineName<255>) -> Place<'_>
     ensures { place_in result ≡ record { directory = directory; name = name.now } }
 {
     Place {
@@ -109,73 +105,11 @@ impl Files {
     }
 
     // Why a call whose names are folded is refused, if it is.
-    fn check_folded(&self, who: Option<Id>, act: &Held) -> Option<Refusal>
+    pub(crate) fn check_folded(&self, who: Option<Id>, act: &Held) -> Option<Refusal>
         requires { HaveShortNames (places_changed (deed_of act.now)) }
         ensures { result ≡ refusal_of (conflicts (files_of self.now) who (deed_of act.now)) (violates self.now.opens.opens who act.now) }
     {
         let outdated = self.changes_outdated(who, changed_file(act));
         self.reserve.check(&self.opens, who, act, outdated)
-    }
-
-    /// Is what the caller does refused for what another transaction holds or has open, for a plain handle, or for the share
-    /// mode of an open file.
-    pub fn check(&self, who: Option<Id>, act: Act<'_>) -> Option<Refusal>
-        requires { HaveShortNames (places_changed (act_of act)) }
-        ensures { result ≡ first_refusal ((conflicts (files_of self.now) who (act_of act.entry), TransactionalConflict) ∷ (is_against_sharing (files_of self.now) who act.entry, SharingViolation) ∷ []) }
-    {
-        match act {
-            Act::Open {
-                file,
-                access,
-                truncates,
-                share,
-            } => {
-                let act = Held::Opens {
-                    file,
-                    access,
-                    truncates,
-                    share,
-                };
-                self.check_folded(who, &act)
-            }
-            Act::Delete { file, at } => {
-                let name = folded_name(at.name);
-                let at = place(at.directory, &name);
-                self.check_folded(who, &Held::Deletes { file, at })
-            }
-            Act::MoveFile { file, from, to } => {
-                let left = folded_name(from.name);
-                let from = place(from.directory, &left);
-                let taken = folded_name(to.name);
-                let to = place(to.directory, &taken);
-                self.check_folded(who, &Held::MovesFile { file, from, to })
-            }
-            Act::Make { at } => {
-                let name = folded_name(at.name);
-                let at = place(at.directory, &name);
-                self.check_folded(who, &Held::Makes { at })
-            }
-            Act::DropDirectory { directory, at } => {
-                let name = folded_name(at.name);
-                let at = place(at.directory, &name);
-                self.check_folded(who, &Held::DropsDirectory { directory, at })
-            }
-            Act::MoveDirectory {
-                directory,
-                from,
-                to,
-            } => {
-                let left = folded_name(from.name);
-                let from = place(from.directory, &left);
-                let taken = folded_name(to.name);
-                let to = place(to.directory, &taken);
-                let act = Held::MovesDirectory {
-                    directory,
-                    from,
-                    to,
-                };
-                self.check_folded(who, &act)
-            }
-        }
     }
 }

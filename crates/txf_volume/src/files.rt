@@ -4,16 +4,17 @@ ghost use Rattle.std.specs.Option.{option_copied};
 ghost use Rattle.ktm_world.specs.Files.{bytes_seen, first_open_of, fixed_bytes};
 ghost use Rattle.ktm_world.specs.Tree.{bytes_of};
 ghost use Rattle.txf_tree.specs.TreeState.{tree_of};
+ghost use Rattle.txf_versions.specs.VersionsState.{AreHeld};
 ghost use Rattle.txf_overlay.specs.Laws.{IsOwn};
 ghost use Rattle.txf_volume.specs.Ties.{IsOver};
-ghost use Rattle.txf_volume.specs.Held.{files_of, overlay_in, version_bytes};
+ghost use Rattle.txf_volume.specs.Held.{files_of, overlay_in, version_bytes, FilesHeld};
 
 use crate::own::{Own, overlay_of};
 use ktm_base::Id;
 use std::alloc::Global;
 use std::marker::Model;
 use txf_opens::Opens;
-use txf_overlay::Overlay;
+use txf_overlay::{Overlay, WrittenFile};
 use txf_reserve::Reserve;
 use txf_tree::Tree;
 use txf_versions::Versions;
@@ -21,7 +22,7 @@ use txf_versions::Versions;
 /// The files as the machine has them in memory.
 #[derive(Drop)]
 pub struct Files {
-    alloc: Global,
+    pub(crate) alloc: Global,
     pub(crate) tree: Tree,
     pub(crate) versions: Versions,
     // In the order of the transactions' first changes.
@@ -31,9 +32,12 @@ pub struct Files {
     pub(crate) next_node: u64,
     // Of the committed files.
     pub(crate) units: u64,
+    // Room for the files that a commit takes out of what a transaction changed.
+    pub(crate) taken: Vec<WrittenFile>,
 }
 
 impl Model for Files {
+    ghost use Rattle.std.specs.Prelude.{vec_capacity};
     ghost use Rattle.txf_volume.specs.Held.{FilesHeld};
 
     ghost Value = { FilesHeld };
@@ -47,6 +51,7 @@ impl Model for Files {
       opens = f.opens;
       reserve = f.reserve;
       next_node = f.next_node;
+      room = vec_capacity f.taken;
     } };
 
     ghost invariant = { λ f. AreTied (record {
@@ -56,7 +61,40 @@ impl Model for Files {
       opens = f.opens;
       reserve = f.reserve;
       next_node = f.next_node;
+      room = vec_capacity f.taken;
     }) f.units };
+}
+
+// A first open fixed each older version, and none is there twice.
+pub(crate) fn law_of_older(versions: &Versions)
+    ensures { AreHeld versions.now.opens versions.now.older }
+{
+    let _ = versions.older_units();
+}
+
+// The bytes of a version of a file.
+fn version_bytes<'a>(tree: &'a Tree, versions: &'a Versions, file: u64, version: u64) -> &'a [u8]
+    ensures { result.now ≡ version_bytes (tree_of tree.now) versions.now.older file version }
+{
+    match versions.older_bytes(file, version) {
+        Some(bytes) => bytes,
+        None => tree.content(file),
+    }
+}
+
+/// The bytes of a file that a transaction found as it first opened it, or else the last committed ones.
+pub(crate) fn fixed_bytes<'a>(
+    tree: &'a Tree,
+    versions: &'a Versions,
+    transaction: Id,
+    file: u64,
+) -> &'a [u8]
+    ensures { (h : FilesHeld) → h.tree ≡ tree.now → h.versions ≡ versions.now → result.now ≡ fixed_bytes (files_of h) file (first_open_of (files_of h).first_opens transaction file) }
+{
+    match versions.first_open(transaction, file) {
+        Some(version) => version_bytes(tree, versions, file, version),
+        None => tree.content(file),
+    }
 }
 
 /// The number of the first node that is made; the root's is the one before.
@@ -82,6 +120,7 @@ impl Files {
             reserve: Reserve::new(alloc),
             next_node: FIRST_NODE,
             units: 0,
+            taken: Vec::new(alloc),
         }
     }
 
@@ -93,26 +132,6 @@ impl Files {
         overlay_of(&self.overlays, transaction)
     }
 
-    // The bytes of a version of a file.
-    fn version_bytes(&self, file: u64, version: u64) -> &[u8]
-        ensures { result.now ≡ version_bytes (tree_of self.now.tree) self.now.versions.older file version }
-    {
-        match self.versions.older_bytes(file, version) {
-            Some(bytes) => bytes,
-            None => self.tree.content(file),
-        }
-    }
-
-    // The bytes of a file that a transaction found as it first opened it, or else the last committed ones.
-    fn fixed_bytes(&self, transaction: Id, file: u64) -> &[u8]
-        ensures { result.now ≡ fixed_bytes (files_of self.now) file (first_open_of (files_of self.now).first_opens transaction file) }
-    {
-        match self.versions.first_open(transaction, file) {
-            Some(version) => self.version_bytes(file, version),
-            None => self.tree.content(file),
-        }
-    }
-
     // The bytes of a file that a transaction sees where it has changed something.
     fn bytes_over<'a>(&'a self, overlay: &'a Overlay, transaction: Id, file: u64) -> &'a [u8]
         requires there { overlay_in self.now.overlays transaction ≡ Some overlay.now }
@@ -122,7 +141,7 @@ impl Files {
         match overlay.bytes(file) {
             Some(bytes) => bytes,
             None if overlay.has_made(file) => &[],
-            None => self.fixed_bytes(transaction, file),
+            None => fixed_bytes(&self.tree, &self.versions, transaction, file),
         }
     }
 
@@ -132,17 +151,7 @@ impl Files {
     {
         match self.overlay(transaction) {
             Some(overlay) => self.bytes_over(overlay, transaction, file),
-            None => self.fixed_bytes(transaction, file),
-        }
-    }
-
-    /// The bytes of a file that the caller sees.
-    pub fn bytes(&self, who: Option<Id>, file: u64) -> &[u8]
-        ensures { result.now ≡ bytes_seen (files_of self.now) who file }
-    {
-        match who {
-            Some(transaction) => self.bytes_in(transaction, file),
-            None => self.tree.content(file),
+            None => fixed_bytes(&self.tree, &self.versions, transaction, file),
         }
     }
 }

@@ -4,10 +4,17 @@
 
 mod change;
 mod check;
+mod commit;
 mod ends;
 mod files;
+mod holding;
 mod limits;
 mod names;
 mod own;
+mod own_change;
+mod plain;
+mod transacted;
+mod volume;
 
 pub use files::Files;
+pub use plain::Ready;

@@ -2,13 +2,14 @@
 ghost use Rattle.std.specs.Prelude.{◌≡◌, ◌<◌, ◌^◌, ◌+◌, ◌≤◌, ◌==◌, ◌&&◌, ◌||◌, Option, Some, None, true, false, is_some, nat_lt};
 ghost use Rattle.ktm_base.specs.declared.id.Id.{Id};
 ghost use Rattle.ktm_world.specs.Changes.{is_drop, node_of};
-ghost use Rattle.ktm_world.specs.FileOutcome.{FileOutcome, files_after, lacks_disk, lacks_quota, next_node_after};
+ghost use Rattle.ktm_world.specs.FileOutcome.{FileOutcome, files_after, next_node_after};
 ghost use Rattle.ktm_world.specs.FileUses.{file_changes_waiting, nodes_used, units_used};
 ghost use Rattle.ktm_world.specs.Limits.{end_of_nodes, most_number};
 ghost use Rattle.ktm_world.specs.Tree.{node_at};
 ghost use Rattle.txf_tree.specs.TreeState.{tree_of};
 ghost use Rattle.txf_volume.specs.Held.{files_of};
-ghost use Rattle.txf_volume.specs.Uses.{kept, one_if, opens_file, own_bytes, IsFit, IsSteady, Suits};
+ghost use Rattle.txf_calls.specs.Fits.{opens_file, IsFit, Suits};
+ghost use Rattle.txf_volume.specs.Uses.{kept, one_if, own_bytes, IsSteady};
 
 use crate::change::{changes_bytes, gain, is_drop, is_make, loss, node_of};
 use crate::files::Files;
@@ -32,7 +33,7 @@ fn one_if(so: bool) -> u128
 }
 
 // Is a file opened while no handle is free.
-fn lacks_handles(plan: &Plan, room: &Room) -> bool
+pub(crate) fn lacks_handles(plan: &Plan, room: &Room) -> bool
     ensures { result ≡ (is_some plan.now.opened && room.now.handles == 0) }
 {
     plan.opened.is_some() && room.handles == 0
@@ -112,7 +113,7 @@ impl Files {
     }
 
     // The units in use once a call has settled.
-    fn units_after(&self, who: Option<Id>, plan: &Plan) -> u128
+    pub(crate) fn units_after(&self, who: Option<Id>, plan: &Plan) -> u128
         requires { IsFit (files_of self.now) who plan.now }
         ensures { result ≡ units_used (files_after (files_of self.now) who plan.now) }
     {
@@ -147,7 +148,7 @@ impl Files {
     }
 
     // The nodes in use once a call has settled.
-    fn nodes_after(&self, who: Option<Id>, plan: &Plan) -> u128
+    pub(crate) fn nodes_after(&self, who: Option<Id>, plan: &Plan) -> u128
         requires { IsFit (files_of self.now) who plan.now }
         ensures { result ≡ nodes_used (files_after (files_of self.now) who plan.now) }
     {
@@ -156,17 +157,6 @@ impl Files {
             (Some(change), None) => self.nodes_with(change),
             (Some(change), Some(transaction)) => self.nodes_with_own(transaction, change),
         }
-    }
-
-    /// Would the disk be too full: more units or nodes than the image has units. It can be told of a plain change that
-    /// suits what is committed, and of one of a transaction that drops nothing.
-    #[tactic(auto, unfolding(ktm_world::specs::FileOutcome::lacks_disk))]
-    pub fn lacks_disk(&self, who: Option<Id>, plan: &Plan, room: &Room) -> bool
-        requires { IsFit (files_of self.now) who plan.now }
-        ensures { result ≡ lacks_disk (files_of self.now) room.now who plan.now }
-    {
-        let units = room.units as u128;
-        self.units_after(who, plan) > units || self.nodes_after(who, plan) > units
     }
 
     // The changes of names that wait once a call has settled.
@@ -203,26 +193,16 @@ impl Files {
     }
 
     // Would more changes wait than may.
-    fn lacks_changes(&self, who: Option<Id>, plan: &Plan, room: &Room) -> bool
+    pub(crate) fn lacks_changes(&self, who: Option<Id>, plan: &Plan, room: &Room) -> bool
         ensures { result ≡ nat_lt room.now.changes (file_changes_waiting (files_after (files_of self.now) who plan.now)) }
     {
         self.waiting_after(who, plan) > room.changes as u64
     }
 
     // Would the numbers of open files or nodes be beyond the last ones.
-    fn passes_numbers(&self, plan: &Plan) -> bool
+    pub(crate) fn passes_numbers(&self, plan: &Plan) -> bool
         ensures { (who : Option Id) → result ≡ (nat_lt most_number (files_after (files_of self.now) who plan.now).table.last_open || nat_lt end_of_nodes (files_after (files_of self.now) who plan.now).table.next_node) }
     {
         self.last_open_after(plan) as u64 > MOST_NUMBER || self.passes_nodes(plan)
-    }
-
-    /// Would a quota be passed: changes that wait, handles, the numbers of open files and nodes.
-    #[tactic(auto, unfolding(ktm_world::specs::FileOutcome::lacks_quota))]
-    pub fn lacks_quota(&self, who: Option<Id>, plan: &Plan, room: &Room) -> bool
-        ensures { result ≡ lacks_quota (files_of self.now) room.now who plan.now }
-    {
-        self.lacks_changes(who, plan, room)
-            || lacks_handles(plan, room)
-            || self.passes_numbers(plan)
     }
 }

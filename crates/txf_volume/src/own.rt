@@ -1,8 +1,10 @@
 // What each undecided transaction changed.
-ghost use Rattle.std.specs.Prelude.{◌≡◌, ◌<◌, ◌^◌, sum_by};
+ghost use Rattle.std.specs.Prelude.{◌≡◌, ◌<◌, ◌^◌, ◌+◌, ◌++◌, MatchOption, None, Some, drop, length, sum_by, take, true};
 ghost use Rattle.std.specs.Option.{option_copied};
-ghost use Rattle.txf_volume.specs.Held.{overlay_in};
-ghost use Rattle.txf_volume.specs.Ties.{names_held, nodes_held, units_held};
+ghost use Rattle.txf_volume.specs.Held.{overlay_in, without_own};
+ghost use Rattle.txf_volume.specs.Making.{IsAbsent, IsPlace};
+ghost use Rattle.txf_volume.specs.Ties.{held_by_two, names_held, nodes_held, units_held};
+ghost use Rattle.txf_volume.specs.Uses.{each_pair};
 
 use ktm_base::Id;
 use std::marker::Model;
@@ -11,8 +13,8 @@ use txf_overlay::Overlay;
 /// A transaction and what it changed.
 #[derive(Drop)]
 pub(crate) struct Own {
-    transaction: Id,
-    overlay: Overlay,
+    pub(crate) transaction: Id,
+    pub(crate) overlay: Overlay,
 }
 
 impl Model for Own {
@@ -69,4 +71,32 @@ pub(crate) fn names_of(overlays: &[Own]) -> u64
         names += own.overlay.changes_len() as u64;
     }
     names
+}
+
+// Where the entry of a transaction is, if it changed anything.
+fn place_of(overlays: &[Own], transaction: Id) -> Option<usize>
+    requires { each_pair held_by_two overlays.now ≡ true }
+    ensures { MatchOption result (IsAbsent overlays.now transaction) (IsPlace overlays.now transaction) }
+{
+    for (place, own) in overlays.iter().enumerate() {
+        if own.transaction == transaction {
+            return Some(place);
+        }
+    }
+    None
+}
+
+/// Takes out what a transaction changed, if it changed anything.
+pub(crate) fn take_overlay(overlays: &mut Vec<Own>, transaction: Id) -> Option<Overlay>
+    requires { each_pair held_by_two overlays.old.items ≡ true }
+    ensures overlay { result ≡ overlay_in overlays.old.items transaction }
+    ensures left { overlays.new.items ≡ without_own overlays.old.items transaction }
+{
+    match place_of(overlays, transaction) {
+        Some(place) => {
+            let Own { overlay, .. } = overlays.remove(place);
+            Some(overlay)
+        }
+        None => None,
+    }
 }

@@ -1,6 +1,7 @@
 use Rattle.std.proofs.Common.{[], if◌then◌else◌, sym, ◌∙◌, ap}
 use Rattle.std.specs.Option.{option_copied}
 use Rattle.txf_overlay.specs.Written.{bytes_or}
+use Rattle.txf_volume.specs.Held.{FilesHeld}
 use Rattle.txf_volume.proofs.Seen.{fixed, seen-some}
 use Rattle.txf_volume.proofs.files.Files.bytes_over.Goals as goal
 
@@ -15,6 +16,6 @@ returns-in-None c =
 
 pub returns-in-None-2 : goal.returns-in-None-2
 returns-in-None-2 c =
-    c.fixed_bytes.ensures
+    c.fixed_bytes.ensures c.args.self.now (ap (λ (h : FilesHeld). h.tree) (sym c.self.view_is)) (ap (λ (h : FilesHeld). h.versions) (sym c.self.view_is))
     ∙ sym (seen-some c.args.self.now c.args.transaction c.args.file c.args.overlay.now c.requires.there c.requires.own ∙ ap (bytes_or _) (sym c.bytes.ensures ∙ ap option_copied c.in-None.is)
     ∙ ap (λ b. if b then [] else fixed c.args.self.now c.args.transaction c.args.file) (sym c.if-has_made.ensures))

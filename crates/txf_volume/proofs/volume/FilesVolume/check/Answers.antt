@@ -1,7 +1,7 @@
 use Rattle.std.proofs.Common.{[], ◌∷◌}
 use Rattle.txf_calls.specs.Views.{place_in}
 use Rattle.txf_volume.proofs.Folding.{short-first}
-use Rattle.txf_volume.proofs.files.Files.check.Goals as goal
+use Rattle.txf_volume.proofs.volume.FilesVolume.check.Goals as goal
 
 pub folded_name-name-requires : goal.folded_name-name-requires
 folded_name-name-requires c = short-first c.in-Delete.at.directory c.in-Delete.at.name.now [] (rw c.in-Delete.is at c.requires)

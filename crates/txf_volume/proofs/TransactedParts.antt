@@ -1,0 +1,146 @@
+-- What one change of a transaction makes of the parts of the files in memory.
+use Rattle.std.proofs.Common.{zero, suc, ◌≡◌, ℕ, ◌<◌, ◌≤◌, true, if◌then◌else◌, filter, get_or, set, take, drop, length, map, List, [], ◌∷◌, ◌++◌, Option, Some, None, Result, Ok, Err, OnOk, OnErr, refl, sym, ◌∙◌, ap, subst, arith, inl, inr}
+use Rattle.std.proofs.lemmas.Bool.{cases_Bool, eq-eqb, true≢false}
+use Rattle.std.proofs.lemmas.List.{get_or_read, length-map, set_split}
+use Rattle.std.proofs.lemmas.Option.{same_Some, none-some}
+use Rattle.std.specs.List.{list_all, list_any}
+use Rattle.std.specs.Option.{option_map}
+use Rattle.ktm_base.specs.Names.{IsName, folded_byte}
+use Rattle.ktm_base.specs.declared.id.Id.{Id}
+use Rattle.ktm_keyed.proofs.Slots.{rest_is}
+use Rattle.ktm_types.specs.declared.change.Change.{Change}
+use Rattle.ktm_types.specs.declared.change.Change.TheVariants.{Make, Put, Cut, Move, Drop}
+use Rattle.ktm_types.specs.declared.recorded.Node.{Node}
+use Rattle.ktm_world.specs.Changes.{apply_all, changed_all, has_made, node_of}
+use Rattle.ktm_world.specs.Holds.{Place, dropped_directory, each_change, moved_directory, place, places_of}
+use Rattle.ktm_world.specs.Transactions.{same_id}
+use Rattle.ktm_world.specs.Tree.{Tree, IsWellFormed, node_at}
+use Rattle.txf_overlay.specs.Laws.{written_with}
+use Rattle.txf_overlay.specs.Nodes.{last_of}
+use Rattle.txf_overlay.specs.OverlayState.{OverlayState, is_of_names, seen}
+use Rattle.txf_overlay.specs.Views.{StandsOver, last_seat, seat_at, seats_of}
+use Rattle.txf_overlay.proofs.Trees.{Applies-from, at-All, is_there-some, node_at-there, remade}
+use Rattle.txf_overlay.proofs.Views.{LastIs, last-is, untouched}
+use Rattle.txf_reserve.specs.ReserveState.{ReserveState}
+use Rattle.txf_volume.specs.Held.{OwnHeld, overlay_in}
+use Rattle.txf_volume.specs.OwnParts.{HoldsToo, IsChanged, IsChangedIn, IsPlaceOf, bare, bare_own, brought, or_unchanged, unchanged, with_overlay}
+
+-- ---- a node that is seen
+
+pub last-at : (cs : List Change) (i node : ℕ) (c : Change) → i < length cs → c ≡ get_or cs i c → last_of (drop (suc i) cs) node ≡ None → node_of c ≡ node → last_of cs node ≡ Some c
+last-at [] i node c within is none of_it = absurd (omega arith)
+last-at (x ∷ xs) zero node c within is none of_it = rw (none, sym is, eq-eqb (node_of c) node of_it) refl
+last-at (x ∷ xs) (suc i) node c within is none of_it = rw (last-at xs i node c (omega arith) is none of_it) refl
+
+-- it is where its last change brought it
+where-is : (t' : Tree) (node : ℕ) (c : Change) → LastIs t' node c → option_map (λ (n : Node). place n.parent n.name) (node_at t' node) ≡ brought c
+where-is t' node (Make n parent kind name) last =
+    ap (option_map (λ (x : Node). place x.parent x.name)) (last.left ∙ node_at-there last.tree (Make n parent kind name) last.applies node last.of)
+where-is t' node (Put n offset contents) last = absurd (true≢false (sym last.names))
+where-is t' node (Cut n size pages) last = absurd (true≢false (sym last.names))
+where-is t' node (Move n parent name) last =
+    let parts = Applies-from last.tree (Move n parent name) last.applies in
+    let before = is_there-some last.tree n parts.0 parts.1 in
+    ap (option_map (λ (x : Node). place x.parent x.name))
+    (last.left ∙ node_at-there last.tree (Move n parent name) last.applies node last.of ∙ ap (λ m. remade (Move n parent name) (node_at last.tree m)) (sym last.of) ∙ ap (remade (Move n parent name)) before.1)
+where-is t' node (Drop n) last = ap (option_map (λ (x : Node). place x.parent x.name)) (last.left ∙ node_at-there last.tree (Drop n) last.applies node last.of)
+
+-- where it is, by the changes that are shown
+pub place-by-last : (tree : Tree) (o : OverlayState) (node : ℕ) (c : Change) → StandsOver tree o → list_all is_of_names o.names ≡ true → Some c ≡ last_of o.names node
+    → option_map (λ (n : Node). place n.parent n.name) (node_at (seen tree o) node) ≡ brought c
+place-by-last tree o node c stands only last = where-is (seen tree o) node c (last-is o.names tree node c only stands.applies (sym last))
+
+pub seen-untouched : (tree : Tree) (o : OverlayState) (node : ℕ) → StandsOver tree o → None ≡ last_of o.names node → node_at (seen tree o) node ≡ node_at tree node
+seen-untouched tree o node stands none = untouched o.names tree node stands.applies (sym none)
+
+pub short-place : (tree : Tree) (node directory : ℕ) (name : List ℕ) → IsWellFormed tree → Some (place directory name) ≡ option_map (λ (n : Node). place n.parent n.name) (node_at tree node) → length name ≤ 255
+short-place tree node directory name formed is = go (node_at tree node) refl is
+  where
+    go : (found : Option Node) → node_at tree node ≡ found → Some (place directory name) ≡ option_map (λ (n : Node). place n.parent n.name) found → length name ≤ 255
+    go None at e = absurd (none-some (place directory name) (sym e))
+    go (Some x) at e =
+        let few = (at-All (λ n. IsName n.name) tree formed.names node x at).few in
+        let same = ap (λ (p : Place). length p.name) (same_Some (place directory name) (place x.parent x.name) e) in
+        let mine = length-map name folded_byte in
+        let its = length-map x.name folded_byte in
+        omega arith
+
+-- ---- one change
+
+pub stands-same : (tree : Tree) (o o' : OverlayState) → o'.names ≡ o.names → o'.held ≡ o.held → StandsOver tree o → StandsOver tree o'
+stands-same tree o o' names held stands = record {
+  before = stands.before;
+  after = subst (λ ns. IsWellFormed (changed_all tree ns)) (sym names) stands.after;
+  applies = ap (apply_all tree) names ∙ stands.applies;
+  held = λ name. ap (λ hs. seat_at hs name) held ∙ stands.held name ∙ ap (λ ns. last_seat (each_change seats_of tree ns) name) (sym names);
+}
+
+-- what was there before counts by its names and its files alone
+pub changed-from : (tree : Tree) (fixed : List ℕ) (id : Id) (c : Change) (o p o' : OverlayState) (r r' : ReserveState) → o.names ≡ p.names → o.written ≡ p.written → IsChanged tree fixed id c o o' r r' → IsChanged tree fixed id c p o' r r'
+changed-from tree fixed id c o p o' r r' names written is = record {
+  names = is.names ∙ ap (λ ns. ns ++ filter is_of_names (c ∷ [])) names;
+  written = is.written ∙ (λ i. written_with (λ file. if has_made (names i) file then [] else fixed) (written i) c);
+  stands = is.stands;
+  holds = subst (λ ns. HoldsToo (node_of c) (places_of (changed_all tree ns) c) (dropped_directory (changed_all tree ns) c) (list_any (λ node. true) (moved_directory (changed_all tree ns) c)) id r r') names is.holds;
+}
+
+pub bare-same : (o o' : OverlayState) → o'.names ≡ o.names → o'.held ≡ o.held → o'.written ≡ o.written → bare o' ≡ bare o
+bare-same o o' names held written = λ i. record { names = names i; held = held i; written = written i; spare = 0 }
+
+-- ---- the list of what transactions changed
+
+pub is_place : (os : List OwnHeld) (id : Id) (i : ℕ) (o : OwnHeld) → i < length os → o ≡ get_or os i o → same_id o.transaction id ≡ true → overlay_in (drop i os) id ≡ overlay_in os id
+    → ((new : OverlayState) → take i os ++ with_overlay (drop i os) id new ≡ with_overlay os id new) → IsPlaceOf os id i
+is_place os id i o within is same found puts =
+    let rest = rest_is os i o within is in
+    record {
+      within = within;
+      found = λ d. sym found ∙ ap (λ l. overlay_in l id) rest ∙ found-here o (drop (suc i) os) same ∙ ap (λ (p : OwnHeld). Some p.overlay) (get_or_read os i o within is d);
+      put = λ new d.
+          sym (puts new) ∙ ap (λ l. take i os ++ with_overlay l id new) rest ∙ ap (λ l. take i os ++ l) (put-here o (drop (suc i) os) new same)
+          ∙ sym (set_split os i (record o { overlay = new }) within) ∙ ap (λ (p : OwnHeld). set os i (record p { overlay = new })) (get_or_read os i o within is d);
+    }
+  where
+    found-here : (p : OwnHeld) (ps : List OwnHeld) → same_id p.transaction id ≡ true → overlay_in (p ∷ ps) id ≡ Some p.overlay
+    found-here p ps here = rw here refl
+
+    put-here : (p : OwnHeld) (ps : List OwnHeld) (new : OverlayState) → same_id p.transaction id ≡ true → with_overlay (p ∷ ps) id new ≡ record p { overlay = new } ∷ ps
+    put-here p ps new here = rw here refl
+
+-- a transaction that is not there comes to the end
+with-new : (os : List OwnHeld) (id : Id) (o : OverlayState) → overlay_in os id ≡ None → with_overlay os id o ≡ os ++ record { transaction = id; overlay = o } ∷ []
+with-new [] id o none = refl
+with-new (p ∷ ps) id o none = elim (cases_Bool (same_id p.transaction id)) [
+  | inl same ↦ absurd (none-some p.overlay (sym (rw same at none)))
+  | inr other ↦ rw other (ap (λ qs. p ∷ qs) (with-new ps id o (rw other at none)))
+]
+
+-- its first change
+pub changed-first : (tree : Tree) (fixed : List ℕ) (id : Id) (c : Change) (os os' : List OwnHeld) (o o' : OverlayState) (r r' : ReserveState) → overlay_in os id ≡ None → os' ≡ os ++ record { transaction = id; overlay = o' } ∷ []
+    → o.names ≡ [] → o.written ≡ [] → IsChanged tree fixed id c o o' r r' → IsChangedIn tree fixed id c os os' r r'
+changed-first tree fixed id c os os' o o' r r' none pushed names written is = record {
+  overlay = o';
+  list = pushed ∙ sym (with-new os id o' none);
+  is = subst (λ (now : Option OverlayState). IsChanged tree fixed id c (or_unchanged now) o' r r') (sym none) (changed-from tree fixed id c o unchanged o' r r' names written is);
+}
+
+-- where only memory differs
+bare-set : (os : List OwnHeld) (i : ℕ) (o : OwnHeld) (d : OwnHeld) → i < length os → bare_own o ≡ bare_own (get_or os i d) → map bare_own (set os i o) ≡ map bare_own os
+bare-set [] i o d within same = refl
+bare-set (p ∷ ps) zero o d within same = ap (λ q. q ∷ map bare_own ps) same
+bare-set (p ∷ ps) (suc i) o d within same = ap (λ qs. bare_own p ∷ qs) (bare-set ps i o d (omega arith) same)
+
+-- where only the memory of one is another
+pub bare-at : (os : List OwnHeld) (i : ℕ) (d : OwnHeld) (id : Id) (o o' : OverlayState) → i < length os → record { transaction = id; overlay = o } ≡ d → d ≡ get_or os i d → bare o' ≡ bare o
+    → map bare_own (set os i (record { transaction = id; overlay = o' })) ≡ map bare_own os
+bare-at os i d id o o' within is at same = bare-set os i (record { transaction = id; overlay = o' }) d within ((λ j. record { transaction = id; overlay = same j }) ∙ ap bare_own is ∙ ap bare_own at)
+
+-- ---- results
+
+pub on_ok : {T E : Type 0} {P Q : Type 0} (r : Result T E) → OnOk r P → (P → Q) → OnOk r Q
+on_ok (Ok x) p f = f p
+on_ok (Err e) p f = tt
+
+pub on_err : {T E : Type 0} {P Q : Type 0} (r : Result T E) → OnErr r P → (P → Q) → OnErr r Q
+on_err (Ok x) p f = tt
+on_err (Err e) p f = f p

@@ -1,0 +1,88 @@
+-- What one change of a transaction makes of the parts of the files in memory. No public clause cites this module.
+use Rattle.std.specs.Prelude.{◌≡◌, ℕ, ◌<◌, ◌&&◌, ◌||◌, true, Bool, List, [], ◌∷◌, ◌++◌, filter, length, Option, Some, None, if◌then◌else◌, slice_index_or, slice_set}
+use Rattle.std.specs.List.{list_any}
+use Rattle.ktm_base.specs.declared.id.Id.{Id}
+use Rattle.ktm_types.specs.declared.change.Change.{Change}
+use Rattle.ktm_types.specs.declared.change.Change.TheVariants.{Make, Put, Cut, Move, Drop}
+use Rattle.ktm_world.specs.Changes.{has_made, node_of}
+use Rattle.ktm_world.specs.Holds.{Place, directories_of, dropped_directory, is_in, is_place_in, moved_directory, place, places_of}
+use Rattle.ktm_world.specs.Transactions.{same_id}
+use Rattle.ktm_world.specs.Tree.{Tree}
+use Rattle.txf_overlay.specs.Laws.{written_with}
+use Rattle.txf_overlay.specs.OverlayState.{OverlayState, Written, is_of_names, seen}
+use Rattle.txf_overlay.specs.Views.{StandsOver}
+use Rattle.txf_reserve.specs.ReserveState.{ReserveState, holds_in}
+use Rattle.txf_volume.specs.Held.{OwnHeld, overlay_in}
+
+-- ---- the list of what transactions changed
+
+-- a transaction has changed this from now on
+abbrev pub with_overlay : List OwnHeld → Id → OverlayState → List OwnHeld
+with_overlay [] id o = record { transaction = id; overlay = o } ∷ []
+with_overlay (p ∷ ps) id o = if same_id p.transaction id then record p { overlay = o } ∷ ps else p ∷ with_overlay ps id o
+
+-- what a transaction changed is found at this place, and changed there
+pub record IsPlaceOf (overlays : List OwnHeld) (id : Id) (i : ℕ) : Type 0 where
+  pub within : i < length overlays
+  pub found : (d : OwnHeld) → overlay_in overlays id ≡ Some (slice_index_or overlays i d).overlay
+  pub put : (o : OverlayState) (d : OwnHeld) → with_overlay overlays id o ≡ slice_set overlays i (record (slice_index_or overlays i d) { overlay = o })
+
+-- a transaction that changed nothing
+abbrev pub unchanged : OverlayState
+unchanged = record { names = []; held = []; written = []; spare = 0 }
+
+-- what a transaction changed, or that it changed nothing
+abbrev pub or_unchanged : Option OverlayState → OverlayState
+or_unchanged None = unchanged
+or_unchanged (Some o) = o
+
+-- without how much memory there is
+abbrev pub bare : OverlayState → OverlayState
+bare o = record o { spare = 0 }
+
+-- the same of an entry
+abbrev pub bare_own : OwnHeld → OwnHeld
+bare_own o = record o { overlay = bare o.overlay }
+
+-- ---- one change
+
+-- the bytes from which changes of a file start: none where the transaction made it, and else those that are fixed
+abbrev pub starts : OverlayState → List ℕ → ℕ → List ℕ
+starts o fixed file = if has_made o.names file then [] else fixed
+
+-- the files that are written once a change is made
+abbrev pub written_next : OverlayState → List ℕ → Change → List Written
+written_next o fixed c = written_with (starts o fixed) o.written c
+
+-- the place to which a change brings its node
+abbrev pub brought : Change → Option Place
+brought (Make node parent kind name) = Some (place parent name)
+brought (Put node offset contents) = None
+brought (Cut node size pages) = None
+brought (Move node parent name) = Some (place parent name)
+brought (Drop node) = None
+
+-- the transaction holds this too
+pub record HoldsToo (node : ℕ) (places : List Place) (dropped : List ℕ) (moves : Bool) (id : Id) (r r' : ReserveState) : Type 0 where
+  pub nodes : (who : Id) (n : ℕ) → is_in (holds_in r' who).nodes n ≡ (is_in (holds_in r who).nodes n || (same_id who id && is_in (node ∷ []) n))
+  pub names : (who : Id) (p : Place) → is_place_in (holds_in r' who).places p ≡ (is_place_in (holds_in r who).places p || (same_id who id && is_place_in places p))
+  pub uses : (who : Id) (n : ℕ) → is_in (holds_in r' who).uses n ≡ (is_in (holds_in r who).uses n || (same_id who id && is_in (directories_of places) n))
+  pub drops : (who : Id) (n : ℕ) → is_in (holds_in r' who).dropped n ≡ (is_in (holds_in r who).dropped n || (same_id who id && is_in dropped n))
+  pub right : (who : Id) → (holds_in r' who).moves ≡ ((holds_in r who).moves || (same_id who id && moves))
+
+-- the transaction holds what a change of this tree holds, too
+abbrev pub HoldsChange : Tree → Change → Id → ReserveState → ReserveState → Type 0
+HoldsChange tree c id r r' = HoldsToo (node_of c) (places_of tree c) (dropped_directory tree c) (list_any (λ node. true) (moved_directory tree c)) id r r'
+
+-- a transaction has made a change, and holds it
+pub record IsChanged (tree : Tree) (fixed : List ℕ) (id : Id) (c : Change) (o o' : OverlayState) (r r' : ReserveState) : Type 0 where
+  pub names : o'.names ≡ o.names ++ filter is_of_names (c ∷ [])
+  pub written : o'.written ≡ written_next o fixed c
+  pub stands : StandsOver tree o'
+  pub holds : HoldsChange (seen tree o) c id r r'
+
+-- the same in the list of what transactions changed
+pub record IsChangedIn (tree : Tree) (fixed : List ℕ) (id : Id) (c : Change) (os os' : List OwnHeld) (r r' : ReserveState) : Type 0 where
+  pub overlay : OverlayState
+  pub list : os' ≡ with_overlay os id overlay
+  pub is : IsChanged tree fixed id c (or_unchanged (overlay_in os id)) overlay r r'

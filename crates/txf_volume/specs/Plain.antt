@@ -1,0 +1,89 @@
+-- What a plain call needs, and what it makes of the parts of the files in memory.
+use Rattle.std.specs.Prelude.{◌≡◌, ℕ, ◌+◌, ◌-◌, ◌<◌, ◌^◌, ◌==◌, ◌&&◌, Bool, true, false, List, [], find, Option, Some, None, is_some, All, IfSome, if◌then◌else◌}
+use Rattle.std.specs.List.{list_any}
+use Rattle.ktm_laws.specs.Reservations.{IsLeft}
+use Rattle.ktm_types.specs.declared.change.Change.{Change}
+use Rattle.ktm_world.specs.Changes.{applies, apply_all, changed, changes_bytes, is_make, node_of}
+use Rattle.ktm_world.specs.Committed.{version_of}
+use Rattle.ktm_world.specs.FileOutcome.{FileOutcome}
+use Rattle.ktm_world.specs.Files.{FilesNow, OpenFile, OwnChanges}
+use Rattle.ktm_world.specs.Holds.{holds_by}
+use Rattle.ktm_world.specs.Tree.{Tree, bytes_of, units_of}
+use Rattle.txf_overlay.specs.OverlayState.{OverlayState, own_of}
+use Rattle.txf_tree.specs.TreeState.{TreeState, fits, tree_of, versions_of}
+use Rattle.txf_versions.specs.VersionsState.{VersionsState, is_pinned, is_version, older_units}
+use Rattle.txf_versions.specs.declared.kept.Older.{Older}
+use Rattle.txf_versions.specs.declared.opened.Opened.{Opened}
+use Rattle.txf_volume.specs.Held.{FilesHeld}
+use Rattle.txf_volume.specs.Ties.{is_last}
+use Rattle.txf_volume.specs.Uses.{ends}
+
+-- ---- what a plain call is
+
+-- its change applies to what is committed; the number of a node that it makes is in no first open; and versions do not come to their end
+pub record IsPlainChange (files : FilesNow) (change : Change) : Type 0 where
+  pub does_apply : applies files.tree change ≡ true
+  pub fresh : is_make change ≡ true → list_any (λ o. o.file == node_of change) files.first_opens ≡ false
+  pub few : version_of files.versions (node_of change) < 2 ^ 64 - 2
+
+-- a file that it opens is a plain one, and has the next number
+pub record IsPlainOpen (files : FilesNow) (o : OpenFile) : Type 0 where
+  pub plain : o.transaction ≡ None
+  pub next : o.number ≡ files.table.last_open + 1
+  pub few : o.number < 2 ^ 32
+
+-- a change and an open file of a plain call
+pub record IsPlain (files : FilesNow) (o : FileOutcome) : Type 0 where
+  pub change : IfSome o.change (IsPlainChange files)
+  pub opened : IfSome o.opened (IsPlainOpen files)
+
+-- each transaction that changed anything has what it had
+abbrev pub LeavesOwn : FilesNow → FilesNow → Type 0
+LeavesOwn files after = All (λ (o : OwnChanges). IsLeft files after o.transaction) files.table.own
+
+-- ---- what it needs
+
+-- did somebody first open the last version of the file
+abbrev pub is_last_pinned : TreeState → List Opened → ℕ → Bool
+is_last_pinned tree opens file = is_pinned opens file (version_of (versions_of tree) file)
+
+-- the bytes of which a change needs a copy: those of a file that it changes, where somebody first opened them
+abbrev pub copied_for : TreeState → List Opened → Change → Option (List ℕ)
+copied_for tree opens change =
+    if changes_bytes change && is_last_pinned tree opens (node_of change) then Some (bytes_of (tree_of tree) (node_of change)) else None
+
+-- the bytes of which a call needs a copy
+abbrev pub copied : FilesHeld → Option Change → Option (List ℕ)
+copied h None = None
+copied h (Some change) = copied_for h.tree h.versions.opens change
+
+-- the memory is there that a call takes: for its change and an open file, and a copy of what it changes, where that is needed
+pub record IsReady (h : FilesHeld) (o : FileOutcome) (copy : Option (List ℕ)) : Type 0 where
+  pub change : IfSome o.change (λ change. fits h.tree change ≡ true)
+  pub opened : is_some o.opened ≡ true → 0 < h.opens.spare
+  pub copy_is : copy ≡ copied h o.change
+
+-- ---- what it makes of the parts; no public clause cites what follows
+
+-- does the change end the version that was first opened
+abbrev pub is_ended : TreeState → Change → Opened → Bool
+is_ended tree change o = ends change && o.file == node_of change && is_last tree o
+
+-- the bytes of a version that was first opened
+abbrev pub opened_bytes : TreeState → Opened → Older
+opened_bytes tree o = record { file = o.file; version = o.version; bytes = bytes_of (tree_of tree) o.file }
+
+-- of versions that were first opened, that which the change ends is kept then, and the others are as they were
+abbrev pub KeepsEnded : TreeState → Change → List Opened → List Older → List Older → Type 0
+KeepsEnded tree change opens older older' =
+    All (λ o. find (is_version o.file o.version) older' ≡ (if is_ended tree change o then Some (opened_bytes tree o) else find (is_version o.file o.version) older)) opens
+
+-- what is kept can be counted with the bytes that the change ends
+abbrev pub CanBeKept : TreeState → Change → VersionsState → Type 0
+CanBeKept tree change versions =
+    ends change ≡ true → is_last_pinned tree versions.opens (node_of change) ≡ true → older_units versions.older + units_of (bytes_of (tree_of tree) (node_of change)) < 2 ^ 64
+
+-- what a transaction changed applies behind the change too, and holds what it held
+pub record IsLeftOver (tree : Tree) (change : Change) (o : OverlayState) : Type 0 where
+  pub apply : apply_all (changed tree change) (own_of o) ≡ true
+  pub holds : holds_by (changed tree change) (own_of o) [] ≡ holds_by tree (own_of o) []

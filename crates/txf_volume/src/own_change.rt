@@ -1,0 +1,311 @@
+// One change more of a transaction, in what it changed and in what it holds.
+ghost use Rattle.std.specs.Prelude.{◌≡◌, ℕ, ◌<◌, ◌^◌, List, [], ◌∷◌, All, MatchOption, None, Some, OnOk, OnErr, is_some, map, true, if◌then◌else◌};
+ghost use Rattle.ktm_types.specs.declared.recorded.Node.{Node};
+ghost use Rattle.ktm_types.specs.declared.change.Change.TheVariants.{Make, Put, Cut, Move, Drop};
+ghost use Rattle.ktm_world.specs.Changes.{applies, bytes_in, changed};
+ghost use Rattle.ktm_world.specs.Tree.{Tree as Nodes, IsWellFormed, node_at};
+ghost use Rattle.txf_overlay.specs.OverlayState.{seen};
+ghost use Rattle.txf_overlay.specs.Views.{StandsOver};
+ghost use Rattle.txf_overlay.specs.Written.{total_units};
+ghost use Rattle.txf_reserve.specs.Acts.{listed};
+ghost use Rattle.txf_tree.specs.TreeState.{tree_of};
+ghost use Rattle.txf_volume.specs.Held.{overlay_in};
+ghost use Rattle.txf_volume.specs.OwnParts.{bare, bare_own, or_unchanged, starts, unchanged, written_next, IsChanged, IsChangedIn, IsPlaceOf};
+ghost use Rattle.txf_volume.specs.Ties.{IsOver};
+
+use crate::change::bytes_in;
+use crate::holding::{
+    hold_dropped, hold_file, hold_made, hold_moved, is_directory_seen, place_seen,
+};
+use crate::own::Own;
+use ktm_base::{Id, NoMemory, Text};
+use ktm_laws::law_of_forms;
+use ktm_types::{Change, Contents, NodeKind};
+use std::alloc::Global;
+use txf_calls::Place;
+use txf_overlay::Overlay;
+use txf_reserve::Reserve;
+use txf_tree::Tree;
+
+// The bytes from which changes of a file start.
+fn starts<'a>(overlay: &Overlay, fixed: &'a [u8], file: u64) -> &'a [u8]
+    ensures { result.now ≡ starts overlay.now fixed.now file }
+{
+    if overlay.has_made(file) { &[] } else { fixed }
+}
+
+// Puts bytes of a file, which then is held.
+fn put(
+    reserve: &mut Reserve,
+    overlay: &mut Overlay,
+    transaction: Id,
+    fixed: &[u8],
+    node: u64,
+    offset: u64,
+    contents: &Contents,
+) -> Result<(), NoMemory>
+    requires spare { 0 < reserve.old.spare }
+    requires few { total_units (written_next overlay.old fixed.now (Put node offset contents.now)) < 2 ^ 64 }
+    ensures ok { OnOk result ((tree : Nodes) → StandsOver tree overlay.old → IsChanged tree fixed.now transaction (Put node offset contents.now) overlay.old overlay.new reserve.old reserve.new) }
+    ensures err { OnErr result (bare overlay.new ≡ bare overlay.old) }
+    ensures same { OnErr result (reserve.new ≡ reserve.old) }
+{
+    let first = starts(overlay, fixed, node);
+    if let Err(NoMemory) = overlay.put(node, first, offset, bytes_in(contents)) {
+        return Err(NoMemory);
+    }
+    hold_file(reserve, transaction, node);
+    Ok(())
+}
+
+// Leaves so many bytes of a file, which then is held.
+fn cut(
+    reserve: &mut Reserve,
+    overlay: &mut Overlay,
+    transaction: Id,
+    fixed: &[u8],
+    node: u64,
+    size: u64,
+) -> Result<(), NoMemory>
+    requires spare { 0 < reserve.old.spare }
+    requires few { (pages : List ℕ) → total_units (written_next overlay.old fixed.now (Cut node size pages)) < 2 ^ 64 }
+    ensures ok { OnOk result ((tree : Nodes) (pages : List ℕ) → StandsOver tree overlay.old → IsChanged tree fixed.now transaction (Cut node size pages) overlay.old overlay.new reserve.old reserve.new) }
+    ensures err { OnErr result (bare overlay.new ≡ bare overlay.old) }
+    ensures same { OnErr result (reserve.new ≡ reserve.old) }
+{
+    let first = starts(overlay, fixed, node);
+    if let Err(NoMemory) = overlay.cut(node, first, size) {
+        return Err(NoMemory);
+    }
+    hold_file(reserve, transaction, node);
+    Ok(())
+}
+
+// Makes a node, which then is held with its name.
+fn make(
+    reserve: &mut Reserve,
+    overlay: &mut Overlay,
+    transaction: Id,
+    node: u64,
+    parent: u64,
+    kind: NodeKind,
+    name: Text,
+)
+    requires spare { 0 < reserve.old.spare }
+    requires room { 0 < overlay.old.spare }
+    requires applies { (tree : Nodes) × StandsOver tree overlay.old × (applies (seen tree overlay.old) (Make node parent kind name) ≡ true) }
+    ensures { (tree : Nodes) (fixed : List ℕ) → StandsOver tree overlay.old → applies (seen tree overlay.old) (Make node parent kind name) ≡ true → IsWellFormed (changed (seen tree overlay.old) (Make node parent kind name)) → IsChanged tree fixed transaction (Make node parent kind name) overlay.old overlay.new reserve.old reserve.new }
+{
+    let at = Place {
+        directory: parent,
+        name: name.as_slice(),
+    };
+    hold_made(reserve, transaction, node, at);
+    overlay.make(node, parent, kind, name);
+}
+
+// Moves a node, which then is held with both names.
+fn move_to(
+    tree: &Tree,
+    reserve: &mut Reserve,
+    overlay: &mut Overlay,
+    transaction: Id,
+    node: u64,
+    parent: u64,
+    name: Text,
+)
+    requires spare { 0 < reserve.old.spare }
+    requires room { 0 < overlay.old.spare }
+    requires stands { StandsOver (tree_of tree.now) overlay.old }
+    requires applies { applies (seen (tree_of tree.now) overlay.old) (Move node parent name) ≡ true }
+    ensures { (fixed : List ℕ) → IsWellFormed (changed (seen (tree_of tree.now) overlay.old) (Move node parent name)) → IsChanged (tree_of tree.now) fixed transaction (Move node parent name) overlay.old overlay.new reserve.old reserve.new }
+{
+    let from = place_seen(tree, overlay, node);
+    let to = Place {
+        directory: parent,
+        name: name.as_slice(),
+    };
+    let is_directory = is_directory_seen(tree, overlay, node);
+    hold_moved(reserve, transaction, node, from, to, is_directory);
+    overlay.move_to(tree, node, parent, name);
+}
+
+// The node, where it is a directory.
+fn if_directory(tree: &Tree, overlay: &Overlay, node: u64) -> Option<u64>
+    requires { StandsOver (tree_of tree.now) overlay.now }
+    ensures { (x : Node) → node_at (seen (tree_of tree.now) overlay.now) node ≡ Some x → listed result ≡ (if is_some x.content then [] else node ∷ []) }
+{
+    if is_directory_seen(tree, overlay, node) {
+        Some(node)
+    } else {
+        None
+    }
+}
+
+// Drops a node, which then is held with its name.
+fn remove(tree: &Tree, reserve: &mut Reserve, overlay: &mut Overlay, transaction: Id, node: u64)
+    requires spare { 0 < reserve.old.spare }
+    requires room { 0 < overlay.old.spare }
+    requires stands { StandsOver (tree_of tree.now) overlay.old }
+    requires applies { applies (seen (tree_of tree.now) overlay.old) (Drop node) ≡ true }
+    ensures { (fixed : List ℕ) → IsWellFormed (changed (seen (tree_of tree.now) overlay.old) (Drop node)) → IsChanged (tree_of tree.now) fixed transaction (Drop node) overlay.old overlay.new reserve.old reserve.new }
+{
+    let at = place_seen(tree, overlay, node);
+    let dropped = if_directory(tree, overlay, node);
+    hold_dropped(reserve, transaction, node, at, dropped);
+    overlay.remove(tree, node);
+}
+
+// Makes a change, for which there is room, and holds what it holds.
+fn change_overlay(
+    tree: &Tree,
+    reserve: &mut Reserve,
+    overlay: &mut Overlay,
+    transaction: Id,
+    fixed: &[u8],
+    change: Change,
+) -> Result<(), NoMemory>
+    requires spare { 0 < reserve.old.spare }
+    requires room { 0 < overlay.old.spare }
+    requires stands { StandsOver (tree_of tree.now) overlay.old }
+    requires applies { applies (seen (tree_of tree.now) overlay.old) change ≡ true }
+    requires few { total_units (written_next overlay.old fixed.now change) < 2 ^ 64 }
+    ensures ok { OnOk result (IsChanged (tree_of tree.now) fixed.now transaction change overlay.old overlay.new reserve.old reserve.new) }
+    ensures err { OnErr result (bare overlay.new ≡ bare overlay.old) }
+    ensures same { OnErr result (reserve.new ≡ reserve.old) }
+{
+    law_of_forms();
+    match change {
+        Change::Make {
+            node,
+            parent,
+            kind,
+            name,
+        } => {
+            make(reserve, overlay, transaction, node, parent, kind, name);
+            Ok(())
+        }
+        Change::Put {
+            node,
+            offset,
+            contents,
+        } => put(
+            reserve,
+            overlay,
+            transaction,
+            fixed,
+            node,
+            offset,
+            &contents,
+        ),
+        Change::Cut { node, size, .. } => { cut(reserve, overlay, transaction, fixed, node, size) }
+        Change::Move { node, parent, name } => {
+            move_to(tree, reserve, overlay, transaction, node, parent, name);
+            Ok(())
+        }
+        Change::Drop { node } => {
+            remove(tree, reserve, overlay, transaction, node);
+            Ok(())
+        }
+    }
+}
+
+// Where what a transaction changed is.
+fn place_of(overlays: &[Own], transaction: Id) -> Option<usize>
+    ensures { MatchOption result (overlay_in overlays.now transaction ≡ None) (IsPlaceOf overlays.now transaction) }
+{
+    for (i, own) in overlays.iter().enumerate() {
+        if own.transaction == transaction {
+            return Some(i);
+        }
+    }
+    None
+}
+
+// Makes a change of a transaction whose changes are at this place.
+fn change_at(
+    tree: &Tree,
+    reserve: &mut Reserve,
+    overlays: &mut Vec<Own>,
+    place: usize,
+    transaction: Id,
+    fixed: &[u8],
+    change: Change,
+) -> Result<(), NoMemory>
+    requires spare { 0 < reserve.old.spare }
+    requires place { IsPlaceOf overlays.old.items transaction place }
+    requires over { All (λ o. IsOver (tree_of tree.now) o.overlay) overlays.old.items }
+    requires applies { applies (seen (tree_of tree.now) (or_unchanged (overlay_in overlays.old.items transaction))) change ≡ true }
+    requires few { total_units (written_next (or_unchanged (overlay_in overlays.old.items transaction)) fixed.now change) < 2 ^ 64 }
+    ensures ok { OnOk result (IsChangedIn (tree_of tree.now) fixed.now transaction change overlays.old.items overlays.new.items reserve.old reserve.new) }
+    ensures err { OnErr result (map bare_own overlays.new.items ≡ map bare_own overlays.old.items) }
+    ensures same { OnErr result (reserve.new ≡ reserve.old) }
+{
+    let overlay = &mut overlays[place].overlay;
+    if let Err(NoMemory) = overlay.reserve(1) {
+        return Err(NoMemory);
+    }
+    change_overlay(tree, reserve, overlay, transaction, fixed, change)
+}
+
+// Makes the first change of a transaction. One that cannot be made leaves nothing behind.
+fn change_first(
+    tree: &Tree,
+    reserve: &mut Reserve,
+    overlays: &mut Vec<Own>,
+    alloc: Global,
+    transaction: Id,
+    fixed: &[u8],
+    change: Change,
+) -> Result<(), NoMemory>
+    requires spare { 0 < reserve.old.spare }
+    requires first { overlay_in overlays.old.items transaction ≡ None }
+    requires formed { IsWellFormed (tree_of tree.now) }
+    requires applies { applies (tree_of tree.now) change ≡ true }
+    requires few { total_units (written_next unchanged fixed.now change) < 2 ^ 64 }
+    ensures ok { OnOk result (IsChangedIn (tree_of tree.now) fixed.now transaction change overlays.old.items overlays.new.items reserve.old reserve.new) }
+    ensures err { OnErr result (overlays.new.items ≡ overlays.old.items) }
+    ensures same { OnErr result (reserve.new ≡ reserve.old) }
+{
+    if let Err(_) = overlays.reserve(1) {
+        return Err(NoMemory);
+    }
+    let mut overlay = Overlay::new(alloc);
+    if let Err(NoMemory) = overlay.reserve(1) {
+        return Err(NoMemory);
+    }
+    if let Err(NoMemory) = change_overlay(tree, reserve, &mut overlay, transaction, fixed, change) {
+        return Err(NoMemory);
+    }
+    overlays.push_reserved(Own {
+        transaction,
+        overlay,
+    });
+    Ok(())
+}
+
+/// Makes a change of a transaction, and holds what it holds; a file that it has not written starts from these bytes, if the
+/// transaction has not made it.
+pub(crate) fn change_own(
+    tree: &Tree,
+    reserve: &mut Reserve,
+    overlays: &mut Vec<Own>,
+    alloc: Global,
+    transaction: Id,
+    fixed: &[u8],
+    change: Change,
+) -> Result<(), NoMemory>
+    requires spare { 0 < reserve.old.spare }
+    requires over { All (λ o. IsOver (tree_of tree.now) o.overlay) overlays.old.items }
+    requires formed { IsWellFormed (tree_of tree.now) }
+    requires applies { applies (seen (tree_of tree.now) (or_unchanged (overlay_in overlays.old.items transaction))) change ≡ true }
+    requires few { total_units (written_next (or_unchanged (overlay_in overlays.old.items transaction)) fixed.now change) < 2 ^ 64 }
+    ensures ok { OnOk result (IsChangedIn (tree_of tree.now) fixed.now transaction change overlays.old.items overlays.new.items reserve.old reserve.new) }
+    ensures err { OnErr result (map bare_own overlays.new.items ≡ map bare_own overlays.old.items) }
+    ensures same { OnErr result (reserve.new ≡ reserve.old) }
+{
+    match place_of(overlays, transaction) {
+        Some(place) => change_at(tree, reserve, overlays, place, transaction, fixed, change),
+        None => change_first(tree, reserve, overlays, alloc, transaction, fixed, change),
+    }
+}

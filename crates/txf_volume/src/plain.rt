@@ -1,0 +1,172 @@
+// What a plain call makes of the files, in two steps: it takes its memory, and once its change is recorded it is made.
+ghost use Rattle.std.specs.Prelude.{◌≡◌, ◌==◌, ◌&&◌, ◌+◌, ◌-◌, ◌<◌, ◌^◌, ℕ, find, None, Some, All, IfOk, IsOk, true, if◌then◌else◌};
+ghost use Rattle.ktm_world.specs.Changes.{applies, changed, changes_bytes, is_make, next_after, node_of};
+ghost use Rattle.ktm_world.specs.Committed.{version_of, versions_after};
+ghost use Rattle.ktm_world.specs.FileOutcome.{changing, files_after, with_open};
+ghost use Rattle.ktm_world.specs.Tree.{is_file, numbers_rise, units_of};
+ghost use Rattle.txf_calls.specs.Views.{open_of};
+ghost use Rattle.txf_tree.specs.TreeState.{fits, tree_of, versions_of};
+ghost use Rattle.txf_versions.specs.VersionsState.{is_pinned, is_version, older_units};
+ghost use Rattle.txf_volume.specs.Held.{files_of};
+ghost use Rattle.txf_volume.specs.Plain.{copied_for, CanBeKept, IsLeftOver, IsPlain, IsPlainChange, IsPlainOpen, IsReady, KeepsEnded, LeavesOwn};
+ghost use Rattle.txf_volume.specs.Ties.{IsKeptOpen};
+ghost use Rattle.txf_volume.specs.Uses.{tree_units};
+ghost use Rattle.txf_volume.specs.Writes.{CanBeCounted};
+
+use crate::change::{changes_bytes, gain, loss, next_after, node_of};
+use crate::files::{Files, law_of_older};
+use ktm_base::{Bytes, NoMemory};
+use ktm_laws::law_of_forms;
+use ktm_types::Change;
+use std::marker::Model;
+use txf_calls::{OpenFile, Plan};
+use txf_overlay::law_of_other_trees;
+use txf_tree::Tree;
+use txf_versions::Versions;
+
+/// A plain call for which the memory is there: a copy of the bytes that its change ends, where they have to be kept.
+#[derive(Drop)]
+pub struct Ready {
+    kept: Option<Bytes>,
+}
+
+impl Model for Ready {
+    ghost use Rattle.std.specs.Prelude.{ℕ, List, Option};
+
+    ghost Value = { Option (List ℕ) };
+
+    ghost view = { λ r. r.kept };
+}
+
+// The units of the committed files, once a change is made.
+fn units_after(tree: &Tree, units: u64, change: &Change) -> u64
+    requires rise { numbers_rise (tree_of tree.now) ≡ true }
+    requires file { changes_bytes change.now ≡ true → is_file (tree_of tree.now) (node_of change.now) ≡ true }
+    requires sum { units ≡ tree_units (tree_of tree.now) }
+    requires few { tree_units (changed (tree_of tree.now) change.now) < 2 ^ 64 }
+    ensures { result ≡ tree_units (changed (tree_of tree.now) change.now) }
+{
+    let was = tree.content(node_of(change));
+    (units as u128 + gain(was, change) - loss(was, change)) as u64
+}
+
+// Keeps the bytes of a version, where somebody first opened it.
+fn keep_pinned(versions: &mut Versions, file: u64, version: u64, bytes: Bytes)
+    requires absent { is_pinned versions.old.opens file version ≡ true → find (is_version file version) versions.old.older ≡ None }
+    requires few { is_pinned versions.old.opens file version ≡ true → older_units versions.old.older + units_of bytes < 2 ^ 64 }
+    ensures opens { versions.new.opens ≡ versions.old.opens }
+    ensures found { (f v : ℕ) → is_pinned versions.old.opens f v ≡ true → find (is_version f v) versions.new.older ≡ (if file == f && version == v then Some (record { file = file; version = version; bytes = bytes }) else find (is_version f v) versions.old.older) }
+{
+    if versions.is_pinned(file, version) {
+        versions.keep(file, version, bytes);
+    }
+}
+
+// Makes a change, and keeps the bytes that it ends, where somebody first opened them.
+fn apply(tree: &mut Tree, versions: &mut Versions, change: Change, copy: Option<Bytes>)
+    requires does_apply { applies (tree_of tree.old) change ≡ true }
+    requires fits { fits tree.old change ≡ true }
+    requires few { version_of (versions_of tree.old) (node_of change) < 2 ^ 64 - 2 }
+    requires opened { All (IsKeptOpen tree.old versions.old.older) versions.old.opens }
+    requires counted { CanBeKept tree.old change versions.old }
+    requires copied { copy ≡ copied_for tree.old versions.old.opens change }
+    ensures tree { tree_of tree.new ≡ changed (tree_of tree.old) change }
+    ensures versions { versions_of tree.new ≡ versions_after (versions_of tree.old) change }
+    ensures opens { versions.new.opens ≡ versions.old.opens }
+    ensures older { KeepsEnded tree.old change versions.old.opens versions.old.older versions.new.older }
+{
+    let file = node_of(&change);
+    let version = tree.version(file);
+    let dropped = tree.apply(change);
+    if let Some(bytes) = copy.or(dropped) {
+        keep_pinned(versions, file, version, bytes);
+    }
+}
+
+impl Files {
+    // A copy of the bytes that a change ends, where they have to be kept and are not handed out by it.
+    fn copy_for(&self, change: &Change) -> Result<Option<Bytes>, NoMemory>
+        ensures copy { IfOk result (λ copy. copy ≡ copied_for self.now.tree self.now.versions.opens change.now) }
+        ensures enough { copied_for self.now.tree self.now.versions.opens change.now ≡ None → IsOk result }
+    {
+        let file = node_of(change);
+        if !changes_bytes(change) || !self.versions.is_pinned(file, self.tree.version(file)) {
+            return Ok(None);
+        }
+        match self.tree.content(file).to_vec(self.alloc) {
+            Ok(bytes) => Ok(Some(Bytes::new(bytes))),
+            Err(_) => Err(NoMemory),
+        }
+    }
+
+    /// Takes the memory that a plain call needs. The bytes of a file that it changes are copied where somebody first opened
+    /// them, and else nothing is copied.
+    pub fn prepare(&mut self, plan: &Plan) -> Result<Ready, NoMemory>
+        ensures same { files_of self.new ≡ files_of self.old }
+        ensures ready { IfOk result (λ ready. IsReady self.new plan.now ready) }
+        ensures enough { IsReady self.old plan.now None → IsOk result }
+    {
+        if plan.opened.is_some() {
+            if let Err(NoMemory) = self.opens.reserve(1) {
+                return Err(NoMemory);
+            }
+        }
+        let Some(change) = &plan.change else {
+            return Ok(Ready { kept: None });
+        };
+        if let Err(NoMemory) = self.tree.prepare(change) {
+            return Err(NoMemory);
+        }
+        match self.copy_for(change) {
+            Ok(kept) => Ok(Ready { kept }),
+            Err(NoMemory) => Err(NoMemory),
+        }
+    }
+
+    // Makes the change of a plain call.
+    fn commit_plain(&mut self, change: Change, copy: Option<Bytes>)
+        requires plain { IsPlainChange (files_of self.old) change }
+        requires fits { fits self.old.tree change ≡ true }
+        requires copied { copy ≡ copied_for self.old.tree self.old.versions.opens change }
+        requires left { All (λ own. IsLeftOver (tree_of self.old.tree) change own.overlay) self.old.overlays }
+        requires units { tree_units (changed (tree_of self.old.tree) change) < 2 ^ 64 }
+        requires kept { CanBeKept self.old.tree change self.old.versions }
+        ensures files { files_of self.new ≡ files_after (files_of self.old) None (changing change) }
+        ensures opens { self.new.opens ≡ self.old.opens }
+    {
+        law_of_forms();
+        law_of_other_trees();
+        self.units = units_after(&self.tree, self.units, &change);
+        self.next_node = next_after(self.next_node, &change);
+        apply(&mut self.tree, &mut self.versions, change, copy);
+    }
+
+    // Opens a file in a plain call.
+    fn open_plain(&mut self, file: OpenFile)
+        requires plain { IsPlainOpen (files_of self.old) (open_of file) }
+        requires spare { 0 < self.old.opens.spare }
+        ensures { files_of self.new ≡ record (files_of self.old) { table = with_open (files_of self.old).table (Some (open_of file)) } }
+    {
+        self.opens
+            .open(file.node, file.transaction, file.access, file.share);
+    }
+
+    /// Makes what a plain call comes to, once its change is recorded. It takes no memory.
+    pub fn settle(&mut self, plan: Plan, ready: Ready)
+        requires plain { IsPlain (files_of self.old) plan }
+        requires ready { IsReady self.old plan ready }
+        requires left { LeavesOwn (files_of self.old) (files_after (files_of self.old) None plan) }
+        requires counted { CanBeCounted (files_after (files_of self.old) None plan) }
+        ensures { files_of self.new ≡ files_after (files_of self.old) None plan }
+    {
+        law_of_older(&self.versions);
+        let Plan { change, opened, .. } = plan;
+        let Ready { kept } = ready;
+        if let Some(change) = change {
+            self.commit_plain(change, kept);
+        }
+        if let Some(file) = opened {
+            self.open_plain(file);
+        }
+    }
+}

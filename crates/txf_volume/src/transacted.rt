@@ -1,0 +1,175 @@
+// What transactions change, hold and open of the files, until they end.
+ghost use Rattle.std.specs.Prelude.{◌≡◌, ℕ, ◌<◌, Some, OnOk, OnErr, true};
+ghost use Rattle.std.specs.Option.{option_map};
+ghost use Rattle.ktm_laws.specs.OwnChange.{owned};
+ghost use Rattle.ktm_types.specs.declared.change.Change.{Change as Made};
+ghost use Rattle.ktm_world.specs.Changes.{applies};
+ghost use Rattle.ktm_world.specs.FileOutcome.{files_after};
+ghost use Rattle.ktm_world.specs.Files.{tree_seen};
+ghost use Rattle.txf_calls.specs.Views.{open_of};
+ghost use Rattle.txf_calls.specs.declared.call.OpenFile.{OpenFile as Kept};
+ghost use Rattle.txf_volume.specs.Held.{files_of, without_own};
+ghost use Rattle.txf_volume.specs.Transacted.{changed_by, first_opened, forgotten, opened_by, IsNextOpen, IsNotOpened, IsPlanOf};
+ghost use Rattle.txf_volume.specs.Uses.{IsSteady};
+ghost use Rattle.txf_volume.specs.Writes.{CanBeCounted};
+
+use crate::change::{next_after, node_of};
+use crate::files::{Files, fixed_bytes};
+use crate::own::Own;
+use crate::own_change::change_own;
+use ktm_base::{Id, NoMemory};
+use ktm_types::Change;
+use txf_calls::{OpenFile, Plan};
+use txf_overlay::law_of_own_forms;
+
+// The transaction has changed nothing from now on.
+fn drop_own(overlays: &mut Vec<Own>, transaction: Id)
+    ensures { overlays.new.items ≡ without_own overlays.old.items transaction }
+{
+    overlays.retain(|own| own.transaction != transaction);
+}
+
+impl Files {
+    // What is so of the files at every moment, as the contract of a function that does nothing.
+    fn steady(&self)
+        ensures { IsSteady (files_of self.now) }
+    {
+        let _ = &self.alloc;
+    }
+
+    // Takes the memory that a call needs whatever it changes.
+    fn make_room(&mut self) -> Result<(), NoMemory>
+        ensures files { files_of self.new ≡ files_of self.old }
+        ensures opens { OnOk result (0 < self.new.opens.spare) }
+        ensures versions { OnOk result (0 < self.new.versions.spare) }
+        ensures reserve { OnOk result (0 < self.new.reserve.spare) }
+    {
+        if let Err(NoMemory) = self.opens.reserve(1) {
+            return Err(NoMemory);
+        }
+        if let Err(NoMemory) = self.versions.reserve(1) {
+            return Err(NoMemory);
+        }
+        if let Err(NoMemory) = self.reserve.reserve(1) {
+            return Err(NoMemory);
+        }
+        Ok(())
+    }
+
+    // A change of a transaction is its own from now on, and holds what it names.
+    fn own(&mut self, transaction: Id, change: Change) -> Result<(), NoMemory>
+        requires spare { 0 < self.old.reserve.spare }
+        requires applies { applies (tree_seen (files_of self.old) (Some transaction)) change ≡ true }
+        requires counted { CanBeCounted (owned (files_of self.old) transaction change) }
+        ensures done { OnOk result (files_of self.new ≡ owned (files_of self.old) transaction change) }
+        ensures same { OnErr result (files_of self.new ≡ files_of self.old) }
+        ensures opens { self.new.opens ≡ self.old.opens }
+        ensures versions { self.new.versions ≡ self.old.versions }
+    {
+        law_of_own_forms();
+        let next = next_after(self.next_node, &change);
+        let fixed = fixed_bytes(&self.tree, &self.versions, transaction, node_of(&change));
+        if let Err(NoMemory) = change_own(
+            &self.tree,
+            &mut self.reserve,
+            &mut self.overlays,
+            self.alloc,
+            transaction,
+            fixed,
+            change,
+        ) {
+            return Err(NoMemory);
+        }
+        self.next_node = next;
+        Ok(())
+    }
+
+    // The same, if there is a change.
+    fn own_if(&mut self, transaction: Id, change: Option<Change>) -> Result<(), NoMemory>
+        requires spare { 0 < self.old.reserve.spare }
+        requires applies { (c : Made) → change ≡ Some c → applies (tree_seen (files_of self.old) (Some transaction)) c ≡ true }
+        requires counted { CanBeCounted (changed_by (files_of self.old) transaction change) }
+        ensures done { OnOk result (files_of self.new ≡ changed_by (files_of self.old) transaction change) }
+        ensures same { OnErr result (files_of self.new ≡ files_of self.old) }
+        ensures opens { self.new.opens ≡ self.old.opens }
+        ensures versions { self.new.versions ≡ self.old.versions }
+    {
+        match change {
+            Some(change) => self.own(transaction, change),
+            None => Ok(()),
+        }
+    }
+
+    // A committed file that the transaction opens first is fixed at its last version.
+    fn fix(&mut self, transaction: Id, file: u64)
+        requires spare { 0 < self.old.versions.spare }
+        requires first { IsNotOpened (files_of self.old) transaction file }
+        ensures files { files_of self.new ≡ first_opened (files_of self.old) transaction (Some file) }
+        ensures opens { self.new.opens ≡ self.old.opens }
+    {
+        let version = self.tree.version(file);
+        // The bytes of the last version are not kept beside the committed ones.
+        prove!(self.versions.older_bytes(file, version).is_none());
+        self.versions.pin(transaction, file, version);
+    }
+
+    // The same, if it opens one.
+    fn fix_if(&mut self, transaction: Id, file: Option<u64>)
+        requires spare { 0 < self.old.versions.spare }
+        requires first { (f : ℕ) → file ≡ Some f → IsNotOpened (files_of self.old) transaction f }
+        ensures files { files_of self.new ≡ first_opened (files_of self.old) transaction file }
+        ensures opens { self.new.opens ≡ self.old.opens }
+    {
+        match file {
+            Some(file) => self.fix(transaction, file),
+            None => {}
+        }
+    }
+
+    // The file is open from now on, if there is one.
+    fn open_if(&mut self, file: Option<OpenFile>)
+        requires spare { 0 < self.old.opens.spare }
+        requires next { (o : Kept) → file ≡ Some o → IsNextOpen (files_of self.old).table (open_of o) }
+        ensures { files_of self.new ≡ opened_by (files_of self.old) (option_map open_of file) }
+    {
+        if let Some(file) = file {
+            self.opens
+                .open(file.node, file.transaction, file.access, file.share);
+        }
+    }
+
+    /// Makes what a call of a transaction comes to: its change is the transaction's own from now on, and holds what it names;
+    /// a file that it opens first is fixed at its last version; a file is open. Where memory fails, nothing has changed.
+    pub fn keep(&mut self, transaction: Id, plan: Plan) -> Result<(), NoMemory>
+        requires { IsPlanOf (files_of self.old) transaction plan }
+        ensures done { OnOk result (files_of self.new ≡ files_after (files_of self.old) (Some transaction) plan) }
+        ensures same { OnErr result (files_of self.new ≡ files_of self.old) }
+    {
+        let Plan {
+            change,
+            first,
+            opened,
+            ..
+        } = plan;
+        self.steady();
+        if let Err(NoMemory) = self.make_room() {
+            return Err(NoMemory);
+        }
+        if let Err(NoMemory) = self.own_if(transaction, change) {
+            return Err(NoMemory);
+        }
+        self.fix_if(transaction, first);
+        self.open_if(opened);
+        Ok(())
+    }
+
+    /// Ends what a transaction changed, held, first opened and had open, and gives its memory back.
+    pub fn forget(&mut self, transaction: Id)
+        ensures { files_of self.new ≡ forgotten (files_of self.old) transaction }
+    {
+        drop_own(&mut self.overlays, transaction);
+        self.reserve.release(transaction);
+        self.versions.release(transaction);
+        self.opens.end_group(transaction);
+    }
+}

@@ -1,0 +1,143 @@
+// The files in memory, as the calls ask for them.
+ghost use Rattle.txf_volume.specs.Held.{files_of};
+
+use crate::check::{folded_name, place};
+use crate::files::Files;
+use crate::limits::lacks_handles;
+use ktm_base::{Id, NoMemory, Refusal, TextList};
+use ktm_names::Pattern;
+use std::alloc::Global;
+use txf_calls::{Act, Plan, Room, Volume};
+use txf_find::find;
+use txf_paths::Seen;
+use txf_reserve::Act as Held;
+
+impl Volume for Files {
+    ghost files = { files_of };
+
+    fn child(&self, who: Option<Id>, directory: u64, name: &[u8]) -> Option<Seen> {
+        match self.overlay_for(who) {
+            Some(overlay) => self.child_over(overlay, directory, name),
+            None => self.committed_child(directory, name),
+        }
+    }
+
+    fn has_entries(&self, who: Option<Id>, directory: u64) -> bool {
+        match self.overlay_for(who) {
+            Some(overlay) => overlay.has_entries(&self.tree, directory),
+            None => self.tree.has_entries(directory),
+        }
+    }
+
+    fn is_at_or_below(&self, who: Option<Id>, number: u64, other: u64) -> bool {
+        match self.overlay_for(who) {
+            Some(overlay) => overlay.is_at_or_below(&self.tree, number, other),
+            None => self.tree.is_at_or_below(number, other),
+        }
+    }
+
+    fn found(
+        &self,
+        alloc: Global,
+        who: Option<Id>,
+        directory: u64,
+        pattern: &Pattern,
+    ) -> Result<TextList, NoMemory> {
+        let entries = self.entries(who, directory)?;
+        find(alloc, &entries, pattern)
+    }
+
+    fn bytes(&self, who: Option<Id>, file: u64) -> &[u8] {
+        match who {
+            Some(transaction) => self.bytes_in(transaction, file),
+            None => self.tree.content(file),
+        }
+    }
+
+    fn is_first_opening(&self, who: Option<Id>, file: u64) -> bool {
+        // it has the numbers of the committed nodes
+        let _ = &self.tree;
+        match who {
+            Some(transaction) => !self.knows(transaction, file),
+            None => false,
+        }
+    }
+
+    fn next_node(&self) -> u64 {
+        self.next_node
+    }
+
+    fn last_open(&self) -> u32 {
+        self.opens.last()
+    }
+
+    fn check(&self, who: Option<Id>, act: Act<'_>) -> Option<Refusal> {
+        match act {
+            Act::Open {
+                file,
+                access,
+                truncates,
+                share,
+            } => {
+                let act = Held::Opens {
+                    file,
+                    access,
+                    truncates,
+                    share,
+                };
+                self.check_folded(who, &act)
+            }
+            Act::Delete { file, at } => {
+                let name = folded_name(at.name);
+                let at = place(at.directory, &name);
+                self.check_folded(who, &Held::Deletes { file, at })
+            }
+            Act::MoveFile { file, from, to } => {
+                let left = folded_name(from.name);
+                let from = place(from.directory, &left);
+                let taken = folded_name(to.name);
+                let to = place(to.directory, &taken);
+                self.check_folded(who, &Held::MovesFile { file, from, to })
+            }
+            Act::Make { at } => {
+                let name = folded_name(at.name);
+                let at = place(at.directory, &name);
+                self.check_folded(who, &Held::Makes { at })
+            }
+            Act::DropDirectory { directory, at } => {
+                let name = folded_name(at.name);
+                let at = place(at.directory, &name);
+                self.check_folded(who, &Held::DropsDirectory { directory, at })
+            }
+            Act::MoveDirectory {
+                directory,
+                from,
+                to,
+            } => {
+                let left = folded_name(from.name);
+                let from = place(from.directory, &left);
+                let taken = folded_name(to.name);
+                let to = place(to.directory, &taken);
+                let act = Held::MovesDirectory {
+                    directory,
+                    from,
+                    to,
+                };
+                self.check_folded(who, &act)
+            }
+        }
+    }
+
+    #[tactic(auto, unfolding(ktm_world::specs::FileOutcome::lacks_quota))]
+    fn lacks_quota(&self, who: Option<Id>, plan: &Plan, room: &Room) -> bool {
+        self.lacks_changes(who, plan, room)
+            || lacks_handles(plan, room)
+            || self.passes_numbers(plan)
+    }
+
+    #[tactic(auto, unfolding(ktm_world::specs::FileOutcome::lacks_disk))]
+    fn lacks_disk(&self, who: Option<Id>, plan: &Plan, room: &Room) -> bool {
+        let units = room.units as u128;
+        self.units_after(who, plan) > units || self.nodes_after(who, plan) > units
+    }
+}
