@@ -5,7 +5,6 @@ ghost use Rattle.ktm_world.specs.Conflicts.{writes};
 ghost use Rattle.ktm_world.specs.FileCalls.{Whereabouts as There, at_node, create_at, empties, emptying, first_opening, free, is_truncate_existing, new_open};
 ghost use Rattle.ktm_world.specs.Files.{tree_seen};
 ghost use Rattle.ktm_world.specs.Limits.{most_number};
-ghost use Rattle.ktm_world.specs.Tree.{numbers_rise};
 ghost use Rattle.txf_calls.specs.Calls.{file_outcome};
 ghost use Rattle.txf_calls.specs.Fits.{IsOrderly};
 ghost use Rattle.txf_calls.specs.Found.{IsFound, has_file};
@@ -103,8 +102,7 @@ fn emptying(alloc: Global, disposition: Disposition, file: u64) -> Option<Change
 
 // The file, where an open makes it the caller's first one.
 fn first_opening<V: Volume>(volume: &V, who: Option<Id>, file: u64) -> Option<u64>
-    ensures first { result ≡ first_opening (V.files volume.now) who file }
-    ensures rise { numbers_rise (V.files volume.now).tree ≡ true }
+    ensures { result ≡ first_opening (V.files volume.now) who file }
 {
     if volume.is_first_opening(who, file) {
         Some(file)
@@ -122,7 +120,8 @@ fn open_file<V: Volume>(
     modes: Modes,
     room: &Room,
 ) -> Plan
-    requires { has_file (tree_seen (V.files volume.now) who) file ≡ true }
+    requires orderly { IsOrderly (V.files volume.now) }
+    requires file { has_file (tree_seen (V.files volume.now) who) file ≡ true }
     ensures { (node : Node) → file ≡ node.number → result ≡ checked (V.files volume.now) room.now who (Open file modes.access (empties modes.disposition) modes.share) (create_at (V.files volume.now) who (at_node node) modes.access modes.share modes.disposition) }
 {
     let act = Act::Open {
@@ -166,7 +165,8 @@ fn open_taken<V: Volume>(
     modes: Modes,
     room: &Room,
 ) -> Plan
-    requires { node.is_file ≡ true → has_file (tree_seen (V.files volume.now) who) node.number ≡ true }
+    requires orderly { IsOrderly (V.files volume.now) }
+    requires file { node.is_file ≡ true → has_file (tree_seen (V.files volume.now) who) node.number ≡ true }
     ensures { (other : Node) → node ≡ seen_of other → result ≡ create_there (V.files volume.now) room.now who modes.access modes.share modes.disposition (at_node other) }
 {
     if wants_new(modes.disposition) || !node.is_file {

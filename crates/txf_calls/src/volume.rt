@@ -7,7 +7,7 @@ ghost use Rattle.ktm_world.specs.FileCalls.{entries, first_opening, listed};
 ghost use Rattle.ktm_world.specs.FileOutcome.{lacks_disk, lacks_quota};
 ghost use Rattle.ktm_world.specs.Files.{FilesNow, bytes_seen, tree_seen};
 ghost use Rattle.ktm_world.specs.Outcome.{first_refusal};
-ghost use Rattle.ktm_world.specs.Tree.{child_of, has_entries, is_at_or_below, is_there, numbers_rise};
+ghost use Rattle.ktm_world.specs.Tree.{child_of, has_entries, is_at_or_below, is_there};
 ghost use Rattle.txf_calls.specs.Fits.{IsFit};
 ghost use Rattle.txf_calls.specs.Views.{HasShortNames, act_of, is_against_sharing};
 ghost use Rattle.txf_paths.specs.Leads.{seen_of};
@@ -57,9 +57,7 @@ pub trait Volume {
     /// Does an open of the file make it the caller's first one: it is a transaction, and neither made the file nor opened it
     /// before.
     fn is_first_opening(&self, who: Option<Id>, file: u64) -> bool
-        ensures first { result ≡ is_some (first_opening (files self.now) who file) }
-        // no two committed nodes have the same number
-        ensures rise { numbers_rise (files self.now).tree ≡ true };
+        ensures { result ≡ is_some (first_opening (files self.now) who file) };
 
     /// The number of the next node.
     fn next_node(&self) -> u64

@@ -55,8 +55,6 @@ impl Volume for Files {
     }
 
     fn is_first_opening(&self, who: Option<Id>, file: u64) -> bool {
-        // it has the numbers of the committed nodes
-        let _ = &self.tree;
         match who {
             Some(transaction) => !self.knows(transaction, file),
             None => false,

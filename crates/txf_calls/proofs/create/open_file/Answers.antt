@@ -18,5 +18,5 @@ returns-in_default-next_open g c = λ node same.
 
 pub within_limits-requires : goal.within_limits-requires
 within_limits-requires g c =
-    fit-open (g.V.Volume.files c.args.volume.now) c.first_opening.ensures.rise c.args.file c.args.who (record { reply = Done; change = c.emptying.result; first = c.first_opening.result; opened = option_map open_of (Some c.in-Some-next_open.opened) }) c.args.modes.disposition
-    c.requires c.emptying.ensures c.first_opening.ensures.first
+    fit-open (g.V.Volume.files c.args.volume.now) c.requires.orderly.rise c.args.file c.args.who (record { reply = Done; change = c.emptying.result; first = c.first_opening.result; opened = option_map open_of (Some c.in-Some-next_open.opened) }) c.args.modes.disposition
+    c.requires.file c.emptying.ensures c.first_opening.ensures
