@@ -4,4 +4,5 @@ pub mod Formats
 pub mod Loads
 pub mod Folds
 pub mod LogLoads
+pub mod Spelled
 pub mod OneImage

@@ -1,6 +1,8 @@
 -- The image of a journal on a disk: a header, and behind it areas, of which one holds a snapshot and the next a log.
 use Rattle.std.specs.Prelude.{◌≡◌, ◌⊎◌, ℕ, ◌+◌, ◌-◌, ◌*◌, ◌%◌, ◌≤◌, IsTrue, List, [], ◌∷◌, ◌++◌, length, take, drop, slice_index, codes}
 use Rattle.std.specs.Int.{from_le_bytes, w16, w32}
+use Rattle.std.specs.List.{AllByRecursion}
+use Rattle.ktm_base.specs.Bytes.{AreBytes}
 use Rattle.ktm_base.specs.Disk.{DiskState, MayLeave}
 use Rattle.ktm_log.specs.declared.area.Area.{Area}
 use Rattle.ktm_log.specs.Log.{LogState, IsLog, Rests, area_bytes}
@@ -54,6 +56,10 @@ HoldGroups [] [] = Unit {0}
 HoldGroups [] (p ∷ ps) = ⊥
 HoldGroups (group ∷ log) [] = ⊥
 HoldGroups (group ∷ log) (p ∷ ps) = IsGroupOf group p × HoldGroups log ps
+
+-- each group is spelled by some list of bytes
+abbrev pub AreSpelled : List Group → Type 0
+AreSpelled log = AllByRecursion (λ group. (bytes : List ℕ) × AreBytes bytes × IsGroupOf group bytes) log
 
 -- the bytes are this image, and its groups are these
 pub record IsImage (units image : ℕ) (log : List Group) (bytes : List ℕ) : Type 0 where

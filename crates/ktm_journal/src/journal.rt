@@ -8,7 +8,7 @@ ghost use Rattle.ktm_world.specs.Logs.{Group};
 ghost use Rattle.ktm_world.specs.Outcome.{is_full};
 ghost use Rattle.ktm_types.specs.Sizes.{frame_size};
 ghost use Rattle.ktm_event.specs.Kept.{Holds};
-ghost use Rattle.ktm_journal.specs.Image.{AreInLog, HoldsLog, IsFormatted, IsHeaded, JournalAt, LeavesGroupOrNot, StandsFor, log_area};
+ghost use Rattle.ktm_journal.specs.Image.{AreInLog, AreSpelled, HoldsLog, IsFormatted, IsHeaded, JournalAt, LeavesGroupOrNot, StandsFor, log_area};
 ghost use Rattle.ktm_journal.specs.Bad.{IfBad, IsBadAt, load_went_down};
 ghost use Rattle.ktm_journal.specs.Format.{Anything};
 
@@ -93,6 +93,7 @@ impl Journal {
         ensures formatted { IfOk result (λ loaded. IfTold (D.told disk.new) (λ s. IsFormatted loaded.journal.units loaded.journal.image s.seen)) }
         ensures journal { IfOk result (λ loaded. (log : List Group) → Tells (D.told disk.old) (λ s. IsSafe s × HoldsLog loaded.state.units loaded.state.image log s.seen)
             → Tells (D.told disk.new) (JournalAt loaded.journal log)) }
+        ensures spelled { IfOk result (λ loaded. (log : List Group) → Tells (D.told disk.old) (λ s. HoldsLog loaded.state.units loaded.state.image log s.seen) → AreSpelled log) }
         ensures bad { IfBad result (λ offset. IfTold (D.told disk.old) (λ s. IsBadAt s.seen offset)) }
         ensures same { D.told disk.new ≡ D.told disk.old }
         ensures pending { (D.status disk.new).pending ≡ (D.status disk.old).pending }
@@ -131,6 +132,7 @@ impl Journal {
         ensures stands { IfOk result (λ loaded. IfTold (D.told disk.old) (λ s. StandsFor loaded.state s.seen)) }
         ensures journal { IfOk result (λ loaded. (log : List Group) → Tells (D.told disk.old) (λ s. IsSafe s × HoldsLog header.units header.image log s.seen)
             → Tells (D.told disk.new) (JournalAt loaded.journal log)) }
+        ensures spelled { IfOk result (λ loaded. (log : List Group) → Tells (D.told disk.old) (λ s. HoldsLog header.units header.image log s.seen) → AreSpelled log) }
         ensures bad { IfBad result (λ offset. IfTold (D.told disk.old) (λ s. IsBadAt s.seen offset)) }
         ensures same { D.told disk.new ≡ D.told disk.old }
         ensures pending { (D.status disk.new).pending ≡ (D.status disk.old).pending }

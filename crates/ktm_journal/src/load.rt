@@ -1,6 +1,7 @@
 // Reading an image.
 ghost use Rattle.std.specs.Prelude.{◌≡◌, ◌↔◌, ◌&&◌, ℕ, ◌+◌, ◌^◌, ◌<◌, ◌≤◌, List, length, take, drop, None, Ok, IfOk, IfSome, OnOk, IsTrue, is_err, false, true};
 ghost use Rattle.std.specs.Int.{from_le_bytes, w16, w32};
+ghost use Rattle.ktm_base.specs.Bytes.{AreBytes};
 ghost use Rattle.ktm_base.specs.Told.{IfTold};
 ghost use Rattle.ktm_base.specs.Disk.{DeviceCalls};
 ghost use Rattle.ktm_log.specs.Log.{end_of, payloads_in};
@@ -160,6 +161,7 @@ pub(crate) fn fold(alloc: Global, header: Header, bytes: &[u8]) -> Result<Durabl
     ensures keys { IfOk result (λ state. length state.keys ≤ state.units) }
     ensures built { IfOk result IsBuiltState }
     ensures events { IfOk result (λ state. AreInLog state (end_of (payloads_in bytes.now))) }
+    ensures read { AreBytes bytes.now }
     ensures bad { IfBad result (λ offset. IsFirstBad header.units header.image (payloads_in bytes.now) offset) }
     ensures up { load_went_down result ≡ false }
 {

@@ -12,7 +12,7 @@ use Rattle.ktm_base.proofs.Images.{safe_law}
 use Rattle.ktm_base.proofs.ToldSteps.{Tells-map}
 use Rattle.ktm_log.specs.declared.area.Area.{Area}
 use Rattle.ktm_log.specs.Log.{LogState}
-use Rattle.ktm_journal.specs.Image.{AreInLog, HoldGroups, JournalState, JournalAt, IsImage, HoldsLog, IsFormatted, StandsFor, LeavesGroupOrNot, left_after, log_area}
+use Rattle.ktm_journal.specs.Image.{AreInLog, AreSpelled, HoldGroups, JournalState, JournalAt, IsImage, HoldsLog, IsFormatted, StandsFor, LeavesGroupOrNot, left_after, log_area}
 use Rattle.ktm_journal.proofs.LogLoads.{journal_left}
 use Rattle.ktm_journal.proofs.OneImage.{one_image}
 use Rattle.ktm_event.specs.Kept.{EventsState, Holds}
@@ -32,6 +32,7 @@ use Rattle.ktm_built.specs.Laws.{BaseLaw, OpenedLaw, names_boot}
 use Rattle.ktm_built.specs.Standing.{IsStanding, IsStandingNow, fresh}
 use Rattle.ktm_built.proofs.Worlds.{fresh_law}
 use Rattle.ktm_laws.specs.GoodState.{IsGoodState}
+use Rattle.ktm_laws.specs.Grammatical.{GrammarLaw, is_grammatical}
 use Rattle.ktm_laws.specs.Running.{IsRoomy, is_log_grammatical}
 use Rattle.ktm_laws.proofs.Counting.{log-boots, log-events, own-frame, room-for}
 use Rattle.ktm_kernel.specs.Memory.{Held, MemoryState, held, now_of}
@@ -60,6 +61,11 @@ log_named : (before behind : List Group) (payloads : List (List ℕ)) → HoldGr
 log_named [] behind payloads hold = refl
 log_named (group ∷ before) behind [] hold = absurd hold
 log_named (group ∷ before) behind (payload ∷ payloads) hold = and_from _ _ (group_named group payload hold.0) (log_named before behind payloads hold.1)
+
+-- it has every event of a log that bytes spell
+log_grammatical : GrammarLaw → (log : List Group) → AreSpelled log → is_log_grammatical log ≡ true
+log_grammatical grammar [] spelled = refl
+log_grammatical grammar (group ∷ log) spelled = let (bytes, are, is) = spelled.0 in and_from _ _ (grammar.1 group bytes are is) (log_grammatical grammar log spelled.1)
 
 -- ---- what a restart reads
 
@@ -164,14 +170,23 @@ module _ (units image : ℕ) (before log : List Group) (state : Durable) (is : I
   applied : IsTrue (log_applies (empty_state units image) before) × IsTrue (log_applies base log)
   applied = and_parts _ _ (sym (log_applies-append (empty_state units image) before log) ∙ is.applies)
 
+  -- what the image holds, by the units and the number that were read
+  here : (bytes : List ℕ) → HoldsLog units image (before ++ log) bytes → HoldsLog state.units state.image (before ++ log) bytes
+  here bytes holds = subst (λ u. HoldsLog u state.image (before ++ log) bytes) (sym is.units_are) (subst (λ i. HoldsLog units i (before ++ log) bytes) (sym is.image_is) holds)
+
   -- its journal is at the groups that are there
   pub journal_at : (j : JournalState) (old new : Option DiskState)
       → ((gs : List Group) → Tells old (λ s. IsSafe s × HoldsLog state.units state.image gs s.seen) → Tells new (JournalAt j gs))
       → Tells old (HoldsBoth units image before log) → Tells new (JournalAt j (before ++ log))
-  journal_at j old new loaded holds = loaded (before ++ log) (Tells-map old (HoldsBoth units image before log) _ holds (λ s held. (
-    held.0,
-    subst (λ u. HoldsLog u state.image (before ++ log) s.seen) (sym is.units_are) (subst (λ i. HoldsLog units i (before ++ log) s.seen) (sym is.image_is) held.1),
-  )))
+  journal_at j old new loaded holds = loaded (before ++ log) (Tells-map old (HoldsBoth units image before log) _ holds (λ s held. (held.0, here s.seen held.1)))
+
+  -- what it has read is in the grammar
+  pub found_grammatical : GrammarLaw → (told : Option DiskState)
+      → ((gs : List Group) → Tells told (λ s. HoldsLog state.units state.image gs s.seen) → AreSpelled gs)
+      → Tells told (HoldsBoth units image before log) → is_log_grammatical log ≡ true
+  found_grammatical grammar told spelled holds =
+      let all = spelled (before ++ log) (Tells-map told (HoldsBoth units image before log) _ holds (λ s held. here s.seen held.1)) in
+      (and_parts _ _ (sym (list_all-append (list_all is_grammatical) before log) ∙ log_grammatical grammar (before ++ log) all)).1
 
   -- what it has left
   pub left_found : (j : JournalState) (told : Option DiskState) → j.units ≡ state.units → Tells told (JournalAt j (before ++ log)) → j.log.area.len - j.log.end ≡ left_after units before - log_size log
@@ -222,14 +237,14 @@ module _ (units image : ℕ) (before log : List Group) (state : Durable) (is : I
   -- of the journal that the group of the restart was added to
   module _ (may : events_apply state (own_group state) ≡ true) (j k : JournalState) (units_are : j.units ≡ state.units) (image_is : j.image ≡ state.image) (old new : Option DiskState)
       (at : Tells old (JournalAt j (before ++ log))) (events : EventsState) (holds : Holds events (own_group state)) where
-    pub started : BaseLaw → OpenedLaw → state.image < 2 ^ 16 → state.units ≤ 1024 → (kernel : KernelState) (left count : ℕ) → kernel.journal ≡ k → kernel.now ≡ fresh state left → left ≡ k.log.area.len - k.log.end → count ≡ state.events
+    pub started : BaseLaw → OpenedLaw → is_log_grammatical log ≡ true → state.image < 2 ^ 16 → state.units ≤ 1024 → (kernel : KernelState) (left count : ℕ) → kernel.journal ≡ k → kernel.now ≡ fresh state left → left ≡ k.log.area.len - k.log.end → count ≡ state.events
         → k.units ≡ j.units → k.image ≡ j.image → k.log.area ≡ j.log.area → ((group : Group) → Holds events group → k.log.end ≡ j.log.end + frame_size group)
         → is_full_in (j.log.area.len - j.log.end) (own_group state) ≡ false
         → ((gs : List Group) (group : Group) → Holds events group → Tells old (JournalAt j gs) → Tells new (JournalAt k (gs ++ group ∷ [])))
         → Started units image before log kernel count 0 new
-    started bases opens number most kernel left count journal now left_is count_is k_units k_image area end fits added = record {
+    started bases opens grammatical number most kernel left count journal now left_is count_is k_units k_image area end fits added = record {
       room = sym (is_full j old units_are at) ∙ fits;
-      stands = λ grammatical. record {
+      stands = record {
         now = now ∙ fresh_is left (omega (arith, left_is, ap (λ (a : Area). a.len) area, end (own_group state) holds, left_found j old units_are at, own_size state built_state_is));
         standing = standing bases opens (subst (λ (n : ℕ). n < 2 ^ 16) is.image_is number) (subst (λ (n : ℕ). n ≤ 1024) is.units_are most) (sym (is_full j old units_are at) ∙ fits) grammatical;
         before = before;

@@ -1,8 +1,5 @@
 -- A machine that is down, whose disk has the power back, and is started again.
 use Rattle.std.proofs.Common.{◌≡◌, ℕ, ◌+◌, ◌-◌, ◌*◌, ◌≤◌, Bool, true, false, List, [], ◌∷◌, ◌++◌, length, Option, None, Some, refl, sym, ◌∙◌, ap, subst, arith, inl, inr}
-use Rattle.std.proofs.lemmas.Bool.{and_parts}
-use Rattle.std.proofs.lemmas.List.Folds.{list_all-append}
-use Rattle.std.specs.List.{list_all}
 use Rattle.std.specs.Prelude.{Contains}
 use Rattle.ktm_base.specs.declared.refusal.Refusal.TheVariants.{MachineDown, LogFull}
 use Rattle.ktm_base.specs.Disk.{DiskState}
@@ -22,8 +19,6 @@ use Rattle.ktm_world.specs.World.{World, present, own_group, opened, in_doubt, p
 use Rattle.ktm_world.specs.Built.{is_built_log}
 use Rattle.ktm_world.proofs.BuiltStates.{built_stand}
 use Rattle.ktm_built.specs.Laws.{FallenLaw}
-use Rattle.ktm_laws.specs.Grammatical.{is_grammatical}
-use Rattle.ktm_laws.specs.Running.{LawfulWorldsLaw, is_log_grammatical}
 use Rattle.ktm_world.specs.Logs.{Group, down, is_up}
 use Rattle.ktm_world.specs.Transcript.{Step, interrupted, found, full, RestartDoes, StartDoes}
 use Rattle.ktm_world.proofs.Durables.{stand-units}
@@ -78,15 +73,9 @@ module _ (falls : FallenLaw) (k : KernelState) (told now : Option DiskState) (w 
   none_back : (log : List Group) → Contains (possible_logs w) log → length (in_doubt (stand w.base log)) ≡ 0
   none_back log possible = ap (λ (s : Durable). length (in_doubt s)) (built_stand w.base log at.standing.built.base (contains_passes is_built_log (possible_logs w) log at.standing.built.logs possible))
 
-  -- what it holds is in the grammar, since a world of a run has it
-  grammatical : LawfulWorldsLaw → (log : List Group) → Contains (possible_logs w) log → is_full_for_own k.journal.units k.journal.image at.before log ≡ false → is_log_grammatical log ≡ true
-  grammatical worlds log possible room =
-      let opens = worlds.restarts w log (record { possible = possible; room = full_is log false room }) at.standing.running in
-      (and_parts (is_log_grammatical log) _ (sym (list_all-append (λ (g : Group). list_all is_grammatical g) log (own_group (stand w.base log) ∷ [])) ∙ opens.grammatical)).0
-
-  started : LawfulWorldsLaw → (new : KernelState) (events in_doubt : ℕ) (log : List Group) → Contains (possible_logs w) log → Started k.journal.units k.journal.image at.before log new events in_doubt now
+  started : (new : KernelState) (events in_doubt : ℕ) (log : List Group) → Contains (possible_logs w) log → Started k.journal.units k.journal.image at.before log new events in_doubt now
       → DoesLine w (Some (Restart pick)) (Restarted events in_doubt) new now
-  started worlds new events doubts log possible starts = (
+  started new events doubts log possible starts = (
     found log,
     opened w.base w.room log,
     off_does (found log) (Restarted events doubts) (opened w.base w.room log) (
@@ -94,7 +83,7 @@ module _ (falls : FallenLaw) (k : KernelState) (told now : Option DiskState) (w 
       ap (λ n. Restarted n doubts) (starts.events_are ∙ ap (λ (s : Durable). (stand s log).events) (sym at.began.base)) ∙ ap (λ n. Restarted (stand w.base log).events n) (starts.none_in_doubt ∙ sym (none_back log possible)),
       refl,
     ),
-    subst (λ (s : Durable). KernelAt new now (opened s w.room log)) (sym at.began.base) (subst (λ n. KernelAt new now (opened base n log)) (sym at.began.room) (starts.stands (grammatical worlds log possible starts.room))),
+    subst (λ (s : Durable). KernelAt new now (opened s w.room log)) (sym at.began.base) (subst (λ n. KernelAt new now (opened base n log)) (sym at.began.room) starts.stands),
   )
 
   cut : (log : List Group) → Contains (possible_logs w) log → Tells now (LeavesOwnOrNot k.journal.units k.journal.image at.before log) → DoesLine w (Some (Restart pick)) (Refused MachineDown) k now
@@ -139,14 +128,14 @@ module _ (falls : FallenLaw) (k : KernelState) (told now : Option DiskState) (w 
 
 -- ---- the answers of a restart, for the log that the disk holds
 
-pub started_line : LawfulWorldsLaw → FallenLaw → (k new : KernelState) (events in_doubt : ℕ) (told now : Option DiskState)
+pub started_line : FallenLaw → (k new : KernelState) (events in_doubt : ℕ) (told now : Option DiskState)
     → ((units image : ℕ) (before log : List Group) → Tells told (HoldsBoth units image before log) → Started units image before log new events in_doubt now)
     → (pick : ℕ) (w : World) → FoundAt k told w → DoesLine w (Some (Restart pick)) (Restarted events in_doubt) new now
-started_line worlds falls k new events in_doubt None now starts pick w at = absurd at.disk
-started_line worlds falls k new events in_doubt (Some s) now starts pick w at =
+started_line falls k new events in_doubt None now starts pick w at = absurd at.disk
+started_line falls k new events in_doubt (Some s) now starts pick w at =
     let (safe, held) = at.disk in
     let (log, possible, holds) = held in
-    started falls k (Some s) now w pick at worlds new events in_doubt log possible (starts k.journal.units k.journal.image at.before log (safe, holds))
+    started falls k (Some s) now w pick at new events in_doubt log possible (starts k.journal.units k.journal.image at.before log (safe, holds))
 
 pub interrupted_line : FallenLaw → (k : KernelState) (told now : Option DiskState)
     → ((units image : ℕ) (before log : List Group) → Tells told (HoldsBoth units image before log) → Tells now (LeavesOwnOrNot units image before log))

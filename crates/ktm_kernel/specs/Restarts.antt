@@ -4,7 +4,6 @@ use Rattle.ktm_base.specs.Disk.{DiskState, MayLeave, IsSafe}
 use Rattle.ktm_journal.specs.Image.{HoldsLog, left_after}
 use Rattle.ktm_world.specs.Durable.{Durable, empty_state, stand}
 use Rattle.ktm_world.specs.Outcome.{is_full}
-use Rattle.ktm_laws.specs.Running.{is_log_grammatical}
 use Rattle.ktm_types.specs.Sizes.{log_size}
 use Rattle.ktm_world.specs.Logs.{Group}
 use Rattle.ktm_types.specs.declared.reply.Reply.{Reply}
@@ -27,10 +26,10 @@ base_of units image before = stand (empty_state units image) before
 abbrev pub is_full_for_own : ℕ → ℕ → List Group → List Group → Bool
 is_full_for_own units image before log = is_full (left_after units before - log_size log) (own_group (stand (base_of units image before) log))
 
--- the machine stands for the world that was opened from the log, if the grammar has its events, and how many events were found is told
+-- the machine stands for the world that was opened from the log, and how many events were found is told
 pub record Started (units image : ℕ) (before log : List Group) (kernel : KernelState) (events in_doubt : ℕ) (told : Option DiskState) : Type 0 where
   pub room : is_full_for_own units image before log ≡ false
-  pub stands : is_log_grammatical log ≡ true → KernelAt kernel told (opened (base_of units image before) (left_after units before) log)
+  pub stands : KernelAt kernel told (opened (base_of units image before) (left_after units before) log)
   pub events_are : events ≡ (stand (base_of units image before) log).events
   pub none_in_doubt : in_doubt ≡ 0
 

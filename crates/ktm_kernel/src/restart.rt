@@ -21,7 +21,7 @@ use ktm_base::{Disk, NoMemory, Refusal};
 use ktm_built::{law_of_bases, law_of_fallen, law_of_opened};
 use ktm_event::Events;
 use ktm_journal::{AppendFault, Journal, LoadFault, Loaded};
-use ktm_laws::law_of_lawful_worlds;
+use ktm_laws::law_of_grammar;
 use ktm_types::{Event, Reply};
 use std::alloc::Global;
 use std::mem::replace;
@@ -88,6 +88,7 @@ impl Kernel {
     {
         law_of_bases();
         law_of_opened();
+        law_of_grammar();
         let Loaded { journal, state } = match Journal::load(alloc, disk, buffer) {
             Ok(loaded) => loaded,
             Err(LoadFault::Down) => return Err(RestartFault::Down),
@@ -144,7 +145,6 @@ impl Kernel {
         ensures unwritten { IfOk result (λ reply. IfUnwrittenBy reply ((D.told disk.new ≡ D.told disk.old) × ((D.status disk.new).is_down ≡ false) × ((D.status disk.new).pending ≡ 0) × (self.new ≡ self.old))) }
         ensures no_memory { OnErr result ((D.told disk.new ≡ D.told disk.old) × ((D.status disk.new).is_down ≡ false) × ((D.status disk.new).pending ≡ 0) × (self.new ≡ self.old)) }
     {
-        law_of_lawful_worlds();
         law_of_fallen();
         let none = Events::new(self.alloc, 0)?;
         let mut buffer = replace(&mut self.events, none).into_buffer();

@@ -81,7 +81,7 @@ module _ (base : Durable) (room : ℕ) where
   stands_opened (Some s) new kernel events in_doubt is starts =
       let start = starts base.units base.image is.before [] is.holds in (
         subst (λ n. KernelAt kernel new (opened base n [])) (sym is.room_is)
-            (subst (λ (d : Durable). KernelAt kernel new (opened d (left_after base.units is.before) [])) (sym is.comes_to) (start.stands refl)),
+            (subst (λ (d : Durable). KernelAt kernel new (opened d (left_after base.units is.before) [])) (sym is.comes_to) start.stands),
         subst (λ n. is_full n (own_group base) ≡ false) (all_left (left_after base.units is.before) ∙ sym is.room_is)
             (subst (λ (d : Durable). is_full (left_after base.units is.before - log_size []) (own_group d) ≡ false) (sym is.comes_to) start.room),
       )

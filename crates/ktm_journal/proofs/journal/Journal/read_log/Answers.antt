@@ -5,6 +5,7 @@ use Rattle.ktm_log.specs.Log.{BeginsWith, IsLog, IsBadLog, area_bytes, payloads_
 use Rattle.ktm_journal.specs.Load.{IsFirstBad}
 use Rattle.ktm_journal.proofs.Known.{IfBad-map}
 use Rattle.ktm_journal.proofs.LogLoads.{comes_to_units, comes_to_image, stands_told, bad_payload_told, torn_told, journal_told}
+use Rattle.ktm_journal.proofs.Spelled.{spelled_told}
 use Rattle.ktm_journal.proofs.journal.Journal.read_log.Goals as goal
 
 pub returns-in-Ok-fold-clause-units : goal.returns-in-Ok-fold-clause-units
@@ -21,6 +22,10 @@ returns-in-Ok-fold-clause-stands g c =
 pub returns-in-Ok-fold-clause-journal : goal.returns-in-Ok-fold-clause-journal
 returns-in-Ok-fold-clause-journal g c =
     journal_told c.args.header.units c.args.header.image c.log_area.result c.log_area.ensures c.in-Ok.log c.events.result (payloads_in c.scan.new.buffer.items) _ _ c.in-Ok.ensures.area c.scan.ensures.same c.in-Ok.ensures.stands
+
+pub returns-in-Ok-fold-clause-spelled : goal.returns-in-Ok-fold-clause-spelled
+returns-in-Ok-fold-clause-spelled g c =
+    spelled_told c.args.header.units c.args.header.image c.log_area.result c.log_area.ensures c.scan.new.buffer.items (rw c.as_slice.ensures.value at c.in-Ok-fold.ensures.read) (g.D.Disk.told c.args.disk.now) c.in-Ok.ensures.log
 
 pub returns-in-Err-clause-bad : goal.returns-in-Err-clause-bad
 returns-in-Err-clause-bad g c =

@@ -1,7 +1,7 @@
 use Rattle.std.proofs.Common.{Err, [], ◌+◌, ◌-◌, refl, ap, sym, ◌∙◌, arith}
 use Rattle.ktm_world.specs.World.{own_group}
 use Rattle.ktm_kernel.specs.Memory.{held, now_of}
-use Rattle.ktm_kernel.proofs.Restarts.{found, next_applies, own_held, own_length, unwritten_leaves, journal_at, is_full, not_full, started, cut_off, fresh_now, held_fresh, fresh_ready}
+use Rattle.ktm_kernel.proofs.Restarts.{found, next_applies, own_held, own_length, unwritten_leaves, journal_at, found_grammatical, is_full, not_full, started, cut_off, fresh_now, held_fresh, fresh_ready}
 use Rattle.ktm_kernel.proofs.kernel.Kernel.restart.Goals as goal
 
 pub returns-in-Err-Down-clause-down : goal.returns-in-Err-Down-clause-down
@@ -42,7 +42,8 @@ returns-clause-starts g c = λ units image before log holds.
     (c.in-Ok-append.ensures.units ∙ c.in-Ok.ensures.units.0) (c.in-Ok-append.ensures.image ∙ c.in-Ok.ensures.image)
     (omega (arith, c.in-Ok-append.ensures.counted _ own, c.in-Ok.ensures.counted, own_length c.in-Ok.loaded.state c.in-Ok.ensures.built)) refl fresh in
     started units image before log c.in-Ok.loaded.state is (next_applies c.in-Ok.loaded.state c.in-Ok.loaded.journal.log c.in-Ok.ensures.built c.in-Ok.ensures.keys c.in-Ok.ensures.units.1 c.in-Ok.ensures.events c.in-Ok.ensures.inside c.in-Ok.ensures.area c.in-Ok.ensures.units.2) c.in-Ok.loaded.journal c.append.new.self c.in-Ok.ensures.units.0 c.in-Ok.ensures.image
-    (g.D.Disk.told c.load.new.disk) (g.D.Disk.told c.append.new.disk) at c.push.new.self own c.law_of_bases.ensures c.law_of_opened.ensures c.in-Ok.ensures.number c.in-Ok.ensures.units.2
+    (g.D.Disk.told c.load.new.disk) (g.D.Disk.told c.append.new.disk) at c.push.new.self own c.law_of_bases.ensures c.law_of_opened.ensures
+    (found_grammatical units image before log c.in-Ok.loaded.state is c.law_of_grammar.ensures (g.D.Disk.told c.args.disk.now) c.in-Ok.ensures.spelled holds) c.in-Ok.ensures.number c.in-Ok.ensures.units.2
     (record { now = now_of c.append.new.self (held c.start.result); journal = c.append.new.self }) (c.append.new.self.log.area.len - c.append.new.self.log.end) c.events-found.result refl now refl c.events-found.ensures
     c.in-Ok-append.ensures.units c.in-Ok-append.ensures.image c.in-Ok-append.ensures.area c.in-Ok-append.ensures.end
     (not_full c.in-Ok-append.field-0 _ (c.in-Ok-append.ensures.full _ own).1)

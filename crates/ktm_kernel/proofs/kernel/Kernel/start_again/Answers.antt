@@ -2,7 +2,7 @@ use Rattle.ktm_kernel.proofs.StartAgain.{started_line, interrupted_line, full_li
 use Rattle.ktm_kernel.proofs.kernel.Kernel.start_again.Goals as goal
 
 pub returns-in-Ok-clause-does : goal.returns-in-Ok-clause-does
-returns-in-Ok-clause-does g c = rw c.drop.view_is (started_line c.law_of_lawful_worlds.ensures c.law_of_fallen.ensures c.args.self.now _ _ _ (g.D.Disk.told c.args.disk.now) (g.D.Disk.told c.restart.new.disk) c.in-Ok.ensures.starts)
+returns-in-Ok-clause-does g c = rw c.drop.view_is (started_line c.law_of_fallen.ensures c.args.self.now _ _ _ (g.D.Disk.told c.args.disk.now) (g.D.Disk.told c.restart.new.disk) c.in-Ok.ensures.starts)
 
 pub returns-in-Ok-clause-few : goal.returns-in-Ok-clause-few
 returns-in-Ok-clause-few g c = found_few c.args.self.now (g.D.Disk.told c.args.disk.now) _ _ c.in-Ok.ensures.few

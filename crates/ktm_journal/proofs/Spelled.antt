@@ -1,0 +1,53 @@
+-- What was read as bytes spells the groups that it holds.
+use Rattle.std.proofs.Common.{◌≡◌, ℕ, zero, suc, ◌+◌, Bool, true, false, if◌then◌else◌, length, take, drop, Option, None, Some, List, [], ◌∷◌, subst}
+use Rattle.std.specs.List.{AllByRecursion}
+use Rattle.ktm_base.specs.Bytes.{AreBytes}
+use Rattle.ktm_base.specs.Disk.{DiskState}
+use Rattle.ktm_base.specs.Told.{IfTold, Tells}
+use Rattle.ktm_log.specs.declared.area.Area.{Area}
+use Rattle.ktm_log.specs.Log.{IsLog, area_bytes, followed, payloads_in, payloads_up_to, size_at}
+use Rattle.ktm_log.proofs.GoodOrBad.{one_log}
+use Rattle.ktm_world.specs.Logs.{Group}
+use Rattle.ktm_journal.specs.Image.{AreSpelled, HoldGroups, HoldsLog, log_area}
+
+bytes_taken : (n : ℕ) (bytes : List ℕ) → AreBytes bytes → AreBytes (take n bytes)
+bytes_taken zero bytes all = tt
+bytes_taken (suc n) [] all = tt
+bytes_taken (suc n) (b ∷ bytes) all = (all.0, bytes_taken n bytes all.1)
+
+bytes_left : (n : ℕ) (bytes : List ℕ) → AreBytes bytes → AreBytes (drop n bytes)
+bytes_left zero bytes all = all
+bytes_left (suc n) [] all = tt
+bytes_left (suc n) (b ∷ bytes) all = bytes_left n bytes all.1
+
+-- a payload that is there if the test holds, and those that follow it
+followed_bytes : (is : Bool) (payload : List ℕ) (rest : List ℕ → List (List ℕ)) → AreBytes payload → ((p : List ℕ) → AllByRecursion AreBytes (rest p))
+    → AllByRecursion AreBytes (followed (if is then Some payload else None) rest)
+followed_bytes true payload rest all more = (all, more payload)
+followed_bytes false payload rest all more = tt
+
+bytes_up_to : (most : ℕ) (bytes : List ℕ) → AreBytes bytes → AllByRecursion AreBytes (payloads_up_to most bytes)
+bytes_up_to zero bytes all = tt
+bytes_up_to (suc most) bytes all =
+    followed_bytes _ (take (size_at bytes) (drop 5 bytes)) _ (bytes_taken (size_at bytes) (drop 5 bytes) (bytes_left 5 bytes all))
+    (λ p. bytes_up_to most (drop (length p + 5) bytes) (bytes_left (length p + 5) bytes all))
+
+-- the payloads in bytes are bytes
+payload_bytes : (bytes : List ℕ) → AreBytes bytes → AllByRecursion AreBytes (payloads_in bytes)
+unfolding payloads_in
+payload_bytes bytes all = bytes_up_to (length bytes) bytes all
+
+groups_spelled : (log : List Group) (payloads : List (List ℕ)) → HoldGroups log payloads → AllByRecursion AreBytes payloads → AreSpelled log
+groups_spelled [] payloads hold all = tt
+groups_spelled (group ∷ log) [] hold all = absurd hold
+groups_spelled (group ∷ log) (p ∷ ps) hold all = ((p, all.0, hold.0), groups_spelled log ps hold.1 all.1)
+
+-- whichever log the image holds, where the buffer has what was read of it
+pub spelled_told : (units image : ℕ) (area : Area) → area ≡ log_area units → (buffer : List ℕ) → AreBytes buffer → (o : Option DiskState) → IfTold o (λ s. IsLog (payloads_in buffer) (area_bytes area s.seen))
+    → (log : List Group) → Tells o (λ s. HoldsLog units image log s.seen) → AreSpelled log
+spelled_told units image area at buffer all None read log holds = absurd holds
+spelled_told units image area at buffer all (Some s) read log holds =
+    let is = holds.is in
+    groups_spelled log (payloads_in buffer)
+    (subst (λ (ps : List (List ℕ)). HoldGroups log ps) (one_log is.payloads (payloads_in buffer) (area_bytes (log_area units) s.seen) is.frames (subst (λ (a : Area). IsLog (payloads_in buffer) (area_bytes a s.seen)) at read)) is.groups)
+    (payload_bytes buffer all)
