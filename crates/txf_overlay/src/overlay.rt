@@ -14,6 +14,7 @@ use ktm_links::Chains;
 use ktm_types::Change;
 use std::alloc::Global;
 use std::marker::Model;
+use std::mem::replace;
 use txf_tree::{ChildName, number_bytes};
 
 /// What one transaction made, moved and dropped, in order, and the bytes of the files that it wrote.
@@ -222,11 +223,16 @@ impl Overlay {
         written
     }
 
-    /// What it made, moved and dropped, in order, with its memory.
-    pub fn into_names(self) -> Vec<Change>
-        ensures { result.items ≡ self.names }
+    /// Hands out what it made, moved and dropped, in order, with its memory, and leaves what it wrote. It takes no memory.
+    pub fn take_names(&mut self) -> Vec<Change>
+        ensures names { result.items ≡ self.old.names }
+        ensures left { self.new.names ≡ [] }
+        ensures held { self.new.held ≡ [] }
+        ensures written { self.new.written ≡ self.old.written }
     {
-        let Overlay { names, .. } = self;
-        names
+        self.nodes = Chains::new(self.alloc);
+        self.seats = Chains::new(self.alloc);
+        self.made = 0;
+        replace(&mut self.names, Vec::new(self.alloc))
     }
 }

@@ -190,10 +190,12 @@ module _ (tree tree' : TreeState) where
       older' = versions'.older
 
       others : (o : Opened) → (n == o.file && version_of vs n == o.version) ≡ false → find (is_version o.file o.version) older' ≡ find (is_version o.file o.version) older
-      others o other = it.others o.file o.version (ap (λ b. is_pinned versions.opens n (version_of vs n) && b) other ∙ and-false (is_pinned versions.opens n (version_of vs n))) ∙ ap (find (is_version o.file o.version)) older_is
+      others o other = it.found o.file o.version ∙ rw (ap (λ b. is_pinned versions.opens n (version_of vs n) && b) other ∙ and-false (is_pinned versions.opens n (version_of vs n))) (ap (find (is_version o.file o.version)) older_is)
 
       found : (o : Opened) → IsIn o opens → o.file ≡ n → o.version ≡ version_of vs n → find (is_version o.file o.version) older' ≡ Some (record { file = n; version = version_of vs n; bytes = bytes_of t n })
-      found o there e f = (λ i. find (is_version (e i) (f i)) older') ∙ it.pinned ((λ i. is_pinned (opens_is i) n (version_of vs n)) ∙ pinned-at o there e f)
+      found o there e f =
+          it.found o.file o.version
+          ∙ rw (and_from _ _ ((λ i. is_pinned (opens_is i) n (version_of vs n)) ∙ pinned-at o there e f) (and_from _ _ (eq-eqb n o.file (sym e)) (eq-eqb (version_of vs n) o.version (sym f)))) refl
 
       was' : (o : Opened) → IsIn o opens → o.file ≡ n → is_file t' o.file ≡ true → o.version ≤ version_of vs' o.file
       was' o there e file' =

@@ -1,5 +1,5 @@
 -- What a commit makes of the tree, the versions and the units, one change or one file after another.
-use Rattle.std.proofs.Common.{◌≡◌, ℕ, ◌+◌, ◌-◌, ◌<◌, ◌≤◌, ◌^◌, ◌==◌, ◌&&◌, not, true, false, cond, find, fold, is_some, length, map, List, [], ◌∷◌, ◌++◌, Some, None, All, refl, sym, ◌∙◌, ap, subst, append_assoc, arith, length-append, inl, inr}
+use Rattle.std.proofs.Common.{◌≡◌, ℕ, ◌+◌, ◌-◌, ◌<◌, ◌≤◌, ◌^◌, ◌==◌, ◌&&◌, not, true, false, cond, find, fold, is_some, length, map, List, [], ◌∷◌, ◌++◌, Some, None, All, refl, sym, ◌∙◌, ap, subst, arith, length-append, inl, inr}
 use Rattle.std.proofs.lemmas.Bool.{cases_Bool, and_from, and_parts, eq-eqb, eqb-false, eqb-true, true≢false}
 use Rattle.std.proofs.lemmas.Option.{none-some}
 use Rattle.std.proofs.lemmas.List.{append-nil}
@@ -402,11 +402,6 @@ final-file : (tree : Tree) (f : ℕ) (bs : List ℕ) → apply_all tree (final_b
 final-file tree f [] is = (suits-applies tree (Cut f 0 []) (and_parts (applies tree (Cut f 0 [])) true is).0).file refl
 final-file tree f (b ∷ bs) is = (suits-applies tree (Cut f 0 []) (and_parts (applies tree (Cut f 0 [])) (applies (changed tree (Cut f 0 [])) (Put f 0 (Whole (b ∷ bs))) && true) is).0).file refl
 
--- the bytes of one file more
-pub finals-push : (ws : List Written) (w : Written) → flat_map final_of (ws ++ w ∷ []) ≡ flat_map final_of ws ++ final_of w
-finals-push [] w = append-nil (final_of w)
-finals-push (v ∷ vs) w = ap (λ cs. final_of v ++ cs) (finals-push vs w) ∙ sym (append_assoc (final_of v) (flat_map final_of vs) (final_of w))
-
 module _ (p : Parts) (w : Written) (ws : List Written) (can : CanReplace p (w ∷ ws)) where
   final-can : CanMake p (final_of w)
   final-can = can-first p (final_of w) (flat_map final_of ws) can.can
@@ -490,7 +485,7 @@ units-names (c ∷ cs) tree is only rise =
     let rest = units-names cs (changed tree c) applied.1 parts.1 (rise-after tree c applied.0 rise) in
     omega arith
 
-module _ (p : Parts) (room : ℕ) (o : OverlayState) (can : CanTake p room o) where
+module _ (p : Parts) (o : OverlayState) (can : CanTake p o) where
   pub take-names : CanName p o.names
   take-names = record { can = can-first p o.names (flat_map final_of o.written) can.can; only = can.only; spare = can.spare; few = can.few }
 

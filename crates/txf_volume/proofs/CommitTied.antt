@@ -30,7 +30,7 @@ use Rattle.txf_tree.specs.TreeState.{tree_of, versions_of}
 use Rattle.txf_versions.specs.VersionsState.{VersionsState, AreHeld, fixes, is_pinned, is_version, without_transaction}
 use Rattle.txf_versions.specs.declared.kept.Older.{Older}
 use Rattle.txf_versions.specs.declared.opened.Opened.{Opened}
-use Rattle.txf_volume.specs.Commit.{names_in, files_in, AreUnopened, AreVersionsFew, LeavesOthers, MayCommit}
+use Rattle.txf_volume.specs.Commit.{names_in, AreUnopened, AreVersionsFew, LeavesOthers, MayCommit}
 use Rattle.txf_volume.specs.Making.{firsts_of, is_fresh, parts, units_older, AreMade, AreRight, CanTake}
 use Rattle.txf_volume.specs.Held.{FilesHeld, OwnHeld, changes_held, files_of, first_held, overlay_in, own_held, without_own}
 use Rattle.txf_volume.specs.Ties.{AreTied, IsKeptOpen, IsOver, held_by_two, names_held, nodes_held, units_held}
@@ -212,9 +212,9 @@ module _ (h : FilesHeld) (units : ℕ) (id : Id) (tied : AreTied h units) where
           let none = made-none o there q (was-open q at.1) in
           true≢false (sym (list_any-from (λ (d : Change). is_make d && node_of d == q.file) (own_of o) c has (and_from _ _ parts.0 (eq-eqb _ _ (sym (eqb-true _ _ at.2))))) ∙ none))))
 
-      pub can-own : (room : ℕ) → room ≡ h.room → (now : Option OverlayState) → now ≡ overlay_in h.overlays id → IfSome now (CanTake (parts h.tree v units) room)
-      can-own room room_is None is = tt
-      can-own room room_is (Some o) is =
+      pub can-own : (now : Option OverlayState) → now ≡ overlay_in h.overlays id → IfSome now (CanTake (parts h.tree v units))
+      can-own None is = tt
+      can-own (Some o) is =
           let there = sym is in
           let over = over-in t h.overlays id o tied.over there in
           let own : cs ≡ own_of o = own_changes-held h.overlays id ∙ ap changes_in there in
@@ -230,7 +230,6 @@ module _ (h : FilesHeld) (units : ℕ) (id : Id) (tied : AreTied h units) where
             spare = subst (λ s. names_in s ≤ h.tree.spare) there can.ready.nodes;
             few = can.few;
             units = let mine = sum-in h.overlays o there in let all = tied.few.units in omega arith;
-            room = subst (λ s. files_in s ≤ room) there (let files = can.ready.files in omega arith);
             sum = subst (λ ds. tree_units (changed_all t ds) < 2 ^ 64) own (let low = used.0 in omega arith);
           }
 

@@ -24,8 +24,7 @@ pub mod TransactedCalls
 pub mod CommitKept
 pub mod CommitVersions
 pub mod CommitParts
-pub mod CommitPlaces
-pub mod CommitRoom
+pub mod OwnPlaces
 pub mod CommitTied
 pub mod PlainKept
 pub mod PlainTies

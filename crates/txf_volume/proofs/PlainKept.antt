@@ -1,6 +1,7 @@
 -- The versions that were first opened, once a plain change is made, and the bytes that it ends are kept.
 use Rattle.std.proofs.Common.{◌≡◌, ℕ, ◌+◌, ◌≤◌, ◌==◌, ◌&&◌, ◌||◌, not, Bool, true, false, if◌then◌else◌, find, map, is_some, List, [], ◌∷◌, Option, Some, None, All, refl, sym, ◌∙◌, ap, subst, arith, inl, inr}
-use Rattle.std.proofs.lemmas.Bool.{cases_Bool, and_parts, and_from, eqb-true, eqb-false, eq-eqb, true≢false}
+use Rattle.std.proofs.lemmas.Bool.{cases_Bool, false_from_ne_true, and_parts, and_from, eqb-true, eqb-false, eq-eqb, true≢false}
+use Rattle.std.proofs.Math.Bool.{and-false}
 use Rattle.std.proofs.lemmas.Option.{same_Some, none-some}
 use Rattle.std.specs.List.{list_any}
 use Rattle.std.specs.Option.{option_map, option_or}
@@ -13,10 +14,11 @@ use Rattle.ktm_world.specs.Files.{FirstOpen}
 use Rattle.ktm_world.specs.Tree.{Tree, bytes_of, bytes_or_none, content_of, is_file, node_at}
 use Rattle.txf_overlay.specs.Written.{bytes_or}
 use Rattle.txf_tree.specs.TreeState.{TreeState, dropped, tree_of, versions_of}
-use Rattle.txf_versions.specs.VersionsState.{fixes, is_pinned, is_version}
+use Rattle.txf_versions.specs.VersionsState.{VersionsState, fixes, is_pinned, is_version}
 use Rattle.txf_versions.specs.declared.kept.Older.{Older}
 use Rattle.txf_versions.specs.declared.opened.Opened.{Opened}
 use Rattle.txf_volume.specs.Held.{first_held, version_bytes}
+use Rattle.txf_volume.specs.Making.{IsEnded}
 use Rattle.txf_volume.specs.Plain.{KeepsEnded, copied_for, is_ended, is_last_pinned, opened_bytes}
 use Rattle.txf_volume.specs.Ties.{IsKeptOpen, is_last}
 use Rattle.txf_calls.specs.Fits.{Suits}
@@ -218,3 +220,35 @@ last-absent tree opens older file version kept is last pinned =
     let of_last : is_last tree o.0 ≡ true = and_from _ _ (ap (is_file (tree_of tree)) f ∙ is) (eq-eqb _ _ (v ∙ last ∙ ap (version_of (versions_of tree)) (sym f))) in
     none-found (find (is_version file version) older)
     ((λ i. is_some (find (is_version (sym f i) (sym v i)) older)) ∙ (All-in (IsKeptOpen tree older) opens kept o.0 o.1).kept ∙ rw of_last refl)
+
+-- the version that ends is kept, and so is what was kept before
+pub keeps-ended : (tree : TreeState) (c : Change) (versions versions' : VersionsState) (file version : ℕ) (bytes : List ℕ) → EndsThese tree c bytes → file ≡ node_of c → version ≡ version_of (versions_of tree) file
+    → IsEnded versions versions' file version bytes → KeepsEnded tree c versions.opens versions.older versions'.older
+keeps-ended tree c versions versions' file version bytes these file_is version_is it =
+    All-by (λ (o : Opened). find (is_version o.file o.version) versions'.older ≡ (if is_ended tree c o then Some (opened_bytes tree o) else find (is_version o.file o.version) versions.older)) versions.opens (λ o there. it.found o.file o.version ∙ each o there)
+  where
+    each : (o : Opened) → IsIn o versions.opens
+        → (if is_pinned versions.opens file version && (file == o.file && version == o.version) then Some (record { file = file; version = version; bytes = bytes }) else find (is_version o.file o.version) versions.older)
+        ≡ (if is_ended tree c o then Some (opened_bytes tree o) else find (is_version o.file o.version) versions.older)
+    each o there = elim (cases_Bool (file == o.file)) [
+      | inr other ↦
+          let elsewhere : (o.file == node_of c) ≡ false = false_from_ne_true _ (λ same. true≢false (sym (eq-eqb file o.file (file_is ∙ sym (eqb-true _ _ same))) ∙ other)) in
+          rw (other, elsewhere, and-false (is_pinned versions.opens file version), and-false (ends c)) refl
+      | inl here ↦
+          let e = eqb-true file o.file here in
+          let at : (o.file == node_of c) ≡ true = eq-eqb _ _ (sym e ∙ file_is) in
+          elim (cases_Bool (version == o.version)) [
+            | inr other ↦
+                let earlier : is_last tree o ≡ false = false_from_ne_true _ (λ last. true≢false (sym (eq-eqb version o.version (version_is ∙ ap (version_of (versions_of tree)) e ∙ sym (eqb-true _ _ (and_parts (is_file (tree_of tree) o.file) _ last).1))) ∙ other)) in
+                let stays : (is_pinned versions.opens file version && (file == o.file && version == o.version)) ≡ false = rw (here, other) (and-false (is_pinned versions.opens file version)) in
+                ap (λ b. if b then Some (record { file = file; version = version; bytes = bytes }) else find (is_version o.file o.version) versions.older) stays
+                ∙ ap (λ b. if b then Some (opened_bytes tree o) else find (is_version o.file o.version) versions.older) (sym (ap (λ b. ends c && o.file == node_of c && b) earlier ∙ and-false (ends c && o.file == node_of c)))
+            | inl same ↦
+                let f = eqb-true version o.version same in
+                let pinned : is_pinned versions.opens file version ≡ true = list_any-from (fixes file version) versions.opens o there (and_from _ _ (eq-eqb _ _ (sym e)) (eq-eqb _ _ (sym f))) in
+                let last : is_last tree o ≡ true = and_from _ _ (ap (is_file (tree_of tree)) (sym e ∙ file_is) ∙ these.file) (eq-eqb _ _ (sym f ∙ version_is ∙ ap (version_of (versions_of tree)) e)) in
+                ap (λ b. if b then Some (record { file = file; version = version; bytes = bytes }) else find (is_version o.file o.version) versions.older) (and_from _ _ pinned (and_from _ _ here same))
+                ∙ (λ i. Some (record { file = e i; version = f i; bytes = (these.bytes_are ∙ ap (bytes_of (tree_of tree)) (sym file_is ∙ e)) i }))
+                ∙ ap (λ b. if b then Some (opened_bytes tree o) else find (is_version o.file o.version) versions.older) (sym (and_from _ _ (and_from _ _ these.ends_it at) last))
+          ]
+    ]

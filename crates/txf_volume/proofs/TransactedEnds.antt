@@ -106,7 +106,7 @@ module _ (h : FilesHeld) (units : ℕ) (tied : AreTied h units) (id : Id) (os' :
     (closed : p'.opens ≡ filter (is_not_of id) h.opens.opens) (last : p'.last ≡ h.opens.last) where
   -- the files that are left
   abbrev left : FilesHeld
-  left = record { tree = h.tree; versions = v'; overlays = os'; opens = p'; reserve = r'; next_node = h.next_node; room = h.room }
+  left = record { tree = h.tree; versions = v'; overlays = os'; opens = p'; reserve = r'; next_node = h.next_node }
 
   found-again : (o : Opened) → IsIn o v'.opens → find (is_version o.file o.version) v'.older ≡ find (is_version o.file o.version) h.versions.older
   found-again o there = older o.file o.version (list_any-from (fixes o.file o.version) v'.opens o there (and_from _ _ (eq-eqb o.file o.file refl) (eq-eqb o.version o.version refl)))

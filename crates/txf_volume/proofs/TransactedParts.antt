@@ -1,13 +1,12 @@
 -- What one change of a transaction makes of the parts of the files in memory.
-use Rattle.std.proofs.Common.{zero, suc, ◌≡◌, ℕ, ◌<◌, ◌≤◌, true, if◌then◌else◌, filter, get_or, set, take, drop, length, map, List, [], ◌∷◌, ◌++◌, Option, Some, None, Result, Ok, Err, OnOk, OnErr, refl, sym, ◌∙◌, ap, subst, arith, inl, inr}
+use Rattle.std.proofs.Common.{zero, suc, ◌≡◌, ℕ, ◌<◌, ◌≤◌, true, if◌then◌else◌, filter, get_or, set, drop, length, map, List, [], ◌∷◌, ◌++◌, Option, Some, None, Result, Ok, Err, OnOk, OnErr, refl, sym, ◌∙◌, ap, subst, arith, inl, inr}
 use Rattle.std.proofs.lemmas.Bool.{cases_Bool, eq-eqb, true≢false}
-use Rattle.std.proofs.lemmas.List.{get_or_read, length-map, set_split}
+use Rattle.std.proofs.lemmas.List.{length-map}
 use Rattle.std.proofs.lemmas.Option.{same_Some, none-some}
 use Rattle.std.specs.List.{list_all, list_any}
 use Rattle.std.specs.Option.{option_map}
 use Rattle.ktm_base.specs.Names.{IsName, folded_byte}
 use Rattle.ktm_base.specs.declared.id.Id.{Id}
-use Rattle.ktm_keyed.proofs.Slots.{rest_is}
 use Rattle.ktm_types.specs.declared.change.Change.{Change}
 use Rattle.ktm_types.specs.declared.change.Change.TheVariants.{Make, Put, Cut, Move, Drop}
 use Rattle.ktm_types.specs.declared.recorded.Node.{Node}
@@ -23,7 +22,7 @@ use Rattle.txf_overlay.proofs.Trees.{Applies-from, at-All, is_there-some, node_a
 use Rattle.txf_overlay.proofs.Views.{LastIs, last-is, untouched}
 use Rattle.txf_reserve.specs.ReserveState.{ReserveState}
 use Rattle.txf_volume.specs.Held.{OwnHeld, overlay_in}
-use Rattle.txf_volume.specs.OwnParts.{HoldsToo, IsChanged, IsChangedIn, IsPlaceOf, bare, bare_own, brought, or_unchanged, unchanged, with_overlay}
+use Rattle.txf_volume.specs.OwnParts.{HoldsToo, IsChanged, IsChangedIn, bare, bare_own, brought, or_unchanged, unchanged, with_overlay}
 
 -- ---- a node that is seen
 
@@ -88,24 +87,6 @@ pub bare-same : (o o' : OverlayState) → o'.names ≡ o.names → o'.held ≡ o
 bare-same o o' names held written = λ i. record { names = names i; held = held i; written = written i; spare = 0 }
 
 -- ---- the list of what transactions changed
-
-pub is_place : (os : List OwnHeld) (id : Id) (i : ℕ) (o : OwnHeld) → i < length os → o ≡ get_or os i o → same_id o.transaction id ≡ true → overlay_in (drop i os) id ≡ overlay_in os id
-    → ((new : OverlayState) → take i os ++ with_overlay (drop i os) id new ≡ with_overlay os id new) → IsPlaceOf os id i
-is_place os id i o within is same found puts =
-    let rest = rest_is os i o within is in
-    record {
-      within = within;
-      found = λ d. sym found ∙ ap (λ l. overlay_in l id) rest ∙ found-here o (drop (suc i) os) same ∙ ap (λ (p : OwnHeld). Some p.overlay) (get_or_read os i o within is d);
-      put = λ new d.
-          sym (puts new) ∙ ap (λ l. take i os ++ with_overlay l id new) rest ∙ ap (λ l. take i os ++ l) (put-here o (drop (suc i) os) new same)
-          ∙ sym (set_split os i (record o { overlay = new }) within) ∙ ap (λ (p : OwnHeld). set os i (record p { overlay = new })) (get_or_read os i o within is d);
-    }
-  where
-    found-here : (p : OwnHeld) (ps : List OwnHeld) → same_id p.transaction id ≡ true → overlay_in (p ∷ ps) id ≡ Some p.overlay
-    found-here p ps here = rw here refl
-
-    put-here : (p : OwnHeld) (ps : List OwnHeld) (new : OverlayState) → same_id p.transaction id ≡ true → with_overlay (p ∷ ps) id new ≡ record p { overlay = new } ∷ ps
-    put-here p ps new here = rw here refl
 
 -- a transaction that is not there comes to the end
 with-new : (os : List OwnHeld) (id : Id) (o : OverlayState) → overlay_in os id ≡ None → with_overlay os id o ≡ os ++ record { transaction = id; overlay = o } ∷ []

@@ -15,15 +15,9 @@ abbrev pub names_in : Option OverlayState → ℕ
 names_in None = 0
 names_in (Some o) = length o.names
 
--- how many files were written
-abbrev pub files_in : Option OverlayState → ℕ
-files_in None = 0
-files_in (Some o) = length o.written
-
--- the memory is there for the nodes that the transaction made and moved, and for the files that it wrote
+-- the memory is there for the nodes that the transaction made and moved
 pub record MayCommit (h : FilesHeld) (id : Id) : Type 0 where
   pub nodes : names_in (overlay_in h.overlays id) ≤ h.tree.spare
-  pub files : files_in (overlay_in h.overlays id) ≤ h.room
 
 -- the commit leaves of each other transaction with changes what it changed and holds
 abbrev pub LeavesOthers : FilesNow → Id → Type 0

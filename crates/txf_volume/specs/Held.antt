@@ -33,8 +33,6 @@ pub record FilesHeld : Type 0 where
   pub reserve : ReserveState
   -- the number of the next node
   pub next_node : ℕ
-  -- for so many written files a commit has room
-  pub room : ℕ
 
 -- the changes of a transaction, in the form in which they are committed
 abbrev pub changes_held : OwnHeld → OwnChanges

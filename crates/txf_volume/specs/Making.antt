@@ -1,7 +1,6 @@
 -- How what a transaction changed comes to be committed. No public clause cites this module.
-use Rattle.std.specs.Prelude.{◌≡◌, ℕ, ◌+◌, ◌-◌, ◌<◌, ◌≤◌, ◌^◌, ◌==◌, ◌&&◌, not, Bool, false, true, List, [], ◌++◌, drop, find, fold, length, map, slice_index_or, sum_by, take, Some, None, All, if◌then◌else◌}
+use Rattle.std.specs.Prelude.{◌≡◌, ℕ, ◌+◌, ◌-◌, ◌<◌, ◌≤◌, ◌^◌, ◌==◌, ◌&&◌, not, Bool, true, List, [], find, fold, length, map, sum_by, Some, All, if◌then◌else◌}
 use Rattle.std.specs.List.{flat_map, list_all, list_any}
-use Rattle.ktm_base.specs.declared.id.Id.{Id}
 use Rattle.ktm_types.specs.declared.change.Change.{Change}
 use Rattle.ktm_world.specs.Changes.{apply_all, changed_all, is_make, node_of}
 use Rattle.ktm_world.specs.Committed.{Version, version_of, versions_after}
@@ -13,27 +12,12 @@ use Rattle.txf_overlay.specs.Written.{IsRising, total_units}
 use Rattle.txf_tree.specs.TreeState.{TreeState, tree_of, versions_of}
 use Rattle.txf_versions.specs.VersionsState.{VersionsState, is_pinned, is_version, older_units}
 use Rattle.txf_versions.specs.declared.opened.Opened.{Opened}
-use Rattle.txf_volume.specs.Held.{OwnHeld, first_held, overlay_in, without_own}
+use Rattle.txf_volume.specs.Held.{first_held}
 use Rattle.txf_volume.specs.Commit.{AreVersionsFew}
 use Rattle.txf_volume.specs.Ties.{IsKeptOpen}
 use Rattle.txf_volume.specs.Uses.{tree_units}
 
 -- ---- the parts that a commit changes
-
--- no file that was written has the last number that there is
-abbrev pub AreTold : OverlayState → Type 0
-AreTold o = All (λ w. w.file < 2 ^ 64 - 1) o.written
-
--- the transaction has an entry at this place
-pub record IsPlace (overlays : List OwnHeld) (id : Id) (place : ℕ) : Type 0 where
-  pub within : place < length overlays
-  pub overlay : (d : OwnHeld) → overlay_in overlays id ≡ Some (slice_index_or overlays place d).overlay
-  pub left : without_own overlays id ≡ take place overlays ++ drop (place + 1) overlays
-
--- the transaction has no entry
-pub record IsAbsent (overlays : List OwnHeld) (id : Id) : Type 0 where
-  pub overlay : overlay_in overlays id ≡ None
-  pub left : without_own overlays id ≡ overlays
 
 -- the tree, the versions, and how many units the committed files have
 pub record Parts : Type 0 where
@@ -89,15 +73,14 @@ pub record CanReplace (p : Parts) (files : List Written) : Type 0 where
   pub few : All (λ w. version_of (versions_of p.tree) w.file < 2 ^ 64 - 2) files
   pub units : p.units + total_units files < 2 ^ 66
 
--- what a transaction changed can be committed, with room for so many files
-pub record CanTake (p : Parts) (most : ℕ) (o : OverlayState) : Type 0 where
+-- what a transaction changed can be committed
+pub record CanTake (p : Parts) (o : OverlayState) : Type 0 where
   pub can : CanMake p (own_of o)
   pub only : list_all is_of_names o.names ≡ true
   pub rise : IsRising o.written
   pub spare : length o.names ≤ p.tree.spare
   pub few : AreVersionsFew (versions_of p.tree)
   pub units : p.units + total_units o.written < 2 ^ 66
-  pub room : length o.written ≤ most
   pub sum : tree_units (changed_all (tree_of p.tree) (own_of o)) < 2 ^ 64
 
 -- the changes are committed, and first opens show what they did
@@ -114,6 +97,5 @@ pub record AreMade (old new : Parts) (changes : List Change) : Type 0 where
 -- the bytes of the version are kept, once, where it was first opened
 pub record IsEnded (old new : VersionsState) (file version : ℕ) (bytes : List ℕ) : Type 0 where
   pub opens : new.opens ≡ old.opens
-  pub pinned : is_pinned old.opens file version ≡ true → find (is_version file version) new.older ≡ Some (record { file = file; version = version; bytes = bytes })
-  pub others : (f v : ℕ) → (is_pinned old.opens file version && (file == f && version == v)) ≡ false → find (is_version f v) new.older ≡ find (is_version f v) old.older
+  pub found : (f v : ℕ) → find (is_version f v) new.older ≡ (if is_pinned old.opens file version && (file == f && version == v) then Some (record { file = file; version = version; bytes = bytes }) else find (is_version f v) old.older)
   pub units : older_units new.older ≡ older_units old.older + (if is_pinned old.opens file version then units_of bytes else 0)

@@ -1,5 +1,5 @@
 -- What one change of a transaction makes of the parts of the files in memory. No public clause cites this module.
-use Rattle.std.specs.Prelude.{◌≡◌, ℕ, ◌<◌, ◌&&◌, ◌||◌, true, Bool, List, [], ◌∷◌, ◌++◌, filter, length, Option, Some, None, if◌then◌else◌, slice_index_or, slice_set}
+use Rattle.std.specs.Prelude.{◌≡◌, ℕ, ◌+◌, ◌<◌, ◌&&◌, ◌||◌, true, Bool, List, [], ◌∷◌, ◌++◌, filter, length, Option, Some, None, if◌then◌else◌, slice_index_or, slice_set, drop, take}
 use Rattle.std.specs.List.{list_any}
 use Rattle.ktm_base.specs.declared.id.Id.{Id}
 use Rattle.ktm_types.specs.declared.change.Change.{Change}
@@ -12,7 +12,7 @@ use Rattle.txf_overlay.specs.Laws.{written_with}
 use Rattle.txf_overlay.specs.OverlayState.{OverlayState, Written, is_of_names, seen}
 use Rattle.txf_overlay.specs.Views.{StandsOver}
 use Rattle.txf_reserve.specs.ReserveState.{ReserveState, holds_in}
-use Rattle.txf_volume.specs.Held.{OwnHeld, overlay_in}
+use Rattle.txf_volume.specs.Held.{OwnHeld, overlay_in, without_own}
 
 -- ---- the list of what transactions changed
 
@@ -21,11 +21,12 @@ abbrev pub with_overlay : List OwnHeld → Id → OverlayState → List OwnHeld
 with_overlay [] id o = record { transaction = id; overlay = o } ∷ []
 with_overlay (p ∷ ps) id o = if same_id p.transaction id then record p { overlay = o } ∷ ps else p ∷ with_overlay ps id o
 
--- what a transaction changed is found at this place, and changed there
-pub record IsPlaceOf (overlays : List OwnHeld) (id : Id) (i : ℕ) : Type 0 where
+-- what a transaction changed is found at this place, and is changed there or taken out
+pub record IsPlace (overlays : List OwnHeld) (id : Id) (i : ℕ) : Type 0 where
   pub within : i < length overlays
   pub found : (d : OwnHeld) → overlay_in overlays id ≡ Some (slice_index_or overlays i d).overlay
   pub put : (o : OverlayState) (d : OwnHeld) → with_overlay overlays id o ≡ slice_set overlays i (record (slice_index_or overlays i d) { overlay = o })
+  pub left : without_own overlays id ≡ take i overlays ++ drop (i + 1) overlays
 
 -- a transaction that changed nothing
 abbrev pub unchanged : OverlayState

@@ -1,7 +1,6 @@
 // What a change adds to the units of its file, and takes from them.
-ghost use Rattle.std.specs.Prelude.{◌≡◌, ◌<◌, ◌+◌, ◌/◌, ◌^◌, length, true};
+ghost use Rattle.std.specs.Prelude.{◌≡◌, ◌<◌, ◌+◌, ◌/◌, ◌^◌, true};
 ghost use Rattle.ktm_world.specs.Changes.{bytes_in, changes_bytes, is_drop, is_make, next_after, node_of};
-ghost use Rattle.ktm_world.specs.Tree.{units_of};
 ghost use Rattle.txf_volume.specs.Uses.{ends, gain, loss};
 
 use ktm_types::{Change, Contents};

@@ -1,20 +1,21 @@
 // The files in memory.
-ghost use Rattle.std.specs.Prelude.{◌≡◌, [], IfSome, Some};
+ghost use Rattle.std.specs.Prelude.{◌≡◌, ◌+◌, ◌<◌, ◌^◌, [], IfSome, None, Some, find, true};
 ghost use Rattle.std.specs.Option.{option_copied};
 ghost use Rattle.ktm_world.specs.Files.{bytes_seen, first_open_of, fixed_bytes};
-ghost use Rattle.ktm_world.specs.Tree.{bytes_of};
+ghost use Rattle.ktm_world.specs.Tree.{units_of};
 ghost use Rattle.txf_tree.specs.TreeState.{tree_of};
-ghost use Rattle.txf_versions.specs.VersionsState.{AreHeld};
+ghost use Rattle.txf_versions.specs.VersionsState.{is_pinned, is_version, older_units, AreHeld};
+ghost use Rattle.txf_volume.specs.Making.{IsEnded};
 ghost use Rattle.txf_overlay.specs.Laws.{IsOwn};
 ghost use Rattle.txf_volume.specs.Ties.{IsOver};
 ghost use Rattle.txf_volume.specs.Held.{files_of, overlay_in, version_bytes, FilesHeld};
 
 use crate::own::{Own, overlay_of};
-use ktm_base::Id;
+use ktm_base::{Bytes, Id};
 use std::alloc::Global;
 use std::marker::Model;
 use txf_opens::Opens;
-use txf_overlay::{Overlay, WrittenFile};
+use txf_overlay::Overlay;
 use txf_reserve::Reserve;
 use txf_tree::Tree;
 use txf_versions::Versions;
@@ -32,12 +33,9 @@ pub struct Files {
     pub(crate) next_node: u64,
     // Of the committed files.
     pub(crate) units: u64,
-    // Room for the files that a commit takes out of what a transaction changed.
-    pub(crate) taken: Vec<WrittenFile>,
 }
 
 impl Model for Files {
-    ghost use Rattle.std.specs.Prelude.{vec_capacity};
     ghost use Rattle.txf_volume.specs.Held.{FilesHeld};
 
     ghost Value = { FilesHeld };
@@ -51,7 +49,6 @@ impl Model for Files {
       opens = f.opens;
       reserve = f.reserve;
       next_node = f.next_node;
-      room = vec_capacity f.taken;
     } };
 
     ghost invariant = { λ f. AreTied (record {
@@ -61,7 +58,6 @@ impl Model for Files {
       opens = f.opens;
       reserve = f.reserve;
       next_node = f.next_node;
-      room = vec_capacity f.taken;
     }) f.units };
 }
 
@@ -97,6 +93,17 @@ pub(crate) fn fixed_bytes<'a>(
     }
 }
 
+/// Keeps the bytes of a version that is no longer the last one, where somebody first opened it.
+pub(crate) fn end_version(versions: &mut Versions, file: u64, version: u64, bytes: Bytes)
+    requires absent { is_pinned versions.old.opens file version ≡ true → find (is_version file version) versions.old.older ≡ None }
+    requires few { is_pinned versions.old.opens file version ≡ true → older_units versions.old.older + units_of bytes < 2 ^ 64 }
+    ensures { IsEnded versions.old versions.new file version bytes }
+{
+    if versions.is_pinned(file, version) {
+        versions.keep(file, version, bytes);
+    }
+}
+
 /// The number of the first node that is made; the root's is the one before.
 const FIRST_NODE: u64 = 2;
 
@@ -120,7 +127,6 @@ impl Files {
             reserve: Reserve::new(alloc),
             next_node: FIRST_NODE,
             units: 0,
-            taken: Vec::new(alloc),
         }
     }
 

@@ -1,8 +1,8 @@
 // What each undecided transaction changed.
-ghost use Rattle.std.specs.Prelude.{◌≡◌, ◌<◌, ◌^◌, ◌+◌, ◌++◌, MatchOption, None, Some, drop, length, sum_by, take, true};
+ghost use Rattle.std.specs.Prelude.{◌≡◌, ◌<◌, ◌^◌, ◌+◌, MatchOption, None, Some, sum_by, true};
 ghost use Rattle.std.specs.Option.{option_copied};
 ghost use Rattle.txf_volume.specs.Held.{overlay_in, without_own};
-ghost use Rattle.txf_volume.specs.Making.{IsAbsent, IsPlace};
+ghost use Rattle.txf_volume.specs.OwnParts.{IsPlace};
 ghost use Rattle.txf_volume.specs.Ties.{held_by_two, names_held, nodes_held, units_held};
 ghost use Rattle.txf_volume.specs.Uses.{each_pair};
 
@@ -73,10 +73,10 @@ pub(crate) fn names_of(overlays: &[Own]) -> u64
     names
 }
 
-// Where the entry of a transaction is, if it changed anything.
-fn place_of(overlays: &[Own], transaction: Id) -> Option<usize>
+/// Where the entry of a transaction is, if it changed anything.
+pub(crate) fn place_of(overlays: &[Own], transaction: Id) -> Option<usize>
     requires { each_pair held_by_two overlays.now ≡ true }
-    ensures { MatchOption result (IsAbsent overlays.now transaction) (IsPlace overlays.now transaction) }
+    ensures { MatchOption result (overlay_in overlays.now transaction ≡ None) (IsPlace overlays.now transaction) }
 {
     for (place, own) in overlays.iter().enumerate() {
         if own.transaction == transaction {

@@ -1,5 +1,5 @@
 // One change more of a transaction, in what it changed and in what it holds.
-ghost use Rattle.std.specs.Prelude.{◌≡◌, ℕ, ◌<◌, ◌^◌, List, [], ◌∷◌, All, MatchOption, None, Some, OnOk, OnErr, is_some, map, true, if◌then◌else◌};
+ghost use Rattle.std.specs.Prelude.{◌≡◌, ℕ, ◌<◌, ◌^◌, List, [], ◌∷◌, All, None, Some, OnOk, OnErr, is_some, map, true, if◌then◌else◌};
 ghost use Rattle.ktm_types.specs.declared.recorded.Node.{Node};
 ghost use Rattle.ktm_types.specs.declared.change.Change.TheVariants.{Make, Put, Cut, Move, Drop};
 ghost use Rattle.ktm_world.specs.Changes.{applies, bytes_in, changed};
@@ -10,14 +10,15 @@ ghost use Rattle.txf_overlay.specs.Written.{total_units};
 ghost use Rattle.txf_reserve.specs.Acts.{listed};
 ghost use Rattle.txf_tree.specs.TreeState.{tree_of};
 ghost use Rattle.txf_volume.specs.Held.{overlay_in};
-ghost use Rattle.txf_volume.specs.OwnParts.{bare, bare_own, or_unchanged, starts, unchanged, written_next, IsChanged, IsChangedIn, IsPlaceOf};
-ghost use Rattle.txf_volume.specs.Ties.{IsOver};
+ghost use Rattle.txf_volume.specs.OwnParts.{bare, bare_own, or_unchanged, starts, unchanged, written_next, IsChanged, IsChangedIn, IsPlace};
+ghost use Rattle.txf_volume.specs.Ties.{held_by_two, IsOver};
+ghost use Rattle.txf_volume.specs.Uses.{each_pair};
 
 use crate::change::bytes_in;
 use crate::holding::{
     hold_dropped, hold_file, hold_made, hold_moved, is_directory_seen, place_seen,
 };
-use crate::own::Own;
+use crate::own::{Own, place_of};
 use ktm_base::{Id, NoMemory, Text};
 use ktm_laws::law_of_forms;
 use ktm_types::{Change, Contents, NodeKind};
@@ -210,18 +211,6 @@ fn change_overlay(
     }
 }
 
-// Where what a transaction changed is.
-fn place_of(overlays: &[Own], transaction: Id) -> Option<usize>
-    ensures { MatchOption result (overlay_in overlays.now transaction ≡ None) (IsPlaceOf overlays.now transaction) }
-{
-    for (i, own) in overlays.iter().enumerate() {
-        if own.transaction == transaction {
-            return Some(i);
-        }
-    }
-    None
-}
-
 // Makes a change of a transaction whose changes are at this place.
 fn change_at(
     tree: &Tree,
@@ -233,7 +222,7 @@ fn change_at(
     change: Change,
 ) -> Result<(), NoMemory>
     requires spare { 0 < reserve.old.spare }
-    requires place { IsPlaceOf overlays.old.items transaction place }
+    requires place { IsPlace overlays.old.items transaction place }
     requires over { All (λ o. IsOver (tree_of tree.now) o.overlay) overlays.old.items }
     requires applies { applies (seen (tree_of tree.now) (or_unchanged (overlay_in overlays.old.items transaction))) change ≡ true }
     requires few { total_units (written_next (or_unchanged (overlay_in overlays.old.items transaction)) fixed.now change) < 2 ^ 64 }
@@ -296,6 +285,7 @@ pub(crate) fn change_own(
     change: Change,
 ) -> Result<(), NoMemory>
     requires spare { 0 < reserve.old.spare }
+    requires once { each_pair held_by_two overlays.old.items ≡ true }
     requires over { All (λ o. IsOver (tree_of tree.now) o.overlay) overlays.old.items }
     requires formed { IsWellFormed (tree_of tree.now) }
     requires applies { applies (seen (tree_of tree.now) (or_unchanged (overlay_in overlays.old.items transaction))) change ≡ true }

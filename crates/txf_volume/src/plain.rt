@@ -1,12 +1,12 @@
 // What a plain call makes of the files, in two steps: it takes its memory, and once its change is recorded it is made.
-ghost use Rattle.std.specs.Prelude.{◌≡◌, ◌==◌, ◌&&◌, ◌+◌, ◌-◌, ◌<◌, ◌^◌, ℕ, find, None, Some, All, IfOk, IsOk, true, if◌then◌else◌};
-ghost use Rattle.ktm_world.specs.Changes.{applies, changed, changes_bytes, is_make, next_after, node_of};
+ghost use Rattle.std.specs.Prelude.{◌≡◌, ◌+◌, ◌-◌, ◌<◌, ◌^◌, ℕ, None, Some, All, IfOk, IsOk, true, if◌then◌else◌};
+ghost use Rattle.ktm_world.specs.Changes.{applies, changed, changes_bytes, next_after, node_of};
 ghost use Rattle.ktm_world.specs.Committed.{version_of, versions_after};
 ghost use Rattle.ktm_world.specs.FileOutcome.{changing, files_after, with_open};
-ghost use Rattle.ktm_world.specs.Tree.{is_file, numbers_rise, units_of};
+ghost use Rattle.ktm_world.specs.Tree.{is_file, numbers_rise};
 ghost use Rattle.txf_calls.specs.Views.{open_of};
 ghost use Rattle.txf_tree.specs.TreeState.{fits, tree_of, versions_of};
-ghost use Rattle.txf_versions.specs.VersionsState.{is_pinned, is_version, older_units};
+ghost use Rattle.txf_versions.specs.VersionsState.{is_pinned};
 ghost use Rattle.txf_volume.specs.Held.{files_of};
 ghost use Rattle.txf_volume.specs.Plain.{copied_for, CanBeKept, IsLeftOver, IsPlain, IsPlainChange, IsPlainOpen, IsReady, KeepsEnded, LeavesOwn};
 ghost use Rattle.txf_volume.specs.Ties.{IsKeptOpen};
@@ -14,7 +14,7 @@ ghost use Rattle.txf_volume.specs.Uses.{tree_units};
 ghost use Rattle.txf_volume.specs.Writes.{CanBeCounted};
 
 use crate::change::{changes_bytes, gain, loss, next_after, node_of};
-use crate::files::{Files, law_of_older};
+use crate::files::{Files, end_version, law_of_older};
 use ktm_base::{Bytes, NoMemory};
 use ktm_laws::law_of_forms;
 use ktm_types::Change;
@@ -50,18 +50,6 @@ fn units_after(tree: &Tree, units: u64, change: &Change) -> u64
     (units as u128 + gain(was, change) - loss(was, change)) as u64
 }
 
-// Keeps the bytes of a version, where somebody first opened it.
-fn keep_pinned(versions: &mut Versions, file: u64, version: u64, bytes: Bytes)
-    requires absent { is_pinned versions.old.opens file version ≡ true → find (is_version file version) versions.old.older ≡ None }
-    requires few { is_pinned versions.old.opens file version ≡ true → older_units versions.old.older + units_of bytes < 2 ^ 64 }
-    ensures opens { versions.new.opens ≡ versions.old.opens }
-    ensures found { (f v : ℕ) → is_pinned versions.old.opens f v ≡ true → find (is_version f v) versions.new.older ≡ (if file == f && version == v then Some (record { file = file; version = version; bytes = bytes }) else find (is_version f v) versions.old.older) }
-{
-    if versions.is_pinned(file, version) {
-        versions.keep(file, version, bytes);
-    }
-}
-
 // Makes a change, and keeps the bytes that it ends, where somebody first opened them.
 fn apply(tree: &mut Tree, versions: &mut Versions, change: Change, copy: Option<Bytes>)
     requires does_apply { applies (tree_of tree.old) change ≡ true }
@@ -79,7 +67,7 @@ fn apply(tree: &mut Tree, versions: &mut Versions, change: Change, copy: Option<
     let version = tree.version(file);
     let dropped = tree.apply(change);
     if let Some(bytes) = copy.or(dropped) {
-        keep_pinned(versions, file, version, bytes);
+        end_version(versions, file, version, bytes);
     }
 }
 

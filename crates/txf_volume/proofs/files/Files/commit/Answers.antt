@@ -1,4 +1,4 @@
-use Rattle.std.proofs.Common.{MatchOption, Option, [], ap, subst, sym, refl, ◌∙◌, vec_capacity, arith}
+use Rattle.std.proofs.Common.{MatchOption, Option, [], ap, subst, sym, refl, ◌∙◌, arith}
 use Rattle.ktm_laws.specs.Reservations.{files_committed}
 use Rattle.txf_overlay.specs.OverlayState.{OverlayState, own_of}
 use Rattle.txf_volume.specs.Making.{parts, AreMade}
@@ -6,10 +6,10 @@ use Rattle.txf_volume.specs.Held.{FilesHeld, files_of}
 use Rattle.txf_volume.specs.contracts.files.Files.{the_view}
 use Rattle.txf_volume.proofs.CommitTied.{Commits, IsCommittable, can-own, files-are, right, tied-then}
 use Rattle.txf_volume.proofs.files.Files.commit.Goals as goal
-use Rattle.txf_volume.proofs.files.Files.commit.Goals.{After-replace-taken, After-commit_own-self-inside}
+use Rattle.txf_volume.proofs.files.Files.commit.Goals.{After-take_overlay-own, After-commit_own-self-inside}
 
 -- what was required, of the parts
-committable : (c : After-replace-taken) → IsCommittable (the_view c.self.inside) c.args.transaction
+committable : (c : After-take_overlay-own) → IsCommittable (the_view c.self.inside) c.args.transaction
 committable c = subst (λ (h : FilesHeld). IsCommittable h c.args.transaction) (sym c.self.view_is) (record { ready = c.requires.ready; applies = c.requires.applies; left = c.requires.left; unopened = c.requires.unopened; counted = c.requires.counted; few = c.requires.few })
 
 -- the parts then
@@ -21,7 +21,6 @@ held' c = the_view (record c.self.inside {
   opens = c.end_group.new.self;
   reserve = c.release-2.new.self;
   units = c.commit_own-self-inside.result;
-  taken = c.replace-taken.new.dest;
 })
 
 -- what was done with them
@@ -45,13 +44,13 @@ commit_own-self-inside-requires-clause-right c = right (the_view c.self.inside) 
 pub commit_own-self-inside-requires-clause-can : goal.commit_own-self-inside-requires-clause-can
 commit_own-self-inside-requires-clause-can c =
     can-own (the_view c.self.inside) c.self.inside.units c.args.transaction c.self.invariant c.release.new.self c.release.ensures.opens c.release.ensures.held
-    (committable (goal.at.commit_own-self-inside-requires-clause-can c).After-replace-taken) c.law_of_older.ensures (omega arith) (vec_capacity c.replace-taken.result) (ap vec_capacity c.replace-taken.ensures.value) c.take_overlay-own.result c.take_overlay-own.ensures.overlay
+    (committable (goal.at.commit_own-self-inside-requires-clause-can c).After-take_overlay-own) c.law_of_older.ensures (omega arith) c.take_overlay-own.result c.take_overlay-own.ensures.overlay
 
 pub invariant_of-self : goal.invariant_of-self
 invariant_of-self c =
     let all = (goal.at.invariant_of-self c).After-commit_own-self-inside in
     tied-then (the_view c.self.inside) c.self.inside.units c.args.transaction c.self.invariant (held' all) c.commit_own-self-inside.result c.release.new.self
-    (committable (goal.at.invariant_of-self c).After-replace-taken) (done all) c.law_of_forms.ensures c.law_of_other_trees.ensures
+    (committable (goal.at.invariant_of-self c).After-take_overlay-own) (done all) c.law_of_forms.ensures c.law_of_other_trees.ensures
     (record { nodes = c.release-2.ensures.nodes; places = c.release-2.ensures.places; uses = c.release-2.ensures.uses; dropped = c.release-2.ensures.dropped; moves = c.release-2.ensures.moves })
 
 pub returns : goal.returns
@@ -60,6 +59,6 @@ returns c =
     record {
       files =
           files-are (the_view c.self.inside) c.self.inside.units c.args.transaction c.self.invariant (held' all) c.commit_own-self-inside.result c.release.new.self
-          (committable (goal.at.returns c).After-replace-taken) (done all)
+          (committable (goal.at.returns c).After-take_overlay-own) (done all)
           ∙ ap (λ (h : FilesHeld). files_committed (files_of h) c.args.transaction) c.self.view_is;
     }
