@@ -1,5 +1,5 @@
 -- What a call on files comes to.
-use Rattle.std.specs.Prelude.{Bool, List, [], ◌∷◌, Option, Some, None}
+use Rattle.std.specs.Prelude.{Bool, true, false, List, [], ◌∷◌, Option, Some, None}
 use Rattle.ktm_base.specs.declared.id.Id.{Id}
 use Rattle.ktm_base.specs.declared.refusal.Refusal.{Refusal}
 use Rattle.ktm_types.specs.declared.reply.Reply.TheVariants.{Refused}
@@ -47,3 +47,11 @@ unless_refused None o = o
 -- the first of the call's tests that holds refuses it, else it does what it is for
 abbrev pub file_outcome : FilesNow → FileRoom → Option Id → FileCall → FileOutcome
 file_outcome files room who call = unless_refused (first_refusal (file_tests files room who call)) (file_effect files who call)
+
+-- may the call want memory: one that has no path and reads no bytes does not
+abbrev pub takes_memory : FileCall → Bool
+takes_memory (Write file offset bytes) = false
+takes_memory (SetEnd file size) = false
+takes_memory (Size file) = false
+takes_memory (Flush file) = false
+takes_memory _ = true

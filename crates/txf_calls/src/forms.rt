@@ -1,6 +1,6 @@
 // Each call by its form.
-ghost use Rattle.std.specs.Prelude.{◌≡◌, IfOk};
-ghost use Rattle.txf_calls.specs.Calls.{file_outcome};
+ghost use Rattle.std.specs.Prelude.{◌≡◌, false, IfOk, IsOk};
+ghost use Rattle.txf_calls.specs.Calls.{file_outcome, takes_memory};
 ghost use Rattle.txf_calls.specs.Fits.{IsOrderly, MayBeUsed};
 
 use crate::call::{FileCall, Room};
@@ -26,7 +26,8 @@ pub fn decide<V: Volume>(
 ) -> Result<Plan, NoMemory>
     requires orderly { IsOrderly (V.files volume.now) }
     requires usable { MayBeUsed (V.files volume.now) call }
-    ensures { IfOk result (λ plan. plan ≡ file_outcome (V.files volume.now) room.now who call) }
+    ensures plan { IfOk result (λ plan. plan ≡ file_outcome (V.files volume.now) room.now who call) }
+    ensures enough { takes_memory call ≡ false → IsOk result }
 {
     match call {
         FileCall::Create {

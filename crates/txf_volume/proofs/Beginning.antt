@@ -11,7 +11,8 @@ use Rattle.txf_reserve.specs.ReserveState.{Keeps, names_of, numbers_of}
 use Rattle.txf_tree.specs.TreeState.{tree_of}
 use Rattle.txf_volume.specs.Held.{FilesHeld, OwnHeld, files_of, own_held}
 use Rattle.txf_volume.specs.Ties.{AreTied, IsKeptOpen, IsOver, held_by_two, names_held, nodes_held, units_held}
-use Rattle.txf_volume.specs.Uses.{each_pair, tree_units}
+use Rattle.ktm_laws.specs.GoodState.{each_pair}
+use Rattle.txf_volume.specs.Uses.{tree_units}
 
 well-empty : IsWellFormed []
 well-empty = record { parents = All-nil _; reach = All-nil _; names = All-nil _; one_each = All-nil _; numbers = All-nil _; rise = refl }

@@ -16,8 +16,11 @@ use Rattle.txf_versions.specs.declared.opened.Opened.{Opened}
 use Rattle.txf_volume.specs.Making.{files_only, units_older, IsEnded}
 use Rattle.txf_volume.specs.Held.{first_held, version_bytes}
 use Rattle.txf_volume.specs.Ties.{IsKeptOpen, is_last}
-use Rattle.txf_volume.proofs.Elements.{IsIn, All-by, All-in, each-mapped, list_any-from}
-use Rattle.txf_volume.proofs.OlderVersions.{older-alike, older-is, older-more, older_units, version_units}
+use Rattle.ktm_laws.specs.Footprint.{IsIn}
+use Rattle.ktm_laws.proofs.Elements.{list_any-from}
+use Rattle.txf_volume.proofs.Elements.{All-by, All-in, each-mapped}
+use Rattle.ktm_laws.proofs.OlderVersions.{older-is, older_units, version_units}
+use Rattle.txf_volume.proofs.OlderVersions.{older-alike, older-more}
 use Rattle.txf_volume.proofs.PlainUses.{eqb-turned, is_older}
 
 -- the units of older versions, by a test

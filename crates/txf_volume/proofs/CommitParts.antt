@@ -31,12 +31,14 @@ use Rattle.txf_volume.specs.Ties.{IsKeptOpen}
 use Rattle.txf_volume.specs.Uses.{gain, loss, tree_units}
 use Rattle.txf_volume.proofs.CommitKept.{IsStill, absent, ended-firsts, ended-opened, ended-units, older-of, still-firsts, still-opened, still-units}
 use Rattle.txf_volume.proofs.CommitVersions.{AllFresh, Rests, content-elsewhere, content-final-other, content-dropped, content-moved, file-dropped, rests-all, units-rise-all, version-final, version-final-other}
-use Rattle.txf_volume.proofs.Elements.{IsIn, All-by, All-in, each-mapped, list_any-from}
-use Rattle.txf_volume.proofs.Forms.{cut-none, put-none}
-use Rattle.txf_volume.proofs.Lookups.{Rises-from}
+use Rattle.ktm_laws.specs.Footprint.{IsIn}
+use Rattle.ktm_laws.proofs.Elements.{list_any-from}
+use Rattle.txf_volume.proofs.Elements.{All-by, All-in, each-mapped}
+use Rattle.ktm_laws.proofs.NormalForms.{cut-none, put-none}
+use Rattle.ktm_laws.proofs.Lookups.{Rises-from}
 use Rattle.txf_volume.proofs.Steady.{versions-rise}
 use Rattle.txf_volume.proofs.TreeUnits.{units-changed}
-use Rattle.txf_volume.proofs.Versions.{version_of-without, version-elsewhere}
+use Rattle.ktm_laws.proofs.Versions.{version_of-without, version-elsewhere}
 
 -- ---- what can be made
 

@@ -34,13 +34,18 @@ use Rattle.txf_volume.specs.Commit.{names_in, AreUnopened, AreVersionsFew, Leave
 use Rattle.txf_volume.specs.Making.{firsts_of, is_fresh, parts, units_older, AreMade, AreRight, CanTake}
 use Rattle.txf_volume.specs.Held.{FilesHeld, OwnHeld, changes_held, files_of, first_held, overlay_in, own_held, without_own}
 use Rattle.txf_volume.specs.Ties.{AreTied, IsKeptOpen, IsOver, held_by_two, names_held, nodes_held, units_held}
-use Rattle.txf_volume.specs.Uses.{changed_by_two, each_pair, tree_units}
+use Rattle.ktm_laws.specs.SoundFiles.{changed_by_two}
+use Rattle.ktm_laws.specs.GoodState.{each_pair}
+use Rattle.txf_volume.specs.Uses.{tree_units}
 use Rattle.txf_volume.specs.Writes.{CanBeCounted}
 use Rattle.txf_volume.proofs.CommitKept.{older-of}
-use Rattle.txf_volume.proofs.Elements.{IsIn, All-by, All-in, IsIn-filter, each_pair-filter, list_all-from, list_any-at, list_any-from}
-use Rattle.txf_volume.proofs.Forms.{AllBytes}
+use Rattle.ktm_laws.specs.Footprint.{IsIn}
+use Rattle.ktm_laws.proofs.Elements.{IsIn-filter, list_all-from, list_any-at, list_any-from}
+use Rattle.ktm_laws.proofs.Elements.{each_pair-filter}
+use Rattle.txf_volume.proofs.Elements.{All-by, All-in}
+use Rattle.ktm_laws.proofs.NormalForms.{AllBytes}
 use Rattle.txf_volume.proofs.OlderKept.{older-kept}
-use Rattle.txf_volume.proofs.OlderVersions.{older-is, version_units}
+use Rattle.ktm_laws.proofs.OlderVersions.{older-is, version_units}
 use Rattle.txf_volume.proofs.OwnTables.{own_changes-none, own_changes-of, same_id-equal}
 use Rattle.txf_volume.proofs.PlainUses.{is_older}
 use Rattle.txf_volume.proofs.Seen.{changes_in, over-in, own_changes-held}

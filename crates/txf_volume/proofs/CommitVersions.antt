@@ -12,12 +12,14 @@ use Rattle.ktm_world.specs.Committed.{Version, final_bytes, version_of, versions
 use Rattle.ktm_world.specs.Files.{FirstOpen}
 use Rattle.ktm_world.specs.FileUses.{same_version}
 use Rattle.ktm_world.specs.Tree.{Tree, content_of, is_file, node_at}
-use Rattle.txf_volume.specs.Uses.{each_pair, files_rise}
-use Rattle.txf_volume.proofs.Elements.{IsIn}
-use Rattle.txf_volume.proofs.Lookups.{map_node, node_at-elsewhere, node_at-there}
-use Rattle.txf_volume.proofs.OlderVersions.{has_older, list_any-alike, older-cons, older_units, version_units}
+use Rattle.ktm_laws.specs.GoodState.{each_pair}
+use Rattle.ktm_laws.specs.SoundFiles.{files_rise}
+use Rattle.ktm_laws.specs.Footprint.{IsIn}
+use Rattle.ktm_laws.proofs.Lookups.{map_node, node_at-elsewhere, node_at-there}
+use Rattle.ktm_laws.proofs.OlderVersions.{has_older, list_any-alike, older-cons, older_units, version_units}
 use Rattle.txf_volume.proofs.PlainUses.{is_older}
-use Rattle.txf_volume.proofs.Versions.{rises-after, version_of-raised, version_of-twice, version-elsewhere}
+use Rattle.ktm_laws.proofs.Versions.{version_of-raised, version-elsewhere}
+use Rattle.txf_volume.proofs.Versions.{rises-after, version_of-twice}
 
 -- ---- more of them are older
 

@@ -1,56 +1,20 @@
 -- Changes in the form in which they are committed.
-use Rattle.std.proofs.Common.{zero, suc, ◌≡◌, ℕ, ◌+◌, ◌-◌, ◌<◌, ◌==◌, ◌&&◌, ◌||◌, not, Bool, true, false, if◌then◌else◌, filter, fold, take, drop, length, replicate, List, [], ◌∷◌, ◌++◌, Some, refl, sym, ◌∙◌, ap, subst, arith, inl, inr, ◌⊎◌}
-use Rattle.std.proofs.lemmas.Bool.{cases_Bool, eq-eqb, ne_eqb, eqb-true, eqb-false, ltb-true, ltb-false, and_parts, not-true, not_from_false}
-use Rattle.std.proofs.lemmas.List.{append-nil}
-use Rattle.std.proofs.lemmas.List.Sums.{fold-append}
-use Rattle.std.specs.List.{list_all, flat_map}
-use Rattle.std.specs.Bool.{⊤}
+use Rattle.std.proofs.Common.{◌≡◌, ℕ, ◌==◌, not, true, false, filter, List, [], ◌∷◌, ◌++◌, Some, refl, ◌∙◌, ap, inl, inr, ◌⊎◌}
+use Rattle.std.proofs.lemmas.Bool.{cases_Bool, eq-eqb, ne_eqb, not-true}
 use Rattle.std.specs.Prelude.{nat_lt}
 use Rattle.ktm_types.specs.declared.change.Change.{Change}
-use Rattle.ktm_world.specs.Changes.{changed_all, changes_bytes, is_make_of_file, is_drop, node_of}
-use Rattle.ktm_world.specs.Committed.{with_number, without_number, written_after, written_files, final_bytes, changes_to_commit}
+use Rattle.ktm_world.specs.Changes.{changed_all, changes_bytes}
+use Rattle.ktm_world.specs.Committed.{with_number, final_bytes}
 use Rattle.ktm_world.specs.Files.{bytes_after}
-use Rattle.ktm_world.specs.Tree.{bytes_of, cut_to, put_over}
-use Rattle.txf_volume.proofs.Elements.{IsIn, IsIn-filter, IsIn-kept}
+use Rattle.ktm_world.specs.Tree.{bytes_of, cut_to}
+use Rattle.ktm_laws.specs.Footprint.{IsIn}
+use Rattle.ktm_laws.proofs.Elements.{IsIn-filter}
+use Rattle.ktm_laws.proofs.NormalForms.{cut-none, is_of_file, names_only, put-none}
+use Rattle.ktm_laws.proofs.NormalForms.{ends_of}
 
 -- what is made, moved and dropped
 abbrev pub names_of : List Change → List Change
 names_of changes = filter (λ change. not (changes_bytes change)) changes
-
--- does a change make, move or drop a name
-abbrev pub names_only : Change → Bool
-names_only c = not (changes_bytes c)
-
--- the bytes at the end
-abbrev pub ends_of : (ℕ → List ℕ) → List ℕ → List Change
-ends_of by files = flat_map (λ file. final_bytes file (by file)) files
-
-pub filter-append : {X : Type 0} (test : X → Bool) (xs ys : List X) → filter test (xs ++ ys) ≡ filter test xs ++ filter test ys
-filter-append test [] ys = refl
-filter-append test (x ∷ xs) ys = elim (cases_Bool (test x)) [
-  | inl is ↦ rw is (ap (λ zs. x ∷ zs) (filter-append test xs ys))
-  | inr not' ↦ rw not' (filter-append test xs ys)
-]
-
--- ---- changes of bytes
-
--- are all of them changes of bytes
-abbrev pub AllBytes : List Change → Type 0
-AllBytes cs = list_all changes_bytes cs ≡ true
-
-end-bytes : (f : ℕ) (bs : List ℕ) (rest : List Change) → AllBytes rest → AllBytes (final_bytes f bs ++ rest)
-end-bytes f [] rest all = all
-end-bytes f (b ∷ bs) rest all = all
-
-pub ends-bytes : (by : ℕ → List ℕ) (files : List ℕ) → AllBytes (ends_of by files)
-ends-bytes by [] = refl
-ends-bytes by (f ∷ fs) = end-bytes f (by f) (ends_of by fs) (ends-bytes by fs)
-
-pub no-names : (cs : List Change) → AllBytes cs → names_of cs ≡ []
-no-names [] all = refl
-no-names (c ∷ cs) all = let parts = and_parts (changes_bytes c) (list_all changes_bytes cs) all in rw parts.0 (no-names cs parts.1)
-
--- ---- rising numbers
 
 pub IsIn-with_number : (ms : List ℕ) (n m : ℕ) → IsIn m (with_number ms n) → IsIn m ms ⊎ (n ≡ m)
 IsIn-with_number [] n m (inl e) = inr e
@@ -66,156 +30,6 @@ IsIn-with_number (k ∷ ks) n m there = elim (cases_Bool (k == n)) [
         elim there' [ inl e ↦ inl (inl e) | inr later ↦ elim (IsIn-with_number ks n m later) [ inl old ↦ inl (inr old) | inr e ↦ inr e ] ]
   ]
 ]
-
-abbrev pub Over : ℕ → List ℕ → Type 0
-Over n ms = (m : ℕ) → IsIn m ms → n < m
-
-abbrev pub RisingNumbers : List ℕ → Type 0
-RisingNumbers [] = ⊤
-RisingNumbers (n ∷ ns) = Over n ns × RisingNumbers ns
-
-rising-with : (ms : List ℕ) (n : ℕ) → RisingNumbers ms → RisingNumbers (with_number ms n)
-rising-with [] n rises = (λ m none. absurd none, tt)
-rising-with (k ∷ ks) n rises = elim (cases_Bool (k == n)) [
-  | inl same ↦ rw same rises
-  | inr other ↦ elim (cases_Bool (nat_lt n k)) [
-    | inl before ↦
-        let less = ltb-true n k before in
-        rw (other, before) (λ m there. elim there [ inl e ↦ subst (λ j. n < j) e less | inr later ↦ omega (arith, less, rises.0 m later) ], rises)
-    | inr behind ↦ rw (other, behind) (λ m there. elim (IsIn-with_number ks n m there) [ inl old ↦ rises.0 m old | inr e ↦ subst (λ j. k < j) e (omega (arith, ltb-false n k behind, eqb-false k n other)) ], rising-with ks n rises.1)
-  ]
-]
-
-rising-filter : (test : ℕ → Bool) (ms : List ℕ) → RisingNumbers ms → RisingNumbers (filter test ms)
-rising-filter test [] rises = tt
-rising-filter test (m ∷ ms) rises = elim (cases_Bool (test m)) [
-  | inl is ↦ rw is (λ k there. rises.0 k (IsIn-filter test ms k there).0, rising-filter test ms rises.1)
-  | inr not' ↦ rw not' (rising-filter test ms rises.1)
-]
-
-rising-after : (files : List ℕ) (c : Change) → RisingNumbers files → RisingNumbers (written_after files c)
-rising-after files c rises = go (changes_bytes c || is_make_of_file c) (is_drop c)
-  where
-    go : (b d : Bool) → RisingNumbers (if b then with_number files (node_of c) else (if d then without_number files (node_of c) else files))
-    go true d = rising-with files (node_of c) rises
-    go false true = rising-filter (λ k. not (k == node_of c)) files rises
-    go false false = rises
-
-pub rising-written : (cs : List Change) (files : List ℕ) → RisingNumbers files → RisingNumbers (fold written_after files cs)
-rising-written [] files rises = rises
-rising-written (c ∷ cs) files rises = rising-written cs (written_after files c) (rising-after files c rises)
-
--- two rising lists with the same numbers are one
-pub same-numbers : (xs ys : List ℕ) → RisingNumbers xs → RisingNumbers ys → ((n : ℕ) → IsIn n xs → IsIn n ys) → ((n : ℕ) → IsIn n ys → IsIn n xs) → xs ≡ ys
-same-numbers [] [] rises rises' to from = refl
-same-numbers [] (y ∷ ys) rises rises' to from = absurd (from y (inl refl))
-same-numbers (x ∷ xs) [] rises rises' to from = absurd (to x (inl refl))
-same-numbers (x ∷ xs) (y ∷ ys) rises rises' to from =
-    let e : x ≡ y = elim (to x (inl refl)) [
-      | inl same ↦ sym same
-      | inr later ↦ elim (from y (inl refl)) [ inl same ↦ same | inr later' ↦ absurd (omega (arith, rises'.0 x later, rises.0 y later')) ]
-    ] in
-    let rest : xs ≡ ys = same-numbers xs ys rises.1 rises'.1
-    (λ n there. elim (to n (inr there)) [ inl same ↦ absurd (omega (arith, rises.0 n there, e, same)) | inr later ↦ later ])
-    (λ n there. elim (from n (inr there)) [ inl same ↦ absurd (omega (arith, rises'.0 n there, e, same)) | inr later ↦ later ]) in
-    λ i. e i ∷ rest i
-
--- ---- files with bytes
-
-IsIn-with_number-old : (ms : List ℕ) (n m : ℕ) → IsIn m ms → IsIn m (with_number ms n)
-IsIn-with_number-old [] n m there = absurd there
-IsIn-with_number-old (k ∷ ks) n m there = elim (cases_Bool (k == n)) [
-  | inl same ↦ rw same there
-  | inr other ↦ elim (cases_Bool (nat_lt n k)) [
-    | inl before ↦ rw (other, before) (inr there)
-    | inr behind ↦ rw (other, behind) (elim there [ inl e ↦ inl e | inr later ↦ inr (IsIn-with_number-old ks n m later) ])
-  ]
-]
-
-pub IsIn-with_number-new : (ms : List ℕ) (n : ℕ) → IsIn n (with_number ms n)
-IsIn-with_number-new [] n = inl refl
-IsIn-with_number-new (k ∷ ks) n = elim (cases_Bool (k == n)) [
-  | inl same ↦ rw same (inl (eqb-true _ _ same))
-  | inr other ↦ elim (cases_Bool (nat_lt n k)) [
-    | inl before ↦ rw (other, before) (inl refl)
-    | inr behind ↦ rw (other, behind) (inr (IsIn-with_number-new ks n))
-  ]
-]
-
-abbrev Within : List ℕ → List ℕ → Type 0
-Within xs ys = (n : ℕ) → IsIn n xs → IsIn n ys
-
-pub names-kept : (c : Change) (cs : List Change) → names_only c ≡ true → names_of (c ∷ cs) ≡ c ∷ names_of cs
-names-kept c cs is = rw is refl
-
-within-after : (c : Change) (xs ys : List ℕ) → Within xs ys → Within (written_after xs c) (written_after ys c)
-within-after c xs ys within = go (changes_bytes c || is_make_of_file c) (is_drop c)
-  where
-    go : (m d : Bool) → Within (if m then with_number xs (node_of c) else (if d then without_number xs (node_of c) else xs)) (if m then with_number ys (node_of c) else (if d then without_number ys (node_of c) else ys))
-    go true d n there = elim (IsIn-with_number xs (node_of c) n there) [
-      | inl old ↦ IsIn-with_number-old ys (node_of c) n (within n old)
-      | inr e ↦ subst (λ m. IsIn m (with_number ys (node_of c))) e (IsIn-with_number-new ys (node_of c))
-    ]
-    go false true n there = let kept = IsIn-filter (λ k. not (k == node_of c)) xs n there in IsIn-kept (λ k. not (k == node_of c)) ys n (within n kept.0) kept.1
-    go false false n there = within n there
-
--- the files that names alone leave are among those that all changes leave
-pub names-within : (cs : List Change) (xs ys : List ℕ) → Within xs ys → Within (fold written_after xs (names_of cs)) (fold written_after ys cs)
-names-within [] xs ys within = within
-names-within (c ∷ cs) xs ys within = elim (cases_Bool (changes_bytes c)) [
-  | inl bytes ↦ rw bytes (names-within cs xs (with_number ys (node_of c)) (λ n there. IsIn-with_number-old ys (node_of c) n (within n there)))
-  | inr names ↦ subst (λ ds. Within (fold written_after xs ds) (fold written_after (written_after ys c) cs)) (sym (names-kept c cs (not_from_false _ names)))
-      (names-within cs (written_after xs c) (written_after ys c) (within-after c xs ys within))
-]
-
--- the bytes at the end add their files
-pub ends-written : (by : ℕ → List ℕ) (files : List ℕ) (xs : List ℕ) (n : ℕ) → IsIn n (fold written_after xs (ends_of by files)) → IsIn n xs ⊎ IsIn n files
-ends-written by [] xs n there = inl there
-ends-written by (f ∷ fs) xs n there = go (λ ys has. ends-written by fs ys n has) (by f) there
-  where
-    add : (ys : List ℕ) → IsIn n ys ⊎ IsIn n fs → Within ys (with_number xs f) → IsIn n xs ⊎ IsIn n (f ∷ fs)
-    add ys (inl old) within = elim (IsIn-with_number xs f n (within n old)) [ inl before ↦ inl before | inr e ↦ inr (inl e) ]
-    add ys (inr later) within = inr (inr later)
-
-    twice : Within (with_number (with_number xs f) f) (with_number xs f)
-    twice m has = elim (IsIn-with_number (with_number xs f) f m has) [ inl old ↦ old | inr e ↦ subst (λ k. IsIn k (with_number xs f)) e (IsIn-with_number-new xs f) ]
-
-    go : ((ys : List ℕ) → IsIn n (fold written_after ys (ends_of by fs)) → IsIn n ys ⊎ IsIn n fs) → (bs : List ℕ) → IsIn n (fold written_after xs (final_bytes f bs ++ ends_of by fs)) → IsIn n xs ⊎ IsIn n (f ∷ fs)
-    go rest [] has = add (with_number xs f) (rest (with_number xs f) has) (λ m old. old)
-    go rest (b ∷ bs) has = add (with_number (with_number xs f) f) (rest (with_number (with_number xs f) f) has) twice
-
-pub ends-add : (by : ℕ → List ℕ) (files : List ℕ) (xs : List ℕ) (n : ℕ) → IsIn n xs ⊎ IsIn n files → IsIn n (fold written_after xs (ends_of by files))
-ends-add by [] xs n (inl old) = old
-ends-add by [] xs n (inr none) = absurd none
-ends-add by (f ∷ fs) xs n there = go (λ ys is. ends-add by fs ys n is) (by f)
-  where
-    more : (ys : List ℕ) → Within xs ys → IsIn f ys → IsIn n ys ⊎ IsIn n fs
-    more ys within has = elim there [
-      | inl old ↦ inl (within n old)
-      | inr (inl e) ↦ inl (subst (λ m. IsIn m ys) e has)
-      | inr (inr later) ↦ inr later
-    ]
-
-    go : ((ys : List ℕ) → IsIn n ys ⊎ IsIn n fs → IsIn n (fold written_after ys (ends_of by fs))) → (bs : List ℕ) → IsIn n (fold written_after xs (final_bytes f bs ++ ends_of by fs))
-    go rest [] = rest (with_number xs f) (more (with_number xs f) (IsIn-with_number-old xs f) (IsIn-with_number-new xs f))
-    go rest (b ∷ bs) = rest (with_number (with_number xs f) f)
-        (more (with_number (with_number xs f) f) (λ m old. IsIn-with_number-old (with_number xs f) f m (IsIn-with_number-old xs f m old)) (IsIn-with_number-new (with_number xs f) f))
-
--- the form in which changes are committed leaves the files with bytes that they leave
-pub written-final : (cs : List Change) (by : ℕ → List ℕ) → written_files (changes_to_commit cs by) ≡ written_files cs
-written-final cs by =
-    let names = fold written_after [] (names_of cs) in
-    fold-append written_after [] (names_of cs) (ends_of by (written_files cs))
-    ∙ same-numbers (fold written_after names (ends_of by (written_files cs))) (written_files cs)
-    (rising-written (ends_of by (written_files cs)) names (rising-written (names_of cs) [] tt)) (rising-written cs [] tt)
-    (λ n there. elim (ends-written by (written_files cs) names n there) [ inl old ↦ names-within cs [] [] (λ m none. none) n old | inr is ↦ is ])
-    (λ n there. ends-add by (written_files cs) names n (inr there))
-
--- ---- bytes
-
--- does a change put or cut bytes of the file
-abbrev pub is_of_file : ℕ → Change → Bool
-is_of_file file c = changes_bytes c && node_of c == file
 
 none-of-file : (file : ℕ) (cs : List Change) → ((c : Change) → IsIn c cs → is_of_file file c ≡ false) → filter (is_of_file file) cs ≡ []
 none-of-file file [] none = refl
@@ -235,43 +49,6 @@ ends-elsewhere by (f ∷ fs) file other = go (ends-elsewhere by fs file (λ ther
     go rest [] = rw differs rest
     go rest (b ∷ bs) = rw differs rest
 
-ends-there : (by : ℕ → List ℕ) (files : List ℕ) (file : ℕ) → RisingNumbers files → IsIn file files → filter (is_of_file file) (ends_of by files) ≡ final_bytes file (by file)
-ends-there by [] file rises there = absurd there
-ends-there by (f ∷ fs) file rises there = elim (cases_Bool (f == file)) [
-  | inl same ↦
-      let e = eqb-true f file same in
-      filter-append (is_of_file file) (final_bytes f (by f)) (ends_of by fs)
-      ∙ ap (λ ds. filter (is_of_file file) (final_bytes f (by f)) ++ ds) (ends-elsewhere by fs file (λ has. omega (arith, e, rises.0 file has)))
-      ∙ append-nil (filter (is_of_file file) (final_bytes f (by f))) ∙ mine same (by f) ∙ ap (λ k. final_bytes k (by k)) e
-  | inr other ↦ elim there [
-    | inl e ↦ absurd (eqb-false f file other e)
-    | inr later ↦
-        filter-append (is_of_file file) (final_bytes f (by f)) (ends_of by fs) ∙ ap (λ ds. ds ++ filter (is_of_file file) (ends_of by fs)) (theirs other (by f)) ∙ ends-there by fs file rises.1 later
-  ]
-]
-  where
-    mine : (f == file) ≡ true → (bs : List ℕ) → filter (is_of_file file) (final_bytes f bs) ≡ final_bytes f bs
-    mine same [] = rw same refl
-    mine same (b ∷ bs) = rw same refl
-
-    theirs : (f == file) ≡ false → (bs : List ℕ) → filter (is_of_file file) (final_bytes f bs) ≡ []
-    theirs other [] = rw other refl
-    theirs other (b ∷ bs) = rw other refl
-
-abbrev none_at_all : List ℕ
-none_at_all = []
-
-pub cut-none : (bs : List ℕ) → cut_to bs 0 ≡ []
-cut-none bs = let e : 0 - length bs ≡ 0 = omega arith in ap (λ n. take 0 bs ++ replicate n 0) e
-
-drop-none : (n : ℕ) → drop n (none_at_all) ≡ none_at_all
-drop-none zero = refl
-drop-none (suc n) = refl
-
-pub put-none : (old bs : List ℕ) → old ≡ [] → put_over old 0 bs ≡ bs
-put-none old bs none =
-    ap (λ o. put_over o 0 bs) none ∙ ap (λ o. o ++ bs ++ drop (0 + length bs) []) (cut-none []) ∙ ap (λ o. bs ++ o) (drop-none (0 + length bs)) ∙ append-nil bs
-
 -- the bytes at the end are the bytes, whatever was there before
 pub final-bytes : (before : List ℕ) (file : ℕ) (bs : List ℕ) (cs : List Change) → filter (is_of_file file) cs ≡ final_bytes file bs → bytes_after before file cs ≡ bs
 final-bytes before file bs cs is =
@@ -283,8 +60,3 @@ final-bytes before file bs cs is =
     go : (bs : List ℕ) → bytes_of (changed_all (record { number = file; parent = 1; name = []; content = Some before } ∷ []) (final_bytes file bs)) file ≡ bs
     go [] = rw (same, same) (cut-none before)
     go (b ∷ bs) = rw (same, same, same) (put-none (cut_to before 0) (b ∷ bs) (cut-none before))
-
-pub bytes-final : (cs : List Change) (by : ℕ → List ℕ) (before : List ℕ) (file : ℕ) → IsIn file (written_files cs) → bytes_after before file (changes_to_commit cs by) ≡ by file
-bytes-final cs by before file there = final-bytes before file (by file) (changes_to_commit cs by)
-    (filter-append (is_of_file file) (names_of cs) (ends_of by (written_files cs)) ∙ ap (λ ds. ds ++ filter (is_of_file file) (ends_of by (written_files cs))) (names-of-no-file file cs)
-    ∙ ends-there by (written_files cs) file (rising-written cs [] tt) there)

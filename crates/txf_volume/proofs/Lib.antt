@@ -1,7 +1,5 @@
 pub mod Elements
-pub mod Sums
 pub mod OlderVersions
-pub mod Lookups
 pub mod Versions
 pub mod TreeUnits
 pub mod PlainUses

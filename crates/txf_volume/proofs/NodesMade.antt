@@ -7,8 +7,10 @@ use Rattle.ktm_types.specs.declared.change.Change.TheVariants.{Make, Put, Cut, M
 use Rattle.ktm_world.specs.Changes.{changes_bytes, is_drop, is_make, node_of, nodes_made}
 use Rattle.ktm_world.specs.Committed.{changes_to_commit, written_files}
 use Rattle.txf_volume.specs.Uses.{one_if}
-use Rattle.txf_volume.proofs.Forms.{AllBytes, ends-bytes, ends_of, names-kept, names_of, names_only}
-use Rattle.txf_volume.proofs.Sums.{count-append, count-cons, one_where}
+use Rattle.ktm_laws.proofs.NormalForms.{AllBytes, ends-bytes, names-kept, names_only}
+use Rattle.ktm_laws.proofs.NormalForms.{ends_of}
+use Rattle.txf_volume.proofs.Forms.{names_of}
+use Rattle.ktm_laws.proofs.Sums.{count-append, count-cons, one_where}
 
 -- do changes drop the node
 abbrev drop_it : ℕ → List Change → Bool

@@ -1,42 +1,11 @@
 -- The older versions that were first opened: how many units they have, where first opens end, and where versions become older.
-use Rattle.std.proofs.Common.{◌≡◌, ℕ, ◌+◌, ◌==◌, ◌&&◌, ◌||◌, not, Bool, true, false, cond, List, [], ◌∷◌, ◌++◌, filter, sum_by, refl, sym, ◌∙◌, ap, arith, inl, inr}
+use Rattle.std.proofs.Common.{◌≡◌, ℕ, ◌+◌, ◌==◌, ◌&&◌, ◌||◌, not, Bool, true, false, cond, List, [], ◌∷◌, ◌++◌, sum_by, refl, sym, ◌∙◌, ap, arith, inl, inr}
 use Rattle.std.proofs.lemmas.Bool.{cases_Bool, and_parts, eqb-true}
-use Rattle.std.proofs.lemmas.List.Sums.{sum_by-cons}
 use Rattle.std.specs.List.{list_any}
-use Rattle.ktm_world.specs.Files.{FilesNow, FirstOpen, is_last_version}
-use Rattle.ktm_world.specs.FileUses.{same_version, older_versions}
-use Rattle.ktm_world.specs.Tree.{units_of}
-use Rattle.txf_volume.proofs.Elements.{IsIn}
-
--- the older versions, each once, where a test says which are older
-abbrev pub older_by : (FirstOpen → Bool) → List FirstOpen → List FirstOpen
-older_by old [] = []
-older_by old (o ∷ os) = let rest = older_by old os in filter (λ a. old a && not (list_any (same_version a) rest)) (o ∷ []) ++ rest
-
-pub older-is : (files : FilesNow) (os : List FirstOpen) → older_versions files os ≡ older_by (λ a. not (is_last_version files a)) os
-older-is files [] = refl
-older-is files (o ∷ os) = ap (λ rest. filter (λ a. not (is_last_version files a) && not (list_any (same_version a) rest)) (o ∷ []) ++ rest) (older-is files os)
-
--- the units of a version
-abbrev pub version_units : FirstOpen → ℕ
-version_units o = units_of o.bytes
-
--- the units of the older versions
-abbrev pub older_units : (FirstOpen → Bool) → List FirstOpen → ℕ
-older_units old os = sum_by version_units (older_by old os)
-
--- is some older one the same version
-abbrev pub has_older : (FirstOpen → Bool) → List FirstOpen → FirstOpen → Bool
-has_older old os a = list_any (λ o. old o && same_version a o) os
-
--- ---- the same version
-
-pub same_version-like : (a b : FirstOpen) → same_version a b ≡ true → (c : FirstOpen) → same_version a c ≡ same_version b c
-same_version-like a b same c =
-    let parts = and_parts (a.file == b.file) (a.version == b.version) same in
-    let file = eqb-true _ _ parts.0 in
-    let version = eqb-true _ _ parts.1 in
-    λ i. (file i == c.file) && (version i == c.version)
+use Rattle.ktm_world.specs.Files.{FirstOpen}
+use Rattle.ktm_world.specs.FileUses.{same_version}
+use Rattle.ktm_laws.specs.Footprint.{IsIn}
+use Rattle.ktm_laws.proofs.OlderVersions.{has_older, list_any-alike, older-cons, older_by, older_units, same_version-like, version_units}
 
 -- of which one is the same, the other is
 same_version-turned : (k o p : FirstOpen) → same_version o p ≡ true → same_version k p ≡ same_version k o
@@ -46,47 +15,8 @@ same_version-turned k o p same =
     let version = eqb-true _ _ parts.1 in
     λ i. (k.file == sym file i) && (k.version == sym version i)
 
-pub list_any-alike : {X : Type 0} (f g : X → Bool) (xs : List X) → ((x : X) → IsIn x xs → f x ≡ g x) → list_any f xs ≡ list_any g xs
-list_any-alike f g [] same = refl
-list_any-alike f g (x ∷ xs) same = λ i. same x (inl refl) i || list_any-alike f g xs (λ y there. same y (inr there)) i
-
 has_older-like : (old : FirstOpen → Bool) (os : List FirstOpen) (a b : FirstOpen) → same_version a b ≡ true → has_older old os a ≡ has_older old os b
 has_older-like old os a b same = list_any-alike (λ o. old o && same_version a o) (λ o. old o && same_version b o) os (λ o there. ap (λ s. old o && s) (same_version-like a b same o))
-
--- ---- one after another
-
--- an older version is kept unless it comes again
-any-kept : (a o : FirstOpen) (b : Bool) (rest : List FirstOpen) → list_any (same_version a) (cond b (o ∷ []) [] ++ rest) ≡ ((b && same_version a o) || list_any (same_version a) rest)
-any-kept a o true rest = refl
-any-kept a o false rest = refl
-
-any-older : (old : FirstOpen → Bool) (os : List FirstOpen) (a : FirstOpen) → list_any (same_version a) (older_by old os) ≡ has_older old os a
-any-older old [] a = refl
-any-older old (o ∷ os) a =
-    let rest = older_by old os in
-    any-kept a o (old o && not (list_any (same_version o) rest)) rest ∙ elim (cases_Bool (old o)) [
-      | inr young ↦ rw young (any-older old os a)
-      | inl is ↦ elim (cases_Bool (list_any (same_version o) rest)) [
-        | inr once ↦ rw (is, once) (ap (λ b. same_version a o || b) (any-older old os a))
-        | inl again ↦ elim (cases_Bool (same_version a o)) [
-          | inl same ↦ rw (is, again, same) (list_any-alike (same_version a) (same_version o) rest (λ c there. same_version-like a o same c) ∙ again)
-          | inr other ↦ rw (is, again, other) (any-older old os a)
-        ]
-      ]
-    ]
-
-sum-kept : (o : FirstOpen) (b : Bool) (rest : List FirstOpen) → sum_by version_units (cond b (o ∷ []) [] ++ rest) ≡ cond b (version_units o) 0 + sum_by version_units rest
-sum-kept o true rest = sum_by-cons version_units o rest
-sum-kept o false rest = omega arith
-
-pub older-cons : (old : FirstOpen → Bool) (o : FirstOpen) (os : List FirstOpen) → older_units old (o ∷ os) ≡ cond (old o && not (has_older old os o)) (version_units o) 0 + older_units old os
-older-cons old o os = sum-kept o (old o && not (list_any (same_version o) (older_by old os))) (older_by old os) ∙ ap (λ b. cond (old o && not b) (version_units o) 0 + older_units old os) (any-older old os o)
-
--- ---- where first opens end
-
--- first opens of the same version have the same bytes
-abbrev pub AreFixed : List FirstOpen → Type 0
-AreFixed os = (a b : FirstOpen) → IsIn a os → IsIn b os → same_version a b ≡ true → a.bytes ≡ b.bytes
 
 -- the versions but this one
 abbrev but_not : (FirstOpen → Bool) → FirstOpen → FirstOpen → Bool
@@ -126,8 +56,6 @@ without-one old (o ∷ os) k units =
           rw (same, apart) (and-true (old p))
       | inr differs ↦ rw differs (and-none (old p && not (same_version k p)) (old p))
     ])
-
--- ---- where one version becomes older
 
 pub older-alike : (old new : FirstOpen → Bool) (os : List FirstOpen) → ((o : FirstOpen) → IsIn o os → old o ≡ new o) → older_by old os ≡ older_by new os
 older-alike old new [] same = refl

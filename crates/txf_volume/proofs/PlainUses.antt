@@ -10,11 +10,16 @@ use Rattle.ktm_world.specs.Files.{FilesNow, FirstOpen, is_last_version}
 use Rattle.ktm_world.specs.FileUses.{same_version}
 use Rattle.ktm_world.specs.Tree.{Tree, node_at, content_of, is_file, bytes_of, bytes_or_none, units_of}
 use Rattle.txf_calls.specs.Fits.{Suits}
-use Rattle.txf_volume.specs.Uses.{IsSteady, each_pair, ends, files_rise, is_last_opened, kept}
-use Rattle.txf_volume.proofs.Elements.{IsIn, All-in, list_any-from}
-use Rattle.txf_volume.proofs.Lookups.{map_node, node_at-elsewhere, node_at-there}
-use Rattle.txf_volume.proofs.OlderVersions.{list_any-alike, older-alike, older-more, older_units, version_units}
-use Rattle.txf_volume.proofs.Versions.{version_of-raised, version-elsewhere}
+use Rattle.ktm_laws.specs.GoodState.{each_pair}
+use Rattle.ktm_laws.specs.SoundFiles.{files_rise}
+use Rattle.txf_volume.specs.Uses.{IsSteady, ends, is_last_opened, kept}
+use Rattle.ktm_laws.specs.Footprint.{IsIn}
+use Rattle.ktm_laws.proofs.Elements.{list_any-from}
+use Rattle.txf_volume.proofs.Elements.{All-in}
+use Rattle.ktm_laws.proofs.Lookups.{map_node, node_at-elsewhere, node_at-there}
+use Rattle.ktm_laws.proofs.OlderVersions.{list_any-alike, older_units, version_units}
+use Rattle.txf_volume.proofs.OlderVersions.{older-alike, older-more}
+use Rattle.ktm_laws.proofs.Versions.{version_of-raised, version-elsewhere}
 
 -- is it an older version than that of the tree
 abbrev pub is_older : Tree → List Version → FirstOpen → Bool

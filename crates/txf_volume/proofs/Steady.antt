@@ -24,18 +24,25 @@ use Rattle.txf_versions.specs.declared.kept.Older.{Older}
 use Rattle.txf_versions.specs.declared.opened.Opened.{Opened}
 use Rattle.txf_volume.specs.Held.{FilesHeld, OwnHeld, changes_held, files_of, first_held, overlay_in, own_held, version_bytes}
 use Rattle.txf_volume.specs.Ties.{AreFew, AreTied, IsKeptOpen, IsOver, held_by_two, is_last, names_held, nodes_held, units_held}
-use Rattle.txf_volume.specs.Uses.{IsSteady, changed_by_two, each_pair, files_rise}
+use Rattle.ktm_laws.specs.SoundFiles.{changed_by_two, files_rise}
+use Rattle.ktm_laws.specs.GoodState.{each_pair}
+use Rattle.txf_volume.specs.Uses.{IsSteady}
 use Rattle.txf_volume.specs.Writes.{CanBeCounted}
-use Rattle.txf_volume.proofs.Elements.{IsIn, All-in, list_all-at}
-use Rattle.txf_volume.proofs.Forms.{AllBytes, ends_of, filter-append, names_of, names_only, no-names}
-use Rattle.txf_volume.proofs.Lookups.{Above, Rises, Rises-from}
+use Rattle.ktm_laws.specs.Footprint.{IsIn}
+use Rattle.ktm_laws.proofs.Elements.{list_all-at}
+use Rattle.txf_volume.proofs.Elements.{All-in}
+use Rattle.ktm_laws.proofs.NormalForms.{AllBytes, names_only}
+use Rattle.ktm_laws.proofs.NormalForms.{ends_of, filter-append, no-names}
+use Rattle.txf_volume.proofs.Forms.{names_of}
+use Rattle.ktm_laws.proofs.Lookups.{Above, Rises, Rises-from}
 use Rattle.txf_volume.proofs.NodesMade.{made-append, made-bytes, drops-bytes, waiting-bytes}
 use Rattle.txf_volume.proofs.OlderKept.{older-kept}
-use Rattle.txf_volume.proofs.OlderVersions.{older-is, version_units}
+use Rattle.ktm_laws.proofs.OlderVersions.{older-is, version_units}
 use Rattle.txf_volume.proofs.OwnTables.{same_id-from}
 use Rattle.txf_volume.proofs.PlainUses.{is_older}
 use Rattle.txf_volume.proofs.Seen.{seen-some}
-use Rattle.txf_volume.proofs.Sums.{count-append, one_where, count-cons, sum-same}
+use Rattle.ktm_laws.proofs.Sums.{count-append, one_where, count-cons}
+use Rattle.ktm_laws.proofs.Sums.{sum-same}
 
 -- ---- lists
 

@@ -27,13 +27,16 @@ use Rattle.txf_volume.specs.OwnParts.{bare_own}
 use Rattle.txf_volume.specs.Ties.{AreTied, IsKeptOpen, IsOver, held_by_two, names_held, nodes_held, units_held}
 use Rattle.txf_volume.specs.Transacted.{IsNotOpened, IsPlanOf, changed_by, first_opened, opened_by}
 use Rattle.txf_calls.specs.Fits.{opens_file}
-use Rattle.txf_volume.specs.Uses.{IsSteady, each_pair}
+use Rattle.ktm_laws.specs.GoodState.{each_pair}
+use Rattle.txf_volume.specs.Uses.{IsSteady}
 use Rattle.txf_volume.specs.Writes.{CanBeCounted}
-use Rattle.txf_volume.proofs.Elements.{All-by, IsIn, All-in, list_any-at}
+use Rattle.ktm_laws.specs.Footprint.{IsIn}
+use Rattle.ktm_laws.proofs.Elements.{list_any-at}
+use Rattle.txf_volume.proofs.Elements.{All-by, All-in}
 use Rattle.txf_volume.proofs.OwnUses.{uses_law}
 use Rattle.txf_volume.proofs.Seen.{first_open-held}
 use Rattle.txf_volume.proofs.Steady.{sum-map}
-use Rattle.txf_volume.proofs.Sums.{sum-same as sums-same}
+use Rattle.ktm_laws.proofs.Sums.{sum-same as sums-same}
 use Rattle.txf_volume.proofs.TransactedParts.{stands-same}
 
 -- ---- what a call comes to, step by step

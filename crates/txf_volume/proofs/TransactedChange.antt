@@ -28,10 +28,12 @@ use Rattle.txf_tree.specs.TreeState.{tree_of, versions_of}
 use Rattle.txf_volume.specs.Held.{FilesHeld, OwnHeld, files_of, overlay_in, own_held}
 use Rattle.txf_volume.specs.OwnParts.{HoldsToo, IsChangedIn, or_unchanged, starts, unchanged, with_overlay, written_next}
 use Rattle.txf_volume.specs.Ties.{AreFew, AreTied, IsOver, held_by_two, units_held}
-use Rattle.txf_volume.specs.Uses.{each_pair}
+use Rattle.ktm_laws.specs.GoodState.{each_pair}
 use Rattle.txf_volume.specs.Writes.{CanBeCounted}
-use Rattle.txf_volume.proofs.Elements.{All-by, IsIn, All-in}
-use Rattle.txf_volume.proofs.Forms.{names_of, written-final}
+use Rattle.ktm_laws.specs.Footprint.{IsIn}
+use Rattle.txf_volume.proofs.Elements.{All-by, All-in}
+use Rattle.ktm_laws.proofs.NormalForms.{written-final}
+use Rattle.txf_volume.proofs.Forms.{names_of}
 use Rattle.txf_volume.proofs.OwnTables.{own_changes-new, own_changes-other, same_id-equal, same_id-sym}
 use Rattle.txf_volume.proofs.Seen.{changes_in, has_made-own, made-append, over-in, own_changes-held}
 use Rattle.txf_volume.proofs.Steady.{few-counted, names-own}

@@ -1,5 +1,5 @@
 -- What a call of a transaction makes of the files in memory, and what its end does.
-use Rattle.std.specs.Prelude.{◌≡◌, ℕ, ◌+◌, ◌<◌, ◌^◌, true, not, [], ◌∷◌, ◌++◌, filter, Option, Some, None}
+use Rattle.std.specs.Prelude.{◌≡◌, ℕ, ◌+◌, ◌<◌, ◌≤◌, ◌^◌, true, not, [], ◌∷◌, ◌++◌, filter, Option, Some, None}
 use Rattle.ktm_base.specs.declared.id.Id.{Id}
 use Rattle.ktm_laws.specs.OwnChange.{owned}
 use Rattle.ktm_types.specs.declared.change.Change.{Change}
@@ -8,6 +8,7 @@ use Rattle.ktm_world.specs.FileOutcome.{FileOutcome, files_after, with_open}
 use Rattle.ktm_world.specs.Files.{FilesNow, FileTable, OpenFile, committed_files, first_open, first_open_of, tree_seen, without_transaction}
 use Rattle.ktm_world.specs.Transactions.{same_id}
 use Rattle.ktm_world.specs.Tree.{is_file}
+use Rattle.txf_volume.specs.Held.{FilesHeld}
 use Rattle.txf_volume.specs.Writes.{CanBeCounted}
 
 -- the files without what the transaction changed, first opened and has open
@@ -44,3 +45,9 @@ pub record IsPlanOf (files : FilesNow) (id : Id) (o : FileOutcome) : Type 0 wher
   pub first : (file : ℕ) → o.first ≡ Some file → IsNotOpened files id file
   pub opened : (x : OpenFile) → o.opened ≡ Some x → IsNextOpen files.table x
   pub counted : CanBeCounted (files_after files (Some id) o)
+
+-- there is room for one more open file, first open and change held
+pub record HasRoom (h : FilesHeld) : Type 0 where
+  pub opens : 1 ≤ h.opens.spare
+  pub versions : 1 ≤ h.versions.spare
+  pub reserve : 1 ≤ h.reserve.spare

@@ -1,34 +1,22 @@
 -- How much of the files is in use once a call has settled, by what was in use before. No public clause cites this module.
-use Rattle.std.specs.Prelude.{◌≡◌, ℕ, ◌+◌, ◌≤◌, ◌==◌, ◌&&◌, ◌||◌, not, Bool, true, false, List, [], ◌∷◌, nat_lt, sum_by, Option, Some, None, is_some, All, if◌then◌else◌}
-use Rattle.std.specs.List.{list_all, list_any}
+use Rattle.std.specs.Prelude.{◌≡◌, ℕ, ◌+◌, ◌≤◌, ◌==◌, ◌&&◌, ◌||◌, not, Bool, true, false, List, [], sum_by, Option, Some, None, is_some, All, if◌then◌else◌}
+use Rattle.std.specs.List.{list_any}
 use Rattle.ktm_base.specs.declared.id.Id.{Id}
 use Rattle.ktm_types.specs.declared.change.Change.{Change}
 use Rattle.ktm_types.specs.declared.change.Change.TheVariants.{Put, Cut}
 use Rattle.ktm_types.specs.declared.recorded.Node.{Node}
+use Rattle.ktm_laws.specs.GoodState.{each_pair}
+use Rattle.ktm_laws.specs.SoundFiles.{changed_by_two, files_rise}
 use Rattle.ktm_world.specs.Changes.{bytes_in, changes_bytes, is_drop, is_make, node_of}
-use Rattle.ktm_world.specs.Committed.{Version, version_of, written_files, changes_to_commit}
+use Rattle.ktm_world.specs.Committed.{version_of, written_files, changes_to_commit}
 use Rattle.ktm_world.specs.FileOutcome.{FileOutcome, files_after}
-use Rattle.ktm_world.specs.Files.{FilesNow, OwnChanges, own_changes, is_last_version, bytes_seen}
+use Rattle.ktm_world.specs.Files.{FilesNow, own_changes, is_last_version, bytes_seen}
 use Rattle.ktm_world.specs.FileUses.{units_used, nodes_used, file_changes_waiting}
 use Rattle.ktm_world.specs.Holds.{is_in}
-use Rattle.ktm_world.specs.Transactions.{same_id}
 use Rattle.ktm_world.specs.Tree.{Tree, bytes_of, bytes_or_none, cut_to, is_file, node_at, numbers_rise, put_over, units_of}
 use Rattle.txf_calls.specs.Fits.{Suits, opens_file}
 
 -- ---- what is so at every moment
-
--- is it so of each two
-abbrev pub each_pair : {X : Type 0} → (X → X → Bool) → List X → Bool
-each_pair test [] = true
-each_pair test (x ∷ xs) = list_all (test x) xs && each_pair test xs
-
--- are they entries of two transactions
-abbrev pub changed_by_two : OwnChanges → OwnChanges → Bool
-changed_by_two a b = not (same_id a.transaction b.transaction)
-
--- do the files of versions rise
-abbrev pub files_rise : Version → Version → Bool
-files_rise a b = nat_lt a.file b.file
 
 -- own changes are in the form in which they are committed, numbers rise, and first opens are of versions that there were
 pub record IsSteady (files : FilesNow) : Type 0 where

@@ -12,7 +12,7 @@ ghost use Rattle.txf_tree.specs.TreeState.{tree_of};
 ghost use Rattle.txf_volume.specs.Held.{overlay_in};
 ghost use Rattle.txf_volume.specs.OwnParts.{bare, bare_own, or_unchanged, starts, unchanged, written_next, IsChanged, IsChangedIn, IsPlace};
 ghost use Rattle.txf_volume.specs.Ties.{held_by_two, IsOver};
-ghost use Rattle.txf_volume.specs.Uses.{each_pair};
+ghost use Rattle.ktm_laws.specs.GoodState.{each_pair};
 
 use crate::change::bytes_in;
 use crate::holding::{

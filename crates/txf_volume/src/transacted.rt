@@ -1,5 +1,5 @@
 // What transactions change, hold and open of the files, until they end.
-ghost use Rattle.std.specs.Prelude.{◌≡◌, ℕ, ◌<◌, Some, OnOk, OnErr, true};
+ghost use Rattle.std.specs.Prelude.{◌≡◌, ℕ, ◌<◌, Some, None, IsOk, OnOk, OnErr, true};
 ghost use Rattle.std.specs.Option.{option_map};
 ghost use Rattle.ktm_laws.specs.OwnChange.{owned};
 ghost use Rattle.ktm_types.specs.declared.change.Change.{Change as Made};
@@ -9,7 +9,7 @@ ghost use Rattle.ktm_world.specs.Files.{tree_seen};
 ghost use Rattle.txf_calls.specs.Views.{open_of};
 ghost use Rattle.txf_calls.specs.declared.call.OpenFile.{OpenFile as Kept};
 ghost use Rattle.txf_volume.specs.Held.{files_of, without_own};
-ghost use Rattle.txf_volume.specs.Transacted.{changed_by, first_opened, forgotten, opened_by, IsNextOpen, IsNotOpened, IsPlanOf};
+ghost use Rattle.txf_volume.specs.Transacted.{changed_by, first_opened, forgotten, opened_by, HasRoom, IsNextOpen, IsNotOpened, IsPlanOf};
 ghost use Rattle.txf_volume.specs.Uses.{IsSteady};
 ghost use Rattle.txf_volume.specs.Writes.{CanBeCounted};
 
@@ -43,6 +43,7 @@ impl Files {
         ensures opens { OnOk result (0 < self.new.opens.spare) }
         ensures versions { OnOk result (0 < self.new.versions.spare) }
         ensures reserve { OnOk result (0 < self.new.reserve.spare) }
+        ensures enough { HasRoom self.old → IsOk result }
     {
         if let Err(NoMemory) = self.opens.reserve(1) {
             return Err(NoMemory);
@@ -93,6 +94,7 @@ impl Files {
         ensures same { OnErr result (files_of self.new ≡ files_of self.old) }
         ensures opens { self.new.opens ≡ self.old.opens }
         ensures versions { self.new.versions ≡ self.old.versions }
+        ensures enough { change ≡ None → IsOk result }
     {
         match change {
             Some(change) => self.own(transaction, change),
@@ -139,11 +141,13 @@ impl Files {
     }
 
     /// Makes what a call of a transaction comes to: its change is the transaction's own from now on, and holds what it names;
-    /// a file that it opens first is fixed at its last version; a file is open. Where memory fails, nothing has changed.
+    /// a file that it opens first is fixed at its last version; a file is open. Where memory fails, nothing has changed; a
+    /// call that changes nothing finds the room that was left.
     pub fn keep(&mut self, transaction: Id, plan: Plan) -> Result<(), NoMemory>
         requires { IsPlanOf (files_of self.old) transaction plan }
         ensures done { OnOk result (files_of self.new ≡ files_after (files_of self.old) (Some transaction) plan) }
         ensures same { OnErr result (files_of self.new ≡ files_of self.old) }
+        ensures enough { HasRoom self.old → plan.change ≡ None → IsOk result }
     {
         let Plan {
             change,
