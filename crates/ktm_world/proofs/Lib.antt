@@ -1,5 +1,4 @@
 pub mod SizeLemmas
-pub mod BuiltStates
 pub mod Durables
 pub mod KeyLemmas
 pub mod Stores

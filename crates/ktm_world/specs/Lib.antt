@@ -1,4 +1,3 @@
-pub mod Built
 pub mod SizeLaw
 pub mod Handles
 pub mod Transactions

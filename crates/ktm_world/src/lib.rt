@@ -2,13 +2,11 @@
 //! handles, what is recorded of it, what a restart makes of that, and what a transcript of a script is.
 #![tactic(auto)]
 
-mod built;
 mod durable;
 mod laws;
 mod limits;
 mod make;
 
-pub use built::is_built;
 pub use durable::{Durable, Recorded};
 pub use laws::{
     law_of_first_opens, law_of_paths, law_of_refusals, law_of_sizes, law_of_step,
