@@ -36,7 +36,7 @@ use Rattle.ktm_laws.proofs.Calls.{Passes, passed, transaction_at-found}
 use Rattle.ktm_laws.proofs.Elements.{list_all-at}
 use Rattle.ktm_laws.proofs.Makings.{counted-before}
 use Rattle.ktm_laws.proofs.OpenCalls.{creates-file, creates-own, writes-file, sets-end}
-use Rattle.ktm_laws.proofs.OwnCalls.{Caller, caller-may, deletes-own, creates-own-directory, removes-own-directory, moves-own}
+use Rattle.ktm_laws.proofs.OwnCalls.{Caller, caller-may, keeps-own, own-deleted, own-made, own-moved, own-removed}
 use Rattle.ktm_laws.proofs.Tables.{before_other}
 use Rattle.ktm_laws.specs.Formed.{FormedLaw}
 use Rattle.ktm_laws.proofs.Arriving.{Goes, course-goes, tick-sound, named}
@@ -237,7 +237,7 @@ module _ (lists : ListsLaw) (formed : FormedLaw) where
           (list_all-at (λ (t : Transaction). is_counted x.recorded.boots x.transactions.last_transaction t.id) x.transactions.items course.transactions_counted t there.0)) there.1)
 
   -- the tests of a command on a machine that is up
-  up-passes : (x : Present) (process : Pid) (command : Command) → refusal_of x process command ≡ None → Passes (command_tests x process command)
+  pub up-passes : (x : Present) (process : Pid) (command : Command) → refusal_of x process command ≡ None → Passes (command_tests x process command)
   up-passes x process command none = let all : Passes ((not x.machine.is_up, MachineDown) ∷ command_tests x process command) = record { none = none } in (passed all).1
 
   -- a call that is made in a transaction
@@ -303,19 +303,19 @@ module _ (lists : ListsLaw) (formed : FormedLaw) where
   effect x process (DeleteFileTransacted path transaction) course none = λ order sound.
       made-in-one x process transaction (λ who. delete_file_tests x.files (file_room x) who path) (λ who. of_files x who (delete_file x.files who path)) course
       (up-passes x process (DeleteFileTransacted path transaction) none)
-      (λ id may passes. deletes-own lists formed x order sound id may.who path passes)
+      (λ id may passes. keeps-own lists formed x order sound id (delete_file x.files (Some id) path) (own-deleted formed x sound id may.who path passes))
   effect x process (CreateDirectoryTransacted path transaction) course none = λ order sound.
       made-in-one x process transaction (λ who. create_directory_tests x.files (file_room x) who path) (λ who. of_files x who (create_directory x.files who path)) course
       (up-passes x process (CreateDirectoryTransacted path transaction) none)
-      (λ id may passes. creates-own-directory lists formed x order sound id may.who path passes)
+      (λ id may passes. keeps-own lists formed x order sound id (create_directory x.files (Some id) path) (own-made formed x sound id may.who path passes))
   effect x process (RemoveDirectoryTransacted path transaction) course none = λ order sound.
       made-in-one x process transaction (λ who. remove_directory_tests x.files (file_room x) who path) (λ who. of_files x who (remove_directory x.files who path)) course
       (up-passes x process (RemoveDirectoryTransacted path transaction) none)
-      (λ id may passes. removes-own-directory lists formed x order sound id may.who path passes)
+      (λ id may passes. keeps-own lists formed x order sound id (remove_directory x.files (Some id) path) (own-removed formed x sound id may.who path passes))
   effect x process (MoveFileTransacted source target transaction) course none = λ order sound.
       made-in-one x process transaction (λ who. move_file_tests x.files (file_room x) who source target) (λ who. of_files x who (move_file x.files who source target)) course
       (up-passes x process (MoveFileTransacted source target transaction) none)
-      (λ id may passes. moves-own lists formed x order sound id may.who source target passes)
+      (λ id may passes. keeps-own lists formed x order sound id (move_file x.files (Some id) source target) (own-moved formed x sound id may.who source target passes))
 
   refuse_or-keeps : (x : Present) (refusal : Option Refusal) (effect : Outcome) → (refusal ≡ None → Keeps x effect) → Keeps x (refuse_or x refusal effect)
   refuse_or-keeps x (Some refusal) effect keeps = replies lists formed x (Refused refusal)

@@ -15,6 +15,7 @@ pub mod Bindings
 pub mod Bounding
 pub mod BudgetSteps
 pub mod Calls
+pub mod CallsMade
 pub mod Closing
 pub mod CommitsKept
 pub mod CommittedUnits
@@ -30,6 +31,7 @@ pub mod Elements
 pub mod Facts
 pub mod Fading
 pub mod Falling
+pub mod FileCallsMade
 pub mod FileSteps
 pub mod FilesKept
 pub mod FinalBytes
@@ -70,6 +72,7 @@ pub mod OlderVersions
 pub mod OneOutcome
 pub mod OpenCalls
 pub mod Opening
+pub mod OpeningsMade
 pub mod Outcomes
 pub mod OwnCalls
 pub mod OwnEvents
@@ -118,6 +121,7 @@ pub mod SoundRestarts
 pub mod SoundWorlds
 pub mod Spelling
 pub mod Spending
+pub mod Starts
 pub mod Steps
 pub mod Stored
 pub mod Sums

@@ -53,24 +53,24 @@ use Rattle.ktm_laws.proofs.UnitsPassed.{own-now, own_units-same, rests-now, show
 use Rattle.ktm_world.specs.FileUses.{same_version}
 
 -- the store is no part of what a call on files changes
-store-same : (x : Present) (who : Option Id) (change : Option Change) → (committed_with (committed_now x) (works_of who change)).store ≡ x.keys.store
+pub store-same : (x : Present) (who : Option Id) (change : Option Change) → (committed_with (committed_now x) (works_of who change)).store ≡ x.keys.store
 store-same x None None = refl
 store-same x None (Some change) = refl
 store-same x (Some id) change = refl
 
 -- nor is what is committed of the files one of the store
-tree-same : (x : Present) (who : Option Id) (change : Option Change) → (committed_with (committed_now x) (works_of who change)).tree ≡ (committed_with (committed_files x.files []) (works_of who change)).tree
+pub tree-same : (x : Present) (who : Option Id) (change : Option Change) → (committed_with (committed_now x) (works_of who change)).tree ≡ (committed_with (committed_files x.files []) (works_of who change)).tree
 tree-same x None None = refl
 tree-same x None (Some change) = refl
 tree-same x (Some id) change = refl
 
-versions-same : (x : Present) (who : Option Id) (change : Option Change) → (committed_with (committed_now x) (works_of who change)).versions ≡ (committed_with (committed_files x.files []) (works_of who change)).versions
+pub versions-same : (x : Present) (who : Option Id) (change : Option Change) → (committed_with (committed_now x) (works_of who change)).versions ≡ (committed_with (committed_files x.files []) (works_of who change)).versions
 versions-same x None None = refl
 versions-same x None (Some change) = refl
 versions-same x (Some id) change = refl
 
 -- what a call on files makes of the files is what the machine has then
-files-of : (x : Present) (who : Option Id) (o : FileOutcome) → (apply x (of_files x who o)).files ≡ files_after x.files who o
+pub files-of : (x : Present) (who : Option Id) (o : FileOutcome) → (apply x (of_files x who o)).files ≡ files_after x.files who o
 files-of x who o i = record {
   tree = tree-same x who o.change i;
   versions = versions-same x who o.change i;

@@ -58,7 +58,7 @@ use Rattle.ktm_laws.proofs.Leaving.{answers_file, more-handles}
 use Rattle.ktm_laws.proofs.Lists.{IsIn-cases}
 use Rattle.ktm_laws.proofs.Lookups.{node_at-there}
 use Rattle.ktm_laws.proofs.Makings.{list_any-last}
-use Rattle.ktm_laws.proofs.OwnCalls.{Caller, next-first, next-plain, only-answers, owned-call, owns-make, owns-write}
+use Rattle.ktm_laws.proofs.OwnCalls.{Caller, next-first, next-plain, owned-call, owns-make, owns-write}
 use Rattle.ktm_laws.proofs.Opening.{opened-sound, some-of}
 use Rattle.ktm_laws.proofs.Owning.{own-itself, others-hold, made-or-opened-still, name-final, not-dropped, owned-sound, seen-after, file-still}
 use Rattle.ktm_laws.proofs.Passing.{drawn-node, in-tree-drawn, own-drawn}
@@ -72,18 +72,18 @@ use Rattle.ktm_laws.proofs.Versions.{is_file-kept}
 -- ---- files
 
 -- a file is there, and no directory
-file-there : (tree : Tree) (n : ℕ) → is_file tree n ≡ true → is_there tree n ≡ true
+pub file-there : (tree : Tree) (n : ℕ) → is_file tree n ≡ true → is_there tree n ≡ true
 file-there tree n file = or_right (n == root) _ (go (node_at tree n) file)
   where
     go : (o : Option Node) → is_some (content_of o) ≡ true → is_some o ≡ true
     go None file = absurd (true≢false (sym file))
     go (Some node) file = refl
 
-file-no-directory : (tree : Tree) (n : ℕ) → is_file tree n ≡ true → not (is_directory tree n) ≡ true
+pub file-no-directory : (tree : Tree) (n : ℕ) → is_file tree n ≡ true → not (is_directory tree n) ≡ true
 file-no-directory tree n file = not_from_false _ (false_from_ne_true _ (λ dir. true≢false (sym file ∙ not-true _ (and_parts (is_there tree n) (not (is_file tree n)) dir).1)))
 
 -- the file that is made is one
-made-file : (tree : Tree) (n directory : ℕ) (name : List ℕ) → applies tree (Make n directory File name) ≡ true → is_file (changed tree (Make n directory File name)) n ≡ true
+pub made-file : (tree : Tree) (n directory : ℕ) (name : List ℕ) → applies tree (Make n directory File name) ≡ true → is_file (changed tree (Make n directory File name)) n ≡ true
 made-file tree n directory name is =
     let c = Make n directory File name in ap (λ o. is_some (content_of o)) (node_at-there tree c (Fits-from tree c (Applies-from tree c is)))
 
@@ -94,7 +94,7 @@ cut-applies tree n file = applies-from tree (Cut n 0 []) (file, refl)
 -- ---- what another transaction holds
 
 -- a node that a call changes no other transaction holds
-not-held : (x : Present) (who : Option Id) (n : ℕ) → conflicts x.files who (opens n true) ≡ false → (v : Id) → is_of v who ≡ false → is_in (holds_now x.files v).nodes n ≡ false
+pub not-held : (x : Present) (who : Option Id) (n : ℕ) → conflicts x.files who (opens n true) ≡ false → (v : Id) → is_of v who ≡ false → is_in (holds_now x.files v).nodes n ≡ false
 unfolding meets
 not-held x who n none v other = elim (cases_Bool (is_in (holds_now x.files v).nodes n)) [
   | inr free' ↦ free'
@@ -283,6 +283,13 @@ module _ (lists : ListsLaw) (formed : FormedLaw) where
 
   -- ---- opening a file in a transaction
 
+  -- a file is made under a free name
+  pub owns-new : (x : Present) → IsSoundFiles x → (id : Id) → is_undecided_in x.transactions.items id ≡ true → (room : FileRoom) (directory : ℕ) (name : List ℕ) (access : Access) (mode : ShareMode) (d : Disposition)
+      → Leads (tree_seen x.files (Some id)) (free directory name) → conflicts x.files (Some id) (makes (place directory name)) ≡ false
+      → lacks_quota x.files room (Some id) (create_at x.files (Some id) (free directory name) access mode d) ≡ false → Owns x id (Make x.files.table.next_node directory File name)
+  owns-new x sound id who room directory name access mode d leads none fits =
+      owns-make formed x sound id who File directory name leads none (enough-numbers x.files room (Some id) (create_at x.files (Some id) (free directory name) access mode d) (Make x.files.table.next_node directory File name) refl fits)
+
   module _ (x : Present) (order : AreInOrder x) (sound : IsSoundFiles x) (process : Pid) (label : Label) (id : Id) (may-call : Caller x id) where
     abbrev seen : Tree
     seen = tree_seen x.files (Some id)
@@ -342,7 +349,7 @@ module _ (lists : ListsLaw) (formed : FormedLaw) where
       c = Make x.files.table.next_node directory File name
 
       owns : Owns x id (Make x.files.table.next_node directory File name)
-      owns = owns-make formed x sound id may-call.who File directory name leads none (enough-numbers x.files room (Some id) (create_at x.files (Some id) (free directory name) access mode d) (Make x.files.table.next_node directory File name) refl fits)
+      owns = owns-new x sound id may-call.who room directory name access mode d leads none fits
 
       abbrev y : Present
       y = record x { files = owned x.files id (Make x.files.table.next_node directory File name) }
@@ -503,7 +510,7 @@ module _ (lists : ListsLaw) (formed : FormedLaw) where
         (no _ (inr (inr (inr (inr (inr (inl refl))))))) (no _ (inr (inr (inr (inr (inr (inr (inl refl)))))))) (no _ (inr (inr (inr (inr (inr (inr (inr (inr (inl refl))))))))))
       where
         answers : IsSoundFiles (apply x (of_files x (Some id) (answering Done)))
-        answers = only-answers lists formed x order sound id may-call.who
+        answers = answers_file lists formed x (Some id) (answering Done) refl refl refl order sound
 
         at : (w : Whereabouts) → Leads seen w → is_at_directory w ≡ false → (conflict_test x.files (Some id) (create_act w access d)).0 ≡ false → lacks_quota x.files (file_room x) (Some id) (create_at x.files (Some id) w access mode d) ≡ false
             → IsSoundFiles (apply x (opening x process label (Some id) (create_at x.files (Some id) w access mode d)))

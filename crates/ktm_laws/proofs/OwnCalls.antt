@@ -1,5 +1,5 @@
 -- Calls in a transaction that make, drop and move names, and what is written there, keep sound what undecided transactions own of the files.
-use Rattle.std.proofs.Common.{◌≡◌, ℕ, ◌≤◌, ◌^◌, ◌==◌, ◌&&◌, not, Bool, true, false, is_none, is_some, if◌then◌else◌, filter, map, List, [], ◌∷◌, ◌++◌, Option, Some, None, refl, sym, ◌∙◌, ap, subst, arith, inl, inr}
+use Rattle.std.proofs.Common.{◌≡◌, ◌⊎◌, ℕ, ◌≤◌, ◌^◌, ◌==◌, ◌&&◌, not, Bool, true, false, is_none, is_some, if◌then◌else◌, filter, map, List, [], ◌∷◌, ◌++◌, Option, Some, None, refl, sym, ◌∙◌, ap, subst, arith, inl, inr}
 use Rattle.std.proofs.lemmas.Bool.{cases_Bool, eq-eqb, ltb-false, lt-ltb, le-leb, leb-true, and_parts, and_from, or_parts, or_cases, not-true, true≢false}
 use Rattle.std.proofs.lemmas.List.{append-nil}
 use Rattle.std.specs.Prelude.{nat_lt}
@@ -20,7 +20,7 @@ use Rattle.ktm_world.specs.Conflicts.{conflicts, holds_now, is_open_in, opened_i
 use Rattle.ktm_world.specs.Decide.{caller, of_files, transacted}
 use Rattle.ktm_world.specs.Durable.{acts_of}
 use Rattle.ktm_world.specs.FileCalls.{Whereabouts, no_path, no_way, free, at_root, at_node, find_path, conflict_test, delete_act, make_act, remove_act, move_act, drop_at, make_at, move_at, is_open_at, is_into_itself, is_at_directory, is_at_file, is_not_empty, delete_file, delete_file_tests, create_directory, create_directory_tests, remove_directory, remove_directory_tests, move_file, move_file_tests}
-use Rattle.ktm_world.specs.FileOutcome.{FileRoom, answering, changing, lacks_quota}
+use Rattle.ktm_world.specs.FileOutcome.{FileOutcome, FileRoom, answering, changing, lacks_quota}
 use Rattle.ktm_world.specs.Files.{FirstOpen, OpenFile, own_changes, is_last_version, tree_seen}
 use Rattle.ktm_world.specs.Holds.{Act, place, is_in, makes, deletes, drops_directory, moves_file, moves_directory}
 use Rattle.ktm_world.specs.Labels.{holds_of, id_of_named, transaction_named, transaction_tests}
@@ -195,104 +195,119 @@ module _ (formed : FormedLaw) (x : Present) (sound : IsSoundFiles x) (id : Id) (
 
 -- ---- the calls
 
+-- a call in a transaction only answers, or keeps one change that it may
+abbrev pub IsOwn : Present → Id → FileOutcome → Type 0
+IsOwn x id o = (o ≡ answering Done) ⊎ ((c : Change) × (o ≡ changing c) × Owns x id c)
+
+module _ (formed : FormedLaw) (x : Present) (sound : IsSoundFiles x) (id : Id) (who : is_undecided_in x.transactions.items id ≡ true) where
+  delete-at : (w : Whereabouts) → Leads (tree_seen x.files (Some id)) w → is_at_directory w ≡ false → (conflict_test x.files (Some id) (delete_act w)).0 ≡ false → is_open_at x.files (Some id) w ≡ false → IsOwn x id (drop_at w)
+  delete-at (at_node node) leads file none closed =
+      let is = some-from node.content file in
+      inr (
+        Drop node.number,
+        refl,
+        owns-call formed x sound id who (Drop node.number) (deletes node.number (place node.parent node.name))
+            (delete-applies (tree_seen x.files (Some id)) (seen-formed formed x sound id) node leads is) (delete-acts (tree_seen x.files (Some id)) node leads is) none (λ bytes. absurd (true≢false (sym bytes))) refl (λ make. absurd (true≢false (sym make)))
+            (not-written x.files id (deletes node.number (place node.parent node.name)) none node.number (inl refl))
+            (λ o there of at. still-last x sound id (deletes node.number (place node.parent node.name)) none node.number (inl refl) o there of at) (λ drop. closed-here formed x sound id who node.number (rw is at closed)) sound.next_to,
+      )
+  delete-at no_path leads file none closed = inl refl
+  delete-at no_way leads file none closed = inl refl
+  delete-at (free directory name) leads file none closed = inl refl
+  delete-at at_root leads file none closed = inl refl
+
+  pub own-deleted : (path : List ℕ) → Passes (delete_file_tests x.files (file_room x) (Some id) path) → IsOwn x id (delete_file x.files (Some id) path)
+  unfolding delete_file delete_file_tests
+  own-deleted path passes =
+      let no = not_refused (delete_file_tests x.files (file_room x) (Some id) path) passes.none in
+      delete-at (find_path (tree_seen x.files (Some id)) path) (find_path-leads (tree_seen x.files (Some id)) (seen-formed formed x sound id) path)
+      (no _ (inr (inr (inr (inl refl))))) (no _ (inr (inr (inr (inr (inl refl)))))) (no _ (inr (inr (inr (inr (inr (inl refl)))))))
+
+  remove-at : (w : Whereabouts) → Leads (tree_seen x.files (Some id)) w → is_at_file w ≡ false → is_not_empty (tree_seen x.files (Some id)) w ≡ false → (conflict_test x.files (Some id) (remove_act w)).0 ≡ false → IsOwn x id (drop_at w)
+  remove-at (at_node node) leads dir empty none =
+      let is = is-directory (tree_seen x.files (Some id)) node.number node leads.0 dir in
+      inr (
+        Drop node.number,
+        refl,
+        owns-call formed x sound id who (Drop node.number) (drops_directory node.number (place node.parent node.name))
+            (remove-applies (tree_seen x.files (Some id)) node leads empty) (remove-acts (tree_seen x.files (Some id)) node leads dir) none (λ bytes. absurd (true≢false (sym bytes))) refl (λ make. absurd (true≢false (sym make)))
+            (directory-plain formed x sound id who node.number is) (λ o there of at. absurd (directory-first formed x sound id who node.number is o there of at)) (λ drop. directory-open formed x sound id who node.number is) sound.next_to,
+      )
+  remove-at no_path leads dir empty none = inl refl
+  remove-at no_way leads dir empty none = inl refl
+  remove-at (free directory name) leads dir empty none = inl refl
+  remove-at at_root leads dir empty none = inl refl
+
+  pub own-removed : (path : List ℕ) → Passes (remove_directory_tests x.files (file_room x) (Some id) path) → IsOwn x id (remove_directory x.files (Some id) path)
+  unfolding remove_directory remove_directory_tests
+  own-removed path passes =
+      let no = not_refused (remove_directory_tests x.files (file_room x) (Some id) path) passes.none in
+      remove-at (find_path (tree_seen x.files (Some id)) path) (find_path-leads (tree_seen x.files (Some id)) (seen-formed formed x sound id) path)
+      (no _ (inr (inr (inr (inr (inl refl)))))) (no _ (inr (inr (inr (inr (inr (inl refl))))))) (no _ (inr (inr (inr (inr (inr (inr (inl refl))))))))
+
+  make-at' : (room : FileRoom) (w : Whereabouts) → Leads (tree_seen x.files (Some id)) w → (conflict_test x.files (Some id) (make_act w)).0 ≡ false → lacks_quota x.files room (Some id) (make_at x.files w) ≡ false → IsOwn x id (make_at x.files w)
+  make-at' room (free directory name) leads none fits =
+      let change = Make x.files.table.next_node directory Directory name in
+      inr (change, refl, owns-make formed x sound id who Directory directory name leads none (enough-numbers x.files room (Some id) (changing change) change refl fits))
+  make-at' room no_path leads none fits = inl refl
+  make-at' room no_way leads none fits = inl refl
+  make-at' room at_root leads none fits = inl refl
+  make-at' room (at_node node) leads none fits = inl refl
+
+  pub own-made : (path : List ℕ) → Passes (create_directory_tests x.files (file_room x) (Some id) path) → IsOwn x id (create_directory x.files (Some id) path)
+  unfolding create_directory create_directory_tests
+  own-made path passes =
+      let no = not_refused (create_directory_tests x.files (file_room x) (Some id) path) passes.none in
+      make-at' (file_room x) (find_path (tree_seen x.files (Some id)) path) (find_path-leads (tree_seen x.files (Some id)) (seen-formed formed x sound id) path)
+      (no _ (inr (inr (inr (inl refl))))) (no _ (inr (inr (inr (inr (inl refl))))))
+
+  move-node : (node : Node) (directory : ℕ) (name : List ℕ) → Leads (tree_seen x.files (Some id)) (at_node node) → Leads (tree_seen x.files (Some id)) (free directory name) → is_into_itself (tree_seen x.files (Some id)) (at_node node) (free directory name) ≡ false
+      → (b : Bool) → is_some node.content ≡ b → conflicts x.files (Some id) (if b then moves_file node.number (place node.parent node.name) (place directory name) else moves_directory node.number (place node.parent node.name) (place directory name)) ≡ false
+      → Owns x id (Move node.number directory name)
+  move-node node directory name leads leads' outside true file none =
+      let act = moves_file node.number (place node.parent node.name) (place directory name) in
+      owns-call formed x sound id who (Move node.number directory name) act
+      (move-applies (tree_seen x.files (Some id)) node directory name leads leads' outside)
+      (acts-at (tree_seen x.files (Some id)) node (Move node.number directory name) leads.0 refl refl ∙ ap (λ b. (if b then moves_file node.number (place node.parent node.name) (place directory name) else moves_directory node.number (place node.parent node.name) (place directory name)) ∷ []) file)
+      none (λ bytes. absurd (true≢false (sym bytes))) refl (λ make. absurd (true≢false (sym make)))
+      (not-written x.files id act none node.number (inl refl)) (λ o there of at. still-last x sound id act none node.number (inl refl) o there of at) (λ drop. absurd (true≢false (sym drop))) sound.next_to
+  move-node node directory name leads leads' outside false dir none =
+      let act = moves_directory node.number (place node.parent node.name) (place directory name) in
+      let is = is-directory (tree_seen x.files (Some id)) node.number node leads.0 dir in
+      owns-call formed x sound id who (Move node.number directory name) act
+      (move-applies (tree_seen x.files (Some id)) node directory name leads leads' outside)
+      (acts-at (tree_seen x.files (Some id)) node (Move node.number directory name) leads.0 refl refl ∙ ap (λ b. (if b then moves_file node.number (place node.parent node.name) (place directory name) else moves_directory node.number (place node.parent node.name) (place directory name)) ∷ []) dir)
+      none (λ bytes. absurd (true≢false (sym bytes))) refl (λ make. absurd (true≢false (sym make)))
+      (directory-plain formed x sound id who node.number is) (λ o there of at. absurd (directory-first formed x sound id who node.number is o there of at)) (λ drop. absurd (true≢false (sym drop))) sound.next_to
+
+  move-at' : (w v : Whereabouts) → Leads (tree_seen x.files (Some id)) w → Leads (tree_seen x.files (Some id)) v → is_into_itself (tree_seen x.files (Some id)) w v ≡ false → (conflict_test x.files (Some id) (move_act w v)).0 ≡ false
+      → IsOwn x id (move_at w v)
+  move-at' (at_node node) (free directory name) leads leads' outside none = inr (Move node.number directory name, refl, move-node node directory name leads leads' outside (is_some node.content) refl none)
+  move-at' (at_node node) no_path leads leads' outside none = inl refl
+  move-at' (at_node node) no_way leads leads' outside none = inl refl
+  move-at' (at_node node) at_root leads leads' outside none = inl refl
+  move-at' (at_node node) (at_node other) leads leads' outside none = inl refl
+  move-at' no_path v leads leads' outside none = inl refl
+  move-at' no_way v leads leads' outside none = inl refl
+  move-at' (free directory name) v leads leads' outside none = inl refl
+  move-at' at_root v leads leads' outside none = inl refl
+
+  pub own-moved : (source target : List ℕ) → Passes (move_file_tests x.files (file_room x) (Some id) source target) → IsOwn x id (move_file x.files (Some id) source target)
+  unfolding move_file move_file_tests
+  own-moved source target passes =
+      let no = not_refused (move_file_tests x.files (file_room x) (Some id) source target) passes.none in
+      move-at' (find_path (tree_seen x.files (Some id)) source) (find_path (tree_seen x.files (Some id)) target)
+      (find_path-leads (tree_seen x.files (Some id)) (seen-formed formed x sound id) source) (find_path-leads (tree_seen x.files (Some id)) (seen-formed formed x sound id) target)
+      (or_parts _ _ (no _ (inr (inr (inr (inr (inl refl))))))).1 (no _ (inr (inr (inr (inr (inr (inl refl)))))))
+
+-- ---- what they leave
+
 module _ (lists : ListsLaw) (formed : FormedLaw) where
   pub owned-call : (x : Present) (id : Id) (c : Change) → IsSoundFiles x → Owns x id c → IsSoundFiles (apply x (of_files x (Some id) (changing c)))
   owned-call x id c sound owns = unchanged lists formed (record x { files = owned x.files id c }) (apply x (of_files x (Some id) (changing c)))
       (λ i. record (owned x.files id c) { first_opens = (filter-true (x.files.first_opens ++ []) ∙ append-nil x.files.first_opens) i }) refl (λ o there. named x sound o there) (λ i was. was) (λ u there. (u, there, refl)) (owned-sound x id c sound owns)
 
-  module _ (x : Present) (order : AreInOrder x) (sound : IsSoundFiles x) (id : Id) (who : is_undecided_in x.transactions.items id ≡ true) where
-    pub only-answers : IsSoundFiles (apply x (of_files x (Some id) (answering Done)))
-    only-answers = answers_file lists formed x (Some id) (answering Done) refl refl refl order sound
-
-    delete-at : (w : Whereabouts) → Leads (tree_seen x.files (Some id)) w → is_at_directory w ≡ false → (conflict_test x.files (Some id) (delete_act w)).0 ≡ false → is_open_at x.files (Some id) w ≡ false → IsSoundFiles (apply x (of_files x (Some id) (drop_at w)))
-    delete-at (at_node node) leads file none closed =
-        let is = some-from node.content file in
-        owned-call x id (Drop node.number) sound (owns-call formed x sound id who (Drop node.number) (deletes node.number (place node.parent node.name))
-        (delete-applies (tree_seen x.files (Some id)) (seen-formed formed x sound id) node leads is) (delete-acts (tree_seen x.files (Some id)) node leads is) none (λ bytes. absurd (true≢false (sym bytes))) refl (λ make. absurd (true≢false (sym make)))
-        (not-written x.files id (deletes node.number (place node.parent node.name)) none node.number (inl refl))
-        (λ o there of at. still-last x sound id (deletes node.number (place node.parent node.name)) none node.number (inl refl) o there of at) (λ drop. closed-here formed x sound id who node.number (rw is at closed)) sound.next_to)
-    delete-at no_path leads file none closed = only-answers
-    delete-at no_way leads file none closed = only-answers
-    delete-at (free directory name) leads file none closed = only-answers
-    delete-at at_root leads file none closed = only-answers
-
-    pub deletes-own : (path : List ℕ) → Passes (delete_file_tests x.files (file_room x) (Some id) path) → IsSoundFiles (apply x (of_files x (Some id) (delete_file x.files (Some id) path)))
-    unfolding delete_file delete_file_tests
-    deletes-own path passes =
-        let no = not_refused (delete_file_tests x.files (file_room x) (Some id) path) passes.none in
-        delete-at (find_path (tree_seen x.files (Some id)) path) (find_path-leads (tree_seen x.files (Some id)) (seen-formed formed x sound id) path)
-        (no _ (inr (inr (inr (inl refl))))) (no _ (inr (inr (inr (inr (inl refl)))))) (no _ (inr (inr (inr (inr (inr (inl refl)))))))
-
-    remove-at : (w : Whereabouts) → Leads (tree_seen x.files (Some id)) w → is_at_file w ≡ false → is_not_empty (tree_seen x.files (Some id)) w ≡ false → (conflict_test x.files (Some id) (remove_act w)).0 ≡ false → IsSoundFiles (apply x (of_files x (Some id) (drop_at w)))
-    remove-at (at_node node) leads dir empty none =
-        let is = is-directory (tree_seen x.files (Some id)) node.number node leads.0 dir in
-        owned-call x id (Drop node.number) sound (owns-call formed x sound id who (Drop node.number) (drops_directory node.number (place node.parent node.name))
-        (remove-applies (tree_seen x.files (Some id)) node leads empty) (remove-acts (tree_seen x.files (Some id)) node leads dir) none (λ bytes. absurd (true≢false (sym bytes))) refl (λ make. absurd (true≢false (sym make)))
-        (directory-plain formed x sound id who node.number is) (λ o there of at. absurd (directory-first formed x sound id who node.number is o there of at)) (λ drop. directory-open formed x sound id who node.number is) sound.next_to)
-    remove-at no_path leads dir empty none = only-answers
-    remove-at no_way leads dir empty none = only-answers
-    remove-at (free directory name) leads dir empty none = only-answers
-    remove-at at_root leads dir empty none = only-answers
-
-    pub removes-own-directory : (path : List ℕ) → Passes (remove_directory_tests x.files (file_room x) (Some id) path) → IsSoundFiles (apply x (of_files x (Some id) (remove_directory x.files (Some id) path)))
-    unfolding remove_directory remove_directory_tests
-    removes-own-directory path passes =
-        let no = not_refused (remove_directory_tests x.files (file_room x) (Some id) path) passes.none in
-        remove-at (find_path (tree_seen x.files (Some id)) path) (find_path-leads (tree_seen x.files (Some id)) (seen-formed formed x sound id) path)
-        (no _ (inr (inr (inr (inr (inl refl)))))) (no _ (inr (inr (inr (inr (inr (inl refl))))))) (no _ (inr (inr (inr (inr (inr (inr (inl refl))))))))
-
-    make-at' : (room : FileRoom) (w : Whereabouts) → Leads (tree_seen x.files (Some id)) w → (conflict_test x.files (Some id) (make_act w)).0 ≡ false → lacks_quota x.files room (Some id) (make_at x.files w) ≡ false
-        → IsSoundFiles (apply x (of_files x (Some id) (make_at x.files w)))
-    make-at' room (free directory name) leads none fits =
-        let change = Make x.files.table.next_node directory Directory name in
-        owned-call x id change sound (owns-make formed x sound id who Directory directory name leads none (enough-numbers x.files room (Some id) (changing change) change refl fits))
-    make-at' room no_path leads none fits = only-answers
-    make-at' room no_way leads none fits = only-answers
-    make-at' room at_root leads none fits = only-answers
-    make-at' room (at_node node) leads none fits = only-answers
-
-    pub creates-own-directory : (path : List ℕ) → Passes (create_directory_tests x.files (file_room x) (Some id) path) → IsSoundFiles (apply x (of_files x (Some id) (create_directory x.files (Some id) path)))
-    unfolding create_directory create_directory_tests
-    creates-own-directory path passes =
-        let no = not_refused (create_directory_tests x.files (file_room x) (Some id) path) passes.none in
-        make-at' (file_room x) (find_path (tree_seen x.files (Some id)) path) (find_path-leads (tree_seen x.files (Some id)) (seen-formed formed x sound id) path)
-        (no _ (inr (inr (inr (inl refl))))) (no _ (inr (inr (inr (inr (inl refl))))))
-
-    move-node : (node : Node) (directory : ℕ) (name : List ℕ) → Leads (tree_seen x.files (Some id)) (at_node node) → Leads (tree_seen x.files (Some id)) (free directory name) → is_into_itself (tree_seen x.files (Some id)) (at_node node) (free directory name) ≡ false
-        → (b : Bool) → is_some node.content ≡ b → conflicts x.files (Some id) (if b then moves_file node.number (place node.parent node.name) (place directory name) else moves_directory node.number (place node.parent node.name) (place directory name)) ≡ false
-        → Owns x id (Move node.number directory name)
-    move-node node directory name leads leads' outside true file none =
-        let act = moves_file node.number (place node.parent node.name) (place directory name) in
-        owns-call formed x sound id who (Move node.number directory name) act
-        (move-applies (tree_seen x.files (Some id)) node directory name leads leads' outside)
-        (acts-at (tree_seen x.files (Some id)) node (Move node.number directory name) leads.0 refl refl ∙ ap (λ b. (if b then moves_file node.number (place node.parent node.name) (place directory name) else moves_directory node.number (place node.parent node.name) (place directory name)) ∷ []) file)
-        none (λ bytes. absurd (true≢false (sym bytes))) refl (λ make. absurd (true≢false (sym make)))
-        (not-written x.files id act none node.number (inl refl)) (λ o there of at. still-last x sound id act none node.number (inl refl) o there of at) (λ drop. absurd (true≢false (sym drop))) sound.next_to
-    move-node node directory name leads leads' outside false dir none =
-        let act = moves_directory node.number (place node.parent node.name) (place directory name) in
-        let is = is-directory (tree_seen x.files (Some id)) node.number node leads.0 dir in
-        owns-call formed x sound id who (Move node.number directory name) act
-        (move-applies (tree_seen x.files (Some id)) node directory name leads leads' outside)
-        (acts-at (tree_seen x.files (Some id)) node (Move node.number directory name) leads.0 refl refl ∙ ap (λ b. (if b then moves_file node.number (place node.parent node.name) (place directory name) else moves_directory node.number (place node.parent node.name) (place directory name)) ∷ []) dir)
-        none (λ bytes. absurd (true≢false (sym bytes))) refl (λ make. absurd (true≢false (sym make)))
-        (directory-plain formed x sound id who node.number is) (λ o there of at. absurd (directory-first formed x sound id who node.number is o there of at)) (λ drop. absurd (true≢false (sym drop))) sound.next_to
-
-    move-at' : (w v : Whereabouts) → Leads (tree_seen x.files (Some id)) w → Leads (tree_seen x.files (Some id)) v → is_into_itself (tree_seen x.files (Some id)) w v ≡ false → (conflict_test x.files (Some id) (move_act w v)).0 ≡ false
-        → IsSoundFiles (apply x (of_files x (Some id) (move_at w v)))
-    move-at' (at_node node) (free directory name) leads leads' outside none = owned-call x id (Move node.number directory name) sound (move-node node directory name leads leads' outside (is_some node.content) refl none)
-    move-at' (at_node node) no_path leads leads' outside none = only-answers
-    move-at' (at_node node) no_way leads leads' outside none = only-answers
-    move-at' (at_node node) at_root leads leads' outside none = only-answers
-    move-at' (at_node node) (at_node other) leads leads' outside none = only-answers
-    move-at' no_path v leads leads' outside none = only-answers
-    move-at' no_way v leads leads' outside none = only-answers
-    move-at' (free directory name) v leads leads' outside none = only-answers
-    move-at' at_root v leads leads' outside none = only-answers
-
-    pub moves-own : (source target : List ℕ) → Passes (move_file_tests x.files (file_room x) (Some id) source target) → IsSoundFiles (apply x (of_files x (Some id) (move_file x.files (Some id) source target)))
-    unfolding move_file move_file_tests
-    moves-own source target passes =
-        let no = not_refused (move_file_tests x.files (file_room x) (Some id) source target) passes.none in
-        move-at' (find_path (tree_seen x.files (Some id)) source) (find_path (tree_seen x.files (Some id)) target)
-        (find_path-leads (tree_seen x.files (Some id)) (seen-formed formed x sound id) source) (find_path-leads (tree_seen x.files (Some id)) (seen-formed formed x sound id) target)
-        (or_parts _ _ (no _ (inr (inr (inr (inr (inl refl))))))).1 (no _ (inr (inr (inr (inr (inr (inl refl)))))))
+  -- so what undecided transactions own stays sound
+  pub keeps-own : (x : Present) → AreInOrder x → IsSoundFiles x → (id : Id) (o : FileOutcome) → IsOwn x id o → IsSoundFiles (apply x (of_files x (Some id) o))
+  keeps-own x order sound id o (inl answers) = subst (λ o. IsSoundFiles (apply x (of_files x (Some id) o))) (sym answers) (answers_file lists formed x (Some id) (answering Done) refl refl refl order sound)
+  keeps-own x order sound id o (inr (c, changes, owns)) = subst (λ o. IsSoundFiles (apply x (of_files x (Some id) o))) (sym changes) (owned-call x id c sound owns)

@@ -1,5 +1,5 @@
 -- Every world of a run is such a world, and such a world is lawful.
-use Rattle.std.proofs.Common.{◌≡◌, ℕ, ◌+◌, ◌-◌, ◌≤◌, ◌&&◌, not, Bool, true, false, List, [], ◌∷◌, ◌++◌, length, drop, nat_le, Option, Some, None, refl, sym, ◌∙◌, ap, subst, arith, inl, inr, ◌⊎◌, length-append}
+use Rattle.std.proofs.Common.{◌≡◌, ℕ, ◌-◌, ◌≤◌, ◌&&◌, not, Bool, true, false, List, [], ◌∷◌, ◌++◌, length, drop, nat_le, Option, Some, None, refl, sym, ◌∙◌, ap, subst, arith, inl, inr, ◌⊎◌}
 use Rattle.std.proofs.Math.Bool.{and_assoc}
 use Rattle.std.proofs.lemmas.Bool.{cases_Bool, and_from, and_parts, or_cases, or_left, or_right, le-leb, leb-true, not-true, not_from_false, true≢false}
 use Rattle.std.proofs.lemmas.List.Folds.{list_all-append}
@@ -48,16 +48,14 @@ use Rattle.ktm_laws.specs.LimitsKept.{AreVersionsFixed, LimitsLaw}
 use Rattle.ktm_laws.proofs.Counting.{apply-from, frame-counts, log-events, room-for, within-log, log-grows, own-grammatical, own-frame, own-applies}
 use Rattle.ktm_laws.proofs.Diamonds.{IsIn-map}
 use Rattle.ktm_laws.proofs.Elements.{list_all-at, list_all-from}
-use Rattle.ktm_laws.proofs.Falling.{contains-passes, left-with, left-all, kept-all, left-extend, left-restart}
+use Rattle.ktm_laws.proofs.Falling.{contains-passes, left-with, kept-all, left-extend, left-restart}
 use Rattle.ktm_laws.proofs.Lasting.{last-extend}
 use Rattle.ktm_laws.proofs.Passing.{All-by}
 use Rattle.ktm_laws.proofs.Sayings.{puts_all}
+use Rattle.ktm_laws.proofs.Starts.{good-log-from, running-opened}
 use Rattle.ktm_laws.proofs.Written.{IsWritten, MakesNone, written-decided, written-ticked}
 
 -- ---- logs
-
-good-log-from : (base : Durable) (room : ℕ) (log : List Group) → is_log_grammatical log ≡ true → log_applies base log ≡ true → is_good_log base room log ≡ true
-good-log-from base room log grammatical applies = or_right (not (nat_le (log_size log) room)) _ (and_from _ _ grammatical applies)
 
 -- a log that has room
 good-log-parts : (base : Durable) (room : ℕ) (log : List Group) → log_size log ≤ room → is_good_log base room log ≡ true → (is_log_grammatical log ≡ true) × (log_applies base log ≡ true)
@@ -273,31 +271,7 @@ module _ (step : StepLaw) (openings : FirstOpensLaw) (lists : ListsLaw) (formed 
         let frame = own-frame s in
         let one = sum_by-cons frame_size own [] in
         let fits = log-grows room log own (omega (arith, enough, frame, one)) space in
-        let good' = states.3 base log good grammatical applies in
-        let own-good = own-grammatical s good' in
-        let takes = own-applies own_groups base room log roomy applies good' fits in
-        let sound = worlds.restarts base room log good' in
-        let agree = agrees.restarts base room log good' in
-        let grammatical' = list_all-append (λ (g : Group). list_all is_grammatical g) log (own ∷ []) ∙ and_from _ _ grammatical (and_from _ _ own-good refl) in
-        let applies' = log_applies-append base log (own ∷ []) ∙ and_from _ _ applies (and_from _ _ takes refl) in
-        let kept : length log + 1 ≡ length (log ++ own ∷ []) = sym (length-append log (own ∷ [])) in
-        record {
-          base = good;
-          roomy = roomy;
-          openings = sound.openings;
-          now = record { sound = sound.now; good = states.2 s own good' own-good takes; carried_out = agree.1; agrees = agree.0; within = limits.restarts base room log good' };
-          versions = limits.first_versions base room log;
-          notes = notes.restarts base room log;
-          formed = good'.files;
-          works = refl;
-          last = refl;
-          grammatical = grammatical';
-          applies = applies';
-          comes_to = stand-append base log (own ∷ []);
-          fits = fits;
-          kept = kept;
-          possible = left-all (is_good_log base room) (log ++ own ∷ []) (length log + 1) kept (good-log-from base room (log ++ own ∷ []) grammatical' applies');
-        }
+        running-opened states own_groups worlds agrees limits notes base room log good roomy grammatical applies fits
 
     pub running-found : (w : World) (log : List Group) → Finds w log false → IsRunning w → IsRunning (opened w.base w.room log)
     running-found w log finds run =

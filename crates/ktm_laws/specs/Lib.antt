@@ -1,5 +1,6 @@
 pub mod Agreeing
 pub mod Diamond
+pub mod FileCallsMade
 pub mod FilesKept
 pub mod FinalChanges
 pub mod FirstOpening

@@ -12,7 +12,7 @@ pub use changes::{
 };
 pub use courses::{law_of_courses, law_of_kept_outcomes, law_of_named_objects};
 pub use presents::{
-    law_of_agreement, law_of_files_kept, law_of_first_openings, law_of_limits,
+    law_of_agreement, law_of_file_calls, law_of_files_kept, law_of_first_openings, law_of_limits,
     law_of_made_managers, law_of_openings, law_of_own_changes, law_of_own_keys,
     law_of_plain_changes, law_of_recorded_facts, law_of_recordings, law_of_reservations,
     law_of_rollbacks, law_of_sound_worlds, law_of_spelling,

@@ -1,5 +1,6 @@
 // Laws of presents.
 ghost use Rattle.ktm_laws.specs.Agreeing.{AgreeingLaw};
+ghost use Rattle.ktm_laws.specs.FileCallsMade.{FileCallsLaw};
 ghost use Rattle.ktm_laws.specs.FirstOpening.{FirstOpeningLaw};
 ghost use Rattle.ktm_laws.specs.FilesKept.{FilesKeptLaw};
 ghost use Rattle.ktm_laws.specs.LimitsKept.{LimitsLaw};
@@ -102,6 +103,14 @@ pub fn law_of_plain_changes()
 {
     law_of_forms();
     law_of_lists();
+}
+
+/// A call on files that is not refused changes what its caller sees, leaves what others hold, and opens what may be opened.
+pub fn law_of_file_calls()
+    ensures { FileCallsLaw }
+{
+    law_of_lists();
+    law_of_forms();
 }
 
 /// No command and no passing of time passes a limit, in what is so now or in what is recorded.
