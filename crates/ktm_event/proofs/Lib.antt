@@ -7,6 +7,8 @@ pub mod Readings
 pub mod ChangeReadings
 pub mod PartReadings
 pub mod EventReadings
+pub mod Rows
+pub mod WrittenFiles
 pub mod Writings
 pub mod Groups
 pub mod KeptLemmas

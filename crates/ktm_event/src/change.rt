@@ -1,10 +1,11 @@
 // Changes, each a tag and its fields.
-ghost use Rattle.std.specs.Prelude.{◌≡◌, ◌+◌, ◌<◌, ◌≤◌, ◌^◌, [], length, sum_by, OnErr, OnOk, vec_len, vec_capacity};
-ghost use Rattle.ktm_base.specs.Grammar.{IsListOf};
+ghost use Rattle.std.specs.Prelude.{◌≡◌, ◌+◌, ◌<◌, ◌≤◌, ◌^◌, [], All, length, sum_by, OnErr, OnOk, vec_len, vec_capacity};
+ghost use Rattle.ktm_base.specs.Grammar.{IsListOf, IsRow};
 ghost use Rattle.ktm_codec.specs.Spans.{Adds};
 ghost use Rattle.ktm_types.specs.EventGrammar.{IsChangeOf, IsKindOf, IsPutOf};
 ghost use Rattle.ktm_types.specs.Sizes.{change_size, put_size};
 ghost use Rattle.ktm_types.specs.declared.change.Change.TheVariants.{Cut, Drop, Make, Move, Put};
+ghost use Rattle.ktm_types.specs.declared.change.Contents.TheVariants.{Whole};
 ghost use Rattle.ktm_event.specs.Reading.{Behind, Gives};
 ghost use Rattle.ktm_event.specs.Spelling.{AreSpellableChanges, IsSpellableChange, IsSpellableContents};
 
@@ -183,6 +184,27 @@ fn put_make(
     Ok(())
 }
 
+// Bytes, of which there is one at least, at an offset of a file.
+pub(crate) fn put_whole(
+    out: &mut Vec<u8>,
+    node: u64,
+    offset: u64,
+    bytes: &[u8],
+) -> Result<(), NoMemory>
+    requires { IsSpellableContents (Whole bytes.now) }
+    ensures adds { OnOk result (Adds (IsChangeOf (Put node offset (Whole bytes.now))) out.old.items out.new.items) }
+    ensures len { OnOk result (vec_len out.new ≡ vec_len out.old + 21 + length bytes.now) }
+    ensures room { vec_capacity out.old ≤ vec_capacity out.new }
+    ensures full { OnErr result (vec_capacity out.old < vec_len out.old + 21 + length bytes.now) }
+{
+    out.reserve(21 + bytes.len())?;
+    put_u8(out, PUT);
+    put_u64(out, node);
+    put_u64(out, offset);
+    put_bytes(out, bytes);
+    Ok(())
+}
+
 fn put_put(out: &mut Vec<u8>, node: u64, offset: u64, contents: &Contents) -> Result<(), NoMemory>
     requires { IsSpellableContents contents.now }
     ensures adds { OnOk result (Adds (IsChangeOf (Put node offset contents.now)) out.old.items out.new.items) }
@@ -190,18 +212,13 @@ fn put_put(out: &mut Vec<u8>, node: u64, offset: u64, contents: &Contents) -> Re
     ensures room { vec_capacity out.old ≤ vec_capacity out.new }
     ensures full { OnErr result (vec_capacity out.old < vec_len out.old + 17 + put_size contents.now) }
 {
-    let Contents::Whole(contents) = contents else {
-        return Ok(());
-    };
-    out.reserve(21 + contents.len())?;
-    put_u8(out, PUT);
-    put_u64(out, node);
-    put_u64(out, offset);
-    put_bytes(out, contents.as_slice());
-    Ok(())
+    match contents {
+        Contents::Whole(bytes) => put_whole(out, node, offset, bytes.as_slice()),
+        Contents::Paged(_) => Ok(()),
+    }
 }
 
-fn put_cut(out: &mut Vec<u8>, node: u64, size: u64) -> Result<(), NoMemory>
+pub(crate) fn put_cut(out: &mut Vec<u8>, node: u64, size: u64) -> Result<(), NoMemory>
     ensures adds { OnOk result (Adds (IsChangeOf (Cut node size [])) out.old.items out.new.items) }
     ensures len { OnOk result (vec_len out.new ≡ vec_len out.old + 17) }
     ensures room { vec_capacity out.old ≤ vec_capacity out.new }
@@ -266,6 +283,20 @@ pub(crate) fn put_change(out: &mut Vec<u8>, change: &Change) -> Result<(), NoMem
     }
 }
 
+// Changes in a row.
+pub(crate) fn put_row(out: &mut Vec<u8>, changes: &[Change]) -> Result<(), NoMemory>
+    requires { All IsSpellableChange changes.now }
+    ensures adds { OnOk result (Adds (IsRow IsChangeOf changes.now) out.old.items out.new.items) }
+    ensures len { OnOk result (vec_len out.new ≡ vec_len out.old + sum_by change_size changes.now) }
+    ensures room { vec_capacity out.old ≤ vec_capacity out.new }
+    ensures full { OnErr result (vec_capacity out.old < vec_len out.old + sum_by change_size changes.now) }
+{
+    for change in changes {
+        put_change(out, change)?;
+    }
+    Ok(())
+}
+
 pub(crate) fn put_changes(out: &mut Vec<u8>, changes: &[Change]) -> Result<(), NoMemory>
     requires { AreSpellableChanges changes.now }
     ensures adds { OnOk result (Adds (IsListOf IsChangeOf changes.now) out.old.items out.new.items) }
@@ -275,8 +306,6 @@ pub(crate) fn put_changes(out: &mut Vec<u8>, changes: &[Change]) -> Result<(), N
 {
     out.reserve(4)?;
     put_u32(out, changes.len() as u32);
-    for change in changes {
-        put_change(out, change)?;
-    }
+    put_row(out, changes)?;
     Ok(())
 }

@@ -13,7 +13,7 @@ ghost use Rattle.ktm_event.specs.Work.{part_of, work_event};
 use crate::change::{change_at, put_change};
 use crate::field::{count_at, id_at, put_id, tag_at};
 use crate::part::{
-    done_at, part_at, put_changes_part, put_done, put_part, put_record, put_settings_part,
+    done_at, part_at, put_done, put_names_and_files_part, put_part, put_record, put_settings_part,
     record_at, sole_at,
 };
 use crate::{EventFault, Stage, Work};
@@ -247,7 +247,7 @@ pub(crate) fn put_work(
 {
     put_tagged_id(out, stage.tag(), transaction)?;
     match work {
-        Work::Changes(changes) => put_changes_part(out, changes)?,
+        Work::Changes { names, files } => put_names_and_files_part(out, names, files)?,
         Work::Settings(settings) => put_settings_part(out, settings)?,
     }
     Ok(())

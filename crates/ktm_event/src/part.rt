@@ -6,11 +6,13 @@ ghost use Rattle.ktm_types.specs.Sizes.{change_size, done_size, part_size, recor
 ghost use Rattle.ktm_types.specs.declared.event.Part.TheVariants.{Changes, Enlistment, Settings};
 ghost use Rattle.ktm_event.specs.Reading.{Gives, IsRecordedOf};
 ghost use Rattle.ktm_event.specs.Spelling.{AreSpellableChanges, AreSpellableSettings, IsSpellableDone, IsSpellablePart, IsSpellableRecord};
+ghost use Rattle.ktm_event.specs.Work.{changes_of};
 
-use crate::EventFault;
 use crate::change::{changes_at, put_changes};
 use crate::field::{id_at, information_at, put_id, tag_at};
+use crate::files::put_names_and_files;
 use crate::setting::{put_settings, settings_at};
+use crate::{EventFault, FileBytes};
 use ktm_base::{Bytes, Id, NoMemory};
 use ktm_codec::{put_text, put_u8};
 use ktm_types::{Change, DonePart, Part, Setting};
@@ -126,7 +128,23 @@ fn put_enlistment(
     Ok(())
 }
 
-pub(crate) fn put_changes_part(out: &mut Vec<u8>, changes: &[Change]) -> Result<(), NoMemory>
+pub(crate) fn put_names_and_files_part(
+    out: &mut Vec<u8>,
+    names: &[Change],
+    files: &[FileBytes<'_>],
+) -> Result<(), NoMemory>
+    requires { AreSpellableChanges (changes_of names.now files.now) }
+    ensures adds { OnOk result (Adds (IsPartOf (Changes (changes_of names.now files.now))) out.old.items out.new.items) }
+    ensures len { OnOk result (vec_len out.new ≡ vec_len out.old + 5 + sum_by change_size (changes_of names.now files.now)) }
+    ensures room { vec_capacity out.old ≤ vec_capacity out.new }
+    ensures full { OnErr result (vec_capacity out.old < vec_len out.old + 5 + sum_by change_size (changes_of names.now files.now)) }
+{
+    out.push(CHANGES)?;
+    put_names_and_files(out, names, files)?;
+    Ok(())
+}
+
+fn put_changes_part(out: &mut Vec<u8>, changes: &[Change]) -> Result<(), NoMemory>
     requires { AreSpellableChanges changes.now }
     ensures adds { OnOk result (Adds (IsPartOf (Changes changes.now)) out.old.items out.new.items) }
     ensures len { OnOk result (vec_len out.new ≡ vec_len out.old + 5 + sum_by change_size changes.now) }

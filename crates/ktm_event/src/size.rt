@@ -1,12 +1,13 @@
 // How many bytes events take, from their fields. Where there are more than a number can say, each function answers the
 // greatest number.
 ghost use Rattle.std.specs.Prelude.{◌≡◌, ◌-◌, ◌^◌, min, sum_by};
+ghost use Rattle.std.specs.List.{flat_map};
 ghost use Rattle.ktm_base.specs.declared.id.Id.{Id};
 ghost use Rattle.ktm_types.specs.Sizes.{change_size, done_size, event_size, part_size, put_size, record_size, set_to_size, setting_size};
-ghost use Rattle.ktm_event.specs.Work.{part_of, work_event};
+ghost use Rattle.ktm_event.specs.Work.{changes_of_file, part_of, work_event};
 ghost use Rattle.ktm_event.specs.declared.work.Stage.{Stage};
 
-use crate::Work;
+use crate::{FileBytes, Work};
 use ktm_base::Bytes;
 use ktm_types::{Change, Contents, DonePart, Event, Part, Setting};
 
@@ -67,6 +68,26 @@ fn changes_size(changes: &[Change]) -> usize
     size
 }
 
+// A cut, and a put where there are bytes.
+fn file_size(file: &FileBytes<'_>) -> usize
+    ensures { result ≡ min (sum_by change_size (changes_of_file file.now)) (2 ^ 64 - 1) }
+{
+    if file.bytes.is_empty() {
+        return 17;
+    }
+    file.bytes.len().saturating_add(38)
+}
+
+fn files_size(files: &[FileBytes<'_>]) -> usize
+    ensures { result ≡ min (sum_by change_size (flat_map changes_of_file files.now)) (2 ^ 64 - 1) }
+{
+    let mut size = 0usize;
+    for file in files {
+        size = size.saturating_add(file_size(file));
+    }
+    size
+}
+
 fn record_size(information: &[u8]) -> usize
     ensures { result ≡ min (record_size information.now) (2 ^ 64 - 1) }
 {
@@ -116,7 +137,7 @@ pub fn work_size(work: Work<'_>) -> usize
         → result ≡ min (event_size (work_event stage transaction (part_of work.entry))) (2 ^ 64 - 1) }
 {
     let items = match work {
-        Work::Changes(changes) => changes_size(changes),
+        Work::Changes { names, files } => changes_size(names).saturating_add(files_size(files)),
         Work::Settings(settings) => settings_size(settings),
     };
     items.saturating_add(14)

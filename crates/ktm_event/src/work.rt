@@ -5,11 +5,22 @@ ghost use Rattle.ktm_event.specs.Work.{stage_tag};
 use crate::event::{READY, SINGLE};
 use ktm_types::{Change, Setting};
 
+/// All bytes of a file that a transaction wrote.
+#[derive(Clone, Copy)]
+pub struct FileBytes<'a> {
+    pub file: u64,
+    pub bytes: &'a [u8],
+}
+
 /// What one participant has to record of a transaction.
 #[derive(Clone, Copy)]
 pub enum Work<'a> {
-    /// Changes of files.
-    Changes(&'a [Change]),
+    /// Changes of names in order, and behind them the bytes of the files that were written. A file's bytes are recorded as a
+    /// cut to nothing and, where there are any, a put of them all.
+    Changes {
+        names: &'a [Change],
+        files: &'a [FileBytes<'a>],
+    },
     /// Settings of keys.
     Settings(&'a [Setting]),
 }

@@ -5,8 +5,8 @@ ghost use Rattle.ktm_event.specs.Work.{part_of, work_event};
 
 use ktm_base::{Bytes, Id, NoMemory, Text};
 use ktm_event::{
-    EventFault, Events, Stage, Work, event_size, law_of_round_trip, read_event, read_group,
-    work_size, write_event,
+    EventFault, Events, FileBytes, Stage, Work, event_size, law_of_round_trip, read_event,
+    read_group, work_size, write_event,
 };
 use ktm_types::{Change, DonePart, Event, NodeKind, Part, Setting, Settings};
 use std::alloc::{AllocError, Global};
@@ -28,6 +28,13 @@ const SINGLE_OF_FILES: &[u8] =
     b"\x05\x01\0\0\0\x01\0\0\0\x02\x02\0\0\0\x03\x03\0\0\0\0\0\0\0\x09\0\0\0\0\0\0\0\x05\x03\0\0\0\0\0\0\0";
 
 const SINGLE_OF_KEYS: &[u8] = b"\x05\x01\0\0\0\x01\0\0\0\x03\x01\0\0\0\x01k\x01\x01\0\x01";
+
+// A file is dropped, another one is cut to nothing, and a third one is cut and gets two bytes.
+const SINGLE_OF_FILES_BODY: &[u8] =
+    b"\x54\0\0\0\x01\0\0\0\x05\x01\0\0\0\x01\0\0\0\x02\x04\0\0\0\x05\x03\0\0\0\0\0\0\0\x03\x04\0\0\0\0\0\0\0\0\0\0\0\0\0\0\0\x03\x05\0\0\0\0\0\0\0\0\0\0\0\0\0\0\0\x02\x05\0\0\0\0\0\0\0\0\0\0\0\0\0\0\0\x02\0\0\0ab\0";
+
+const READY_OF_FILES_BODY: &[u8] =
+    b"\x4b\0\0\0\x01\0\0\0\x04\x01\0\0\0\x01\0\0\0\x02\x03\0\0\0\x03\x04\0\0\0\0\0\0\0\0\0\0\0\0\0\0\0\x03\x05\0\0\0\0\0\0\0\0\0\0\0\0\0\0\0\x02\x05\0\0\0\0\0\0\0\0\0\0\0\0\0\0\0\x02\0\0\0ab\0";
 
 const HELD: &[u8] = b"\x06\x01\0\0\0\x01\0\0\0\x01\0\0\0\x03\0\0\0\x01\0\0\0\x02\0\0\0\0";
 
@@ -290,8 +297,12 @@ fn events_that_are_kept(rt: HostRuntime) -> Result<(), Fail> {
     assert!(rt; events.is_empty());
     assert_eq!(rt; events.body(), b"\x04\0\0\0\0\0\0\0\0".as_slice());
     events.push(&Event::Boot { boot: 2 });
-    let changes = [Change::Drop { node: 3 }];
-    events.push_work(Stage::Single, TRANSACTION, Work::Changes(&changes));
+    let names = [Change::Drop { node: 3 }];
+    let work = Work::Changes {
+        names: &names,
+        files: &[],
+    };
+    events.push_work(Stage::Single, TRANSACTION, work);
     assert_eq!(rt; events.spare(), 36);
     assert_eq!(rt;
         events.body(),
@@ -334,7 +345,45 @@ fn room_for_events(rt: HostRuntime) -> Result<(), Fail> {
     let mut events = Events::new(rt.alloc(), 5)?;
     assert!(rt; push_within_room(&mut events, &event));
     assert!(rt; !push_within_room(&mut events, &event));
-    assert_eq!(rt; work_size(Work::Changes(&[Change::Drop { node: 3 }])), 23);
+    let names = [Change::Drop { node: 3 }];
+    let work = Work::Changes {
+        names: &names,
+        files: &[],
+    };
+    assert_eq!(rt; work_size(work), 23);
+    Ok(())
+}
+
+#[test]
+fn bytes_of_files(rt: HostRuntime) -> Result<(), Fail> {
+    let mut events = Events::new(rt.alloc(), 256)?;
+    let names = [Change::Drop { node: 3 }];
+    let files = [
+        FileBytes {
+            file: 4,
+            bytes: b"",
+        },
+        FileBytes {
+            file: 5,
+            bytes: b"ab",
+        },
+    ];
+    let work = Work::Changes {
+        names: &names,
+        files: &files,
+    };
+    assert_eq!(rt; work_size(work), 80);
+    events.push_work(Stage::Single, TRANSACTION, work);
+    assert_eq!(rt; events.spare(), 176);
+    assert_eq!(rt; events.body(), SINGLE_OF_FILES_BODY);
+    events.clear();
+    let work = Work::Changes {
+        names: &[],
+        files: &files,
+    };
+    assert_eq!(rt; work_size(work), 71);
+    events.push_work(Stage::Ready, TRANSACTION, work);
+    assert_eq!(rt; events.body(), READY_OF_FILES_BODY);
     Ok(())
 }
 

@@ -1,19 +1,19 @@
 use Rattle.std.proofs.Common.{arith}
 use Rattle.std.proofs.lemmas.Result.{err_from_is_err_and}
-use Rattle.ktm_codec.proofs.Adding.{adds_item}
 use Rattle.ktm_types.specs.EventGrammar.{IsChangeOf}
 use Rattle.ktm_types.specs.Sizes.{change_size}
+use Rattle.ktm_event.proofs.Rows.{adds_more}
 use Rattle.ktm_event.proofs.Writings.{size_more, size_within}
-use Rattle.ktm_event.proofs.change.put_changes.Goals as goal
+use Rattle.ktm_event.proofs.change.put_row.Goals as goal
 
 pub returns-in_err-put_change-clause-full : goal.returns-in_err-put_change-clause-full
 returns-in_err-put_change-clause-full c =
-    let p = err_from_is_err_and c.from_residual-in_err-put_change.result c.from_residual-in_err-put_change.ensures.1 in
+    let p = err_from_is_err_and c.from_residual.result c.from_residual.ensures.1 in
     rw p.1 (omega (arith, c.in_err-put_change.ensures.full, size_within change_size c.args.changes.now c.loop-change.change-index c.change-item.result (omega arith) c.change-item.is))
 
 pub loop-change-preserved : goal.loop-change-preserved
 loop-change-preserved c = record {
-  adds = adds_item IsChangeOf _ _ _ _ c.change-item.result _ _ (omega arith) c.change-item.is c.loop-change.invariant.adds c.in_ok-put_change.ensures.adds;
+  adds = adds_more IsChangeOf _ _ c.change-item.result (omega arith) c.change-item.is c.loop-change.invariant.adds c.in_ok-put_change.ensures.adds;
   len = omega (arith, c.in_ok-put_change.ensures.len, size_more change_size c.args.changes.now c.loop-change.change-index c.change-item.result (omega arith) c.change-item.is);
   room = omega arith;
 }

@@ -1,0 +1,27 @@
+-- The changes that give a file its bytes.
+use Rattle.std.proofs.Common.{◌≡◌, ◌==◌, ℕ, false, List, [], ◌∷◌, length, arith}
+use Rattle.std.specs.List.{All}
+use Rattle.ktm_base.specs.Grammar.{IsRow}
+use Rattle.ktm_codec.specs.Spans.{Adds}
+use Rattle.ktm_types.specs.declared.change.Change.TheVariants.{Put, Cut}
+use Rattle.ktm_types.specs.declared.change.Contents.TheVariants.{Whole}
+use Rattle.ktm_types.specs.EventGrammar.{IsChangeOf}
+use Rattle.ktm_event.specs.Spelling.{IsSpellableChange, IsSpellableContents}
+use Rattle.ktm_event.specs.Work.{bytes_changes}
+use Rattle.ktm_event.specs.declared.work.FileBytes.{FileBytes}
+use Rattle.ktm_event.proofs.Rows.{adds_one, adds_row}
+
+-- what a list of files gives past its end
+abbrev pub past : FileBytes
+past = record { file = 0; bytes = record { ref_ptr = (0, 0); now = [] } }
+
+pub adds_bytes : (file : ℕ) (bytes : List ℕ) {a b c : List ℕ} → (length bytes == 0) ≡ false
+    → Adds (IsChangeOf (Cut file 0 [])) a b → Adds (IsChangeOf (Put file 0 (Whole bytes))) b c → Adds (IsRow IsChangeOf (bytes_changes file bytes)) a c
+adds_bytes file [] some cut put = absurd cc
+adds_bytes file (x ∷ xs) some cut put =
+    let last = Put file 0 (Whole (x ∷ xs)) in
+    adds_row IsChangeOf (Cut file 0 [] ∷ []) (last ∷ []) (adds_one IsChangeOf (Cut file 0 []) cut) (adds_one IsChangeOf last put)
+
+pub spellable_bytes : (file : ℕ) (bytes : List ℕ) → (length bytes == 0) ≡ false → All IsSpellableChange (bytes_changes file bytes) → IsSpellableContents (Whole bytes)
+spellable_bytes file [] some all = absurd cc
+spellable_bytes file (b ∷ bs) some all = all 1 (Cut file 0 []) (omega arith)
