@@ -6,7 +6,9 @@ ghost use Rattle.ktm_world.specs.FileCalls.{Whereabouts as There, at_node};
 ghost use Rattle.ktm_world.specs.Files.{tree_seen};
 ghost use Rattle.txf_calls.specs.Calls.{file_outcome};
 ghost use Rattle.txf_calls.specs.Found.{IsFound};
+ghost use Rattle.txf_calls.specs.Steps.{dropped};
 ghost use Rattle.txf_calls.specs.There.{delete_there, remove_there};
+ghost use Rattle.txf_calls.specs.Views.{HasShortNames};
 ghost use Rattle.txf_calls.specs.declared.call.FileCall.TheVariants.{Delete, RemoveDirectory};
 ghost use Rattle.txf_paths.specs.Leads.{Leads, seen_of};
 
@@ -19,6 +21,17 @@ use ktm_base::{Id, NoMemory, Refusal, Text};
 use ktm_types::Change;
 use std::alloc::Global;
 use txf_paths::{Seen, Whereabouts};
+
+// A node is dropped, where nothing that others hold or have open is against it, and no quota is passed.
+fn drop_node<V: Volume>(volume: &V, who: Option<Id>, act: Act, node: u64, room: &Room) -> Plan
+    requires { HasShortNames act }
+    ensures { result ≡ dropped (V.files volume.now) room.now who act.entry node }
+{
+    if let Some(refusal) = volume.check(who, act) {
+        return Plan::refused(refusal);
+    }
+    within_quota(volume, who, Plan::changing(Change::Drop { node }), room)
+}
 
 // The file that is there is dropped.
 fn delete_node<V: Volume>(volume: &V, who: Option<Id>, node: Seen, name: &[u8], room: &Room) -> Plan
@@ -35,11 +48,7 @@ fn delete_node<V: Volume>(volume: &V, who: Option<Id>, node: Seen, name: &[u8], 
             name,
         },
     };
-    if let Some(refusal) = volume.check(who, act) {
-        return Plan::refused(refusal);
-    }
-    let change = Change::Drop { node: node.number };
-    within_quota(volume, who, Plan::changing(change), room)
+    drop_node(volume, who, act, node.number, room)
 }
 
 // What DeleteFile comes to where the path leads.
@@ -90,11 +99,7 @@ fn remove_node<V: Volume>(volume: &V, who: Option<Id>, node: Seen, name: &[u8], 
             name,
         },
     };
-    if let Some(refusal) = volume.check(who, act) {
-        return Plan::refused(refusal);
-    }
-    let change = Change::Drop { node: node.number };
-    within_quota(volume, who, Plan::changing(change), room)
+    drop_node(volume, who, act, node.number, room)
 }
 
 // What RemoveDirectory comes to where the path leads.

@@ -266,6 +266,11 @@ first_from-none es from are small none =
     by_cases None none = refl
     by_cases (Some e) none = absurd (cc)
 
+-- numbers end
+pub first_from-end : (es : List (NamedItem Written)) (from : ℕ) → AreFiles es → 2 ^ 64 ≤ from → None ≡ first_from (files_in es) from
+first_from-end [] from are high = refl
+first_from-end (e ∷ es) from are high = rw (lt-ltb e.value.file from (omega (arith, are.1))) (first_from-end es from are.2 high)
+
 -- ---- no change at all
 has_changes-append : (cs ds : List Change) → has_changes (cs ++ ds) ≡ (has_changes cs || has_changes ds)
 has_changes-append [] ds = refl

@@ -8,14 +8,16 @@ ghost use Rattle.ktm_world.specs.Changes.{has_changes, has_made, nodes_made};
 ghost use Rattle.ktm_world.specs.Tree.{cut_to, put_over};
 
 use crate::node::{Nodes, seen};
-use crate::written::{Files, WrittenFile, bytes_of, close, open, take_file};
+use crate::written::{
+    Files, WrittenFile, bytes_of, close, file_behind, file_from, open, take_file,
+};
 use ktm_base::NoMemory;
 use ktm_links::Chains;
 use ktm_types::Change;
 use std::alloc::Global;
 use std::marker::Model;
 use std::mem::replace;
-use txf_tree::{ChildName, number_bytes};
+use txf_tree::ChildName;
 
 /// What one transaction made, moved and dropped, in order, and the bytes of the files that it wrote.
 #[derive(Drop)]
@@ -99,10 +101,14 @@ impl Overlay {
     pub fn written_from(&self, from: u64) -> Option<&WrittenFile>
         ensures { option_copied result ≡ first_from self.now.written from }
     {
-        match self.files.first_from(&number_bytes(from)) {
-            Some(key) => self.files.get(key),
-            None => None,
-        }
+        file_from(&self.files, from)
+    }
+
+    /// The first file, by number, that is written behind this one.
+    pub fn written_behind(&self, file: u64) -> Option<&WrittenFile>
+        ensures { option_copied result ≡ first_from self.now.written (file + 1) }
+    {
+        file_behind(&self.files, file)
     }
 
     /// Has it made the node, whatever it did with it then.

@@ -7,7 +7,7 @@ ghost use Rattle.txf_overlay.specs.Files.{files_in, IsFilesMap};
 ghost use Rattle.ktm_links.specs.Mapped.{key_at, without_name};
 ghost use Rattle.txf_overlay.specs.Maps.{IsPut};
 ghost use Rattle.txf_tree.specs.Places.{number_bytes};
-ghost use Rattle.txf_overlay.specs.Written.{bytes_at, bytes_or, file_of, with_file, with_made, without_file};
+ghost use Rattle.txf_overlay.specs.Written.{bytes_at, bytes_or, file_of, first_from, with_file, with_made, without_file};
 
 use crate::maps::{get, set};
 use ktm_base::{Bytes, NoMemory};
@@ -133,6 +133,28 @@ pub(crate) fn bytes_of(files: &Files, file: u64) -> Option<&[u8]>
 {
     match get(files, &number_bytes(file)) {
         Some(written) => Some(written.bytes()),
+        None => None,
+    }
+}
+
+// The first file, by number, that is written and whose number is not below this one.
+pub(crate) fn file_from(files: &Files, from: u64) -> Option<&WrittenFile>
+    requires { IsFilesMap files.now.entries }
+    ensures { option_copied result ≡ first_from (files_in files.now.entries) from }
+{
+    match files.first_from(&number_bytes(from)) {
+        Some(key) => files.get(key),
+        None => None,
+    }
+}
+
+// The first file, by number, that is written behind this one.
+pub(crate) fn file_behind(files: &Files, file: u64) -> Option<&WrittenFile>
+    requires { IsFilesMap files.now.entries }
+    ensures { option_copied result ≡ first_from (files_in files.now.entries) (file + 1) }
+{
+    match file.checked_add(1) {
+        Some(from) => file_from(files, from),
         None => None,
     }
 }

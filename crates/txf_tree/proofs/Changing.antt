@@ -158,6 +158,25 @@ versions_in-raised (y ∷ ys) n s x rising found number is =
           ]
     ]
 
+-- a node without a version in place of another
+pub versions_in-forgotten : (nodes : List NodeNow) (n : ℕ) (x : NodeNow) → x.version ≡ 0 → versions_in (replaced nodes n x) ≡ without_version (versions_in nodes) n
+unfolding version_before
+versions_in-forgotten [] n x none = refl
+versions_in-forgotten (y ∷ ys) n x none =
+    let rest = versions_in-forgotten ys n x none in
+    elim (cases_Bool (eqb y.node.number n)) [
+      | inl same ↦
+          elim (cases_lt 0 y.version) [
+            | inl changed ↦ rw (same, none, lt-ltb 0 y.version changed, same) rest
+            | inr never ↦ rw (same, none, le-ltb 0 y.version never) rest
+          ]
+      | inr differs ↦
+          elim (cases_lt 0 y.version) [
+            | inl changed ↦ rw (differs, lt-ltb 0 y.version changed, differs) (ap (λ vs. record { file = y.node.number; count = y.version } ∷ vs) rest)
+            | inr never ↦ rw (differs, le-ltb 0 y.version never) rest
+          ]
+    ]
+
 -- ---- one node more
 pub tree_in-with : (nodes : List NodeNow) (x : NodeNow) → tree_in (with_now nodes x) ≡ with_node (tree_in nodes) x.node
 tree_in-with [] x = refl

@@ -1,11 +1,13 @@
--- Lemmas on nodes that come by rising number.
-use Rattle.std.proofs.Common.{◌≡◌, ℕ, ◌<◌, ◌≤◌, ◌&&◌, true, eqb, nat_lt, [], ◌∷◌, ◌++◌, length, get_or, All, Some, None, refl, ap, subst, inl, inr, arith}
-use Rattle.std.proofs.lemmas.Bool.{and_parts, cases_Bool, le-ltb, ltb-true, ne_eqb}
+-- Lemmas on nodes that come and stand by rising number.
+use Rattle.std.proofs.Common.{◌≡◌, ℕ, ◌<◌, ◌≤◌, ◌&&◌, true, eqb, nat_lt, List, [], ◌∷◌, ◌++◌, length, get_or, All, Some, None, refl, ap, subst, inl, inr, arith}
+use Rattle.std.proofs.lemmas.Bool.{and_from, and_parts, cases_Bool, le-ltb, lt-ltb, ltb-true, ne_eqb}
 use Rattle.std.proofs.lemmas.List.{get_or_at}
 use Rattle.std.proofs.lemmas.Option.{same_Some}
 use Rattle.ktm_base.specs.Names.{IsName}
 use Rattle.ktm_types.specs.declared.recorded.Node.{Node}
 use Rattle.ktm_world.specs.Tree.{Tree, child_of, node_at, numbers_rise, same_name, with_node}
+use Rattle.txf_tree.specs.Indexes.{AreRising}
+use Rattle.txf_tree.specs.TreeState.{NodeNow, tree_in}
 
 -- each number is below this one
 AreBelow : ℕ → Tree → Type 0
@@ -78,3 +80,9 @@ is_next done rest node rise names one_each =
           (at_place (λ (n : Node). child_of (done ++ node ∷ rest) n.parent n.name ≡ Some n) done rest node one_each);
       last = with_node-last done node below;
     }
+
+-- the numbers of nodes that rise
+pub rise_now : (nodes : List NodeNow) → AreRising nodes → numbers_rise (tree_in nodes) ≡ true
+rise_now [] rising = refl
+rise_now (x ∷ []) rising = refl
+rise_now (x ∷ y ∷ ys) rising = and_from _ _ (lt-ltb x.node.number y.node.number rising.0.0) (rise_now (y ∷ ys) rising.1)

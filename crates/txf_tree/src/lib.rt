@@ -2,13 +2,16 @@
 //! and how often they changed.
 #![tactic(auto)]
 
+mod applies;
 mod bytes;
+mod change;
 mod entry;
 mod name;
 mod nodes;
 mod stored;
 mod tree;
 
+pub use change::{bytes_in, changes_bytes, is_drop, is_make, next_after, node_of};
 pub use entry::{Entries, Entry, NodeRef};
 pub use name::{ChildName, NumberName, after_child, after_place, child_name, number_bytes};
 pub use tree::Tree;

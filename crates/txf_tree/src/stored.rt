@@ -233,6 +233,15 @@ impl Stored {
         }
     }
 
+    /// The bytes count as never changed.
+    pub(crate) fn forget_version(&mut self)
+        ensures node { self.new.node ≡ self.old.node }
+        ensures version { self.new.version ≡ 0 }
+        ensures room { self.new.room ≡ self.old.room }
+    {
+        self.version = 0;
+    }
+
     /// Gives the node another directory and another name.
     pub(crate) fn rename(&mut self, parent: u64, name: Text)
         requires { length name ≤ 255 }

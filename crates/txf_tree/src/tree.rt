@@ -5,13 +5,14 @@ ghost use Rattle.ktm_base.specs.Names.{IsName};
 ghost use Rattle.ktm_types.specs.declared.change.Change.TheVariants.{Make, Put, Cut, Move, Drop};
 ghost use Rattle.ktm_links.specs.Mapped.{Begins, IsNotBelow};
 ghost use Rattle.ktm_world.specs.Changes.{applies, bytes_in, changed, changed_all, new_content, node_of};
-ghost use Rattle.ktm_world.specs.Committed.{final_bytes, version_of, versions_after};
+ghost use Rattle.ktm_world.specs.Committed.{final_bytes, version_of, versions_after, without_version};
 ghost use Rattle.ktm_world.specs.Tree.{bytes_of, child_of, content_of, has_entries, is_at_or_below, is_directory, is_file, node_at, numbers_rise, parent_of, with_node};
 ghost use Rattle.txf_tree.specs.Children.{node_seen, entries_in};
 ghost use Rattle.txf_tree.specs.Indexes.{under, with_now, IsApplied, IsFirstUnder, IsNoneUnder};
 ghost use Rattle.txf_tree.specs.Places.{entries_behind, entries_from, number_bytes};
 ghost use Rattle.txf_tree.specs.TreeState.{dropped, fits, now_at, room_of, has_room, takes, tree_of, versions_of, KeepsRoom, KeepsRooms};
 
+use crate::change::{bytes_in, changes_bytes, node_of};
 use crate::entry::{Entries, Entry, NodeRef};
 use crate::name::{ChildName, after_child, child_name, number_bytes};
 use crate::nodes::Nodes;
@@ -23,7 +24,7 @@ use std::alloc::Global;
 use std::marker::Model;
 
 /// The number of the root.
-const ROOT: u64 = 1;
+pub(crate) const ROOT: u64 = 1;
 
 /// The most characters of a name.
 const MOST_CHARACTERS: usize = 255;
@@ -91,15 +92,6 @@ fn new_content(alloc: Global, kind: NodeKind) -> Option<Bytes>
     }
 }
 
-fn bytes_in(contents: &Contents) -> &[u8]
-    ensures { result.now ≡ bytes_in contents.now }
-{
-    match contents {
-        Contents::Whole(bytes) => bytes.as_slice(),
-        Contents::Paged(_) => &[],
-    }
-}
-
 impl Tree {
     /// A tree of the root alone.
     pub fn new(alloc: Global) -> Self
@@ -129,6 +121,13 @@ impl Tree {
             tree.push(node);
         }
         Ok(tree)
+    }
+
+    /// The numbers of its nodes rise.
+    pub fn law_of_numbers(&self)
+        ensures { numbers_rise (tree_of self.now) ≡ true }
+    {
+        let _ = &self.alloc;
     }
 
     /// How many nodes there are beside the root.
@@ -338,6 +337,27 @@ impl Tree {
         }
     }
 
+    /// Makes a change of a log that is read again, which applies and for which the memory is there: the bytes of files count
+    /// as never changed. It hands out the bytes of a file that it drops.
+    pub fn restore(&mut self, change: Change) -> Option<Bytes>
+        requires applies { applies (tree_of self.old) change ≡ true }
+        requires fits { fits self.old change ≡ true }
+        requires rest { versions_of self.old ≡ [] }
+        ensures bytes { result ≡ dropped (tree_of self.old) change }
+        ensures tree { tree_of self.new ≡ changed (tree_of self.old) change }
+        ensures versions { versions_of self.new ≡ [] }
+        ensures rooms { KeepsRoom self.old self.new change }
+        ensures spare { self.old.spare ≤ self.new.spare + takes change }
+    {
+        let node = node_of(&change);
+        let counts = changes_bytes(&change);
+        let bytes = self.apply(change);
+        if counts {
+            self.forget_version(node);
+        }
+        bytes
+    }
+
     /// Gives a file other bytes, which a commit has put together, and hands out those that it had. No byte is copied.
     pub fn replace(&mut self, file: u64, bytes: Bytes) -> Bytes
         requires file { is_file (tree_of self.old) file ≡ true }
@@ -443,6 +463,21 @@ impl Tree {
         self.names.remove(was.as_slice());
         self.names.insert(child_name(parent, name.as_slice()), node);
         stored.rename(parent, name);
+        self.nodes.replace(stored);
+    }
+
+    // The bytes of the node with the number, if there is one, count as never changed.
+    fn forget_version(&mut self, number: u64)
+        ensures tree { tree_of self.new ≡ tree_of self.old }
+        ensures versions { versions_of self.new ≡ without_version (versions_of self.old) number }
+        ensures rooms { KeepsRooms self.old self.new }
+        ensures spare { self.new.spare ≡ self.old.spare }
+    {
+        if self.nodes.get(number).is_none() {
+            return;
+        }
+        let mut stored = self.nodes.replace(Stored::hollow(self.alloc, number));
+        stored.forget_version();
         self.nodes.replace(stored);
     }
 
