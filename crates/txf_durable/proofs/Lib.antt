@@ -1,0 +1,3 @@
+mod Recordings
+mod Rising
+mod Units

@@ -1,0 +1,12 @@
+-- Numbers that rise.
+use Rattle.std.specs.Prelude.{ℕ, ◌<◌, List, [], ◌∷◌}
+
+-- each of the numbers is above this one
+abbrev pub AreAbove : ℕ → List ℕ → Type 0
+AreAbove n [] = Unit {0}
+AreAbove n (m ∷ ms) = (n < m) × AreAbove n ms
+
+-- each number is below those behind it
+abbrev pub IsRising : List ℕ → Type 0
+IsRising [] = Unit {0}
+IsRising (n ∷ ns) = AreAbove n ns × IsRising ns

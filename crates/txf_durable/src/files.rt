@@ -1,0 +1,185 @@
+// The committed files while a log is read.
+ghost use Rattle.std.specs.Prelude.{◌≡◌, ◌&&◌, ◌≤◌, ◌^◌, [], true, length, sum_by, Ok, IfOk, OnOk};
+ghost use Rattle.std.specs.List.{list_all};
+ghost use Rattle.ktm_world.specs.Changes.{applies, apply_all, changed, changed_all, next_after};
+ghost use Rattle.ktm_world.specs.Durable.{is_new_in, next_after_all};
+ghost use Rattle.ktm_world.specs.Tree.{bytes_of, bytes_or_none, units_of};
+ghost use Rattle.txf_tree.specs.TreeState.{tree_of, versions_of};
+
+use ktm_base::NoMemory;
+use ktm_types::Change;
+use std::alloc::Global;
+use std::marker::Model;
+use txf_tree::{Tree, is_make, next_after, node_of};
+
+/// How many bytes a unit has.
+const UNIT: u64 = 4096;
+
+/// How many units there may be before a change, which adds no more than 2^52.
+const MOST_UNITS: u64 = u64::MAX - (1 << 52);
+
+/// The number of the first node that is made.
+const FIRST_NODE: u64 = 2;
+
+/// The committed files that the log of an image comes to, as far as it was read.
+#[derive(Drop)]
+pub struct DurableFiles {
+    tree: Tree,
+    // The units of all files.
+    units: u64,
+    next_node: u64,
+}
+
+impl Model for DurableFiles {
+    ghost use Rattle.txf_durable.specs.State.{DurableFilesState};
+    ghost use Rattle.txf_tree.specs.TreeState.{tree_of};
+
+    ghost Value = { DurableFilesState };
+
+    ghost view = { λ f. record { tree = tree_of f.tree; next_node = f.next_node } };
+
+    ghost use Rattle.txf_durable.specs.State.{IsCounted};
+
+    ghost invariant = { λ f. IsCounted f.tree f.units };
+}
+
+/// What a log came to.
+#[derive(Drop)]
+pub struct FilesRead {
+    pub tree: Tree,
+    /// The units of all files.
+    pub units: u64,
+    /// The number of the next node.
+    pub next_node: u64,
+}
+
+// The units of so many bytes.
+fn units_in(bytes: &[u8]) -> u64
+    ensures units { result ≡ units_of bytes.now }
+    ensures few { result ≤ 2 ^ 52 }
+{
+    (bytes.len() as u64).div_ceil(UNIT)
+}
+
+impl DurableFiles {
+    /// No files.
+    pub fn new(alloc: Global) -> Self
+        ensures tree { result.tree ≡ [] }
+        ensures next_node { result.next_node ≡ 2 }
+    {
+        DurableFiles {
+            tree: Tree::new(alloc),
+            units: 0,
+            next_node: FIRST_NODE,
+        }
+    }
+
+    /// The files and directories.
+    pub fn tree(&self) -> &Tree
+        ensures { tree_of result.now ≡ self.now.tree }
+    {
+        &self.tree
+    }
+
+    /// How many nodes there are beside the root.
+    pub fn nodes(&self) -> usize
+        ensures { result ≡ length self.now.tree }
+    {
+        self.tree.len()
+    }
+
+    /// The units of all files.
+    pub fn units(&self) -> u64
+        ensures { result ≡ sum_by (λ node. units_of (bytes_or_none node.content)) self.now.tree }
+    {
+        self.units
+    }
+
+    /// The number of the next node.
+    pub fn next_node(&self) -> u64
+        ensures { result ≡ self.now.next_node }
+    {
+        self.next_node
+    }
+
+    /// The units of the files with these numbers, one after another.
+    pub fn units_of(&self, files: &[u64]) -> u128
+        ensures { result ≡ sum_by (λ file. units_of (bytes_of self.now.tree file)) files.now }
+    {
+        let mut units = 0;
+        for file in files {
+            units += u128::from(units_in(self.tree.content(*file)));
+        }
+        units
+    }
+
+    /// Makes changes in order, if they apply and none of them makes a node that is there before the first, and tells whether
+    /// that is so. It fails for want of memory, and where the files have nearly 2^64 units. Where not all changes were made
+    /// the files are of no use, since some of them may have been.
+    pub fn commit(&mut self, changes: Vec<Change>) -> Result<bool, NoMemory>
+        ensures applies { IfOk result (λ all. all ≡ (apply_all self.old.tree changes.items && list_all (is_new_in self.old.tree) changes.items)) }
+        ensures after { result ≡ Ok true → (self.new.tree ≡ changed_all self.old.tree changes.items) × (self.new.next_node ≡ next_after_all self.old.next_node changes.items) }
+    {
+        if !self.are_new(&changes) {
+            return Ok(false);
+        }
+        for change in changes {
+            if !self.tree.applies(&change) {
+                return Ok(false);
+            }
+            self.make(change)?;
+        }
+        Ok(true)
+    }
+
+    /// Hands out what the log came to. The bytes of no file were changed since.
+    pub fn into_parts(self) -> FilesRead
+        ensures tree { tree_of result.tree ≡ self.tree }
+        ensures versions { versions_of result.tree ≡ [] }
+        ensures units { result.units ≡ sum_by (λ node. units_of (bytes_or_none node.content)) self.tree }
+        ensures next_node { result.next_node ≡ self.next_node }
+    {
+        let DurableFiles {
+            tree,
+            units,
+            next_node,
+        } = self;
+        FilesRead {
+            tree,
+            units,
+            next_node,
+        }
+    }
+
+    // Does the change make no node that is there.
+    fn is_new(&self, change: &Change) -> bool
+        ensures { result ≡ is_new_in self.now.tree change.now }
+    {
+        !is_make(change) || self.tree.node(node_of(change)).is_none()
+    }
+
+    fn are_new(&self, changes: &[Change]) -> bool
+        ensures { result ≡ list_all (is_new_in self.now.tree) changes.now }
+    {
+        changes.iter().all(|change| self.is_new(change))
+    }
+
+    // Makes a change, and counts what it adds to the units and takes from them.
+    fn make(&mut self, change: Change) -> Result<(), NoMemory>
+        requires { applies self.old.tree change ≡ true }
+        ensures { OnOk result ((self.new.tree ≡ changed self.old.tree change) × (self.new.next_node ≡ next_after self.old.next_node change)) }
+    {
+        self.tree.prepare(&change)?;
+        if self.units > MOST_UNITS {
+            return Err(NoMemory);
+        }
+        let node = node_of(&change);
+        self.next_node = next_after(self.next_node, &change);
+        self.tree.law_of_numbers();
+        self.units -= units_in(self.tree.content(node));
+        self.tree.restore(change);
+        self.tree.law_of_numbers();
+        self.units += units_in(self.tree.content(node));
+        Ok(())
+    }
+}

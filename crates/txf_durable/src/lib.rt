@@ -1,0 +1,14 @@
+//! The committed files that the log of an image comes to, while it is read, and what is told of the changes that
+//! transactions record in it.
+#![tactic(auto)]
+
+mod counts;
+mod files;
+mod numbers;
+mod recorded;
+mod written;
+
+pub use counts::{name_changes, nodes_made};
+pub use files::{DurableFiles, FilesRead};
+pub use recorded::are_recorded_changes;
+pub use written::written_files;
