@@ -9,6 +9,7 @@ mod pattern;
 mod wildcard;
 
 pub use fault::PathFault;
+pub use parts::is_name;
 pub use path::{Path, law_of_one_path};
 pub use pattern::{Pattern, law_of_one_pattern};
 pub use wildcard::law_of_star;

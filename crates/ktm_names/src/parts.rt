@@ -25,7 +25,8 @@ fn is_pattern_byte(byte: u8) -> bool
     is_name_byte(byte) || byte == b'*' || byte == b'?'
 }
 
-fn is_name(name: &[u8]) -> bool
+/// Is the text a name.
+pub fn is_name(name: &[u8]) -> bool
     ensures { IsTrue result ↔ IsName name.now }
 {
     match name {

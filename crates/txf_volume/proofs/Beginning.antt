@@ -1,5 +1,5 @@
--- The files in memory, where there are none.
-use Rattle.std.proofs.Common.{◌≡◌, ℕ, ◌<◌, ◌^◌, true, map, sum_by, [], ◌++◌, refl, sym, ◌∙◌, ap, subst, arith, All}
+-- The files in memory, where no transaction has changed or opened anything.
+use Rattle.std.proofs.Common.{◌≡◌, ℕ, ◌<◌, ◌^◌, true, map, sum_by, [], ◌++◌, sym, ◌∙◌, ap, subst, arith, All}
 use Rattle.std.proofs.lemmas.List.Elements.{All-nil}
 use Rattle.std.specs.List.{list_any}
 use Rattle.ktm_world.specs.Changes.{node_of}
@@ -9,17 +9,12 @@ use Rattle.ktm_world.specs.Transactions.{same_id}
 use Rattle.ktm_world.specs.Tree.{IsWellFormed}
 use Rattle.txf_reserve.specs.ReserveState.{Keeps, names_of, numbers_of}
 use Rattle.txf_tree.specs.TreeState.{tree_of}
-use Rattle.txf_volume.specs.Held.{FilesHeld, OwnHeld, files_of, own_held}
+use Rattle.txf_volume.specs.Held.{FilesHeld, OwnHeld, files_of, own_held, tree_units}
 use Rattle.txf_volume.specs.Ties.{AreTied, IsKeptOpen, IsOver, held_by_two, names_held, nodes_held, units_held}
 use Rattle.ktm_laws.specs.GoodState.{each_pair}
-use Rattle.txf_volume.specs.Uses.{tree_units}
 
-well-empty : IsWellFormed []
-well-empty = record { parents = All-nil _; reach = All-nil _; names = All-nil _; one_each = All-nil _; numbers = All-nil _; rise = refl }
-
--- there is nothing
-pub record IsNothing (h : FilesHeld) : Type 0 where
-  pub tree : tree_of h.tree ≡ []
+-- nothing is changed, opened or held
+pub record IsAtRest (h : FilesHeld) : Type 0 where
   pub overlays : h.overlays ≡ []
   pub opens : h.versions.opens ≡ []
   pub nodes : h.reserve.nodes ≡ []
@@ -28,7 +23,7 @@ pub record IsNothing (h : FilesHeld) : Type 0 where
   pub dropped : h.reserve.dropped ≡ []
   pub moves : h.reserve.moves ≡ []
 
-module _ (h : FilesHeld) (is : IsNothing h) where
+module _ (h : FilesHeld) (is : IsAtRest h) where
   keeps : Keeps h.reserve (files_of h)
   keeps id = record {
     nodes = λ n. (λ i. is_in (numbers_of (is.nodes i) id) n) ∙ sym (λ i. is_in (map node_of (own_changes (own_held (is.overlays i)) id) ++ []) n);
@@ -41,13 +36,13 @@ module _ (h : FilesHeld) (is : IsNothing h) where
   few : (f : OwnHeld → ℕ) → sum_by f h.overlays < 2 ^ 63
   few f = let none = ap (sum_by f) is.overlays in omega arith
 
-  pub tied : AreTied h 0
-  tied = record {
-    formed = subst IsWellFormed (sym is.tree) well-empty;
+  pub tied : (units : ℕ) → IsWellFormed (tree_of h.tree) → units ≡ tree_units (tree_of h.tree) → AreTied h units
+  tied units formed sum = record {
+    formed = formed;
     once = ap (each_pair held_by_two) is.overlays;
     over = subst (λ os. All (λ (o : OwnHeld). IsOver (tree_of h.tree) o.overlay) os) (sym is.overlays) (All-nil (λ (o : OwnHeld). IsOver (tree_of h.tree) o.overlay));
     opened = subst (λ os. All (IsKeptOpen h.tree h.versions.older) os) (sym is.opens) (All-nil (IsKeptOpen h.tree h.versions.older));
     keeps = keeps;
-    sum = sym (ap tree_units is.tree);
+    sum = sum;
     few = record { units = few units_held; nodes = few nodes_held; names = few names_held };
   }

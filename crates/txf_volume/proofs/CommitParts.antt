@@ -26,9 +26,9 @@ use Rattle.txf_versions.specs.VersionsState.{VersionsState, is_pinned, is_versio
 use Rattle.txf_versions.specs.declared.kept.Older.{Older}
 use Rattle.txf_versions.specs.declared.opened.Opened.{Opened}
 use Rattle.txf_volume.specs.Making.{Parts, firsts_of, is_fresh, parts, units_older, AreMade, AreRight, CanMake, CanName, CanReplace, CanTake, IsEnded}
-use Rattle.txf_volume.specs.Held.{first_held}
+use Rattle.txf_volume.specs.Held.{first_held, tree_units}
 use Rattle.txf_volume.specs.Ties.{IsKeptOpen}
-use Rattle.txf_volume.specs.Uses.{gain, loss, tree_units}
+use Rattle.txf_volume.specs.Uses.{gain, loss}
 use Rattle.txf_volume.proofs.CommitKept.{IsStill, absent, ended-firsts, ended-opened, ended-units, older-of, still-firsts, still-opened, still-units}
 use Rattle.txf_volume.proofs.CommitVersions.{AllFresh, Rests, content-elsewhere, content-final-other, content-dropped, content-moved, file-dropped, rests-all, units-rise-all, version-final, version-final-other}
 use Rattle.ktm_laws.specs.Footprint.{IsIn}

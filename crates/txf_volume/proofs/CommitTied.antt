@@ -32,11 +32,10 @@ use Rattle.txf_versions.specs.declared.kept.Older.{Older}
 use Rattle.txf_versions.specs.declared.opened.Opened.{Opened}
 use Rattle.txf_volume.specs.Commit.{names_in, AreUnopened, AreVersionsFew, LeavesOthers, MayCommit}
 use Rattle.txf_volume.specs.Making.{firsts_of, is_fresh, parts, units_older, AreMade, AreRight, CanTake}
-use Rattle.txf_volume.specs.Held.{FilesHeld, OwnHeld, changes_held, files_of, first_held, overlay_in, own_held, without_own}
+use Rattle.txf_volume.specs.Held.{FilesHeld, OwnHeld, changes_held, files_of, first_held, overlay_in, own_held, without_own, tree_units}
 use Rattle.txf_volume.specs.Ties.{AreTied, IsKeptOpen, IsOver, held_by_two, names_held, nodes_held, units_held}
 use Rattle.ktm_laws.specs.SoundFiles.{changed_by_two}
 use Rattle.ktm_laws.specs.GoodState.{each_pair}
-use Rattle.txf_volume.specs.Uses.{tree_units}
 use Rattle.txf_volume.specs.Writes.{CanBeCounted}
 use Rattle.txf_volume.proofs.CommitKept.{older-of}
 use Rattle.ktm_laws.specs.Footprint.{IsIn}

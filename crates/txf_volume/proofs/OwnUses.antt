@@ -15,7 +15,8 @@ use Rattle.ktm_world.specs.FileUses.{own_units, older_versions, same_version, un
 use Rattle.ktm_world.specs.Transactions.{same_id}
 use Rattle.ktm_world.specs.Tree.{is_file, bytes_of, node_at, units_of}
 use Rattle.txf_calls.specs.Fits.{Suits, opens_file}
-use Rattle.txf_volume.specs.Uses.{IsSteady, PlainUses, OwnUses, SameUses, UsesLaw, gain, loss, kept, names_added, one_if, own_bytes, tree_units}
+use Rattle.txf_volume.specs.Held.{tree_units}
+use Rattle.txf_volume.specs.Uses.{IsSteady, PlainUses, OwnUses, SameUses, UsesLaw, gain, loss, kept, names_added, one_if, own_bytes}
 use Rattle.ktm_laws.specs.Footprint.{IsIn}
 use Rattle.txf_volume.proofs.Elements.{All-in}
 use Rattle.ktm_laws.proofs.NormalForms.{names_only}

@@ -24,11 +24,11 @@ use Rattle.txf_overlay.specs.OverlayState.{OverlayState, Written, final_of, own_
 use Rattle.txf_reserve.specs.ReserveState.{IsSameHold, holds_in}
 use Rattle.txf_tree.specs.TreeState.{TreeState, tree_of, versions_of}
 use Rattle.txf_versions.specs.VersionsState.{AreHeld, VersionsState, older_units}
-use Rattle.txf_volume.specs.Held.{FilesHeld, OwnHeld, changes_held, files_of, first_held, own_held}
+use Rattle.txf_volume.specs.Held.{FilesHeld, OwnHeld, changes_held, files_of, first_held, own_held, tree_units}
 use Rattle.txf_volume.specs.Plain.{CanBeKept, IsLeftOver, IsPlainChange, KeepsEnded, LeavesOwn}
 use Rattle.txf_volume.specs.Ties.{AreTied, IsKeptOpen, IsOver}
 use Rattle.txf_calls.specs.Fits.{Suits}
-use Rattle.txf_volume.specs.Uses.{gain, kept, loss, tree_units}
+use Rattle.txf_volume.specs.Uses.{gain, kept, loss}
 use Rattle.txf_volume.proofs.Counted.{pinned-last}
 use Rattle.ktm_laws.specs.Footprint.{IsIn}
 use Rattle.txf_volume.proofs.Elements.{All-by, All-in}

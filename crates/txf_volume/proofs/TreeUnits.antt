@@ -10,7 +10,8 @@ use Rattle.ktm_types.specs.declared.change.NodeKind.TheVariants.{File, Directory
 use Rattle.ktm_types.specs.declared.recorded.Node.{Node}
 use Rattle.ktm_world.specs.Changes.{changed, bytes_in, new_content, changes_bytes, is_drop, is_make, node_of}
 use Rattle.ktm_world.specs.Tree.{Tree, node_at, content_of, is_file, bytes_or_none, bytes_of, units_of, cut_to, put_over, with_node, with_changed, without_node}
-use Rattle.txf_volume.specs.Uses.{node_units, tree_units, gain, loss, one_if}
+use Rattle.txf_volume.specs.Held.{node_units, tree_units}
+use Rattle.txf_volume.specs.Uses.{gain, loss, one_if}
 use Rattle.ktm_laws.proofs.Lookups.{Above, Rises}
 
 units-with_node : (tree : Tree) (node : Node) → tree_units (with_node tree node) ≡ node_units node + tree_units tree

@@ -1,10 +1,11 @@
 -- What a contract sees of the files as the machine has them in memory, and what the model has of them.
-use Rattle.std.specs.Prelude.{ℕ, not, List, [], ◌∷◌, Option, Some, None, filter, map, find, if◌then◌else◌}
+use Rattle.std.specs.Prelude.{ℕ, not, List, [], ◌∷◌, Option, Some, None, filter, map, find, sum_by, if◌then◌else◌}
 use Rattle.std.specs.Option.{option_map}
 use Rattle.ktm_base.specs.declared.id.Id.{Id}
 use Rattle.ktm_world.specs.Files.{FilesNow, FirstOpen, OwnChanges}
 use Rattle.ktm_world.specs.Transactions.{same_id}
-use Rattle.ktm_world.specs.Tree.{Tree, bytes_of}
+use Rattle.ktm_world.specs.Tree.{Tree, bytes_of, bytes_or_none, units_of}
+use Rattle.ktm_types.specs.declared.recorded.Node.{Node}
 use Rattle.txf_opens.specs.OpensState.{OpensState}
 use Rattle.txf_overlay.specs.OverlayState.{OverlayState, own_of}
 use Rattle.txf_overlay.specs.Written.{bytes_or}
@@ -50,6 +51,14 @@ version_bytes tree older file version = bytes_or (bytes_of tree file) (option_ma
 abbrev pub first_held : Tree → List Older → Opened → FirstOpen
 first_held tree older o = record { transaction = o.transaction; file = o.file; version = o.version; bytes = version_bytes tree older o.file o.version }
 
+-- the units of a node
+abbrev pub node_units : Node → ℕ
+node_units node = units_of (bytes_or_none node.content)
+
+-- the units of all committed files
+abbrev pub tree_units : Tree → ℕ
+tree_units tree = sum_by node_units tree
+
 -- the files as the model has them
 abbrev pub files_of : FilesHeld → FilesNow
 files_of h = record {
@@ -58,6 +67,10 @@ files_of h = record {
   first_opens = map (first_held (tree_of h.tree) h.versions.older) h.versions.opens;
   table = record { own = own_held h.overlays; opens = h.opens.opens; last_open = h.opens.last; next_node = h.next_node };
 }
+
+-- the files of a machine that starts: this is committed, and nothing is changed or open
+abbrev pub files_begun : Tree → ℕ → FilesNow
+files_begun tree next_node = record { tree = tree; versions = []; first_opens = []; table = record { own = []; opens = []; last_open = 0; next_node = next_node } }
 
 -- what a transaction changed, if it changed anything
 abbrev pub overlay_in : List OwnHeld → Id → Option OverlayState

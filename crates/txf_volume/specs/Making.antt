@@ -12,10 +12,9 @@ use Rattle.txf_overlay.specs.Written.{IsRising, total_units}
 use Rattle.txf_tree.specs.TreeState.{TreeState, tree_of, versions_of}
 use Rattle.txf_versions.specs.VersionsState.{VersionsState, is_pinned, is_version, older_units}
 use Rattle.txf_versions.specs.declared.opened.Opened.{Opened}
-use Rattle.txf_volume.specs.Held.{first_held}
+use Rattle.txf_volume.specs.Held.{first_held, tree_units}
 use Rattle.txf_volume.specs.Commit.{AreVersionsFew}
 use Rattle.txf_volume.specs.Ties.{IsKeptOpen}
-use Rattle.txf_volume.specs.Uses.{tree_units}
 
 -- ---- the parts that a commit changes
 

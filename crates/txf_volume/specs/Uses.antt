@@ -1,10 +1,9 @@
 -- How much of the files is in use once a call has settled, by what was in use before. No public clause cites this module.
-use Rattle.std.specs.Prelude.{◌≡◌, ℕ, ◌+◌, ◌≤◌, ◌==◌, ◌&&◌, ◌||◌, not, Bool, true, false, List, [], sum_by, Option, Some, None, is_some, All, if◌then◌else◌}
+use Rattle.std.specs.Prelude.{◌≡◌, ℕ, ◌+◌, ◌≤◌, ◌==◌, ◌&&◌, ◌||◌, not, Bool, true, false, List, [], Option, Some, None, is_some, All, if◌then◌else◌}
 use Rattle.std.specs.List.{list_any}
 use Rattle.ktm_base.specs.declared.id.Id.{Id}
 use Rattle.ktm_types.specs.declared.change.Change.{Change}
 use Rattle.ktm_types.specs.declared.change.Change.TheVariants.{Put, Cut}
-use Rattle.ktm_types.specs.declared.recorded.Node.{Node}
 use Rattle.ktm_laws.specs.GoodState.{each_pair}
 use Rattle.ktm_laws.specs.SoundFiles.{changed_by_two, files_rise}
 use Rattle.ktm_world.specs.Changes.{bytes_in, changes_bytes, is_drop, is_make, node_of}
@@ -13,7 +12,7 @@ use Rattle.ktm_world.specs.FileOutcome.{FileOutcome, files_after}
 use Rattle.ktm_world.specs.Files.{FilesNow, own_changes, is_last_version, bytes_seen}
 use Rattle.ktm_world.specs.FileUses.{units_used, nodes_used, file_changes_waiting}
 use Rattle.ktm_world.specs.Holds.{is_in}
-use Rattle.ktm_world.specs.Tree.{Tree, bytes_of, bytes_or_none, cut_to, is_file, node_at, numbers_rise, put_over, units_of}
+use Rattle.ktm_world.specs.Tree.{bytes_of, cut_to, is_file, node_at, numbers_rise, put_over, units_of}
 use Rattle.txf_calls.specs.Fits.{Suits, opens_file}
 
 -- ---- what is so at every moment
@@ -34,14 +33,6 @@ pub record IsSteady (files : FilesNow) : Type 0 where
   pub first_bytes : All (λ o. is_last_version files o ≡ true → o.bytes ≡ bytes_of files.tree o.file) files.first_opens
 
 -- ---- units
-
--- the units of a node
-abbrev pub node_units : Node → ℕ
-node_units node = units_of (bytes_or_none node.content)
-
--- the units of all committed files
-abbrev pub tree_units : Tree → ℕ
-tree_units tree = sum_by node_units tree
 
 -- the units that a change gives its file, which had these bytes
 abbrev pub gain : List ℕ → Change → ℕ

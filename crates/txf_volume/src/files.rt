@@ -2,13 +2,13 @@
 ghost use Rattle.std.specs.Prelude.{◌≡◌, ◌+◌, ◌<◌, ◌^◌, [], IfSome, None, Some, find, true};
 ghost use Rattle.std.specs.Option.{option_copied};
 ghost use Rattle.ktm_world.specs.Files.{bytes_seen, first_open_of, fixed_bytes};
-ghost use Rattle.ktm_world.specs.Tree.{units_of};
-ghost use Rattle.txf_tree.specs.TreeState.{tree_of};
+ghost use Rattle.ktm_world.specs.Tree.{units_of, IsWellFormed};
+ghost use Rattle.txf_tree.specs.TreeState.{tree_of, versions_of};
 ghost use Rattle.txf_versions.specs.VersionsState.{is_pinned, is_version, older_units, AreHeld};
 ghost use Rattle.txf_volume.specs.Making.{IsEnded};
 ghost use Rattle.txf_overlay.specs.Laws.{IsOwn};
 ghost use Rattle.txf_volume.specs.Ties.{IsOver};
-ghost use Rattle.txf_volume.specs.Held.{files_of, overlay_in, version_bytes, FilesHeld};
+ghost use Rattle.txf_volume.specs.Held.{files_begun, files_of, overlay_in, tree_units, version_bytes, FilesHeld};
 
 use crate::own::{Own, overlay_of};
 use ktm_base::{Bytes, Id};
@@ -104,29 +104,24 @@ pub(crate) fn end_version(versions: &mut Versions, file: u64, version: u64, byte
     }
 }
 
-/// The number of the first node that is made; the root's is the one before.
-const FIRST_NODE: u64 = 2;
-
 impl Files {
-    /// No files but the root, in a boot in which none was opened.
-    pub fn new(alloc: Global) -> Self
-        ensures tree { (files_of result).tree ≡ [] }
-        ensures versions { (files_of result).versions ≡ [] }
-        ensures first_opens { (files_of result).first_opens ≡ [] }
-        ensures own { (files_of result).table.own ≡ [] }
-        ensures opens { (files_of result).table.opens ≡ [] }
-        ensures last_open { (files_of result).table.last_open ≡ 0 }
-        ensures next_node { (files_of result).table.next_node ≡ 2 }
+    /// The files of a machine that starts: this tree is committed, whose files have so many units, and no transaction has
+    /// changed or opened anything.
+    pub fn with_tree(alloc: Global, tree: Tree, units: u64, next_node: u64) -> Self
+        requires formed { IsWellFormed (tree_of tree) }
+        requires rest { versions_of tree ≡ [] }
+        requires units { units ≡ tree_units (tree_of tree) }
+        ensures { files_of result ≡ files_begun (tree_of tree) next_node }
     {
         Files {
             alloc,
-            tree: Tree::new(alloc),
+            tree,
             versions: Versions::new(alloc),
             overlays: Vec::new(alloc),
             opens: Opens::new(alloc),
             reserve: Reserve::new(alloc),
-            next_node: FIRST_NODE,
-            units: 0,
+            next_node,
+            units,
         }
     }
 

@@ -7,12 +7,14 @@ mod check;
 mod commit;
 mod ends;
 mod files;
+mod handles;
 mod holding;
 mod limits;
 mod names;
 mod own;
 mod own_change;
 mod plain;
+mod recorded;
 mod transacted;
 mod volume;
 

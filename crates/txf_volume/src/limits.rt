@@ -40,6 +40,14 @@ pub(crate) fn lacks_handles(plan: &Plan, room: &Room) -> bool
 }
 
 impl Files {
+    /// How many changes of files wait: what undecided transactions made, moved and dropped.
+    pub fn changes_waiting(&self) -> u64
+        ensures waiting { result ≡ file_changes_waiting (files_of self.now) }
+        ensures few { result < 2 ^ 63 }
+    {
+        self.names_waiting()
+    }
+
     // The units in use.
     fn units_used(&self) -> u128
         ensures units { result ≡ units_used (files_of self.now) }

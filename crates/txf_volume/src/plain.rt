@@ -7,10 +7,9 @@ ghost use Rattle.ktm_world.specs.Tree.{is_file, numbers_rise};
 ghost use Rattle.txf_calls.specs.Views.{open_of};
 ghost use Rattle.txf_tree.specs.TreeState.{fits, tree_of, versions_of};
 ghost use Rattle.txf_versions.specs.VersionsState.{is_pinned};
-ghost use Rattle.txf_volume.specs.Held.{files_of};
+ghost use Rattle.txf_volume.specs.Held.{files_of, tree_units};
 ghost use Rattle.txf_volume.specs.Plain.{copied_for, CanBeKept, IsLeftOver, IsPlain, IsPlainChange, IsPlainOpen, IsReady, KeepsEnded, LeavesOwn};
 ghost use Rattle.txf_volume.specs.Ties.{IsKeptOpen};
-ghost use Rattle.txf_volume.specs.Uses.{tree_units};
 ghost use Rattle.txf_volume.specs.Writes.{CanBeCounted};
 
 use crate::change::{changes_bytes, gain, loss, next_after, node_of};

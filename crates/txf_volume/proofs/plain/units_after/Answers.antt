@@ -2,7 +2,7 @@ use Rattle.std.proofs.Common.{◌≡◌, ◌+◌, ◌-◌, ◌≤◌, ◌∙◌,
 use Rattle.ktm_world.specs.Changes.{changed}
 use Rattle.ktm_world.specs.Tree.{bytes_of}
 use Rattle.txf_tree.specs.TreeState.{tree_of}
-use Rattle.txf_volume.specs.Uses.{tree_units}
+use Rattle.txf_volume.specs.Held.{tree_units}
 use Rattle.txf_volume.proofs.PlainTies.{units-sum}
 use Rattle.txf_volume.proofs.plain.units_after.Goals as goal
 
