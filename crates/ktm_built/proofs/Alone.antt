@@ -1,17 +1,13 @@
 -- What is so now, with nothing but what built forms make written out.
 use Rattle.std.proofs.Common.{◌≡◌, [], sym, subst}
-use Rattle.ktm_world.specs.Built.{IsBuiltState, built_state}
+use Rattle.ktm_forms.specs.Built.{built_state}
 use Rattle.ktm_world.specs.Durable.{Durable}
 use Rattle.ktm_world.specs.Present.{Present}
-use Rattle.ktm_built.specs.Standing.{IsBuiltNow, no_files}
+use Rattle.ktm_built.specs.Standing.{IsBuiltNow}
 
 -- a durable state, with the parts that are not built written out
 abbrev pub alone_state : Durable → Durable
-alone_state s = built_state s.units s.image s.events s.boots s.keys
-
--- what holds where these parts are written out holds of a built state
-pub by_alone_state : (P : Durable → Type 0) (s : Durable) → IsBuiltState s → P (alone_state s) → P s
-by_alone_state P s state there = subst P (sym state) there
+alone_state s = built_state s.units s.image s.events s.boots s.next_node s.tree s.keys
 
 -- what is so now, with the parts that are not built written out
 abbrev pub alone : Present → Present
@@ -19,7 +15,6 @@ alone x = record x {
   recorded = alone_state x.recorded;
   transactions = record x.transactions { last_manager = 0; last_enlistment = 0; enlistments = [] };
   managers = [];
-  files = no_files;
 }
 
 is_alone : (x : Present) → IsBuiltNow x → x ≡ alone x
@@ -27,7 +22,6 @@ is_alone x built i = record x {
   recorded = built.recorded i;
   transactions = record x.transactions { last_manager = built.last_manager i; last_enlistment = built.last_enlistment i; enlistments = built.enlistments i };
   managers = built.managers i;
-  files = built.files i;
 }
 
 -- what holds where these parts are written out holds

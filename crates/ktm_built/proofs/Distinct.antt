@@ -8,8 +8,8 @@ use Rattle.ktm_types.specs.declared.object.TransactionOutcome.{TransactionOutcom
 use Rattle.ktm_world.specs.Durable.{is_before}
 use Rattle.ktm_world.specs.Transactions.{same_id, transaction_at, change_at}
 use Rattle.ktm_laws.specs.GoodState.{each_pair}
-use Rattle.ktm_laws.proofs.Tables.{before_other}
-use Rattle.ktm_built.proofs.Ids.{same_id-equal, same_id-self, same_id-turned}
+use Rattle.ktm_laws.proofs.Tables.{before_other, same_id-sym}
+use Rattle.ktm_forms.proofs.Ids.{same_id-equal, same_id-self}
 use Rattle.ktm_built.proofs.Leaves.{ended_with}
 
 -- they stand by rising Id
@@ -83,7 +83,7 @@ found-behind : (t : Transaction) (all ts : List Transaction) → list_any (λ u.
 found-behind t all [] none found = tt
 found-behind t all (u ∷ us) none found =
     let parts = or_parts (same_id u.id t.id) (list_any (λ u. same_id u.id t.id) us) none in
-    let other = same_id-turned u.id t.id parts.0 in
+    let other = same_id-sym u.id t.id parts.0 in
     let here = found.0 in
     (rw other here, found-behind t all us parts.1 found.1)
 
@@ -96,4 +96,4 @@ pub found-once_ended : (outcome : TransactionOutcome) (all ts : List Transaction
 found-once_ended outcome all [] id none found = tt
 found-once_ended outcome all (u ∷ us) id none found =
     let parts = or_parts (same_id u.id id) (list_any (λ u. same_id u.id id) us) none in
-    (found-ended outcome all id u.id (same_id-turned u.id id parts.0) ∙ found.0, found-once_ended outcome all us id parts.1 found.1)
+    (found-ended outcome all id u.id (same_id-sym u.id id parts.0) ∙ found.0, found-once_ended outcome all us id parts.1 found.1)

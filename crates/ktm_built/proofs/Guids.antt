@@ -12,7 +12,7 @@ use Rattle.ktm_world.specs.Limits.{most_number}
 use Rattle.ktm_world.specs.Transactions.{same_id, is_of, is_live}
 use Rattle.ktm_laws.specs.SoundCourse.{is_counted}
 use Rattle.ktm_built.specs.Laws.{GuidLaw, LeadsTo}
-use Rattle.ktm_built.proofs.Ids.{same_id-equal, same_id-self}
+use Rattle.ktm_forms.proofs.Ids.{same_id-equal, same_id-self}
 
 -- an Id has the GUID where the GUID leads to it, and only there
 leads : (kind : ObjectKind) (image : ℕ) (guid : List ℕ) (found : Option Id) (id : Id) → LeadsTo kind image guid found → IsId id → bytes_eq (guid_of kind image id) guid ≡ is_of id found

@@ -1,36 +1,42 @@
 -- What calls leave has only what built forms make.
-use Rattle.std.proofs.Common.{◌≡◌, ℕ, ◌+◌, false, length, Option, Some, None, refl, ap}
-use Rattle.std.proofs.lemmas.List.Elements.{All-push}
-use Rattle.std.specs.List.{All}
+use Rattle.std.proofs.Common.{◌≡◌, ℕ, ◌+◌, not, ◌||◌, true, length, List, [], Option, Some, None, refl}
+use Rattle.std.proofs.lemmas.Bool.{or_right}
+use Rattle.std.specs.List.{list_all}
+use Rattle.ktm_base.specs.declared.id.Id.{Id}
 use Rattle.ktm_base.specs.declared.id.Label.{Label}
 use Rattle.ktm_base.specs.declared.id.Pid.{Pid}
+use Rattle.ktm_types.specs.declared.change.Change.{Change}
 use Rattle.ktm_types.specs.declared.command.Command.{Command}
 use Rattle.ktm_types.specs.declared.command.Command.TheVariants.{CreateTransaction, OpenTransaction, RollbackTransaction, KvSet, KvUnset, CloseHandle, DuplicateHandle, Exit}
+use Rattle.ktm_types.specs.declared.event.Event.{Event}
 use Rattle.ktm_types.specs.declared.object.Object.{Object}
 use Rattle.ktm_types.specs.declared.object.Object.TheVariants.{Transaction as TransactionObject}
 use Rattle.ktm_types.specs.declared.object.Transaction.{Transaction}
 use Rattle.ktm_types.specs.declared.object.TransactionOutcome.{TransactionOutcome}
 use Rattle.ktm_types.specs.declared.object.Phase.{Phase}
-use Rattle.ktm_world.specs.Built.{IsBuiltState}
-use Rattle.ktm_world.specs.Decide.{caller}
-use Rattle.ktm_world.specs.Durable.{Durable}
+use Rattle.ktm_forms.specs.Built.{IsBuiltState}
+use Rattle.ktm_forms.specs.Commits.{commit_events}
+use Rattle.ktm_world.specs.Changes.{changed_all}
+use Rattle.ktm_world.specs.Decide.{caller, events_of}
+use Rattle.ktm_world.specs.Durable.{Durable, next_after_all}
+use Rattle.ktm_world.specs.FileOutcome.{FileOutcome}
 use Rattle.ktm_world.specs.Handles.{object_at}
 use Rattle.ktm_world.specs.KeyCalls.{keys_with}
-use Rattle.ktm_world.specs.Keys.{own_settings, stored_all}
+use Rattle.ktm_world.specs.Keys.{OwnSettings, stored_all}
 use Rattle.ktm_world.specs.Labels.{transaction_named}
 use Rattle.ktm_world.specs.Present.{Present}
-use Rattle.ktm_world.specs.Transactions.{change_at}
 use Rattle.ktm_world.specs.TransactionCalls.{transaction_with}
-use Rattle.ktm_built.specs.Forms.{with_transaction, with_commit, commit_events, with_bound, with_rollback, with_handle_closed, with_process_gone}
-use Rattle.ktm_built.specs.Standing.{IsBuiltNow}
-use Rattle.ktm_built.proofs.Found.{All-change_at}
+use Rattle.ktm_laws.proofs.Makings.{list_all-push}
+use Rattle.ktm_built.specs.Forms.{with_transaction, with_commit, with_bound, with_files, with_opened, with_rollback, with_handle_closed, with_process_gone, ended_committed, ended_aborted, is_of_both, plain_changes, recorded_by, changes_of, settings_of}
+use Rattle.ktm_built.specs.Standing.{IsBuiltNow, is_recorded_at_its_end}
+use Rattle.ktm_built.proofs.Found.{change_at-passes}
 
 -- ---- what a command leaves that records nothing
 
 -- the label is bound to the transaction, if there is one
-abbrev pub with_opened : Present → Pid → Label → Option Transaction → Present
-with_opened x process label None = x
-with_opened x process label (Some t) = with_bound x process label (TransactionObject t.id)
+abbrev pub with_bound_transaction : Present → Pid → Label → Option Transaction → Present
+with_bound_transaction x process label None = x
+with_bound_transaction x process label (Some t) = with_bound x process label (TransactionObject t.id)
 
 -- the label is bound to the object, if there is one
 abbrev pub with_duplicate : Present → Pid → Label → Option Object → Present
@@ -45,7 +51,7 @@ with_named_rollback x (Some t) = with_rollback x t
 -- what is so then; a command that is not named here changes nothing
 abbrev pub left_by : Present → Pid → Command → Present
 left_by x process (CreateTransaction label timeout) = with_transaction x process label timeout
-left_by x process (OpenTransaction label guid) = with_opened x process label (transaction_with x guid)
+left_by x process (OpenTransaction label guid) = with_bound_transaction x process label (transaction_with x guid)
 left_by x process (RollbackTransaction label) = with_named_rollback x (transaction_named x process label)
 left_by x process (KvSet label key value) = record x { keys = keys_with x.keys (caller x process label) key (Some value) }
 left_by x process (KvUnset label key) = record x { keys = keys_with x.keys (caller x process label) key None }
@@ -56,43 +62,60 @@ left_by x process _ = x
 
 -- ---- it has only what built forms make
 
--- where the parts that are not built are the same, nothing of a transaction is in the log, and what was recorded has keys alone
-pub built_with : (x y : Present) → All (λ t. t.is_recorded ≡ false) y.transactions.items → IsBuiltState y.recorded → IsBuiltNow x
+-- where the parts that are not built are the same, nothing of a transaction is in the log before it ends, and what was recorded has files
+-- and keys alone
+pub built_with : (x y : Present) → list_all is_recorded_at_its_end y.transactions.items ≡ true → IsBuiltState y.recorded → IsBuiltNow x
     → IsBuiltNow (record y {
       transactions = record y.transactions { last_manager = x.transactions.last_manager; last_enlistment = x.transactions.last_enlistment; enlistments = x.transactions.enlistments };
       managers = x.managers;
-      files = x.files;
     })
 built_with x y unrecorded state built = record {
   managers = built.managers;
   enlistments = built.enlistments;
   last_manager = built.last_manager;
   last_enlistment = built.last_enlistment;
-  files = built.files;
   unrecorded = unrecorded;
   recorded = state;
 }
 
--- where the transactions are the same too
-pub built_aside : (x y : Present) → IsBuiltNow x → IsBuiltNow (record x { machine = y.machine; transactions = record x.transactions { clock = y.transactions.clock }; keys = y.keys; handles = y.handles })
-built_aside x y built = built_with x (record x { machine = y.machine; transactions = record x.transactions { clock = y.transactions.clock }; keys = y.keys; handles = y.handles }) built.unrecorded built.recorded built
+-- where the transactions and what was recorded are the same too
+pub built_aside : (x y : Present) → IsBuiltNow x
+    → IsBuiltNow (record x { machine = y.machine; transactions = record x.transactions { clock = y.transactions.clock }; files = y.files; keys = y.keys; handles = y.handles })
+built_aside x y built =
+    built_with x (record x { machine = y.machine; transactions = record x.transactions { clock = y.transactions.clock }; files = y.files; keys = y.keys; handles = y.handles }) built.unrecorded built.recorded built
 
 pub with_transaction_built : (x : Present) (process : Pid) (label : Label) (timeout : ℕ) → IsBuiltNow x → IsBuiltNow (with_transaction x process label timeout)
 with_transaction_built x process label timeout built =
-    built_with x (with_transaction x process label timeout) (All-push (λ t. t.is_recorded ≡ false) x.transactions.items _ built.unrecorded refl) built.recorded built
+    built_with x (with_transaction x process label timeout) (list_all-push is_recorded_at_its_end x.transactions.items _ built.unrecorded refl) built.recorded built
 
 -- a transaction that has ended, with this outcome
 abbrev pub ended_with : TransactionOutcome → Transaction → Transaction
 ended_with outcome t = record t { phase = Phase.Ended; outcome = outcome }
 
-ended_unrecorded : (x : Present) (t : Transaction) (outcome : TransactionOutcome) → IsBuiltNow x → All (λ t. t.is_recorded ≡ false) (change_at x.transactions.items t.id (ended_with outcome))
-ended_unrecorded x t outcome built = All-change_at (λ t. t.is_recorded ≡ false) (ended_with outcome) (λ t none. none) x.transactions.items t.id built.unrecorded
+pub with_rollback_built : (x : Present) (t : Transaction) → IsBuiltNow x → IsBuiltNow (with_rollback x t)
+with_rollback_built x t built =
+    built_with x (with_rollback x t) (change_at-passes is_recorded_at_its_end ended_aborted (λ t. or_right (not t.is_recorded) true refl) x.transactions.items t.id built.unrecorded) built.recorded built
+
+-- ---- where changes and settings are committed
+
+-- with events more, and changes and settings that were committed
+recorded_by_built : (s : Durable) (events : List Event) (changes : List Change) (settings : OwnSettings) → IsBuiltState s
+    → IsBuiltState (record (recorded_by s changes settings) { events = s.events + length events })
+recorded_by_built s events changes settings state i = record (state i) {
+  events = s.events + length events;
+  tree = changed_all s.tree changes;
+  keys = stored_all s.keys settings;
+  next_node = next_after_all s.next_node changes;
+}
 
 pub with_commit_built : (x : Present) (t : Transaction) → IsBuiltNow x → IsBuiltNow (with_commit x t)
 with_commit_built x t built =
-    let settings = own_settings x.keys.own t.id in
-    built_with x (with_commit x t) (ended_unrecorded x t TransactionOutcome.Committed built)
-    (ap (λ (s : Durable). record s { events = x.recorded.events + length (commit_events t.id settings); keys = stored_all x.recorded.keys settings }) built.recorded) built
+    let both = is_of_both x t in
+    built_with x (with_commit x t) (change_at-passes is_recorded_at_its_end (ended_committed both) (λ t. or_right (not (t.is_recorded || both)) true refl) x.transactions.items t.id built.unrecorded)
+    (recorded_by_built x.recorded (commit_events t.id (changes_of x t) (settings_of x t)) (changes_of x t) (settings_of x t) built.recorded) built
 
-pub with_rollback_built : (x : Present) (t : Transaction) → IsBuiltNow x → IsBuiltNow (with_rollback x t)
-with_rollback_built x t built = built_with x (with_rollback x t) (ended_unrecorded x t TransactionOutcome.Aborted built) built.recorded built
+pub with_files_built : (x : Present) (who : Option Id) (o : FileOutcome) → IsBuiltNow x → IsBuiltNow (with_files x who o)
+with_files_built x who o built = built_with x (with_files x who o) built.unrecorded (recorded_by_built x.recorded (events_of who o.change) (plain_changes who o.change) [] built.recorded) built
+
+pub with_opened_built : (x : Present) (process : Pid) (label : Label) (who : Option Id) (o : FileOutcome) → IsBuiltNow x → IsBuiltNow (with_opened x process label who o)
+with_opened_built x process label who o built = built_aside (with_files x who o) (with_opened x process label who o) (with_files_built x who o built)

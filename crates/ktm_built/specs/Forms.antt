@@ -1,29 +1,38 @@
--- What the calls that are built come to, where there are transactions and keys alone.
-use Rattle.std.specs.Prelude.{◌≡◌, ℕ, ◌+◌, ◌-◌, List, [], ◌∷◌, ◌++◌, length, fold, false, Option, Some, None, if◌then◌else◌}
+-- What the calls that are built come to, where there are transactions, files and keys alone.
+use Rattle.std.specs.Prelude.{◌≡◌, ℕ, ◌+◌, ◌-◌, ◌&&◌, ◌||◌, Bool, false, List, [], ◌∷◌, ◌++◌, length, fold, Option, Some, None, if◌then◌else◌}
 use Rattle.ktm_base.specs.declared.id.Id.{Id}
 use Rattle.ktm_base.specs.declared.id.Label.{Label}
 use Rattle.ktm_base.specs.declared.id.Pid.{Pid}
+use Rattle.ktm_types.specs.declared.change.Change.{Change}
 use Rattle.ktm_types.specs.declared.event.Event.{Event}
-use Rattle.ktm_types.specs.declared.event.Event.TheVariants.{Single}
-use Rattle.ktm_types.specs.declared.event.Part.TheVariants.{Settings}
+use Rattle.ktm_types.specs.declared.object.Handle.{Handle}
 use Rattle.ktm_types.specs.declared.object.Object.{Object}
-use Rattle.ktm_types.specs.declared.object.Object.TheVariants.{Transaction as TransactionObject}
+use Rattle.ktm_types.specs.declared.object.Object.TheVariants.{Transaction as TransactionObject, File as FileObject}
 use Rattle.ktm_types.specs.declared.object.Phase.TheVariants.{Active, Ended}
 use Rattle.ktm_types.specs.declared.object.Transaction.{Transaction}
 use Rattle.ktm_types.specs.declared.object.TransactionOutcome.TheVariants.{Undetermined, Committed, Aborted}
 use Rattle.ktm_types.specs.declared.reply.Reply.{Reply}
 use Rattle.ktm_types.specs.declared.reply.Reply.TheVariants.{Committed as CommittedReply}
+use Rattle.ktm_forms.specs.Commits.{commit_events}
+use Rattle.ktm_world.specs.Changes.{changed_all, has_changes}
 use Rattle.ktm_world.specs.Committed.{Work}
-use Rattle.ktm_world.specs.HandleCalls.{without_handle, has_handle, labels_of}
+use Rattle.ktm_world.specs.Decide.{events_of}
+use Rattle.ktm_world.specs.Durable.{Durable, next_after_all}
+use Rattle.ktm_world.specs.FileOutcome.{FileOutcome, files_after}
+use Rattle.ktm_world.specs.Files.{OpenFile, own_changes, without_transaction}
+use Rattle.ktm_world.specs.HandleCalls.{closed_file, without_handle, has_handle, labels_of}
 use Rattle.ktm_world.specs.Handles.{object_at}
 use Rattle.ktm_world.specs.Keys.{OwnSettings, own_settings, without_own, stored_all}
 use Rattle.ktm_world.specs.Labels.{with_handle}
 use Rattle.ktm_world.specs.Logs.{as_groups}
 use Rattle.ktm_world.specs.Outcome.{Outcome, apply, only_reply}
+use Rattle.ktm_world.specs.Phases.{has_settings}
 use Rattle.ktm_world.specs.Present.{Present}
 use Rattle.ktm_types.specs.Sizes.{log_size}
 use Rattle.ktm_world.specs.Transactions.{transaction_at, change_at, is_active}
 use Rattle.ktm_world.specs.TransactionCalls.{new_id, is_due, with_clock}
+use Rattle.ktm_laws.specs.Reservations.{files_committed}
+use Rattle.txf_volume.specs.Transacted.{forgotten}
 
 -- ---- calls that record nothing
 
@@ -53,40 +62,89 @@ with_transaction x process label timeout = let id = new_id x x.transactions.last
   handles = with_handle x.handles process label (TransactionObject id);
 }
 
+-- ---- what is recorded
+
+-- what was recorded, with changes and settings that were committed; how many events there are is left as it is
+abbrev pub recorded_by : Durable → List Change → OwnSettings → Durable
+recorded_by s changes settings = record s { tree = changed_all s.tree changes; keys = stored_all s.keys settings; next_node = next_after_all s.next_node changes }
+
+-- what is so with a group more in the log, if there are events
+abbrev pub with_group : Present → List Event → Present
+with_group x events = record x {
+  machine = record x.machine { left = x.machine.left - log_size (as_groups events) };
+  recorded = record x.recorded { events = x.recorded.events + length events };
+}
+
+-- ---- calls on files
+
+-- what a call on files commits: the change of a plain one
+abbrev pub plain_changes : Option Id → Option Change → List Change
+plain_changes None (Some change) = change ∷ []
+plain_changes _ _ = []
+
+-- what is so once a call on files has come to this, but for the group in the log: a plain change is committed, and one of a transaction is its own
+abbrev pub with_files_made : Present → Option Id → FileOutcome → Present
+with_files_made x who o = record x { recorded = recorded_by x.recorded (plain_changes who o.change) []; files = files_after x.files who o }
+
+-- the handles once a label is bound to the file that is opened, if one is
+abbrev pub handles_with : List Handle → Pid → Label → Option OpenFile → List Handle
+handles_with handles process label None = handles
+handles_with handles process label (Some file) = with_handle handles process label (FileObject file.number)
+
+-- what is so then, with a plain change in the log
+abbrev pub with_files : Present → Option Id → FileOutcome → Present
+with_files x who o = with_group (with_files_made x who o) (events_of who o.change)
+
+-- what is so then where a label is bound to the file that is opened
+abbrev pub with_opened : Present → Pid → Label → Option Id → FileOutcome → Present
+with_opened x process label who o = record (with_files x who o) { handles = handles_with x.handles process label o.opened }
+
 -- ---- CommitTransaction
 
--- a transaction that committed, and has told all
-abbrev pub ended_committed : Transaction → Transaction
-ended_committed t = record t { phase = Ended; outcome = Committed }
+-- what a transaction changed of the files
+abbrev pub changes_of : Present → Transaction → List Change
+changes_of x t = own_changes x.files.table.own t.id
 
--- what a transaction with these settings records; without settings there is nothing to record
-abbrev pub commit_events : Id → OwnSettings → List Event
-commit_events id [] = []
-commit_events id (s ∷ ss) = Single id (Settings (s ∷ ss)) ∷ []
+-- what it set of the keys
+abbrev pub settings_of : Present → Transaction → OwnSettings
+settings_of x t = own_settings x.keys.own t.id
+
+-- have both the files and the keys a part in the transaction
+abbrev pub is_of_both : Present → Transaction → Bool
+is_of_both x t = has_changes (changes_of x t) && has_settings (settings_of x t)
+
+-- a transaction that committed, and has told all; the log has its parts where it had both
+abbrev pub ended_committed : Bool → Transaction → Transaction
+ended_committed both t = record t { phase = Ended; outcome = Committed; is_recorded = t.is_recorded || both }
 
 -- what it commits
-abbrev pub commit_works : Id → OwnSettings → List Work
-commit_works id [] = []
-commit_works id (s ∷ ss) = record { transaction = Some id; changes = []; settings = s ∷ ss } ∷ []
+abbrev pub commit_works : Id → List Change → OwnSettings → List Work
+commit_works id [] [] = []
+commit_works id changes settings = record { transaction = Some id; changes = changes; settings = settings } ∷ []
 
 -- what comes of a transaction that commits: it has ended, and holds nothing
 abbrev pub commit_outcome : Present → Transaction → Outcome
 commit_outcome x t = record (only_reply x CommittedReply) {
-  events = commit_events t.id (own_settings x.keys.own t.id);
-  works = commit_works t.id (own_settings x.keys.own t.id);
+  events = commit_events t.id (changes_of x t) (settings_of x t);
+  works = commit_works t.id (changes_of x t) (settings_of x t);
   forgotten = t.id ∷ [];
-  transactions = record x.transactions { items = change_at x.transactions.items t.id ended_committed };
+  transactions = record x.transactions { items = change_at x.transactions.items t.id (ended_committed (is_of_both x t)) };
+  table = without_transaction x.files.table t.id;
   own = without_own x.keys.own t.id;
 }
 
--- what is so then: its settings are recorded and in the store
-abbrev pub with_commit : Present → Transaction → Present
-with_commit x t = let settings = own_settings x.keys.own t.id in record x {
-  machine = record x.machine { left = x.machine.left - log_size (as_groups (commit_events t.id settings)) };
-  recorded = record x.recorded { events = x.recorded.events + length (commit_events t.id settings); keys = stored_all x.recorded.keys settings };
-  transactions = record x.transactions { items = change_at x.transactions.items t.id ended_committed };
-  keys = record { store = stored_all x.keys.store settings; own = without_own x.keys.own t.id };
+-- what is so then, but for the group in the log: its changes and settings are committed
+abbrev pub with_commit_made : Present → Transaction → Present
+with_commit_made x t = record x {
+  recorded = recorded_by x.recorded (changes_of x t) (settings_of x t);
+  transactions = record x.transactions { items = change_at x.transactions.items t.id (ended_committed (is_of_both x t)) };
+  files = files_committed x.files t.id;
+  keys = record { store = stored_all x.keys.store (settings_of x t); own = without_own x.keys.own t.id };
 }
+
+-- what is so once a transaction has committed
+abbrev pub with_commit : Present → Transaction → Present
+with_commit x t = with_group (with_commit_made x t) (commit_events t.id (changes_of x t) (settings_of x t))
 
 -- ---- RollbackTransaction
 
@@ -94,10 +152,11 @@ with_commit x t = let settings = own_settings x.keys.own t.id in record x {
 abbrev pub ended_aborted : Transaction → Transaction
 ended_aborted t = record t { phase = Ended; outcome = Aborted }
 
--- a transaction has rolled back: it has ended, and its own settings are gone
+-- a transaction has rolled back: it has ended, and what it changed, opened and set is gone
 abbrev pub with_rollback : Present → Transaction → Present
 with_rollback x t = record x {
   transactions = record x.transactions { items = change_at x.transactions.items t.id ended_aborted };
+  files = forgotten x.files t.id;
   keys = record x.keys { own = without_own x.keys.own t.id };
 }
 
@@ -108,9 +167,14 @@ abbrev pub with_rollback_if_active : Present → Option Transaction → Present
 with_rollback_if_active x None = x
 with_rollback_if_active x (Some t) = if is_active t then with_rollback x t else x
 
--- a handle of the object is gone: an active transaction has rolled back where it was the last one
+-- the file with this number is not open any more
+abbrev pub with_file_closed : Present → ℕ → Present
+with_file_closed x number = record x { files = record x.files { table = closed_file x.files.table number } }
+
+-- a handle of the object is gone: where it was the last one, an active transaction has rolled back, and a file is closed
 abbrev pub with_handle_gone : Present → Option Object → Present
 with_handle_gone x (Some (TransactionObject id)) = if has_handle x.handles (TransactionObject id) then x else with_rollback_if_active x (transaction_at x.transactions.items id)
+with_handle_gone x (Some (FileObject number)) = if has_handle x.handles (FileObject number) then x else with_file_closed x number
 with_handle_gone x _ = x
 
 -- the label is unbound

@@ -1,3 +1,4 @@
 pub mod Standing
 pub mod Forms
+pub mod Files
 pub mod Laws

@@ -1,19 +1,11 @@
 // Laws of worlds that have only what built forms make, each the contract of a function that does nothing.
-ghost use Rattle.ktm_built.specs.Laws.{StateLaw, BaseLaw, FormsLaw, TimeoutLaw, NamedLaw, GuidLaw, DecidedLaw, EventsLaw, NowLaw, LawfulLaw, OpenedLaw, FreshLaw, FallenLaw};
+ghost use Rattle.ktm_built.specs.Laws.{FormsLaw, TimeoutLaw, NamedLaw, GuidLaw, DecidedLaw, EventsLaw, FilesLaw, StandingLaw, FreshLaw};
 
-use ktm_laws::{law_of_courses, law_of_good_states, law_of_lawful_worlds, law_of_spelling};
-
-/// What a built state takes, and what built events make of it.
-pub fn law_of_states()
-    ensures { StateLaw }
-{}
-
-/// What built events make of a new image is good.
-pub fn law_of_bases()
-    ensures { BaseLaw }
-{
-    law_of_good_states();
-}
+use ktm_laws::{
+    law_of_agreement, law_of_file_calls, law_of_good_states, law_of_lawful_worlds, law_of_limits,
+    law_of_notes, law_of_own_groups, law_of_reservations, law_of_sound_worlds, law_of_spelling,
+};
+use ktm_world::law_of_step;
 
 /// Each call changes its own part of what is so now.
 pub fn law_of_forms()
@@ -45,36 +37,37 @@ pub fn law_of_events()
     ensures { EventsLaw }
 {}
 
-/// A command keeps what the machine keeps of what is so now.
-pub fn law_of_now()
-    ensures { NowLaw }
+/// What calls on files and commits come to can be made by a machine that stands.
+pub fn law_of_files()
+    ensures { FilesLaw }
 {
-    law_of_courses();
+    law_of_step();
+    law_of_lawful_worlds();
     law_of_spelling();
+    law_of_reservations();
+    law_of_file_calls();
+    law_of_forms();
+    law_of_named();
 }
 
-/// A command keeps what the machine keeps of a world.
-pub fn law_of_lawful()
-    ensures { LawfulLaw }
+/// A machine keeps what it keeps, whatever it does.
+pub fn law_of_standing()
+    ensures { StandingLaw }
 {
+    law_of_step();
     law_of_lawful_worlds();
-}
-
-/// A restart opens a world that stands.
-pub fn law_of_opened()
-    ensures { OpenedLaw }
-{
-    law_of_lawful_worlds();
+    law_of_spelling();
 }
 
 /// What is so in the world that a restart opens.
 pub fn law_of_fresh()
     ensures { FreshLaw }
-{}
-
-/// A loss of power leaves a world that stands.
-pub fn law_of_fallen()
-    ensures { FallenLaw }
 {
-    law_of_lawful_worlds();
+    law_of_good_states();
+    law_of_own_groups();
+    law_of_sound_worlds();
+    law_of_agreement();
+    law_of_limits();
+    law_of_notes();
+    law_of_spelling();
 }

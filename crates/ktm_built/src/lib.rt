@@ -1,10 +1,9 @@
-//! What the forms that are built make of worlds, as laws over whole worlds that have transactions and keys alone.
+//! What the forms that are built make of worlds, as laws over whole worlds that have transactions, files and keys alone.
 #![tactic(auto)]
 
 mod laws;
 
 pub use laws::{
-    law_of_bases, law_of_decided, law_of_events, law_of_fallen, law_of_forms, law_of_fresh,
-    law_of_guids, law_of_lawful, law_of_named, law_of_now, law_of_opened, law_of_states,
-    law_of_timeouts,
+    law_of_decided, law_of_events, law_of_files, law_of_forms, law_of_fresh, law_of_guids,
+    law_of_named, law_of_standing, law_of_timeouts,
 };

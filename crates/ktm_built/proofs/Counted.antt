@@ -1,0 +1,56 @@
+-- What is in use of the files of a world that stands, and how far versions are counted.
+use Rattle.std.proofs.Common.{◌≡◌, ◌≤◌, ◌∙◌, ap, subst, arith}
+use Rattle.ktm_base.specs.declared.id.Pid.{Pid}
+use Rattle.ktm_types.specs.declared.command.Command.{Command}
+use Rattle.ktm_world.specs.Committed.{version_of}
+use Rattle.ktm_world.specs.Decide.{decide}
+use Rattle.ktm_world.specs.Durable.{Durable}
+use Rattle.ktm_world.specs.Files.{FilesNow}
+use Rattle.ktm_world.specs.Laws.{StepLaw}
+use Rattle.ktm_world.specs.Outcome.{Outcome, apply}
+use Rattle.ktm_world.specs.Present.{Present}
+use Rattle.ktm_world.specs.Uses.{changes_waiting}
+use Rattle.ktm_world.specs.World.{World, after, present}
+use Rattle.ktm_world.proofs.Durables.{stand-units}
+use Rattle.ktm_laws.specs.Running.{IsRunning, LawfulWorldsLaw}
+use Rattle.ktm_laws.proofs.NoMore.{fits-within}
+use Rattle.txf_volume.specs.Commit.{AreVersionsFew}
+use Rattle.txf_volume.specs.Writes.{CanBeCounted}
+use Rattle.ktm_built.specs.Standing.{IsStanding}
+use Rattle.ktm_built.proofs.Versions.{counted_works}
+
+-- no event changes the units of the image
+pub units_now : (w : World) → IsRunning w → w.base.units ≤ 1024 → (present w).recorded.units ≤ 1024
+units_now w run small =
+    let same = stand-units w.base w.log in
+    let comes = ap (λ (s : Durable). s.units) run.comes_to in
+    omega (arith, same, comes)
+
+-- what is in use can be counted, since no limit is passed
+counted_now : (w : World) → IsRunning w → w.base.units ≤ 1024 → CanBeCounted (present w).files
+unfolding changes_waiting
+counted_now w run small =
+    let fits = fits-within (present w) run.now.within in
+    let units = units_now w run small in
+    let a = fits.units in
+    let b = fits.nodes in
+    let c = fits.changes in
+    record { units = omega (arith, a, units); nodes = omega (arith, b, units); names = omega (arith, c, units) }
+
+-- there are no more versions than bytes in the log
+pub few_versions : (w : World) → IsStanding w → AreVersionsFew (present w).files.versions
+few_versions w standing file =
+    let works = counted_works w.works w.start file in
+    let begun = ap (λ vs. version_of vs file) standing.begun in
+    let log = standing.counted in
+    let fits = standing.running.fits in
+    let room = standing.running.roomy.events in
+    omega (arith, works, begun, log, fits, room)
+
+module _ (step : StepLaw) (law : LawfulWorldsLaw) where
+  -- what a command leaves of the files can be counted
+  pub counted_after : (w : World) (process : Pid) (command : Command) (e : Outcome) (files : FilesNow) → IsStanding w → decide (present w) process command ≡ e → (apply (present w) e).files ≡ files → CanBeCounted files
+  counted_after w process command e files standing is leaves =
+      let same : (present (after w process command)).files ≡ files
+      = ap (λ (y : Present). y.files) (step.1 w process command standing.running.openings) ∙ ap (λ (p : Outcome). (apply (present w) p).files) is ∙ leaves in
+      subst CanBeCounted same (counted_now (after w process command) (law.commands w process command standing.running) standing.small)
