@@ -3,11 +3,10 @@ use Rattle.std.proofs.Common.{◌≡◌, ℕ, ◌+◌, ◌≤◌, ◌&&◌, IsTr
 use Rattle.std.proofs.lemmas.List.{append-nil, drop-drop}
 use Rattle.std.proofs.lemmas.Bool.{and_from, and_parts}
 use Rattle.std.proofs.lemmas.List.Folds.{list_all-append}
-use Rattle.std.specs.List.{list_all}
 use Rattle.ktm_log.specs.Log.{end_of, first_payload, payloads_in}
 use Rattle.ktm_log.proofs.Frames.{end_of-push}
 use Rattle.ktm_log.proofs.Payloads.{payloads_first, payloads_none}
-use Rattle.ktm_world.specs.Built.{is_built_event}
+use Rattle.ktm_forms.specs.Built.{is_built_group}
 use Rattle.ktm_world.specs.Logs.{Group}
 use Rattle.ktm_world.specs.Durable.{Durable, empty_state, after_events, events_apply}
 use Rattle.ktm_types.specs.EventGrammar.{IsGroupOf}
@@ -40,11 +39,11 @@ module _ (units image : ℕ) (bytes : List ℕ) (at : ℕ) (state : Durable) (fo
         ∙ ap (λ (l : List ℕ). folded.before ++ payload ∷ payloads_in l) (drop-drop (length payload + 5) at bytes)
 
     pub folded_more : (new : Durable) → length payload + 6 ≤ length (drop at bytes)
-        → ((events : Group) × IsGroupOf events payload × IsTrue (list_all is_built_event events && events_apply state events) × (new ≡ after_events state events)) → Folded units image bytes (at + (length payload + 5)) new
+        → ((events : Group) × IsGroupOf events payload × IsTrue (is_built_group events && events_apply state events) × (new ≡ after_events state events)) → Folded units image bytes (at + (length payload + 5)) new
     folded_more new fits (events, group, apply, after) =
         let base = empty_state units image in
         let good = folded.good in
-        let (made, applied) = and_parts (list_all is_built_event events) (events_apply state events) apply in
+        let (made, applied) = and_parts (is_built_group events) (events_apply state events) apply in
         record {
           inside = omega (arith, folded.inside, length-drop at bytes);
           before = folded.before ++ payload ∷ [];
@@ -52,7 +51,7 @@ module _ (units image : ℕ) (bytes : List ℕ) (at : ℕ) (state : Durable) (fo
           good = record {
             log = good.log ++ events ∷ [];
             groups = groups-push good.log folded.before events payload good.groups group;
-            built = list_all-append (list_all is_built_event) good.log (events ∷ []) ∙ and_from _ _ good.built (and_from _ _ made refl);
+            built = list_all-append is_built_group good.log (events ∷ []) ∙ and_from _ _ good.built (and_from _ _ made refl);
             applies = log_applies-append base good.log (events ∷ []) ∙ and_from _ _ good.applies (and_from _ _ (ap (λ (s : Durable). events_apply s events) (sym good.is) ∙ applied) refl);
             is = after ∙ ap (λ (s : Durable). after_events s events) good.is ∙ sym (stand-append base good.log (events ∷ []));
           };

@@ -6,3 +6,5 @@ pub mod Folds
 pub mod LogLoads
 pub mod Spelled
 pub mod OneImage
+pub mod Groups
+pub mod GoodLogs

@@ -9,8 +9,8 @@ use Rattle.ktm_log.proofs.Frames.{begins-split}
 use Rattle.ktm_log.proofs.GoodOrBad.{one_log}
 use Rattle.ktm_log.proofs.Steps.{IfTold-both}
 use Rattle.ktm_event.proofs.LeastSizes.{events_size-least}
-use Rattle.ktm_world.specs.Built.{IsBuiltState}
-use Rattle.ktm_world.proofs.BuiltStates.{built_log}
+use Rattle.ktm_forms.specs.Built.{IsBuiltState}
+use Rattle.ktm_forms.proofs.BuiltStates.{built_log}
 use Rattle.ktm_world.specs.Logs.{Group}
 use Rattle.ktm_world.specs.Durable.{Durable, empty_state, stand}
 use Rattle.ktm_types.specs.Sizes.{frame_size, log_size}

@@ -2,12 +2,11 @@
 use Rattle.std.proofs.Common.{◌≡◌, inl, inr, ℕ, ◌+◌, true, IsTrue, List, [], ◌∷◌, ◌++◌, drop, refl, sym, ◌∙◌, ap, subst}
 use Rattle.std.proofs.lemmas.Bool.{and_from, and_parts}
 use Rattle.std.proofs.lemmas.List.Folds.{list_all-append}
-use Rattle.std.specs.List.{list_all}
 use Rattle.ktm_log.specs.Log.{BeginsWith, IsFrame, IsClosed, area_bytes, end_of}
 use Rattle.ktm_log.proofs.Frames.{begins-split}
 use Rattle.ktm_log.proofs.GoodOrBad.{begins_compare, one_frame, one_log, torn_is_no_frame}
 use Rattle.ktm_event.proofs.OneEvent.{one_group}
-use Rattle.ktm_world.specs.Built.{is_built_event, is_built_log}
+use Rattle.ktm_forms.specs.Built.{is_built_group, is_built_log}
 use Rattle.ktm_world.specs.Logs.{Group}
 use Rattle.ktm_world.specs.Durable.{Durable, empty_state, stand, events_apply, log_applies}
 use Rattle.ktm_types.specs.EventGrammar.{IsGroupOf}
@@ -77,8 +76,8 @@ applies_behind base front more events applies =
     (and_parts _ _ (and_parts _ _ (sym (log_applies-append base front (events ∷ more)) ∙ applies)).1).0
 
 -- of built groups each is built
-built_within : (front more : List Group) (events : Group) → IsTrue (is_built_log (front ++ events ∷ more)) → list_all is_built_event events ≡ true
-built_within front more events built = (and_parts _ _ (and_parts _ _ (sym (list_all-append (list_all is_built_event) front (events ∷ more)) ∙ built)).1).0
+built_within : (front more : List Group) (events : Group) → IsTrue (is_built_log (front ++ events ∷ more)) → is_built_group events ≡ true
+built_within front more events built = (and_parts _ _ (and_parts _ _ (sym (list_all-append is_built_group front (events ∷ more)) ∙ built)).1).0
 
 module _ (units image : ℕ) (log : List Group) (bytes : List ℕ) (bad : IsBadFrame units image log bytes) where
   -- where the bad frame is no log goes on
@@ -92,7 +91,7 @@ module _ (units image : ℕ) (log : List Group) (bytes : List ℕ) (bad : IsBadF
       let good = applies_behind base split.front split.more split.events (subst (λ (l : List Group). IsTrue (log_applies base l)) split.is applies) in
       let here = subst (λ (l : List Group). events_apply (stand base l) split.events ≡ true) (one_groups split.front log bad.payloads split.groups bad.groups) good in
       let made = built_within split.front split.more split.events (subst (λ (l : List Group). IsTrue (is_built_log l)) split.is built) in
-      let both = and_from (list_all is_built_event split.events) (events_apply (stand base log) split.events) made here in
+      let both = and_from (is_built_group split.events) (events_apply (stand base log) split.events) made here in
       elim bad.bad [
         | inl torn ↦ torn_is_no_frame r at frame torn
         | inr (p, other, is_bad) ↦ absurd (cc (both, is_bad split.events (subst (λ (x : List ℕ). IsGroupOf split.events x) (one_frame r p at frame other) split.group)))

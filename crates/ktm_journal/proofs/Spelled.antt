@@ -33,11 +33,11 @@ bytes_up_to (suc most) bytes all =
     (λ p. bytes_up_to most (drop (length p + 5) bytes) (bytes_left (length p + 5) bytes all))
 
 -- the payloads in bytes are bytes
-payload_bytes : (bytes : List ℕ) → AreBytes bytes → AllByRecursion AreBytes (payloads_in bytes)
+pub payload_bytes : (bytes : List ℕ) → AreBytes bytes → AllByRecursion AreBytes (payloads_in bytes)
 unfolding payloads_in
 payload_bytes bytes all = bytes_up_to (length bytes) bytes all
 
-groups_spelled : (log : List Group) (payloads : List (List ℕ)) → HoldGroups log payloads → AllByRecursion AreBytes payloads → AreSpelled log
+pub groups_spelled : (log : List Group) (payloads : List (List ℕ)) → HoldGroups log payloads → AllByRecursion AreBytes payloads → AreSpelled log
 groups_spelled [] payloads hold all = tt
 groups_spelled (group ∷ log) [] hold all = absurd hold
 groups_spelled (group ∷ log) (p ∷ ps) hold all = ((p, all.0, hold.0), groups_spelled log ps hold.1 all.1)

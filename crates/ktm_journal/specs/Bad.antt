@@ -1,8 +1,7 @@
 -- Bytes that are no image that stands for a state, and where it shows.
 use Rattle.std.specs.Prelude.{◌≡◌, ◌≢◌, ◌⊎◌, ℕ, ◌+◌, ◌&&◌, false, IsTrue, List, drop, Result, Ok, Err, Bool, true}
 use Rattle.ktm_log.specs.Log.{IsFrame, IsTorn, BeginsWith, area_bytes, end_of}
-use Rattle.std.specs.List.{list_all}
-use Rattle.ktm_world.specs.Built.{is_built_event, is_built_log}
+use Rattle.ktm_forms.specs.Built.{is_built_group, is_built_log}
 use Rattle.ktm_world.specs.Logs.{Group}
 use Rattle.ktm_world.specs.Durable.{Durable, empty_state, stand, events_apply, log_applies}
 use Rattle.ktm_types.specs.EventGrammar.{IsGroupOf}
@@ -15,9 +14,9 @@ use Rattle.ktm_journal.specs.Image.{IsHeaded, IsFormatted, HoldGroups, empty_sna
 abbrev pub HasNoHeader : List ℕ → Type 0
 HasNoHeader bytes = (units image : ℕ) → ¬ IsHeaded units image bytes
 
--- a payload that is no group of built events that apply to the state
+-- a payload that is no group that is built and applies to the state
 abbrev pub IsBadPayload : Durable → List ℕ → Type 0
-IsBadPayload state payload = (events : Group) → IsGroupOf events payload → (list_all is_built_event events && events_apply state events) ≡ false
+IsBadPayload state payload = (events : Group) → IsGroupOf events payload → (is_built_group events && events_apply state events) ≡ false
 
 -- behind these groups, which are built and apply, stands an open gate whose frame is cut short, or whose payload is bad
 pub record IsBadFrame (units image : ℕ) (log : List Group) (bytes : List ℕ) : Type 0 where

@@ -6,7 +6,7 @@ use Rattle.ktm_base.specs.Bytes.{AreBytes}
 use Rattle.ktm_base.specs.Disk.{DiskState, MayLeave}
 use Rattle.ktm_log.specs.declared.area.Area.{Area}
 use Rattle.ktm_log.specs.Log.{LogState, IsLog, Rests, area_bytes}
-use Rattle.ktm_world.specs.Built.{is_built_log}
+use Rattle.ktm_forms.specs.Built.{is_built_log}
 use Rattle.ktm_world.specs.Logs.{Group}
 use Rattle.ktm_types.specs.EventGrammar.{IsGroupOf}
 use Rattle.ktm_world.specs.Durable.{Durable, empty_state, stand, log_applies}
@@ -68,7 +68,7 @@ pub record IsImage (units image : ℕ) (log : List Group) (bytes : List ℕ) : T
   pub groups : HoldGroups log payloads
   pub frames : IsLog payloads (area_bytes (log_area units) bytes)
 
--- the bytes are this image, its groups are these, and their events are built and apply one after another
+-- the bytes are this image, its groups are these, and they are built and apply one after another
 pub record HoldsLog (units image : ℕ) (log : List Group) (bytes : List ℕ) : Type 0 where
   pub is : IsImage units image log bytes
   pub built : IsTrue (is_built_log log)

@@ -2,3 +2,4 @@ pub mod Image
 pub mod Format
 pub mod Bad
 pub mod Load
+pub mod Waiting

@@ -1,7 +1,7 @@
 -- What a load finds on its way.
 use Rattle.std.specs.Prelude.{◌≡◌, ℕ, ◌+◌, ◌%◌, ◌≤◌, IsTrue, List, ◌∷◌, ◌++◌, Option, None, Some}
 use Rattle.ktm_log.specs.Log.{end_of}
-use Rattle.ktm_world.specs.Built.{is_built_log}
+use Rattle.ktm_forms.specs.Built.{is_built_log}
 use Rattle.ktm_world.specs.Logs.{Group}
 use Rattle.ktm_world.specs.Durable.{Durable, empty_state, stand, log_applies}
 use Rattle.ktm_journal.specs.declared.load.Header.{Header}
@@ -22,7 +22,7 @@ abbrev pub BeginsAnImage : Option Header → List ℕ → Type 0
 BeginsAnImage None bytes = HasNoHeader bytes
 BeginsAnImage (Some header) bytes = IsHeaded header.units header.image bytes
 
--- the payloads are groups of built events that apply one after another, and they come to this state
+-- the payloads are built groups that apply one after another, and they come to this state
 pub record ComesTo (units image : ℕ) (payloads : List (List ℕ)) (state : Durable) : Type 0 where
   pub log : List Group
   pub groups : HoldGroups log payloads

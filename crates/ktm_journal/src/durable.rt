@@ -1,37 +1,71 @@
-// The durable state in memory, and what events make of it.
-ghost use Rattle.std.specs.Prelude.{◌≡◌, ◌&&◌, ◌+◌, ◌-◌, ◌^◌, ◌==◌, ◌≤◌, Ok, Some, true, IfOk, length, nat_lt, nat_le};
+// The durable state in memory, and what groups of events make of it.
+ghost use Rattle.std.specs.Prelude.{◌≡◌, ◌&&◌, ◌+◌, ◌^◌, ◌≤◌, [], ◌∷◌, Ok, true, IfOk, OnOk, is_none, is_some, count_by, nat_lt, nat_le, sum_by};
 ghost use Rattle.std.specs.List.{list_all};
-ghost use Rattle.ktm_world.specs.Built.{is_built_event};
-ghost use Rattle.ktm_world.specs.Durable.{Durable, empty_state, fact_of, fact_applies, is_within_limits, after_event, event_applies, after_events, events_apply};
+ghost use Rattle.ktm_types.specs.declared.event.Event.TheVariants.{Boot, Plain, Single};
+ghost use Rattle.ktm_types.specs.declared.event.Part.TheVariants.{Changes, Settings};
+ghost use Rattle.ktm_forms.specs.Built.{is_built_group};
+ghost use Rattle.ktm_forms.specs.Commits.{both_events};
+ghost use Rattle.ktm_forms.specs.Taking.{within};
+ghost use Rattle.ktm_world.specs.Changes.{apply_all, changed_all};
+ghost use Rattle.ktm_world.specs.Durable.{Durable, after_events, are_recorded_changes, empty_state, events_apply, is_new_in, is_sole, next_after_all};
 ghost use Rattle.ktm_world.specs.Keys.{are_good_settings, stored_all};
+ghost use Rattle.ktm_world.specs.Tree.{bytes_of, bytes_or_none, units_of};
+ghost use Rattle.ktm_journal.specs.Waiting.{has_units_for, may_wait};
+ghost use Rattle.txf_tree.specs.TreeState.{tree_of, versions_of};
 
 use ktm_base::{Bytes, Id, NoMemory};
+use ktm_forms::is_built_group;
 use ktm_keyed::KeyedList;
-use ktm_types::{Event, Part, Setting};
+use ktm_types::{Change, Event, Part, Setting};
 use ktm_world::{are_good_settings, make_all};
 use std::alloc::Global;
 use std::marker::Model;
+use txf_durable::{
+    DurableFiles, FilesRead, are_recorded_changes, name_changes, nodes_made, written_files,
+};
 
 /// The most events that an image may ever record.
 const MOST_EVENTS: u64 = (1 << 63) - 1;
 
-/// What the events of an image's log stand for. Events are applied in place: neither a key nor a value is copied.
+/// What the groups of an image's log stand for. They are applied in place: neither a change nor a key or a value is copied.
 #[derive(Drop)]
 pub struct Durable {
+    alloc: Global,
     units: u32,
     image: u16,
     events: u64,
     boots: u32,
+    files: DurableFiles,
     keys: KeyedList<Bytes>,
 }
 
 impl Model for Durable {
-    ghost use Rattle.ktm_world.specs.Built.{built_state};
+    ghost use Rattle.ktm_forms.specs.Built.{built_state};
     ghost use Rattle.ktm_world.specs.Durable.{Durable};
 
     ghost Value = { Durable };
 
-    ghost view = { λ s. built_state s.units s.image s.events s.boots s.keys.items };
+    ghost view = { λ s. built_state s.units s.image s.events s.boots s.files.next_node s.files.tree s.keys.items };
+}
+
+// Is there room for so many more.
+fn has_room(most: u32, used: usize, more: usize) -> bool
+    ensures { result ≡ nat_le (used + more) most }
+{
+    let most = most as usize;
+    used <= most && more <= most - used
+}
+
+fn count_set(settings: &[Setting]) -> usize
+    ensures { result ≡ count_by (λ setting. is_some setting.value) settings.now }
+{
+    settings.iter().filter(|s| s.value.is_some()).count()
+}
+
+fn count_unset(settings: &[Setting]) -> usize
+    ensures { result ≡ count_by (λ setting. is_none setting.value) settings.now }
+{
+    settings.iter().filter(|s| s.value.is_none()).count()
 }
 
 impl Durable {
@@ -40,10 +74,12 @@ impl Durable {
         ensures { result ≡ empty_state units image }
     {
         Durable {
+            alloc,
             units,
             image,
             events: 0,
             boots: 0,
+            files: DurableFiles::new(alloc),
             keys: KeyedList::new(alloc),
         }
     }
@@ -76,91 +112,225 @@ impl Durable {
         self.boots
     }
 
-    /// The committed keys, by rising key.
-    pub fn into_keys(self) -> KeyedList<Bytes>
-        ensures { result.items ≡ self.keys }
+    /// What a machine starts from: the committed files, of which none was changed since, and the committed keys, by rising key.
+    pub fn into_files_and_keys(self) -> (FilesRead, KeyedList<Bytes>)
+        ensures tree { tree_of result.0.tree ≡ self.tree }
+        ensures versions { versions_of result.0.tree ≡ [] }
+        ensures units { result.0.units ≡ sum_by (λ node. units_of (bytes_or_none node.content)) self.tree }
+        ensures next_node { result.0.next_node ≡ self.next_node }
+        ensures keys { result.1.items ≡ self.keys }
     {
-        let Durable { keys, .. } = self;
-        keys
+        let Durable { files, keys, .. } = self;
+        (files.into_parts(), keys)
     }
 
-    fn key_count(&self) -> usize
-        ensures { result ≡ length self.now.keys }
+    // Are the files and the keys within the units of the image.
+    fn is_within(&self) -> bool
+        ensures { result ≡ within self.now.units self.now.tree self.now.keys }
     {
-        self.keys.len()
+        self.files.units() <= u64::from(self.units)
+            && self.files.nodes() < self.units as usize
+            && self.keys.len() <= self.units as usize
     }
 
-    fn is_within_limits(&self) -> bool
-        ensures { result ≡ is_within_limits self.now }
+    // May so many events more be recorded.
+    fn has_events_left(&self, events: u64) -> bool
+        requires { events ≤ 5 }
+        ensures { result ≡ nat_lt (self.now.events + events) (2 ^ 63) }
     {
-        1 <= self.units && self.key_count() <= self.units as usize
+        self.events <= MOST_EVENTS - events
     }
 
     // A restart of the machine counts a boot.
     fn boot(&mut self, boot: u32) -> bool
-        ensures applies { result ≡ (fact_applies self.old (Boot boot) && is_within_limits (fact_of self.old (Boot boot))) }
-        ensures after { result ≡ true → self.new ≡ fact_of self.old (Boot boot) }
+        ensures applies { result ≡ events_apply self.old (Boot boot ∷ []) }
+        ensures after { result ≡ true → self.new ≡ after_events self.old (Boot boot ∷ []) }
     {
-        if boot == u32::MAX || boot.checked_sub(1) != Some(self.boots) {
+        if boot == u32::MAX
+            || u64::from(boot) != u64::from(self.boots) + 1
+            || !self.has_events_left(1)
+        {
             return false;
         }
         self.boots = boot;
-        self.is_within_limits()
+        self.events += 1;
+        self.is_within()
     }
 
-    ghost use Rattle.ktm_types.specs.declared.event.Event.TheVariants.{Boot, Single};
-    ghost use Rattle.ktm_types.specs.declared.event.Part.TheVariants.{Settings};
-
-    // Makes the settings of a transaction in the store.
-    fn commit(&mut self, transaction: Id, settings: Vec<Setting>) -> Result<bool, NoMemory>
-        ensures applies { IfOk result (λ applied. applied ≡ (fact_applies self.old (Single transaction (Settings settings.items)) && is_within_limits (fact_of self.old (Single transaction (Settings settings.items))))) }
-        ensures after { result ≡ Ok true → self.new ≡ fact_of self.old (Single transaction (Settings settings.items)) }
+    // Changes the files by one event.
+    fn change(&mut self, changes: Vec<Change>) -> Result<bool, NoMemory>
+        ensures applies { IfOk result (λ applied. applied ≡ (apply_all self.old.tree changes.items && list_all (is_new_in self.old.tree) changes.items
+            && within self.old.units (changed_all self.old.tree changes.items) self.old.keys && nat_lt (self.old.events + 1) (2 ^ 63))) }
+        ensures after { result ≡ Ok true → self.new ≡ record self.old {
+          events = self.old.events + 1;
+          tree = changed_all self.old.tree changes.items;
+          next_node = next_after_all self.old.next_node changes.items;
+        } }
     {
-        if transaction.boot != self.boots || !are_good_settings(&settings) {
-            return Ok(false);
-        }
-        self.keys.reserve(settings.len())?;
-        make_all(&mut self.keys, settings);
-        Ok(self.is_within_limits())
-    }
-
-    // Applies an event, but for counting it.
-    fn apply_fact(&mut self, event: Event) -> Result<bool, NoMemory>
-        ensures applies { IfOk result (λ applied. applied ≡ (is_built_event event && (fact_applies self.old event && is_within_limits (fact_of self.old event)))) }
-        ensures after { result ≡ Ok true → self.new ≡ fact_of self.old event }
-    {
-        match event {
-            Event::Boot { boot } => Ok(self.boot(boot)),
-            Event::Single {
-                transaction,
-                part: Part::Settings(settings),
-            } => self.commit(transaction, settings.into_vec()),
-            _ => Ok(false),
-        }
-    }
-
-    fn apply(&mut self, event: Event) -> Result<bool, NoMemory>
-        ensures applies { IfOk result (λ applied. applied ≡ (is_built_event event && event_applies self.old event)) }
-        ensures after { result ≡ Ok true → self.new ≡ after_event self.old event }
-    {
-        if self.events >= MOST_EVENTS || !self.apply_fact(event)? {
+        if !self.has_events_left(1) || !self.files.commit(changes)? {
             return Ok(false);
         }
         self.events += 1;
-        Ok(true)
+        Ok(self.is_within())
     }
 
-    /// Applies events, in order. It answers false where one is not built or does not apply; the state is then of no use, as
-    /// it is where memory is wanted.
-    pub fn apply_all(&mut self, events: Vec<Event>) -> Result<bool, NoMemory>
-        ensures applies { IfOk result (λ applied. applied ≡ (list_all is_built_event events.items && events_apply self.old events.items)) }
+    // A plain call changed the files.
+    fn change_plainly(&mut self, change: Change) -> Result<bool, NoMemory>
+        ensures applies { IfOk result (λ applied. applied ≡ events_apply self.old (Plain change ∷ [])) }
+        ensures after { result ≡ Ok true → self.new ≡ after_events self.old (Plain change ∷ []) }
+    {
+        let mut changes = Vec::new(self.alloc);
+        changes.push(change)?;
+        self.change(changes)
+    }
+
+    // A transaction commits what it changed, and nothing else.
+    fn commit_changes(&mut self, transaction: Id, changes: Vec<Change>) -> Result<bool, NoMemory>
+        ensures applies { IfOk result (λ applied. applied ≡ events_apply self.old (Single transaction (Changes changes.items) ∷ [])) }
+        ensures after { result ≡ Ok true → self.new ≡ after_events self.old (Single transaction (Changes changes.items) ∷ []) }
+    {
+        if transaction.boot != self.boots || !are_recorded_changes(self.alloc, &changes)? {
+            return Ok(false);
+        }
+        self.change(changes)
+    }
+
+    // Makes settings in the store.
+    fn set(&mut self, settings: Vec<Setting>) -> Result<(), NoMemory>
+        ensures { OnOk result (self.new ≡ record self.old { keys = stored_all self.old.keys settings.items }) }
+    {
+        self.keys.reserve(settings.len())?;
+        make_all(&mut self.keys, settings);
+        Ok(())
+    }
+
+    // A transaction commits what it set, and nothing else.
+    fn commit_settings(&mut self, transaction: Id, settings: Vec<Setting>) -> Result<bool, NoMemory>
+        ensures applies { IfOk result (λ applied. applied ≡ events_apply self.old (Single transaction (Settings settings.items) ∷ [])) }
+        ensures after { result ≡ Ok true → self.new ≡ after_events self.old (Single transaction (Settings settings.items) ∷ []) }
+    {
+        if transaction.boot != self.boots
+            || !self.has_events_left(1)
+            || !are_good_settings(&settings)
+        {
+            return Ok(false);
+        }
+        self.set(settings)?;
+        self.events += 1;
+        Ok(self.is_within())
+    }
+
+    // A transaction commits its one part.
+    fn commit_part(&mut self, transaction: Id, part: Part) -> Result<bool, NoMemory>
+        ensures applies { IfOk result (λ applied. applied ≡ (is_sole part && events_apply self.old (Single transaction part ∷ []))) }
+        ensures after { result ≡ Ok true → self.new ≡ after_events self.old (Single transaction part ∷ []) }
+    {
+        match part {
+            Part::Changes(changes) => self.commit_changes(transaction, changes.into_vec()),
+            Part::Settings(settings) => self.commit_settings(transaction, settings.into_vec()),
+            Part::Enlistment { .. } => Ok(false),
+        }
+    }
+
+    // Is there room for these beside what is committed, but for the units of the files.
+    fn may_wait(&self, changes: &[Change], settings: &[Setting]) -> bool
+        ensures { result ≡ may_wait self.now changes.now settings.now }
+    {
+        has_room(self.units, name_changes(changes), count_unset(settings))
+            && has_room(self.units, self.keys.len(), count_set(settings))
+            && self.files.nodes() < self.units as usize
+            && has_room(self.units - 1, self.files.nodes(), nodes_made(changes))
+    }
+
+    // May these be recorded as the parts of a transaction that commits, but for what the files say.
+    fn may_commit(&self, changes: &[Change], settings: &[Setting]) -> Result<bool, NoMemory>
+        ensures { IfOk result (λ may. may ≡ (nat_lt (self.now.events + 5) (2 ^ 63) && are_good_settings settings.now
+            && may_wait self.now changes.now settings.now && are_recorded_changes changes.now)) }
+    {
+        if !self.has_events_left(5)
+            || !are_good_settings(settings)
+            || !self.may_wait(changes, settings)
+        {
+            return Ok(false);
+        }
+        are_recorded_changes(self.alloc, changes)
+    }
+
+    // Is there room for the units that the files have, and for those of the written ones once more.
+    fn has_units_left(&self, units: u64, written: &[u64]) -> bool
+        ensures { result ≡ nat_le (units + sum_by (λ file. units_of (bytes_of self.now.tree file)) written.now) self.now.units }
+    {
+        let most = u64::from(self.units);
+        units <= most && self.files.units_of(written) <= u128::from(most - units)
+    }
+
+    // Commits changes that wait in these units.
+    fn commit_files(&mut self, changes: Vec<Change>) -> Result<bool, NoMemory>
+        ensures applies { IfOk result (λ applied. applied ≡ (apply_all self.old.tree changes.items && list_all (is_new_in self.old.tree) changes.items
+            && has_units_for self.old changes.items)) }
+        ensures after { result ≡ Ok true → self.new ≡ record self.old {
+          tree = changed_all self.old.tree changes.items;
+          next_node = next_after_all self.old.next_node changes.items;
+        } }
+    {
+        let written = written_files(self.alloc, &changes)?;
+        let units = self.files.units();
+        if !self.files.commit(changes)? {
+            return Ok(false);
+        }
+        Ok(self.has_units_left(units, &written))
+    }
+
+    // A transaction commits what it changed and what it set.
+    fn commit_both(
+        &mut self,
+        transaction: Id,
+        changes: Vec<Change>,
+        settings: Vec<Setting>,
+    ) -> Result<bool, NoMemory>
+        ensures applies { IfOk result (λ applied. applied ≡ events_apply self.old (both_events transaction changes.items settings.items)) }
+        ensures after { result ≡ Ok true → self.new ≡ after_events self.old (both_events transaction changes.items settings.items) }
+    {
+        if transaction.boot != self.boots
+            || !self.may_commit(&changes, &settings)?
+            || !self.commit_files(changes)?
+        {
+            return Ok(false);
+        }
+        self.set(settings)?;
+        self.events += 5;
+        Ok(self.is_within())
+    }
+
+    /// Applies a group of events. It answers false where the group is not built or does not apply; the state is then of no use,
+    /// as it is where memory is wanted.
+    pub fn apply_group(&mut self, events: Vec<Event>) -> Result<bool, NoMemory>
+        ensures applies { IfOk result (λ applied. applied ≡ (is_built_group events.items && events_apply self.old events.items)) }
         ensures after { result ≡ Ok true → self.new ≡ after_events self.old events.items }
     {
-        for event in events {
-            if !self.apply(event)? {
-                return Ok(false);
-            }
+        if !is_built_group(&events) {
+            return Ok(false);
         }
-        Ok(true)
+        let mut events = events.into_iter();
+        match events.next() {
+            Some(Event::Boot { boot }) => Ok(self.boot(boot)),
+            Some(Event::Plain { change }) => self.change_plainly(change),
+            Some(Event::Single { transaction, part }) => self.commit_part(transaction, part),
+            Some(
+                Event::Ready {
+                    transaction,
+                    part: Part::Changes(changes),
+                },
+            ) => match events.next() {
+                Some(
+                    Event::Ready {
+                        part: Part::Settings(settings),
+                        ..
+                    },
+                ) => self.commit_both(transaction, changes.into_vec(), settings.into_vec()),
+                _ => Ok(false),
+            },
+            _ => Ok(false),
+        }
     }
 }

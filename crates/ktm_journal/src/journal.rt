@@ -3,12 +3,13 @@ ghost use Rattle.std.specs.Prelude.{◌^◌, ◌≡◌, ◌↔◌, ℕ, ◌+◌,
 ghost use Rattle.ktm_base.specs.Told.{IfTold, Tells, Goes};
 ghost use Rattle.ktm_base.specs.Disk.{DeviceCalls, IsSafe};
 ghost use Rattle.ktm_log.specs.Fault.{IfAppendDown, append_went_down};
-ghost use Rattle.ktm_world.specs.Built.{IsBuiltState};
+ghost use Rattle.ktm_forms.specs.Built.{IsBuiltState};
 ghost use Rattle.ktm_world.specs.Logs.{Group};
+ghost use Rattle.ktm_laws.specs.GoodState.{IsGoodState};
 ghost use Rattle.ktm_world.specs.Outcome.{is_full};
 ghost use Rattle.ktm_types.specs.Sizes.{frame_size};
 ghost use Rattle.ktm_event.specs.Kept.{Holds};
-ghost use Rattle.ktm_journal.specs.Image.{AreInLog, AreSpelled, HoldsLog, IsFormatted, IsHeaded, JournalAt, LeavesGroupOrNot, StandsFor, log_area};
+ghost use Rattle.ktm_journal.specs.Image.{AreInLog, AreSpelled, HoldsLog, IsFormatted, IsHeaded, JournalAt, LeavesGroupOrNot, StandsFor, log_area, area_len};
 ghost use Rattle.ktm_journal.specs.Bad.{IfBad, IsBadAt, load_went_down};
 ghost use Rattle.ktm_journal.specs.Format.{Anything};
 
@@ -84,6 +85,7 @@ impl Journal {
         ensures area { IfOk result (λ loaded. loaded.journal.log.area ≡ log_area loaded.state.units) }
         ensures keys { IfOk result (λ loaded. length loaded.state.keys ≤ loaded.state.units) }
         ensures built { IfOk result (λ loaded. IsBuiltState loaded.state) }
+        ensures good { IfOk result (λ loaded. IsGoodState loaded.state) }
         ensures events { IfOk result (λ loaded. AreInLog loaded.state loaded.journal.log.end) }
         ensures counted { IfOk result (λ loaded. loaded.journal.events ≡ loaded.state.events) }
         ensures inside { IfOk result (λ loaded. loaded.journal.log.end < loaded.journal.log.area.len) }
@@ -116,6 +118,7 @@ impl Journal {
         header: Header,
         buffer: &mut Vec<u8>,
     ) -> Result<Loaded, LoadFault>
+        requires least { 16 ≤ header.units }
         requires most { header.units ≤ 1024 }
         requires formatted { IfTold (D.told disk.old) (λ s. IsFormatted header.units header.image s.seen) }
         ensures units { IfOk result (λ loaded. (loaded.journal.units ≡ header.units) × (loaded.state.units ≡ header.units)) }
@@ -124,6 +127,7 @@ impl Journal {
         ensures area { IfOk result (λ loaded. loaded.journal.log.area ≡ log_area header.units) }
         ensures keys { IfOk result (λ loaded. length loaded.state.keys ≤ loaded.state.units) }
         ensures built { IfOk result (λ loaded. IsBuiltState loaded.state) }
+        ensures good { IfOk result (λ loaded. IsGoodState loaded.state) }
         ensures events { IfOk result (λ loaded. AreInLog loaded.state loaded.journal.log.end) }
         ensures counted { IfOk result (λ loaded. loaded.journal.events ≡ loaded.state.events) }
         ensures inside { IfOk result (λ loaded. loaded.journal.log.end < loaded.journal.log.area.len) }
@@ -197,7 +201,8 @@ impl Journal {
 
     /// How many bytes of the log are left.
     pub fn left(&self) -> u64
-        ensures { result ≡ self.now.log.area.len - self.now.log.end }
+        ensures left { result ≡ self.now.log.area.len - self.now.log.end }
+        ensures within { result ≤ area_len self.now.units }
     {
         self.log.spare() + 1
     }

@@ -6,9 +6,9 @@ ghost use Rattle.ktm_base.specs.Told.{IfTold};
 ghost use Rattle.ktm_base.specs.Disk.{DeviceCalls};
 ghost use Rattle.ktm_log.specs.Log.{end_of, payloads_in};
 ghost use Rattle.ktm_world.specs.Durable.{after_events, events_apply};
-ghost use Rattle.std.specs.List.{list_all};
-ghost use Rattle.ktm_world.specs.Built.{is_built_event, IsBuiltState};
+ghost use Rattle.ktm_forms.specs.Built.{is_built_group, IsBuiltState};
 ghost use Rattle.ktm_world.specs.Logs.{Group};
+ghost use Rattle.ktm_laws.specs.GoodState.{IsGoodState};
 ghost use Rattle.ktm_types.specs.EventGrammar.{IsGroupOf};
 ghost use Rattle.ktm_journal.specs.Image.{AreInLog, IsFormatted, IsHeaded, empty_snapshot, snapshot_of};
 ghost use Rattle.ktm_journal.specs.Format.{IsHeader};
@@ -20,6 +20,7 @@ use crate::durable::Durable;
 use crate::image::{SELECTOR_AT, SNAPSHOT_AT, empty_snapshot, image_len, log_area};
 use ktm_base::{Disk, Down, NoMemory};
 use ktm_event::{EventFault, read_group};
+use ktm_laws::{law_of_good_states, law_of_grammar};
 use ktm_log::first_payload;
 use std::alloc::Global;
 
@@ -142,13 +143,13 @@ pub(crate) fn read_form<D: Disk>(disk: &mut D) -> Result<Header, LoadFault>
     }
 }
 
-// Makes of the state what a payload says, if it is a group of built events that apply.
+// Makes of the state what a payload says, if it is a built group that applies.
 fn apply(alloc: Global, state: &mut Durable, payload: &[u8]) -> Result<bool, NoMemory>
-    ensures good { result ≡ Ok true → (events : Group) × IsGroupOf events payload.now × IsTrue (list_all is_built_event events && events_apply state.old events) × (state.new ≡ after_events state.old events) }
+    ensures good { result ≡ Ok true → (events : Group) × IsGroupOf events payload.now × IsTrue (is_built_group events && events_apply state.old events) × (state.new ≡ after_events state.old events) }
     ensures bad { result ≡ Ok false → IsBadPayload state.old payload.now }
 {
     match read_group(alloc, payload) {
-        Ok(events) => state.apply_all(events),
+        Ok(events) => state.apply_group(events),
         Err(EventFault::NotAnEvent) => Ok(false),
         Err(EventFault::NoMemory) => Err(NoMemory),
     }
@@ -156,8 +157,10 @@ fn apply(alloc: Global, state: &mut Durable, payload: &[u8]) -> Result<bool, NoM
 
 /// The state that the payloads of a log come to, which are read where they lie in its bytes.
 pub(crate) fn fold(alloc: Global, header: Header, bytes: &[u8]) -> Result<Durable, LoadFault>
-    requires { header.units ≤ 1024 }
+    requires least { 16 ≤ header.units }
+    requires most { header.units ≤ 1024 }
     ensures good { IfOk result (λ state. ComesTo header.units header.image (payloads_in bytes.now) state) }
+    ensures sound { IfOk result IsGoodState }
     ensures keys { IfOk result (λ state. length state.keys ≤ state.units) }
     ensures built { IfOk result IsBuiltState }
     ensures events { IfOk result (λ state. AreInLog state (end_of (payloads_in bytes.now))) }
@@ -165,6 +168,8 @@ pub(crate) fn fold(alloc: Global, header: Header, bytes: &[u8]) -> Result<Durabl
     ensures bad { IfBad result (λ offset. IsFirstBad header.units header.image (payloads_in bytes.now) offset) }
     ensures up { load_went_down result ≡ false }
 {
+    law_of_grammar();
+    law_of_good_states();
     let mut state = Durable::empty(alloc, header.units, header.image);
     let mut at = 0;
     while let Some(payload) = first_payload(&bytes[at..]) {

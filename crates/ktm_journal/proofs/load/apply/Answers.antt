@@ -1,6 +1,5 @@
 use Rattle.std.proofs.Common.{sym, ◌∙◌, ◌&&◌, ap}
-use Rattle.std.specs.List.{list_all}
-use Rattle.ktm_world.specs.Built.{is_built_event}
+use Rattle.ktm_forms.specs.Built.{is_built_group}
 use Rattle.ktm_world.specs.Durable.{events_apply}
 use Rattle.ktm_world.specs.Logs.{Group}
 use Rattle.ktm_event.proofs.OneEvent.{one_group}
@@ -8,5 +7,5 @@ use Rattle.ktm_journal.proofs.load.apply.Goals as goal
 
 pub returns-in-Ok-clause-bad : goal.returns-in-Ok-clause-bad
 returns-in-Ok-clause-bad c is other group =
-    ap (λ (events : Group). list_all is_built_event events && events_apply c.args.state.now events) (one_group other c.in-Ok.events.items c.args.payload.now group c.in-Ok.ensures.ok)
-    ∙ sym (rw is at c.apply_all.ensures.applies)
+    ap (λ (events : Group). is_built_group events && events_apply c.args.state.now events) (one_group other c.in-Ok.events.items c.args.payload.now group c.in-Ok.ensures.ok)
+    ∙ sym (rw is at c.apply_group.ensures.applies)

@@ -1,8 +1,9 @@
-use Rattle.std.proofs.Common.{◌≡◌, Ok, Some, drop, refl, ap, sym, ◌∙◌}
+use Rattle.std.proofs.Common.{◌≡◌, arith, rules, Ok, Some, drop, refl, ap, sym, ◌∙◌}
 use Rattle.std.proofs.lemmas.List.{take_rest}
 use Rattle.ktm_log.specs.Log.{first_payload, payloads_in}
 use Rattle.ktm_journal.specs.Load.{ComesTo}
 use Rattle.ktm_journal.proofs.Folds.{folded_more, folded_all, first_bad}
+use Rattle.ktm_journal.proofs.GoodLogs.{bytes_fit, comes_to_good}
 use Rattle.ktm_journal.proofs.LogLoads.{comes_to_built, comes_to_keys, comes_to_events}
 use Rattle.ktm_journal.proofs.load.fold.Goals as goal
 
@@ -38,3 +39,8 @@ returns-clause-built c = comes_to_built c.args.header.units c.args.header.image 
 
 pub returns-clause-events : goal.returns-clause-events
 returns-clause-events c = comes_to_events c.args.header.units c.args.header.image _ c.loop-payload.state (good c) _ refl
+
+pub returns-clause-sound : goal.returns-clause-sound
+returns-clause-sound c =
+    comes_to_good c.law_of_grammar.ensures c.law_of_good_states.ensures c.args.header.units c.args.header.image c.args.bytes.now c.loop-payload.state c.requires.least (search rules) (bytes_fit c.args.bytes.now (λ i. omega (arith, c.type_inv.bytes i)))
+    (good c)
