@@ -1,6 +1,5 @@
 -- How an outcome ends: recorded, refused by a full log, or cut off.
 use Rattle.std.proofs.Common.{◌≡◌, ◌≢◌, ◌⊎◌, ℕ, ◌-◌, ◌≤◌, ◌&&◌, Bool, true, false, cond, List, [], ◌∷◌, ◌++◌, Option, Result, Ok, Err, refl, sym, ◌∙◌, ap, subst, arith, inl, inr}
-use Rattle.std.proofs.Math.Bool.{and-false}
 use Rattle.std.proofs.lemmas.Bool.{cases_eq, both_ways}
 use Rattle.std.proofs.lemmas.List.{append-nil}
 use Rattle.std.specs.Prelude.{IsTrue}
@@ -16,24 +15,26 @@ use Rattle.ktm_types.specs.declared.event.Event.{Event}
 use Rattle.ktm_types.specs.declared.reply.Reply.{Reply}
 use Rattle.ktm_types.specs.declared.reply.Reply.TheVariants.{Refused}
 use Rattle.ktm_world.specs.Logs.{Group, as_groups}
-use Rattle.ktm_world.specs.Outcome.{Outcome, apply, is_full, only_reply, within_log}
+use Rattle.ktm_world.specs.Outcome.{Outcome, apply, is_full, within_log}
 use Rattle.ktm_world.specs.Present.{Present}
-use Rattle.ktm_built.specs.Standing.{IsBuiltNow}
-use Rattle.ktm_built.proofs.Forms.{forms_law}
+use Rattle.ktm_built.specs.Standing.{IsStandingNow}
+use Rattle.ktm_built.proofs.Decided.{full_log}
+use Rattle.ktm_built.proofs.Machine.{apply-full}
 use Rattle.ktm_kernel.specs.declared.settlement.Settlement.{Settlement}
 use Rattle.ktm_kernel.specs.Decided.{Decides}
 use Rattle.ktm_kernel.specs.Done.{Ends, IsDone, IsCutOff, LeavesWithOr, TouchesNothing, fallen}
 use Rattle.ktm_kernel.specs.Stands.{KernelState}
 use Rattle.ktm_kernel.specs.Memory.{Held, IsRoomy, MemoryState, appended, held, now_of, settled}
+use Rattle.ktm_kernel.proofs.Standing.{built}
 
 -- ---- whether the log has room
 
 -- where it has, the outcome is as it is with room
-pub with_room_done : (x : Present) (o : Outcome) → is_full x.machine.left o.events ≡ false → within_log x o ≡ o
-with_room_done x o room = ap (λ b. cond b (record (only_reply x (Refused LogFull)) { stops = true }) o) room
+with_room_done : (x : Present) (o : Outcome) → is_full x.machine.left o.events ≡ false → within_log x o ≡ o
+with_room_done x o room = ap (λ b. cond b (full_log x) o) room
 
-with_full_log : (x : Present) (o : Outcome) → is_full x.machine.left o.events ≡ true → within_log x o ≡ record (only_reply x (Refused LogFull)) { stops = true }
-with_full_log x o full = ap (λ b. cond b (record (only_reply x (Refused LogFull)) { stops = true }) o) full
+with_full_log : (x : Present) (o : Outcome) → is_full x.machine.left o.events ≡ true → within_log x o ≡ full_log x
+with_full_log x o full = ap (λ b. cond b (full_log x) o) full
 
 -- the journal with a group more is as the machine keeps it
 pub kept : (j k : JournalState) (e f : EventsState) (group : Group) → k ≡ appended j group → IsRoomy j e → f.room ≡ e.room → IsRoomy k f
@@ -64,11 +65,6 @@ some_or_none : (es : List Event) → (es ≡ []) ⊎ (es ≢ [])
 some_or_none [] = inl refl
 some_or_none (e ∷ es) = inr (λ is. cc)
 
--- a full log has some to record
-some_full : (left : ℕ) (es : List Event) → is_full left es ≡ true → es ≢ []
-some_full left [] full is = absurd (cc)
-some_full left (e ∷ es) full is = cc
-
 -- what is decided on what the machine shows
 pub as_shown : (f : Present → Outcome) (is_down down : Bool) (k old : KernelState) (reply : Reply) (new : KernelState) (before now : Option DiskState) → is_down ≡ down → k ≡ old
     → Ends down k (f k.now) reply new before now → Ends is_down old (f old.now) reply new before now
@@ -81,11 +77,10 @@ module _ (j : JournalState) (h : Held) (o : Outcome) (reply : Reply) (then : Set
   -- the group was recorded, where there is one, and memory has settled
   pub done : (k : JournalState) (m : MemoryState) (before now : Option DiskState)
       → ((group : Group) → Holds events group → k ≡ appended j group) → ((i : JournalState) → now_of i (held m) ≡ settled (now_of i (held n)) then)
-      → ((group : Group) → Holds events group → is_full (j.log.area.len - j.log.end) group ≡ false)
       → ((log : List Group) (group : Group) → Holds events group → Tells before (JournalAt j log) → Tells now (JournalAt k (log ++ as_groups group)))
       → IsDone (record { now = x; journal = j }) (within_log x o) reply (record { now = now_of k (held m); journal = k }) before now
-  done k m before now grows settles room log =
-      let same = with_room_done x o (room o.events decided.records) in
+  done k m before now grows settles log =
+      let same = with_room_done x o decided.room in
       let grown = grows o.events decided.records in
       record {
         says = decided.says ∙ ap (λ (d : Outcome). d.reply) (sym same);
@@ -95,36 +90,13 @@ module _ (j : JournalState) (h : Held) (o : Outcome) (reply : Reply) (then : Set
         log = λ gs at. subst (λ (d : Outcome). Tells now (JournalAt k (gs ++ as_groups d.events))) (sym same) (log gs o.events decided.records at);
       }
 
-  -- the log had no room for it
-  pub stopped : (k : JournalState) (m : MemoryState) (before now : Option DiskState) → IsBuiltNow x
-      → k ≡ j → held m ≡ record (held n) { is_up = false }
-      → ((group : Group) → Holds events group → is_full (j.log.area.len - j.log.end) group ≡ true) → now ≡ before
-      → IsDone (record { now = x; journal = j }) (within_log x o) (Refused LogFull) (record { now = now_of k (held m); journal = k }) before now
-  stopped k m before now built same falls full told =
-      let stops = with_full_log x o (full o.events decided.records) in
-      let was = decided.waits (some_full (j.log.area.len - j.log.end) o.events (full o.events decided.records)) in
-      record {
-        says = ap (λ (d : Outcome). d.reply) (sym stops);
-        state = ap (λ i. now_of i (held m)) same ∙ ap (now_of j) (falls ∙ ap (λ (g : Held). record g { is_up = false }) was) ∙ fallen_is built ∙ ap (apply x) (sym stops);
-        units = ap (λ (i : JournalState). i.units) same;
-        image = ap (λ (i : JournalState). i.image) same;
-        log = λ gs at. subst (λ (es : List Event). Tells now (JournalAt k (gs ++ as_groups es))) (ap (λ (d : Outcome). d.events) (sym stops))
-            (subst (λ (l : List Group). Tells now (JournalAt k l)) (sym (append-nil gs)) (subst (λ i. Tells now (JournalAt i gs)) (sym same) (subst (λ d. Tells d (JournalAt j gs)) (sym told) at)));
-      }
-    where
-      fallen_is : IsBuiltNow x → fallen x ≡ apply x (record (only_reply x (Refused LogFull)) { stops = true })
-      fallen_is built =
-          sym (ap (λ b. record x { machine = record x.machine { is_up = b } }) (and-false x.machine.is_up))
-          ∙ sym (ap (λ (y : Present). record y { machine = record y.machine { is_up = x.machine.is_up && false } }) (forms_law.0 x (Refused LogFull) built))
-
   -- the power went
   pub cut : (k : JournalState) (m : MemoryState) (before now : Option DiskState)
       → k ≡ j → held m ≡ record (held n) { is_up = false } → (Holds events [] → ⊥)
-      → ((group : Group) → Holds events group → is_full (j.log.area.len - j.log.end) group ≡ false)
       → ((log : List Group) (group : Group) → Holds events group → Tells before (JournalAt j log) → Tells now (LeavesWithOr j log (as_groups group)))
       → IsCutOff (record { now = x; journal = j }) (within_log x o) (Refused MachineDown) (record { now = now_of k (held m); journal = k }) before now
-  cut k m before now same falls some room left =
-      let is = with_room_done x o (room o.events decided.records) in
+  cut k m before now same falls some left =
+      let is = with_room_done x o decided.room in
       let was = decided.waits (λ none. some (subst (Holds events) none decided.records)) in
       record {
         says = refl;
@@ -134,17 +106,32 @@ module _ (j : JournalState) (h : Held) (o : Outcome) (reply : Reply) (then : Set
       }
 
   -- what was recorded was not refused, and its command records something
-  pub done_touches : ((group : Group) → Holds events group → is_full (j.log.area.len - j.log.end) group ≡ false) → (P : Type 0) → (Holds events [] → P) → TouchesNothing (within_log x o) reply → P
-  done_touches room P none touches = elim (some_or_none o.events) [
+  pub done_touches : (P : Type 0) → (Holds events [] → P) → TouchesNothing (within_log x o) reply → P
+  done_touches P none touches = elim (some_or_none o.events) [
     | inl is ↦ none (subst (Holds events) is decided.records)
     | inr some ↦ (elim touches [
       | inl (refusal, is, other) ↦ absurd (decided.answers some refusal is)
-      | inr nothing ↦ absurd (some (ap (λ (d : Outcome). d.events) (sym (with_room_done x o (room o.events decided.records))) ∙ nothing))
+      | inr nothing ↦ absurd (some (ap (λ (d : Outcome). d.events) (sym (with_room_done x o decided.room)) ∙ nothing))
     ])
   ]
 
-  pub cut_touches : ((group : Group) → Holds events group → is_full (j.log.area.len - j.log.end) group ≡ false) → (Holds events [] → ⊥) → TouchesNothing (within_log x o) (Refused MachineDown) → ⊥
-  cut_touches room some touches = elim touches [
+  pub cut_touches : (Holds events [] → ⊥) → TouchesNothing (within_log x o) (Refused MachineDown) → ⊥
+  cut_touches some touches = elim touches [
     | inl (refusal, is, other) ↦ (let same : refusal ≡ MachineDown = cc in other same)
-    | inr nothing ↦ some (subst (Holds events) (ap (λ (d : Outcome). d.events) (sym (with_room_done x o (room o.events decided.records))) ∙ nothing) decided.records)
+    | inr nothing ↦ some (subst (Holds events) (ap (λ (d : Outcome). d.events) (sym (with_room_done x o decided.room)) ∙ nothing) decided.records)
   ]
+
+-- the log had no room
+pub stopped : (j : JournalState) (h : Held) (o : Outcome) (n m : MemoryState) (told : Option DiskState) → IsStandingNow (now_of j h)
+    → is_full (j.log.area.len - j.log.end) o.events ≡ true → held n ≡ h → held m ≡ record (held n) { is_up = false }
+    → IsDone (record { now = now_of j h; journal = j }) (within_log (now_of j h) o) (Refused LogFull) (record { now = now_of j (held m); journal = j }) told told
+stopped j h o n m told standing full same falls =
+    let x = now_of j h in
+    let stops = with_full_log x o full in
+    record {
+      says = ap (λ (d : Outcome). d.reply) (sym stops);
+      state = ap (now_of j) (falls ∙ ap (λ (g : Held). record g { is_up = false }) same) ∙ sym (apply-full x (built x standing)) ∙ ap (apply x) (sym stops);
+      units = refl;
+      image = refl;
+      log = λ gs at. subst (λ (d : Outcome). Tells told (JournalAt j (gs ++ as_groups d.events))) (sym stops) (subst (λ (l : List Group). Tells told (JournalAt j l)) (sym (append-nil gs)) at);
+    }

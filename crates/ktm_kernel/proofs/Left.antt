@@ -3,7 +3,6 @@ use Rattle.std.proofs.Common.{◌≡◌, ℕ, ◌&&◌, List, [], ◌++◌, leng
 use Rattle.std.proofs.lemmas.Bool.{and_from}
 use Rattle.std.proofs.lemmas.List.{append-nil}
 use Rattle.std.proofs.lemmas.List.Folds.{list_all-append}
-use Rattle.std.specs.List.{list_all}
 use Rattle.std.specs.Prelude.{Contains, IsTrue}
 use Rattle.ktm_base.specs.Disk.{DiskState}
 use Rattle.ktm_base.specs.Told.{Tells}
@@ -12,7 +11,7 @@ use Rattle.ktm_journal.specs.Image.{JournalState, JournalAt, HoldsLog, StandsFor
 use Rattle.ktm_journal.proofs.Images.{what_is_left}
 use Rattle.ktm_world.specs.Durable.{Durable, empty_state, stand, log_applies}
 use Rattle.ktm_world.specs.World.{World, possible_logs}
-use Rattle.ktm_world.specs.Built.{is_built_event, is_built_log}
+use Rattle.ktm_forms.specs.Built.{is_built_group, is_built_log}
 use Rattle.ktm_world.specs.Logs.{Group, Power, up, down, is_up, prefixes_from, possible_by}
 use Rattle.ktm_world.proofs.Durables.{stand-append, stand-units, stand-image, log_applies-append}
 use Rattle.ktm_kernel.specs.Stands.{KernelState, Began, Stands, StandsBy, LeavesPossible, LeavesStates, LeftLaw}
@@ -39,7 +38,7 @@ module _ (j : JournalState) (before : List Group) (w : World) (began : Began j b
       (both_true (log_applies (empty_state j.units j.image) before) (log_applies (stand (empty_state j.units j.image) before) log) began.applies (subst (λ (s : Durable). IsTrue (log_applies s log)) began.base applies))
 
   pub both_built : (log : List Group) → IsTrue (is_built_log log) → IsTrue (is_built_log (before ++ log))
-  both_built log built = list_all-append (list_all is_built_event) before log ∙ and_from (is_built_log before) (is_built_log log) began.built built
+  both_built log built = list_all-append is_built_group before log ∙ and_from (is_built_log before) (is_built_log log) began.built built
 
   pub stands_for : (log : List Group) (image : List ℕ) → HoldsLog j.units j.image (before ++ log) image → StandsFor (stand w.base log) image
   stands_for log image holds = record {

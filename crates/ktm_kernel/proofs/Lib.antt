@@ -1,5 +1,10 @@
+pub mod Standing
 pub mod Routes
+pub mod Rooms
+pub mod FileRoutes
 pub mod Decides
+pub mod FilesDecided
+pub mod CommitGroups
 pub mod Closings
 pub mod Ticks
 pub mod Settles

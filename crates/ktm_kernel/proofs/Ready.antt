@@ -61,5 +61,5 @@ never_cut (Err fault) old new o before now a b other on same ends = tt
 -- nor is the passing of time refused while the machine is up
 pub tick_answered : (x : Present) (ms : ℕ) → IsBuiltNow x → x.machine.is_up ≡ true → (decide_tick x ms).reply ≡ Refused MachineDown → ⊥
 tick_answered x ms built up is =
-    let done = sym (forms_law.10 x ms built).replies ∙ ap (λ (o : Outcome). o.reply) (sym (decided_law.6 x ms built up)) ∙ is in
+    let done = sym (forms_law.waits x ms built).replies ∙ ap (λ (o : Outcome). o.reply) (sym (decided_law.time x ms built up)) ∙ is in
     absurd (cc)

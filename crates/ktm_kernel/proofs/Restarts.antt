@@ -6,61 +6,46 @@ use Rattle.std.proofs.lemmas.List.Sums.{sum_by-cons}
 use Rattle.std.specs.List.{list_all}
 use Rattle.std.specs.Prelude.{IsTrue}
 use Rattle.ktm_base.specs.Disk.{DiskState, DiskStatus, IsSafe}
-use Rattle.ktm_base.specs.Grammar.{IsRow}
 use Rattle.ktm_base.specs.Told.{IfTold, Tells}
 use Rattle.ktm_base.proofs.Images.{safe_law}
 use Rattle.ktm_base.proofs.ToldSteps.{Tells-map}
 use Rattle.ktm_log.specs.declared.area.Area.{Area}
 use Rattle.ktm_log.specs.Log.{LogState}
-use Rattle.ktm_journal.specs.Image.{AreInLog, AreSpelled, HoldGroups, JournalState, JournalAt, IsImage, HoldsLog, IsFormatted, StandsFor, LeavesGroupOrNot, left_after, log_area}
+use Rattle.ktm_journal.specs.Image.{AreInLog, AreSpelled, JournalState, JournalAt, IsImage, HoldsLog, IsFormatted, StandsFor, LeavesGroupOrNot, left_after, log_area}
 use Rattle.ktm_journal.proofs.LogLoads.{journal_left}
 use Rattle.ktm_journal.proofs.OneImage.{one_image}
 use Rattle.ktm_event.specs.Kept.{EventsState, Holds}
 use Rattle.ktm_types.specs.declared.event.Event.{Event}
-use Rattle.ktm_types.specs.declared.event.Event.TheVariants.{Boot, Single}
-use Rattle.ktm_types.specs.EventGrammar.{IsEventOf, IsGroupOf}
-use Rattle.ktm_world.specs.Built.{is_built_event, is_built_log, IsBuiltState}
-use Rattle.ktm_world.specs.Durable.{Durable, empty_state, stand, fact_applies, fact_of, is_within_limits, events_apply, log_applies}
+use Rattle.ktm_types.specs.declared.event.Event.TheVariants.{Boot}
+use Rattle.ktm_forms.specs.Built.{is_built_group, is_built_log, IsBuiltState}
+use Rattle.ktm_forms.specs.Taking.{within}
+use Rattle.ktm_forms.proofs.Applying.{applies_boot, within_built}
+use Rattle.ktm_forms.proofs.BuiltStates.{built_log, built_stand, own_is}
+use Rattle.ktm_world.specs.Durable.{Durable, empty_state, stand, events_apply, log_applies}
 use Rattle.ktm_types.specs.Sizes.{frame_size, log_size}
 use Rattle.ktm_world.specs.Logs.{Group}
 use Rattle.ktm_world.specs.Outcome.{is_full as is_full_in}
 use Rattle.ktm_world.specs.World.{own_group, opened, present}
-use Rattle.ktm_world.proofs.BuiltStates.{built_log, built_stand, own_is, within_built}
-use Rattle.ktm_world.proofs.Durables.{stand-append, log_applies-append}
+use Rattle.ktm_world.proofs.Durables.{stand-append, stand-units, log_applies-append}
 use Rattle.ktm_world.proofs.SizeLemmas.{log_size-append}
-use Rattle.ktm_built.specs.Laws.{BaseLaw, OpenedLaw, names_boot}
+use Rattle.ktm_built.specs.Laws.{FreshLaw, StandingLaw}
 use Rattle.ktm_built.specs.Standing.{IsStanding, IsStandingNow, fresh}
-use Rattle.ktm_built.proofs.Worlds.{fresh_law}
 use Rattle.ktm_laws.specs.GoodState.{IsGoodState}
+use Rattle.ktm_laws.specs.GoodStates.{GoodStatesLaw}
 use Rattle.ktm_laws.specs.Grammatical.{GrammarLaw, is_grammatical}
 use Rattle.ktm_laws.specs.Running.{IsRoomy, is_log_grammatical}
 use Rattle.ktm_laws.proofs.Counting.{log-boots, log-events, own-frame, room-for}
 use Rattle.ktm_kernel.specs.Memory.{Held, MemoryState, held, now_of}
 use Rattle.ktm_object.specs.Table.{handles_of}
+use Rattle.ktm_world.specs.Tree.{Tree}
+use Rattle.txf_volume.specs.Held.{files_begun, files_of}
+use Rattle.ktm_world.specs.Files.{FilesNow}
 use Rattle.ktm_world.specs.Keys.{Store}
 use Rattle.ktm_log.specs.declared.fault.AppendFault.TheVariants.{Full}
 use Rattle.ktm_kernel.specs.Restarts.{HoldsBoth, base_of, is_full_for_own, Started, LeavesOwnOrNot}
 use Rattle.ktm_kernel.specs.Stands.{KernelState, IsReady}
 
 -- ---- what the grammar has
-
--- it has no transaction of no boot
-event_named : (event : Event) (bytes : List ℕ) → IsEventOf event bytes → names_boot event ≡ true
-event_named (Single id part) bytes (rest, split, (first, second, parts, is_id, is_part)) = le-leb 1 id.boot is_id.boot_from
-event_named _ bytes is = refl
-
-row_named : (events : List Event) (bytes : List ℕ) → IsRow IsEventOf events bytes → list_all names_boot events ≡ true
-row_named [] bytes is = refl
-row_named (event ∷ events) bytes (first, second, split, is, more) = and_from _ _ (event_named event first is) (row_named events second more)
-
-group_named : (events : List Event) (bytes : List ℕ) → IsGroupOf events bytes → list_all names_boot events ≡ true
-group_named [] bytes is = absurd is
-group_named (event ∷ events) bytes (count, row, split, is_count, is_row) = row_named (event ∷ events) row is_row
-
-log_named : (before behind : List Group) (payloads : List (List ℕ)) → HoldGroups (before ++ behind) payloads → list_all (list_all names_boot) before ≡ true
-log_named [] behind payloads hold = refl
-log_named (group ∷ before) behind [] hold = absurd hold
-log_named (group ∷ before) behind (payload ∷ payloads) hold = and_from _ _ (group_named group payload hold.0) (log_named before behind payloads hold.1)
 
 -- it has every event of a log that bytes spell
 log_grammatical : GrammarLaw → (log : List Group) → AreSpelled log → is_log_grammatical log ≡ true
@@ -75,8 +60,6 @@ pub record IsFound (units image : ℕ) (before log : List Group) (state : Durabl
   pub image_is : state.image ≡ image
   pub is : state ≡ stand (base_of units image before) log
   pub least : 16 ≤ units
-  -- what the run began with names boots that there were
-  pub named : list_all (list_all names_boot) before ≡ true
   pub built : IsTrue (is_built_log (before ++ log))
   pub applies : IsTrue (log_applies (empty_state units image) (before ++ log))
 
@@ -89,7 +72,6 @@ found_in units image before log state bytes stands holds =
       is = stands.comes_to ∙ ap (λ n. stand (empty_state n state.image) stands.log) u ∙ ap (λ n. stand (empty_state units n) stands.log) i
           ∙ ap (λ (gs : List Group). stand (empty_state units image) gs) l ∙ stand-append (empty_state units image) before log;
       least = holds.is.formatted.headed.least;
-      named = log_named before log holds.is.payloads holds.is.groups;
       built = holds.built;
       applies = holds.applies;
     }
@@ -99,20 +81,13 @@ found units image before log state None stands holds = absurd holds
 found units image before log state (Some s) stands holds = found_in units image before log state s.seen stands holds.1
 
 -- there are numbers for one boot and one event more, and the limits hold
-pub next_applies : (state : Durable) (log : LogState) → IsBuiltState state → length state.keys ≤ state.units → 16 ≤ state.units → AreInLog state log.end → log.end < log.area.len → log.area ≡ log_area state.units → state.units ≤ 1024
-    → events_apply state (own_group state) ≡ true
-next_applies state log built few least counted inside area most =
+pub next_applies : (state : Durable) (log : LogState) → IsBuiltState state → IsGoodState state → AreInLog state log.end → log.end < log.area.len → log.area ≡ log_area state.units → state.units ≤ 1024 → events_apply state (own_group state) ≡ true
+next_applies state log built good counted inside area most =
     let len = ap (λ (a : Area). a.len) area in
-    let boot : fact_applies state (Boot (state.boots + 1)) ≡ true = and_from _ _ (eq-eqb (state.boots + 1) (state.boots + 1) refl) (lt-ltb (state.boots + 1) (2 ^ 32 - 1) (omega (arith, counted.boots, counted.events, inside, len, most))) in
-    let limits : is_within_limits (fact_of state (Boot (state.boots + 1))) ≡ true = within in
-    ap (λ (es : List Event). events_apply state es) (own_is state built)
-    ∙ and_from _ _ (and_from _ _ (and_from _ _ boot limits) (lt-ltb (state.events + 1) (2 ^ 63) (omega (arith, counted.events, inside, len, most)))) refl
-  where
-    within : is_within_limits (fact_of state (Boot (state.boots + 1))) ≡ true
-    within =
-        ap (λ (s : Durable). is_within_limits (fact_of s (Boot (state.boots + 1)))) built
-        ∙ within_built state.units state.image state.events (state.boots + 1) state.keys
-        ∙ and_from (nat_le 1 state.units) (nat_le (length state.keys) state.units) (le-leb 1 state.units (omega arith)) (le-leb (length state.keys) state.units few)
+    let boot = and_from _ _ (eq-eqb (state.boots + 1) (state.boots + 1) refl) (lt-ltb (state.boots + 1) (2 ^ 32 - 1) (omega (arith, counted.boots, counted.events, inside, len, most))) in
+    let limits : within state.units state.tree state.keys ≡ true = sym (within_built state built) ∙ good.limits in
+    ap (λ (es : List Event). events_apply state es) (own_is state built) ∙ applies_boot state (state.boots + 1) built
+    ∙ and_from _ _ (and_from _ _ boot limits) (lt-ltb (state.events + 1) (2 ^ 63) (omega (arith, counted.events, inside, len, most)))
 
 -- how many bytes the group of a restart has
 pub own_size : (state : Durable) → IsBuiltState state → frame_size (own_group state) ≡ 14
@@ -137,13 +112,17 @@ fresh_held state = record {
   handles = [];
   boot = state.boots + 1;
   transactions = record { clock = 0; last_transaction = 0; last_manager = 0; last_enlistment = 0; items = []; enlistments = [] };
+  files = files_begun state.tree state.next_node;
+  next_node = state.next_node;
   keys = record { store = state.keys; own = [] };
 }
 
-pub held_fresh : (m : MemoryState) (state : Durable) (boot : ℕ) (store : Store) → m.is_up ≡ true → m.tm.boot ≡ boot
-    → m.tm.now ≡ record { clock = 0; last_transaction = 0; last_manager = 0; last_enlistment = 0; items = []; enlistments = [] } → m.keys.keys ≡ record { store = store; own = [] } → handles_of m.handles ≡ []
-    → boot ≡ state.boots + 1 → store ≡ state.keys → held m ≡ fresh_held state
-held_fresh m state boot store up boot_is now keys handles is keys_are = rw (up, boot_is, now, keys, handles, is, keys_are) refl
+pub held_fresh : (m : MemoryState) (state : Durable) (boot : ℕ) (tree : Tree) (next : ℕ) (store : Store) → m.is_up ≡ true → m.tm.boot ≡ boot
+    → m.tm.now ≡ record { clock = 0; last_transaction = 0; last_manager = 0; last_enlistment = 0; items = []; enlistments = [] } → files_of m.files ≡ files_begun tree next → m.next_node ≡ next
+    → m.keys.keys ≡ record { store = store; own = [] } → handles_of m.handles ≡ [] → boot ≡ state.boots + 1 → tree ≡ state.tree → next ≡ state.next_node → store ≡ state.keys → held m ≡ fresh_held state
+held_fresh m state boot tree next store up boot_is now files next_node keys handles is tree_is next_is keys_are =
+    let h = held m in
+    ap (λ (fs : FilesNow). record h { files = fs }) files ∙ rw (up, boot_is, now, next_node, keys, handles, is, tree_is, next_is, keys_are) refl
 
 -- what a disk that nothing was written to may leave
 pub unwritten_leaves : (units image : ℕ) (before log : List Group) (told : Option DiskState) → Tells told (HoldsBoth units image before log) → Tells told (LeavesOwnOrNot units image before log)
@@ -156,7 +135,7 @@ module _ (units image : ℕ) (before log : List Group) (state : Durable) (is : I
 
   -- it is of built events, and so is what the run began with
   made : IsTrue (is_built_log before) × IsTrue (is_built_log log)
-  made = and_parts _ _ (sym (list_all-append (list_all is_built_event) before log) ∙ is.built)
+  made = and_parts _ _ (sym (list_all-append is_built_group before log) ∙ is.built)
 
   built_base : IsBuiltState base
   built_base = built_log units image before made.0
@@ -183,10 +162,10 @@ module _ (units image : ℕ) (before log : List Group) (state : Durable) (is : I
   -- what it has read is in the grammar
   pub found_grammatical : GrammarLaw → (told : Option DiskState)
       → ((gs : List Group) → Tells told (λ s. HoldsLog state.units state.image gs s.seen) → AreSpelled gs)
-      → Tells told (HoldsBoth units image before log) → is_log_grammatical log ≡ true
+      → Tells told (HoldsBoth units image before log) → (is_log_grammatical before ≡ true) × (is_log_grammatical log ≡ true)
   found_grammatical grammar told spelled holds =
       let all = spelled (before ++ log) (Tells-map told (HoldsBoth units image before log) _ holds (λ s held. here s.seen held.1)) in
-      (and_parts _ _ (sym (list_all-append (list_all is_grammatical) before log) ∙ log_grammatical grammar (before ++ log) all)).1
+      and_parts _ _ (sym (list_all-append (list_all is_grammatical) before log) ∙ log_grammatical grammar (before ++ log) all)
 
   -- what it has left
   pub left_found : (j : JournalState) (told : Option DiskState) → j.units ≡ state.units → Tells told (JournalAt j (before ++ log)) → j.log.area.len - j.log.end ≡ left_after units before - log_size log
@@ -207,8 +186,8 @@ module _ (units image : ℕ) (before log : List Group) (state : Durable) (is : I
   own_applies : events_apply state (own_group state) ≡ true → IsTrue (events_apply (stand base log) (own_group (stand base log)))
   own_applies may = subst (λ (s : Durable). IsTrue (events_apply s (own_group s))) is.is may
 
-  good_base : BaseLaw → image < 2 ^ 16 → IsGoodState base
-  good_base bases number = bases units image before is.least number made.0 applied.0 is.named
+  good_base : GoodStatesLaw → image < 2 ^ 16 → is_log_grammatical before ≡ true → IsGoodState base
+  good_base good number grammatical = good.3 (empty_state units image) before (good.0 units image is.least number) grammatical applied.0
 
   -- its counts do not end, since each event and each boot takes bytes of the log
   roomy : units ≤ 1024 → is_full_for_own units image before log ≡ false → IsRoomy base (left_after units before)
@@ -220,13 +199,14 @@ module _ (units image : ℕ) (before log : List Group) (state : Durable) (is : I
       let one = sum_by-cons frame_size (own_group (stand base log)) [] in
       record { events = omega (arith, events, own, left, one, most); boots = omega (arith, boots, own, left, one, most) }
 
-  standing : BaseLaw → OpenedLaw → image < 2 ^ 16 → units ≤ 1024 → is_full_for_own units image before log ≡ false → is_log_grammatical log ≡ true → IsStanding (opened base (left_after units before) log)
-  standing bases opens number most fits grammatical =
-      opens base (left_after units before) log (good_base bases number) built_base (roomy most fits) grammatical made.1 applied.1 fits
+  standing : GoodStatesLaw → StandingLaw → image < 2 ^ 16 → units ≤ 1024 → is_full_for_own units image before log ≡ false → (is_log_grammatical before ≡ true) × (is_log_grammatical log ≡ true) → IsStanding (opened base (left_after units before) log)
+  standing good law number most fits grammatical =
+      let units_are = stand-units (empty_state units image) before in
+      law.restarts base (left_after units before) log (good_base good number grammatical.0) built_base (omega (arith, units_are, most)) (roomy most fits) grammatical.1 made.1 applied.1 fits
 
   -- what is so then is that of the world that was opened
-  fresh_is : (left : ℕ) → left ≡ left_after units before - log_size log - 14 → fresh state left ≡ present (opened base (left_after units before) log)
-  fresh_is left left_is = ap (λ (s : Durable). fresh s left) is.is ∙ ap (λ n. fresh (stand base log) n) less ∙ sym (fresh_law.0 base (left_after units before) log built_base made.1)
+  fresh_is : FreshLaw → (left : ℕ) → left ≡ left_after units before - log_size log - 14 → fresh state left ≡ present (opened base (left_after units before) log)
+  fresh_is law left left_is = ap (λ (s : Durable). fresh s left) is.is ∙ ap (λ n. fresh (stand base log) n) less ∙ sym (law.opens base (left_after units before) log built_base made.1)
     where
       own : frame_size (own_group (stand base log)) ≡ 14
       own = own_size (stand base log) built_found
@@ -237,16 +217,16 @@ module _ (units image : ℕ) (before log : List Group) (state : Durable) (is : I
   -- of the journal that the group of the restart was added to
   module _ (may : events_apply state (own_group state) ≡ true) (j k : JournalState) (units_are : j.units ≡ state.units) (image_is : j.image ≡ state.image) (old new : Option DiskState)
       (at : Tells old (JournalAt j (before ++ log))) (events : EventsState) (holds : Holds events (own_group state)) where
-    pub started : BaseLaw → OpenedLaw → is_log_grammatical log ≡ true → state.image < 2 ^ 16 → state.units ≤ 1024 → (kernel : KernelState) (left count : ℕ) → kernel.journal ≡ k → kernel.now ≡ fresh state left → left ≡ k.log.area.len - k.log.end → count ≡ state.events
+    pub started : GoodStatesLaw → StandingLaw → FreshLaw → (is_log_grammatical before ≡ true) × (is_log_grammatical log ≡ true) → state.image < 2 ^ 16 → state.units ≤ 1024 → (kernel : KernelState) (left count : ℕ) → kernel.journal ≡ k → kernel.now ≡ fresh state left → left ≡ k.log.area.len - k.log.end → count ≡ state.events
         → k.units ≡ j.units → k.image ≡ j.image → k.log.area ≡ j.log.area → ((group : Group) → Holds events group → k.log.end ≡ j.log.end + frame_size group)
         → is_full_in (j.log.area.len - j.log.end) (own_group state) ≡ false
         → ((gs : List Group) (group : Group) → Holds events group → Tells old (JournalAt j gs) → Tells new (JournalAt k (gs ++ group ∷ [])))
         → Started units image before log kernel count 0 new
-    started bases opens grammatical number most kernel left count journal now left_is count_is k_units k_image area end fits added = record {
+    started good law begins grammatical number most kernel left count journal now left_is count_is k_units k_image area end fits added = record {
       room = sym (is_full j old units_are at) ∙ fits;
       stands = record {
-        now = now ∙ fresh_is left (omega (arith, left_is, ap (λ (a : Area). a.len) area, end (own_group state) holds, left_found j old units_are at, own_size state built_state_is));
-        standing = standing bases opens (subst (λ (n : ℕ). n < 2 ^ 16) is.image_is number) (subst (λ (n : ℕ). n ≤ 1024) is.units_are most) (sym (is_full j old units_are at) ∙ fits) grammatical;
+        now = now ∙ fresh_is begins left (omega (arith, left_is, ap (λ (a : Area). a.len) area, end (own_group state) holds, left_found j old units_are at, own_size state built_state_is));
+        standing = standing good law (subst (λ (n : ℕ). n < 2 ^ 16) is.image_is number) (subst (λ (n : ℕ). n ≤ 1024) is.units_are most) (sym (is_full j old units_are at) ∙ fits) grammatical;
         before = before;
         began = rw (journal, k_units ∙ units_are ∙ is.units_are, k_image ∙ image_is ∙ is.image_is) (record { built = made.0; applies = applied.0; base = refl; room = refl });
         disk = subst (λ i. Tells new (JournalAt i (before ++ (log ++ own_group (stand base log) ∷ [])))) (sym journal)
@@ -271,8 +251,8 @@ module _ (units image : ℕ) (before log : List Group) (state : Durable) (is : I
 
         both_built : IsTrue (is_built_log (before ++ (log ++ own_group (stand base log) ∷ [])))
         both_built =
-            list_all-append (list_all is_built_event) before (log ++ own_group (stand base log) ∷ [])
-            ∙ and_from _ _ made.0 (list_all-append (list_all is_built_event) log (own_group (stand base log) ∷ [])
+            list_all-append is_built_group before (log ++ own_group (stand base log) ∷ [])
+            ∙ and_from _ _ made.0 (list_all-append is_built_group log (own_group (stand base log) ∷ [])
             ∙ and_from _ _ made.1 (ap (λ (g : Group). is_built_log (g ∷ [])) (own_is (stand base log) built_found)))
 
         both_apply : IsTrue (log_applies (empty_state units image) (before ++ (log ++ own_group (stand base log) ∷ [])))
@@ -285,15 +265,28 @@ pub fresh_now : (k : JournalState) (h : Held) (state : Durable) (left : ℕ) →
     → h ≡ fresh_held state → now_of k h ≡ fresh state left
 fresh_now k h state left built units image events left_is is =
     rw (is, left_is, units, image, events)
-    (ap (λ (s : Durable). fresh (record s { events = state.events; boots = state.boots; keys = state.keys }) (k.log.area.len - k.log.end)) (sym built))
+    (ap (λ (s : Durable). fresh (record s { events = state.events; boots = state.boots; next_node = state.next_node; tree = state.tree; keys = state.keys }) (k.log.area.len - k.log.end)) (sym built))
 
--- a machine that started is ready for calls
-pub fresh_ready : (kernel : KernelState) (state : Durable) (left : ℕ) (told : Option DiskState) (status : DiskStatus) → kernel.now ≡ fresh state left → IsBuiltState state → state.image < 2 ^ 16 → events_apply state (own_group state) ≡ true
+-- a machine that started is ready for calls: its counts do not end, since each event and each boot took bytes of the log
+pub fresh_ready : FreshLaw → (kernel : KernelState) (state : Durable) (log : LogState) (left : ℕ) (told : Option DiskState) (status : DiskStatus) → kernel.now ≡ fresh state left → IsBuiltState state → IsGoodState state
+    → AreInLog state log.end → log.end < log.area.len → log.area ≡ log_area state.units → state.units ≤ 1024 → left ≤ log.area.len
     → status.is_down ≡ false → status.pending ≡ 0 → IfTold told (λ s. IsFormatted kernel.journal.units kernel.journal.image s.seen) → IsReady kernel told status × (kernel.now.machine.is_up ≡ true)
-fresh_ready kernel state left told status now built number may up settled formatted = (
+fresh_ready law kernel state log left told status now built good counted inside area most few up settled formatted = (
   record {
     powered = record { power = λ on. up; settled = λ on. settled; image = λ on. formatted };
-    standing = λ on. subst IsStandingNow (sym now) (fresh_law.1 state left built number may);
+    standing = λ on. subst IsStandingNow (sym now) (law.stands state left good built most events boots);
   },
   ap (λ x. x.machine.is_up) now,
 )
+  where
+    own : frame_size (own_group state) ≡ 14
+    own = own_size state built
+
+    len : log.area.len ≡ (log_area state.units).len
+    len = ap (λ (a : Area). a.len) area
+
+    events : state.events + left + frame_size (own_group state) < 2 ^ 63
+    events = omega (arith, own, len, counted.events, inside, most, few)
+
+    boots : state.boots + left + frame_size (own_group state) < 2 ^ 32
+    boots = omega (arith, own, len, counted.boots, counted.events, inside, most, few)

@@ -5,7 +5,7 @@ use Rattle.ktm_base.specs.declared.id.Id.{Id}
 use Rattle.ktm_base.specs.declared.id.Label.{Label}
 use Rattle.ktm_base.specs.declared.id.Pid.{Pid}
 use Rattle.ktm_base.specs.declared.refusal.Refusal.{Refusal}
-use Rattle.ktm_base.specs.declared.refusal.Refusal.TheVariants.{HandleNoLongerValid, MachineDown, InvalidHandle, InvalidParameter, TransactionNotFound}
+use Rattle.ktm_base.specs.declared.refusal.Refusal.TheVariants.{MachineDown, InvalidHandle, InvalidParameter, TransactionNotFound, TransactionRequestNotValid}
 use Rattle.ktm_types.specs.declared.command.Command.{Command}
 use Rattle.ktm_types.specs.declared.command.Command.TheVariants.{CloseHandle, CommitTransaction, CreateTransaction, DuplicateHandle, Exit, GetTransactionInformation, OpenTransaction, RollbackTransaction, KvSet, KvUnset, KvGet, KvList}
 use Rattle.ktm_types.specs.declared.command.View.{View}
@@ -15,14 +15,18 @@ use Rattle.ktm_types.specs.declared.object.Object.TheVariants.{Transaction as Tr
 use Rattle.ktm_types.specs.declared.object.Transaction.{Transaction}
 use Rattle.ktm_types.specs.declared.reply.Reply.TheVariants.{Refused}
 use Rattle.ktm_world.specs.Decide.{caller, command_effect, command_tests, of_keys, transacted, with_room}
+use Rattle.ktm_world.specs.Enlistments.{is_ended}
+use Rattle.ktm_world.specs.Files.{FilesNow}
 use Rattle.ktm_world.specs.KeyCalls.{KeyOutcome, kv_set_tests, kv_set, kv_unset_tests, kv_unset, kv_get_tests, kv_get, kv_list}
-use Rattle.ktm_world.specs.Labels.{file_number, holds_of, id_of_named, invalid_handle, is_bound, is_dead, transaction_named, transaction_tests, view_tests, viewer}
+use Rattle.ktm_world.specs.Labels.{id_of_named, invalid_handle, is_bound, transaction_named, transaction_tests, view_tests, viewer}
 use Rattle.ktm_world.specs.Outcome.{Outcome, first_refusal, only_reply, refuse_or}
 use Rattle.ktm_world.specs.Present.{Present}
-use Rattle.ktm_world.specs.TransactionCalls.{bound_test, commit_transaction, create_transaction, create_transaction_tests, get_transaction_information, handle_test, no_transaction_left, open_to_transaction, open_transaction, open_transaction_tests, opened_object, quota_test, rollback_transaction, rollback_transaction_tests, transaction_with}
+use Rattle.ktm_world.specs.TransactionCalls.{bound_test, commit_transaction, create_transaction, create_transaction_tests, get_transaction_information, handle_test, may_roll_back, no_transaction_left, open_to_transaction, open_transaction, open_transaction_tests, opened_object, quota_test, rollback_transaction, rollback_transaction_tests, transaction_with}
 use Rattle.ktm_world.specs.HandleCalls.{close_handle, close_handle_tests, duplicate_handle, duplicate_handle_tests, exit}
 use Rattle.ktm_world.specs.Handles.{object_at}
-use Rattle.ktm_built.specs.Standing.{no_files}
+use Rattle.ktm_laws.proofs.Calls.{not-not}
+use Rattle.ktm_laws.proofs.KeysKept.{not_refused}
+use Rattle.ktm_built.proofs.Quiet.{rolls_before_end}
 use Rattle.ktm_kernel.specs.Route.{source_tests}
 use Rattle.ktm_world.specs.Uses.{key_room}
 use Rattle.kv_rm.specs.declared.call.KvCall.TheVariants.{Set, Unset, Get, List as Listing}
@@ -31,7 +35,7 @@ use Rattle.kv_rm.specs.Calls.{key_outcome, unless_refused}
 -- ---- tests, one list behind another
 
 -- the first refusal of some tests is that of them with others behind
-first_of-append : (tests more : List (Bool × Refusal)) (refusal : Refusal) → first_refusal tests ≡ Some refusal → first_refusal (tests ++ more) ≡ Some refusal
+pub first_of-append : (tests more : List (Bool × Refusal)) (refusal : Refusal) → first_refusal tests ≡ Some refusal → first_refusal (tests ++ more) ≡ Some refusal
 first_of-append [] more refusal e = absurd (cc)
 first_of-append (test ∷ tests) more refusal e = elim (cases_Bool test.0) [
   | inl holds ↦ rw holds (rw holds at e)
@@ -39,7 +43,7 @@ first_of-append (test ∷ tests) more refusal e = elim (cases_Bool test.0) [
 ]
 
 -- where some tests refuse nothing, the others decide
-first_of-passed : (tests more : List (Bool × Refusal)) → first_refusal tests ≡ None → first_refusal (tests ++ more) ≡ first_refusal more
+pub first_of-passed : (tests more : List (Bool × Refusal)) → first_refusal tests ≡ None → first_refusal (tests ++ more) ≡ first_refusal more
 first_of-passed [] more e = refl
 first_of-passed (test ∷ tests) more e = elim (cases_Bool test.0) [
   | inl holds ↦ (let some : Some test.1 ≡ None = rw holds at e in absurd (cc))
@@ -231,38 +235,40 @@ module _ (x : Present) (process : Pid) (up : x.machine.is_up ≡ true) where
   pub exit_routed : with_room x process Exit ≡ exit x process
   exit_routed = up_or x [] (exit x process) up
 
-  module _ (label : Label) (from : Pid) (source : Label) (files : x.files ≡ no_files) where
+  module _ (label : Label) (from : Pid) (source : Label) where
     -- the tests of the handle come first
     duplicates : with_room x process (DuplicateHandle label from source)
-        ≡ refuse_or x (first_refusal (source_tests (object_at x.handles from source) ++ bound_test x process label ∷ handle_test x ∷ [])) (duplicate_handle x process label from source)
+        ≡ refuse_or x (first_refusal (source_tests x.files (object_at x.handles from source) ++ bound_test x process label ∷ handle_test x ∷ [])) (duplicate_handle x process label from source)
     unfolding duplicate_handle_tests
-    duplicates =
-        up_or x (duplicate_handle_tests x process label from source) (duplicate_handle x process label from source) up
-        ∙ ap (λ f. refuse_or x (first_refusal (invalid_handle (object_at x.handles from source) ∷ (holds_of (is_dead f) (file_number (object_at x.handles from source)), HandleNoLongerValid) ∷ bound_test x process label ∷ handle_test x ∷ []))
-        (duplicate_handle x process label from source)) files
+    duplicates = up_or x (duplicate_handle_tests x process label from source) (duplicate_handle x process label from source) up
 
-    pub duplicate_refused : (refusal : Refusal) → first_refusal (source_tests (object_at x.handles from source)) ≡ Some refusal → with_room x process (DuplicateHandle label from source) ≡ only_reply x (Refused refusal)
+    pub duplicate_refused : (refusal : Refusal) → first_refusal (source_tests x.files (object_at x.handles from source)) ≡ Some refusal → with_room x process (DuplicateHandle label from source) ≡ only_reply x (Refused refusal)
     duplicate_refused refusal is =
         duplicates
-        ∙ ap (λ r. refuse_or x r (duplicate_handle x process label from source)) (first_of-append (source_tests (object_at x.handles from source)) (bound_test x process label ∷ handle_test x ∷ []) refusal is)
+        ∙ ap (λ r. refuse_or x r (duplicate_handle x process label from source)) (first_of-append (source_tests x.files (object_at x.handles from source)) (bound_test x process label ∷ handle_test x ∷ []) refusal is)
 
-    passes_source : first_refusal (source_tests (object_at x.handles from source)) ≡ None
+    passes_source : first_refusal (source_tests x.files (object_at x.handles from source)) ≡ None
         → with_room x process (DuplicateHandle label from source) ≡ refuse_or x (first_refusal (bound_test x process label ∷ handle_test x ∷ [])) (duplicate_handle x process label from source)
     passes_source passed =
         duplicates
-        ∙ ap (λ r. refuse_or x r (duplicate_handle x process label from source)) (first_of-passed (source_tests (object_at x.handles from source)) (bound_test x process label ∷ handle_test x ∷ []) passed)
+        ∙ ap (λ r. refuse_or x r (duplicate_handle x process label from source)) (first_of-passed (source_tests x.files (object_at x.handles from source)) (bound_test x process label ∷ handle_test x ∷ []) passed)
 
-    pub duplicate_bound : first_refusal (source_tests (object_at x.handles from source)) ≡ None → is_bound x process label ≡ true → with_room x process (DuplicateHandle label from source) ≡ only_reply x (Refused InvalidParameter)
+    pub duplicate_bound : first_refusal (source_tests x.files (object_at x.handles from source)) ≡ None → is_bound x process label ≡ true → with_room x process (DuplicateHandle label from source) ≡ only_reply x (Refused InvalidParameter)
     duplicate_bound passed bound = passes_source passed ∙ test_refuses x (is_bound x process label) InvalidParameter (handle_test x ∷ []) (duplicate_handle x process label from source) bound
 
-    pub duplicate_routed : first_refusal (source_tests (object_at x.handles from source)) ≡ None → is_bound x process label ≡ false
+    pub duplicate_routed : first_refusal (source_tests x.files (object_at x.handles from source)) ≡ None → is_bound x process label ≡ false
         → with_room x process (DuplicateHandle label from source) ≡ refuse_or x (first_refusal (handle_test x ∷ [])) (duplicate_handle x process label from source)
     duplicate_routed passed free = passes_source passed ∙ test_passes x (is_bound x process label) InvalidParameter (handle_test x ∷ []) (duplicate_handle x process label from source) free
 
 -- a handle that passes is bound
-pub source_named : (named : Option Object) → first_refusal (source_tests named) ≡ None → is_some named ≡ true
-source_named None passed = absurd (cc)
-source_named (Some object) passed = refl
+pub source_named : (files : FilesNow) (named : Option Object) → first_refusal (source_tests files named) ≡ None → is_some named ≡ true
+source_named files None passed = absurd (cc)
+source_named files (Some object) passed = refl
+
+-- a transaction that may be rolled back has not ended
+pub rollback_not_ended : (t : Transaction) → first_refusal (rollback_transaction_tests (Some t)) ≡ None → is_ended t.phase ≡ false
+rollback_not_ended t passed =
+    rolls_before_end t (not-not (may_roll_back t) (not_refused (rollback_transaction_tests (Some t)) passed (not (may_roll_back t), TransactionRequestNotValid) (inr (inr (inr (inl refl))))))
 
 -- a label that is not bound names nothing
 pub unbound_names : (named : Option Object) → is_some named ≡ false → named ≡ None

@@ -16,9 +16,9 @@ use Rattle.ktm_world.specs.Durable.{Durable, empty_state, stand}
 use Rattle.ktm_world.specs.Outcome.{is_full}
 use Rattle.ktm_types.specs.Sizes.{log_size}
 use Rattle.ktm_world.specs.World.{World, present, own_group, opened, in_doubt, possible_logs, interrupted_restart, found_full, is_full_to_open}
-use Rattle.ktm_world.specs.Built.{is_built_log}
-use Rattle.ktm_world.proofs.BuiltStates.{built_stand}
-use Rattle.ktm_built.specs.Laws.{FallenLaw}
+use Rattle.ktm_forms.specs.Built.{is_built_log}
+use Rattle.ktm_forms.proofs.BuiltStates.{built_stand}
+use Rattle.ktm_built.specs.Laws.{StandingLaw}
 use Rattle.ktm_world.specs.Logs.{Group, down, is_up}
 use Rattle.ktm_world.specs.Transcript.{Step, interrupted, found, full, RestartDoes, StartDoes}
 use Rattle.ktm_world.proofs.Durables.{stand-units}
@@ -26,15 +26,15 @@ use Rattle.ktm_kernel.specs.Restarts.{HoldsBoth, base_of, is_full_for_own, Start
 use Rattle.ktm_kernel.specs.Stands.{KernelState, HasFallen, StandsBy, KernelAt, LeavesPossible, DoesLine, FoundAt, PowerLaw, FoundLaw}
 use Rattle.ktm_kernel.proofs.Left.{stands_for}
 use Rattle.ktm_kernel.proofs.Possible.{first_is, Contains-map, in_first, in_second}
-use Rattle.ktm_built.proofs.Logs.{contains_passes}
+use Rattle.ktm_laws.proofs.Falling.{contains-passes}
 use Rattle.ktm_kernel.proofs.Worlds.{began_on}
 
 -- what is so now of a machine that is down is the same, whatever is possible on its disk
 off_present : (w : World) → is_up w.power ≡ false → (may : List (List Group)) → present w ≡ present (record w { power = down may })
 off_present w off may i = record (present w) { machine = record (present w).machine { is_up = off i } }
 
-pub power_law : FallenLaw → PowerLaw
-power_law falls k old new w off at = (
+pub power_law : StandingLaw → PowerLaw
+power_law law k old new w off at = (
   λ restored. record {
     off = off;
     now = fallen.now;
@@ -45,7 +45,7 @@ power_law falls k old new w off at = (
   },
   λ failed. record {
     now = fallen.now ∙ off_present w off (possible_logs (interrupted_restart w));
-    standing = falls.2 w fallen.standing;
+    standing = law.interrupted_restarts w fallen.standing;
     before = fallen.before;
     began = began_on k.journal k.journal fallen.before w (interrupted_restart w) refl refl refl refl fallen.began;
     disk = Tells-step old new (LeavesPossible k.journal fallen.before w) (LeavesPossible k.journal fallen.before (interrupted_restart w)) fallen.disk failed (λ a b leaves again image may.
@@ -58,7 +58,7 @@ power_law falls k old new w off at = (
     fallen = subst (λ b. StandsBy b k old w) off at
 
 -- the run's base and room are those that a restart speaks of
-module _ (falls : FallenLaw) (k : KernelState) (told now : Option DiskState) (w : World) (pick : ℕ) (at : FoundAt k told w) where
+module _ (law : StandingLaw) (k : KernelState) (told now : Option DiskState) (w : World) (pick : ℕ) (at : FoundAt k told w) where
   abbrev base : Durable
   base = base_of k.journal.units k.journal.image at.before
 
@@ -71,7 +71,7 @@ module _ (falls : FallenLaw) (k : KernelState) (told now : Option DiskState) (w 
 
   -- nothing that is built is in doubt after a restart
   none_back : (log : List Group) → Contains (possible_logs w) log → length (in_doubt (stand w.base log)) ≡ 0
-  none_back log possible = ap (λ (s : Durable). length (in_doubt s)) (built_stand w.base log at.standing.built.base (contains_passes is_built_log (possible_logs w) log at.standing.built.logs possible))
+  none_back log possible = ap (λ (s : Durable). length (in_doubt s)) (built_stand w.base log at.standing.built.base (contains-passes is_built_log (possible_logs w) log at.standing.built.logs possible))
 
   started : (new : KernelState) (events in_doubt : ℕ) (log : List Group) → Contains (possible_logs w) log → Started k.journal.units k.journal.image at.before log new events in_doubt now
       → DoesLine w (Some (Restart pick)) (Restarted events in_doubt) new now
@@ -93,7 +93,7 @@ module _ (falls : FallenLaw) (k : KernelState) (told now : Option DiskState) (w 
     off_does interrupted (Refused MachineDown) (interrupted_restart w) (refl, refl),
     record {
       now = at.now ∙ off_present w at.off (possible_logs (interrupted_restart w));
-      standing = falls.2 w at.standing;
+      standing = law.interrupted_restarts w at.standing;
       before = at.before;
       began = began_on k.journal k.journal at.before w (interrupted_restart w) refl refl refl refl at.began;
       disk = Tells-map now (LeavesOwnOrNot k.journal.units k.journal.image at.before log) (LeavesPossible k.journal at.before (interrupted_restart w)) leaves (λ s either image may. elim (either image may) [
@@ -115,7 +115,7 @@ module _ (falls : FallenLaw) (k : KernelState) (told now : Option DiskState) (w 
     off_does (full log) (Refused LogFull) (found_full w log) (record { possible = possible; room = full_is log true is }, refl, refl),
     record {
       now = at.now ∙ off_present w at.off (log ∷ []);
-      standing = falls.3 w log (record { possible = possible; room = full_is log true is }) at.standing;
+      standing = law.full_restarts w log (record { possible = possible; room = full_is log true is }) at.standing;
       before = at.before;
       began = began_on k.journal k.journal at.before w (found_full w log) refl refl refl refl at.began;
       disk = Tells-map now (HoldsBoth k.journal.units k.journal.image at.before log) (LeavesPossible k.journal at.before (found_full w log)) holds (λ s held image may. (
@@ -128,32 +128,32 @@ module _ (falls : FallenLaw) (k : KernelState) (told now : Option DiskState) (w 
 
 -- ---- the answers of a restart, for the log that the disk holds
 
-pub started_line : FallenLaw → (k new : KernelState) (events in_doubt : ℕ) (told now : Option DiskState)
+pub started_line : StandingLaw → (k new : KernelState) (events in_doubt : ℕ) (told now : Option DiskState)
     → ((units image : ℕ) (before log : List Group) → Tells told (HoldsBoth units image before log) → Started units image before log new events in_doubt now)
     → (pick : ℕ) (w : World) → FoundAt k told w → DoesLine w (Some (Restart pick)) (Restarted events in_doubt) new now
-started_line falls k new events in_doubt None now starts pick w at = absurd at.disk
-started_line falls k new events in_doubt (Some s) now starts pick w at =
+started_line law k new events in_doubt None now starts pick w at = absurd at.disk
+started_line law k new events in_doubt (Some s) now starts pick w at =
     let (safe, held) = at.disk in
     let (log, possible, holds) = held in
-    started falls k (Some s) now w pick at new events in_doubt log possible (starts k.journal.units k.journal.image at.before log (safe, holds))
+    started law k (Some s) now w pick at new events in_doubt log possible (starts k.journal.units k.journal.image at.before log (safe, holds))
 
-pub interrupted_line : FallenLaw → (k : KernelState) (told now : Option DiskState)
+pub interrupted_line : StandingLaw → (k : KernelState) (told now : Option DiskState)
     → ((units image : ℕ) (before log : List Group) → Tells told (HoldsBoth units image before log) → Tells now (LeavesOwnOrNot units image before log))
     → (pick : ℕ) (w : World) → FoundAt k told w → DoesLine w (Some (Restart pick)) (Refused MachineDown) k now
-interrupted_line falls k None now leaves pick w at = absurd at.disk
-interrupted_line falls k (Some s) now leaves pick w at =
+interrupted_line law k None now leaves pick w at = absurd at.disk
+interrupted_line law k (Some s) now leaves pick w at =
     let (safe, held) = at.disk in
     let (log, possible, holds) = held in
-    cut falls k (Some s) now w pick at log possible (leaves k.journal.units k.journal.image at.before log (safe, holds))
+    cut law k (Some s) now w pick at log possible (leaves k.journal.units k.journal.image at.before log (safe, holds))
 
-pub full_line : FallenLaw → (k : KernelState) (told now : Option DiskState) → now ≡ told
+pub full_line : StandingLaw → (k : KernelState) (told now : Option DiskState) → now ≡ told
     → ((units image : ℕ) (before log : List Group) → Tells told (HoldsBoth units image before log) → is_full_for_own units image before log ≡ true)
     → (pick : ℕ) (w : World) → FoundAt k told w → DoesLine w (Some (Restart pick)) (Refused LogFull) k now
-full_line falls k None now same is pick w at = absurd at.disk
-full_line falls k (Some s) now same is pick w at =
+full_line law k None now same is pick w at = absurd at.disk
+full_line law k (Some s) now same is pick w at =
     let (safe, held) = at.disk in
     let (log, possible, holds) = held in
-    stays falls k (Some s) now w pick at log possible (is k.journal.units k.journal.image at.before log (safe, holds))
+    stays law k (Some s) now w pick at log possible (is k.journal.units k.journal.image at.before log (safe, holds))
     (subst (λ d. Tells d (HoldsBoth k.journal.units k.journal.image at.before log)) (sym same) (safe, holds))
 
 -- what holds one of the logs is not bad

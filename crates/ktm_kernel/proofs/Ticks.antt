@@ -12,7 +12,8 @@ use Rattle.ktm_world.specs.TransactionCalls.{is_due, later, may_roll_back, with_
 use Rattle.ktm_built.specs.Forms.{ended_aborted, with_rollback, with_tick}
 use Rattle.ktm_built.proofs.Distinct.{Rise, rise-first, rise-found, rise-rest}
 use Rattle.ktm_built.proofs.Timeouts.{in_turn}
-use Rattle.ktm_built.proofs.Ids.{same_id-self, same_id-turned}
+use Rattle.ktm_forms.proofs.Ids.{same_id-self}
+use Rattle.ktm_laws.proofs.Tables.{same_id-sym}
 
 -- ---- which are due
 
@@ -61,7 +62,7 @@ live_first u us rest none live zero t at =
     subst (λ (x : Transaction). IsLiveAt (u ∷ us) 0 x) is (record { found = rw same refl; here = rw live refl; next = rw same (rw live refl); fewer = rw same (rw live (omega arith)) })
 live_first u us rest none live (suc k) t at =
     let then = rest k t at in
-    let other : same_id u.id t.id ≡ false = same_id-turned t.id u.id (found_apart us u.id t.id t none then.found) in
+    let other : same_id u.id t.id ≡ false = same_id-sym t.id u.id (found_apart us u.id t.id t none then.found) in
     record { found = rw other then.found; here = rw live then.here; next = rw other (rw live then.next); fewer = rw other (rw live (omega (arith, then.fewer))) }
 
 pub live_at : (ts : List Transaction) (i : ℕ) (t : Transaction) → Rise ts → slice_get (filter is_live ts) i ≡ Some t → IsLiveAt ts i t
@@ -70,7 +71,7 @@ live_at (u ∷ us) i t rise at = elim (cases_Bool (is_live u)) [
   | inl live ↦ live_first u us (λ k t at. live_at us k t (rise-rest u us rise) at) (rise-first u us rise) live i t (rw live at at)
   | inr ended ↦
       (let then = live_at us i t (rise-rest u us rise) (rw ended at at) in
-      let other : same_id u.id t.id ≡ false = same_id-turned t.id u.id (found_apart us u.id t.id t (rise-first u us rise) then.found) in
+      let other : same_id u.id t.id ≡ false = same_id-sym t.id u.id (found_apart us u.id t.id t (rise-first u us rise) then.found) in
       record { found = rw other then.found; here = rw ended then.here; next = rw other (rw ended then.next); fewer = rw other (rw ended then.fewer) })
 ]
 

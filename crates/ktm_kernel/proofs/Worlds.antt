@@ -1,7 +1,8 @@
 -- From what an outcome did to what it is for the world that the machine stands for.
-use Rattle.std.proofs.Common.{◌≡◌, ℕ, Bool, true, false, List, [], ◌++◌, length, Option, Some, refl, sym, ◌∙◌, ap, subst, inl, inr, append_assoc}
+use Rattle.std.proofs.Common.{◌≡◌, ℕ, Bool, true, false, not, List, [], ◌∷◌, ◌++◌, length, Option, Some, Result, Ok, Err, IfOk, refl, sym, ◌∙◌, ap, subst, inl, inr, append_assoc}
 use Rattle.std.proofs.lemmas.List.{append-nil}
 use Rattle.std.specs.Prelude.{Contains}
+use Rattle.ktm_base.specs.declared.fault.NoMemory.{NoMemory}
 use Rattle.ktm_base.specs.declared.id.Pid.{Pid}
 use Rattle.ktm_base.specs.declared.refusal.Refusal.TheVariants.{MachineDown}
 use Rattle.ktm_base.specs.Disk.{DiskState}
@@ -14,19 +15,19 @@ use Rattle.ktm_types.specs.declared.command.Line.TheVariants.{Crash}
 use Rattle.ktm_types.specs.declared.event.Event.{Event}
 use Rattle.ktm_types.specs.declared.reply.Reply.{Reply}
 use Rattle.ktm_types.specs.declared.reply.Reply.TheVariants.{Refused, Done}
-use Rattle.ktm_world.specs.Built.{is_built_command}
-use Rattle.ktm_world.specs.Decide.{decide}
+use Rattle.ktm_types.specs.Values.{IsCommand}
+use Rattle.ktm_forms.specs.Built.{is_built_command}
+use Rattle.ktm_world.specs.Decide.{command_tests, decide, refusal_of}
 use Rattle.ktm_world.specs.Logs.{Group, Power, up, down, is_up, as_groups, prefixes_from, possible_by}
-use Rattle.ktm_world.specs.Outcome.{Outcome, apply}
+use Rattle.ktm_world.specs.Outcome.{Outcome, apply, first_refusal}
 use Rattle.ktm_world.specs.Present.{Present}
 use Rattle.ktm_world.specs.Transcript.{Step, answered, interrupted, CallDoes, CrashDoes}
 use Rattle.ktm_world.specs.World.{World, present, extend, decide_tick, power_after, crashed, interrupted_by}
 use Rattle.ktm_world.proofs.Worlds.{step_law, refusal_law}
-use Rattle.ktm_built.specs.Laws.{FallenLaw, LawfulLaw}
+use Rattle.ktm_built.specs.Laws.{StandingLaw}
 use Rattle.ktm_built.specs.Standing.{IsStanding}
 use Rattle.ktm_built.proofs.Decided.{decided_law}
-use Rattle.ktm_built.proofs.Now.{events_law}
-use Rattle.ktm_built.proofs.Worlds.{down_refuses}
+use Rattle.ktm_built.proofs.Outcomes.{events_law}
 use Rattle.ktm_kernel.specs.Stands.{KernelState, Began, Stands, HasFallen, StandsBy, KernelAt, LeavesPossible, DoesLine}
 use Rattle.ktm_kernel.specs.Done.{IsDone, IsCutOff, Ends, fallen}
 use Rattle.ktm_kernel.proofs.Left.{both_apply, both_built, log_is_possible, left_up}
@@ -55,19 +56,19 @@ pub record GoesOn (w : World) (o : Outcome) : Type 0 where
   pub stops : o.stops ≡ true → o.events ≡ []
 
 -- so it is of the outcome of a built command
-pub call_goes_on : LawfulLaw → FallenLaw → (process : Pid) (command : Command) → is_built_command command ≡ true → (w : World) → IsStanding w → GoesOn w (decide (present w) process command)
-call_goes_on lawful fallen process command built w standing = record {
-  stands = lawful.0 w process command built standing;
-  falls = fallen.1 w process command built standing;
-  stops = decided_law.3 (present w) process command built;
+pub call_goes_on : StandingLaw → (process : Pid) (command : Command) → IsCommand command → is_built_command command ≡ true → (w : World) → IsStanding w → GoesOn w (decide (present w) process command)
+call_goes_on law process command is built w standing = record {
+  stands = law.commands w process command is built standing;
+  falls = law.interrupted_commands w process command is built standing;
+  stops = decided_law.stops (present w) process command built;
 }
 
 -- and of that of the passing of time, which records nothing
-pub tick_goes_on : LawfulLaw → FallenLaw → (ms : ℕ) (w : World) → IsStanding w → GoesOn w (decide_tick (present w) ms)
-tick_goes_on lawful fallen ms w standing = record {
-  stands = lawful.1 w ms standing;
-  falls = fallen.4 w ms standing;
-  stops = λ stops. events_law.1 (present w) ms standing.built.now;
+pub tick_goes_on : StandingLaw → (ms : ℕ) (w : World) → IsStanding w → GoesOn w (decide_tick (present w) ms)
+tick_goes_on law ms w standing = record {
+  stands = law.ticks w ms standing;
+  falls = law.interrupted_ticks w ms standing;
+  stops = λ stops. events_law.ticks (present w) ms standing.built.now;
 }
 
 -- ---- a machine that was up
@@ -175,34 +176,44 @@ ended_line f true old new reply before now on keeps cut w at =
     let (power, stands) = up_by w.power old before w refl at on in
     cut_line old new (f (present w)) reply before now w power stands (keeps w stands.standing) (subst (λ x. IsCutOff old (f x) reply new before now) stands.now cut)
 
+-- so it is of each answer
+pub ended_lines : (f : Present → Outcome) (r : Result Reply NoMemory) (is_down : Bool) (old new : KernelState) (before now : Option DiskState) → old.now.machine.is_up ≡ true
+    → ((w : World) → IsStanding w → GoesOn w (f (present w)))
+    → IfOk r (λ reply. Ends is_down old (f old.now) reply new before now) → IfOk r (λ reply. (w : World) → KernelAt old before w → DoesCall w (f (present w)) reply new now)
+ended_lines f (Ok reply) is_down old new before now on keeps ends = ended_line f is_down old new reply before now on keeps ends
+ended_lines f (Err fault) is_down old new before now on keeps ends = tt
+
 -- ---- a machine that was down
 
 -- it says so, and nothing changes
 down_line : (o : Outcome) (k : KernelState) (told : Option DiskState) (w : World) → o.reply ≡ Refused MachineDown → extend w o ≡ w → KernelAt k told w → DoesCall w o (Refused MachineDown) k told
 down_line o k told w says same at = (answered, extend w o, (sym says, refl), subst (λ v. KernelAt k told v) (sym same) at)
 
+down_refuses : (x : Present) (process : Pid) (command : Command) → x.machine.is_up ≡ false → refusal_of x process command ≡ Some MachineDown
+down_refuses x process command off = ap (λ b. first_refusal ((not b, MachineDown) ∷ command_tests x process command)) off
+
 pub down_call : (k : KernelState) (told : Option DiskState) (process : Pid) (command : Command) → k.now.machine.is_up ≡ false → (w : World) → KernelAt k told w → DoesCall w (decide (present w) process command) (Refused MachineDown) k told
 down_call k told process command off w at =
-    let refuses = down_refuses w process command (ap (λ x. x.machine.is_up) (sym (now_is w.power k told w at)) ∙ off) in
-    down_line (decide (present w) process command) k told w (ap (λ (o : Outcome). o.reply) (decided_law.0 (present w) process command MachineDown refuses)) (refusal_law.0 w process command MachineDown refuses) at
+    let refuses = down_refuses (present w) process command (ap (λ x. x.machine.is_up) (sym (now_is w.power k told w at)) ∙ off) in
+    down_line (decide (present w) process command) k told w (ap (λ (o : Outcome). o.reply) (decided_law.refused (present w) process command MachineDown refuses)) (refusal_law.0 w process command MachineDown refuses) at
 
 pub down_tick : (k : KernelState) (told : Option DiskState) (ms : ℕ) → k.now.machine.is_up ≡ false → (w : World) → KernelAt k told w → DoesCall w (decide_tick (present w) ms) (Refused MachineDown) k told
 down_tick k told ms off w at =
     let down : is_up w.power ≡ false = ap (λ x. x.machine.is_up) (sym (now_is w.power k told w at)) ∙ off in
-    down_line (decide_tick (present w) ms) k told w (ap (λ (o : Outcome). o.reply) (decided_law.5 (present w) ms down)) (refusal_law.1 w ms down) at
+    down_line (decide_tick (present w) ms) k told w (ap (λ (o : Outcome). o.reply) (decided_law.no_time (present w) ms down)) (refusal_law.1 w ms down) at
 
 -- ---- a crash
 
 -- a machine whose power goes while nothing is recorded
-pub crash_line : FallenLaw → (k : KernelState) → k.now.machine.is_up ≡ true → (told : Option DiskState) (w : World) → KernelAt k told w → DoesLine w (Some Crash) Done (record k { now = fallen k.now }) told
-crash_line falls k on told w at =
+pub crash_line : StandingLaw → (k : KernelState) → k.now.machine.is_up ≡ true → (told : Option DiskState) (w : World) → KernelAt k told w → DoesLine w (Some Crash) Done (record k { now = fallen k.now }) told
+crash_line law k on told w at =
     let (power, stands) = up_by w.power k told w refl at on in (
       answered,
       crashed w,
       subst (λ p. CrashDoes (is_up p) w answered Done (crashed w)) (sym power) (refl, refl),
       record {
         now = ap fallen stands.now;
-        standing = falls.0 w stands.standing;
+        standing = law.crashes w stands.standing;
         before = stands.before;
         began = began_on k.journal k.journal stands.before w (crashed w) refl refl refl refl stands.began;
         disk = left_up k told w power stands;

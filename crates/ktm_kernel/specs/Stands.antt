@@ -9,7 +9,7 @@ use Rattle.ktm_types.specs.declared.reply.Reply.{Reply}
 use Rattle.ktm_world.specs.Present.{Present}
 use Rattle.ktm_world.specs.Durable.{empty_state, stand, log_applies}
 use Rattle.ktm_world.specs.World.{World, present, possible_logs, interrupted_restart}
-use Rattle.ktm_world.specs.Built.{is_built_log}
+use Rattle.ktm_forms.specs.Built.{is_built_log}
 use Rattle.ktm_world.specs.Logs.{Group, is_up}
 use Rattle.ktm_built.specs.Standing.{IsStanding, IsStandingNow}
 use Rattle.ktm_world.specs.Transcript.{Does, Step}

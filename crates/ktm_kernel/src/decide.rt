@@ -3,27 +3,31 @@ ghost use Rattle.std.specs.Prelude.{◌≡◌, ◌≤◌, ◌∷◌, true, false
 ghost use Rattle.ktm_built.specs.Forms.{ComesTo};
 ghost use Rattle.ktm_built.specs.Standing.{IsBuiltNow, IsStandingNow};
 ghost use Rattle.ktm_event.specs.Kept.{EventsState, Holds};
-ghost use Rattle.ktm_kernel.specs.Decided.{Decides};
+ghost use Rattle.ktm_kernel.specs.Decided.{Decides, DecidesIf};
 ghost use Rattle.ktm_kernel.specs.Memory.{Held, IsRoomy, MaySettle, MemoryState, held, now_of, settled};
 ghost use Rattle.ktm_kernel.specs.Route.{asked_outcome, outcome_of, takes_memory, IsBuiltAsked, IsReadyFor};
 ghost use Rattle.ktm_kernel.specs.declared.route.Routed.TheVariants.{Create};
 ghost use Rattle.ktm_object.specs.Table.{handles_of};
 ghost use Rattle.ktm_types.specs.declared.reply.Reply.TheVariants.{Done};
-ghost use Rattle.ktm_world.specs.Built.{is_built_command};
-ghost use Rattle.ktm_world.specs.Decide.{with_room};
+ghost use Rattle.ktm_forms.specs.Built.{is_built_command};
+ghost use Rattle.ktm_world.specs.Decide.{of_keys, with_room};
 ghost use Rattle.ktm_world.specs.Handles.{object_at};
 ghost use Rattle.ktm_world.specs.Outcome.{Outcome, first_refusal, refuse_or};
 ghost use Rattle.ktm_world.specs.TransactionCalls.{handle_test, information_of};
+ghost use Rattle.ktm_world.specs.Uses.{key_room};
+ghost use Rattle.ktm_types.specs.Values.{IsCommand};
+ghost use Rattle.kv_rm.specs.Calls.{key_outcome};
 
 use crate::memory::Memory;
 use crate::route::Routed;
 use crate::settlement::{Decision, Settlement};
-use ktm_base::{Label, NoMemory, ObjectKind, Pid, Refusal, guid};
+use ktm_base::{Id, Label, NoMemory, ObjectKind, Pid, Refusal, guid};
 use ktm_event::Events;
 use ktm_journal::Journal;
 use ktm_tm::state_of;
 use ktm_types::{Command, Reply, Transaction};
-use kv_rm::Room;
+use kv_rm::KvCall;
+use std::alloc::Global;
 
 /// What the machine is to decide.
 #[derive(Drop)]
@@ -95,59 +99,72 @@ impl Memory {
         Ok(Decision::done(settlement))
     }
 
+    // A call on keys is decided.
+    fn decide_keys(
+        &mut self,
+        journal: &Journal,
+        who: Option<Id>,
+        call: KvCall,
+    ) -> Result<Decision, NoMemory>
+        requires built { IsBuiltNow (now_of journal.now (held self.old)) }
+        ensures ok { IfOk result (λ d. (events : EventsState) → Holds events [] → Decides journal.now (held self.old) (of_keys (now_of journal.now (held self.old)) (key_outcome self.old.keys.keys (key_room (now_of journal.now (held self.old))) who call)) d.reply d.settlement events self.new) }
+        ensures no_memory { OnErr result (held self.new ≡ held self.old) }
+    {
+        let room = self.key_room(journal);
+        Ok(Decision::only(self.keys.call(who, call, room)?))
+    }
+
     // A call whose labels are known is decided by its layer.
     fn decide_routed(
         &mut self,
+        alloc: Global,
         journal: &Journal,
         process: Pid,
         routed: Routed,
         events: &mut Events,
-    ) -> Result<Decision, NoMemory>
+    ) -> Result<Option<Decision>, NoMemory>
         requires up { self.old.is_up ≡ true }
         requires standing { IsStandingNow (now_of journal.now (held self.old)) }
-        requires ready { IsReadyFor (held self.old) process routed }
+        requires ready { IsReadyFor (now_of journal.now (held self.old)) process routed }
         requires empty { Holds events.old [] }
         requires roomy { IsRoomy journal.now events.old }
-        ensures ok { IfOk result (λ d. Decides journal.now (held self.old) (outcome_of (now_of journal.now (held self.old)) process routed) d.reply d.settlement events.new self.new) }
+        ensures ok { IfOk result (λ d. DecidesIf journal.now (held self.old) (outcome_of (now_of journal.now (held self.old)) process routed) d events.new self.new) }
         ensures room { events.new.room ≡ events.old.room }
         ensures no_memory { OnErr result (held self.new ≡ held self.old) }
     {
         match routed {
-            Routed::Create { label, timeout } => self.decide_create(
+            Routed::Create { label, timeout } => Ok(Some(self.decide_create(
                 journal, process, label, timeout,
-            ),
-            Routed::Bind { label, object } => self.decide_handle(
-                journal,
-                Settlement::Bind {
+            )?)),
+            Routed::Bind { label, object } => {
+                let settlement = Settlement::Bind {
                     process,
                     label,
                     object,
-                },
-            ),
+                };
+                Ok(Some(self.decide_handle(journal, settlement)?))
+            }
             Routed::Duplicate {
                 label,
                 from,
                 source,
-            } => self.decide_handle(
-                journal,
-                Settlement::Duplicate {
+            } => {
+                let settlement = Settlement::Duplicate {
                     process,
                     label,
                     from,
                     source,
-                },
-            ),
-            Routed::Commit(t) => self.decide_commit(journal, t, events),
-            Routed::Rollback(t) => Ok(Decision::done(Settlement::Rollback(t))),
-            Routed::Information(t) => Ok(Decision::only(information(journal, &t))),
-            Routed::Close(label) => Ok(Decision::done(Settlement::Close { process, label })),
-            Routed::Exit => Ok(Decision::done(Settlement::Exit(process))),
-            Routed::Keys { who, call } => {
-                let room = Room {
-                    keys: journal.units(),
-                    changes: journal.units(),
                 };
-                Ok(Decision::only(self.keys.call(who, call, room)?))
+                Ok(Some(self.decide_handle(journal, settlement)?))
+            }
+            Routed::Commit(t) => self.decide_commit(journal, t, events),
+            Routed::Rollback(t) => Ok(Some(Decision::done(Settlement::Rollback(t)))),
+            Routed::Information(t) => Ok(Some(Decision::only(information(journal, &t)))),
+            Routed::Close(label) => Ok(Some(Decision::done(Settlement::Close { process, label }))),
+            Routed::Exit => Ok(Some(Decision::done(Settlement::Exit(process)))),
+            Routed::Keys { who, call } => Ok(Some(self.decide_keys(journal, who, call)?)),
+            Routed::Files { who, label, call } => {
+                self.decide_files(alloc, journal, process, who, label, call, events)
             }
         }
     }
@@ -155,47 +172,52 @@ impl Memory {
     // A call is decided.
     fn decide_call(
         &mut self,
+        alloc: Global,
         journal: &Journal,
         process: Pid,
         command: Command,
         events: &mut Events,
-    ) -> Result<Decision, NoMemory>
+    ) -> Result<Option<Decision>, NoMemory>
         requires up { self.old.is_up ≡ true }
+        requires command { IsCommand command }
         requires built { is_built_command command ≡ true }
         requires standing { IsStandingNow (now_of journal.now (held self.old)) }
         requires empty { Holds events.old [] }
         requires roomy { IsRoomy journal.now events.old }
-        ensures ok { IfOk result (λ d. Decides journal.now (held self.old) (with_room (now_of journal.now (held self.old)) process command) d.reply d.settlement events.new self.new) }
+        ensures ok { IfOk result (λ d. DecidesIf journal.now (held self.old) (with_room (now_of journal.now (held self.old)) process command) d events.new self.new) }
         ensures room { events.new.room ≡ events.old.room }
         ensures no_memory { OnErr result (held self.new ≡ held self.old) }
     {
         match self.route(journal, process, command) {
-            Ok(routed) => self.decide_routed(journal, process, routed, events),
-            Err(refusal) => Ok(Decision::only(Reply::Refused(refusal))),
+            Ok(routed) => self.decide_routed(alloc, journal, process, routed, events),
+            Err(refusal) => Ok(Some(Decision::only(Reply::Refused(refusal)))),
         }
     }
 
     /// What is asked is decided: its reply, its events, which are put into the list, and what is left to do once they are
-    /// recorded. Nothing that is recorded changes before that.
+    /// recorded. Nothing that is recorded changes before that. It is not decided where the log has no room for its events.
     pub(crate) fn decide(
         &mut self,
+        alloc: Global,
         journal: &Journal,
         asked: Asked,
         events: &mut Events,
-    ) -> Result<Decision, NoMemory>
+    ) -> Result<Option<Decision>, NoMemory>
         requires up { self.old.is_up ≡ true }
         requires built { IsBuiltAsked asked }
         requires standing { IsStandingNow (now_of journal.now (held self.old)) }
         requires empty { Holds events.old [] }
         requires roomy { IsRoomy journal.now events.old }
-        ensures ok { IfOk result (λ d. Decides journal.now (held self.old) (asked_outcome (now_of journal.now (held self.old)) asked) d.reply d.settlement events.new self.new) }
+        ensures ok { IfOk result (λ d. DecidesIf journal.now (held self.old) (asked_outcome (now_of journal.now (held self.old)) asked) d events.new self.new) }
         ensures room { events.new.room ≡ events.old.room }
         ensures no_memory { OnErr result (held self.new ≡ held self.old) }
         ensures time { takes_memory asked ≡ false → IsOk result }
     {
         match asked {
-            Asked::Call(process, command) => self.decide_call(journal, process, command, events),
-            Asked::Tick(ms) => Ok(Decision::done(Settlement::Tick(ms))),
+            Asked::Call(process, command) => {
+                self.decide_call(alloc, journal, process, command, events)
+            }
+            Asked::Tick(ms) => Ok(Some(Decision::done(Settlement::Tick(ms)))),
         }
     }
 }

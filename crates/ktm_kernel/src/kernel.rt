@@ -5,7 +5,7 @@ ghost use Rattle.ktm_base.specs.Disk.{DeviceCalls, DiskState};
 ghost use Rattle.ktm_base.specs.declared.refusal.Refusal.TheVariants.{MachineDown};
 ghost use Rattle.ktm_types.specs.declared.command.Line.TheVariants.{Crash, Process, Tick};
 ghost use Rattle.ktm_types.specs.declared.reply.Reply.TheVariants.{Refused, Done};
-ghost use Rattle.ktm_world.specs.Built.{is_built_command};
+ghost use Rattle.ktm_forms.specs.Built.{is_built_command};
 ghost use Rattle.ktm_types.specs.Values.{IsCommand};
 ghost use Rattle.ktm_world.specs.Decide.{decide};
 ghost use Rattle.ktm_world.specs.World.{World};
@@ -18,7 +18,7 @@ use crate::memory::Memory;
 use crate::record::record;
 use crate::settlement::Decision;
 use ktm_base::{Disk, NoMemory, Pid, Refusal};
-use ktm_built::{law_of_fallen, law_of_lawful, law_of_now};
+use ktm_built::{law_of_events, law_of_standing};
 use ktm_event::Events;
 use ktm_journal::{AppendFault, Journal};
 use ktm_types::{Command, Reply};
@@ -60,7 +60,7 @@ impl Kernel {
         ensures fallen { self.new ≡ record self.old { now = fallen self.old.now } }
         ensures does { (told : Option DiskState) (w : World) → KernelAt self.old told w → DoesLine w (Some Crash) Done self.new told }
     {
-        law_of_fallen();
+        law_of_standing();
         self.memory.fall();
     }
 
@@ -85,9 +85,8 @@ impl Kernel {
         ensures untouched { IfOk result (λ reply. TouchesNothing (decide self.old.now process command) reply → (D.told disk.new ≡ D.told disk.old) × (D.status disk.new ≡ D.status disk.old)) }
         ensures no_memory { OnErr result ((D.told disk.new ≡ D.told disk.old) × (D.status disk.new ≡ D.status disk.old)) }
     {
-        law_of_lawful();
-        law_of_fallen();
-        law_of_now();
+        law_of_events();
+        law_of_standing();
         if !self.is_up() {
             return Ok(Reply::Refused(Refusal::MachineDown));
         }
@@ -104,9 +103,8 @@ impl Kernel {
         ensures ready { IsReady self.new (D.told disk.new) (D.status disk.new) }
         ensures untouched { (D.told disk.new ≡ D.told disk.old) × (D.status disk.new ≡ D.status disk.old) }
     {
-        law_of_lawful();
-        law_of_fallen();
-        law_of_now();
+        law_of_events();
+        law_of_standing();
         if !self.is_up() {
             return Reply::Refused(Refusal::MachineDown);
         }
@@ -129,9 +127,13 @@ impl Kernel {
         ensures time { takes_memory asked ≡ false → IsOk result }
     {
         self.events.clear();
-        let Decision { reply, settlement } = self
+        let decided = self
             .memory
-            .decide(&self.journal, asked, &mut self.events)?;
+            .decide(self.alloc, &self.journal, asked, &mut self.events)?;
+        let Some(Decision { reply, settlement }) = decided else {
+            self.memory.fall();
+            return Ok(Reply::Refused(Refusal::LogFull));
+        };
         match record(&mut self.journal, disk, &self.events) {
             Ok(()) => {
                 self.memory.settle(settlement);
@@ -141,10 +143,7 @@ impl Kernel {
                 self.memory.fall();
                 Ok(Reply::Refused(Refusal::MachineDown))
             }
-            Err(AppendFault::Full) => {
-                self.memory.fall();
-                Ok(Reply::Refused(Refusal::LogFull))
-            }
+            Err(AppendFault::Full) => unreachable!(),
         }
     }
 }

@@ -1,7 +1,7 @@
 // Laws of when a machine stands for a world.
 ghost use Rattle.ktm_kernel.specs.Stands.{LeftLaw, PowerLaw, FoundLaw};
 
-use ktm_built::law_of_fallen;
+use ktm_built::law_of_standing;
 
 /// Of a disk on which a machine stands for a world, each image that a loss of power may leave stands for the state of a
 /// possible log.
@@ -13,7 +13,7 @@ pub fn law_of_what_is_left()
 pub fn law_of_power()
     ensures { PowerLaw }
 {
-    law_of_fallen();
+    law_of_standing();
 }
 
 /// What a loss of power leaves where a machine that is down has its power back.

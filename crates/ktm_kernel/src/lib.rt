@@ -4,6 +4,7 @@
 
 mod commit;
 mod decide;
+mod files;
 mod kernel;
 mod laws;
 mod memory;

@@ -18,10 +18,10 @@ ghost use Rattle.ktm_kernel.specs.Stands.{IsReady, FoundAt, DoesLine};
 use crate::kernel::Kernel;
 use crate::memory::Memory;
 use ktm_base::{Disk, NoMemory, Refusal};
-use ktm_built::{law_of_bases, law_of_fallen, law_of_opened};
+use ktm_built::{law_of_fresh, law_of_standing};
 use ktm_event::Events;
 use ktm_journal::{AppendFault, Journal, LoadFault, Loaded};
-use ktm_laws::law_of_grammar;
+use ktm_laws::{law_of_good_states, law_of_grammar};
 use ktm_types::{Event, Reply};
 use std::alloc::Global;
 use std::mem::replace;
@@ -37,6 +37,9 @@ fn events_in(buffer: Vec<u8>, journal: &Journal) -> Events
     let room = 8192 * journal.units() as usize + 65536 - 9;
     Events::with_buffer(buffer, room)
 }
+
+// The value ends here: what its parts give back is then proved once for each part, and not within the caller.
+fn let_go<T: Drop>(_value: T) {}
 
 /// A machine that started.
 #[derive(Drop)]
@@ -86,8 +89,9 @@ impl Kernel {
         ensures calls { DeviceCalls (8 * 1024 + 68) (D.status disk.old) (D.status disk.new) (restart_went_down result) }
         ensures few { (units image : ℕ) → Tells (D.told disk.old) (λ s. IsHeaded units image s.seen) → (D.status disk.new).calls ≤ (D.status disk.old).calls + (8 * units + 68) }
     {
-        law_of_bases();
-        law_of_opened();
+        law_of_fresh();
+        law_of_standing();
+        law_of_good_states();
         law_of_grammar();
         let Loaded { journal, state } = match Journal::load(alloc, disk, buffer) {
             Ok(loaded) => loaded,
@@ -113,10 +117,11 @@ impl Kernel {
         }
         let found = state.events();
         let boot = state.boots() + 1;
+        let (files, keys) = state.into_files_and_keys();
         Ok(Restarted {
             kernel: Kernel {
                 alloc,
-                memory: Memory::start(alloc, boot, state.into_keys()),
+                memory: Memory::start(alloc, boot, files, keys),
                 journal,
                 events,
             },
@@ -145,7 +150,7 @@ impl Kernel {
         ensures unwritten { IfOk result (λ reply. IfUnwrittenBy reply ((D.told disk.new ≡ D.told disk.old) × ((D.status disk.new).is_down ≡ false) × ((D.status disk.new).pending ≡ 0) × (self.new ≡ self.old))) }
         ensures no_memory { OnErr result ((D.told disk.new ≡ D.told disk.old) × ((D.status disk.new).is_down ≡ false) × ((D.status disk.new).pending ≡ 0) × (self.new ≡ self.old)) }
     {
-        law_of_fallen();
+        law_of_standing();
         let none = Events::new(self.alloc, 0)?;
         let mut buffer = replace(&mut self.events, none).into_buffer();
         match Kernel::restart(self.alloc, disk, &mut buffer) {
@@ -156,7 +161,15 @@ impl Kernel {
                     in_doubt,
                 },
             ) => {
-                *self = kernel;
+                let Kernel {
+                    memory,
+                    journal,
+                    events: list,
+                    ..
+                } = kernel;
+                let_go(replace(&mut self.memory, memory));
+                self.journal = journal;
+                self.events = list;
                 Ok(Reply::Restarted { events, in_doubt })
             }
             Err(RestartFault::Down) => {

@@ -5,9 +5,11 @@ ghost use Rattle.ktm_types.specs.declared.reply.Reply.TheVariants.{Done};
 
 use ktm_base::{Label, Pid};
 use ktm_types::{Object, Reply, Transaction};
+use txf_calls::Plan;
+use txf_volume::Ready;
 
 /// What is left to do in memory once the events of a command are recorded. It takes no memory.
-#[derive(Clone, Copy)]
+#[derive(Drop)]
 pub(crate) enum Settlement {
     Nothing,
     /// A transaction with the next number begins, and the label is bound to it.
@@ -16,9 +18,16 @@ pub(crate) enum Settlement {
         label: Label,
         timeout: u32,
     },
-    /// The transaction commits: it has ended, and what it set is in the store.
+    /// A plain call changes the files, and the label is bound to the file that it opens.
+    Plain {
+        process: Pid,
+        label: Option<Label>,
+        plan: Plan,
+        ready: Ready,
+    },
+    /// The transaction commits: it has ended, and what it changed and set is committed.
     Commit(Transaction),
-    /// The transaction rolls back: it has ended, and what it set is forgotten.
+    /// The transaction rolls back: it has ended, and what it changed and set is forgotten.
     Rollback(Transaction),
     /// The label is bound to the object.
     Bind {
@@ -33,7 +42,7 @@ pub(crate) enum Settlement {
         from: Pid,
         source: Label,
     },
-    /// The label is unbound, and an active transaction rolls back that has no other handle.
+    /// The label is unbound; an active transaction rolls back that has no other handle, and a file is closed that has none.
     Close {
         process: Pid,
         label: Label,

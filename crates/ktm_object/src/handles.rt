@@ -4,6 +4,7 @@ ghost use Rattle.std.specs.Option.{option_map};
 ghost use Rattle.ktm_world.specs.Handles.{no_handle_left, object_at};
 ghost use Rattle.ktm_world.specs.HandleCalls.{labels_of, without_handle};
 ghost use Rattle.ktm_world.specs.Labels.{with_handle};
+ghost use Rattle.ktm_world.specs.Limits.{most_handles};
 ghost use Rattle.ktm_world.specs.Transactions.{is_of};
 ghost use Rattle.ktm_links.specs.Mapped.{Begins, IsNotBelow};
 ghost use Rattle.ktm_object.specs.Ending.{after, group_bytes, name_in, AreAllEnded, AreEnded, IsInRange};
@@ -146,6 +147,13 @@ impl Handles {
         ensures { result ≡ no_handle_left (handles_of self.now) }
     {
         self.len() >= MOST_HANDLES
+    }
+
+    /// How many handles all processes may still bind.
+    pub fn left(&self) -> u32
+        ensures { result ≡ most_handles - length (handles_of self.now) }
+    {
+        MOST_HANDLES.saturating_sub(self.len()) as u32
     }
 
     /// How many handles can be bound without memory.

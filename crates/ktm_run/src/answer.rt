@@ -3,17 +3,17 @@ ghost use Rattle.std.specs.Prelude.{◌≡◌, ◌<◌, ◌≤◌, true, List, S
 ghost use Rattle.ktm_kernel.specs.Stands.{KernelAt, IsReady};
 ghost use Rattle.ktm_run.specs.Progress.{Answers, Unanswered};
 ghost use Rattle.ktm_run.specs.Script.{Means};
-ghost use Rattle.ktm_world.specs.Built.{is_built_command};
+ghost use Rattle.ktm_forms.specs.Built.{is_built_command};
 ghost use Rattle.ktm_types.specs.Values.{IsCommand};
 ghost use Rattle.ktm_world.specs.World.{World};
 ghost use Rattle.ktm_types.specs.declared.command.Line.{Line};
 ghost use Rattle.ktm_types.specs.declared.command.Line.TheVariants.{Cut, Crash, Restart, Process, Tick};
 
 use ktm_base::{Down, NoMemory, Pid, PowerDisk, Refusal};
+use ktm_forms::is_built;
 use ktm_kernel::{Kernel, law_of_power};
 use ktm_script::{LineFault, read_line};
 use ktm_types::{Command, Line, Reply};
-use ktm_world::is_built;
 use std::alloc::Global;
 
 // The line that the bytes spell, where it is built.

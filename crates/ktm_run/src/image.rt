@@ -36,6 +36,9 @@ fn write_bad_image<K: Sink>(sink: &mut K, offset: u64) -> Result<(), Failed>
     Ok(())
 }
 
+// The value ends here: what its parts give back is then proved once for each part, and not within the caller.
+fn let_go<T: Drop>(_value: T) {}
+
 /// Runs the script on the image.
 pub fn run_image<S: Source, K: Sink, D: PowerDisk>(
     alloc: Global,
@@ -70,5 +73,7 @@ pub fn run_image<S: Source, K: Sink, D: PowerDisk>(
         Err(OpenFault::NoMemory) => return Status::NoMemory,
     };
     law_of_runs();
-    run_script(alloc, &mut kernel, source, sink, disk, &mut kept)
+    let status = run_script(alloc, &mut kernel, source, sink, disk, &mut kept);
+    let_go(kernel);
+    status
 }

@@ -34,7 +34,8 @@ pub fn rollback_refusal(t: &Transaction) -> Option<Refusal>
     refusal(t, may_roll_back(t), Refusal::TransactionRequestNotValid)
 }
 
-fn is_active(t: &Transaction) -> bool
+/// Has nobody asked for the transaction's commit, and has it not ended.
+pub fn is_active(t: &Transaction) -> bool
     ensures { result ≡ is_active t.now }
 {
     match t.phase {

@@ -4,7 +4,7 @@ ghost use Rattle.std.specs.Option.{option_copied};
 ghost use Rattle.ktm_base.specs.declared.id.Id.{Id};
 ghost use Rattle.ktm_types.specs.declared.reply.Reply.TheVariants.{Done};
 ghost use Rattle.ktm_world.specs.KeyCalls.{KeyRoom, is_key_held, keys_with, with_setting};
-ghost use Rattle.ktm_world.specs.Keys.{Own, own_settings, without_own, value_seen, stored_all, store_seen, keys_of};
+ghost use Rattle.ktm_world.specs.Keys.{changes_pending, Own, own_settings, without_own, value_seen, stored_all, store_seen, keys_of};
 ghost use Rattle.ktm_world.specs.Phases.{has_settings};
 ghost use Rattle.kv_rm.specs.Calls.{key_outcome};
 ghost use Rattle.kv_rm.specs.Count.{kind_of, AreCounts, AreFew};
@@ -263,6 +263,13 @@ impl KvRm {
         ensures { result ≡ has_settings (own_settings self.now.keys.own transaction) }
     {
         !settings_of(&self.own, transaction).is_empty()
+    }
+
+    /// How many keys all transactions together have unset.
+    pub fn unset_count(&self) -> u32
+        ensures { result ≡ changes_pending self.now.keys }
+    {
+        self.counts.unsets as u32
     }
 
     /// Takes the memory that a commit of this transaction needs.

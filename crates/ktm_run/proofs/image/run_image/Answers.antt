@@ -68,14 +68,14 @@ returns-in-Err-NoMemory-clause-ends g c = inl (record {
 
 pub returns-clause-ends : goal.returns-clause-ends
 returns-clause-ends g c =
-    let made = c.run_script.ensures in
-    script_ends c.run_script.result _ _ _ c.in-Ok-open_kernel.ensures.opens made.not_usage made.not_image made.not_disk made.not_full
+    let made = c.run_script-status.ensures in
+    script_ends c.run_script-status.result _ _ _ c.in-Ok-open_kernel.ensures.opens made.not_usage made.not_image made.not_disk made.not_full
 
 pub returns-clause-run : goal.returns-clause-run
 returns-clause-run g c = λ base room tells.
     let (stands, fits) = c.in-Ok-open_kernel.ensures.stands base room tells in
-    let made = c.run_script.ensures in
-    run_ended base room _ _ (record { machine = c.in-Ok-open_kernel.kernel; disk = g.D.Disk.told c.open_kernel.new.disk; status = g.D.Disk.status c.open_kernel.new.disk }) c.run_script.new.kernel
-    (g.met.D.Disk.lengths c.run_script.new.disk)
-    stands fits (c.in-Ok-open_kernel.ensures.counts base room tells) (c.law_of_runs.ensures _ _ base room stands) c.run_script.result
+    let made = c.run_script-status.ensures in
+    run_ended base room _ _ (record { machine = c.in-Ok-open_kernel.kernel; disk = g.D.Disk.told c.open_kernel.new.disk; status = g.D.Disk.status c.open_kernel.new.disk }) c.run_script-status.new.kernel
+    (g.met.D.Disk.lengths c.run_script-status.new.disk)
+    stands fits (c.in-Ok-open_kernel.ensures.counts base room tells) (c.law_of_runs.ensures _ _ base room stands) c.run_script-status.result
     made.done made.between made.behind made.within made.not_usage made.not_image made.not_disk made.not_full

@@ -3,4 +3,4 @@ use Rattle.ktm_kernel.proofs.Worlds.{crash_line}
 use Rattle.ktm_kernel.proofs.kernel.Kernel.crash.Goals as goal
 
 pub returns-clause-does : goal.returns-clause-does
-returns-clause-does c = rw (c.fall.ensures, ← c.self.view_is) (crash_line c.law_of_fallen.ensures (record { now = now_of c.self.inside.journal (held c.self.inside.memory); journal = c.self.inside.journal }) (rw (← c.self.view_is) at c.requires))
+returns-clause-does c = rw (c.fall.ensures, ← c.self.view_is) (crash_line c.law_of_standing.ensures (record { now = now_of c.self.inside.journal (held c.self.inside.memory); journal = c.self.inside.journal }) (rw (← c.self.view_is) at c.requires))

@@ -16,12 +16,12 @@ pub returns-in-Some : goal.returns-in-Some
 returns-in-Some c = λ j.
     let is = closed_is (handles_of c.self.inside.handles) c.args.process c.args.label c.in-Some.closed (sym c.in-Some.is ∙ c.close.ensures.closed) in
     c.let_go.ensures.now j
-    ∙ closed_held j (held (record { is_up = c.self.inside.is_up; handles = c.self.inside.handles; tm = c.self.inside.tm; keys = c.self.inside.keys })) c.args.process c.args.label c.in-Some.closed (handles_of c.close.new.self) c.close.ensures.handles is
+    ∙ closed_held j (held (record { is_up = c.self.inside.is_up; handles = c.self.inside.handles; tm = c.self.inside.tm; files = c.self.inside.files; next_node = c.self.inside.next_node; keys = c.self.inside.keys })) c.args.process c.args.label c.in-Some.closed (handles_of c.close.new.self) c.close.ensures.handles is
     ∙ ap (λ m. with_handle_closed (now_of j (held m)) c.args.process c.args.label) c.self.view_is
 
 pub returns-in_default : goal.returns-in_default
 returns-in_default c = λ j.
-    let x = now_of j (held (record { is_up = c.self.inside.is_up; handles = c.self.inside.handles; tm = c.self.inside.tm; keys = c.self.inside.keys })) in
+    let x = now_of j (held (record { is_up = c.self.inside.is_up; handles = c.self.inside.handles; tm = c.self.inside.tm; files = c.self.inside.files; next_node = c.self.inside.next_node; keys = c.self.inside.keys })) in
     ap (λ (hs : List Handle). record x { handles = hs }) c.close.ensures.handles
     ∙ closed_none x c.args.process c.args.label (none_closed (handles_of c.self.inside.handles) c.args.process c.args.label (sym c.in_default.is ∙ c.close.ensures.closed))
     ∙ ap (λ m. with_handle_closed (now_of j (held m)) c.args.process c.args.label) c.self.view_is

@@ -1,29 +1,33 @@
-use Rattle.std.proofs.Common.{refl, ap, sym, ◌∙◌, subst, arith}
+use Rattle.std.proofs.Common.{◌-◌, not, refl, sym, ◌∙◌, ap, subst}
 use Rattle.ktm_event.specs.Kept.{Holds}
-use Rattle.ktm_event.specs.Spelling.{AreSpellableSettings}
-use Rattle.ktm_world.specs.Keys.{OwnSettings, own_settings}
-use Rattle.ktm_built.specs.Forms.{commit_events}
-use Rattle.ktm_kernel.specs.Memory.{held, now_of}
-use Rattle.ktm_kernel.proofs.Decides.{spellable, fits, commit_decided, committing_id}
+use Rattle.ktm_world.specs.Files.{FilesNow}
+use Rattle.ktm_world.specs.Outcome.{is_full}
+use Rattle.txf_volume.specs.Held.{files_of}
+use Rattle.ktm_kernel.specs.Memory.{MemoryState, held, now_of}
+use Rattle.ktm_kernel.proofs.CommitGroups.{can_commit, commit_full, events_of, room_from}
+use Rattle.ktm_kernel.proofs.Decides.{commit_decided}
+use Rattle.ktm_kernel.proofs.Standing.{built}
 use Rattle.ktm_kernel.proofs.memory.Memory.decide_commit.Goals as goal
 
-pub record_settings-requires-clause-id : goal.record_settings-requires-clause-id
-record_settings-requires-clause-id c = committing_id (now_of c.args.journal.now (held c.args.self.now)) c.args.t c.requires.standing c.requires.there
-
-pub record_settings-requires-clause-settings : goal.record_settings-requires-clause-settings
-record_settings-requires-clause-settings c =
-    let own = c.own_settings.ensures ∙ ap (λ k. own_settings k.own c.args.t.id) c.in_ok-reserve.ensures.keys ∙ ap (λ m. own_settings m.keys.keys.own c.args.t.id) c.self.view_is in
-    subst AreSpellableSettings (sym own) (spellable (now_of c.args.journal.now (held c.args.self.now)) c.args.t c.requires.standing c.requires.roomy.most)
-
-pub record_settings-requires-clause-fits : goal.record_settings-requires-clause-fits
-record_settings-requires-clause-fits c =
-    let own = c.own_settings.ensures ∙ ap (λ k. own_settings k.own c.args.t.id) c.in_ok-reserve.ensures.keys ∙ ap (λ m. own_settings m.keys.keys.own c.args.t.id) c.self.view_is in
-    omega (arith, fits (now_of c.args.journal.now (held c.args.self.now)) c.args.t c.own_settings.result.now c.requires.standing c.requires.roomy.most own, c.requires.roomy.room)
+pub returns-then-not-branch-clause-ok : goal.returns-then-not-branch-clause-ok
+returns-then-not-branch-clause-ok c =
+    let x = now_of c.args.journal.now (held c.args.self.now) in
+    let left = c.args.journal.now.log.area.len - c.args.journal.now.log.end in (
+      commit_full x left c.args.t (built x c.requires.standing) c.requires.there
+          (sym c.if-not-branch.true ∙ c.in_ok-record_commit.ensures.full ∙ ap (λ es. not (is_full left es))
+          (ap (λ (f : FilesNow). events_of c.args.t.id f c.reserve.new.self.keys) c.in_ok-prepare_commit.ensures.same
+          ∙ ap (events_of c.args.t.id (files_of c.self.inside.files)) c.in_ok-reserve.ensures.keys ∙ ap (λ (m : MemoryState). events_of c.args.t.id (files_of m.files) m.keys.keys) c.self.view_is)),
+      rw (← c.self.view_is) (rw (c.in_ok-reserve.ensures.keys, c.in_ok-prepare_commit.ensures.same) refl),
+    )
 
 pub returns-clause-ok : goal.returns-clause-ok
 returns-clause-ok c =
-    let own = c.own_settings.ensures ∙ ap (λ k. own_settings k.own c.args.t.id) c.in_ok-reserve.ensures.keys ∙ ap (λ m. own_settings m.keys.keys.own c.args.t.id) c.self.view_is in
-    (commit_decided c.args.journal.now (held c.args.self.now) _ c.args.t c.record_settings.new.events c.requires.standing.built c.requires.there
-    (rw (← c.self.view_is) (rw c.in_ok-reserve.ensures.keys refl))
-    (rw c.in_ok-reserve.ensures.keys c.in_ok-reserve.ensures.room)
-    (subst (λ (settings : OwnSettings). Holds c.record_settings.new.events (commit_events c.args.t.id settings)) own c.record_settings.ensures.holds))
+    let x = now_of c.args.journal.now (held c.args.self.now) in
+    let left = c.args.journal.now.log.area.len - c.args.journal.now.log.end in
+    let same = (ap (λ (f : FilesNow). events_of c.args.t.id f c.reserve.new.self.keys) c.in_ok-prepare_commit.ensures.same
+    ∙ ap (events_of c.args.t.id (files_of c.self.inside.files)) c.in_ok-reserve.ensures.keys ∙ ap (λ (m : MemoryState). events_of c.args.t.id (files_of m.files) m.keys.keys) c.self.view_is) in
+    let room = room_from _ (sym c.if-not-branch.false ∙ c.in_ok-record_commit.ensures.full ∙ ap (λ es. not (is_full left es)) same) in
+    commit_decided c.args.journal.now (held c.args.self.now) _ c.args.t c.record_commit.new.events (built x c.requires.standing) c.requires.there
+    (rw (← c.self.view_is) (rw (c.in_ok-reserve.ensures.keys, c.in_ok-prepare_commit.ensures.same) refl))
+    (can_commit x _ c.args.t (c.in_ok-prepare_commit.ensures.same ∙ ap (λ (m : MemoryState). files_of m.files) c.self.view_is) (c.requires.ready room) c.in_ok-prepare_commit.ensures.ready (rw c.in_ok-reserve.ensures.keys c.in_ok-reserve.ensures.room))
+    (subst (Holds c.record_commit.new.events) same (c.in_ok-record_commit.ensures.recorded c.if-not-branch.false)) room

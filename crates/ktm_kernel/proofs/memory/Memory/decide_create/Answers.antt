@@ -10,6 +10,7 @@ use Rattle.ktm_types.specs.declared.reply.Reply.TheVariants.{Refused}
 use Rattle.ktm_kernel.specs.Memory.{held, now_of}
 use Rattle.ktm_kernel.proofs.Decides.{create_decided, create_says, only_decided}
 use Rattle.ktm_kernel.proofs.Routes.{test_passes, test_refuses}
+use Rattle.ktm_kernel.proofs.Standing.{built}
 use Rattle.ktm_kernel.proofs.memory.Memory.decide_create.Goals as goal
 use Rattle.ktm_kernel.proofs.memory.Memory.decide_create.Goals.{then-is_full-via-then-is_full, then-is_full-via-else-is_full+then-is_full-2}
 
@@ -21,7 +22,7 @@ returns-then-is_full-clause-ok c = λ events holds.
     ] in
     let full = ap (λ m. no_handle_left (handles_of m.handles) || no_transaction_left m.tm.now) (sym c.self.view_is) ∙ passed in
     let x = now_of c.args.journal.now (held c.args.self.now) in
-    rw (c.only.ensures.reply, c.only.ensures.settlement) (only_decided c.args.journal.now c.args.self.now _ (Refused NotEnoughQuota) events c.requires.standing.built
+    rw (c.only.ensures.reply, c.only.ensures.settlement) (only_decided c.args.journal.now c.args.self.now _ (Refused NotEnoughQuota) events (built (now_of c.args.journal.now (held c.args.self.now)) c.requires.standing)
     (test_refuses x _ NotEnoughQuota [] (create_transaction x c.args.process c.args.label c.args.timeout) full) holds)
 
 pub returns-clause-ok : goal.returns-clause-ok
@@ -30,7 +31,7 @@ returns-clause-ok c = λ events holds.
     let transactions = ap (λ m. no_transaction_left m.tm.now) (sym c.self.view_is) ∙ sym c.is_full-else-is_full.ensures ∙ c.if-is_full-2.false in
     let id = c.next_id-id.ensures ∙ ap (λ boot. next_id boot c.reserve.new.self.now) c.in_ok-reserve.ensures.boot ∙ ap (λ now. next_id c.self.inside.tm.boot now) c.in_ok-reserve.ensures.now ∙ ap (λ m. next_id m.tm.boot m.tm.now) c.self.view_is in
     let x = now_of c.args.journal.now (held c.args.self.now) in
-    create_decided c.args.journal.now (held c.args.self.now) _ c.args.process c.args.label c.args.timeout _ events c.requires.standing.built
+    create_decided c.args.journal.now (held c.args.self.now) _ c.args.process c.args.label c.args.timeout _ events (built (now_of c.args.journal.now (held c.args.self.now)) c.requires.standing)
     (create_says c.args.journal.now (held c.args.self.now) c.args.process c.args.label c.args.timeout c.guid.result c.image.result c.next_id-id.result c.guid.ensures c.image.ensures id)
     (rw (← c.self.view_is) (rw (c.in_ok-reserve-2.ensures.entries, c.in_ok-reserve.ensures.boot, c.in_ok-reserve.ensures.now) refl)) (
       c.in_ok-reserve.ensures.room,

@@ -16,7 +16,7 @@ let_go-requires c =
 
 pub loop-closed-preserved : goal.loop-closed-preserved
 loop-closed-preserved c = λ j.
-    let h = held (record { is_up = c.self.inside.is_up; handles = c.self.inside.handles; tm = c.self.inside.tm; keys = c.self.inside.keys }) in
+    let h = held (record { is_up = c.self.inside.is_up; handles = c.self.inside.handles; tm = c.self.inside.tm; files = c.self.inside.files; next_node = c.self.inside.next_node; keys = c.self.inside.keys }) in
     let is = closed_is (handles_of c.self.inside.handles) c.args.process c.in-Some.closed.label c.in-Some.closed
     (first_closed (handles_of c.self.inside.handles) c.args.process c.in-Some.closed (labels_of (handles_of c.exit_next.new.self) c.args.process) c.in-Some.ensures.labels c.in-Some.ensures.closed) in
     exited_one (now_of j h) (now_of j (held c.let_go.new.self)) c.args.process c.in-Some.closed.label
@@ -33,7 +33,7 @@ loop-closed-smaller c =
 
 pub returns : goal.returns
 returns c = λ j.
-    let x = now_of j (held (record { is_up = c.self.inside.is_up; handles = c.self.inside.handles; tm = c.self.inside.tm; keys = c.self.inside.keys })) in
+    let x = now_of j (held (record { is_up = c.self.inside.is_up; handles = c.self.inside.handles; tm = c.self.inside.tm; files = c.self.inside.files; next_node = c.self.inside.next_node; keys = c.self.inside.keys })) in
     ap (λ (t : HandleTable). record x { handles = handles_of t }) c.in_default.ensures.unchanged
     ∙ sym (exited_none x c.args.process c.in_default.ensures.none)
     ∙ ap (λ m. with_process_gone (now_of j (held m)) c.args.process) c.self.view_is

@@ -22,7 +22,7 @@ loop-t-init c =
       few = subst (λ (ts : List Transaction). length (filter is_live ts) ≤ most_live) (sym items) (omega (arith, length-filter is_live c.args.self.now.tm.now.items, c.requires.1));
       ticked = λ j.
           rw (c.advance.ensures.boot, c.advance.ensures.now)
-          (ticked_all (now_of j (held (record { is_up = c.self.inside.is_up; handles = c.self.inside.handles; tm = c.self.inside.tm; keys = c.self.inside.keys }))) c.args.ms (subst (λ m. Rise m.tm.now.items) (sym c.self.view_is) c.requires.0)
+          (ticked_all (now_of j (held (record { is_up = c.self.inside.is_up; handles = c.self.inside.handles; tm = c.self.inside.tm; files = c.self.inside.files; next_node = c.self.inside.next_node; keys = c.self.inside.keys }))) c.args.ms (subst (λ m. Rise m.tm.now.items) (sym c.self.view_is) c.requires.0)
           ∙ ap (λ m. with_tick (now_of j (held m)) c.args.ms) c.self.view_is);
     }
 

@@ -5,8 +5,11 @@ use Rattle.ktm_kernel.proofs.memory.Memory.to_commit.Goals as goal
 
 pub returns-in-Ok : goal.returns-in-Ok
 returns-in-Ok c =
-    let (named, passed) = c.in-Ok.ensures.ok c.args.journal.now in
-    (commit_routed (now_of c.args.journal.now (held c.args.self.now)) c.args.process c.requires c.args.label c.in-Ok.t named passed, named_law (now_of c.args.journal.now (held c.args.self.now)) c.args.process c.args.label c.in-Ok.t named)
+    let x = now_of c.args.journal.now (held c.args.self.now) in
+    let (named, passed) = c.in-Ok.ensures.ok c.args.journal.now in (
+      commit_routed x c.args.process c.requires.up c.args.label c.in-Ok.t named passed,
+      (named_law x c.args.process c.args.label c.in-Ok.t named, c.law_of_files.ensures.commits x c.args.process c.args.label c.in-Ok.t c.requires.standing c.requires.up named passed),
+    )
 
 pub returns-in-Err : goal.returns-in-Err
-returns-in-Err c = commit_refused (now_of c.args.journal.now (held c.args.self.now)) c.args.process c.requires c.args.label c.in-Err.refusal (c.in-Err.ensures.err c.args.journal.now)
+returns-in-Err c = commit_refused (now_of c.args.journal.now (held c.args.self.now)) c.args.process c.requires.up c.args.label c.in-Err.refusal (c.in-Err.ensures.err c.args.journal.now)

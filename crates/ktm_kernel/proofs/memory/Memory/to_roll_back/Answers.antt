@@ -1,7 +1,7 @@
 use Rattle.std.proofs.Common.{sym, ◌∙◌}
 use Rattle.ktm_built.proofs.Forms.{named_law}
 use Rattle.ktm_kernel.specs.Memory.{held, now_of}
-use Rattle.ktm_kernel.proofs.Routes.{rollback_refused, rollback_routed, rollback_unnamed}
+use Rattle.ktm_kernel.proofs.Routes.{rollback_not_ended, rollback_refused, rollback_routed, rollback_unnamed}
 use Rattle.ktm_kernel.proofs.memory.Memory.to_roll_back.Goals as goal
 
 pub returns-in_default : goal.returns-in_default
@@ -13,5 +13,7 @@ returns-in-Some-rollback_refusal c =
 
 pub returns-in-None : goal.returns-in-None
 returns-in-None c =
-    let named = (sym (c.named.ensures c.args.journal.now) ∙ c.in-Some.is) in
-    (rollback_routed (now_of c.args.journal.now (held c.args.self.now)) c.args.process c.requires c.args.label c.in-Some.t named (sym c.rollback_refusal.ensures ∙ c.in-None.is), named_law (now_of c.args.journal.now (held c.args.self.now)) c.args.process c.args.label c.in-Some.t named)
+    let x = now_of c.args.journal.now (held c.args.self.now) in
+    let named = sym (c.named.ensures c.args.journal.now) ∙ c.in-Some.is in
+    let passed = sym c.rollback_refusal.ensures ∙ c.in-None.is in
+    (rollback_routed x c.args.process c.requires c.args.label c.in-Some.t named passed, (named_law x c.args.process c.args.label c.in-Some.t named, rollback_not_ended c.in-Some.t passed))

@@ -7,6 +7,7 @@ use Rattle.ktm_world.specs.Transactions.{is_live, same_id}
 use Rattle.ktm_built.specs.Laws.{LeadsTo}
 use Rattle.ktm_built.proofs.Guids.{guid_law}
 use Rattle.ktm_kernel.specs.Memory.{held, now_of}
+use Rattle.ktm_kernel.proofs.Standing.{kept}
 use Rattle.ktm_kernel.proofs.memory.Memory.with_guid.Goals as goal
 
 -- what was found for the GUID, on this image
@@ -18,7 +19,7 @@ leads n image guid (Some id) same has every = record { has = ap (λ i. guid_of O
 pub returns-in_default : goal.returns-in_default
 returns-in_default c =
     let x = now_of c.args.journal.now (held c.args.self.now) in
-    sym (guid_law x c.args.guid.now c.id_of.result c.requires.course
+    sym (guid_law x c.args.guid.now c.id_of.result (kept x c.requires).sound.course
     (leads c.image.result x.recorded.image c.args.guid.now c.id_of.result c.image.ensures c.id_of.ensures.found c.id_of.ensures.every)
     ∙ ap (option_and_then (λ id. find (λ t. is_live t && same_id t.id id) x.transactions.items)) c.in_default.is)
 
@@ -27,6 +28,6 @@ returns c =
     let x = now_of c.args.journal.now (held c.args.self.now) in
     c.find_live.ensures.first
     ∙ ap (λ m. find (λ t. is_live t && same_id t.id c.in-Some.id) m.tm.now.items) c.self.view_is
-    ∙ sym (guid_law x c.args.guid.now c.id_of.result c.requires.course
+    ∙ sym (guid_law x c.args.guid.now c.id_of.result (kept x c.requires).sound.course
     (leads c.image.result x.recorded.image c.args.guid.now c.id_of.result c.image.ensures c.id_of.ensures.found c.id_of.ensures.every)
     ∙ ap (option_and_then (λ id. find (λ t. is_live t && same_id t.id id) x.transactions.items)) c.in-Some.is)

@@ -1,0 +1,13 @@
+-- Parts of what stands.
+use Rattle.std.proofs.Common.{subst}
+use Rattle.ktm_world.specs.Present.{Present}
+use Rattle.ktm_laws.specs.Kept.{IsKept}
+use Rattle.ktm_built.specs.Standing.{IsBuiltNow, IsStandingNow}
+
+-- what a machine keeps of what is so now
+pub kept : (x : Present) → IsStandingNow x → IsKept x
+kept x standing = subst IsKept standing.is standing.stands.running.now
+
+-- and it has only what built forms make
+pub built : (x : Present) → IsStandingNow x → IsBuiltNow x
+built x standing = subst IsBuiltNow standing.is standing.stands.built.now
