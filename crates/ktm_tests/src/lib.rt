@@ -10,6 +10,12 @@ mod devices;
 #[cfg(test)]
 mod endings;
 #[cfg(test)]
+mod file_events;
+#[cfg(test)]
+mod file_refusals;
+#[cfg(test)]
+mod files;
+#[cfg(test)]
 mod first;
 #[cfg(test)]
 mod full;

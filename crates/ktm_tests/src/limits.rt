@@ -106,6 +106,17 @@ fn keys_in_use(rt: HostRuntime) -> Result<(), Fail> {
     Ok(())
 }
 
+const FILES_PAST_HANDLES: &str =
+    r#"p1 CreateFile h4097 "\a" r - CREATE_NEW => ERROR_NOT_ENOUGH_QUOTA
+p1 CreateDirectory "\a" => ok
+p1 CreateFile h4097 "\a" r - CREATE_NEW => ERROR_FILE_EXISTS
+p1 CloseHandle h1 => ok
+p1 CreateTransaction h4097 0 => ok 00000001-0001-0001-0000-000000001001
+p1 CreateFileTransacted h1 "\b" r - CREATE_NEW h4097 => ERROR_NOT_ENOUGH_QUOTA
+p1 CreateDirectoryTransacted "\b" h4097 => ok
+p1 CloseHandle h2 => ok
+p1 CreateFileTransacted h1 "\c" r - CREATE_NEW h4097 => ok"#;
+
 #[test]
 fn handles(rt: HostRuntime) -> Result<(), Fail> {
     let alloc = rt.alloc();
@@ -115,6 +126,7 @@ fn handles(rt: HostRuntime) -> Result<(), Fail> {
         commit(alloc, &mut transcript, number)?;
     }
     create_past_quota(alloc, &mut transcript, 4097)?;
+    transcript.add_all(FILES_PAST_HANDLES)?;
     follow(&rt, alloc, &transcript, small_image(alloc)?)?;
     Ok(())
 }

@@ -14,6 +14,20 @@ fn put_line(text: &mut Vec<u8>, line: &str) -> Result<(), NoMemory> {
     Ok(())
 }
 
+// A line, in which `^N X` at the end stands for N times X.
+fn put_long_line(text: &mut Vec<u8>, line: &str) -> Result<(), NoMemory> {
+    let Some((front, back)) = line.split_once('^') else {
+        return put_line(text, line);
+    };
+    text.extend_from_slice(front.as_bytes())?;
+    let (count, repeated) = back.split_once(' ').unwrap_or((back, ""));
+    for _ in 0..count.parse::<u32>().unwrap_or(0) {
+        text.extend_from_slice(repeated.as_bytes())?;
+    }
+    text.push(b'\n')?;
+    Ok(())
+}
+
 impl Transcript {
     pub fn new(alloc: Global) -> Self {
         Transcript {
@@ -22,9 +36,9 @@ impl Transcript {
         }
     }
 
-    /// Adds a line and its reply.
+    /// Adds a line and its reply. In the line `^N X` at the end stands for N times X.
     pub fn add(&mut self, line: &str, reply: &str) -> Result<(), NoMemory> {
-        put_line(&mut self.script, line)?;
+        put_long_line(&mut self.script, line)?;
         put_line(&mut self.replies, reply)
     }
 
