@@ -1,6 +1,7 @@
 -- Names, paths and patterns: which texts they are, and which names a pattern matches.
 use Rattle.std.specs.Prelude.{◌≡◌, ◌≢◌, ℕ, ◌-◌, ◌<◌, ◌≤◌, nat_le, ◌==◌, Bool, true, false, not, ◌&&◌, ◌||◌, List, [], ◌∷◌, ◌++◌, length, map, slice_index, All, codes, if◌then◌else◌}
 use Rattle.std.specs.List.{AllPass, join_with_byte, list_any}
+use Rattle.ktm_base.specs.declared.limits.TheConstants.{MOST_NAME_BYTES, MOST_PARTS}
 
 -- the byte with a to z mapped onto A to Z
 unfoldable pub folded_byte : ℕ → ℕ
@@ -37,7 +38,7 @@ last_byte name = slice_index name (length name - 1)
 -- a name: 1 to 255 characters of names, of which the last is neither a space nor a dot
 pub record IsName (name : List ℕ) : Type 0 where
   pub some : 1 ≤ length name
-  pub few : length name ≤ 255
+  pub few : length name ≤ MOST_NAME_BYTES
   pub characters : AllPass is_name_byte name
   pub no_space : last_byte name ≢ 0x20
   pub no_dot : last_byte name ≢ 0x2E
@@ -48,19 +49,19 @@ path_text names = backslash ∷ join_with_byte backslash names
 
 -- the text is the path of these names, 32 at most; that of no name is the root
 pub record IsPath (names : List (List ℕ)) (text : List ℕ) : Type 0 where
-  pub few : length names ≤ 32
+  pub few : length names ≤ MOST_PARTS
   pub each : All IsName names
   pub spelled : text ≡ path_text names
 
 -- the last part of a pattern: 1 to 255 characters of names, stars and question marks
 pub record IsLastPart (last : List ℕ) : Type 0 where
   pub some : 1 ≤ length last
-  pub few : length last ≤ 255
+  pub few : length last ≤ MOST_NAME_BYTES
   pub characters : AllPass is_pattern_byte last
 
 -- the text is the pattern of this directory and this last part, which make 32 parts at most
 pub record IsPattern (directory : List (List ℕ)) (last : List ℕ) (text : List ℕ) : Type 0 where
-  pub few : length directory < 32
+  pub few : length directory < MOST_PARTS
   pub each : All IsName directory
   pub ending : IsLastPart last
   pub spelled : text ≡ path_text (directory ++ last ∷ [])

@@ -1,5 +1,6 @@
 // A disk that loses power.
 ghost use Rattle.std.specs.Prelude.{◌≡◌, ℕ, ◌+◌, ◌<◌, ◌≤◌, Option, length, slice_range, IfOk, OnOk, OnErr, IsTrue, is_err, is_ok, if◌then◌else◌, false};
+ghost use Rattle.ktm_base.specs.declared.limits.TheConstants.{MOST_PENDING};
 ghost use Rattle.ktm_base.specs.Told.{IfTold, Goes};
 ghost use Rattle.ktm_base.specs.Disk.{DiskState, DiskStatus, HasLengths, Wrote, WriteRefused, Synced, Grew, GrowthRefused, DeviceCall};
 
@@ -32,7 +33,7 @@ pub trait Disk {
     /// Writes over what is there. Until a sync a loss of power may leave anything in the range.
     fn write_at(&mut self, at: u64, bytes: &[u8]) -> Result<(), Down>
         requires within { IfTold (told self.old) (λ s. at + length bytes.now ≤ length s.seen) }
-        requires room { (status self.old).pending < 64 }
+        requires room { (status self.old).pending < MOST_PENDING }
         ensures ok { OnOk result (Goes (Wrote at bytes.now) (told self.old) (told self.new)) }
         ensures err { OnErr result ((status self.old).is_down ≡ false → Goes (WriteRefused at (length bytes.now)) (told self.old) (told self.new)) }
         ensures frozen { IsTrue (status self.old).is_down → told self.new ≡ told self.old }

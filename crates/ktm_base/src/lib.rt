@@ -9,6 +9,7 @@ mod fault;
 mod guids;
 mod id;
 mod laws;
+mod limits;
 mod lists;
 mod names;
 mod notify;
@@ -27,7 +28,12 @@ pub use laws::{
     law_of_two_writes, law_of_what_is_safe, law_of_what_is_seen, law_of_write,
     law_of_write_refused,
 };
-pub use lists::{Bytes, PageList, Text, TextList};
+pub use limits::{
+    END_OF_NODES, LEAST_UNITS, MOST_AT_ONCE, MOST_HANDLES, MOST_INFORMATION_BYTES, MOST_KEY_BYTES,
+    MOST_LINE_BYTES, MOST_LIVE, MOST_NAME_BYTES, MOST_NUMBER, MOST_PARTS, MOST_PENDING,
+    MOST_PROCESS, MOST_SCRIPT_BYTES, MOST_UNITS, MOST_VALUE_BYTES, NEW_UNITS, UNIT_BYTES,
+};
+pub use lists::{Bytes, Items, PageList, Text, TextList};
 pub use names::fold;
 pub use notify::Notify;
 pub use power::{PowerCall, PowerDisk};

@@ -3,6 +3,7 @@ use Rattle.std.proofs.Common.{◌≡◌, ℕ, ◌&&◌, ◌||◌, ◌==◌, not,
 use Rattle.std.proofs.lemmas.Bool.{and_from, and_parts, eq-eqb, leb-true, not-true, true≢false}
 use Rattle.std.proofs.lemmas.List.Elements.{All-from_recursion}
 use Rattle.std.specs.List.{list_all}
+use Rattle.ktm_base.specs.declared.limits.TheConstants.{MOST_NUMBER}
 use Rattle.ktm_base.specs.declared.id.Id.{Id}
 use Rattle.ktm_base.specs.declared.id.Label.{Label}
 use Rattle.ktm_base.specs.declared.id.Pid.{Pid}
@@ -20,7 +21,6 @@ use Rattle.ktm_world.specs.Keys.{OwnSettings}
 use Rattle.ktm_world.specs.Labels.{transaction_named, transaction_tests}
 use Rattle.ktm_world.specs.Lawful.{undecided}
 use Rattle.ktm_world.specs.Laws.{StepLaw}
-use Rattle.ktm_world.specs.Limits.{most_number}
 use Rattle.ktm_world.specs.Outcome.{Outcome, apply, first_refusal, is_full, refuse_or}
 use Rattle.ktm_world.specs.Present.{Present}
 use Rattle.ktm_world.specs.TransactionCalls.{commit_transaction}
@@ -58,7 +58,7 @@ spelled_commit id (c ∷ changes) (s ∷ settings) named cs ss =
 counted_id : (boot last : ℕ) (id : Id) → is_counted boot last id ≡ true → IsSpellableId id
 counted_id boot last id counted =
     let most = and_parts _ (nat_lt id.boot boot || nat_le id.number last) counted in
-    let number = and_parts _ (nat_le id.number most_number) most.0 in
+    let number = and_parts _ (nat_le id.number MOST_NUMBER) most.0 in
     let from = and_parts (nat_le 1 id.boot && nat_le id.boot boot) (nat_le 1 id.number) number.0 in
     record { boot_from = leb-true 1 id.boot (and_parts (nat_le 1 id.boot) (nat_le id.boot boot) from.0).0; number_from = leb-true 1 id.number from.1 }
 

@@ -1,5 +1,6 @@
 -- What is in use of the files of a world that stands, and how far versions are counted.
 use Rattle.std.proofs.Common.{◌≡◌, ◌≤◌, ◌∙◌, ap, subst, arith}
+use Rattle.ktm_base.specs.declared.limits.TheConstants.{MOST_UNITS}
 use Rattle.ktm_base.specs.declared.id.Pid.{Pid}
 use Rattle.ktm_types.specs.declared.command.Command.{Command}
 use Rattle.ktm_world.specs.Committed.{version_of}
@@ -20,14 +21,14 @@ use Rattle.ktm_built.specs.Standing.{IsStanding}
 use Rattle.ktm_built.proofs.Versions.{counted_works}
 
 -- no event changes the units of the image
-pub units_now : (w : World) → IsRunning w → w.base.units ≤ 1024 → (present w).recorded.units ≤ 1024
+pub units_now : (w : World) → IsRunning w → w.base.units ≤ MOST_UNITS → (present w).recorded.units ≤ MOST_UNITS
 units_now w run small =
     let same = stand-units w.base w.log in
     let comes = ap (λ (s : Durable). s.units) run.comes_to in
     omega (arith, same, comes)
 
 -- what is in use can be counted, since no limit is passed
-counted_now : (w : World) → IsRunning w → w.base.units ≤ 1024 → CanBeCounted (present w).files
+counted_now : (w : World) → IsRunning w → w.base.units ≤ MOST_UNITS → CanBeCounted (present w).files
 unfolding changes_waiting
 counted_now w run small =
     let fits = fits-within (present w) run.now.within in

@@ -4,11 +4,11 @@ use Rattle.std.specs.Prelude.{bytes_eq, find, option_and_then}
 use Rattle.std.specs.List.{AllByRecursion, list_all}
 use Rattle.std.proofs.lemmas.Bool.{cases_Bool, and_parts, and_right, both_ways, leb-true}
 use Rattle.std.proofs.lemmas.Slice.Eq.{bytes_eq-Decides}
+use Rattle.ktm_base.specs.declared.limits.TheConstants.{MOST_NUMBER}
 use Rattle.ktm_base.specs.declared.id.Id.{Id}
 use Rattle.ktm_base.specs.declared.id.ObjectKind.{ObjectKind}
 use Rattle.ktm_base.specs.Guid.{IsId, guid_of}
 use Rattle.ktm_types.specs.declared.object.Transaction.{Transaction}
-use Rattle.ktm_world.specs.Limits.{most_number}
 use Rattle.ktm_world.specs.Transactions.{same_id, is_of, is_live}
 use Rattle.ktm_laws.specs.SoundCourse.{is_counted}
 use Rattle.ktm_built.specs.Laws.{GuidLaw, LeadsTo}
@@ -51,7 +51,7 @@ find_of ts None = none ts
 pub counted_id : (boots last : ℕ) (id : Id) → boots < 2 ^ 32 → is_counted boots last id ≡ true → IsId id
 counted_id boots last id fits counted =
     let all = and_parts _ (nat_lt id.boot boots || nat_le id.number last) counted in
-    let most = and_parts _ (nat_le id.number most_number) all.0 in
+    let most = and_parts _ (nat_le id.number MOST_NUMBER) all.0 in
     let from = and_parts _ (nat_le 1 id.number) most.0 in
     let boot = and_parts (nat_le 1 id.boot) (nat_le id.boot boots) from.0 in
     record {

@@ -1,6 +1,7 @@
 -- What is so in the world that a restart opens.
 use Rattle.std.proofs.Common.{◌≡◌, ℕ, ◌+◌, ◌-◌, ◌≤◌, true, List, [], ◌∷◌, ◌++◌, length, refl, sym, ◌∙◌, ap, subst, arith}
 use Rattle.std.proofs.lemmas.List.Elements.{All-nil}
+use Rattle.ktm_base.specs.declared.limits.TheConstants.{MOST_UNITS}
 use Rattle.ktm_types.specs.Sizes.{frame_size, log_size}
 use Rattle.ktm_forms.specs.Built.{built_state, is_built_log, IsBuiltState}
 use Rattle.ktm_world.specs.Durable.{Durable, stand}
@@ -48,7 +49,7 @@ opened_now : (base : Durable) (room : ℕ) (log : List Group) → IsBuiltState (
 opened_now base room log state = subst IsBuiltNow (sym (opened_is base room log state)) (fresh_now (stand base log) _ state)
 
 -- the world stands, where it is one of a run
-pub stands_opened : SpellingLaw → (base : Durable) (room : ℕ) (log : List Group) → IsBuiltState base → base.units ≤ 1024 → is_built_log log ≡ true → IsBuiltState (stand base log) → IsRunning (opened base room log)
+pub stands_opened : SpellingLaw → (base : Durable) (room : ℕ) (log : List Group) → IsBuiltState base → base.units ≤ MOST_UNITS → is_built_log log ≡ true → IsBuiltState (stand base log) → IsRunning (opened base room log)
     → IsStanding (opened base room log)
 stands_opened spelling base room log state small built its run =
     let s = stand base log in

@@ -1,6 +1,7 @@
 -- A machine that starts from a state of files and keys alone stands.
 use Rattle.std.proofs.Common.{◌≡◌, ℕ, ◌+◌, ◌-◌, ◌≤◌, ◌<◌, ◌^◌, [], ◌∷◌, refl, ◌∙◌, ap, arith}
 use Rattle.std.proofs.lemmas.List.Sums.{sum_by-cons}
+use Rattle.ktm_base.specs.declared.limits.TheConstants.{MOST_UNITS}
 use Rattle.ktm_types.specs.Sizes.{frame_size, log_size}
 use Rattle.ktm_forms.specs.Built.{IsBuiltState}
 use Rattle.ktm_forms.proofs.BuiltStates.{built_stand}
@@ -21,7 +22,7 @@ use Rattle.ktm_built.proofs.Opened.{opened_is, stands_opened}
 
 module _ (states : GoodStatesLaw) (own_groups : OwnGroupLaw) (worlds : SoundWorldsLaw) (agrees : AgreeingLaw) (limits : LimitsLaw) (notes : NotesLaw) (spelling : SpellingLaw) where
   -- the world has a log with as much room as the group of the restart takes, and is left
-  fresh_stands : (s : Durable) (left : ℕ) → IsGoodState s → IsBuiltState s → s.units ≤ 1024 → s.events + left + frame_size (own_group s) < 2 ^ 63 → s.boots + left + frame_size (own_group s) < 2 ^ 32 → IsStandingNow (fresh s left)
+  fresh_stands : (s : Durable) (left : ℕ) → IsGoodState s → IsBuiltState s → s.units ≤ MOST_UNITS → s.events + left + frame_size (own_group s) < 2 ^ 63 → s.boots + left + frame_size (own_group s) < 2 ^ 32 → IsStandingNow (fresh s left)
   fresh_stands s left good state small events boots =
       let frame = frame_size (own_group s) in
       let one = sum_by-cons frame_size (own_group s) [] in

@@ -1,5 +1,6 @@
 -- Laws of worlds that have only what built forms make.
 use Rattle.std.specs.Prelude.{◌≡◌, ℕ, ◌+◌, ◌-◌, ◌^◌, ◌<◌, ◌≤◌, ◌&&◌, true, false, List, [], filter, find, fold, IfSome, Option, Some, None, option_and_then}
+use Rattle.ktm_base.specs.declared.limits.TheConstants.{MOST_UNITS}
 use Rattle.ktm_base.specs.declared.id.Id.{Id}
 use Rattle.ktm_base.specs.Guid.{IsId, guid_of}
 use Rattle.ktm_base.specs.declared.id.Label.{Label}
@@ -139,7 +140,7 @@ pub record StandingLaw : Type 0 where
   -- a restart found a full log
   pub full_restarts : (w : World) (log : List Group) → Finds w log true → IsStanding w → IsStanding (found_full w log)
   -- a restart opened a world, from a good state of files and keys alone, and a log of built groups that applies, with room for what it records
-  pub restarts : (base : Durable) (room : ℕ) (log : List Group) → IsGoodState base → IsBuiltState base → base.units ≤ 1024 → IsRoomy base room → is_log_grammatical log ≡ true → is_built_log log ≡ true → log_applies base log ≡ true
+  pub restarts : (base : Durable) (room : ℕ) (log : List Group) → IsGoodState base → IsBuiltState base → base.units ≤ MOST_UNITS → IsRoomy base room → is_log_grammatical log ≡ true → is_built_log log ≡ true → log_applies base log ≡ true
       → is_full (room - log_size log) (own_group (stand base log)) ≡ false → IsStanding (opened base room log)
   -- what is so now stands, too
   pub commands_now : (x : Present) (process : Pid) (command : Command) → IsCommand command → is_built_command command ≡ true → IsStandingNow x → IsStandingNow (apply x (decide x process command))
@@ -149,4 +150,4 @@ pub record StandingLaw : Type 0 where
 pub record FreshLaw : Type 0 where
   pub opens : (base : Durable) (room : ℕ) (log : List Group) → IsBuiltState base → is_built_log log ≡ true
       → let s = stand base log in present (opened base room log) ≡ fresh s (room - log_size log - frame_size (own_group s))
-  pub stands : (s : Durable) (left : ℕ) → IsGoodState s → IsBuiltState s → s.units ≤ 1024 → s.events + left + frame_size (own_group s) < 2 ^ 63 → s.boots + left + frame_size (own_group s) < 2 ^ 32 → IsStandingNow (fresh s left)
+  pub stands : (s : Durable) (left : ℕ) → IsGoodState s → IsBuiltState s → s.units ≤ MOST_UNITS → s.events + left + frame_size (own_group s) < 2 ^ 63 → s.boots + left + frame_size (own_group s) < 2 ^ 32 → IsStandingNow (fresh s left)

@@ -1,6 +1,7 @@
 -- Worlds that have only what built forms make: transactions, files and keys.
 use Rattle.std.specs.Prelude.{◌≡◌, ℕ, ◌+◌, ◌≤◌, ◌||◌, not, Bool, true, List, [], length, sum_by}
 use Rattle.std.specs.List.{list_all}
+use Rattle.ktm_base.specs.declared.limits.TheConstants.{MOST_UNITS}
 use Rattle.ktm_types.specs.Sizes.{log_size}
 use Rattle.ktm_types.specs.declared.object.Transaction.{Transaction}
 use Rattle.ktm_forms.specs.Built.{IsBuiltState, is_built_log}
@@ -60,7 +61,7 @@ pub record IsStanding (w : World) : Type 0 where
   -- the keys that transactions have set are texts
   pub texts : AreTexts (present w)
   -- the image has a size that there is
-  pub small : w.base.units ≤ 1024
+  pub small : w.base.units ≤ MOST_UNITS
   -- what was committed is in the log
   pub counted : changes_committed w.works ≤ log_size w.log
   -- the versions of files are counted from the restart

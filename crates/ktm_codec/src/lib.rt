@@ -13,7 +13,7 @@ pub use guid::{law_of_guids, put_guid, read_guid};
 pub use hex::{law_of_hex, put_hex, put_hex_or_dash, read_hex_or_dash};
 pub use little_endian::{
     bytes_at, law_of_spellings, put_bytes, put_text, put_u8, put_u16, put_u32, put_u64, put_value,
-    text_at, u8_at, u16_at, u32_at, u64_at, value_at,
+    text_at, u8_at, u16_at, u16_in, u32_at, u32_in, u64_at, value_at,
 };
 pub use number::{law_of_numbers, put_number, read_last_number, read_number};
 pub use quoted::{law_of_quoted, put_quoted, read_quoted};

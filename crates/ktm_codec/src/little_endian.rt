@@ -1,9 +1,26 @@
 // Numbers with the least byte first, and bytes behind their length.
-ghost use Rattle.std.specs.Prelude.{◌≡◌, ◌+◌, ◌^◌, ◌<◌, ◌≤◌, length, vec_len, vec_capacity, option_map};
+ghost use Rattle.std.specs.Prelude.{◌≡◌, ◌+◌, ◌^◌, ◌<◌, ◌≤◌, drop, length, take, vec_len, vec_capacity, option_map};
+ghost use Rattle.std.specs.Int.{from_le_bytes, w16, w32};
 ghost use Rattle.ktm_base.specs.Grammar.{IsU8, IsU16, IsU32, IsU64, IsTextOf, IsValueOf, IsBytesOf};
 ghost use Rattle.ktm_codec.specs.Spans.{Adds, OneSpelling, Reads, Unambiguous};
 
-// Each function that reads answers what is spelled from a place of the bytes on, and the place behind it.
+/// The number of the two bytes at a place that is there.
+pub fn u16_in(bytes: &[u8], at: usize) -> u16
+    requires { at + 2 ≤ length bytes.now }
+    ensures { result ≡ from_le_bytes w16 (take 2 (drop at bytes.now)) }
+{
+    u16::from_le_bytes([bytes[at], bytes[at + 1]])
+}
+
+/// The number of the four bytes at a place that is there.
+pub fn u32_in(bytes: &[u8], at: usize) -> u32
+    requires { at + 4 ≤ length bytes.now }
+    ensures { result ≡ from_le_bytes w32 (take 4 (drop at bytes.now)) }
+{
+    u32::from_le_bytes([bytes[at], bytes[at + 1], bytes[at + 2], bytes[at + 3]])
+}
+
+// Each function that reads below answers what is spelled from a place of the bytes on, and the place behind it.
 
 /// The number of one byte at a place, and the place behind it.
 pub fn u8_at(bytes: &[u8], at: usize) -> Option<(u8, usize)>

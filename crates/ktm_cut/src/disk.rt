@@ -1,5 +1,6 @@
 // The disk over a block.
 ghost use Rattle.std.specs.Prelude.{◌≡◌, ◌⊎◌, ℕ, ◌+◌, ◌<◌, ◌≤◌, [], Some, None, false, Option, length, slice_range, IfOk, OnOk, OnErr, IsTrue, is_err, is_ok, if◌then◌else◌, vec_capacity};
+ghost use Rattle.ktm_base.specs.declared.limits.TheConstants.{MOST_PENDING};
 ghost use Rattle.ktm_base.specs.Count.{Rose};
 ghost use Rattle.ktm_base.specs.Stream.{Faults};
 ghost use Rattle.ktm_base.specs.Told.{IfTold, Goes};
@@ -11,7 +12,7 @@ ghost use Rattle.ktm_cut.specs.Told.{IsLengthKnown, length_at_sync};
 
 use crate::settle::settle;
 use crate::switch::Switch;
-use ktm_base::{Block, Disk, Down, Failed, NoMemory, PowerCall, PowerDisk};
+use ktm_base::{Block, Disk, Down, Failed, MOST_PENDING, NoMemory, PowerCall, PowerDisk};
 use std::alloc::Global;
 
 /// A disk over a block device.
@@ -24,7 +25,7 @@ pub struct CutDisk<B: Block> {
     grown_from: Option<u64>,
     // the greatest length asked for since the last sync
     asked: u64,
-    ghost has_room: { 64 ≤ vec_capacity dirty },
+    ghost has_room: { MOST_PENDING ≤ vec_capacity dirty },
     ghost is_length_known: { IsLengthKnown grown_from asked (B.contents block) },
 }
 
@@ -71,7 +72,7 @@ impl<B: Block> Disk for CutDisk<B> {
 
     fn write_at(&mut self, at: u64, bytes: &[u8]) -> Result<(), Down>
         requires within { IfTold (told_by self.old) (λ s. at + length bytes.now ≤ length s.seen) }
-        requires room { (status_of self.old).pending < 64 }
+        requires room { (status_of self.old).pending < MOST_PENDING }
         ensures ok { OnOk result (Goes (Wrote at bytes.now) (told_by self.old) (told_by self.new)) }
         ensures err { OnErr result ((status_of self.old).is_down ≡ false → Goes (WriteRefused at (length bytes.now)) (told_by self.old) (told_by self.new)) }
         ensures frozen { IsTrue (status_of self.old).is_down → told_by self.new ≡ told_by self.old }
@@ -258,7 +259,7 @@ impl<B: Block + Drop> CutDisk<B> {
         Ok(CutDisk {
             block,
             switch: Switch::new(alloc),
-            dirty: Vec::with_capacity(alloc, 64)?,
+            dirty: Vec::with_capacity(alloc, MOST_PENDING)?,
             grown_from: None,
             asked: 0,
         })

@@ -3,13 +3,16 @@ ghost use Rattle.std.specs.Prelude.{◌≡◌};
 
 use ktm_base::NoMemory as OutOfMemory;
 use std::alloc::{AllocError, AllocFailed};
+use thiserror::Error;
 
 /// Why no event was read.
-#[derive(Clone, Copy, Debug, PartialEq, Eq)]
+#[derive(Clone, Copy, Debug, PartialEq, Eq, Error)]
 pub enum EventFault {
     /// The bytes do not spell one.
+    #[error("not an event")]
     NotAnEvent,
     /// Memory was wanted and not to be had.
+    #[error("out of memory")]
     NoMemory,
 }
 

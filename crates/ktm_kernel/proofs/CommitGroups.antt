@@ -8,7 +8,7 @@ use Rattle.ktm_event.specs.Spelling.{IsSpellableEvent}
 use Rattle.ktm_world.specs.Logs.{Group}
 use Rattle.ktm_event.specs.Work.{changes_of as recorded_changes}
 use Rattle.ktm_event.specs.declared.work.FileBytes.{FileBytes}
-use Rattle.ktm_forms.specs.Commits.{commit_events}
+use Rattle.ktm_forms.specs.Commits.{commit_events, parts_events}
 use Rattle.ktm_types.specs.declared.change.Change.{Change}
 use Rattle.ktm_types.specs.declared.event.Event.{Event}
 use Rattle.ktm_types.specs.declared.event.Event.TheVariants.{Single}
@@ -29,7 +29,6 @@ use Rattle.ktm_laws.specs.Reservations.{files_committed}
 use Rattle.txf_volume.specs.Commit.{AreUnopened, AreVersionsFew, LeavesOthers, MayCommit}
 use Rattle.txf_volume.specs.Held.{files_of}
 use Rattle.txf_volume.specs.Writes.{CanBeCounted}
-use Rattle.ktm_kernel.specs.Decided.{parts_events}
 use Rattle.ktm_kernel.specs.Memory.{CanCommit, MemoryState}
 
 -- ---- which group

@@ -1,5 +1,5 @@
 -- Decisions of the layers.
-use Rattle.std.proofs.Common.{◌≡◌, ℕ, ◌+◌, ◌-◌, true, false, List, [], Option, Some, None, is_some, Result, Ok, Err, IfOk, refl, sym, ◌∙◌, ap, subst, arith}
+use Rattle.std.proofs.Common.{◌≡◌, ℕ, ◌+◌, ◌-◌, true, false, List, [], Option, Some, None, is_some, refl, sym, ◌∙◌, ap, subst, arith}
 use Rattle.ktm_base.specs.declared.id.Id.{Id}
 use Rattle.ktm_base.specs.declared.id.Label.{Label}
 use Rattle.ktm_base.specs.declared.id.ObjectKind.{ObjectKind}
@@ -37,10 +37,6 @@ use Rattle.ktm_kernel.specs.Decided.{Decides}
 use Rattle.ktm_laws.proofs.NoMore.{fits-within}
 use Rattle.ktm_kernel.proofs.Standing.{built, kept}
 use Rattle.ktm_kernel.specs.Memory.{CanCommit, Held, MemoryState, MaySettle, appended, held, now_of, settled, with_bound_to}
-
-pub IfOk-map : {T E : Type 0} (r : Result T E) (P Q : T → Type 0) → ((x : T) → P x → Q x) → IfOk r P → IfOk r Q
-IfOk-map (Ok x) P Q f p = f x p
-IfOk-map (Err e) P Q f p = p
 
 -- no events change nothing of the journal
 pub nothing_appended : (j : JournalState) (h : Held) → now_of (appended j []) h ≡ now_of j h

@@ -1,5 +1,5 @@
 -- How an outcome ends: recorded, refused by a full log, or cut off.
-use Rattle.std.proofs.Common.{◌≡◌, ◌≢◌, ◌⊎◌, ℕ, ◌-◌, ◌≤◌, ◌&&◌, Bool, true, false, cond, List, [], ◌∷◌, ◌++◌, Option, Result, Ok, Err, refl, sym, ◌∙◌, ap, subst, arith, inl, inr}
+use Rattle.std.proofs.Common.{◌≡◌, ◌≢◌, ◌⊎◌, ℕ, ◌-◌, ◌≤◌, Bool, true, false, cond, List, [], ◌∷◌, ◌++◌, Option, Result, Ok, Err, refl, sym, ◌∙◌, ap, subst, arith, inl, inr}
 use Rattle.std.proofs.lemmas.Bool.{cases_eq, both_ways}
 use Rattle.std.proofs.lemmas.List.{append-nil}
 use Rattle.std.specs.Prelude.{IsTrue}
@@ -22,7 +22,7 @@ use Rattle.ktm_built.proofs.Decided.{full_log}
 use Rattle.ktm_built.proofs.Machine.{apply-full}
 use Rattle.ktm_kernel.specs.declared.settlement.Settlement.{Settlement}
 use Rattle.ktm_kernel.specs.Decided.{Decides}
-use Rattle.ktm_kernel.specs.Done.{Ends, IsDone, IsCutOff, LeavesWithOr, TouchesNothing, fallen}
+use Rattle.ktm_kernel.specs.Done.{Ends, IsDone, IsCutOff, LeavesWithOr, TouchesNothing}
 use Rattle.ktm_kernel.specs.Stands.{KernelState}
 use Rattle.ktm_kernel.specs.Memory.{Held, IsRoomy, MemoryState, appended, held, now_of, settled}
 use Rattle.ktm_kernel.proofs.Standing.{built}

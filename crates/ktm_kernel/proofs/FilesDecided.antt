@@ -2,6 +2,7 @@
 use Rattle.std.proofs.Common.{◌≡◌, ◌≢◌, ℕ, ◌+◌, ◌-◌, ◌≤◌, ◌&&◌, Bool, true, false, List, [], ◌∷◌, length, Option, Some, None, is_none, is_some, refl, sym, ◌∙◌, ap, subst, arith}
 use Rattle.std.proofs.lemmas.Bool.{and_parts}
 use Rattle.std.specs.Option.{option_map}
+use Rattle.ktm_base.specs.declared.limits.TheConstants.{MOST_HANDLES}
 use Rattle.ktm_base.specs.declared.id.Id.{Id}
 use Rattle.ktm_base.specs.declared.id.Label.{Label}
 use Rattle.ktm_base.specs.declared.id.Pid.{Pid}
@@ -21,7 +22,6 @@ use Rattle.ktm_world.specs.Files.{FilesNow, OpenFile, tree_seen}
 use Rattle.ktm_world.specs.FileCalls.{Whereabouts, no_path, no_way, free, at_root, at_node, create_at, create_directory, create_file, delete_file, drop_at, find_files, find_path, get_size, make_at, move_at, move_file, read_file, remove_directory, set_end, write_file}
 use Rattle.ktm_world.specs.Outcome.{apply, first_refusal, is_full, only_reply}
 use Rattle.ktm_world.specs.Keys.{changes_pending as keys_unset}
-use Rattle.ktm_world.specs.Limits.{most_handles}
 use Rattle.ktm_world.specs.Present.{Present}
 use Rattle.ktm_world.specs.Uses.{file_room}
 use Rattle.ktm_built.specs.Files.{MayMake, MayMakePlain}
@@ -43,7 +43,7 @@ use Rattle.txf_volume.specs.Plain.{IsReady}
 
 -- ---- the room that the files have
 
-pub file_room_is : (j : JournalState) (h : Held) (handles changes units unset : ℕ) → handles ≡ most_handles - length h.handles → unset ≡ keys_unset h.keys → units ≡ j.units → changes ≡ j.units - unset
+pub file_room_is : (j : JournalState) (h : Held) (handles changes units unset : ℕ) → handles ≡ MOST_HANDLES - length h.handles → unset ≡ keys_unset h.keys → units ≡ j.units → changes ≡ j.units - unset
     → record { handles = handles; changes = changes; units = units } ≡ file_room (now_of j h)
 unfolding file_room
 file_room_is j h handles changes units unset handles_are unset_are units_are changes_are = rw (handles_are, changes_are, unset_are, units_are) refl
@@ -97,10 +97,6 @@ may_settle j h n process label o opened copy same may ready is room unbound = (
   record { change = ready.change; opened = ready.opened; copy_is = ready.copy_is },
   subst (λ (file : Option OpenFile). MayBind n process label file) is (may_bind_plain j n process label opened room (subst (λ (g : Held). IsFreeLabel (now_of j g) process label) (sym same) unbound)),
 )
-
--- where the log has no room for its change, nothing is recorded
-pub plain_full : (x : Present) (left : ℕ) (process : Pid) (label : Option Label) (o : FileOutcome) → is_full left (events_of None o.change) ≡ true → is_full left (files_outcome x process None label o).events ≡ true
-plain_full x left process label o full = subst (λ (es : List Event). is_full left es ≡ true) (sym (events_in x process None label o)) full
 
 pub plain_decided : (j : JournalState) (h : Held) (n : MemoryState) (process : Pid) (label : Option Label) (o : FileOutcome) (reply : Reply) (plan : FileOutcome) (copy : Option (List ℕ)) (events : EventsState) → IsBuiltNow (now_of j h)
     → reply ≡ o.reply → plan ≡ record o { reply = Done } → held n ≡ h → MaySettle n (Plain process label (record o { reply = Done }) copy) → Holds events (events_of None o.change)

@@ -1,10 +1,11 @@
 -- What a restart finds on a disk, and what it makes of it.
-use Rattle.std.proofs.Common.{◌≡◌, ℕ, ◌+◌, ◌-◌, ◌^◌, ◌≤◌, ◌<◌, nat_le, true, false, List, [], ◌∷◌, ◌++◌, length, Bool, Ok, Err, Option, None, Some, refl, sym, ◌∙◌, ap, subst, arith, inl, inr, append_assoc}
-use Rattle.std.proofs.lemmas.Bool.{and_from, and_parts, eq-eqb, le-leb, lt-ltb, false_from_ne_true}
+use Rattle.std.proofs.Common.{◌≡◌, ℕ, ◌+◌, ◌-◌, ◌^◌, ◌≤◌, ◌<◌, true, false, List, [], ◌∷◌, ◌++◌, length, Bool, Ok, Err, Option, None, Some, refl, sym, ◌∙◌, ap, subst, arith, inl, inr, append_assoc}
+use Rattle.std.proofs.lemmas.Bool.{and_from, and_parts, eq-eqb, lt-ltb, false_from_ne_true}
 use Rattle.std.proofs.lemmas.List.Folds.{list_all-append}
 use Rattle.std.proofs.lemmas.List.Sums.{sum_by-cons}
 use Rattle.std.specs.List.{list_all}
 use Rattle.std.specs.Prelude.{IsTrue}
+use Rattle.ktm_base.specs.declared.limits.TheConstants.{LEAST_UNITS, MOST_UNITS}
 use Rattle.ktm_base.specs.Disk.{DiskState, DiskStatus, IsSafe}
 use Rattle.ktm_base.specs.Told.{IfTold, Tells}
 use Rattle.ktm_base.proofs.Images.{safe_law}
@@ -59,7 +60,7 @@ pub record IsFound (units image : ℕ) (before log : List Group) (state : Durabl
   pub units_are : state.units ≡ units
   pub image_is : state.image ≡ image
   pub is : state ≡ stand (base_of units image before) log
-  pub least : 16 ≤ units
+  pub least : LEAST_UNITS ≤ units
   pub built : IsTrue (is_built_log (before ++ log))
   pub applies : IsTrue (log_applies (empty_state units image) (before ++ log))
 
@@ -81,7 +82,7 @@ found units image before log state None stands holds = absurd holds
 found units image before log state (Some s) stands holds = found_in units image before log state s.seen stands holds.1
 
 -- there are numbers for one boot and one event more, and the limits hold
-pub next_applies : (state : Durable) (log : LogState) → IsBuiltState state → IsGoodState state → AreInLog state log.end → log.end < log.area.len → log.area ≡ log_area state.units → state.units ≤ 1024 → events_apply state (own_group state) ≡ true
+pub next_applies : (state : Durable) (log : LogState) → IsBuiltState state → IsGoodState state → AreInLog state log.end → log.end < log.area.len → log.area ≡ log_area state.units → state.units ≤ MOST_UNITS → events_apply state (own_group state) ≡ true
 next_applies state log built good counted inside area most =
     let len = ap (λ (a : Area). a.len) area in
     let boot = and_from _ _ (eq-eqb (state.boots + 1) (state.boots + 1) refl) (lt-ltb (state.boots + 1) (2 ^ 32 - 1) (omega (arith, counted.boots, counted.events, inside, len, most))) in
@@ -190,7 +191,7 @@ module _ (units image : ℕ) (before log : List Group) (state : Durable) (is : I
   good_base good number grammatical = good.3 (empty_state units image) before (good.0 units image is.least number) grammatical applied.0
 
   -- its counts do not end, since each event and each boot takes bytes of the log
-  roomy : units ≤ 1024 → is_full_for_own units image before log ≡ false → IsRoomy base (left_after units before)
+  roomy : units ≤ MOST_UNITS → is_full_for_own units image before log ≡ false → IsRoomy base (left_after units before)
   roomy most fits =
       let events = log-events before (empty_state units image) in
       let boots = log-boots before (empty_state units image) applied.0 in
@@ -199,7 +200,7 @@ module _ (units image : ℕ) (before log : List Group) (state : Durable) (is : I
       let one = sum_by-cons frame_size (own_group (stand base log)) [] in
       record { events = omega (arith, events, own, left, one, most); boots = omega (arith, boots, own, left, one, most) }
 
-  standing : GoodStatesLaw → StandingLaw → image < 2 ^ 16 → units ≤ 1024 → is_full_for_own units image before log ≡ false → (is_log_grammatical before ≡ true) × (is_log_grammatical log ≡ true) → IsStanding (opened base (left_after units before) log)
+  standing : GoodStatesLaw → StandingLaw → image < 2 ^ 16 → units ≤ MOST_UNITS → is_full_for_own units image before log ≡ false → (is_log_grammatical before ≡ true) × (is_log_grammatical log ≡ true) → IsStanding (opened base (left_after units before) log)
   standing good law number most fits grammatical =
       let units_are = stand-units (empty_state units image) before in
       law.restarts base (left_after units before) log (good_base good number grammatical.0) built_base (omega (arith, units_are, most)) (roomy most fits) grammatical.1 made.1 applied.1 fits
@@ -217,7 +218,7 @@ module _ (units image : ℕ) (before log : List Group) (state : Durable) (is : I
   -- of the journal that the group of the restart was added to
   module _ (may : events_apply state (own_group state) ≡ true) (j k : JournalState) (units_are : j.units ≡ state.units) (image_is : j.image ≡ state.image) (old new : Option DiskState)
       (at : Tells old (JournalAt j (before ++ log))) (events : EventsState) (holds : Holds events (own_group state)) where
-    pub started : GoodStatesLaw → StandingLaw → FreshLaw → (is_log_grammatical before ≡ true) × (is_log_grammatical log ≡ true) → state.image < 2 ^ 16 → state.units ≤ 1024 → (kernel : KernelState) (left count : ℕ) → kernel.journal ≡ k → kernel.now ≡ fresh state left → left ≡ k.log.area.len - k.log.end → count ≡ state.events
+    pub started : GoodStatesLaw → StandingLaw → FreshLaw → (is_log_grammatical before ≡ true) × (is_log_grammatical log ≡ true) → state.image < 2 ^ 16 → state.units ≤ MOST_UNITS → (kernel : KernelState) (left count : ℕ) → kernel.journal ≡ k → kernel.now ≡ fresh state left → left ≡ k.log.area.len - k.log.end → count ≡ state.events
         → k.units ≡ j.units → k.image ≡ j.image → k.log.area ≡ j.log.area → ((group : Group) → Holds events group → k.log.end ≡ j.log.end + frame_size group)
         → is_full_in (j.log.area.len - j.log.end) (own_group state) ≡ false
         → ((gs : List Group) (group : Group) → Holds events group → Tells old (JournalAt j gs) → Tells new (JournalAt k (gs ++ group ∷ [])))
@@ -269,7 +270,7 @@ fresh_now k h state left built units image events left_is is =
 
 -- a machine that started is ready for calls: its counts do not end, since each event and each boot took bytes of the log
 pub fresh_ready : FreshLaw → (kernel : KernelState) (state : Durable) (log : LogState) (left : ℕ) (told : Option DiskState) (status : DiskStatus) → kernel.now ≡ fresh state left → IsBuiltState state → IsGoodState state
-    → AreInLog state log.end → log.end < log.area.len → log.area ≡ log_area state.units → state.units ≤ 1024 → left ≤ log.area.len
+    → AreInLog state log.end → log.end < log.area.len → log.area ≡ log_area state.units → state.units ≤ MOST_UNITS → left ≤ log.area.len
     → status.is_down ≡ false → status.pending ≡ 0 → IfTold told (λ s. IsFormatted kernel.journal.units kernel.journal.image s.seen) → IsReady kernel told status × (kernel.now.machine.is_up ≡ true)
 fresh_ready law kernel state log left told status now built good counted inside area most few up settled formatted = (
   record {

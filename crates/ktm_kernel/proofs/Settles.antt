@@ -1,22 +1,17 @@
 -- What the layers make of what is so now, where a settlement is made.
-use Rattle.std.proofs.Common.{◌≡◌, ℕ, ◌<◌, ◌^◌, Bool, true, false, cond, not, List, [], ◌∷◌, nat_le, nat_lt, Option, Some, None, refl, sym, ◌∙◌, ap, inl, inr}
-use Rattle.std.proofs.lemmas.Bool.{and_parts, cases_Bool, false_from_ne_true, ltb-true}
+use Rattle.std.proofs.Common.{◌≡◌, ℕ, Bool, true, false, cond, not, List, [], ◌∷◌, Option, Some, None, refl, sym, ◌∙◌, ap, inl, inr}
+use Rattle.std.proofs.lemmas.Bool.{cases_Bool, false_from_ne_true}
 use Rattle.std.specs.Option.{option_map}
 use Rattle.ktm_base.specs.declared.id.Id.{Id}
 use Rattle.ktm_base.specs.declared.id.Label.{Label}
 use Rattle.ktm_base.specs.declared.id.Pid.{Pid}
-use Rattle.ktm_types.specs.declared.change.Change.{Change}
-use Rattle.ktm_types.specs.declared.change.Change.TheVariants.{Make}
 use Rattle.ktm_types.specs.declared.object.Handle.{Handle}
 use Rattle.ktm_types.specs.declared.object.Object.{Object}
 use Rattle.ktm_types.specs.declared.object.Object.TheVariants.{Transaction as TransactionObject, Manager as ManagerObject, Enlistment as EnlistmentObject, File as FileObject}
 use Rattle.ktm_types.specs.declared.object.Phase.{Phase}
 use Rattle.ktm_types.specs.declared.object.Phase.TheVariants.{Active}
 use Rattle.ktm_types.specs.declared.object.Transaction.{Transaction}
-use Rattle.ktm_world.specs.Changes.{applies, changed_all, is_make, node_of}
-use Rattle.ktm_world.specs.Committed.{committed_with}
 use Rattle.ktm_world.specs.Durable.{next_after_all}
-use Rattle.ktm_world.specs.FileOutcome.{FileOutcome, files_after, next_node_after, works_of}
 use Rattle.ktm_world.specs.Files.{FilesNow, committed_files, own_changes}
 use Rattle.ktm_world.specs.HandleCalls.{closed_file, has_handle}
 use Rattle.ktm_world.specs.Keys.{own_settings, stored_all, without_own}
@@ -27,7 +22,7 @@ use Rattle.ktm_world.specs.Tree.{Tree}
 use Rattle.ktm_laws.specs.Reservations.{files_committed}
 use Rattle.ktm_laws.proofs.Reserving.{tree-of}
 use Rattle.txf_volume.specs.Transacted.{forgotten}
-use Rattle.ktm_built.specs.Forms.{ended_aborted, ended_committed, is_of_both, plain_changes, with_commit_made, with_file_closed, with_files_made, with_handle_gone, with_rollback, with_rollback_if_active}
+use Rattle.ktm_built.specs.Forms.{ended_aborted, ended_committed, is_of_both, with_commit_made, with_file_closed, with_handle_gone, with_rollback, with_rollback_if_active}
 use Rattle.ktm_journal.specs.Image.{JournalState}
 use Rattle.ktm_kernel.specs.Memory.{Held, MemoryState, held, now_of, with_bound_to}
 
@@ -74,35 +69,6 @@ committed j h t both files is are there =
     ∙ ap (λ (b : Bool). then (change_at h.transactions.items t.id (λ other. ended_committed b t)) tree made.files) is
     ∙ ap (λ (ts : List Transaction). then ts tree made.files) (changed_as_found h.transactions.items t (ended_committed (is_of_both (now_of j h) t)) there)
     ∙ ap (λ (tree : Tree). then made.transactions.items tree made.files) (tree-of (own_changes h.files.table.own t.id) (committed_files h.files []))
-
--- ---- a plain call
-
--- of the changes of a plain call
-pub plain_next : (next : ℕ) (change : Option Change) → next_node_after next change ≡ next_after_all next (plain_changes None change)
-plain_next next None = refl
-plain_next next (Some change) = refl
-
-plain_tree : (files : FilesNow) (o : FileOutcome) → (files_after files None o).tree ≡ changed_all files.tree (plain_changes None o.change)
-plain_tree files o = go o.change
-  where
-    go : (change : Option Change) → (committed_with (committed_files files []) (works_of None change)).tree ≡ changed_all files.tree (plain_changes None change)
-    go None = refl
-    go (Some change) = refl
-
--- the files are those after it, and what is recorded has their tree
-pub made_plain : (j : JournalState) (h : Held) (o : FileOutcome) (next : ℕ) (files : FilesNow) (handles : List Handle) → next ≡ next_node_after h.next_node o.change → files ≡ files_after h.files None o
-    → now_of j (record h { files = files; next_node = next; handles = handles }) ≡ record (with_files_made (now_of j h) None o) { handles = handles }
-made_plain j h o next files handles is are =
-    let made = record (with_files_made (now_of j h) None o) { handles = handles } in
-    let then : ℕ → Tree → FilesNow → Present = λ next tree files. record made { recorded = record made.recorded { tree = tree; next_node = next }; files = files } in
-    let tree = (files_after h.files None o).tree in
-    ap (λ (fs : FilesNow). then next fs.tree fs) are ∙ ap (λ n. then n tree made.files) (is ∙ plain_next h.next_node o.change) ∙ ap (λ (tree : Tree). then made.recorded.next_node tree made.files) (plain_tree h.files o)
-
--- a node that applies to be made has a number below the end of numbers
-pub make_number : (tree : Tree) (change : Change) → applies tree change ≡ true → is_make change ≡ true → node_of change < 2 ^ 63
-make_number tree (Make node parent kind name) does_apply is =
-    let number = (and_parts _ _ (and_parts _ _ (and_parts _ _ (and_parts _ _ does_apply).0).0).0).0 in ltb-true node (2 ^ 63) (and_parts (nat_le 2 node) (nat_lt node (2 ^ 63)) number).1
-make_number tree _ does_apply is = absurd (cc)
 
 -- ---- an active transaction rolls back
 

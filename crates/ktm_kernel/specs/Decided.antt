@@ -39,10 +39,6 @@ abbrev pub DecidesIf : JournalState → Held → Outcome → Option Decision →
 DecidesIf j old o None events new = (is_full (j.log.area.len - j.log.end) o.events ≡ true) × (held new ≡ old)
 DecidesIf j old o (Some d) events new = Decides j old o d.reply d.settlement events new
 
--- what a transaction records that both parts commit: the parts, the decision, and that each is done
-abbrev pub parts_events : Id → Part → Part → Group
-parts_events id changes settings = Ready id changes ∷ Ready id settings ∷ Decide id ∷ Done id DonePart.Files ∷ Done id DonePart.Keys ∷ []
-
 -- a plain call that changes or opens something is done
 abbrev pub CanAnswer : Option Id → FileOutcome → Type 0
 CanAnswer who o = events_of who o.change ≢ [] → (refusal : Refusal) → o.reply ≢ Refused refusal

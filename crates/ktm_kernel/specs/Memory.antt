@@ -1,5 +1,6 @@
 -- What the machine holds in memory, what that is of what is so now, and how a settlement changes that.
 use Rattle.std.specs.Prelude.{◌≡◌, ℕ, ◌+◌, ◌-◌, ◌≤◌, Bool, true, false, List, [], length, Option, Some, None, is_some, count_by}
+use Rattle.ktm_base.specs.declared.limits.TheConstants.{MOST_UNITS, MOST_LIVE}
 use Rattle.ktm_base.specs.declared.id.Label.{Label}
 use Rattle.ktm_base.specs.declared.id.Pid.{Pid}
 use Rattle.ktm_built.specs.Forms.{handles_with, with_bound, with_commit_made, with_files_made, with_handle_closed, with_process_gone, with_rollback, with_tick, with_transaction}
@@ -20,7 +21,6 @@ use Rattle.ktm_world.specs.FileOutcome.{FileOutcome, files_after}
 use Rattle.ktm_world.specs.Files.{FilesNow, OpenFile, own_changes}
 use Rattle.ktm_world.specs.Handles.{object_at}
 use Rattle.ktm_world.specs.Keys.{KeysNow, own_settings}
-use Rattle.ktm_world.specs.Limits.{most_live}
 use Rattle.ktm_world.specs.Logs.{as_groups}
 use Rattle.ktm_world.specs.Present.{Present, Transactions}
 use Rattle.ktm_types.specs.Sizes.{log_size}
@@ -108,7 +108,7 @@ MaySettle m (Duplicate process label from source) =
     (1 ≤ m.handles.spare) × (object_at (handles_of m.handles) process label ≡ None) × (is_some (object_at (handles_of m.handles) from source) ≡ true)
 MaySettle m (Close process label) = Unit {0}
 MaySettle m (Exit process) = Unit {0}
-MaySettle m (Tick ms) = (each_pair (λ (t u : Transaction). is_before t.id u.id) m.tm.now.items ≡ true) × (count_by is_live m.tm.now.items ≤ most_live)
+MaySettle m (Tick ms) = (each_pair (λ (t u : Transaction). is_before t.id u.id) m.tm.now.items ≡ true) × (count_by is_live m.tm.now.items ≤ MOST_LIVE)
 
 -- the label is bound to the object, if there is one
 abbrev pub with_bound_to : Present → Pid → Label → Option Object → Present
@@ -135,5 +135,5 @@ settled x (Tick ms) = with_tick x ms
 
 -- the list has room for each group that the log has room for, in an image of a size that there is
 pub record IsRoomy (j : JournalState) (events : EventsState) : Type 0 where
-  pub most : j.units ≤ 1024
+  pub most : j.units ≤ MOST_UNITS
   pub room : area_len j.units ≤ events.room + 9

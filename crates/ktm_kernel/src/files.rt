@@ -96,10 +96,9 @@ impl Memory {
         ensures room { events.new.room ≡ events.old.room }
         ensures no_memory { OnErr result (held self.new ≡ held self.old) }
     {
-        let Some(plan) = record_plan(journal, events, plan) else {
+        let Some(mut plan) = record_plan(journal, events, plan) else {
             return Ok(None);
         };
-        let mut plan = plan;
         self.reserve_for(plan.opened)?;
         let ready = self.files.prepare(&plan)?;
         let reply = replace(&mut plan.reply, Reply::Done);

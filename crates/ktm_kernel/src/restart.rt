@@ -1,5 +1,6 @@
 // Starting the machine from its disk.
 ghost use Rattle.std.specs.Prelude.{◌≡◌, ◌+◌, ◌*◌, ◌≤◌, ℕ, List, IfOk, OnOk, OnErr, Some, true, false, [], vec_capacity};
+ghost use Rattle.ktm_base.specs.declared.limits.TheConstants.{MOST_UNITS};
 ghost use Rattle.ktm_event.specs.Kept.{Holds};
 ghost use Rattle.ktm_base.specs.Count.{Rose};
 ghost use Rattle.ktm_base.specs.declared.refusal.Refusal.TheVariants.{MachineDown, MachineUp};
@@ -25,10 +26,11 @@ use ktm_laws::{law_of_good_states, law_of_grammar};
 use ktm_types::{Event, Reply};
 use std::alloc::Global;
 use std::mem::replace;
+use thiserror::Error;
 
 // A list of no events in the buffer of a journal, with the room for whatever its log has room for.
 fn events_in(buffer: Vec<u8>, journal: &Journal) -> Events
-    requires most { journal.now.units ≤ 1024 }
+    requires most { journal.now.units ≤ MOST_UNITS }
     requires reserved { area_len journal.now.units ≤ vec_capacity buffer }
     ensures empty { Holds result [] }
     ensures room { result.room + 9 ≡ area_len journal.now.units }
@@ -37,9 +39,6 @@ fn events_in(buffer: Vec<u8>, journal: &Journal) -> Events
     let room = 8192 * journal.units() as usize + 65536 - 9;
     Events::with_buffer(buffer, room)
 }
-
-// The value ends here: what its parts give back is then proved once for each part, and not within the caller.
-fn let_go<T: Drop>(_value: T) {}
 
 /// A machine that started.
 #[derive(Drop)]
@@ -52,15 +51,19 @@ pub struct Restarted {
 }
 
 /// Why a machine did not start.
-#[derive(Clone, Copy, Debug, PartialEq, Eq)]
+#[derive(Clone, Copy, Debug, PartialEq, Eq, Error)]
 pub enum RestartFault {
     /// The disk has no power. What the start records may be there or not.
+    #[error("the disk has no power")]
     Down,
     /// The image cannot be opened, for what stands at this offset. Nothing was written.
+    #[error("bad image at {0}")]
     Bad(u64),
     /// The log has no room for what a start records. Nothing was written.
+    #[error("the log is full")]
     Full,
     /// Memory was wanted and not to be had. Nothing was written.
+    #[error("out of memory")]
     NoMemory,
 }
 
@@ -86,7 +89,7 @@ impl Kernel {
         ensures unwritten { IfUnwritten result (D.told disk.new ≡ D.told disk.old) }
         ensures pending { IfUnwritten result ((D.status disk.new).pending ≡ (D.status disk.old).pending) }
         ensures buffer { OnErr result (vec_capacity buffer.old ≤ vec_capacity buffer.new) }
-        ensures calls { DeviceCalls (8 * 1024 + 68) (D.status disk.old) (D.status disk.new) (restart_went_down result) }
+        ensures calls { DeviceCalls (8 * MOST_UNITS + 68) (D.status disk.old) (D.status disk.new) (restart_went_down result) }
         ensures few { (units image : ℕ) → Tells (D.told disk.old) (λ s. IsHeaded units image s.seen) → (D.status disk.new).calls ≤ (D.status disk.old).calls + (8 * units + 68) }
     {
         law_of_fresh();
@@ -145,7 +148,7 @@ impl Kernel {
         ensures cause { IfOk result (λ reply. reply ≡ Refused MachineDown → Rose (D.status disk.old).downs (D.status disk.new).downs) }
         ensures not_up { IfOk result (λ reply. reply ≡ Refused MachineUp → ⊥) }
         ensures ready { OnOk result (IsReady self.new (D.told disk.new) (D.status disk.new)) }
-        ensures calls { DeviceCalls (8 * 1024 + 68) (D.status disk.old) (D.status disk.new) (D.status disk.new).is_down }
+        ensures calls { DeviceCalls (8 * MOST_UNITS + 68) (D.status disk.old) (D.status disk.new) (D.status disk.new).is_down }
         ensures few { (w : World) → FoundAt self.old (D.told disk.old) w → (D.status disk.new).calls ≤ (D.status disk.old).calls + (8 * w.base.units + 68) }
         ensures unwritten { IfOk result (λ reply. IfUnwrittenBy reply ((D.told disk.new ≡ D.told disk.old) × ((D.status disk.new).is_down ≡ false) × ((D.status disk.new).pending ≡ 0) × (self.new ≡ self.old))) }
         ensures no_memory { OnErr result ((D.told disk.new ≡ D.told disk.old) × ((D.status disk.new).is_down ≡ false) × ((D.status disk.new).pending ≡ 0) × (self.new ≡ self.old)) }
@@ -154,23 +157,15 @@ impl Kernel {
         let none = Events::new(self.alloc, 0)?;
         let mut buffer = replace(&mut self.events, none).into_buffer();
         match Kernel::restart(self.alloc, disk, &mut buffer) {
-            Ok(
-                Restarted {
-                    kernel,
-                    events,
-                    in_doubt,
-                },
-            ) => {
-                let Kernel {
-                    memory,
-                    journal,
-                    events: list,
-                    ..
-                } = kernel;
-                let_go(replace(&mut self.memory, memory));
-                self.journal = journal;
-                self.events = list;
-                Ok(Reply::Restarted { events, in_doubt })
+            Ok(restarted) => {
+                let kernel = restarted.kernel;
+                drop(replace(&mut self.memory, kernel.memory));
+                self.journal = kernel.journal;
+                self.events = kernel.events;
+                Ok(Reply::Restarted {
+                    events: restarted.events,
+                    in_doubt: restarted.in_doubt,
+                })
             }
             Err(RestartFault::Down) => {
                 self.events = events_in(buffer, &self.journal);
@@ -189,5 +184,11 @@ impl Kernel {
                 Err(NoMemory)
             }
         }
+    }
+
+    /// The machine ends, and gives back what it holds in memory. What each of its parts gives back is proved here, and not in
+    /// the caller.
+    pub fn end(self) {
+        drop(self);
     }
 }

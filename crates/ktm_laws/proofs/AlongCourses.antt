@@ -4,6 +4,7 @@ use Rattle.std.proofs.Common.{◌≡◌, ℕ, ◌+◌, ◌≤◌, ◌||◌, not,
 use Rattle.std.proofs.lemmas.Bool.{cases_Bool, not-true, true≢false, false_from_ne_true}
 use Rattle.std.proofs.lemmas.Option.{none-some, same_Some}
 use Rattle.std.specs.List.{list_any}
+use Rattle.ktm_base.specs.declared.limits.TheConstants.{MOST_LIVE}
 use Rattle.ktm_base.specs.declared.id.Id.{Id}
 use Rattle.ktm_types.specs.declared.change.Change.{Change}
 use Rattle.ktm_types.specs.declared.event.DonePart.{DonePart}
@@ -18,7 +19,6 @@ use Rattle.ktm_world.specs.Durable.{Durable, Recorded, after_event, changes_in, 
 use Rattle.ktm_world.specs.Files.{OwnChanges, own_changes}
 use Rattle.ktm_world.specs.Keys.{Own, OwnSettings, own_settings, stored_all, without_own}
 use Rattle.ktm_world.specs.Lawful.{Agrees, undecided}
-use Rattle.ktm_world.specs.Limits.{most_live}
 use Rattle.ktm_world.specs.Present.{Present}
 use Rattle.ktm_world.specs.Transactions.{is_live, same_id}
 use Rattle.ktm_laws.specs.Footprint.{IsIn, ListsLaw}
@@ -203,7 +203,7 @@ module _ (lists : ListsLaw) (x : Present) (agrees : Agrees x) (sound : IsSoundFi
           enlistments = was.enlistments;
         }
 
-    few-managers : length s.managers ≤ most_live
+    few-managers : length s.managers ≤ MOST_LIVE
     few-managers = let a = ap length along.managers in let b = managers-now x agrees fits in omega arith
 
     -- the limits of a state with what was committed
@@ -211,7 +211,7 @@ module _ (lists : ListsLaw) (x : Present) (agrees : Agrees x) (sound : IsSoundFi
         → Budget x.recorded.units s'.tree (own_then b) s'.keys (set_then d) → is_within_limits s' ≡ true
     bounded-then b d s' rises counts room managers budget =
         limits-from s' (bounded x s' (own_then b) (set_then d) rises counts (subst (λ n. Budget n s'.tree (own_then b) s'.keys (set_then d)) (sym (room ∙ along.room)) budget) fits.live fits.enlisted
-        (subst (λ ms. length ms ≤ most_live) (sym managers) few-managers))
+        (subst (λ ms. length ms ≤ MOST_LIVE) (sym managers) few-managers))
 
     budget : Budget x.recorded.units s.tree own s.keys set
     budget = subst (λ tree. Budget x.recorded.units tree own s.keys set) (sym along.tree) (subst (λ keys. Budget x.recorded.units x.files.tree own keys set) (sym along.keys) (budget-now x sound fits))

@@ -17,7 +17,7 @@ use Rattle.std.proofs.lemmas.Cmp.{nat_list_eq_equiv}
 use Rattle.ktm_laws.specs.Footprint.{IsIn}
 use Rattle.ktm_laws.proofs.Ways.{above, steps-from, is_at_or_below-from}
 use Rattle.ktm_world.specs.Tree.{IsWellFormed, Tree, root, node_at, is_there, is_file, is_directory, is_at_or_below, child_of, has_entries, same_name, content_of}
-use Rattle.ktm_laws.proofs.Lookups.{Rises, Fits, remade, node_at-elsewhere, node_at-there, node_at-below, Rises-from, numbers_rise-from}
+use Rattle.ktm_world.proofs.Lookups.{Rises, Fits, remade, node_at-elsewhere, node_at-there, node_at-below, Rises-from, numbers_rise-from}
 
 -- ---- the tests of a change, one by one
 

@@ -4,6 +4,7 @@ use Rattle.std.proofs.Common.{◌≡◌, ◌==◌, ◌&&◌, ◌||◌, not, Bool
 use Rattle.std.proofs.lemmas.Bool.{cases_Bool, and_parts, and_from, and_left, and_right, or_cases, or_left, or_right, true≢false, not-true, not_from_true, not_from_false, false_from_ne_true}
 use Rattle.std.proofs.lemmas.List.Sums.{length-filter}
 use Rattle.std.specs.List.{list_any, list_all}
+use Rattle.ktm_base.specs.declared.limits.TheConstants.{MOST_INFORMATION_BYTES}
 use Rattle.ktm_base.specs.declared.id.Id.{Id}
 use Rattle.ktm_types.specs.declared.object.Handle.{Handle}
 use Rattle.ktm_types.specs.declared.object.Object.{Object}
@@ -15,7 +16,6 @@ use Rattle.ktm_world.specs.Durable.{is_before}
 use Rattle.ktm_world.specs.Enlistments.{Enlistment, Manager, Note, Sent, is_superior, takes_part, is_unfinished, is_durable_at}
 use Rattle.ktm_world.specs.Files.{own_changes}
 use Rattle.ktm_world.specs.Keys.{own_settings}
-use Rattle.ktm_world.specs.Limits.{most_information}
 use Rattle.ktm_world.specs.Phases.{Course, has_settings, is_single_phase}
 use Rattle.ktm_world.specs.Present.{Present}
 use Rattle.ktm_world.specs.TransactionCalls.{course_of}
@@ -295,8 +295,8 @@ module _ (x : Present) (sound : IsSoundCourse x) (t : Transaction) (there : IsIn
         (λ v is other. recorded-foreign v other v.phase v.is_recorded ∙ list_all-at (is_recorded_as_asked x.managers es) ts sound.recorded v is);
     unrecovered = list_all-from (is_unrecovered_well (x.recorded).boots x.managers) es' (λ e is. subst (λ ms. is_unrecovered_well (x.recorded).boots ms e ≡ true) moved.managers
         (unrecovered-moved (course_of x t caller) d (x.recorded).boots moved (brought-now x t caller sound) e (subst (λ xs. IsIn e xs) (sym moved.enlistments) is)));
-    information_fits = each-enlistment (λ e. nat_le (length e.information) most_information) (λ e is.
-        subst (λ bytes. nat_le (length bytes) most_information ≡ true) (sym (moved.same e).information) (list_all-at (λ (e : Enlistment). nat_le (length e.information) most_information) es sound.information_fits e is));
+    information_fits = each-enlistment (λ e. nat_le (length e.information) MOST_INFORMATION_BYTES) (λ e is.
+        subst (λ bytes. nat_le (length bytes) MOST_INFORMATION_BYTES ≡ true) (sym (moved.same e).information) (list_all-at (λ (e : Enlistment). nat_le (length e.information) MOST_INFORMATION_BYTES) es sound.information_fits e is));
     begun = each (λ v. nat_le v.created (x.transactions).clock)
         (subst (λ n. nat_le n (x.transactions).clock ≡ true) (sym moved.created) (list_all-at (λ (v : Transaction). nat_le v.created (x.transactions).clock) ts sound.begun t there))
         (λ v is other. list_all-at (λ (v : Transaction). nat_le v.created (x.transactions).clock) ts sound.begun v is);

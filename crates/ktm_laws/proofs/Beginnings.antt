@@ -4,6 +4,7 @@ use Rattle.std.proofs.Common.{◌≡◌, ℕ, ◌+◌, ◌≤◌, ◌==◌, ◌&
 use Rattle.std.proofs.lemmas.Bool.{cases_Bool, and_parts, and_from, and_left, or_left, or_right, eq-eqb, ltb-true, le-leb, leb-true, true≢false, not_from_false, false_from_ne_true}
 use Rattle.std.proofs.lemmas.List.Sums.{length-filter}
 use Rattle.std.specs.List.{list_any, list_all}
+use Rattle.ktm_base.specs.declared.limits.TheConstants.{MOST_NUMBER, MOST_INFORMATION_BYTES}
 use Rattle.ktm_base.specs.declared.id.Id.{Id}
 use Rattle.ktm_types.specs.declared.object.Handle.{Handle}
 use Rattle.ktm_types.specs.declared.object.Object.{Object}
@@ -14,7 +15,6 @@ use Rattle.ktm_types.specs.declared.object.Transaction.{Transaction}
 use Rattle.ktm_types.specs.declared.options.EnlistmentKind.{EnlistmentKind}
 use Rattle.ktm_world.specs.Durable.{is_before}
 use Rattle.ktm_world.specs.Enlistments.{Enlistment, Manager, Note, is_superior, takes_part, is_unfinished, superior_of, is_durable_at}
-use Rattle.ktm_world.specs.Limits.{most_information, most_number}
 use Rattle.ktm_world.specs.Present.{Present}
 use Rattle.ktm_world.specs.Transactions.{same_id}
 use Rattle.ktm_laws.specs.Footprint.{IsIn}
@@ -42,7 +42,7 @@ new_transaction x timeout =
 abbrev pub with_transaction : Present → ℕ → Present
 with_transaction x timeout = record x { transactions = record x.transactions { last_transaction = (x.transactions).last_transaction + 1; items = (x.transactions).items ++ new_transaction x timeout ∷ [] } }
 
-module _ (x : Present) (timeout : ℕ) (sound : IsSoundCourse x) (fits : (x.transactions).last_transaction + 1 ≤ most_number) where
+module _ (x : Present) (timeout : ℕ) (sound : IsSoundCourse x) (fits : (x.transactions).last_transaction + 1 ≤ MOST_NUMBER) where
   abbrev ts : List Transaction
   ts = (x.transactions).items
 
@@ -124,7 +124,7 @@ with_manager x durable = record x {
   managers = x.managers ++ record { id = next_id (x.recorded).boots (x.transactions).last_manager; is_durable = durable; queue = [] } ∷ [];
 }
 
-module _ (x : Present) (durable : Bool) (sound : IsSoundCourse x) (fits : (x.transactions).last_manager + 1 ≤ most_number) where
+module _ (x : Present) (durable : Bool) (sound : IsSoundCourse x) (fits : (x.transactions).last_manager + 1 ≤ MOST_NUMBER) where
   abbrev es-m : List Enlistment
   es-m = (x.transactions).enlistments
 
@@ -211,7 +211,7 @@ new_enlistment x m t kind = record {
 abbrev pub with_new_enlistment : Present → Manager → Transaction → EnlistmentKind → Present
 with_new_enlistment x m t kind = record x { transactions = record x.transactions { last_enlistment = (x.transactions).last_enlistment + 1; enlistments = (x.transactions).enlistments ++ new_enlistment x m t kind ∷ [] } }
 
-module _ (x : Present) (m : Manager) (t : Transaction) (kind : EnlistmentKind) (sound : IsSoundCourse x) (fits : (x.transactions).last_enlistment + 1 ≤ most_number)
+module _ (x : Present) (m : Manager) (t : Transaction) (kind : EnlistmentKind) (sound : IsSoundCourse x) (fits : (x.transactions).last_enlistment + 1 ≤ MOST_NUMBER)
     (manager : IsIn m x.managers) (transaction : IsIn t (x.transactions).items) (active : t.phase ≡ Active)
     (durable : is_superior_durable x.managers (new_enlistment x m t kind) ≡ true) (alone : is_superior (new_enlistment x m t kind) ≡ true → is_some (superior_of (x.transactions).enlistments t.id) ≡ false) where
   abbrev es-e : List Enlistment
@@ -317,7 +317,7 @@ module _ (x : Present) (m : Manager) (t : Transaction) (kind : EnlistmentKind) (
         (λ v phase is old. subst (λ p. is_recorded_as p x.managers (es-e ++ e ∷ []) v.id v.is_recorded ≡ true) (sym phase) (subst (λ p. is_recorded_as p x.managers es-e v.id v.is_recorded ≡ true) phase old))
         (λ v other old. recorded-new v.phase v.id v.is_recorded other ∙ old);
     unrecovered = list_all-push (is_unrecovered_well (x.recorded).boots x.managers) es-e e sound.unrecovered refl;
-    information_fits = list_all-push (λ (e : Enlistment). nat_le (length e.information) most_information) es-e e sound.information_fits refl;
+    information_fits = list_all-push (λ (e : Enlistment). nat_le (length e.information) MOST_INFORMATION_BYTES) es-e e sound.information_fits refl;
     begun = sound.begun;
     clock_fits = sound.clock_fits;
   }
@@ -369,7 +369,7 @@ sound-clock x ms sound = record {
 abbrev pub with_information : Present → Id → List ℕ → Present
 with_information x id information = record x { transactions = record x.transactions { enlistments = with_enlistments (has_id id) (λ e. record e { information = information }) (x.transactions).enlistments } }
 
-module _ (x : Present) (id : Id) (information : List ℕ) (sound : IsSoundCourse x) (short : length information ≤ most_information) where
+module _ (x : Present) (id : Id) (information : List ℕ) (sound : IsSoundCourse x) (short : length information ≤ MOST_INFORMATION_BYTES) where
   abbrev es-i : List Enlistment
   es-i = (x.transactions).enlistments
 
@@ -478,11 +478,11 @@ module _ (x : Present) (id : Id) (information : List ℕ) (sound : IsSoundCourse
     alone = sound.alone;
     recorded = each-item (is_recorded_as_asked x.managers es-i) (is_recorded_as_asked x.managers es-i') (λ t. recorded-informed t.phase t.id t.is_recorded) sound.recorded;
     unrecovered = same-all (is_unrecovered_well (x.recorded).boots x.managers) (λ e. refl) ∙ sound.unrecovered;
-    information_fits = list_all-from (λ (e : Enlistment). nat_le (length e.information) most_information) es-i' (λ e there.
+    information_fits = list_all-from (λ (e : Enlistment). nat_le (length e.information) MOST_INFORMATION_BYTES) es-i' (λ e there.
         let from = IsIn-unmap informed e es-i there in
-        subst (λ (f : Enlistment). nat_le (length f.information) most_information ≡ true) from.1
-        (if_cases (λ (f : Enlistment). nat_le (length f.information) most_information ≡ true) (has_id id from.0) (record from.0 { information = information }) from.0
-        (λ is. le-leb (length information) most_information short) (λ is. list_all-at (λ (e : Enlistment). nat_le (length e.information) most_information) es-i sound.information_fits from.0 from.2)));
+        subst (λ (f : Enlistment). nat_le (length f.information) MOST_INFORMATION_BYTES ≡ true) from.1
+        (if_cases (λ (f : Enlistment). nat_le (length f.information) MOST_INFORMATION_BYTES ≡ true) (has_id id from.0) (record from.0 { information = information }) from.0
+        (λ is. le-leb (length information) MOST_INFORMATION_BYTES short) (λ is. list_all-at (λ (e : Enlistment). nat_le (length e.information) MOST_INFORMATION_BYTES) es-i sound.information_fits from.0 from.2)));
     begun = sound.begun;
     clock_fits = sound.clock_fits;
   }

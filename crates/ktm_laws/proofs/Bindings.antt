@@ -2,6 +2,7 @@
 use Rattle.std.proofs.Common.{◌≡◌, ℕ, ◌+◌, ◌≤◌, ◌==◌, ◌&&◌, not, true, false, List, [], ◌∷◌, length, nat_lt, Option, Some, None, is_some, refl, sym, ◌∙◌, subst, inl, inr}
 use Rattle.std.proofs.lemmas.Bool.{cases_Bool, and_parts, and_from, and_cases, or_parts, or_left, or_right, ltb-false, true≢false, not_from_false}
 use Rattle.std.proofs.lemmas.Option.{none-some, same_Some}
+use Rattle.ktm_base.specs.declared.limits.TheConstants.{MOST_NUMBER, MOST_INFORMATION_BYTES}
 use Rattle.ktm_laws.specs.Grammatical.{names_objects}
 use Rattle.std.proofs.lemmas.List.Folds.{list_all-append}
 use Rattle.std.specs.List.{list_all}
@@ -21,7 +22,6 @@ use Rattle.ktm_world.specs.Enlistments.{Enlistment, Manager, is_superior}
 use Rattle.ktm_world.specs.Handles.{object_at}
 use Rattle.ktm_world.specs.HandleCalls.{is_handle, without_handle, has_handle, closed_file, abort_active, last_handle_gone, handle_gone, close_handle, closed_in_turn, exit, labels_of, bind_to, duplicate_handle, duplicate_handle_tests}
 use Rattle.ktm_world.specs.Labels.{binding, is_bound}
-use Rattle.ktm_world.specs.Limits.{most_number, most_information}
 use Rattle.ktm_world.specs.Outcome.{Outcome, only_reply, apply, and_then}
 use Rattle.ktm_world.specs.Phases.{aborting}
 use Rattle.ktm_world.specs.Present.{Present}
@@ -60,8 +60,8 @@ sound-bound_only x process label object reply sound free there = sound-binding x
 
 -- ---- objects are made
 
-number-fits : (last : ℕ) → nat_lt most_number (last + 1) ≡ false → last + 1 ≤ most_number
-number-fits last few = ltb-false most_number (last + 1) few
+number-fits : (last : ℕ) → nat_lt MOST_NUMBER (last + 1) ≡ false → last + 1 ≤ MOST_NUMBER
+number-fits last few = ltb-false MOST_NUMBER (last + 1) few
 
 pub sound-create_transaction : (x : Present) (process : Pid) (label : Label) (timeout : ℕ) → IsSoundCourse x → Passes (create_transaction_tests x process label) → IsSoundOutcome x (create_transaction x process label timeout)
 unfolding create_transaction create_transaction_tests
@@ -183,7 +183,7 @@ sound-duplicate x process label from source sound passes = go (object_at x.handl
 pub sound-keep_information : (x : Present) (o : Option Enlistment) (information : List ℕ) → IsSoundCourse x → Passes (set_information_tests x o information) → IsSoundOutcome x (keep_information x o information)
 sound-keep_information x None information sound passes = sound-only_reply x Done sound
 sound-keep_information x (Some e) information sound passes = record {
-  settled = sound-with_information x e.id information sound (ltb-false most_information (length information) (passed (passed (passed passes).1).1).0);
+  settled = sound-with_information x e.id information sound (ltb-false MOST_INFORMATION_BYTES (length information) (passed (passed (passed passes).1).1).0);
   events = NoBoots-none;
   made = refl;
   outcomes = stay-refl (x.transactions).items;

@@ -2,6 +2,7 @@
 use Rattle.std.proofs.Common.{◌≡◌, ℕ, ◌+◌, ◌≤◌, ◌&&◌, not, Bool, true, false, cond, List, [], ◌∷◌, filter, length, sum_by, count_by, is_some, is_none, refl, sym, ◌∙◌, ap, arith, inl, inr, ◌⊎◌}
 use Rattle.std.proofs.lemmas.Bool.{cases_Bool, not-true, false_from_ne_true}
 use Rattle.std.proofs.lemmas.List.Sums.{sum_by-cons}
+use Rattle.ktm_base.specs.declared.limits.TheConstants.{MOST_LIVE}
 use Rattle.ktm_base.specs.declared.id.Id.{Id}
 use Rattle.ktm_types.specs.declared.change.Change.{Change}
 use Rattle.ktm_types.specs.declared.object.Transaction.{Transaction}
@@ -10,7 +11,6 @@ use Rattle.ktm_world.specs.Durable.{Durable, Recorded, changes_of, settings_of, 
 use Rattle.ktm_world.specs.Enlistments.{Enlistment, is_live_enlistment}
 use Rattle.ktm_world.specs.Files.{OwnChanges, own_changes}
 use Rattle.ktm_world.specs.Keys.{Own, OwnSettings, Store, own_settings}
-use Rattle.ktm_world.specs.Limits.{most_live}
 use Rattle.ktm_world.specs.Present.{Present}
 use Rattle.ktm_world.specs.Transactions.{is_live, same_id}
 use Rattle.ktm_world.specs.Tree.{Tree}
@@ -136,7 +136,7 @@ set-match set r g none (inr e) = elim (own_settings-found set r.id) [
 -- ---- all of it
 
 module _ (x : Present) (s : Durable) (own : List OwnChanges) (set : List Own) (rises : Rises s.transactions) (counts : (r : Recorded) → IsIn r s.transactions → Counts x own set r) (budget : Budget s.units s.tree own s.keys set)
-    (live : count_by is_live x.transactions.items ≤ most_live) (enlisted : count_by (is_live_enlistment x.transactions.items) x.transactions.enlistments ≤ most_live) (managers : length s.managers ≤ most_live) where
+    (live : count_by is_live x.transactions.items ≤ MOST_LIVE) (enlisted : count_by (is_live_enlistment x.transactions.items) x.transactions.enlistments ≤ MOST_LIVE) (managers : length s.managers ≤ MOST_LIVE) where
   rises-waiting : Rises (waiting s)
   rises-waiting = each_pair-filter is_earlier (λ t. not (is_decided t.stage)) s.transactions rises
 

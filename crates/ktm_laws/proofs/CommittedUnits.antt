@@ -22,7 +22,7 @@ use Rattle.ktm_laws.proofs.Applying.{Applies-from, Fits-from}
 use Rattle.ktm_laws.proofs.Calls.{not-not}
 use Rattle.ktm_laws.proofs.Elements.{IsIn-filter}
 use Rattle.ktm_laws.proofs.Limits.{length-filter-less}
-use Rattle.ktm_laws.proofs.Lookups.{Above, Fits, Rises, map_node, node_at-with_changed, node_at-elsewhere, node_at-there, Rises-changed}
+use Rattle.ktm_world.proofs.Lookups.{Above, Fits, Rises, map_node, node_at-with_changed, node_at-elsewhere, node_at-there, Rises-changed}
 use Rattle.ktm_laws.proofs.NormalForms.{names_only, ends_of, cut-none, put-none}
 use Rattle.ktm_laws.proofs.OlderVersions.{older_units, newly, older-grows}
 use Rattle.ktm_laws.proofs.Sums.{sum-filter-less}
@@ -42,7 +42,7 @@ tree_units tree = sum_by node_units tree
 abbrev pub units_at : Tree → ℕ → ℕ
 units_at tree n = units_of (bytes_of tree n)
 
-units-with_node : (tree : Tree) (node : Node) → tree_units (with_node tree node) ≡ node_units node + tree_units tree
+pub units-with_node : (tree : Tree) (node : Node) → tree_units (with_node tree node) ≡ node_units node + tree_units tree
 units-with_node [] node = omega (arith, sum_by-cons node_units node [])
 units-with_node (n ∷ ns) node = elim (cases_Bool (nat_lt node.number n.number)) [
   | inl before ↦ rw before (sum_by-cons node_units node (n ∷ ns))
@@ -58,7 +58,7 @@ units-without_node (x ∷ xs) n =
       | inr other ↦ rw other (let rest = units-without_node xs n in let b = sum_by-cons node_units x (without_node xs n) in omega arith)
     ]
 
-changed-above : (tree : Tree) (n m : ℕ) (f : Node → Node) → Above n tree → m ≤ n → with_changed tree m f ≡ tree
+pub changed-above : (tree : Tree) (n m : ℕ) (f : Node → Node) → Above n tree → m ≤ n → with_changed tree m f ≡ tree
 changed-above [] n m f above low = refl
 changed-above (x ∷ xs) n m f above low = rw (ne_eqb x.number m (λ e. omega (arith, above.0))) (ap (λ ys. x ∷ ys) (changed-above xs n m f above.1 low))
 
@@ -80,7 +80,7 @@ units-with_changed (x ∷ xs) n f node rises found =
     same : {x node : Node} → Some x ≡ Some node → x ≡ node
     same {x} {node} e = ap (λ o. elim o as (λ _. Node) [ Some y ↦ y | None ↦ x ]) e
 
-units-with_same : (tree : Tree) (n : ℕ) (f : Node → Node) → ((x : Node) → (f x).content ≡ x.content) → tree_units (with_changed tree n f) ≡ tree_units tree
+pub units-with_same : (tree : Tree) (n : ℕ) (f : Node → Node) → ((x : Node) → (f x).content ≡ x.content) → tree_units (with_changed tree n f) ≡ tree_units tree
 units-with_same [] n f same = refl
 units-with_same (x ∷ xs) n f same =
     let rest = units-with_same xs n f same in
@@ -125,7 +125,7 @@ suits-applies tree c is = record { fits = Fits-from tree c (Applies-from tree c 
     there (Move node parent name) is bytes = absurd (true≢false (sym bytes))
     there (Drop node) is bytes = absurd (true≢false (sym bytes))
 
-file-found : (tree : Tree) (n : ℕ) → is_file tree n ≡ true → (node : Node) × (node_at tree n ≡ Some node)
+pub file-found : (tree : Tree) (n : ℕ) → is_file tree n ≡ true → (node : Node) × (node_at tree n ≡ Some node)
 file-found tree n file = go (node_at tree n) refl file
   where
     go : (o : Option Node) → node_at tree n ≡ o → is_some (content_of o) ≡ true → (node : Node) × (node_at tree n ≡ Some node)
@@ -156,7 +156,7 @@ units-changed tree (Drop node) is rises = let all = units-without_node tree node
 abbrev pub is_older : Tree → List Version → FirstOpen → Bool
 is_older tree vs o = not (is_file tree o.file && o.version == version_of vs o.file)
 
-older-like : (tree : Tree) (vs : List Version) (a b : FirstOpen) → same_version a b ≡ true → is_older tree vs a ≡ is_older tree vs b
+pub older-like : (tree : Tree) (vs : List Version) (a b : FirstOpen) → same_version a b ≡ true → is_older tree vs a ≡ is_older tree vs b
 older-like tree vs a b same =
     let parts = and_parts (a.file == b.file) (a.version == b.version) same in
     let file = eqb-true _ _ parts.0 in

@@ -13,7 +13,7 @@ use Rattle.ktm_world.specs.Holds.{Place, place, place_of, same_place, places_of,
 use Rattle.ktm_world.specs.Tree.{Tree, root, node_at, is_there, is_file, is_directory, is_at_or_below, has_entries, same_name, parent_of, content_of}
 use Rattle.ktm_laws.specs.Footprint.{IsIn}
 use Rattle.ktm_laws.specs.Diamond.{AreApart, Follows, DiamondLaw}
-use Rattle.ktm_laws.proofs.Lookups.{node_at-elsewhere, changed-commute, Rises-changed}
+use Rattle.ktm_world.proofs.Lookups.{node_at-elsewhere, changed-commute, Rises-changed}
 use Rattle.ktm_laws.proofs.Ways.{above, root-stays, steps-from, is_at_or_below-from}
 use Rattle.ktm_laws.proofs.Applying.{Applies, Applies-from, applies-from, Fits-from, Good, Good-from, no_root, Gives, holds-after, at-All, All-at, NoneAt-from_find, NoneAt-from_any, find-from_NoneAt, dir_after, no_entry, parents-after}
 

@@ -1,24 +1,24 @@
 -- The limits of a durable state, one by one.
 use Rattle.std.proofs.Common.{◌≡◌, ◌≤◌, true, length, nat_le}
 use Rattle.std.proofs.lemmas.Bool.{and_parts, and_from, le-leb, leb-true}
+use Rattle.ktm_base.specs.declared.limits.TheConstants.{MOST_LIVE}
 use Rattle.ktm_world.specs.Durable.{Durable, units_in_use, nodes_in_use, keys_in_use, changes_in_wait, enlistments_in_use, is_within_limits}
-use Rattle.ktm_world.specs.Limits.{most_live}
 
 pub record KeepsLimits (s : Durable) : Type 0 where
   pub units : units_in_use s ≤ s.units
   pub nodes : nodes_in_use s ≤ s.units
   pub keys : keys_in_use s ≤ s.units
   pub changes : changes_in_wait s ≤ s.units
-  pub transactions : length s.transactions ≤ most_live
-  pub enlistments : enlistments_in_use s ≤ most_live
-  pub managers : length s.managers ≤ most_live
+  pub transactions : length s.transactions ≤ MOST_LIVE
+  pub enlistments : enlistments_in_use s ≤ MOST_LIVE
+  pub managers : length s.managers ≤ MOST_LIVE
 
 pub limits-kept : (s : Durable) → is_within_limits s ≡ true → KeepsLimits s
 unfolding is_within_limits
 limits-kept s within =
-    let g = and_parts _ (nat_le (length s.managers) most_live) within in
-    let f = and_parts _ (nat_le (enlistments_in_use s) most_live) g.0 in
-    let e = and_parts _ (nat_le (length s.transactions) most_live) f.0 in
+    let g = and_parts _ (nat_le (length s.managers) MOST_LIVE) within in
+    let f = and_parts _ (nat_le (enlistments_in_use s) MOST_LIVE) g.0 in
+    let e = and_parts _ (nat_le (length s.transactions) MOST_LIVE) f.0 in
     let d = and_parts _ (nat_le (changes_in_wait s) s.units) e.0 in
     let c = and_parts _ (nat_le (keys_in_use s) s.units) d.0 in
     let b = and_parts (nat_le (units_in_use s) s.units) (nat_le (nodes_in_use s) s.units) c.0 in

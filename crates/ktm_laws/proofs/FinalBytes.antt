@@ -12,7 +12,7 @@ use Rattle.ktm_laws.specs.FinalChanges.{names_of}
 use Rattle.ktm_laws.specs.Footprint.{IsIn}
 use Rattle.ktm_laws.proofs.Applying.{Applies-from, Fits-from, node-elsewhere}
 use Rattle.ktm_laws.proofs.CommittedUnits.{cut-empty}
-use Rattle.ktm_laws.proofs.Lookups.{map_node, node_at-there}
+use Rattle.ktm_world.proofs.Lookups.{map_node, node_at-there}
 use Rattle.ktm_laws.proofs.NormalForms.{RisingNumbers, apply_all-second, changed_all-append, ends_of, put-none, rising-written}
 use Rattle.ktm_laws.proofs.Sums.{sum-same}
 

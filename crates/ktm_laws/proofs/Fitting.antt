@@ -2,13 +2,13 @@
 use Rattle.std.proofs.Common.{◌≡◌, ◌-◌, ◌<◌, ◌≤◌, ◌^◌, not, Bool, true, false, List, length, nat_lt, nat_le, ap, inl, inr}
 use Rattle.std.proofs.lemmas.Bool.{and_parts, and_from, not-true, not_from_false}
 use Rattle.std.specs.List.{list_all, flat_map}
+use Rattle.ktm_base.specs.declared.limits.TheConstants.{MOST_INFORMATION_BYTES}
 use Rattle.ktm_base.specs.declared.id.Id.{Id}
 use Rattle.ktm_types.specs.declared.recorded.Superior.{Superior}
 use Rattle.ktm_world.specs.Changes.{apply_all}
 use Rattle.ktm_world.specs.Durable.{Durable, Recorded, is_decided, is_manager, is_new_in, is_before, changes_of, settings_of, enlistments_of, holds_in, is_within_limits, waiting}
 use Rattle.ktm_keyed.specs.Keyed.{is_rising}
 use Rattle.ktm_world.specs.Lawful.{are_apart, set_both}
-use Rattle.ktm_world.specs.Limits.{most_information}
 use Rattle.ktm_world.specs.Transactions.{same_id}
 use Rattle.ktm_world.specs.Tree.{IsWellFormed}
 use Rattle.ktm_laws.specs.Footprint.{IsIn, footprint, AreFootprintsApart}
@@ -27,7 +27,7 @@ differ a b = not (same_id a b)
 pub record IsEnlisted (s : Durable) (e : Superior) : Type 0 where
   pub drawn : is_drawn s e.enlistment ≡ true
   pub manager : is_manager s e.manager ≡ true
-  pub information : nat_le (length e.information) most_information ≡ true
+  pub information : nat_le (length e.information) MOST_INFORMATION_BYTES ≡ true
 
 -- what is so of a transaction, but for a ready one's superior and parts
 pub record Core (s : Durable) (t : Recorded) : Type 0 where
@@ -96,7 +96,7 @@ good-from s table rest = record {
   managers_drawn = rest.managers_drawn;
   enlistments_drawn = list_all-from (λ e. is_drawn s e.enlistment) (flat_map enlisted s.transactions) (λ e there. (enlistments e there).drawn);
   managers_there = list_all-from (λ e. is_manager s e.manager) (flat_map enlisted s.transactions) (λ e there. (enlistments e there).manager);
-  information_fits = list_all-from (λ e. nat_le (length e.information) most_information) (flat_map enlisted s.transactions) (λ e there. (enlistments e there).information);
+  information_fits = list_all-from (λ e. nat_le (length e.information) MOST_INFORMATION_BYTES) (flat_map enlisted s.transactions) (λ e there. (enlistments e there).information);
   parts = list_all-from has_one_part_each s.transactions (λ t there. (table.fit t there).core.parts);
   ready = list_all-from (is_ready_well s) s.transactions (λ t there. (table.fit t there).ready);
   held = list_all-from is_held_well s.transactions (λ t there. (table.fit t there).core.held);
@@ -144,7 +144,7 @@ table-of s good = record {
       enlistments = λ e has. let at = IsIn-flat_map enlisted s.transactions t e there has in record {
         drawn = list_all-at (λ e. is_drawn s e.enlistment) (flat_map enlisted s.transactions) good.enlistments_drawn e at;
         manager = list_all-at (λ e. is_manager s e.manager) (flat_map enlisted s.transactions) good.managers_there e at;
-        information = list_all-at (λ e. nat_le (length e.information) most_information) (flat_map enlisted s.transactions) good.information_fits e at;
+        information = list_all-at (λ e. nat_le (length e.information) MOST_INFORMATION_BYTES) (flat_map enlisted s.transactions) good.information_fits e at;
       };
       differ = each_pair-unflat differ enlistments_of s.transactions good.enlistments_differ t there;
       parts = list_all-at has_one_part_each s.transactions good.parts t there;

@@ -10,7 +10,7 @@ use Rattle.ktm_world.specs.Changes.{changed, changed_all, applies, apply_all, no
 use Rattle.ktm_world.specs.Paths.{is_name}
 use Rattle.ktm_world.specs.Tree.{Tree, IsWellFormed, root, node_at, is_there, is_directory, same_name, parent_of, content_of}
 use Rattle.ktm_laws.specs.Formed.{FormedLaw}
-use Rattle.ktm_laws.proofs.Lookups.{Fits, node_at-elsewhere, node_at-there, Rises-changed}
+use Rattle.ktm_world.proofs.Lookups.{Fits, node_at-elsewhere, node_at-there, Rises-changed}
 use Rattle.ktm_laws.proofs.Ways.{above, above-step, is_at_or_below-from}
 use Rattle.ktm_laws.proofs.Applying.{Applies, Applies-from, Fits-from, Good, Good-from, IsWellFormed-from, Gives, remade-holds, holds-after, at-All, NoneAt-from_find, no_entry, parents-after}
 use Rattle.ktm_laws.proofs.Diamonds.{moves_directory, no_root-after, dir-parent, way-after, dir-reach}

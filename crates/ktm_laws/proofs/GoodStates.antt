@@ -3,6 +3,7 @@ use Rattle.std.proofs.Common.{◌≡◌, ℕ, ◌+◌, ◌<◌, ◌≤◌, ◌^�
 use Rattle.std.proofs.lemmas.Bool.{and_parts, and_from, le-leb, ltb-true}
 use Rattle.std.proofs.lemmas.List.Elements.{All-nil}
 use Rattle.std.specs.List.{list_all}
+use Rattle.ktm_base.specs.declared.limits.TheConstants.{LEAST_UNITS}
 use Rattle.ktm_base.specs.Names.{IsName}
 use Rattle.ktm_types.specs.declared.recorded.Node.{Node}
 use Rattle.ktm_types.specs.declared.event.Event.{Event}
@@ -32,13 +33,13 @@ IsWellFormed-empty = record {
   rise = refl;
 }
 
-empty-limits : (units image : ℕ) → 16 ≤ units → is_within_limits (empty_state units image) ≡ true
+empty-limits : (units image : ℕ) → LEAST_UNITS ≤ units → is_within_limits (empty_state units image) ≡ true
 unfolding is_within_limits
 empty-limits units image many =
     and_from _ _ (and_from _ _ (and_from _ _ (and_from _ _ (and_from _ _ (and_from _ _
     (le-leb 0 units (omega arith)) (le-leb 1 units (omega arith))) (le-leb 0 units (omega arith))) (le-leb 0 units (omega arith))) refl) refl) refl
 
-empty-good : (units image : ℕ) → 16 ≤ units → image < 2 ^ 16 → IsGoodState (empty_state units image)
+empty-good : (units image : ℕ) → LEAST_UNITS ≤ units → image < 2 ^ 16 → IsGoodState (empty_state units image)
 empty-good units image many number = record {
   image_fits = number;
   transactions_rise = refl;

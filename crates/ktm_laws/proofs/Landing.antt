@@ -28,7 +28,7 @@ use Rattle.ktm_laws.proofs.Arriving.{named}
 use Rattle.ktm_laws.proofs.Diamonds.{IsIn-right, IsIn-map}
 use Rattle.ktm_laws.proofs.Elements.{IsIn-filter, IsIn-flat_map, list_all-at, list_any-at}
 use Rattle.ktm_laws.proofs.Lists.{IsIn-left, IsIn-cases, IsIn-unmap}
-use Rattle.ktm_laws.proofs.Lookups.{node_at-elsewhere}
+use Rattle.ktm_world.proofs.Lookups.{node_at-elsewhere}
 use Rattle.ktm_laws.proofs.Meeting.{found-missed}
 use Rattle.ktm_laws.proofs.Passing.{Spares, passed, passed-sound}
 use Rattle.ktm_laws.proofs.Releasing.{filter-true, spares-none}

@@ -22,7 +22,7 @@ use Rattle.ktm_laws.proofs.Applying.{Applies-from, Fits-from}
 use Rattle.ktm_laws.proofs.Diamonds.{IsIn-map}
 use Rattle.ktm_laws.proofs.Elements.{IsIn-filter, list_all-at, list_all-from}
 use Rattle.ktm_laws.proofs.Lists.{IsIn-cases, IsIn-unmap}
-use Rattle.ktm_laws.proofs.Lookups.{node_at-there}
+use Rattle.ktm_world.proofs.Lookups.{node_at-there}
 use Rattle.ktm_laws.proofs.Passing.{All-in}
 use Rattle.ktm_laws.proofs.Versions.{FitVersions, fit-after, Shows, shows-after, shows-all, version_of-raised}
 use Rattle.ktm_laws.proofs.Written.{IsWritten}

@@ -10,7 +10,7 @@ use Rattle.ktm_world.specs.FileCalls.{Whereabouts, free, at_node, reached, enter
 use Rattle.ktm_world.specs.Paths.{is_name, path_of, parts_of, names_in}
 use Rattle.ktm_world.specs.Tree.{Tree, IsWellFormed, root, node_at, is_directory, child_of, content_of, same_name}
 use Rattle.ktm_laws.specs.Footprint.{IsIn}
-use Rattle.ktm_laws.proofs.Lookups.{Rises, Rises-from, node_at-below}
+use Rattle.ktm_world.proofs.Lookups.{Rises, Rises-from, node_at-below}
 use Rattle.ktm_laws.proofs.Elements.{find-in}
 use Rattle.ktm_laws.proofs.Meeting.{is-directory}
 use Rattle.ktm_laws.proofs.Passing.{All-in}

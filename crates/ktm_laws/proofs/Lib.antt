@@ -60,7 +60,6 @@ pub mod LimitsKept
 pub mod LimitsLaws
 pub mod LimitsRestarts
 pub mod Lists
-pub mod Lookups
 pub mod MadeManagers
 pub mod Makings
 pub mod Meeting

@@ -2,9 +2,9 @@
 use Rattle.std.proofs.Common.{◌≡◌, ℕ, ◌+◌, ◌≤◌, ◌&&◌, not, Bool, true, false, cond, List, [], ◌∷◌, length, filter, count_by, sum_by, nat_le, refl, sym, ◌∙◌, ap, subst, arith, inl, inr}
 use Rattle.std.proofs.lemmas.Bool.{cases_Bool, and_parts, and_from, le-leb, leb-true, false_from_ne_true}
 use Rattle.std.proofs.lemmas.List.Sums.{sum_by-cons}
+use Rattle.ktm_base.specs.declared.limits.TheConstants.{MOST_LIVE}
 use Rattle.ktm_world.specs.Changes.{nodes_made, changes_bytes}
 use Rattle.ktm_world.specs.Durable.{Durable, Recorded, is_decided, is_before, changes_of, settings_of, enlistments_of, with_recorded, while_not_done, units_waiting, units_in_use, nodes_in_use, keys_in_use, changes_in_wait, enlistments_in_use, is_within_limits}
-use Rattle.ktm_world.specs.Limits.{most_live}
 use Rattle.ktm_world.specs.Transactions.{same_id}
 use Rattle.ktm_world.specs.Tree.{units_of, bytes_or_none}
 use Rattle.std.specs.List.{list_any}
@@ -59,9 +59,9 @@ pub limits-less : (s : Durable) (ts : List Recorded) → Less s.transactions ts 
 unfolding is_within_limits
 limits-less s ts less limits =
     let s' : Durable = record s { transactions = ts } in
-    let g = and_parts (nat_le (units_in_use s) s.units && nat_le (nodes_in_use s) s.units && nat_le (keys_in_use s) s.units && nat_le (changes_in_wait s) s.units && nat_le (length s.transactions) most_live && nat_le (enlistments_in_use s) most_live) (nat_le (length s.managers) most_live) limits in
-    let f = and_parts (nat_le (units_in_use s) s.units && nat_le (nodes_in_use s) s.units && nat_le (keys_in_use s) s.units && nat_le (changes_in_wait s) s.units && nat_le (length s.transactions) most_live) (nat_le (enlistments_in_use s) most_live) g.0 in
-    let e = and_parts (nat_le (units_in_use s) s.units && nat_le (nodes_in_use s) s.units && nat_le (keys_in_use s) s.units && nat_le (changes_in_wait s) s.units) (nat_le (length s.transactions) most_live) f.0 in
+    let g = and_parts (nat_le (units_in_use s) s.units && nat_le (nodes_in_use s) s.units && nat_le (keys_in_use s) s.units && nat_le (changes_in_wait s) s.units && nat_le (length s.transactions) MOST_LIVE && nat_le (enlistments_in_use s) MOST_LIVE) (nat_le (length s.managers) MOST_LIVE) limits in
+    let f = and_parts (nat_le (units_in_use s) s.units && nat_le (nodes_in_use s) s.units && nat_le (keys_in_use s) s.units && nat_le (changes_in_wait s) s.units && nat_le (length s.transactions) MOST_LIVE) (nat_le (enlistments_in_use s) MOST_LIVE) g.0 in
+    let e = and_parts (nat_le (units_in_use s) s.units && nat_le (nodes_in_use s) s.units && nat_le (keys_in_use s) s.units && nat_le (changes_in_wait s) s.units) (nat_le (length s.transactions) MOST_LIVE) f.0 in
     let d = and_parts (nat_le (units_in_use s) s.units && nat_le (nodes_in_use s) s.units && nat_le (keys_in_use s) s.units) (nat_le (changes_in_wait s) s.units) e.0 in
     let c = and_parts (nat_le (units_in_use s) s.units && nat_le (nodes_in_use s) s.units) (nat_le (keys_in_use s) s.units) d.0 in
     let b = and_parts (nat_le (units_in_use s) s.units) (nat_le (nodes_in_use s) s.units) c.0 in
@@ -70,8 +70,8 @@ limits-less s ts less limits =
     (leb-less (nodes_in_use s') (nodes_in_use s) s.units (add-less (1 + length s.tree) _ _ (less-waits (λ (t : Recorded). nodes_made (changes_of t)) s.transactions ts less)) b.1))
     (leb-less (keys_in_use s') (keys_in_use s) s.units (add-less (length s.keys) _ _ (less-waits (λ (t : Recorded). count_by (λ setting. is_some setting.value) (settings_of t)) s.transactions ts less)) c.1))
     (leb-less (changes_in_wait s') (changes_in_wait s) s.units (less-waits (λ (t : Recorded). count_by (λ change. not (changes_bytes change)) (changes_of t) + count_by (λ setting. is_none setting.value) (settings_of t)) s.transactions ts less) d.1))
-    (leb-less (length ts) (length s.transactions) most_live less.count e.1))
-    (leb-less (enlistments_in_use s') (enlistments_in_use s) most_live less.enlistments f.1))
+    (leb-less (length ts) (length s.transactions) MOST_LIVE less.count e.1))
+    (leb-less (enlistments_in_use s') (enlistments_in_use s) MOST_LIVE less.enlistments f.1))
     g.1
 
 -- the count of boots is no part of them

@@ -3,6 +3,7 @@ use Rattle.std.specs.Prelude.{if◌then◌else◌}
 use Rattle.std.proofs.Common.{◌≡◌, ℕ, ◌+◌, ◌-◌, ◌≤◌, ◌&&◌, ◌||◌, not, Bool, true, false, List, [], ◌∷◌, ◌++◌, length, count_by, nat_lt, Option, Some, None, is_some, is_none, refl, sym, ◌∙◌, ap, subst, arith, inl, inr, length-append}
 use Rattle.std.proofs.lemmas.Bool.{cases_Bool, and_parts, ltb-false, or_cases, or_parts, true≢false, not-true}
 use Rattle.std.proofs.lemmas.List.{length-map}
+use Rattle.ktm_base.specs.declared.limits.TheConstants.{MOST_LIVE, MOST_HANDLES, MOST_NUMBER}
 use Rattle.ktm_base.specs.declared.id.Id.{Id}
 use Rattle.ktm_base.specs.declared.id.Label.{Label}
 use Rattle.ktm_base.specs.declared.id.Pid.{Pid}
@@ -26,7 +27,6 @@ use Rattle.ktm_world.specs.Handles.{no_handle_left, object_at}
 use Rattle.ktm_world.specs.KeyCalls.{kv_set, kv_set_tests, kv_unset, kv_unset_tests, with_setting}
 use Rattle.ktm_world.specs.Keys.{keys_used, changes_pending as keys_unset}
 use Rattle.ktm_world.specs.Labels.{binding, holds_of, with_handle, transaction_tests}
-use Rattle.ktm_world.specs.Limits.{most_handles, most_live, most_number}
 use Rattle.ktm_world.specs.Outcome.{Outcome, apply, only_reply, committed_now, served}
 use Rattle.ktm_world.specs.Phases.{Course, aborting, committing, to_commit, to_pre_prepare, to_prepare, pre_prepare_answered, prepare_answered, read_only_answered, commit_answered, rollback_answered, single_phase_rejected, recovered, is_single_phase}
 use Rattle.ktm_world.specs.Present.{Present, Transactions}
@@ -62,8 +62,8 @@ pub record Stays (x : Present) (o : Outcome) : Type 0 where
 
 module _ (x : Present) (fits : Fits x) where
   pub stays-left : (o : Outcome) → o.works ≡ [] → o.openings ≡ [] → o.forgotten ≡ [] → o.table ≡ x.files.table → o.own ≡ x.keys.own
-      → count_by is_live o.transactions.items ≤ most_live → count_by (is_live_enlistment o.transactions.items) o.transactions.enlistments ≤ most_live
-      → length (x.managers ++ o.made) ≤ most_live → length o.handles ≤ most_handles → o.transactions.last_transaction ≤ most_number → o.transactions.last_manager ≤ most_number → o.transactions.last_enlistment ≤ most_number
+      → count_by is_live o.transactions.items ≤ MOST_LIVE → count_by (is_live_enlistment o.transactions.items) o.transactions.enlistments ≤ MOST_LIVE
+      → length (x.managers ++ o.made) ≤ MOST_LIVE → length o.handles ≤ MOST_HANDLES → o.transactions.last_transaction ≤ MOST_NUMBER → o.transactions.last_manager ≤ MOST_NUMBER → o.transactions.last_enlistment ≤ MOST_NUMBER
       → Stays x o
   unfolding changes_waiting
   stays-left o works openings forgotten table own live enlisted managers handles lt lm le =
@@ -89,7 +89,7 @@ module _ (x : Present) (fits : Fits x) where
         fixed = λ fixed. subst (λ (f : FilesNow). AreFixed f.first_opens) (sym same) fixed;
       }
 
-  no-managers : length (x.managers ++ []) ≤ most_live
+  no-managers : length (x.managers ++ []) ≤ MOST_LIVE
   no-managers = let a = length-append x.managers [] in let b = fits.managers in omega arith
 
   pub stays-reply : (reply : Reply) → Stays x (only_reply x reply)
@@ -100,10 +100,10 @@ module _ (x : Present) (fits : Fits x) where
   stays-down reply = stays-left (record (only_reply x reply) { stops = true }) refl refl refl refl refl fits.live fits.enlisted no-managers fits.handles fits.last_transaction fits.last_manager fits.last_enlistment
 
   -- one handle more
-  handles-more : (process : Pid) (label : Label) (object : Object) → no_handle_left x.handles ≡ false → length (with_handle x.handles process label object) ≤ most_handles
+  handles-more : (process : Pid) (label : Label) (object : Object) → no_handle_left x.handles ≡ false → length (with_handle x.handles process label object) ≤ MOST_HANDLES
   handles-more process label object left =
       let a = length-append x.handles (record { process = process; label = label; object = object } ∷ []) in
-      let b : length x.handles + 1 ≤ most_handles = ltb-false most_handles (length x.handles + 1) left in
+      let b : length x.handles + 1 ≤ MOST_HANDLES = ltb-false MOST_HANDLES (length x.handles + 1) left in
       omega arith
 
   pub stays-bound : (process : Pid) (label : Label) (object : Object) (reply : Reply) → no_handle_left x.handles ≡ false → Stays x (binding process label object (only_reply x reply))
@@ -177,14 +177,14 @@ module _ (x : Present) (fits : Fits x) where
   unfolding create_transaction create_transaction_tests
   stays-create_transaction sound process label timeout passes =
       let test = or_parts (no_handle_left x.handles) (no_transaction_left x.transactions) (passed (passed passes).1).0 in
-      let room = or_parts (nat_lt most_live (count_by is_live x.transactions.items + 1)) (nat_lt most_number (x.transactions.last_transaction + 1)) test.1 in
-      let live = ltb-false most_live (count_by is_live x.transactions.items + 1) room.0 in
+      let room = or_parts (nat_lt MOST_LIVE (count_by is_live x.transactions.items + 1)) (nat_lt MOST_NUMBER (x.transactions.last_transaction + 1)) test.1 in
+      let live = ltb-false MOST_LIVE (count_by is_live x.transactions.items + 1) room.0 in
       let more = count-append is_live x.transactions.items (new ∷ []) in
       let one : count_by is_live (new ∷ []) ≡ 1 = refl in
       let less = count-less (is_live_enlistment (x.transactions.items ++ new ∷ [])) (is_live_enlistment x.transactions.items) x.transactions.enlistments was in
       let had = fits.enlisted in
       stays-left (create_transaction x process label timeout) refl refl refl refl refl (omega arith) (omega arith) no-managers (handles-more process label (Object.Transaction new.id) test.0)
-      (ltb-false most_number (x.transactions.last_transaction + 1) room.1) fits.last_manager fits.last_enlistment
+      (ltb-false MOST_NUMBER (x.transactions.last_transaction + 1) room.1) fits.last_manager fits.last_enlistment
     where
       new : Transaction
       new = record { id = new_id x x.transactions.last_transaction; timeout = timeout; created = x.transactions.clock; phase = Active; outcome = Undetermined; is_recorded = false }
@@ -207,32 +207,32 @@ module _ (x : Present) (fits : Fits x) where
   unfolding create_resource_manager create_resource_manager_tests
   stays-create_manager process label durability passes =
       let test = or_parts (no_handle_left x.handles) (no_manager_left x.managers x.transactions) (passed (passed passes).1).0 in
-      let room = or_parts (nat_lt most_live (length x.managers + 1)) (nat_lt most_number (x.transactions.last_manager + 1)) test.1 in
-      let few = ltb-false most_live (length x.managers + 1) room.0 in
+      let room = or_parts (nat_lt MOST_LIVE (length x.managers + 1)) (nat_lt MOST_NUMBER (x.transactions.last_manager + 1)) test.1 in
+      let few = ltb-false MOST_LIVE (length x.managers + 1) room.0 in
       let id = new_id x x.transactions.last_manager in
       let more = length-append x.managers (record { id = id; is_durable = is_durable durability; queue = [] } ∷ []) in
       stays-left (create_resource_manager x process label durability) refl refl refl refl refl fits.live fits.enlisted (omega arith) (handles-more process label (Object.Manager id) test.0)
-      fits.last_transaction (ltb-false most_number (x.transactions.last_manager + 1) room.1) fits.last_enlistment
+      fits.last_transaction (ltb-false MOST_NUMBER (x.transactions.last_manager + 1) room.1) fits.last_enlistment
 
   pub stays-create_enlistment : (process : Pid) (label : Label) (m : Option Manager) (t : Option Transaction) (kind : EnlistmentKind) → Passes (create_enlistment_tests x process label m t kind) → Stays x (create_enlistment x process label m t kind)
   unfolding create_enlistment create_enlistment_tests
   stays-create_enlistment process label m t kind passes =
       let test = or_parts (no_handle_left x.handles) (no_enlistment_left x.transactions) (passed (passed (passed (passed (passed (passed (passed (passed passes).1).1).1).1).1).1).1).0 in
-      go m t test.0 (or_parts (nat_lt most_live (count_by (is_live_enlistment x.transactions.items) x.transactions.enlistments + 1)) (nat_lt most_number (x.transactions.last_enlistment + 1)) test.1)
+      go m t test.0 (or_parts (nat_lt MOST_LIVE (count_by (is_live_enlistment x.transactions.items) x.transactions.enlistments + 1)) (nat_lt MOST_NUMBER (x.transactions.last_enlistment + 1)) test.1)
     where
       go : (m : Option Manager) (t : Option Transaction) → no_handle_left x.handles ≡ false
-          → (nat_lt most_live (count_by (is_live_enlistment x.transactions.items) x.transactions.enlistments + 1) ≡ false) × (nat_lt most_number (x.transactions.last_enlistment + 1) ≡ false)
+          → (nat_lt MOST_LIVE (count_by (is_live_enlistment x.transactions.items) x.transactions.enlistments + 1) ≡ false) × (nat_lt MOST_NUMBER (x.transactions.last_enlistment + 1) ≡ false)
           → Stays x (enlist x process label m t kind)
       go None t left room = stays-reply Done
       go (Some m) None left room = stays-reply Done
       go (Some m) (Some t) left room =
           let id = new_id x x.transactions.last_enlistment in
           let new : Enlistment = record { id = id; manager = m.id; transaction = t.id; kind = kind; owes = None; is_read_only = false; is_prepared = false; is_finished = false; is_recovered = true; information = [] } in
-          let few = ltb-false most_live (count_by (is_live_enlistment x.transactions.items) x.transactions.enlistments + 1) room.0 in
+          let few = ltb-false MOST_LIVE (count_by (is_live_enlistment x.transactions.items) x.transactions.enlistments + 1) room.0 in
           let more = count-append (is_live_enlistment x.transactions.items) x.transactions.enlistments (new ∷ []) in
           let one : count_by (is_live_enlistment x.transactions.items) (new ∷ []) ≤ 1 = one-at-most' (is_live_enlistment x.transactions.items) new in
           stays-left (enlist x process label (Some m) (Some t) kind) refl refl refl refl refl fits.live (omega arith) no-managers (handles-more process label (Object.Enlistment id) left)
-          fits.last_transaction fits.last_manager (ltb-false most_number (x.transactions.last_enlistment + 1) room.1)
+          fits.last_transaction fits.last_manager (ltb-false MOST_NUMBER (x.transactions.last_enlistment + 1) room.1)
         where
           one-at-most' : (test : Enlistment → Bool) (e : Enlistment) → count_by test (e ∷ []) ≤ 1
           one-at-most' test e = let low = one-at-most test e in omega arith
@@ -249,13 +249,13 @@ module _ (x : Present) (fits : Fits x) where
       record {
         fits = record {
           changes = (let a = ap file_changes_waiting same in let b = ap keys_unset keys in omega arith);
-          live = subst (λ (ts : Transactions). count_by is_live ts.items ≤ most_live) (sym transactions) fits.live;
-          enlisted = subst (λ (ts : Transactions). count_by (is_live_enlistment ts.items) ts.enlistments ≤ most_live) (sym transactions) fits.enlisted;
+          live = subst (λ (ts : Transactions). count_by is_live ts.items ≤ MOST_LIVE) (sym transactions) fits.live;
+          enlisted = subst (λ (ts : Transactions). count_by (is_live_enlistment ts.items) ts.enlistments ≤ MOST_LIVE) (sym transactions) fits.enlisted;
           managers = (let a = length-map (x.managers ++ o.made) (served o.took o.sent) in let b = length-append x.managers o.made in let c = ap length made in let d = fits.managers in omega arith);
-          handles = subst (λ (hs : List Handle). length hs ≤ most_handles) (sym handles) fits.handles;
-          last_transaction = subst (λ (ts : Transactions). ts.last_transaction ≤ most_number) (sym transactions) fits.last_transaction;
-          last_manager = subst (λ (ts : Transactions). ts.last_manager ≤ most_number) (sym transactions) fits.last_manager;
-          last_enlistment = subst (λ (ts : Transactions). ts.last_enlistment ≤ most_number) (sym transactions) fits.last_enlistment;
+          handles = subst (λ (hs : List Handle). length hs ≤ MOST_HANDLES) (sym handles) fits.handles;
+          last_transaction = subst (λ (ts : Transactions). ts.last_transaction ≤ MOST_NUMBER) (sym transactions) fits.last_transaction;
+          last_manager = subst (λ (ts : Transactions). ts.last_manager ≤ MOST_NUMBER) (sym transactions) fits.last_manager;
+          last_enlistment = subst (λ (ts : Transactions). ts.last_enlistment ≤ MOST_NUMBER) (sym transactions) fits.last_enlistment;
           last_open = (let a = ap (λ (f : FilesNow). f.table.last_open) same in let b = fits.last_open in omega arith);
           next_node = (let a = ap (λ (f : FilesNow). f.table.next_node) same in let b = fits.next_node in omega arith);
           units = (let a = ap units_used same in let b = fits.units in omega arith);

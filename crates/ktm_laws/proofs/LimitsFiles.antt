@@ -3,6 +3,7 @@ use Rattle.std.specs.Prelude.{if◌then◌else◌}
 use Rattle.std.proofs.Common.{◌≡◌, ℕ, ◌+◌, ◌-◌, ◌≤◌, ◌==◌, ◌&&◌, ◌||◌, Bool, true, false, List, [], ◌∷◌, ◌++◌, map, length, sum_by, nat_lt, Option, Some, None, is_some, refl, sym, ◌∙◌, ap, subst, arith, inl, inr, ◌⊎◌, length-append}
 use Rattle.std.proofs.lemmas.Bool.{and_parts, eqb-true, eqb-false, ltb-false, or_parts, true≢false, not-true}
 use Rattle.std.proofs.lemmas.List.{append-nil}
+use Rattle.ktm_base.specs.declared.limits.TheConstants.{MOST_HANDLES, MOST_NUMBER, END_OF_NODES}
 use Rattle.ktm_base.specs.declared.id.Id.{Id}
 use Rattle.ktm_base.specs.declared.id.Label.{Label}
 use Rattle.ktm_base.specs.declared.id.Pid.{Pid}
@@ -27,7 +28,6 @@ use Rattle.ktm_world.specs.Files.{FilesNow, FirstOpen, OpenFile, committed_files
 use Rattle.ktm_world.specs.FileUses.{own_units, units_used, nodes_used, file_changes_waiting}
 use Rattle.ktm_world.specs.Keys.{keys_used, changes_pending as keys_unset}
 use Rattle.ktm_world.specs.Labels.{file_named, with_handle}
-use Rattle.ktm_world.specs.Limits.{end_of_nodes, most_handles, most_number}
 use Rattle.ktm_world.specs.Outcome.{apply, committed_now}
 use Rattle.ktm_world.specs.Present.{Present}
 use Rattle.ktm_world.specs.Tree.{bytes_of, is_file}
@@ -82,12 +82,12 @@ module _ (formed : FormedLaw) (x : Present) (sound : IsSoundFiles x) (fits : Fit
   -- files as they are after a call, within the limits
   record FilesFit (g : FilesNow) : Type 0 where
     changes : file_changes_waiting g + keys_unset x.keys ≤ x.recorded.units
-    last_open : g.table.last_open ≤ most_number
-    next_node : g.table.next_node ≤ end_of_nodes
+    last_open : g.table.last_open ≤ MOST_NUMBER
+    next_node : g.table.next_node ≤ END_OF_NODES
     units : units_used g ≤ x.recorded.units
     nodes : nodes_used g ≤ x.recorded.units
 
-  fits-of_files : (who : Option Id) (o : FileOutcome) (handles : List Handle) → FilesFit (files_after x.files who o) → length handles ≤ most_handles → Fits (apply x (record (of_files x who o) { handles = handles }))
+  fits-of_files : (who : Option Id) (o : FileOutcome) (handles : List Handle) → FilesFit (files_after x.files who o) → length handles ≤ MOST_HANDLES → Fits (apply x (record (of_files x who o) { handles = handles }))
   unfolding changes_waiting
   fits-of_files who o handles fit few =
       let same = files-of x who o in
@@ -117,14 +117,14 @@ module _ (formed : FormedLaw) (x : Present) (sound : IsSoundFiles x) (fits : Fit
   -- ---- what the tests say
 
   quota-says : (who : Option Id) (o : FileOutcome) → lacks_quota x.files (file_room x) who o ≡ false
-      → (file_changes_waiting (files_after x.files who o) + keys_unset x.keys ≤ x.recorded.units) × ((is_some o.opened && (most_handles - length x.handles == 0)) ≡ false)
-      × ((files_after x.files who o).table.last_open ≤ most_number) × ((files_after x.files who o).table.next_node ≤ end_of_nodes)
+      → (file_changes_waiting (files_after x.files who o) + keys_unset x.keys ≤ x.recorded.units) × ((is_some o.opened && (MOST_HANDLES - length x.handles == 0)) ≡ false)
+      × ((files_after x.files who o).table.last_open ≤ MOST_NUMBER) × ((files_after x.files who o).table.next_node ≤ END_OF_NODES)
   unfolding lacks_quota file_room changes_waiting
   quota-says who o none =
       let g = files_after x.files who o in
-      let d = or_parts _ (nat_lt end_of_nodes g.table.next_node) none in
-      let c = or_parts _ (nat_lt most_number g.table.last_open) d.0 in
-      let b = or_parts (nat_lt (x.recorded.units - keys_unset x.keys) (file_changes_waiting g)) (is_some o.opened && (most_handles - length x.handles == 0)) c.0 in
+      let d = or_parts _ (nat_lt END_OF_NODES g.table.next_node) none in
+      let c = or_parts _ (nat_lt MOST_NUMBER g.table.last_open) d.0 in
+      let b = or_parts (nat_lt (x.recorded.units - keys_unset x.keys) (file_changes_waiting g)) (is_some o.opened && (MOST_HANDLES - length x.handles == 0)) c.0 in
       let few = ltb-false (x.recorded.units - keys_unset x.keys) (file_changes_waiting g) b.0 in
       let had = fits.changes in
       (omega arith, b.1, ltb-false _ _ c.1, ltb-false _ _ d.1)
@@ -189,8 +189,8 @@ module _ (formed : FormedLaw) (x : Present) (sound : IsSoundFiles x) (fits : Fit
       → (AreFixed x.files.first_opens → AreFixed (apply x (of_files x who o)).files.first_opens) → Stays x (opening x process label who o)
   opened-stays process label who o quota disk fixed' = go o.opened refl
     where
-      says : (file_changes_waiting (files_after x.files who o) + keys_unset x.keys ≤ x.recorded.units) × ((is_some o.opened && (most_handles - length x.handles == 0)) ≡ false)
-          × ((files_after x.files who o).table.last_open ≤ most_number) × ((files_after x.files who o).table.next_node ≤ end_of_nodes)
+      says : (file_changes_waiting (files_after x.files who o) + keys_unset x.keys ≤ x.recorded.units) × ((is_some o.opened && (MOST_HANDLES - length x.handles == 0)) ≡ false)
+          × ((files_after x.files who o).table.last_open ≤ MOST_NUMBER) × ((files_after x.files who o).table.next_node ≤ END_OF_NODES)
       says = quota-says who o quota
 
       fit : FilesFit (files_after x.files who o)
@@ -199,8 +199,8 @@ module _ (formed : FormedLaw) (x : Present) (sound : IsSoundFiles x) (fits : Fit
       go : (p : Option OpenFile) → o.opened ≡ p → Stays x (bound_file process label p (of_files x who o))
       go None is = record { fits = fits-of_files who o x.handles fit fits.handles; fixed = fixed' }
       go (Some file) is =
-          let free' : (most_handles - length x.handles == 0) ≡ false = subst (λ q. (is_some q && (most_handles - length x.handles == 0)) ≡ false) is says.1 in
-          let some = eqb-false (most_handles - length x.handles) 0 free' in
+          let free' : (MOST_HANDLES - length x.handles == 0) ≡ false = subst (λ q. (is_some q && (MOST_HANDLES - length x.handles == 0)) ≡ false) is says.1 in
+          let some = eqb-false (MOST_HANDLES - length x.handles) 0 free' in
           let more = length-append x.handles (record { process = process; label = label; object = Object.File file.number } ∷ []) in
           record { fits = fits-of_files who o (with_handle x.handles process label (Object.File file.number)) fit (omega arith); fixed = fixed' }
 

@@ -5,6 +5,7 @@ use Rattle.std.proofs.lemmas.List.{length-map}
 use Rattle.std.proofs.lemmas.List.Concat.{length-flat_map}
 use Rattle.std.proofs.lemmas.List.Sums.{count_by-le-length}
 use Rattle.std.specs.List.{flat_map}
+use Rattle.ktm_base.specs.declared.limits.TheConstants.{MOST_LIVE}
 use Rattle.ktm_base.specs.declared.id.Id.{Id}
 use Rattle.ktm_types.specs.declared.event.Part.{Part}
 use Rattle.ktm_types.specs.declared.event.Part.TheVariants.{Enlistment as EnlistmentPart, Changes, Settings}
@@ -17,7 +18,6 @@ use Rattle.ktm_world.specs.Enlistments.{Enlistment, is_live_enlistment}
 use Rattle.ktm_world.specs.Files.{OwnChanges, bytes_seen}
 use Rattle.ktm_world.specs.FileUses.{own_units, units_used, nodes_used, file_changes_waiting}
 use Rattle.ktm_world.specs.Keys.{Own, keys_used, changes_pending as keys_unset}
-use Rattle.ktm_world.specs.Limits.{most_live}
 use Rattle.ktm_world.specs.Logs.{Group}
 use Rattle.ktm_world.specs.Present.{Present}
 use Rattle.ktm_world.specs.Transactions.{is_live}
@@ -144,7 +144,7 @@ module _ (base : Durable) (room : ℕ) (log : List Group) (good : IsGoodState (s
   keys : keys_used x.keys ≤ s.units
   keys = let a = some-back (λ (o : Own). count_by (λ setting. is_some setting.value) o.settings) has_own_settings set_by s in let b = limits.keys in omega arith
 
-  live : count_by is_live x.transactions.items ≤ most_live
+  live : count_by is_live x.transactions.items ≤ MOST_LIVE
   live =
       let a = count_by-le-length is_live x.transactions.items in
       let b = length-map (back s) transaction_back in
@@ -152,7 +152,7 @@ module _ (base : Durable) (room : ℕ) (log : List Group) (good : IsGoodState (s
       let d = limits.transactions in
       omega arith
 
-  enlisted : count_by (is_live_enlistment x.transactions.items) x.transactions.enlistments ≤ most_live
+  enlisted : count_by (is_live_enlistment x.transactions.items) x.transactions.enlistments ≤ MOST_LIVE
   enlisted =
       let a = count_by-le-length (is_live_enlistment x.transactions.items) x.transactions.enlistments in
       let b = length-rising (flat_map enlistments_back (back s)) in
@@ -162,7 +162,7 @@ module _ (base : Durable) (room : ℕ) (log : List Group) (good : IsGoodState (s
       let f = limits.enlistments in
       omega arith
 
-  managers : length x.managers ≤ most_live
+  managers : length x.managers ≤ MOST_LIVE
   managers =
       let past : Id → ManagerPast = λ id. record { id = id; is_durable = true; taken = []; queue = [] } in
       let a : length (map manager_now (map past s.managers)) ≡ length (map past s.managers) = length-map (map past s.managers) manager_now in

@@ -3,6 +3,7 @@ use Rattle.std.proofs.Common.{◌≡◌, ◌+◌, ◌<◌, ◌≤◌, ◌^◌, n
 use Rattle.std.proofs.lemmas.Bool.{and_from, and_parts, eq-eqb, le-leb, lt-ltb, ltb-false, not_from_false, or_parts}
 use Rattle.std.proofs.lemmas.List.{length-map}
 use Rattle.std.specs.List.{list_any}
+use Rattle.ktm_base.specs.declared.limits.TheConstants.{MOST_LIVE}
 use Rattle.ktm_base.specs.declared.id.Id.{Id}
 use Rattle.ktm_base.specs.declared.id.Label.{Label}
 use Rattle.ktm_base.specs.declared.id.Pid.{Pid}
@@ -14,7 +15,6 @@ use Rattle.ktm_world.specs.Decide.{command_effect, command_tests}
 use Rattle.ktm_world.specs.Durable.{Durable, events_apply, is_before, is_within_limits, with_manager}
 use Rattle.ktm_world.specs.Enlistments.{Manager}
 use Rattle.ktm_world.specs.Lawful.{Agrees}
-use Rattle.ktm_world.specs.Limits.{most_live}
 use Rattle.ktm_world.specs.Outcome.{first_refusal, refuse_or}
 use Rattle.ktm_world.specs.Present.{Present}
 use Rattle.ktm_world.specs.TransactionCalls.{create_resource_manager, create_resource_manager_tests}
@@ -40,9 +40,9 @@ one-more (a ∷ ids) id = if_cases (λ xs. length xs ≡ length (a ∷ ids) + 1)
 durable-fewer : (ms : List Manager) → length (durable_ids ms) ≤ length ms
 durable-fewer ms = subst (λ n. n ≤ length ms) (sym (length-map (filter (λ (m : Manager). m.is_durable) ms) (λ (m : Manager). m.id))) (length-filter-less (λ (m : Manager). m.is_durable) ms)
 
-limits-made : (s : Durable) (id : Id) → is_within_limits s ≡ true → length s.managers + 1 ≤ most_live → is_within_limits (record s { managers = with_manager s.managers id }) ≡ true
+limits-made : (s : Durable) (id : Id) → is_within_limits s ≡ true → length s.managers + 1 ≤ MOST_LIVE → is_within_limits (record s { managers = with_manager s.managers id }) ≡ true
 unfolding is_within_limits
-limits-made s id limits few = and_from _ _ (and_parts _ (nat_le (length s.managers) most_live) limits).0 (le-leb _ _ (omega (arith, one-more s.managers id, few)))
+limits-made s id limits few = and_from _ _ (and_parts _ (nat_le (length s.managers) MOST_LIVE) limits).0 (le-leb _ _ (omega (arith, one-more s.managers id, few)))
 
 module _ (x : Present) (process : Pid) (label : Label) (sound : IsSoundCourse x) (good : IsGoodState x.recorded) (agrees : Agrees x) (few : x.recorded.events + 1 < 2 ^ 63) where
   abbrev id : Id
@@ -54,7 +54,7 @@ module _ (x : Present) (process : Pid) (label : Label) (sound : IsSoundCourse x)
       subst (λ b. same_id b id ≡ false) from.1 (next-other x.recorded.boots x.transactions.last_manager (from.0).id
       (list_all-at (λ (m : Manager). is_counted x.recorded.boots x.transactions.last_manager m.id) x.managers sound.managers_counted from.0 (IsIn-filter (λ (m : Manager). m.is_durable) x.managers from.0 from.2).0)))
 
-  made-applies : (durability : Durability) → length x.managers + 1 ≤ most_live → events_apply x.recorded (create_resource_manager x process label durability).events ≡ true
+  made-applies : (durability : Durability) → length x.managers + 1 ≤ MOST_LIVE → events_apply x.recorded (create_resource_manager x process label durability).events ≡ true
   unfolding create_resource_manager
   made-applies Durability.Volatile room = refl
   made-applies Durability.Durable room = and_from _ _ (and_from _ _ (and_from _ _
@@ -62,12 +62,12 @@ module _ (x : Present) (process : Pid) (label : Label) (sound : IsSoundCourse x)
       (limits-made x.recorded id good.limits (omega (arith, room, durable-fewer x.managers, ap (λ (ids : List Id). length ids) agrees.managers))))
       (lt-ltb _ _ few)) refl
 
-  room-left : Passes (create_resource_manager_tests x process label) → length x.managers + 1 ≤ most_live
+  room-left : Passes (create_resource_manager_tests x process label) → length x.managers + 1 ≤ MOST_LIVE
   unfolding create_resource_manager_tests
   room-left passes =
       let free = passed passes in
       let quota = passed free.1 in
-      ltb-false most_live (length x.managers + 1) (or_parts _ _ (or_parts _ _ quota.0).1).0
+      ltb-false MOST_LIVE (length x.managers + 1) (or_parts _ _ (or_parts _ _ quota.0).1).0
 
   go : (durability : Durability) (refusal : Option Refusal) → first_refusal ((not x.machine.is_up, MachineDown) ∷ command_tests x process (CreateResourceManager label durability)) ≡ refusal
       → events_apply x.recorded (refuse_or x refusal (command_effect x process (CreateResourceManager label durability))).events ≡ true

@@ -2,6 +2,7 @@
 use Rattle.std.proofs.Common.{◌≡◌, ℕ, ◌+◌, ◌≤◌, ◌==◌, ◌&&◌, ◌||◌, Bool, true, false, List, [], ◌∷◌, ◌++◌, filter, nat_lt, nat_le, is_some, refl, sym, ◌∙◌, ap, subst, arith, inl, inr, ◌⊎◌}
 use Rattle.std.proofs.lemmas.Bool.{cases_Bool, cases_order, and_parts, and_from, and_left, and_right, or_cases, or_left, or_right, or_from, eq-eqb, eqb-true, lt-ltb, ltb-true, le-leb, leb-true, true≢false, not_from_false, false_from_ne_true}
 use Rattle.std.specs.List.{list_any, list_all}
+use Rattle.ktm_base.specs.declared.limits.TheConstants.{MOST_NUMBER}
 use Rattle.ktm_base.specs.declared.id.Id.{Id}
 use Rattle.ktm_base.specs.declared.id.Label.{Label}
 use Rattle.ktm_base.specs.declared.id.Pid.{Pid}
@@ -11,7 +12,6 @@ use Rattle.ktm_types.specs.declared.object.Object.TheVariants.{Transaction as Tr
 use Rattle.ktm_world.specs.Durable.{is_before}
 use Rattle.ktm_world.specs.Enlistments.{Enlistment, is_superior, superior_of}
 use Rattle.ktm_world.specs.Handles.{object_at}
-use Rattle.ktm_world.specs.Limits.{most_number}
 use Rattle.ktm_world.specs.Present.{Present}
 use Rattle.ktm_world.specs.Transactions.{same_id}
 use Rattle.ktm_laws.specs.Footprint.{IsIn}
@@ -57,10 +57,10 @@ each_pair-push test xs x pairs each = each_pair-append test xs (x ∷ []) pairs 
 abbrev pub next_id : ℕ → ℕ → Id
 next_id boot last = record { boot = boot; number = last + 1 }
 
-pub counted-parts : (boot last : ℕ) (id : Id) → is_counted boot last id ≡ true → (nat_le 1 id.boot ≡ true) × (nat_le id.boot boot ≡ true) × (nat_le 1 id.number ≡ true) × (nat_le id.number most_number ≡ true) × ((nat_lt id.boot boot || nat_le id.number last) ≡ true)
+pub counted-parts : (boot last : ℕ) (id : Id) → is_counted boot last id ≡ true → (nat_le 1 id.boot ≡ true) × (nat_le id.boot boot ≡ true) × (nat_le 1 id.number ≡ true) × (nat_le id.number MOST_NUMBER ≡ true) × ((nat_lt id.boot boot || nat_le id.number last) ≡ true)
 counted-parts boot last id is =
     let d = and_parts _ (nat_lt id.boot boot || nat_le id.number last) is in
-    let c = and_parts _ (nat_le id.number most_number) d.0 in
+    let c = and_parts _ (nat_le id.number MOST_NUMBER) d.0 in
     let b = and_parts _ (nat_le 1 id.number) c.0 in
     let a = and_parts (nat_le 1 id.boot) (nat_le id.boot boot) b.0 in
     (a.0, a.1, b.1, c.1, d.1)
@@ -84,9 +84,9 @@ counted-more boot last id is = let parts = counted-parts boot last id is in
       | inr number ↦ or_right _ _ (le-leb id.number (last + 1) (omega (arith, leb-true _ _ number)))
     ])
 
-pub counted-next : (boot last : ℕ) → 1 ≤ boot → last + 1 ≤ most_number → is_counted boot (last + 1) (next_id boot last) ≡ true
+pub counted-next : (boot last : ℕ) → 1 ≤ boot → last + 1 ≤ MOST_NUMBER → is_counted boot (last + 1) (next_id boot last) ≡ true
 counted-next boot last begun fits = and_from _ _
-    (and_from _ _ (and_from _ _ (and_from _ _ (le-leb 1 boot begun) (le-leb boot boot (omega arith))) (le-leb 1 (last + 1) (omega arith))) (le-leb (last + 1) most_number fits))
+    (and_from _ _ (and_from _ _ (and_from _ _ (le-leb 1 boot begun) (le-leb boot boot (omega arith))) (le-leb 1 (last + 1) (omega arith))) (le-leb (last + 1) MOST_NUMBER fits))
     (or_right _ _ (le-leb (last + 1) (last + 1) (omega arith)))
 
 -- none that was drawn is the next one

@@ -12,7 +12,7 @@ use Rattle.ktm_world.specs.Lawful.{are_apart}
 use Rattle.ktm_world.specs.Tree.{Tree, node_at, is_there, is_file, is_directory, content_of}
 use Rattle.ktm_laws.specs.Footprint.{IsIn, footprint, AreFootprintsApart, MeetingLaw}
 use Rattle.ktm_laws.specs.OwnChange.{HoldsNothing}
-use Rattle.ktm_laws.proofs.Lookups.{node_at-elsewhere}
+use Rattle.ktm_world.proofs.Lookups.{node_at-elsewhere}
 use Rattle.ktm_laws.proofs.Applying.{Applies, Applies-from, Fits-from, is_there-none}
 use Rattle.ktm_laws.proofs.Formed.{found-from, content-found}
 use Rattle.ktm_laws.proofs.Diamonds.{IsIn-right, IsIn-map, no_test, none-from, meets-not, same_place-sym}

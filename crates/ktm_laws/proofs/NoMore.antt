@@ -3,6 +3,7 @@ use Rattle.std.specs.Prelude.{if◌then◌else◌}
 use Rattle.std.proofs.Common.{◌≡◌, ◌≤◌, ◌||◌, not, Bool, true, false, List, [], ◌∷◌, ◌++◌, filter, map, length, sum_by, count_by, nat_lt, Option, Some, None, is_some, is_none, refl, sym, ◌∙◌, ap, arith, inl, inr, ◌⊎◌}
 use Rattle.std.proofs.lemmas.Bool.{le-ltb, ltb-false, or_parts, or_from, true≢false}
 use Rattle.std.proofs.lemmas.List.{append-nil, length-map}
+use Rattle.ktm_base.specs.declared.limits.TheConstants.{MOST_LIVE, MOST_HANDLES, MOST_NUMBER, END_OF_NODES}
 use Rattle.ktm_base.specs.declared.id.Id.{Id}
 use Rattle.ktm_types.specs.declared.change.Change.{Change}
 use Rattle.ktm_types.specs.declared.event.Event.{Event}
@@ -16,7 +17,6 @@ use Rattle.ktm_world.specs.Enlistments.{Manager, Sent, is_live_enlistment}
 use Rattle.ktm_world.specs.Files.{FirstOpen, OwnChanges, bytes_seen, first_open, own_changes}
 use Rattle.ktm_world.specs.FileUses.{own_units, units_used, nodes_used}
 use Rattle.ktm_world.specs.Keys.{OwnSettings, keys_used, changes_pending as keys_unset, own_settings, stored_all, without_own}
-use Rattle.ktm_world.specs.Limits.{end_of_nodes, most_handles, most_live, most_number}
 use Rattle.ktm_world.specs.Outcome.{Outcome, apply, only_reply, committed_now, is_forgotten, served}
 use Rattle.ktm_world.specs.Phases.{Course}
 use Rattle.ktm_world.specs.Present.{Present}
@@ -46,15 +46,15 @@ use Rattle.ktm_laws.proofs.UnitsPassed.{NoMoreFiles, files-same, files-then, fin
 
 pub record Fits (x : Present) : Type 0 where
   pub changes : changes_waiting x ≤ x.recorded.units
-  pub live : count_by is_live x.transactions.items ≤ most_live
-  pub enlisted : count_by (is_live_enlistment x.transactions.items) x.transactions.enlistments ≤ most_live
-  pub managers : length x.managers ≤ most_live
-  pub handles : length x.handles ≤ most_handles
-  pub last_transaction : x.transactions.last_transaction ≤ most_number
-  pub last_manager : x.transactions.last_manager ≤ most_number
-  pub last_enlistment : x.transactions.last_enlistment ≤ most_number
-  pub last_open : x.files.table.last_open ≤ most_number
-  pub next_node : x.files.table.next_node ≤ end_of_nodes
+  pub live : count_by is_live x.transactions.items ≤ MOST_LIVE
+  pub enlisted : count_by (is_live_enlistment x.transactions.items) x.transactions.enlistments ≤ MOST_LIVE
+  pub managers : length x.managers ≤ MOST_LIVE
+  pub handles : length x.handles ≤ MOST_HANDLES
+  pub last_transaction : x.transactions.last_transaction ≤ MOST_NUMBER
+  pub last_manager : x.transactions.last_manager ≤ MOST_NUMBER
+  pub last_enlistment : x.transactions.last_enlistment ≤ MOST_NUMBER
+  pub last_open : x.files.table.last_open ≤ MOST_NUMBER
+  pub next_node : x.files.table.next_node ≤ END_OF_NODES
   pub units : units_used x.files ≤ x.recorded.units
   pub nodes : nodes_used x.files ≤ x.recorded.units
   pub keys : keys_used x.keys ≤ x.recorded.units
@@ -63,15 +63,15 @@ pub fits-within : (x : Present) → IsWithin x → Fits x
 unfolding is_over_quota is_over_disk
 fits-within x within =
     let u = x.recorded.units in
-    let j = or_parts _ (nat_lt end_of_nodes x.files.table.next_node) within.0 in
-    let i = or_parts _ (nat_lt most_number x.files.table.last_open) j.0 in
-    let h = or_parts _ (nat_lt most_number x.transactions.last_enlistment) i.0 in
-    let g = or_parts _ (nat_lt most_number x.transactions.last_manager) h.0 in
-    let f = or_parts _ (nat_lt most_number x.transactions.last_transaction) g.0 in
-    let e = or_parts _ (nat_lt most_handles (length x.handles)) f.0 in
-    let d = or_parts _ (nat_lt most_live (length x.managers)) e.0 in
-    let c = or_parts _ (nat_lt most_live (count_by (is_live_enlistment x.transactions.items) x.transactions.enlistments)) d.0 in
-    let b = or_parts (nat_lt u (changes_waiting x)) (nat_lt most_live (count_by is_live x.transactions.items)) c.0 in
+    let j = or_parts _ (nat_lt END_OF_NODES x.files.table.next_node) within.0 in
+    let i = or_parts _ (nat_lt MOST_NUMBER x.files.table.last_open) j.0 in
+    let h = or_parts _ (nat_lt MOST_NUMBER x.transactions.last_enlistment) i.0 in
+    let g = or_parts _ (nat_lt MOST_NUMBER x.transactions.last_manager) h.0 in
+    let f = or_parts _ (nat_lt MOST_NUMBER x.transactions.last_transaction) g.0 in
+    let e = or_parts _ (nat_lt MOST_HANDLES (length x.handles)) f.0 in
+    let d = or_parts _ (nat_lt MOST_LIVE (length x.managers)) e.0 in
+    let c = or_parts _ (nat_lt MOST_LIVE (count_by (is_live_enlistment x.transactions.items) x.transactions.enlistments)) d.0 in
+    let b = or_parts (nat_lt u (changes_waiting x)) (nat_lt MOST_LIVE (count_by is_live x.transactions.items)) c.0 in
     let k = or_parts (nat_lt u (units_used x.files) || nat_lt u (nodes_used x.files)) (nat_lt u (keys_used x.keys)) within.1 in
     let l = or_parts (nat_lt u (units_used x.files)) (nat_lt u (nodes_used x.files)) k.0 in
     record {

@@ -8,7 +8,7 @@ use Rattle.ktm_world.specs.Changes.{changed, changed_all, applies, apply_all, is
 use Rattle.ktm_world.specs.Tree.{Tree, root, node_at, content_of, is_file, is_directory, is_there}
 use Rattle.ktm_laws.specs.Footprint.{IsIn}
 use Rattle.ktm_laws.proofs.Applying.{Applies-from, Fits-from}
-use Rattle.ktm_laws.proofs.Lookups.{remade, node_at-elsewhere, node_at-there}
+use Rattle.ktm_world.proofs.Lookups.{remade, node_at-elsewhere, node_at-there}
 
 -- is a node that a lookup finds a file
 abbrev pub is_file_at : Option Node → Bool

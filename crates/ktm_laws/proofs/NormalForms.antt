@@ -21,7 +21,7 @@ use Rattle.ktm_laws.proofs.Applying.{Applies-from, applies-from, Fits-from}
 use Rattle.ktm_laws.proofs.Elements.{IsIn-filter, IsIn-kept}
 use Rattle.ktm_laws.proofs.Passing.{IsIn-with_number, apply_all-first, to_commit-same}
 use Rattle.ktm_laws.proofs.Versions.{is_file-kept}
-use Rattle.ktm_laws.proofs.Lookups.{node_at-elsewhere, node_at-there}
+use Rattle.ktm_world.proofs.Lookups.{node_at-elsewhere, node_at-there}
 
 -- does a change make, move or drop a name
 abbrev pub names_only : Change → Bool
@@ -283,14 +283,14 @@ names-final cs by =
 abbrev pub is_of_file : ℕ → Change → Bool
 is_of_file file c = changes_bytes c && node_of c == file
 
-none-of-file : (file : ℕ) (cs : List Change) → ((c : Change) → IsIn c cs → is_of_file file c ≡ false) → filter (is_of_file file) cs ≡ []
+pub none-of-file : (file : ℕ) (cs : List Change) → ((c : Change) → IsIn c cs → is_of_file file c ≡ false) → filter (is_of_file file) cs ≡ []
 none-of-file file [] none = refl
 none-of-file file (c ∷ cs) none = rw (none c (inl refl)) (none-of-file file cs (λ d there. none d (inr there)))
 
-names-of-no-file : (file : ℕ) (cs : List Change) → filter (is_of_file file) (names_of cs) ≡ []
+pub names-of-no-file : (file : ℕ) (cs : List Change) → filter (is_of_file file) (names_of cs) ≡ []
 names-of-no-file file cs = none-of-file file (names_of cs) (λ c there. rw (not-true _ (IsIn-filter names_only cs c there).1) refl)
 
-ends-elsewhere : (by : ℕ → List ℕ) (files : List ℕ) (file : ℕ) → (IsIn file files → ⊥) → filter (is_of_file file) (ends_of by files) ≡ []
+pub ends-elsewhere : (by : ℕ → List ℕ) (files : List ℕ) (file : ℕ) → (IsIn file files → ⊥) → filter (is_of_file file) (ends_of by files) ≡ []
 ends-elsewhere by [] file other = refl
 ends-elsewhere by (f ∷ fs) file other = go (ends-elsewhere by fs file (λ there. other (inr there))) (by f)
   where
@@ -339,7 +339,7 @@ put-none old bs none =
     ap (λ o. put_over o 0 bs) none ∙ ap (λ o. o ++ bs ++ drop (0 + length bs) []) (cut-none []) ∙ ap (λ o. bs ++ o) (drop-none (0 + length bs)) ∙ append-nil bs
 
 -- the bytes at the end are the bytes, whatever was there before
-final-bytes : (before : List ℕ) (file : ℕ) (bs : List ℕ) (cs : List Change) → filter (is_of_file file) cs ≡ final_bytes file bs → bytes_after before file cs ≡ bs
+pub final-bytes : (before : List ℕ) (file : ℕ) (bs : List ℕ) (cs : List Change) → filter (is_of_file file) cs ≡ final_bytes file bs → bytes_after before file cs ≡ bs
 final-bytes before file bs cs is =
     ap (λ ds. bytes_of (changed_all (record { number = file; parent = 1; name = []; content = Some before } ∷ []) ds) file) is ∙ go bs
   where

@@ -40,7 +40,7 @@ same_version-like a b same c =
     λ i. (file i == c.file) && (version i == c.version)
 
 -- of which one is the same, the other is
-same_version-turned : (k o p : FirstOpen) → same_version o p ≡ true → same_version k p ≡ same_version k o
+pub same_version-turned : (k o p : FirstOpen) → same_version o p ≡ true → same_version k p ≡ same_version k o
 same_version-turned k o p same =
     let parts = and_parts (o.file == p.file) (o.version == p.version) same in
     let file = eqb-true _ _ parts.0 in
@@ -51,7 +51,7 @@ pub list_any-alike : {X : Type 0} (f g : X → Bool) (xs : List X) → ((x : X) 
 list_any-alike f g [] same = refl
 list_any-alike f g (x ∷ xs) same = λ i. same x (inl refl) i || list_any-alike f g xs (λ y there. same y (inr there)) i
 
-has_older-like : (old : FirstOpen → Bool) (os : List FirstOpen) (a b : FirstOpen) → same_version a b ≡ true → has_older old os a ≡ has_older old os b
+pub has_older-like : (old : FirstOpen → Bool) (os : List FirstOpen) (a b : FirstOpen) → same_version a b ≡ true → has_older old os a ≡ has_older old os b
 has_older-like old os a b same = list_any-alike (λ o. old o && same_version a o) (λ o. old o && same_version b o) os (λ o there. ap (λ s. old o && s) (same_version-like a b same o))
 
 -- ---- one after another
@@ -90,18 +90,18 @@ abbrev pub AreFixed : List FirstOpen → Type 0
 AreFixed os = (a b : FirstOpen) → IsIn a os → IsIn b os → same_version a b ≡ true → a.bytes ≡ b.bytes
 
 -- the versions but this one
-abbrev but_not : (FirstOpen → Bool) → FirstOpen → FirstOpen → Bool
+abbrev pub but_not : (FirstOpen → Bool) → FirstOpen → FirstOpen → Bool
 but_not old k o = old o && not (same_version k o)
 
 -- one version by itself
-one-step : (is same has_it has_that has_but : Bool) (all but units unit : ℕ) → all ≡ but + cond has_that unit 0 → (same ≡ true → (has_it ≡ has_that) × (units ≡ unit)) → (same ≡ false → has_but ≡ has_it)
+pub one-step : (is same has_it has_that has_but : Bool) (all but units unit : ℕ) → all ≡ but + cond has_that unit 0 → (same ≡ true → (has_it ≡ has_that) × (units ≡ unit)) → (same ≡ false → has_but ≡ has_it)
     → cond (is && not has_it) units 0 + all ≡ cond ((is && not same) && not has_but) units 0 + but + cond ((is && same) || has_that) unit 0
 one-step false same has_it has_that has_but all but units unit ih like other = omega arith
 one-step true false has_it has_that has_but all but units unit ih like other = rw (other refl) (omega arith)
 one-step true true has_it true has_but all but units unit ih like other = rw (like refl).0 (omega arith)
 one-step true true has_it false has_but all but units unit ih like other = let e = (like refl).1 in rw (like refl).0 (omega arith)
 
-without-one : (old : FirstOpen → Bool) (os : List FirstOpen) (k : FirstOpen) → ((o : FirstOpen) → IsIn o os → same_version k o ≡ true → version_units o ≡ version_units k)
+pub without-one : (old : FirstOpen → Bool) (os : List FirstOpen) (k : FirstOpen) → ((o : FirstOpen) → IsIn o os → same_version k o ≡ true → version_units o ≡ version_units k)
     → older_units old os ≡ older_units (but_not old k) os + cond (has_older old os k) (version_units k) 0
 without-one old [] k units = omega arith
 without-one old (o ∷ os) k units =

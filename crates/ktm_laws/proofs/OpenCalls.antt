@@ -56,7 +56,7 @@ use Rattle.ktm_laws.proofs.Landing.{holder-user, lands-sound, write-lands}
 use Rattle.ktm_laws.proofs.Leading.{Leads, find_path-leads}
 use Rattle.ktm_laws.proofs.Leaving.{answers_file, more-handles}
 use Rattle.ktm_laws.proofs.Lists.{IsIn-cases}
-use Rattle.ktm_laws.proofs.Lookups.{node_at-there}
+use Rattle.ktm_world.proofs.Lookups.{node_at-there}
 use Rattle.ktm_laws.proofs.Makings.{list_any-last}
 use Rattle.ktm_laws.proofs.OwnCalls.{Caller, next-first, next-plain, owned-call, owns-make, owns-write}
 use Rattle.ktm_laws.proofs.Opening.{opened-sound, some-of}

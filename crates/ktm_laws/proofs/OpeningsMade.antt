@@ -3,6 +3,7 @@ use Rattle.std.proofs.Common.{◌≡◌, ℕ, ◌+◌, ◌<◌, ◌≤◌, ◌^�
 use Rattle.std.proofs.lemmas.Bool.{or_parts, ltb-false, true≢false}
 use Rattle.std.proofs.lemmas.Option.{none-some, same_Some}
 use Rattle.std.specs.Prelude.{nat_lt}
+use Rattle.ktm_base.specs.declared.limits.TheConstants.{MOST_NUMBER, END_OF_NODES}
 use Rattle.ktm_base.specs.declared.id.Id.{Id}
 use Rattle.ktm_types.specs.declared.change.Change.{Change}
 use Rattle.ktm_types.specs.declared.change.Change.TheVariants.{Cut}
@@ -15,7 +16,6 @@ use Rattle.ktm_world.specs.Changes.{applies, is_make, node_of, has_made}
 use Rattle.ktm_world.specs.FileCalls.{Whereabouts, no_path, no_way, free, at_root, at_node, find_path, conflict_test, create_act, create_at, create_file, create_file_tests, empties, is_at_directory}
 use Rattle.ktm_world.specs.FileOutcome.{FileOutcome, FileRoom, files_after, lacks_quota}
 use Rattle.ktm_world.specs.Files.{FilesNow, FirstOpen, OpenFile, first_open_of, own_changes, tree_seen}
-use Rattle.ktm_world.specs.Limits.{end_of_nodes, most_number}
 use Rattle.ktm_world.specs.Present.{Present}
 use Rattle.ktm_world.specs.Tree.{is_file}
 use Rattle.ktm_world.specs.Uses.{file_room}
@@ -33,9 +33,9 @@ use Rattle.ktm_laws.proofs.PlainFacts.{lands-created}
 use Rattle.ktm_laws.proofs.Seeing.{committed-file, seen-formed}
 
 -- the numbers of open files have not come to their end
-pub enough-opens : (files : FilesNow) (room : FileRoom) (who : Option Id) (o : FileOutcome) → lacks_quota files room who o ≡ false → (files_after files who o).table.last_open ≤ most_number
+pub enough-opens : (files : FilesNow) (room : FileRoom) (who : Option Id) (o : FileOutcome) → lacks_quota files room who o ≡ false → (files_after files who o).table.last_open ≤ MOST_NUMBER
 unfolding lacks_quota
-enough-opens files room who o fits = ltb-false _ _ (or_parts _ (nat_lt most_number (files_after files who o).table.last_open) (or_parts _ (nat_lt end_of_nodes (files_after files who o).table.next_node) fits).0).1
+enough-opens files room who o fits = ltb-false _ _ (or_parts _ (nat_lt MOST_NUMBER (files_after files who o).table.last_open) (or_parts _ (nat_lt END_OF_NODES (files_after files who o).table.next_node) fits).0).1
 
 -- what is opened has the next number
 created-open : (x : Present) (room : FileRoom) (who : Option Id) (w : Whereabouts) (access : Access) (mode : ShareMode) (d : Disposition) → lacks_quota x.files room who (create_at x.files who w access mode d) ≡ false

@@ -4,6 +4,7 @@ use Rattle.std.proofs.lemmas.Bool.{cases_Bool, and_parts, leb-true, ltb-false, l
 use Rattle.std.proofs.lemmas.List.Elements.{All-nil, recursion_from_All}
 use Rattle.std.proofs.lemmas.List.Sums.{length-filter}
 use Rattle.std.proofs.lemmas.Nat.{le-div}
+use Rattle.ktm_base.specs.declared.limits.TheConstants.{MOST_UNITS, MOST_NAME_BYTES}
 use Rattle.ktm_base.specs.declared.id.Id.{Id}
 use Rattle.ktm_event.specs.Spelling.{AreSpellableChanges, AreSpellableSettings, IsSpellableChange, IsSpellableSetting}
 use Rattle.ktm_keyed.specs.declared.keyed.Keyed.{Keyed}
@@ -29,7 +30,7 @@ use Rattle.ktm_laws.proofs.Elements.{IsIn-filter, IsIn-unflat, list_all-at}
 use Rattle.ktm_laws.proofs.Formed.{content-found}
 use Rattle.ktm_laws.proofs.Limits.{length-filter-less}
 use Rattle.ktm_laws.proofs.Lists.{IsIn-cases}
-use Rattle.ktm_laws.proofs.Lookups.{map_node, node_at-with_changed, node_at-without_node}
+use Rattle.ktm_world.proofs.Lookups.{map_node, node_at-with_changed, node_at-without_node}
 use Rattle.ktm_laws.proofs.NoMore.{Fits, fits-within}
 use Rattle.ktm_laws.proofs.NormalForms.{RisingNumbers, apply_all-second, ends_of, rising-written}
 use Rattle.ktm_laws.proofs.OwnRecords.{Owned}
@@ -77,7 +78,7 @@ spelled-setting s good text =
     let few = ltb-false 64 (length s.key) key.1 in
     record { text = text; short_key = omega (arith, few); short_value = short-value s.value (not-true (is_bad_set_to s.value) parts.1) }
 
-spelled-settings : (x : Present) → IsKept x → AreTexts x → x.recorded.units ≤ 1024 → (id : Id) → AreSpellableSettings (own_settings x.keys.own id)
+spelled-settings : (x : Present) → IsKept x → AreTexts x → x.recorded.units ≤ MOST_UNITS → (id : Id) → AreSpellableSettings (own_settings x.keys.own id)
 spelled-settings x kept texts units id =
     let good = own_settings-good x.keys.own id kept.sound.keys.settings in
     record {
@@ -203,7 +204,7 @@ short-name name is =
     let d = and_parts _ _ is in
     let c = and_parts _ _ d.0 in
     let b = and_parts _ _ c.0 in
-    let few = leb-true (length name) 255 (and_parts (nat_le 1 (length name)) (nat_le (length name) 255) b.0).1 in
+    let few = leb-true (length name) MOST_NAME_BYTES (and_parts (nat_le 1 (length name)) (nat_le (length name) MOST_NAME_BYTES) b.0).1 in
     omega (arith, few)
 
 -- a change of names that applies
@@ -226,7 +227,7 @@ spelled-end f (b ∷ bs) few c (inl e) = subst IsSpellableChange e refl
 spelled-end f (b ∷ bs) few c (inr (inl e)) = subst IsSpellableChange e (omega arith, few)
 spelled-end f (b ∷ bs) few c (inr (inr none)) = absurd none
 
-few-bytes : (bytes : List ℕ) → units_of bytes ≤ 1024 → length bytes < 2 ^ 32
+few-bytes : (bytes : List ℕ) → units_of bytes ≤ MOST_UNITS → length bytes < 2 ^ 32
 few-bytes bytes units = elim (cases_Bool (nat_lt (length bytes) (2 ^ 32))) [
   | inl few ↦ ltb-true _ _ few
   | inr many ↦
@@ -236,7 +237,7 @@ few-bytes bytes units = elim (cases_Bool (nat_lt (length bytes) (2 ^ 32))) [
 ]
 
 -- the bytes that a transaction gives a file
-given-bytes : (x : Present) → Fits x → x.recorded.units ≤ 1024 → (o : OwnChanges) → IsIn o x.files.table.own → (file : ℕ) → IsIn file (written_files o.changes) → length (bytes_seen x.files (Some o.transaction) file) < 2 ^ 32
+given-bytes : (x : Present) → Fits x → x.recorded.units ≤ MOST_UNITS → (o : OwnChanges) → IsIn o x.files.table.own → (file : ℕ) → IsIn file (written_files o.changes) → length (bytes_seen x.files (Some o.transaction) file) < 2 ^ 32
 unfolding units_used
 given-bytes x within units o there file written =
     let here = sum-one (λ file. units_of (bytes_seen x.files (Some o.transaction) file)) (written_files o.changes) file written in
@@ -244,7 +245,7 @@ given-bytes x within units o there file written =
     let all = within.units in
     few-bytes (bytes_seen x.files (Some o.transaction) file) (omega (arith, here, own, all, units))
 
-spelled-own : (x : Present) → IsKept x → x.recorded.units ≤ 1024 → (o : OwnChanges) → IsIn o x.files.table.own → AreSpellableChanges o.changes
+spelled-own : (x : Present) → IsKept x → x.recorded.units ≤ MOST_UNITS → (o : OwnChanges) → IsIn o x.files.table.own → AreSpellableChanges o.changes
 spelled-own x kept units o there =
     let within = fits-within x kept.within in
     let by = bytes_seen x.files (Some o.transaction) in
@@ -261,12 +262,12 @@ spelled-own x kept units o there =
       ]);
     }
 
-spelled-changes : (x : Present) → IsKept x → x.recorded.units ≤ 1024 → (id : Id) → AreSpellableChanges (own_changes x.files.table.own id)
+spelled-changes : (x : Present) → IsKept x → x.recorded.units ≤ MOST_UNITS → (id : Id) → AreSpellableChanges (own_changes x.files.table.own id)
 spelled-changes x kept units id = elim (own_changes-found x.files.table.own id) [
   | inl none ↦ subst AreSpellableChanges (sym none) (record { few = omega arith; each = All-nil IsSpellableChange })
   | inr (o, there, is, changes) ↦ subst AreSpellableChanges changes (spelled-own x kept units o there)
 ]
 
 -- what each transaction has to commit has bytes
-pub spelled-owned : (x : Present) → IsKept x → AreTexts x → x.recorded.units ≤ 1024 → Owned AreSpellableChanges AreSpellableSettings x
+pub spelled-owned : (x : Present) → IsKept x → AreTexts x → x.recorded.units ≤ MOST_UNITS → Owned AreSpellableChanges AreSpellableSettings x
 spelled-owned x kept texts units = record { files = spelled-changes x kept units; keys = spelled-settings x kept texts units }

@@ -31,7 +31,7 @@ use Rattle.ktm_laws.proofs.Lists.{IsIn-left, IsIn-cases, IsIn-unmap, IsIn-first}
 use Rattle.ktm_laws.proofs.NormalForms.{first-cut, IsIn-with_number-new, names-final, filter-append, names_only, is-final, final-applies, each_change-append, Silent, silent-places, silent-dropped, silent-moved, held-names}
 use Rattle.ktm_laws.proofs.Applying.{Applies-from, Fits-from, is_there-none}
 use Rattle.ktm_laws.proofs.NodeKinds.{directory-was, there-was}
-use Rattle.ktm_laws.proofs.Lookups.{node_at-elsewhere, node_at-there}
+use Rattle.ktm_world.proofs.Lookups.{node_at-elsewhere, node_at-there}
 use Rattle.ktm_laws.proofs.PlainCalls.{next-free}
 use Rattle.ktm_laws.proofs.Versions.{is_file-kept}
 use Rattle.ktm_laws.proofs.Passing.{IsIn-with_number, All-in, All-by, own-final, written-node, drawn-made, drawn-node, own-drawn}

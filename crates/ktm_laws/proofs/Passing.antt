@@ -33,7 +33,7 @@ use Rattle.ktm_laws.proofs.Elements.{find-in, IsIn-filter, IsIn-kept, IsIn-flat_
 use Rattle.ktm_laws.proofs.Meeting.{found-or-made}
 use Rattle.ktm_laws.proofs.NodeKinds.{MakesNot, is_directory_at, directories-were}
 use Rattle.ktm_laws.proofs.Lists.{IsIn-left, IsIn-unmap}
-use Rattle.ktm_laws.proofs.Lookups.{remade, node_at-changed}
+use Rattle.ktm_world.proofs.Lookups.{remade, node_at-changed}
 use Rattle.ktm_laws.proofs.Reserving.{own_changes-by, own_changes-left, first_open_of-left, written_by-left, own-apply, holds-apart, tree-of, left-by}
 use Rattle.ktm_laws.proofs.Tables.{same_id-equal, same_id-from, same_id-sym}
 use Rattle.ktm_laws.proofs.Versions.{FitVersions, fit-all, Shows, shows-all, version-all}

@@ -2,7 +2,7 @@
 use Rattle.std.proofs.Common.{◌≡◌, ℕ, ◌+◌, ◌-◌, ◌<◌, ◌≤◌, ◌==◌, true, is_some, [], ◌∷◌, length, None, sym, ◌∙◌, ap, subst, arith, inl, inr, ◌⊎◌, zero, suc}
 use Rattle.std.proofs.lemmas.Bool.{cases_Bool, cases_eq, ne_eqb}
 use Rattle.ktm_world.specs.Tree.{Tree, root, node_at, is_there, parent_of, without_node}
-use Rattle.ktm_laws.proofs.Lookups.{node_at-without_node}
+use Rattle.ktm_world.proofs.Lookups.{node_at-without_node}
 use Rattle.ktm_laws.proofs.Ways.{above, above-add}
 
 -- the first number at which a function has a value, if it has it up to a bound

@@ -3,6 +3,7 @@ use Rattle.std.specs.Prelude.{if◌then◌else◌}
 use Rattle.std.proofs.Common.{◌≡◌, ℕ, ◌==◌, ◌&&◌, ◌||◌, not, Bool, true, false, is_some, List, [], ◌∷◌, ◌++◌, filter, length, nat_le, Some, refl, sym, ◌∙◌, ap, subst, inl, inr}
 use Rattle.std.proofs.lemmas.Bool.{cases_Bool, and_from, and_parts, or_from, or_parts, and_right, not_from_true, not-true, not_from_false}
 use Rattle.std.specs.List.{list_all, list_any}
+use Rattle.ktm_base.specs.declared.limits.TheConstants.{MOST_INFORMATION_BYTES}
 use Rattle.ktm_base.specs.declared.id.Id.{Id}
 use Rattle.ktm_types.specs.declared.change.Change.{Change}
 use Rattle.ktm_types.specs.declared.event.DonePart.{DonePart}
@@ -15,7 +16,6 @@ use Rattle.ktm_world.specs.Durable.{Durable, Recorded, acts_of_all, after_event,
 use Rattle.ktm_world.specs.Holds.{meets}
 use Rattle.ktm_keyed.specs.Keyed.{value_at}
 use Rattle.ktm_world.specs.Keys.{OwnSettings, are_good_settings}
-use Rattle.ktm_world.specs.Limits.{most_information}
 use Rattle.ktm_world.specs.Transactions.{same_id}
 use Rattle.ktm_laws.specs.Footprint.{IsIn}
 use Rattle.ktm_laws.proofs.Diamonds.{IsIn-right, no_test, none-from}
@@ -118,7 +118,7 @@ module _ (s : Durable) (id : Id) (part : Part) where
   -- an enlistment that is new stays so, where it is not the part's
   pub pushed-new : (e m : Id) (information : List ℕ) → is_new_enlistment s e m information ≡ true → list_any (λ other. same_id other e) (enlistments_in part) ≡ false → is_new_enlistment s' e m information ≡ true
   pushed-new e m information new differs =
-      let fits = and_parts _ (nat_le (length information) most_information) new in
+      let fits = and_parts _ (nat_le (length information) MOST_INFORMATION_BYTES) new in
       let manager = and_parts _ (is_manager s m) fits.0 in
       let boot = and_parts (e.boot == s.boots) (not (list_any has-it s.transactions)) manager.0 in
       and_from _ _ (and_from _ _ (and_from _ _ boot.0 (not_from_false _ (none-with has-it s.transactions (pushed r part) (not-true _ boot.1) (not-its (not-true _ boot.1))))) manager.1) fits.1

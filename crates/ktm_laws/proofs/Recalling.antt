@@ -4,6 +4,7 @@ use Rattle.std.proofs.Common.{◌≡◌, ◌&&◌, not, Bool, true, false, [], �
 use Rattle.std.proofs.lemmas.Bool.{and_from, and_parts, eq-eqb, not_from_false, false_from_ne_true}
 use Rattle.std.proofs.lemmas.Option.{same_Some}
 use Rattle.std.specs.List.{flat_map, list_any}
+use Rattle.ktm_base.specs.declared.limits.TheConstants.{MOST_INFORMATION_BYTES}
 use Rattle.ktm_base.specs.declared.id.Id.{Id}
 use Rattle.ktm_types.specs.declared.event.Part.{Part}
 use Rattle.ktm_types.specs.declared.event.Part.TheVariants.{Enlistment as EnlistmentPart, Changes, Settings}
@@ -13,7 +14,6 @@ use Rattle.ktm_types.specs.declared.recorded.Stage.{Stage}
 use Rattle.ktm_world.specs.Durable.{Recorded, enlistments_in, enlistments_of, is_manager, is_new_enlistment, is_ready, superior_ids}
 use Rattle.ktm_world.specs.Enlistments.{Enlistment, Manager, is_durable_at, is_superior, superior_of, takes_part}
 use Rattle.ktm_world.specs.Lawful.{Agrees, Summary, brought_back, stage_in, stays, summary_in, summary_now, summary_of, superior_now}
-use Rattle.ktm_world.specs.Limits.{most_information}
 use Rattle.ktm_world.specs.Present.{Present}
 use Rattle.ktm_world.specs.Transactions.{same_id}
 use Rattle.ktm_world.specs.World.{enlistment_back}
@@ -156,4 +156,4 @@ new-in-record x sound agrees e there boot durable none = and_from _ _ (and_from 
     let one : k.e ≡ e = same-by_id (λ (f : Enlistment). f.id) x.transactions.enlistments sound.enlistments_rise k.e e k.there there (k.is ∙ same_id-equal a e.id same) in
     none r in_record (subst (λ (f : Enlistment). same_id f.transaction r.id ≡ true) one k.own)
     (subst (λ (f : Enlistment). ((takes_part r.id f ≡ true) × (f.is_prepared ≡ true)) ⊎ ((is_superior f ≡ true) × (is_ready r.stage ≡ false))) one k.how))))))) (manager-recorded x agrees e.manager durable))
-    (list_all-at (λ (f : Enlistment). nat_le (length f.information) most_information) x.transactions.enlistments sound.information_fits e there)
+    (list_all-at (λ (f : Enlistment). nat_le (length f.information) MOST_INFORMATION_BYTES) x.transactions.enlistments sound.information_fits e there)

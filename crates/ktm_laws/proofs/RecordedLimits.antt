@@ -6,6 +6,7 @@ use Rattle.std.proofs.lemmas.List.{length-map}
 use Rattle.std.proofs.lemmas.List.Sums.{length-filter}
 use Rattle.std.proofs.lemmas.Option.{none-some}
 use Rattle.std.specs.List.{flat_map}
+use Rattle.ktm_base.specs.declared.limits.TheConstants.{MOST_LIVE}
 use Rattle.ktm_base.specs.declared.id.Id.{Id}
 use Rattle.ktm_types.specs.declared.object.Phase.{Phase}
 use Rattle.ktm_types.specs.declared.object.Phase.TheVariants.{Ended}
@@ -19,7 +20,6 @@ use Rattle.ktm_world.specs.Files.{OwnChanges, bytes_seen, own_changes}
 use Rattle.ktm_world.specs.FileUses.{own_units, units_used, nodes_used, file_changes_waiting}
 use Rattle.ktm_world.specs.Keys.{own_settings}
 use Rattle.ktm_world.specs.Lawful.{Agrees, Summary, brought_back, is_held_stage, stage_in, stays, summary_in, summary_now, summary_of, superior_now}
-use Rattle.ktm_world.specs.Limits.{most_live}
 use Rattle.ktm_world.specs.Present.{Present}
 use Rattle.ktm_world.specs.Transactions.{is_live, same_id}
 use Rattle.ktm_world.specs.Uses.{changes_waiting}
@@ -201,7 +201,7 @@ budget-now x sound fits =
       changes = fits.changes;
     }
 
-pub managers-now : (x : Present) → Agrees x → Fits x → length x.recorded.managers ≤ most_live
+pub managers-now : (x : Present) → Agrees x → Fits x → length x.recorded.managers ≤ MOST_LIVE
 managers-now x agrees fits =
     let a = ap length agrees.managers in
     let b = length-map (filter (λ m. m.is_durable) x.managers) (λ m. m.id) in

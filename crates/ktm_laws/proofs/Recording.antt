@@ -3,6 +3,7 @@ use Rattle.std.proofs.Common.{◌≡◌, ℕ, ◌+◌, ◌<◌, ◌^◌, ◌==�
 use Rattle.std.proofs.lemmas.Bool.{and_parts, and_from, or_cases, or_left, or_right, le-leb, leb-true, eqb-true, eq-eqb, not-true, not_from_false, true≢false}
 use Rattle.std.proofs.lemmas.List.Folds.{list_all-append}
 use Rattle.std.specs.List.{list_all, list_any}
+use Rattle.ktm_base.specs.declared.limits.TheConstants.{MOST_INFORMATION_BYTES}
 use Rattle.ktm_base.specs.declared.id.Id.{Id}
 use Rattle.ktm_types.specs.declared.change.Change.{Change}
 use Rattle.ktm_types.specs.declared.recorded.RecordedPart.{RecordedPart}
@@ -16,7 +17,6 @@ use Rattle.ktm_world.specs.Changes.{apply_all, has_changes}
 use Rattle.ktm_world.specs.Durable.{Durable, Recorded, is_ready, is_decided, is_manager, is_part_of, is_new_in, is_new_enlistment, changes_in, settings_in, enlistments_in, changes_of, settings_of, enlistments_of, superior_ids, has_changes_part, has_settings_part, has_part, are_recorded_changes, changes_apply, settings_apply, part_applies, may_get_ready, recorded_or_new, with_recorded, next_after_all, fact_of, after_event, is_within_limits}
 use Rattle.ktm_world.specs.Keys.{OwnSettings, are_good_settings}
 use Rattle.ktm_world.specs.Lawful.{set_both}
-use Rattle.ktm_world.specs.Limits.{most_information}
 use Rattle.ktm_world.specs.Transactions.{same_id}
 use Rattle.ktm_laws.specs.Footprint.{IsIn, footprint, AreFootprintsApart}
 use Rattle.ktm_laws.specs.GoodState.{each_pair, is_of_object, enlisted_in, superiors_in, enlisted, has_one_part_each, is_done_well, are_kept_changes, are_kept_settings, is_made_below, puts_some, IsGoodState}
@@ -108,7 +108,7 @@ begun s id good counts may = go (recorded_or_new s.transactions id) (and_parts (
 pub new-enlistment : (s : Durable) (enlistment manager : Id) (information : List ℕ) → is_new_enlistment s enlistment manager information ≡ true → (u : Recorded) → IsIn u s.transactions
     → (a : Id) → IsIn a (enlistments_of u) → same_id a enlistment ≡ false
 new-enlistment s enlistment manager information new u there a has =
-    let c = and_parts _ (nat_le (length information) most_information) new in
+    let c = and_parts _ (nat_le (length information) MOST_INFORMATION_BYTES) new in
     let b = and_parts _ (is_manager s manager) c.0 in
     let a' = and_parts (enlistment.boot == s.boots) (not (list_any (λ (t : Recorded). list_any (λ other. same_id other enlistment) (enlistments_of t)) s.transactions)) b.0 in
     no_test (λ other. same_id other enlistment) a (enlistments_of u) (no_test (λ (t : Recorded). list_any (λ other. same_id other enlistment) (enlistments_of t)) u s.transactions (not-true _ a'.1) there) has
@@ -116,7 +116,7 @@ new-enlistment s enlistment manager information new u there a has =
 -- and it may be enlisted
 pub new-enlisted : (s : Durable) (e : Superior) → is_of_object e.enlistment ≡ true → is_new_enlistment s e.enlistment e.manager e.information ≡ true → IsEnlisted s e
 new-enlisted s e counts new =
-    let c = and_parts _ (nat_le (length e.information) most_information) new in
+    let c = and_parts _ (nat_le (length e.information) MOST_INFORMATION_BYTES) new in
     let b = and_parts _ (is_manager s e.manager) c.0 in
     let a = and_parts (e.enlistment.boot == s.boots) (not (list_any (λ (t : Recorded). list_any (λ other. same_id other e.enlistment) (enlistments_of t)) s.transactions)) b.0 in
     record { drawn = is_drawn-now s e.enlistment counts (eqb-true _ _ a.0); manager = b.1; information = c.1 }

@@ -4,6 +4,7 @@ use Rattle.std.proofs.Common.{◌≡◌, ℕ, ◌+◌, ◌≤◌, ◌&&◌, ◌|
 use Rattle.std.proofs.lemmas.Bool.{cases_Bool, and_parts, and_from, and_left, or_cases, or_left, or_right, lt-ltb, le-leb, leb-true, true≢false, not-true, not_from_false, false_from_ne_true}
 use Rattle.std.proofs.lemmas.Option.{same_Some}
 use Rattle.std.specs.List.{list_any, list_all, flat_map}
+use Rattle.ktm_base.specs.declared.limits.TheConstants.{MOST_NUMBER, MOST_INFORMATION_BYTES}
 use Rattle.ktm_base.specs.declared.id.Id.{Id}
 use Rattle.ktm_types.specs.declared.recorded.RecordedPart.{RecordedPart}
 use Rattle.ktm_types.specs.declared.recorded.Superior.{Superior}
@@ -17,7 +18,6 @@ use Rattle.ktm_types.specs.declared.object.TransactionOutcome.{TransactionOutcom
 use Rattle.ktm_types.specs.declared.options.EnlistmentKind.{EnlistmentKind}
 use Rattle.ktm_world.specs.Durable.{Durable, Recorded, after_event, after_events, enlistments_of, has_undone, is_before, is_decided, is_held, is_manager, stand}
 use Rattle.ktm_world.specs.Enlistments.{Enlistment, Manager, is_superior, is_unfinished, is_durable_at, superior_of}
-use Rattle.ktm_world.specs.Limits.{most_information, most_number}
 use Rattle.ktm_world.specs.Logs.{Group}
 use Rattle.ktm_world.specs.Present.{Present}
 use Rattle.ktm_world.specs.Transactions.{same_id}
@@ -144,7 +144,7 @@ module _ (base : Durable) (room : ℕ) (log : List Group) (good : IsGoodState (s
 
   counted : (id : Id) → is_drawn s id ≡ true → is_counted (s.boots + 1) 0 id ≡ true
   counted id drawn =
-      let number = and_parts (nat_le 1 id.boot && nat_le 1 id.number) (nat_le id.number most_number) (and_parts (is_of_object id) (nat_le id.boot s.boots) drawn).0 in
+      let number = and_parts (nat_le 1 id.boot && nat_le 1 id.number) (nat_le id.number MOST_NUMBER) (and_parts (is_of_object id) (nat_le id.boot s.boots) drawn).0 in
       let from = and_parts (nat_le 1 id.boot) (nat_le 1 id.number) number.0 in
       let boot = drawn-boot id drawn in
       and_from _ _ (and_from _ _ (and_from _ _ (and_from _ _ from.0 (le-leb id.boot (s.boots + 1) (omega (arith, boot)))) from.1) number.1) (or_left _ _ (lt-ltb id.boot (s.boots + 1) (omega (arith, boot))))
@@ -314,7 +314,7 @@ module _ (base : Durable) (room : ℕ) (log : List Group) (good : IsGoodState (s
         (lt-ltb (e.id).boot (s.boots + 1) (let boot = drawn-boot e.id (enlisted-fact (λ (e : Superior). is_drawn s e.enlistment) good.enlistments_drawn e there) in omega (arith, boot)))
         (manager-back e.manager (managers-known e there)).1) (not_from_false _ is.read_only)) (not_from_false _ is.finished)) is.owes)
         (elim is.prepared [ inl above ↦ or_left _ _ above.0 | inr below ↦ or_right _ _ below.1 ])));
-    information_fits = list_all-from (λ (e : Enlistment). nat_le (length e.information) most_information) es (λ e there. enlisted-fact (λ (e : Superior). nat_le (length e.information) most_information) good.information_fits e there);
+    information_fits = list_all-from (λ (e : Enlistment). nat_le (length e.information) MOST_INFORMATION_BYTES) es (λ e there. enlisted-fact (λ (e : Superior). nat_le (length e.information) MOST_INFORMATION_BYTES) good.information_fits e there);
     begun = each (λ t. nat_le t.created 0) (λ t there brought. refl);
     clock_fits = omega arith;
   }

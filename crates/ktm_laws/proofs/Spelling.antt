@@ -4,6 +4,7 @@ use Rattle.std.proofs.Common.{◌≡◌, ℕ, ◌+◌, ◌≤◌, ◌==◌, ◌&
 use Rattle.std.proofs.lemmas.Bool.{cases_Bool, and_parts, leb-true, true≢false}
 use Rattle.std.proofs.lemmas.List.Elements.{All-from_recursion, recursion_from_All}
 use Rattle.std.specs.List.{AllByRecursion, flat_map, list_all}
+use Rattle.ktm_base.specs.declared.limits.TheConstants.{MOST_NUMBER, MOST_INFORMATION_BYTES}
 use Rattle.ktm_base.specs.declared.id.Id.{Id}
 use Rattle.ktm_event.specs.Spelling.{AreSpellableChanges, AreSpellableSettings, IsSpellableChange, IsSpellableDone, IsSpellableEvent, IsSpellableId, IsSpellablePart, IsSpellableRecord, IsSpellableSole}
 use Rattle.ktm_types.specs.declared.change.Change.{Change}
@@ -16,7 +17,6 @@ use Rattle.ktm_types.specs.declared.event.Part.TheVariants.{Enlistment, Changes,
 use Rattle.ktm_world.specs.Changes.{applies, apply_all, is_empty_list}
 use Rattle.ktm_world.specs.Decide.{decide}
 use Rattle.ktm_world.specs.Durable.{Durable, Recorded, after_event, fact_applies, has_undone, is_decided, is_new_enlistment, is_new_in, is_sole, is_within_limits, may_get_ready, part_applies, recorded_at}
-use Rattle.ktm_world.specs.Limits.{most_information, most_number}
 use Rattle.ktm_world.specs.Present.{Present}
 use Rattle.ktm_world.specs.Transactions.{same_id}
 use Rattle.ktm_world.specs.Tree.{Tree, is_file}
@@ -40,7 +40,7 @@ use Rattle.ktm_laws.proofs.OwnTexts.{grouped-texts, recorded-texts, restarted-te
 
 spelled-id : (id : Id) → is_of_object id ≡ true → IsSpellableId id
 spelled-id id is =
-    let both = and_parts (nat_le 1 id.boot && nat_le 1 id.number) (nat_le id.number most_number) is in
+    let both = and_parts (nat_le 1 id.boot && nat_le 1 id.number) (nat_le id.number MOST_NUMBER) is in
     let from = and_parts (nat_le 1 id.boot) (nat_le 1 id.number) both.0 in
     record { boot_from = leb-true 1 id.boot from.0; number_from = leb-true 1 id.number from.1 }
 
@@ -64,7 +64,7 @@ spelled-record : (s : Durable) (enlistment manager : Id) (information : List ℕ
     → IsSpellableRecord enlistment manager information
 spelled-record s enlistment manager information new named =
     let first = spelled-first enlistment (manager ∷ []) named in
-    let short = leb-true (length information) most_information (and_parts _ (nat_le (length information) most_information) new).1 in
+    let short = leb-true (length information) MOST_INFORMATION_BYTES (and_parts _ (nat_le (length information) MOST_INFORMATION_BYTES) new).1 in
     record { enlisted = first.0; managed = (spelled-first manager [] first.1).0; short = omega (arith, short) }
 
 -- ---- events

@@ -14,7 +14,7 @@ use Rattle.ktm_laws.specs.Footprint.{IsIn}
 use Rattle.ktm_laws.specs.SoundFiles.{IsSoundFiles}
 use Rattle.ktm_laws.proofs.CommittedUnits.{Rests, gains, is_older, nodes-all, units-all}
 use Rattle.ktm_laws.proofs.Elements.{IsIn-filter, list_all-at}
-use Rattle.ktm_laws.proofs.Lookups.{Rises-from}
+use Rattle.ktm_world.proofs.Lookups.{Rises-from}
 use Rattle.ktm_laws.proofs.NormalForms.{bytes-final}
 use Rattle.ktm_laws.proofs.OlderVersions.{AreFixed, older-filter, older-is, version_units}
 use Rattle.ktm_laws.proofs.Passing.{All-in, own_changes-of, passed}

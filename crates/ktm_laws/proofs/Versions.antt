@@ -15,7 +15,7 @@ use Rattle.ktm_laws.specs.GoodState.{each_pair}
 use Rattle.ktm_laws.specs.SoundFiles.{files_rise}
 use Rattle.ktm_laws.proofs.Applying.{Applies-from, Fits-from, is_there-none}
 use Rattle.ktm_laws.proofs.Elements.{IsIn-filter, list_all-at, list_all-from, each_pair-filter}
-use Rattle.ktm_laws.proofs.Lookups.{map_node, remade, node_at-elsewhere, node_at-there}
+use Rattle.ktm_world.proofs.Lookups.{map_node, remade, node_at-elsewhere, node_at-there}
 
 -- ---- lists of versions
 
@@ -23,7 +23,7 @@ version_of-later : (vs : List Version) (n : ℕ) → ((v : Version) → IsIn v v
 version_of-later [] n later = refl
 version_of-later (v ∷ vs) n later = rw (ne_eqb v.file n (λ e. omega (arith, later v (inl refl), e))) (version_of-later vs n (λ u there. later u (inr there)))
 
-rises-behind : (v : Version) (vs : List Version) → each_pair files_rise (v ∷ vs) ≡ true → (u : Version) → IsIn u vs → v.file < u.file
+pub rises-behind : (v : Version) (vs : List Version) → each_pair files_rise (v ∷ vs) ≡ true → (u : Version) → IsIn u vs → v.file < u.file
 rises-behind v vs rises u there = ltb-true v.file u.file (list_all-at (files_rise v) vs (and_parts (list_all (files_rise v) vs) (each_pair files_rise vs) rises).0 u there)
 
 rises-rest : (v : Version) (vs : List Version) → each_pair files_rise (v ∷ vs) ≡ true → each_pair files_rise vs ≡ true

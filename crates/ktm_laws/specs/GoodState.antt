@@ -1,6 +1,7 @@
 -- What every durable state is that a log comes to.
 use Rattle.std.specs.Prelude.{◌≡◌, ℕ, ◌-◌, ◌≤◌, ◌^◌, ◌==◌, ◌<◌, ◌&&◌, ◌||◌, not, Bool, true, List, [], ◌∷◌, ◌++◌, length, count_by, nat_lt, nat_le, Option, Some, None, is_some, is_none}
 use Rattle.std.specs.List.{list_any, list_all, flat_map}
+use Rattle.ktm_base.specs.declared.limits.TheConstants.{MOST_NUMBER, MOST_INFORMATION_BYTES}
 use Rattle.ktm_base.specs.declared.id.Id.{Id}
 use Rattle.ktm_types.specs.declared.change.Change.{Change}
 use Rattle.ktm_types.specs.declared.change.Change.TheVariants.{Put}
@@ -15,7 +16,6 @@ use Rattle.ktm_world.specs.Durable.{Durable, Recorded, is_ready, is_held, is_dec
 use Rattle.ktm_keyed.specs.Keyed.{is_rising}
 use Rattle.ktm_world.specs.Keys.{are_good_settings, is_bad_key, is_bad_value}
 use Rattle.ktm_world.specs.Lawful.{are_apart, set_both}
-use Rattle.ktm_world.specs.Limits.{most_information, most_number}
 use Rattle.ktm_world.specs.Transactions.{same_id}
 use Rattle.ktm_world.specs.Tree.{IsWellFormed}
 
@@ -28,7 +28,7 @@ each_pair test (x ∷ xs) = list_all (test x) xs && each_pair test xs
 
 -- can the Id be that of an object: its boot and its number count from 1, and the number is in range
 abbrev pub is_of_object : Id → Bool
-is_of_object id = nat_le 1 id.boot && nat_le 1 id.number && nat_le id.number most_number
+is_of_object id = nat_le 1 id.boot && nat_le 1 id.number && nat_le id.number MOST_NUMBER
 
 -- was the Id drawn in a boot that there was
 abbrev pub is_drawn : Durable → Id → Bool
@@ -122,7 +122,7 @@ pub record IsGoodState (s : Durable) : Type 0 where
   -- the resource manager of each enlistment is there
   pub managers_there : list_all (λ e. is_manager s e.manager) (flat_map enlisted s.transactions) ≡ true
   -- no recovery information is too long
-  pub information_fits : list_all (λ e. nat_le (length e.information) most_information) (flat_map enlisted s.transactions) ≡ true
+  pub information_fits : list_all (λ e. nat_le (length e.information) MOST_INFORMATION_BYTES) (flat_map enlisted s.transactions) ≡ true
   -- a transaction has at most one part of the files, and one of the keys
   pub parts : list_all has_one_part_each s.transactions ≡ true
   -- a transaction that is ready is of the present boot, and has a part, and no superior

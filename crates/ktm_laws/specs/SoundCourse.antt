@@ -1,6 +1,7 @@
 -- What is so of the transactions, the enlistments, the resource managers and the handles of a machine at every time.
 use Rattle.std.specs.Prelude.{◌≡◌, ℕ, ◌-◌, ◌<◌, ◌≤◌, ◌^◌, ◌==◌, ◌&&◌, ◌||◌, not, Bool, true, false, List, length, count_by, nat_lt, nat_le, Some, None, is_some, is_none, if◌then◌else◌}
 use Rattle.std.specs.List.{list_any, list_all}
+use Rattle.ktm_base.specs.declared.limits.TheConstants.{MOST_NUMBER, MOST_INFORMATION_BYTES}
 use Rattle.ktm_base.specs.declared.id.Id.{Id}
 use Rattle.ktm_base.specs.declared.notify.Notify.{Notify}
 use Rattle.ktm_types.specs.declared.object.Handle.{Handle}
@@ -14,7 +15,6 @@ use Rattle.ktm_world.specs.Enlistments.{Enlistment, Note, Manager, is_superior, 
 use Rattle.ktm_world.specs.Files.{own_changes}
 use Rattle.ktm_world.specs.HandleCalls.{is_handle}
 use Rattle.ktm_world.specs.Keys.{own_settings}
-use Rattle.ktm_world.specs.Limits.{most_information, most_number}
 use Rattle.ktm_world.specs.Phases.{has_settings, is_single_phase}
 use Rattle.ktm_world.specs.Present.{Present}
 use Rattle.ktm_world.specs.TransactionCalls.{is_in_doubt}
@@ -26,7 +26,7 @@ use Rattle.ktm_laws.specs.GoodState.{each_pair}
 
 -- was the Id drawn in this boot or an earlier one, and counted from 1, in this boot no further than the last number of its kind
 abbrev pub is_counted : ℕ → ℕ → Id → Bool
-is_counted boot last id = nat_le 1 id.boot && nat_le id.boot boot && nat_le 1 id.number && nat_le id.number most_number && (nat_lt id.boot boot || nat_le id.number last)
+is_counted boot last id = nat_le 1 id.boot && nat_le id.boot boot && nat_le 1 id.number && nat_le id.number MOST_NUMBER && (nat_lt id.boot boot || nat_le id.number last)
 
 -- was an enlistment made in this boot, where its transaction was
 abbrev pub is_made_with_it : ℕ → Enlistment → Bool
@@ -249,7 +249,7 @@ pub record IsSoundCourse (x : Present) : Type 0 where
   -- an enlistment that is not recovered was brought back by the restart
   pub unrecovered : list_all (is_unrecovered_well x.recorded.boots x.managers) x.transactions.enlistments ≡ true
   -- no recovery information is too long
-  pub information_fits : list_all (λ e. nat_le (length e.information) most_information) x.transactions.enlistments ≡ true
+  pub information_fits : list_all (λ e. nat_le (length e.information) MOST_INFORMATION_BYTES) x.transactions.enlistments ≡ true
   -- no transaction began after now
   pub begun : list_all (λ t. nat_le t.created x.transactions.clock) x.transactions.items ≡ true
   -- the clock has not come past its end

@@ -1,5 +1,6 @@
 -- What a machine records has bytes.
 use Rattle.std.specs.Prelude.{ℕ, ◌<◌, ◌≤◌, ◌^◌, List, [], length, Option, All}
+use Rattle.ktm_base.specs.declared.limits.TheConstants.{MOST_UNITS}
 use Rattle.ktm_base.specs.declared.id.Pid.{Pid}
 use Rattle.ktm_event.specs.Spelling.{IsSpellableEvent}
 use Rattle.ktm_keyed.specs.declared.keyed.Keyed.{Keyed}
@@ -44,9 +45,9 @@ AreSpelled events = All IsSpellableEvent events × (length events < 2 ^ 32)
 -- again after a restart, for each event that stands in bytes leaves those that wait in a log texts
 pub record SpellingLaw : Type 0 where
   -- by a command
-  pub commands : (x : Present) (process : Pid) (command : Command) → IsKept x → AreTexts x → x.recorded.units ≤ 1024 → IsCommand command → AreSpelled (decide x process command).events
+  pub commands : (x : Present) (process : Pid) (command : Command) → IsKept x → AreTexts x → x.recorded.units ≤ MOST_UNITS → IsCommand command → AreSpelled (decide x process command).events
   -- by the passing of time
-  pub ticks : (x : Present) (ms : ℕ) → IsKept x → AreTexts x → x.recorded.units ≤ 1024 → AreSpelled (decide_tick x ms).events
+  pub ticks : (x : Present) (ms : ℕ) → IsKept x → AreTexts x → x.recorded.units ≤ MOST_UNITS → AreSpelled (decide_tick x ms).events
   -- the keys stay texts by a command
   pub stay : (x : Present) (process : Pid) (command : Command) → IsCommand command → AreTexts x → AreTexts (apply x (decide x process command))
   -- and by the passing of time

@@ -212,3 +212,11 @@ pub KeepsSpent-with_value : {V : Type 0} (old new : Listed V) (key : Key) (v : V
     → new.items ≡ with_value old.items key v → new.next ≡ old.next → KeepsSpent old new
 KeepsSpent-with_value old new key v some items next = λ other spent.
     record { before = rw next spent.before; gone = rw items (value_at-with_none old.items key other v some spent.gone) }
+
+-- two keys are the same, or they are not
+pub cases_key : (a b : Key) → (a ≡ b) ⊎ (a ≡ b → ⊥)
+cases_key a b =
+    elim (cases_Bool (same_key a b)) [
+      | inl same ↦ inl (same_key-true a b same)
+      | inr differs ↦ inr (λ same. let is = same_key-self a b same in absurd (cc))
+    ]

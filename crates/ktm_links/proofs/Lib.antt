@@ -1,8 +1,10 @@
 pub mod Blocks
+pub mod Comparing
 pub mod Entries
 pub mod Found
 pub mod InOrder
 pub mod Keys
 pub mod Linked
 pub mod Names
+pub mod Numbers
 pub mod Segments

@@ -3,4 +3,5 @@ pub mod Entry
 pub mod Items
 pub mod Links
 pub mod Mapped
+pub mod Numbers
 pub mod Order

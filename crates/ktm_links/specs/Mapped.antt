@@ -1,5 +1,6 @@
 -- What a contract sees of a `Chains`.
 use Rattle.std.specs.Prelude.{◌≡◌, ℕ, ◌<◌, true, false, List, [], ◌∷◌, ◌++◌, Option, Some, None, is_some, if◌then◌else◌, refl}
+use Rattle.std.specs.Option.{option_map}
 use Rattle.std.specs.Coded.{Coded, code_by, coded×, coded_ℕ, coded_list}
 use Rattle.std.specs.declared.cmp.Ordering.{Ordering}
 use Rattle.std.specs.Ordering.{nat_cmp, is_eq, is_lt}
@@ -118,3 +119,7 @@ module _ {T : Type 0} where
   -- what was spent stays spent
   abbrev pub KeepsSpent : Mapped T → Mapped T → Type 0
   KeepsSpent old new = (key : Key) → IsSpent old key → IsSpent new key
+
+-- the key that a map of keys has under the name
+abbrev pub key_under : List (NamedItem Key) → List ℕ → Option Key
+key_under named name = option_map (λ e. e.1) (at named name)

@@ -13,4 +13,4 @@ mod search;
 
 pub use chains::Chains;
 pub use list::{Key, List};
-pub use name::{InlineName, Name};
+pub use name::{InlineName, Name, long_bytes, number_bytes};

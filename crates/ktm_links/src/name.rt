@@ -1,5 +1,6 @@
 // Names, each with its room.
-ghost use Rattle.std.specs.Prelude.{◌≡◌, ◌≤◌, List, ℕ, length};
+ghost use Rattle.std.specs.Prelude.{◌≡◌, ◌≤◌, List, ℕ, [], length};
+ghost use Rattle.ktm_links.specs.Numbers.{long_bytes, number_bytes};
 
 use std::marker::Model;
 
@@ -60,4 +61,25 @@ impl<const N: usize> Name for [u8; N] {
     fn as_slice(&self) -> &[u8] {
         self
     }
+}
+
+/// A number as a part of a name, its greatest byte first: names are then in the order of the numbers.
+pub fn number_bytes(number: u32) -> [u8; 4]
+    ensures { result ≡ number_bytes number [] }
+{
+    [
+        (number / 16_777_216) as u8,
+        (number / 65_536 % 256) as u8,
+        (number / 256 % 256) as u8,
+        (number % 256) as u8,
+    ]
+}
+
+/// The same of a number of 64 bits.
+pub fn long_bytes(number: u64) -> [u8; 8]
+    ensures { result ≡ long_bytes number [] }
+{
+    let [h3, h2, h1, h0] = number_bytes((number / 4_294_967_296) as u32);
+    let [l3, l2, l1, l0] = number_bytes((number % 4_294_967_296) as u32);
+    [h3, h2, h1, h0, l3, l2, l1, l0]
 }

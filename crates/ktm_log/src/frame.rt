@@ -2,12 +2,14 @@
 ghost use Rattle.std.specs.Prelude.{◌≡◌, ◌+◌, ◌≤◌, length, IfSome, MatchOption, None, Some};
 ghost use Rattle.ktm_log.specs.Log.{first_payload, size_at};
 
+use ktm_codec::u32_in;
+
 // The payload length behind the gate that the bytes begin with.
 pub(crate) fn payload_size(bytes: &[u8]) -> u32
     requires { 5 ≤ length bytes.now }
     ensures { result ≡ size_at bytes.now }
 {
-    u32::from_le_bytes([bytes[1], bytes[2], bytes[3], bytes[4]])
+    u32_in(bytes, 1)
 }
 
 /// The payload of the frame that the bytes begin with, if they begin with one. The next frame is five bytes behind as many

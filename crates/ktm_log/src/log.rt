@@ -1,5 +1,6 @@
 // The log of an area, and how it grows.
 ghost use Rattle.std.specs.Prelude.{◌≡◌, ◌↔◌, ℕ, ◌+◌, ◌/◌, ◌^◌, ◌<◌, ◌≤◌, List, [], ◌∷◌, ◌++◌, length, OnOk, IfOk, IfErr, vec_capacity, false, Err};
+ghost use Rattle.ktm_base.specs.declared.limits.TheConstants.{MOST_PENDING};
 ghost use Rattle.ktm_base.specs.Told.{IfTold, Tells, Goes};
 ghost use Rattle.ktm_base.specs.Disk.{IsSafe, DeviceCalls};
 ghost use Rattle.ktm_log.specs.Fault.{IfBad, IfAppendDown, scan_went_down, append_went_down};
@@ -77,7 +78,7 @@ impl Log {
     /// the frame's own gate is opened and synced. Where the disk went down the frame may be there or not, and only a scan
     /// can tell.
     pub fn append<D: Disk>(&mut self, disk: &mut D, body: &[u8]) -> Result<(), AppendFault>
-        requires pending { (D.status disk.old).pending < 64 }
+        requires pending { (D.status disk.old).pending < MOST_PENDING }
         requires within { IfTold (D.told disk.old) (λ s. self.old.area.at + self.old.area.len ≤ length s.seen) }
         ensures area { self.new.area ≡ self.old.area }
         ensures full { (result ≡ Err AppendFault.Full) ↔ (self.old.area.len < self.old.end + length body.now + 1) }

@@ -1,5 +1,6 @@
 // A disk in memory.
 ghost use Rattle.std.specs.Prelude.{◌≡◌, ◌≤◌, ◌<◌, ◌+◌, ◌||◌, ℕ, List, Some, None, [], ◌∷◌, length, IfOk, OnOk, OnErr, IsTrue, is_err, is_ok, nat_lt, vec_capacity, slice_range, max, false, if◌then◌else◌};
+ghost use Rattle.ktm_base.specs.declared.limits.TheConstants.{MOST_PENDING};
 ghost use Rattle.ktm_base.specs.Told.{IfTold, Goes};
 ghost use Rattle.ktm_base.specs.Disk.{DiskState, DiskStatus, Wrote, WriteRefused, Synced, Grew, GrowthRefused, DeviceCall};
 ghost use Rattle.ktm_mem.specs.Schedule.{fails_next};
@@ -7,11 +8,8 @@ ghost use Rattle.ktm_mem.specs.Schedule.{fails_next};
 use crate::contents::{grow, put_over};
 use crate::schedule::{Calls, Schedule};
 use crate::supply::Supply;
-use ktm_base::{Bytes, Disk, Down, NoMemory};
+use ktm_base::{Bytes, Disk, Down, MOST_PENDING, NoMemory};
 use std::alloc::Global;
-
-/// The most writes between two syncs.
-const MOST_PENDING: usize = 64;
 
 /// Keeps its bytes. It goes down at the first call that fails, or that asks for a length beyond its room, and stays down.
 /// A call that it refuses changes none of its bytes.
@@ -27,7 +25,7 @@ pub struct MemDisk {
     ghost no_shorter: { shortest ≤ length bytes.items },
     ghost no_longer: { length bytes.items ≤ longest },
     ghost room_taken: { room ≤ vec_capacity bytes },
-    ghost places_taken: { 64 ≤ vec_capacity dirty },
+    ghost places_taken: { MOST_PENDING ≤ vec_capacity dirty },
 }
 
 impl MemDisk {
@@ -107,7 +105,7 @@ impl Disk for MemDisk {
 
     fn write_at(&mut self, at: u64, bytes: &[u8]) -> Result<(), Down>
         requires within { at + length bytes.now ≤ length (state_of self.old).seen }
-        requires room { (status_of self.old).pending < 64 }
+        requires room { (status_of self.old).pending < MOST_PENDING }
         ensures ok { OnOk result (Wrote at bytes.now (state_of self.old) (state_of self.new)) }
         ensures err { OnErr result ((status_of self.old).is_down ≡ false → WriteRefused at (length bytes.now) (state_of self.old) (state_of self.new)) }
         ensures frozen { IsTrue (status_of self.old).is_down → Some (state_of self.new) ≡ Some (state_of self.old) }

@@ -5,6 +5,7 @@ use Rattle.std.proofs.lemmas.List.{length-map, map_push, same_from_push}
 use Rattle.std.proofs.lemmas.List.Elements.{All-cons, All-head, All-nil, All-push, All-tail}
 use Rattle.std.proofs.lemmas.Option.{same_Some}
 use Rattle.std.proofs.lemmas.Slice.Eq.{bytes_eq-Decides}
+use Rattle.ktm_base.specs.declared.limits.TheConstants.{MOST_PARTS}
 use Rattle.ktm_base.specs.Names.{IsLastPart, IsName, IsPath, IsPattern, backslash, is_name_byte, is_pattern_byte}
 use Rattle.ktm_names.specs.Reading.{behind_backslash, parts_of}
 use Rattle.ktm_names.proofs.PartLemmas.{HasNoBackslash, parts_again, parts_is}
@@ -149,7 +150,7 @@ pattern_has_a_part show text xs directory last e none h =
     omega (arith, ap length same, length-append directory (last ∷ []), length-map xs show)
 
 -- the names before the last part are fewer than the parts
-pub few_before : {X : Type 0} (show : X → List ℕ) (text : List ℕ) (front : List X) (end : List ℕ) → parts_of text ≡ Some (map show front ++ end ∷ []) → length front ≤ 32
+pub few_before : {X : Type 0} (show : X → List ℕ) (text : List ℕ) (front : List X) (end : List ℕ) → parts_of text ≡ Some (map show front ++ end ∷ []) → length front ≤ MOST_PARTS
 few_before show text front end e =
     let read = parts_is text (map show front ++ end ∷ []) e in
     omega (arith, read.0, length-append (map show front) (end ∷ []), length-map front show)

@@ -1,6 +1,7 @@
 -- Reading by cutting at the backslashes. The laws in proofs/ say that it reads what `IsPath` and `IsPattern` spell; no public contract rests on this file.
 use Rattle.std.specs.Prelude.{ℕ, ◌==◌, nat_le, List, [], ◌∷◌, length, Option, Some, None, option_and_then, if◌then◌else◌}
 use Rattle.std.specs.List.{slice_split}
+use Rattle.ktm_base.specs.declared.limits.TheConstants.{MOST_PARTS}
 use Rattle.ktm_base.specs.Names.{backslash}
 
 -- what follows the backslash at the front
@@ -14,7 +15,7 @@ cut text = slice_split (λ c. c == backslash) text
 
 -- the same, where there are 32 at most
 abbrev pub few_parts : List ℕ → Option (List (List ℕ))
-few_parts text = if nat_le (length (cut text)) 32 then Some (cut text) else None
+few_parts text = if nat_le (length (cut text)) MOST_PARTS then Some (cut text) else None
 
 -- the parts of a path or a pattern, whatever they hold
 unfoldable pub parts_of : List ℕ → Option (List (List ℕ))

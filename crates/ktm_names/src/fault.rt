@@ -3,13 +3,16 @@ ghost use Rattle.std.specs.Prelude.{◌≡◌};
 
 use ktm_base::NoMemory as OutOfMemory;
 use std::alloc::AllocError;
+use thiserror::Error;
 
 /// Why a path or a pattern was not read.
-#[derive(Clone, Copy, Debug, PartialEq, Eq)]
+#[derive(Clone, Copy, Debug, PartialEq, Eq, Error)]
 pub enum PathFault {
     /// The text is none.
+    #[error("not a path")]
     NotAPath,
     /// Memory was wanted and not to be had.
+    #[error("out of memory")]
     NoMemory,
 }
 

@@ -4,13 +4,8 @@ ghost use Rattle.ktm_base.specs.Names.{IsLastPart, IsName, is_name_byte, is_patt
 ghost use Rattle.ktm_names.specs.Reading.{behind_backslash, cut, parts_of};
 
 use crate::PathFault;
+use ktm_base::{MOST_NAME_BYTES, MOST_PARTS};
 use std::alloc::{AllocError, Global};
-
-/// The most parts of a path or a pattern.
-const MOST_PARTS: usize = 32;
-
-/// The most characters of a part.
-const MOST_CHARACTERS: usize = 255;
 
 #[tactic(auto, unfolding(ktm_base::specs::Names::is_name_byte))]
 fn is_name_byte(byte: u8) -> bool
@@ -31,7 +26,7 @@ pub fn is_name(name: &[u8]) -> bool
 {
     match name {
         [] | [.., b' ' | b'.'] => false,
-        _ => name.len() <= MOST_CHARACTERS && name.iter().all(|byte| is_name_byte(*byte)),
+        _ => name.len() <= MOST_NAME_BYTES && name.iter().all(|byte| is_name_byte(*byte)),
     }
 }
 
@@ -39,7 +34,7 @@ pub fn is_last_part(last: &[u8]) -> bool
     ensures { IsTrue result ↔ IsLastPart last.now }
 {
     !last.is_empty()
-        && last.len() <= MOST_CHARACTERS
+        && last.len() <= MOST_NAME_BYTES
         && last.iter().all(|byte| is_pattern_byte(*byte))
 }
 

@@ -1,5 +1,6 @@
 // Paths.
 ghost use Rattle.std.specs.Prelude.{◌≡◌, ◌↔◌, ◌<◌, ◌≤◌, ℕ, List, [], Some, All, IsTrue, IfOk, IfErr, length, map, slice_get};
+ghost use Rattle.ktm_base.specs.declared.limits.TheConstants.{MOST_PARTS};
 ghost use Rattle.ktm_base.specs.Names.{IsName, IsPath};
 
 use crate::PathFault;
@@ -17,19 +18,20 @@ pub struct Path {
 
 impl Model for Path {
     ghost use Rattle.std.specs.Prelude.{ℕ, List, length, All, ◌≤◌};
+    ghost use Rattle.ktm_base.specs.declared.limits.TheConstants.{MOST_PARTS};
     ghost use Rattle.ktm_base.specs.Names.{IsName};
 
     ghost Value = { List (List ℕ) };
 
     ghost view = { λ p. p.names };
 
-    ghost invariant = { λ p. (length p.names ≤ 32) × All IsName p.names };
+    ghost invariant = { λ p. (length p.names ≤ MOST_PARTS) × All IsName p.names };
 }
 
 impl Path {
     /// The path of these names.
     pub(crate) fn of(alloc: Global, names: &[&[u8]]) -> Result<Self, NoMemory>
-        requires few { length names.now ≤ 32 }
+        requires few { length names.now ≤ MOST_PARTS }
         requires names { All (λ name. IsName name.now) names.now }
         ensures { IfOk result (λ path. path ≡ map (λ name. name.now) names.now) }
     {
@@ -59,7 +61,7 @@ impl Path {
     /// How many names it has.
     pub fn len(&self) -> usize
         ensures value { result ≡ length self.now }
-        ensures few { result ≤ 32 }
+        ensures few { result ≤ MOST_PARTS }
     {
         self.names.len()
     }

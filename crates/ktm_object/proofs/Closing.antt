@@ -9,13 +9,14 @@ use Rattle.ktm_base.specs.declared.id.Pid.{Pid}
 use Rattle.ktm_world.specs.HandleCalls.{is_handle, without_handle}
 use Rattle.ktm_links.specs.declared.list.Key.{Key}
 use Rattle.ktm_links.specs.Items.{Item, same_key, value_at, without}
-use Rattle.ktm_links.specs.Mapped.{NamedItem, at}
+use Rattle.ktm_links.specs.Mapped.{NamedItem, at, key_under}
 use Rattle.ktm_links.proofs.Keys.{on_some, same_key-true, same_key-self}
 use Rattle.ktm_object.specs.declared.entry.Entry.{Entry}
 use Rattle.ktm_object.specs.Table.{handle_of, entry_at, without_entry}
 use Rattle.ktm_object.specs.Names.{label_bytes, label_name}
-use Rattle.ktm_object.specs.Indexed.{entries_of, key_under, AreNamed, IsIndex}
-use Rattle.ktm_object.proofs.Indexes.{cases_name, named_at, key_under-same}
+use Rattle.ktm_object.specs.Indexed.{entries_of, AreNamed, IsIndex}
+use Rattle.ktm_links.proofs.Comparing.{cases_name}
+use Rattle.ktm_object.proofs.Indexes.{named_at, key_under-same}
 use Rattle.ktm_object.proofs.Labels.{is_handle-from, is_handle-to}
 
 -- of each item, is it that of the key exactly where it is the handle of the process with the label

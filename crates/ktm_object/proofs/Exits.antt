@@ -9,12 +9,12 @@ use Rattle.ktm_world.specs.Handles.{object_at}
 use Rattle.ktm_world.specs.HandleCalls.{is_handle, is_of_process, labels_of, with_label, without_handle}
 use Rattle.ktm_links.specs.declared.list.Key.{Key}
 use Rattle.ktm_links.specs.Items.{Item, same_key, value_at, without}
-use Rattle.ktm_links.specs.Mapped.{NamedItem, Begins, IsNotBelow}
+use Rattle.ktm_links.specs.Mapped.{NamedItem, Begins, IsNotBelow, key_under}
 use Rattle.ktm_links.proofs.Keys.{same_key-true}
 use Rattle.ktm_object.specs.declared.entry.Entry.{Entry}
 use Rattle.ktm_object.specs.Table.{handle_of}
 use Rattle.ktm_object.specs.Names.{label_bytes, label_name}
-use Rattle.ktm_object.specs.Indexed.{entries_of, key_under, AreDistinct, AreNamed, IsIndex, IsFirstUnder, IsNoneUnder}
+use Rattle.ktm_object.specs.Indexed.{entries_of, AreDistinct, AreNamed, IsIndex, IsFirstUnder, IsNoneUnder}
 use Rattle.ktm_object.proofs.Closing.{TellsKey, tells, entries_of-without, handles-without}
 use Rattle.ktm_object.proofs.Indexes.{value_at-gone}
 use Rattle.ktm_object.proofs.Labels.{entry_at-index, object_at-entry}

@@ -1,8 +1,6 @@
 -- Lemmas on maps from names to the keys of entries.
 use Rattle.std.proofs.Common.{◌≡◌, ℕ, ◌⊎◌, List, [], ◌∷◌, ◌++◌, map, Option, Some, None, refl, sym, ap, ◌∙◌, inl, inr}
 use Rattle.std.specs.Option.{option_map}
-use Rattle.std.specs.Ordering.{is_eq}
-use Rattle.std.specs.declared.cmp.Ordering.TheVariants.{Equal}
 use Rattle.std.proofs.lemmas.Bool.{cases_Bool}
 use Rattle.std.proofs.lemmas.Option.{same_Some}
 use Rattle.ktm_base.specs.declared.id.Label.{Label}
@@ -10,23 +8,16 @@ use Rattle.ktm_base.specs.declared.id.Pid.{Pid}
 use Rattle.ktm_world.specs.Handles.{object_at}
 use Rattle.ktm_links.specs.declared.list.Key.{Key}
 use Rattle.ktm_links.specs.Items.{Item, item, same_key, value_at, without}
-use Rattle.ktm_links.specs.Mapped.{NamedItem, name_cmp, at, key_at}
+use Rattle.ktm_links.specs.Mapped.{NamedItem, at, key_at, key_under}
 use Rattle.ktm_links.proofs.Keys.{same_key-true, same_key-self, value_at-others, value_at-push_other}
 use Rattle.ktm_links.proofs.Entries.{key_at-at}
-use Rattle.ktm_links.proofs.Names.{name_equal, name_same, from_is_eq}
 use Rattle.ktm_object.specs.declared.entry.Entry.{Entry}
 use Rattle.ktm_object.specs.declared.name.Owner.{Owner}
 use Rattle.ktm_object.specs.Table.{handle_of}
 use Rattle.ktm_object.specs.Names.{label_bytes, label_name, owner_bytes}
-use Rattle.ktm_object.specs.Indexed.{entries_of, key_under, AreDistinct, AreNamed, IsIndex}
+use Rattle.ktm_object.specs.Indexed.{entries_of, AreDistinct, AreNamed, IsIndex}
 use Rattle.ktm_object.proofs.Labels.{owner_tells, entry_at-index, object_at-entry}
-
-pub cases_key : (a b : Key) → (a ≡ b) ⊎ (a ≡ b → ⊥)
-cases_key a b =
-    elim (cases_Bool (same_key a b)) [
-      | inl same ↦ inl (same_key-true a b same)
-      | inr differs ↦ inr (λ same. let is = same_key-self a b same in absurd (cc))
-    ]
+use Rattle.ktm_links.proofs.Comparing.{cases_name}
 
 -- ---- names that are free
 pub key_at-free : (named : List (NamedItem Key)) (q : List ℕ) → key_under named q ≡ None → key_at named q ≡ None
@@ -46,13 +37,6 @@ named_at name named (x ∷ xs) key e all is =
           let value : x.value ≡ e = same_Some x.value e (rw same at is) in
           ap (λ e. key_under named (name e)) (sym value) ∙ all.0 ∙ ap Some (same_key-true x.key key same)
       | inr differs ↦ named_at name named xs key e all.1 (rw differs at is)
-    ]
-
-pub cases_name : (a b : List ℕ) → (a ≡ b) ⊎ (a ≡ b → ⊥)
-cases_name a b =
-    elim (cases_Bool (is_eq (name_cmp a b))) [
-      | inl same ↦ inl (name_equal a b (from_is_eq (name_cmp a b) same))
-      | inr differs ↦ inr (λ same. absurd (let equal : name_cmp a b ≡ Equal = rw same (name_same b) in let is = rw equal at differs in cc))
     ]
 
 option_cases : (o : Option Key) → (o ≡ None) ⊎ ((key : Key) × (o ≡ Some key))

@@ -9,13 +9,13 @@ use Rattle.ktm_world.specs.Handles.{object_at}
 use Rattle.ktm_world.specs.HandleCalls.{is_handle}
 use Rattle.ktm_links.specs.declared.list.Key.{Key}
 use Rattle.ktm_links.specs.Items.{Item, same_key, value_at}
-use Rattle.ktm_links.specs.Mapped.{NamedItem}
+use Rattle.ktm_links.specs.Mapped.{NamedItem, key_under}
 use Rattle.ktm_links.proofs.Keys.{same_key-self}
 use Rattle.ktm_object.specs.declared.entry.Entry.{Entry}
 use Rattle.ktm_object.specs.Table.{handle_of, entry_at}
 use Rattle.ktm_object.specs.declared.name.Owner.{Owner}
 use Rattle.ktm_object.specs.Names.{label_bytes, label_name, owner_bytes}
-use Rattle.ktm_object.specs.Indexed.{entries_of, key_under, AreNamed, IsIndex}
+use Rattle.ktm_object.specs.Indexed.{entries_of, AreNamed, IsIndex}
 
 number_from : (a b : ℕ) → a / 256 ≡ b / 256 → a % 256 ≡ b % 256 → a ≡ b
 number_from a b high low = omega arith

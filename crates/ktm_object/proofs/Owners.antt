@@ -1,5 +1,5 @@
 -- Lemmas on the handles of one object.
-use Rattle.std.proofs.Common.{◌≡◌, ℕ, ◌/◌, ◌%◌, ◌||◌, Bool, true, false, subst, eqb, List, [], ◌∷◌, map, Option, Some, None, is_some, refl, sym, ap, ◌∙◌, inl, inr, arith}
+use Rattle.std.proofs.Common.{◌≡◌, ℕ, ◌||◌, Bool, true, false, subst, eqb, List, [], ◌∷◌, map, Option, Some, None, is_some, refl, sym, ap, ◌∙◌, inl, inr, arith}
 use Rattle.std.specs.Prelude.{IfSome, IfNone}
 use Rattle.std.proofs.lemmas.Bool.{cases_Bool, and_parts, and_from, eqb-true, eq-eqb}
 use Rattle.std.proofs.lemmas.Option.{same_Some}
@@ -16,10 +16,9 @@ use Rattle.ktm_object.specs.declared.name.Owner.{Owner}
 use Rattle.ktm_object.specs.Table.{handle_of}
 use Rattle.ktm_object.specs.Names.{label_name, object_name, object_owner, owner_bytes}
 use Rattle.ktm_object.specs.Indexed.{entries_of, AreNamed, IsIndex, IsFirstUnder, IsNoneUnder}
+use Rattle.ktm_links.proofs.Numbers.{number_from}
 
 -- ---- names by owner
-number_from : (a b : ℕ) → a / 16777216 ≡ b / 16777216 → a / 65536 % 256 ≡ b / 65536 % 256 → a / 256 % 256 ≡ b / 256 % 256 → a % 256 ≡ b % 256 → a ≡ b
-number_from a b fourth third second first = omega arith
 
 -- a name tells its owner
 pub owner_from : (a b : Owner) (left right : List ℕ) → owner_bytes a left ≡ owner_bytes b right → a ≡ b

@@ -1,9 +1,8 @@
 -- How the maps from names stand to the entries. No public clause cites this module.
-use Rattle.std.specs.Prelude.{◌≡◌, ℕ, true, List, [], ◌∷◌, Option, Some, None, is_some, map}
-use Rattle.std.specs.Option.{option_map}
+use Rattle.std.specs.Prelude.{◌≡◌, ℕ, true, List, [], ◌∷◌, Some, None, is_some, map}
 use Rattle.ktm_links.specs.declared.list.Key.{Key}
 use Rattle.ktm_links.specs.Items.{Item, Listed, value_at}
-use Rattle.ktm_links.specs.Mapped.{Mapped, NamedItem, at, IsNotBelow}
+use Rattle.ktm_links.specs.Mapped.{Mapped, NamedItem, IsNotBelow, key_under}
 use Rattle.ktm_object.specs.declared.entry.Entry.{Entry}
 use Rattle.ktm_object.specs.Names.{label_name, object_name, group_name}
 
@@ -14,10 +13,6 @@ entry_of item = item.value
 -- the entries alone
 abbrev pub entries_of : List (Item Entry) → List Entry
 entries_of items = map entry_of items
-
--- the key that a map has under the name
-abbrev pub key_under : List (NamedItem Key) → List ℕ → Option Key
-key_under named name = option_map (λ e. e.1) (at named name)
 
 -- each entry's key is in the map under its name
 abbrev pub AreNamed : (Entry → List ℕ) → List (NamedItem Key) → List (Item Entry) → Type 0

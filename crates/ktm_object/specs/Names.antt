@@ -7,14 +7,11 @@ use Rattle.ktm_types.specs.declared.object.Object.{Object}
 use Rattle.ktm_types.specs.declared.object.Object.TheVariants.{Transaction, Manager, Enlistment, File}
 use Rattle.ktm_object.specs.declared.entry.Entry.{Entry}
 use Rattle.ktm_object.specs.declared.name.Owner.{Owner}
+use Rattle.ktm_links.specs.Numbers.{number_bytes}
 
 -- the process, and then the label, its greatest byte first
 abbrev pub label_bytes : Pid → Label → List ℕ
 label_bytes process label = process.0 ∷ label.0 / 256 ∷ label.0 % 256 ∷ []
-
--- a number, its greatest byte first, and then these bytes
-abbrev pub number_bytes : ℕ → List ℕ → List ℕ
-number_bytes n rest = n / 16777216 ∷ n / 65536 % 256 ∷ n / 256 % 256 ∷ n % 256 ∷ rest
 
 -- whose handles stand together, and then these bytes
 abbrev pub owner_bytes : Owner → List ℕ → List ℕ

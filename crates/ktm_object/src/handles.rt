@@ -4,25 +4,21 @@ ghost use Rattle.std.specs.Option.{option_map};
 ghost use Rattle.ktm_world.specs.Handles.{no_handle_left, object_at};
 ghost use Rattle.ktm_world.specs.HandleCalls.{labels_of, without_handle};
 ghost use Rattle.ktm_world.specs.Labels.{with_handle};
-ghost use Rattle.ktm_world.specs.Limits.{most_handles};
 ghost use Rattle.ktm_world.specs.Transactions.{is_of};
-ghost use Rattle.ktm_links.specs.Mapped.{Begins, IsNotBelow};
+ghost use Rattle.ktm_links.specs.Mapped.{Begins, IsNotBelow, key_under};
 ghost use Rattle.ktm_object.specs.Ending.{after, group_bytes, name_in, AreAllEnded, AreEnded, IsInRange};
-ghost use Rattle.ktm_object.specs.Indexed.{key_under, IsFirstUnder, IsNoneUnder};
+ghost use Rattle.ktm_object.specs.Indexed.{IsFirstUnder, IsNoneUnder};
 ghost use Rattle.ktm_object.specs.Table.{bound, closed_of, ended_group, entry_at, first_label, handles_of, is_dead_at, with_duplicate, without_entry};
 
 use crate::entry::{Closed, Entry};
 use crate::name::{
     LabelName, OwnerName, after, group_owner, label_bytes, object_owner, owner_bytes, owner_name,
 };
-use ktm_base::{Id, Label, NoMemory, Pid};
+use ktm_base::{Id, Label, MOST_HANDLES, NoMemory, Pid};
 use ktm_links::{Chains, Key, List, Name};
 use ktm_types::{Handle, Object};
 use std::alloc::Global;
 use std::marker::Model;
-
-/// The most handles over all processes.
-const MOST_HANDLES: usize = 4096;
 
 /// Which process holds which object under which label, in the order in which they were bound.
 #[derive(Drop)]
@@ -151,7 +147,7 @@ impl Handles {
 
     /// How many handles all processes may still bind.
     pub fn left(&self) -> u32
-        ensures { result ≡ most_handles - length (handles_of self.now) }
+        ensures { result ≡ MOST_HANDLES - length (handles_of self.now) }
     {
         MOST_HANDLES.saturating_sub(self.len()) as u32
     }

@@ -2,13 +2,16 @@
 ghost use Rattle.std.specs.Prelude.{◌≡◌};
 
 use ktm_base::NoMemory as OutOfMemory;
+use thiserror::Error;
 
 /// Why a reply was not read.
-#[derive(Clone, Copy, Debug, PartialEq, Eq)]
+#[derive(Clone, Copy, Debug, PartialEq, Eq, Error)]
 pub enum ReplyFault {
     /// It is not the spelling of a reply.
+    #[error("not a reply")]
     NotAReply,
     /// Memory was wanted and not to be had.
+    #[error("out of memory")]
     NoMemory,
 }
 

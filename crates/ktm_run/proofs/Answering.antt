@@ -1,6 +1,7 @@
 -- What the answers to lines come to, of the machine and of the counts.
 use Rattle.std.proofs.Common.{◌≡◌, ◌⊎◌, inl, inr, ℕ, ◌+◌, ◌*◌, ◌≤◌, Bool, true, false, List, [], ◌∷◌, ◌++◌, Option, Some, Result, Ok, Err, IfOk, OnErr, refl, sym, ◌∙◌, ap, subst, arith}
 use Rattle.std.proofs.lemmas.List.{append-nil}
+use Rattle.ktm_base.specs.declared.limits.TheConstants.{MOST_UNITS}
 use Rattle.ktm_base.specs.declared.id.Pid.{Pid}
 use Rattle.ktm_base.specs.declared.fault.NoMemory.{NoMemory}
 use Rattle.ktm_base.specs.declared.power.PowerCall.{PowerCall}
@@ -196,7 +197,7 @@ started_rose w new pick (full log) reply a b does cause later = RoseBy-none a.do
 -- a machine that starts again, on a disk whose power came back
 module _ (law : PowerLaw) (k n : KernelState) (before mid now : Option DiskState) (a m b : DiskStatus) (pick : ℕ)
     (off : k.now.machine.is_up ≡ false) (power : m ≡ powered a pick) (goes : Goes Restored before mid)
-    (calls : DeviceCalls (8 * 1024 + 68) m b b.is_down) (few : (w : World) → FoundAt k mid w → b.calls ≤ m.calls + (8 * w.base.units + 68)) where
+    (calls : DeviceCalls (8 * MOST_UNITS + 68) m b b.is_down) (few : (w : World) → FoundAt k mid w → b.calls ≤ m.calls + (8 * w.base.units + 68)) where
   starts_counted : (w : World) (fell : ℕ) → KernelAt k before w → RoseBy fell m.downs b.downs → Counts w (record { machine = k; disk = before; status = a }) (record { machine = n; disk = now; status = b }) 1 (Power pick ∷ []) fell
   starts_counted w fell at rose = counted w k n before now a b (Power pick ∷ []) fell
       (subst (λ d. RoseBy fell d b.downs) (ap (λ s. s.downs) power) rose)

@@ -1,6 +1,7 @@
 -- What a run begins from, on a disk that was prepared.
 use Rattle.std.proofs.Common.{◌≡◌, ◌⊎◌, inl, inr, ℕ, ◌+◌, ◌-◌, ◌*◌, ◌<◌, ◌≤◌, Bool, true, false, List, [], ◌∷◌, ◌++◌, length, Option, Some, None, refl, sym, ◌∙◌, ap, ap₂, subst, arith}
 use Rattle.std.proofs.lemmas.List.{append-nil}
+use Rattle.ktm_base.specs.declared.limits.TheConstants.{MOST_UNITS, NEW_UNITS}
 use Rattle.ktm_base.specs.Disk.{DiskState, DiskStatus, DeviceCalls, MayLeave, IsSafe}
 use Rattle.ktm_base.specs.Told.{IfTold, Tells, Goes}
 use Rattle.ktm_base.proofs.Images.{safe_law}
@@ -31,7 +32,7 @@ begins_there : (base : Durable) (room : ℕ) (bytes : List ℕ) → 0 < length b
 begins_there base room [] some begins = absurd (omega arith)
 begins_there base room (byte ∷ bytes) some begins = begins
 
-begins_new : (base : Durable) (room : ℕ) (bytes : List ℕ) → bytes ≡ [] → BeginsAs base room bytes → (base ≡ empty_state 1024 1) × (room ≡ left_after 1024 [])
+begins_new : (base : Durable) (room : ℕ) (bytes : List ℕ) → bytes ≡ [] → BeginsAs base room bytes → (base ≡ empty_state NEW_UNITS 1) × (room ≡ left_after NEW_UNITS [])
 begins_new base room bytes none begins = subst (λ (l : List ℕ). BeginsAs base room l) none begins
 
 -- no image is without a byte
@@ -47,10 +48,10 @@ begins_with base room s is = record {
   room_is = is.room_is;
 }
 
-new_base : (base : Durable) (room : ℕ) (s : DiskState) → base ≡ empty_state 1024 1 → room ≡ left_after 1024 [] → IsSafe s → HoldsLog 1024 1 [] s.seen → IsBase base room s
+new_base : (base : Durable) (room : ℕ) (s : DiskState) → base ≡ empty_state NEW_UNITS 1 → room ≡ left_after NEW_UNITS [] → IsSafe s → HoldsLog NEW_UNITS 1 [] s.seen → IsBase base room s
 new_base base room s is left safe holds =
     subst (λ (d : Durable). IsBase d room s) (sym is)
-    (subst (λ n. IsBase (empty_state 1024 1) n s) (sym left) (record { before = []; holds = (safe, holds); comes_to = refl; room_is = refl }))
+    (subst (λ n. IsBase (empty_state NEW_UNITS 1) n s) (sym left) (record { before = []; holds = (safe, holds); comes_to = refl; room_is = refl }))
 
 old_base : (base : Durable) (room : ℕ) (s : DiskState) → IsSafe s → BeginsWith base room s.seen → IsBase base room s
 old_base base room s safe begins = record {
@@ -103,13 +104,13 @@ module _ (base : Durable) (room : ℕ) where
   safe_begins told tells = Tells-map told (Begins base room) _ tells (λ s begins image left.
       subst (λ (l : List ℕ). BeginsAs base room l) (sym ((safe_law s image begins.0).0 left)) begins.1)
 
-  few_calls : (old new : DiskState) (a b c : DiskStatus) (x y : Bool) → Begins base room old → Prepared old new → DeviceCalls (8 * 1024 + 65) a b x → DeviceCalls (8 * 1024 + 68) b c y
+  few_calls : (old new : DiskState) (a b c : DiskStatus) (x y : Bool) → Begins base room old → Prepared old new → DeviceCalls (8 * MOST_UNITS + 65) a b x → DeviceCalls (8 * MOST_UNITS + 68) b c y
       → (0 < length old.seen → b.calls ≤ a.calls + 1) → ((units image : ℕ) → IsHeaded units image new.seen → c.calls ≤ b.calls + (8 * units + 68))
       → c.calls ≤ a.calls + (0 + 4) * (16 * base.units + 256)
   few_calls old new a b c x y begins prepared first second one few = elim prepared [
     | inl (none, all, holds) ↦
         let is = (begins_new base room old.seen none begins.1).0 in
-        let units : base.units ≡ 1024 = ap (λ (d : Durable). d.units) is in
+        let units : base.units ≡ NEW_UNITS = ap (λ (d : Durable). d.units) is in
         omega (arith, first.few, second.few)
     | inr (some, same) ↦
         let is = prepared_base base room old new begins (inr (some, same)) in
@@ -118,7 +119,7 @@ module _ (base : Durable) (room : ℕ) where
         omega arith
   ]
 
-  pub opening_counts : (old new : Option DiskState) (a b c : DiskStatus) (x y : Bool) → Tells old (Begins base room) → Goes Prepared old new → DeviceCalls (8 * 1024 + 65) a b x → DeviceCalls (8 * 1024 + 68) b c y
+  pub opening_counts : (old new : Option DiskState) (a b c : DiskStatus) (x y : Bool) → Tells old (Begins base room) → Goes Prepared old new → DeviceCalls (8 * MOST_UNITS + 65) a b x → DeviceCalls (8 * MOST_UNITS + 68) b c y
       → (Tells old (λ s. 0 < length s.seen) → b.calls ≤ a.calls + 1) → ((units image : ℕ) → Tells new (λ s. IsHeaded units image s.seen) → c.calls ≤ b.calls + (8 * units + 68))
       → RunCounts base.units a c 0 [] 0
   opening_counts None new a b c x y tells goes first second one few = absurd tells
@@ -141,7 +142,7 @@ pub opens_begin : (old new : Option DiskState) → Goes Prepared old new → IfT
 opens_begin None new goes found = tt
 opens_begin (Some old) None goes found = absurd goes
 opens_begin (Some old) (Some new) goes (state, stands) = elim goes [
-  | inl (none, all, holds) ↦ (empty_state 1024 1, left_after 1024 [], subst (λ (l : List ℕ). BeginsAs (empty_state 1024 1) (left_after 1024 []) l) (sym none) (refl, refl))
+  | inl (none, all, holds) ↦ (empty_state NEW_UNITS 1, left_after NEW_UNITS [], subst (λ (l : List ℕ). BeginsAs (empty_state NEW_UNITS 1) (left_after NEW_UNITS []) l) (sym none) (refl, refl))
   | inr (some, same) ↦ (
     state,
     left_after state.units stands.log,
@@ -155,7 +156,7 @@ pub bad_was_there : (old new : Option DiskState) (offset : ℕ) → Goes Prepare
 bad_was_there None new offset goes bad = tt
 bad_was_there (Some old) None offset goes bad = absurd goes
 bad_was_there (Some old) (Some new) offset goes bad = elim goes [
-  | inl (none, all, holds) ↦ absurd (not_bad (empty_state 1024 1) new.seen offset (record { log = []; holds = holds; comes_to = refl }) bad)
+  | inl (none, all, holds) ↦ absurd (not_bad (empty_state NEW_UNITS 1) new.seen offset (record { log = []; holds = holds; comes_to = refl }) bad)
   | inr (some, same) ↦ (some, subst (λ (s : DiskState). IsBadAt s.seen offset) same bad)
 ]
 
@@ -165,7 +166,7 @@ bad_kept None None offset goes bad = refl
 bad_kept None (Some new) offset goes bad = absurd goes
 bad_kept (Some old) None offset goes bad = absurd goes
 bad_kept (Some old) (Some new) offset goes bad = elim goes [
-  | inl (none, all, holds) ↦ absurd (not_bad (empty_state 1024 1) new.seen offset (record { log = []; holds = holds; comes_to = refl }) bad)
+  | inl (none, all, holds) ↦ absurd (not_bad (empty_state NEW_UNITS 1) new.seen offset (record { log = []; holds = holds; comes_to = refl }) bad)
   | inr (some, same) ↦ ap (λ (s : DiskState). Some s) same
 ]
 

@@ -2,6 +2,7 @@
 use Rattle.std.proofs.Common.{◌≡◌, ◌⊎◌, inl, inr, ℕ, ◌+◌, ◌*◌, ◌<◌, ◌≤◌, false, List, [], ◌∷◌, ◌++◌, length, take, Option, Some, None, refl, ◌∙◌, ap, arith, add-mul}
 use Rattle.std.proofs.lemmas.List.{append-nil}
 use Rattle.std.specs.Io.KnownBytes.{Consumes, IsAtEnd}
+use Rattle.ktm_base.specs.declared.limits.TheConstants.{MOST_SCRIPT_BYTES}
 use Rattle.ktm_base.specs.declared.power.PowerCall.{PowerCall}
 use Rattle.ktm_base.specs.declared.power.PowerCall.TheVariants.{Power}
 use Rattle.ktm_base.specs.Count.{Rose}
@@ -14,7 +15,7 @@ use Rattle.ktm_run.specs.declared.status.Status.{Status}
 use Rattle.ktm_run.specs.declared.status.Status.TheVariants.{Done, Usage, SourceFault, SinkFault, NoMemory, BadImage, DiskFault, ScriptTooLong, LogFull}
 use Rattle.ktm_run.specs.Lawful.{RunIsLawful}
 use Rattle.ktm_run.specs.Progress.{Scene, Now, Counts, Ran, Progress, Broke, Stops}
-use Rattle.ktm_run.specs.Script.{Means, cut_lines, lines_from, most_script}
+use Rattle.ktm_run.specs.Script.{Means, cut_lines, lines_from}
 use Rattle.ktm_run.specs.Early.{Outside, Ends, FoundDown}
 use Rattle.ktm_run.specs.Theorem.{HoldsStates, Moment, moment_of, RunCounts, LineCounts, Replied, RunTheorem, EndedBetween, Unanswered, HalfWritten, EndedWithin, EndedEarly}
 use Rattle.ktm_types.specs.declared.command.Line.TheVariants.{Restart}
@@ -102,13 +103,13 @@ module _ (base : Durable) (room : ℕ) (old new : Outside) (first : Scene) (mach
     all_replied : (lines : List (List ℕ)) → Progress begun ended lines → Replied base room (moment_of old) (moment_of new) lines
     all_replied lines progress = replied ended lines lengths (progress (opened base room []) stands)
 
-    whole : (script : List ℕ) → Consumes old.left new.left script → IsAtEnd new.left → length script ≤ most_script → Progress begun ended (cut_lines script) → RunTheorem base room old new
+    whole : (script : List ℕ) → Consumes old.left new.left script → IsAtEnd new.left → length script ≤ MOST_SCRIPT_BYTES → Progress begun ended (cut_lines script) → RunTheorem base room old new
     whole script read at_end within progress = record { script = script; was_read = read; at_end = at_end; within = within; room_left = fits; replied = all_replied (cut_lines script) progress }
 
     between : (script lines : List ℕ) → Consumes old.left new.left script → Progress begun ended (lines_from [] lines) → EndedBetween base room old new script lines
     between script lines read progress = record { was_read = read; room_left = fits; replied = all_replied (lines_from [] lines) progress }
 
-    within : (script : List ℕ) → Consumes old.left new.left script → length script ≤ most_script → Stops begun ended (cut_lines script) → EndedWithin base room old new
+    within : (script : List ℕ) → Consumes old.left new.left script → length script ≤ MOST_SCRIPT_BYTES → Stops begun ended (cut_lines script) → EndedWithin base room old new
     within script read few stops =
         let stopped = stops (opened base room []) stands in record {
           script = script;
@@ -125,15 +126,15 @@ module _ (base : Durable) (room : ℕ) (old new : Outside) (first : Scene) (mach
         }
 
     pub run_ended : (result : Status)
-        → (result ≡ Done → (script : List ℕ) × Consumes old.left new.left script × IsAtEnd new.left × (length script ≤ most_script) × Progress begun ended (cut_lines script))
-        → (result ≡ SourceFault → (script : List ℕ) × Consumes old.left new.left script × (length script ≤ most_script) × Progress begun ended (lines_from [] script))
-        → (result ≡ ScriptTooLong → (script : List ℕ) × Consumes old.left new.left script × (length script ≡ most_script + 1) × Progress begun ended (lines_from [] (take most_script script)))
-        → ((result ≡ SinkFault) ⊎ (result ≡ NoMemory) → (script : List ℕ) × Consumes old.left new.left script × (length script ≤ most_script) × Stops begun ended (cut_lines script))
+        → (result ≡ Done → (script : List ℕ) × Consumes old.left new.left script × IsAtEnd new.left × (length script ≤ MOST_SCRIPT_BYTES) × Progress begun ended (cut_lines script))
+        → (result ≡ SourceFault → (script : List ℕ) × Consumes old.left new.left script × (length script ≤ MOST_SCRIPT_BYTES) × Progress begun ended (lines_from [] script))
+        → (result ≡ ScriptTooLong → (script : List ℕ) × Consumes old.left new.left script × (length script ≡ MOST_SCRIPT_BYTES + 1) × Progress begun ended (lines_from [] (take MOST_SCRIPT_BYTES script)))
+        → ((result ≡ SinkFault) ⊎ (result ≡ NoMemory) → (script : List ℕ) × Consumes old.left new.left script × (length script ≤ MOST_SCRIPT_BYTES) × Stops begun ended (cut_lines script))
         → (result ≡ Usage → ⊥) → (result ≡ BadImage → ⊥) → (result ≡ DiskFault → ⊥) → (result ≡ LogFull → ⊥)
         → EndedEarly result base room old new
     run_ended Done done part behind broke usage image down full = let (script, read, at_end, short, progress) = done refl in whole script read at_end short progress
     run_ended SourceFault done part behind broke usage image down full = let (script, read, short, progress) = part refl in (script, short, between script script read progress)
-    run_ended ScriptTooLong done part behind broke usage image down full = let (script, read, long, progress) = behind refl in (script, long, between script (take most_script script) read progress)
+    run_ended ScriptTooLong done part behind broke usage image down full = let (script, read, long, progress) = behind refl in (script, long, between script (take MOST_SCRIPT_BYTES script) read progress)
     run_ended SinkFault done part behind broke usage image down full = let (script, read, few, stops) = broke (inl refl) in inr (within script read few stops)
     run_ended NoMemory done part behind broke usage image down full = let (script, read, few, stops) = broke (inr refl) in inr (within script read few stops)
     run_ended Usage done part behind broke usage image down full = absurd (usage refl)
@@ -148,8 +149,8 @@ no_longer (Some bytes) most tells long = omega (arith, tells, long)
 -- where neither the source nor the sink fails and the script is not too long
 pub run_complete : (base : Durable) (room : ℕ) (mid old new : Outside) (Opened : Type 0) (source_before source_now sink_before sink_now : ℕ) (result : Status)
     → EndedEarly result base room mid new → Ends result Opened old new
-    → (result ≡ SourceFault → Rose source_before source_now) → (result ≡ SinkFault → Rose sink_before sink_now) → (result ≡ ScriptTooLong → IfTold old.left (λ bytes. most_script < length bytes))
-    → ¬ Rose source_before source_now → ¬ Rose sink_before sink_now → Tells old.left (λ bytes. length bytes ≤ most_script)
+    → (result ≡ SourceFault → Rose source_before source_now) → (result ≡ SinkFault → Rose sink_before sink_now) → (result ≡ ScriptTooLong → IfTold old.left (λ bytes. MOST_SCRIPT_BYTES < length bytes))
+    → ¬ Rose source_before source_now → ¬ Rose sink_before sink_now → Tells old.left (λ bytes. length bytes ≤ MOST_SCRIPT_BYTES)
     → (result ≡ Done) ⊎ (result ≡ NoMemory) ⊎ (result ≡ LogFull) ⊎ ((result ≡ DiskFault) × FoundDown old new)
 run_complete base room mid old new Opened a b c d Done early ends source sink long reads writes short = inl refl
 run_complete base room mid old new Opened a b c d NoMemory early ends source sink long reads writes short = inr (inl refl)
@@ -157,7 +158,7 @@ run_complete base room mid old new Opened a b c d LogFull early ends source sink
 run_complete base room mid old new Opened a b c d DiskFault early ends source sink long reads writes short = inr (inr (inr (refl, ends)))
 run_complete base room mid old new Opened a b c d SourceFault early ends source sink long reads writes short = absurd (reads (source refl))
 run_complete base room mid old new Opened a b c d SinkFault early ends source sink long reads writes short = absurd (writes (sink refl))
-run_complete base room mid old new Opened a b c d ScriptTooLong early ends source sink long reads writes short = absurd (no_longer old.left most_script short (long refl))
+run_complete base room mid old new Opened a b c d ScriptTooLong early ends source sink long reads writes short = absurd (no_longer old.left MOST_SCRIPT_BYTES short (long refl))
 run_complete base room mid old new Opened a b c d Usage early ends source sink long reads writes short = absurd early
 run_complete base room mid old new Opened a b c d BadImage early ends source sink long reads writes short = absurd early
 

@@ -18,6 +18,10 @@ pub record Outside : Type 0 where
   pub disk : Option DiskState
   pub status : DiskStatus
 
+-- the outside with these parts
+abbrev pub outside : Option (List ℕ) → Option (List ℕ) → Option DiskState → DiskStatus → Outside
+outside left taken disk status = record { left = left; taken = taken; disk = disk; status = status }
+
 -- the source and all of the disk are as they were
 pub record LeftAlone (old new : Outside) : Type 0 where
   pub source : new.left ≡ old.left

@@ -1,5 +1,6 @@
 -- What the opening of an image makes of a disk.
 use Rattle.std.specs.Prelude.{◌≡◌, ◌⊎◌, ℕ, ◌<◌, [], length, Result, Ok, Err}
+use Rattle.ktm_base.specs.declared.limits.TheConstants.{NEW_UNITS}
 use Rattle.ktm_base.specs.Disk.{DiskState, IsSafe}
 use Rattle.ktm_journal.specs.Image.{HoldsLog}
 use Rattle.ktm_run.specs.declared.fault.OpenFault.{OpenFault}
@@ -7,7 +8,7 @@ use Rattle.ktm_run.specs.declared.fault.OpenFault.TheVariants.{BadImage, Down, F
 
 -- a disk without a byte became a new image, and another one is as it was
 abbrev pub Prepared : DiskState → DiskState → Type 0
-Prepared old new = ((old.seen ≡ []) × IsSafe new × HoldsLog 1024 1 [] new.seen) ⊎ ((0 < length old.seen) × (new ≡ old))
+Prepared old new = ((old.seen ≡ []) × IsSafe new × HoldsLog NEW_UNITS 1 [] new.seen) ⊎ ((0 < length old.seen) × (new ≡ old))
 
 -- the fact of the offset, where the image is bad
 abbrev pub IfBadImage : {T : Type 0} → Result T OpenFault → (ℕ → Type 0) → Type 0

@@ -2,8 +2,9 @@
 use Rattle.std.specs.Prelude.{◌≡◌, ℕ, ◌+◌, ◌==◌, Bool, true, false, not, List, [], ◌∷◌, ◌++◌, Option, Some, None, take, if◌then◌else◌}
 use Rattle.std.specs.List.{flat_map}
 use Rattle.std.specs.Io.KnownBytes.{Appends}
+use Rattle.ktm_base.specs.declared.limits.TheConstants.{MOST_LINE_BYTES}
 use Rattle.ktm_reply.specs.Spelling.{reply_spelling}
-use Rattle.ktm_script.specs.Spelling.{IsLine, most_bytes, spelling}
+use Rattle.ktm_script.specs.Spelling.{IsLine, spelling}
 use Rattle.ktm_forms.specs.Built.{is_built}
 use Rattle.ktm_types.specs.declared.command.Line.{Line}
 use Rattle.ktm_types.specs.declared.reply.Reply.{Reply}
@@ -66,8 +67,4 @@ AppendsPart old new bytes = (part : List ℕ) × (rest : List ℕ) × (bytes ≡
 
 -- at most so many bytes of a line are kept: one more than any line of the grammar has
 abbrev pub kept_of : List ℕ → List ℕ
-kept_of part = take (most_bytes + 1) part
-
--- at most so many bytes are a script
-abbrev pub most_script : ℕ
-most_script = 67108864
+kept_of part = take (MOST_LINE_BYTES + 1) part

@@ -2,6 +2,7 @@
 use Rattle.std.specs.Prelude.{◌≡◌, ◌⊎◌, ℕ, ◌+◌, ◌-◌, ◌*◌, ◌≤◌, true, false, List, [], ◌∷◌, ◌++◌, length, take, Option, Some, Contains}
 use Rattle.std.specs.List.{filter}
 use Rattle.std.specs.Io.KnownBytes.{Appends, Consumes, IsAtEnd, Keeps}
+use Rattle.ktm_base.specs.declared.limits.TheConstants.{NEW_UNITS, MOST_SCRIPT_BYTES}
 use Rattle.ktm_base.specs.declared.power.PowerCall.{PowerCall}
 use Rattle.ktm_base.specs.declared.power.PowerCall.TheVariants.{Power}
 use Rattle.ktm_base.specs.Disk.{DiskState, DiskStatus, MayLeave, IsSafe}
@@ -15,7 +16,7 @@ use Rattle.ktm_world.specs.Transcript.{Does, Transcript, Step}
 use Rattle.ktm_world.specs.World.{World, opened, own_group, possible_logs}
 use Rattle.ktm_run.specs.Early.{Outside, Untouched}
 use Rattle.ktm_run.specs.Plan.{plan_of, plans, falls_of, falls, RoseBy, most_calls}
-use Rattle.ktm_run.specs.Script.{has_reply, cut_lines, lines_from, Means, MeanAll, AppendsPart, reply_line, written_replies, most_script}
+use Rattle.ktm_run.specs.Script.{has_reply, cut_lines, lines_from, Means, MeanAll, AppendsPart, reply_line, written_replies}
 use Rattle.ktm_run.specs.declared.status.Status.{Status}
 use Rattle.ktm_run.specs.declared.status.Status.TheVariants.{Done, Usage, SourceFault, SinkFault, NoMemory, BadImage, DiskFault, ScriptTooLong, LogFull}
 use Rattle.ktm_types.specs.declared.command.Line.{Line}
@@ -36,7 +37,7 @@ pub record BeginsWith (base : Durable) (room : ℕ) (image : List ℕ) : Type 0 
 
 -- a run begins from what an image stands for; no byte at all becomes a new image of 1,024 units with the number 1
 abbrev pub BeginsAs : Durable → ℕ → List ℕ → Type 0
-BeginsAs base room [] = (base ≡ empty_state 1024 1) × (room ≡ left_after 1024 [])
+BeginsAs base room [] = (base ≡ empty_state NEW_UNITS 1) × (room ≡ left_after NEW_UNITS [])
 BeginsAs base room (byte ∷ image) = BeginsWith base room (byte ∷ image)
 
 -- a disk whose bytes are safe, from which a run begins
@@ -103,7 +104,7 @@ pub record RunTheorem (base : Durable) (room : ℕ) (old new : Outside) : Type 0
   pub script : List ℕ
   pub was_read : Consumes old.left new.left script
   pub at_end : IsAtEnd new.left
-  pub within : length script ≤ most_script
+  pub within : length script ≤ MOST_SCRIPT_BYTES
   -- the log had room for the opening
   pub room_left : is_full room (own_group base) ≡ false
   pub replied : Replied base room (moment_of old) (moment_of new) (cut_lines script)
@@ -140,7 +141,7 @@ pub record HalfWritten (w : World) (old new : Moment) (line : List ℕ) : Type 0
 pub record EndedWithin (base : Durable) (room : ℕ) (old new : Outside) : Type 0 where
   pub script : List ℕ
   pub was_read : Consumes old.left new.left script
-  pub within : length script ≤ most_script
+  pub within : length script ≤ MOST_SCRIPT_BYTES
   pub room_left : is_full room (own_group base) ≡ false
   pub before : List (List ℕ)
   pub line : List ℕ
@@ -170,8 +171,8 @@ CutOpening base room old new = Tells old.disk (λ s. s.seen ≡ []) ⊎ Tells ne
 
 -- what stands after a run that ended early
 abbrev pub EndedEarly : Status → Durable → ℕ → Outside → Outside → Type 0
-EndedEarly SourceFault base room old new = (script : List ℕ) × (length script ≤ most_script) × EndedBetween base room old new script script
-EndedEarly ScriptTooLong base room old new = (script : List ℕ) × (length script ≡ most_script + 1) × EndedBetween base room old new script (take most_script script)
+EndedEarly SourceFault base room old new = (script : List ℕ) × (length script ≤ MOST_SCRIPT_BYTES) × EndedBetween base room old new script script
+EndedEarly ScriptTooLong base room old new = (script : List ℕ) × (length script ≡ MOST_SCRIPT_BYTES + 1) × EndedBetween base room old new script (take MOST_SCRIPT_BYTES script)
 EndedEarly SinkFault base room old new = Untouched old new ⊎ EndedWithin base room old new
 EndedEarly NoMemory base room old new = NotOpened base room old new ⊎ EndedWithin base room old new
 EndedEarly LogFull base room old new = is_full room (own_group base) ≡ true

@@ -1,13 +1,14 @@
 // The run of a script on an image.
 ghost use Rattle.std.specs.Prelude.{◌≡◌, ◌<◌, ℕ, length, OnOk, OnErr};
 ghost use Rattle.std.specs.Io.KnownBytes.{Appends};
+ghost use Rattle.ktm_base.specs.declared.limits.TheConstants.{MOST_SCRIPT_BYTES};
 ghost use Rattle.ktm_base.specs.Count.{Rose};
 ghost use Rattle.ktm_base.specs.Stream.{Faults};
 ghost use Rattle.ktm_base.specs.Told.{IfTold, Tells};
 ghost use Rattle.ktm_run.specs.Form.{bad_image_line};
 ghost use Rattle.ktm_run.specs.Theorem.{Begins, BeginsAs, EndedEarly};
-ghost use Rattle.ktm_run.specs.Early.{Ends};
-ghost use Rattle.ktm_run.specs.Script.{AppendsPart, most_script};
+ghost use Rattle.ktm_run.specs.Early.{Ends, outside};
+ghost use Rattle.ktm_run.specs.Script.{AppendsPart};
 ghost use Rattle.ktm_world.specs.Durable.{Durable};
 
 use crate::fault::OpenFault;
@@ -36,9 +37,6 @@ fn write_bad_image<K: Sink>(sink: &mut K, offset: u64) -> Result<(), Failed>
     Ok(())
 }
 
-// The value ends here: what its parts give back is then proved once for each part, and not within the caller.
-fn let_go<T: Drop>(_value: T) {}
-
 /// Runs the script on the image.
 pub fn run_image<S: Source, K: Sink, D: PowerDisk>(
     alloc: Global,
@@ -48,14 +46,14 @@ pub fn run_image<S: Source, K: Sink, D: PowerDisk>(
 ) -> Status
     requires { (D.status disk.old).pending ≡ 0 }
     ensures run { (base : Durable) (room : ℕ) → Tells (D.told disk.old) (Begins base room)
-        → EndedEarly result base room (record { left = S.left source.old; taken = K.taken sink.old; disk = D.told disk.old; status = D.status disk.old }) (record { left = S.left source.new; taken = K.taken sink.new; disk = D.told disk.new; status = D.status disk.new }) }
+        → EndedEarly result base room (outside (S.left source.old) (K.taken sink.old) (D.told disk.old) (D.status disk.old)) (outside (S.left source.new) (K.taken sink.new) (D.told disk.new) (D.status disk.new)) }
     ensures source { result ≡ Status.SourceFault → Rose (S.faults source.old) (S.faults source.new) }
     ensures sink { result ≡ Status.SinkFault → Rose (K.faults sink.old) (K.faults sink.new) }
     // what each end leaves, over every disk
     ensures ends { Ends result (IfTold (D.told disk.old) (λ s. (base : Durable) × (room : ℕ) × BeginsAs base room s.seen))
-        (record { left = S.left source.old; taken = K.taken sink.old; disk = D.told disk.old; status = D.status disk.old }) (record { left = S.left source.new; taken = K.taken sink.new; disk = D.told disk.new; status = D.status disk.new }) }
+        (outside (S.left source.old) (K.taken sink.old) (D.told disk.old) (D.status disk.old)) (outside (S.left source.new) (K.taken sink.new) (D.told disk.new) (D.status disk.new)) }
     ensures not_usage { result ≡ Status.Usage → ⊥ }
-    ensures too_long { result ≡ Status.ScriptTooLong → IfTold (S.left source.old) (λ bytes. most_script < length bytes) }
+    ensures too_long { result ≡ Status.ScriptTooLong → IfTold (S.left source.old) (λ bytes. MOST_SCRIPT_BYTES < length bytes) }
 {
     let Ok(mut kept) = Vec::with_capacity(alloc, MOST_KEPT) else {
         return Status::NoMemory;
@@ -74,6 +72,6 @@ pub fn run_image<S: Source, K: Sink, D: PowerDisk>(
     };
     law_of_runs();
     let status = run_script(alloc, &mut kernel, source, sink, disk, &mut kept);
-    let_go(kernel);
+    kernel.end();
     status
 }

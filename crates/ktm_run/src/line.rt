@@ -2,21 +2,21 @@
 ghost use Rattle.std.specs.Prelude.{◌≡◌, ◌≤◌, ◌++◌, ◌∷◌, [], ℕ, List, IfOk, OnOk, OnErr, IsErrOf, vec_capacity};
 ghost use Rattle.ktm_base.specs.Count.{Rose};
 ghost use Rattle.ktm_kernel.specs.Stands.{KernelAt, IsReady};
-ghost use Rattle.ktm_run.specs.Progress.{Progress, Broke, Stops};
+ghost use Rattle.ktm_run.specs.Progress.{Progress, Broke, Stops, point};
 ghost use Rattle.ktm_run.specs.Script.{has_reply, kept_of, lines_from, part_from};
 ghost use Rattle.ktm_world.specs.World.{World};
 
 use crate::answer::answer;
 use crate::fault::RunFault;
 use crate::write::write_all;
-use ktm_base::{Failed, NoMemory, PowerDisk, Sink};
+use ktm_base::{Failed, MOST_LINE_BYTES, NoMemory, PowerDisk, Sink};
 use ktm_kernel::Kernel;
 use ktm_reply::write_reply;
 use memchr::memchr;
 use std::alloc::Global;
 
 /// The most bytes of a line that are kept. A line that has them all is in no grammar, whatever comes behind.
-pub const MOST_KEPT: usize = 140_001;
+pub const MOST_KEPT: usize = MOST_LINE_BYTES + 1;
 
 fn is_answered(line: &[u8]) -> bool
     ensures { result ≡ has_reply line.now }
@@ -36,8 +36,8 @@ pub fn do_line<K: Sink, D: PowerDisk>(
     kept: &[u8],
 ) -> Result<(), RunFault>
     requires { IsReady kernel.old (D.told disk.old) (D.status disk.old) }
-    ensures done { OnOk result ((line : List ℕ) → kept.now ≡ kept_of line → Progress (record { scene = record { machine = kernel.old; disk = D.told disk.old; status = D.status disk.old }; taken = K.taken sink.old }) (record { scene = record { machine = kernel.new; disk = D.told disk.new; status = D.status disk.new }; taken = K.taken sink.new }) (line ∷ [])) }
-    ensures broke { OnErr result ((line : List ℕ) → kept.now ≡ kept_of line → (w : World) → KernelAt kernel.old (D.told disk.old) w → Broke w (record { scene = record { machine = kernel.old; disk = D.told disk.old; status = D.status disk.old }; taken = K.taken sink.old }) (record { scene = record { machine = kernel.new; disk = D.told disk.new; status = D.status disk.new }; taken = K.taken sink.new }) line) }
+    ensures done { OnOk result ((line : List ℕ) → kept.now ≡ kept_of line → Progress (point kernel.old (D.told disk.old) (D.status disk.old) (K.taken sink.old)) (point kernel.new (D.told disk.new) (D.status disk.new) (K.taken sink.new)) (line ∷ [])) }
+    ensures broke { OnErr result ((line : List ℕ) → kept.now ≡ kept_of line → (w : World) → KernelAt kernel.old (D.told disk.old) w → Broke w (point kernel.old (D.told disk.old) (D.status disk.old) (K.taken sink.old)) (point kernel.new (D.told disk.new) (D.status disk.new) (K.taken sink.new)) line) }
     ensures ready { OnOk result (IsReady kernel.new (D.told disk.new) (D.status disk.new)) }
     ensures fault { IsErrOf result RunFault.SinkFault → Rose (K.faults sink.old) (K.faults sink.new) }
     ensures later { K.faults sink.old ≤ K.faults sink.new }
@@ -86,8 +86,8 @@ pub fn feed<K: Sink, D: PowerDisk>(
 ) -> Result<(), RunFault>
     requires ready { IsReady kernel.old (D.told disk.old) (D.status disk.old) }
     requires room { 140001 ≤ vec_capacity kept.old }
-    ensures done { OnOk result ((part : List ℕ) → kept.old.items ≡ kept_of part → Progress (record { scene = record { machine = kernel.old; disk = D.told disk.old; status = D.status disk.old }; taken = K.taken sink.old }) (record { scene = record { machine = kernel.new; disk = D.told disk.new; status = D.status disk.new }; taken = K.taken sink.new }) (lines_from part bytes.now)) }
-    ensures stopped { OnErr result ((part : List ℕ) → kept.old.items ≡ kept_of part → Stops (record { scene = record { machine = kernel.old; disk = D.told disk.old; status = D.status disk.old }; taken = K.taken sink.old }) (record { scene = record { machine = kernel.new; disk = D.told disk.new; status = D.status disk.new }; taken = K.taken sink.new }) (lines_from part bytes.now)) }
+    ensures done { OnOk result ((part : List ℕ) → kept.old.items ≡ kept_of part → Progress (point kernel.old (D.told disk.old) (D.status disk.old) (K.taken sink.old)) (point kernel.new (D.told disk.new) (D.status disk.new) (K.taken sink.new)) (lines_from part bytes.now)) }
+    ensures stopped { OnErr result ((part : List ℕ) → kept.old.items ≡ kept_of part → Stops (point kernel.old (D.told disk.old) (D.status disk.old) (K.taken sink.old)) (point kernel.new (D.told disk.new) (D.status disk.new) (K.taken sink.new)) (lines_from part bytes.now)) }
     ensures kept { OnOk result ((part : List ℕ) → kept.old.items ≡ kept_of part → kept.new.items ≡ kept_of (part_from part bytes.now)) }
     ensures room { 140001 ≤ vec_capacity kept.new }
     ensures ready { OnOk result (IsReady kernel.new (D.told disk.new) (D.status disk.new)) }

@@ -1,5 +1,6 @@
 // The machine of an image.
 ghost use Rattle.std.specs.Prelude.{◌≡◌, ◌⊎◌, ◌+◌, ◌*◌, ◌<◌, ◌≤◌, [], ℕ, List, length, false, true, is_err, IfOk, OnOk, OnErr, IsErrOf};
+ghost use Rattle.ktm_base.specs.declared.limits.TheConstants.{MOST_UNITS};
 ghost use Rattle.ktm_base.specs.Disk.{DeviceCalls, MayLeave};
 ghost use Rattle.ktm_base.specs.Told.{IfTold, Tells, Goes};
 ghost use Rattle.ktm_journal.specs.Bad.{IsBadAt};
@@ -12,15 +13,12 @@ ghost use Rattle.ktm_world.specs.Outcome.{is_full};
 ghost use Rattle.ktm_world.specs.World.{opened, own_group};
 
 use crate::fault::OpenFault;
-use ktm_base::{Disk, Down};
+use ktm_base::{Disk, Down, NEW_UNITS};
 use ktm_journal::Journal;
 use ktm_kernel::{Kernel, RestartFault, Restarted};
 use std::alloc::Global;
 
-/// The units of an image that the program makes itself.
-const UNITS: u32 = 1024;
-
-/// The number of such an image.
+/// The number of an image that the program makes itself.
 const IMAGE: u16 = 1;
 
 // Makes a disk without a byte a new image.
@@ -30,14 +28,14 @@ fn prepare<D: Disk>(disk: &mut D) -> Result<(), Down>
     ensures err { OnErr result (Goes (λ old new. (old.seen ≡ []) ⊎ (new ≡ old)) (D.told disk.old) (D.told disk.new)) }
     ensures pending { OnOk result ((D.status disk.new).pending ≡ 0) }
     ensures up { OnOk result ((D.status disk.new).is_down ≡ false) }
-    ensures calls { DeviceCalls (8 * 1024 + 65) (D.status disk.old) (D.status disk.new) (is_err result) }
+    ensures calls { DeviceCalls (8 * MOST_UNITS + 65) (D.status disk.old) (D.status disk.new) (is_err result) }
     ensures few { Tells (D.told disk.old) (λ s. 0 < length s.seen) → (D.status disk.new).calls ≤ (D.status disk.old).calls + 1 }
 {
     let Ok(len) = disk.len() else {
         return Err(Down);
     };
     if len == 0 {
-        if let Err(Down) = Journal::format(disk, UNITS, IMAGE) {
+        if let Err(Down) = Journal::format(disk, NEW_UNITS, IMAGE) {
             return Err(Down);
         }
     }

@@ -5,18 +5,15 @@ ghost use Rattle.ktm_base.specs.Count.{Rose};
 ghost use Rattle.ktm_base.specs.Stream.{Faults};
 ghost use Rattle.ktm_base.specs.Told.{IfTold};
 ghost use Rattle.ktm_kernel.specs.Stands.{IsReady};
-ghost use Rattle.ktm_run.specs.Progress.{Progress, Stops};
-ghost use Rattle.ktm_run.specs.Script.{cut_lines, kept_of, last_line, lines_from, most_script};
+ghost use Rattle.ktm_run.specs.Progress.{Progress, Stops, point};
+ghost use Rattle.ktm_run.specs.Script.{cut_lines, kept_of, last_line, lines_from};
 
 use crate::fault::RunFault;
 use crate::line::{do_line, feed};
 use crate::status::Status;
-use ktm_base::{Failed, PowerDisk, Sink, Source};
+use ktm_base::{Failed, MOST_SCRIPT_BYTES, PowerDisk, Sink, Source};
 use ktm_kernel::Kernel;
 use std::alloc::Global;
-
-/// The most bytes of a script.
-const MOST_SCRIPT: u64 = 67_108_864;
 
 /// How many bytes are read at a time.
 const PIECE: usize = 4096;
@@ -49,12 +46,12 @@ fn finish<K: Sink, D: PowerDisk>(
 ) -> Result<(), RunFault>
     requires { IsReady kernel.old (D.told disk.old) (D.status disk.old) }
     ensures done { OnOk result ((part : List ℕ) → kept.now ≡ kept_of part → Progress
-        (record { scene = record { machine = kernel.old; disk = D.told disk.old; status = D.status disk.old }; taken = K.taken sink.old })
-        (record { scene = record { machine = kernel.new; disk = D.told disk.new; status = D.status disk.new }; taken = K.taken sink.new })
+        (point kernel.old (D.told disk.old) (D.status disk.old) (K.taken sink.old))
+        (point kernel.new (D.told disk.new) (D.status disk.new) (K.taken sink.new))
         (last_line part)) }
     ensures stopped { OnErr result ((part : List ℕ) → kept.now ≡ kept_of part → Stops
-        (record { scene = record { machine = kernel.old; disk = D.told disk.old; status = D.status disk.old }; taken = K.taken sink.old })
-        (record { scene = record { machine = kernel.new; disk = D.told disk.new; status = D.status disk.new }; taken = K.taken sink.new })
+        (point kernel.old (D.told disk.old) (D.status disk.old) (K.taken sink.old))
+        (point kernel.new (D.told disk.new) (D.status disk.new) (K.taken sink.new))
         (last_line part)) }
     ensures fault { IsErrOf result RunFault.SinkFault → Rose (K.faults sink.old) (K.faults sink.new) }
 {
@@ -80,31 +77,31 @@ fn run_pieces<S: Source, K: Sink, D: PowerDisk>(
     requires ready { IsReady kernel.old (D.told disk.old) (D.status disk.old) }
     requires room { 0 < length buffer.old }
     requires kept { (kept.old.items ≡ []) × (140001 ≤ vec_capacity kept.old) }
-    ensures done { result ≡ Status.Done → (script : List ℕ) × Consumes (S.left source.old) (S.left source.new) script × IsAtEnd (S.left source.new) × (length script ≤ most_script) × Progress
-        (record { scene = record { machine = kernel.old; disk = D.told disk.old; status = D.status disk.old }; taken = K.taken sink.old })
-        (record { scene = record { machine = kernel.new; disk = D.told disk.new; status = D.status disk.new }; taken = K.taken sink.new })
+    ensures done { result ≡ Status.Done → (script : List ℕ) × Consumes (S.left source.old) (S.left source.new) script × IsAtEnd (S.left source.new) × (length script ≤ MOST_SCRIPT_BYTES) × Progress
+        (point kernel.old (D.told disk.old) (D.status disk.old) (K.taken sink.old))
+        (point kernel.new (D.told disk.new) (D.status disk.new) (K.taken sink.new))
         (cut_lines script) }
-    ensures between { result ≡ Status.SourceFault → (script : List ℕ) × Consumes (S.left source.old) (S.left source.new) script × (length script ≤ most_script) × Progress
-        (record { scene = record { machine = kernel.old; disk = D.told disk.old; status = D.status disk.old }; taken = K.taken sink.old })
-        (record { scene = record { machine = kernel.new; disk = D.told disk.new; status = D.status disk.new }; taken = K.taken sink.new })
+    ensures between { result ≡ Status.SourceFault → (script : List ℕ) × Consumes (S.left source.old) (S.left source.new) script × (length script ≤ MOST_SCRIPT_BYTES) × Progress
+        (point kernel.old (D.told disk.old) (D.status disk.old) (K.taken sink.old))
+        (point kernel.new (D.told disk.new) (D.status disk.new) (K.taken sink.new))
         (lines_from [] script) }
-    ensures behind { result ≡ Status.ScriptTooLong → (script : List ℕ) × Consumes (S.left source.old) (S.left source.new) script × (length script ≡ most_script + 1) × Progress
-        (record { scene = record { machine = kernel.old; disk = D.told disk.old; status = D.status disk.old }; taken = K.taken sink.old })
-        (record { scene = record { machine = kernel.new; disk = D.told disk.new; status = D.status disk.new }; taken = K.taken sink.new })
-        (lines_from [] (take most_script script)) }
-    ensures within { (result ≡ Status.SinkFault) ⊎ (result ≡ Status.NoMemory) → (script : List ℕ) × Consumes (S.left source.old) (S.left source.new) script × (length script ≤ most_script) × Stops
-        (record { scene = record { machine = kernel.old; disk = D.told disk.old; status = D.status disk.old }; taken = K.taken sink.old })
-        (record { scene = record { machine = kernel.new; disk = D.told disk.new; status = D.status disk.new }; taken = K.taken sink.new })
+    ensures behind { result ≡ Status.ScriptTooLong → (script : List ℕ) × Consumes (S.left source.old) (S.left source.new) script × (length script ≡ MOST_SCRIPT_BYTES + 1) × Progress
+        (point kernel.old (D.told disk.old) (D.status disk.old) (K.taken sink.old))
+        (point kernel.new (D.told disk.new) (D.status disk.new) (K.taken sink.new))
+        (lines_from [] (take MOST_SCRIPT_BYTES script)) }
+    ensures within { (result ≡ Status.SinkFault) ⊎ (result ≡ Status.NoMemory) → (script : List ℕ) × Consumes (S.left source.old) (S.left source.new) script × (length script ≤ MOST_SCRIPT_BYTES) × Stops
+        (point kernel.old (D.told disk.old) (D.status disk.old) (K.taken sink.old))
+        (point kernel.new (D.told disk.new) (D.status disk.new) (K.taken sink.new))
         (cut_lines script) }
     ensures source { result ≡ Status.SourceFault → Rose (S.faults source.old) (S.faults source.new) }
     ensures sink { result ≡ Status.SinkFault → Rose (K.faults sink.old) (K.faults sink.new) }
-    ensures too_long { result ≡ Status.ScriptTooLong → IfTold (S.left source.old) (λ bytes. most_script < length bytes) }
+    ensures too_long { result ≡ Status.ScriptTooLong → IfTold (S.left source.old) (λ bytes. MOST_SCRIPT_BYTES < length bytes) }
     ensures not_usage { result ≡ Status.Usage → ⊥ }
     ensures not_image { result ≡ Status.BadImage → ⊥ }
     ensures not_disk { result ≡ Status.DiskFault → ⊥ }
     ensures not_full { result ≡ Status.LogFull → ⊥ }
 {
-    let mut left = MOST_SCRIPT;
+    let mut left = MOST_SCRIPT_BYTES;
     // once nothing is left, one byte alone is asked for: is there more
     'pieces: loop {
         let Ok(count) = read_some(source, buffer, left.max(1)) else {
@@ -140,25 +137,25 @@ pub fn run_script<S: Source, K: Sink, D: PowerDisk>(
 ) -> Status
     requires ready { IsReady kernel.old (D.told disk.old) (D.status disk.old) }
     requires kept { (kept.old.items ≡ []) × (140001 ≤ vec_capacity kept.old) }
-    ensures done { result ≡ Status.Done → (script : List ℕ) × Consumes (S.left source.old) (S.left source.new) script × IsAtEnd (S.left source.new) × (length script ≤ most_script) × Progress
-        (record { scene = record { machine = kernel.old; disk = D.told disk.old; status = D.status disk.old }; taken = K.taken sink.old })
-        (record { scene = record { machine = kernel.new; disk = D.told disk.new; status = D.status disk.new }; taken = K.taken sink.new })
+    ensures done { result ≡ Status.Done → (script : List ℕ) × Consumes (S.left source.old) (S.left source.new) script × IsAtEnd (S.left source.new) × (length script ≤ MOST_SCRIPT_BYTES) × Progress
+        (point kernel.old (D.told disk.old) (D.status disk.old) (K.taken sink.old))
+        (point kernel.new (D.told disk.new) (D.status disk.new) (K.taken sink.new))
         (cut_lines script) }
-    ensures between { result ≡ Status.SourceFault → (script : List ℕ) × Consumes (S.left source.old) (S.left source.new) script × (length script ≤ most_script) × Progress
-        (record { scene = record { machine = kernel.old; disk = D.told disk.old; status = D.status disk.old }; taken = K.taken sink.old })
-        (record { scene = record { machine = kernel.new; disk = D.told disk.new; status = D.status disk.new }; taken = K.taken sink.new })
+    ensures between { result ≡ Status.SourceFault → (script : List ℕ) × Consumes (S.left source.old) (S.left source.new) script × (length script ≤ MOST_SCRIPT_BYTES) × Progress
+        (point kernel.old (D.told disk.old) (D.status disk.old) (K.taken sink.old))
+        (point kernel.new (D.told disk.new) (D.status disk.new) (K.taken sink.new))
         (lines_from [] script) }
-    ensures behind { result ≡ Status.ScriptTooLong → (script : List ℕ) × Consumes (S.left source.old) (S.left source.new) script × (length script ≡ most_script + 1) × Progress
-        (record { scene = record { machine = kernel.old; disk = D.told disk.old; status = D.status disk.old }; taken = K.taken sink.old })
-        (record { scene = record { machine = kernel.new; disk = D.told disk.new; status = D.status disk.new }; taken = K.taken sink.new })
-        (lines_from [] (take most_script script)) }
-    ensures within { (result ≡ Status.SinkFault) ⊎ (result ≡ Status.NoMemory) → (script : List ℕ) × Consumes (S.left source.old) (S.left source.new) script × (length script ≤ most_script) × Stops
-        (record { scene = record { machine = kernel.old; disk = D.told disk.old; status = D.status disk.old }; taken = K.taken sink.old })
-        (record { scene = record { machine = kernel.new; disk = D.told disk.new; status = D.status disk.new }; taken = K.taken sink.new })
+    ensures behind { result ≡ Status.ScriptTooLong → (script : List ℕ) × Consumes (S.left source.old) (S.left source.new) script × (length script ≡ MOST_SCRIPT_BYTES + 1) × Progress
+        (point kernel.old (D.told disk.old) (D.status disk.old) (K.taken sink.old))
+        (point kernel.new (D.told disk.new) (D.status disk.new) (K.taken sink.new))
+        (lines_from [] (take MOST_SCRIPT_BYTES script)) }
+    ensures within { (result ≡ Status.SinkFault) ⊎ (result ≡ Status.NoMemory) → (script : List ℕ) × Consumes (S.left source.old) (S.left source.new) script × (length script ≤ MOST_SCRIPT_BYTES) × Stops
+        (point kernel.old (D.told disk.old) (D.status disk.old) (K.taken sink.old))
+        (point kernel.new (D.told disk.new) (D.status disk.new) (K.taken sink.new))
         (cut_lines script) }
     ensures source { result ≡ Status.SourceFault → Rose (S.faults source.old) (S.faults source.new) }
     ensures sink { result ≡ Status.SinkFault → Rose (K.faults sink.old) (K.faults sink.new) }
-    ensures too_long { result ≡ Status.ScriptTooLong → IfTold (S.left source.old) (λ bytes. most_script < length bytes) }
+    ensures too_long { result ≡ Status.ScriptTooLong → IfTold (S.left source.old) (λ bytes. MOST_SCRIPT_BYTES < length bytes) }
     ensures not_usage { result ≡ Status.Usage → ⊥ }
     ensures not_image { result ≡ Status.BadImage → ⊥ }
     ensures not_disk { result ≡ Status.DiskFault → ⊥ }

@@ -2,6 +2,7 @@
 use Rattle.std.proofs.Common.{◌≡◌, ◌⊎◌, ℕ, ◌^◌, ◌<◌, ◌≤◌, List, [], ◌∷◌, ◌++◌, length, Some, None, Result, Ok, Err, codes, refl, sym, ◌∙◌, ap, subst, arith, lit<, inl, inr, IfOk, option_map}
 use Rattle.std.proofs.lemmas.Option.{same_Some}
 use Rattle.std.specs.Fmt.{decimal}
+use Rattle.ktm_base.specs.declared.limits.TheConstants.{MOST_LINE_BYTES}
 use Rattle.ktm_codec.proofs.WordLemmas.{after_word_is, after_word_again}
 use Rattle.ktm_codec.specs.Word.{after_word}
 use Rattle.ktm_types.specs.declared.command.Line.{Line}
@@ -10,7 +11,7 @@ use Rattle.ktm_codec.proofs.HexLemmas.{option_map_some}
 use Rattle.ktm_codec.proofs.Steps.{bind_some, at_end_is, on_some_is}
 use Rattle.ktm_codec.specs.Steps.{at_end}
 use Rattle.ktm_script.specs.Reading.{Gives, last_count_at, process_at, command_at, process_line_at, line_at}
-use Rattle.ktm_script.specs.Spelling.{space, process_spelling, command_spelling, IsInRange, IsLine, spelling, most_bytes}
+use Rattle.ktm_script.specs.Spelling.{space, process_spelling, command_spelling, IsInRange, IsLine, spelling}
 use Rattle.ktm_script.specs.declared.fault.LineFault.{LineFault}
 use Rattle.ktm_script.specs.declared.fault.LineFault.TheVariants.{BadLine, NoMemory}
 use Rattle.ktm_script.proofs.CommandLemmas.{command_is, command_again}
@@ -102,11 +103,11 @@ pub one_meaning : (x y : Line) → IsLine x → IsLine y → spelling x ≡ spel
 one_meaning x y h k e = same_Some x y (sym (line_again x h.in_range) ∙ ap line_at e ∙ line_again y k.in_range)
 
 -- what was read of a line that is short enough
-pub value_of : (r : Result Line LineFault) (text : List ℕ) → length text ≤ most_bytes → Gives r (line_at text) → IfOk r (λ x. IsLine x × (spelling x ≡ text))
+pub value_of : (r : Result Line LineFault) (text : List ℕ) → length text ≤ MOST_LINE_BYTES → Gives r (line_at text) → IfOk r (λ x. IsLine x × (spelling x ≡ text))
 value_of (Err fault) text short gives = tt
 value_of (Ok x) text short gives =
     let read = line_is text x gives in
-    (record { in_range = read.0; short = subst (λ (xs : List ℕ). length xs ≤ most_bytes) read.1 short }, sym read.1)
+    (record { in_range = read.0; short = subst (λ (xs : List ℕ). length xs ≤ MOST_LINE_BYTES) read.1 short }, sym read.1)
 
 -- where a line is spelled, it is what was read, unless memory ran out
 pub exact_of : (r : Result Line LineFault) (text : List ℕ) (x : Line) → Gives r (line_at text) → IsLine x → spelling x ≡ text → (r ≡ Ok x) ⊎ (r ≡ Err NoMemory)

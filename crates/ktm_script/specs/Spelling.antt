@@ -1,5 +1,6 @@
 -- The grammar of lines: how each line is spelled, and which lines there are.
 use Rattle.std.specs.Prelude.{ℕ, ◌^◌, ◌<◌, ◌≤◌, List, ◌∷◌, ◌++◌, length, codes, decimal}
+use Rattle.ktm_base.specs.declared.limits.TheConstants.{MOST_LINE_BYTES}
 use Rattle.ktm_base.specs.declared.id.Label.{Label}
 use Rattle.ktm_base.specs.declared.id.Pid.{Pid}
 use Rattle.ktm_codec.specs.Guid.{guid_spelling}
@@ -138,10 +139,6 @@ spelling Crash = codes "crash"
 spelling (Restart seed) = codes "restart" ␣ decimal seed
 spelling (Process process command) = process_spelling process ␣ command_spelling command
 
--- at most so many bytes are a line
-abbrev pub most_bytes : ℕ
-most_bytes = 140000
-
 -- a line with its values in the ranges of the grammar
 abbrev pub IsInRange : Line → Type 0
 IsInRange (Tick milliseconds) = milliseconds < 2 ^ 32
@@ -153,4 +150,4 @@ IsInRange (Process process command) = IsPid process × IsCommand command
 -- a line of the grammar
 pub record IsLine (line : Line) : Type 0 where
   pub in_range : IsInRange line
-  pub short : length (spelling line) ≤ most_bytes
+  pub short : length (spelling line) ≤ MOST_LINE_BYTES

@@ -13,150 +13,110 @@ use crate::parts::end;
 use ktm_types::Command;
 use std::alloc::Global;
 
+// A command of one label, which is this field.
+macro_rules! of_label {
+    ($text:ident, $form:ident, $field:ident) => {{
+        let $field = one_label($text).ok_or(BadLine)?;
+        Ok(Command::$form { $field })
+    }};
+}
+
+// A command of a new label and a GUID.
+macro_rules! of_label_and_guid {
+    ($text:ident, $form:ident) => {{
+        let (label, guid) = label_and_guid($text).ok_or(BadLine)?;
+        Ok(Command::$form { label, guid })
+    }};
+}
+
+// A command of one text, which is this field.
+macro_rules! of_text {
+    ($alloc:ident, $text:ident, $form:ident, $field:ident) => {{
+        let $field = one_text($alloc, $text)?;
+        Ok(Command::$form { $field })
+    }};
+}
+
+// A command of a text, which is this field, and a transaction.
+macro_rules! in_transaction {
+    ($alloc:ident, $text:ident, $form:ident, $field:ident) => {{
+        let ($field, transaction) = text_and_label($alloc, $text)?;
+        Ok(Command::$form {
+            $field,
+            transaction,
+        })
+    }};
+}
+
 // A command of this form, by what stands behind the form's name.
 fn with_arguments(alloc: Global, form: Form, text: &[u8]) -> Result<Command, LineFault>
     ensures { Gives result (arguments_at form text.now) }
 {
     match form {
         Form::CreateTransaction => create_transaction(text).ok_or(BadLine),
-        Form::OpenTransaction => {
-            let (label, guid) = label_and_guid(text).ok_or(BadLine)?;
-            Ok(Command::OpenTransaction { label, guid })
-        }
-        Form::CommitTransaction => {
-            let transaction = one_label(text).ok_or(BadLine)?;
-            Ok(Command::CommitTransaction { transaction })
-        }
-        Form::RollbackTransaction => {
-            let transaction = one_label(text).ok_or(BadLine)?;
-            Ok(Command::RollbackTransaction { transaction })
-        }
-        Form::GetTransactionInformation => {
-            let transaction = one_label(text).ok_or(BadLine)?;
-            Ok(Command::GetTransactionInformation { transaction })
-        }
+        Form::OpenTransaction => of_label_and_guid!(text, OpenTransaction),
+        Form::CommitTransaction => of_label!(text, CommitTransaction, transaction),
+        Form::RollbackTransaction => of_label!(text, RollbackTransaction, transaction),
+        Form::GetTransactionInformation => of_label!(text, GetTransactionInformation, transaction),
         Form::CreateResourceManager => create_resource_manager(text).ok_or(BadLine),
-        Form::OpenResourceManager => {
-            let (label, guid) = label_and_guid(text).ok_or(BadLine)?;
-            Ok(Command::OpenResourceManager { label, guid })
-        }
-        Form::RecoverResourceManager => {
-            let manager = one_label(text).ok_or(BadLine)?;
-            Ok(Command::RecoverResourceManager { manager })
-        }
-        Form::GetNotificationResourceManager => {
-            let manager = one_label(text).ok_or(BadLine)?;
-            Ok(Command::GetNotificationResourceManager { manager })
-        }
+        Form::OpenResourceManager => of_label_and_guid!(text, OpenResourceManager),
+        Form::RecoverResourceManager => of_label!(text, RecoverResourceManager, manager),
+        Form::GetNotificationResourceManager => of_label!(
+            text,
+            GetNotificationResourceManager,
+            manager
+        ),
         Form::CreateEnlistment => create_enlistment(text).ok_or(BadLine),
         Form::OpenEnlistment => open_enlistment(text).ok_or(BadLine),
-        Form::RecoverEnlistment => {
-            let enlistment = one_label(text).ok_or(BadLine)?;
-            Ok(Command::RecoverEnlistment { enlistment })
-        }
-        Form::PrePrepareComplete => {
-            let enlistment = one_label(text).ok_or(BadLine)?;
-            Ok(Command::PrePrepareComplete { enlistment })
-        }
-        Form::PrepareComplete => {
-            let enlistment = one_label(text).ok_or(BadLine)?;
-            Ok(Command::PrepareComplete { enlistment })
-        }
-        Form::ReadOnlyEnlistment => {
-            let enlistment = one_label(text).ok_or(BadLine)?;
-            Ok(Command::ReadOnlyEnlistment { enlistment })
-        }
-        Form::CommitComplete => {
-            let enlistment = one_label(text).ok_or(BadLine)?;
-            Ok(Command::CommitComplete { enlistment })
-        }
-        Form::RollbackComplete => {
-            let enlistment = one_label(text).ok_or(BadLine)?;
-            Ok(Command::RollbackComplete { enlistment })
-        }
-        Form::SinglePhaseReject => {
-            let enlistment = one_label(text).ok_or(BadLine)?;
-            Ok(Command::SinglePhaseReject { enlistment })
-        }
-        Form::RollbackEnlistment => {
-            let enlistment = one_label(text).ok_or(BadLine)?;
-            Ok(Command::RollbackEnlistment { enlistment })
-        }
-        Form::PrePrepareEnlistment => {
-            let enlistment = one_label(text).ok_or(BadLine)?;
-            Ok(Command::PrePrepareEnlistment { enlistment })
-        }
-        Form::PrepareEnlistment => {
-            let enlistment = one_label(text).ok_or(BadLine)?;
-            Ok(Command::PrepareEnlistment { enlistment })
-        }
-        Form::CommitEnlistment => {
-            let enlistment = one_label(text).ok_or(BadLine)?;
-            Ok(Command::CommitEnlistment { enlistment })
-        }
+        Form::RecoverEnlistment => of_label!(text, RecoverEnlistment, enlistment),
+        Form::PrePrepareComplete => of_label!(text, PrePrepareComplete, enlistment),
+        Form::PrepareComplete => of_label!(text, PrepareComplete, enlistment),
+        Form::ReadOnlyEnlistment => of_label!(text, ReadOnlyEnlistment, enlistment),
+        Form::CommitComplete => of_label!(text, CommitComplete, enlistment),
+        Form::RollbackComplete => of_label!(text, RollbackComplete, enlistment),
+        Form::SinglePhaseReject => of_label!(text, SinglePhaseReject, enlistment),
+        Form::RollbackEnlistment => of_label!(text, RollbackEnlistment, enlistment),
+        Form::PrePrepareEnlistment => of_label!(text, PrePrepareEnlistment, enlistment),
+        Form::PrepareEnlistment => of_label!(text, PrepareEnlistment, enlistment),
+        Form::CommitEnlistment => of_label!(text, CommitEnlistment, enlistment),
         Form::SetEnlistmentRecoveryInformation => set_recovery_information(alloc, text),
-        Form::GetEnlistmentRecoveryInformation => {
-            let enlistment = one_label(text).ok_or(BadLine)?;
-            Ok(Command::GetEnlistmentRecoveryInformation { enlistment })
-        }
+        Form::GetEnlistmentRecoveryInformation => of_label!(
+            text,
+            GetEnlistmentRecoveryInformation,
+            enlistment
+        ),
         Form::CreateFile => create_file(alloc, text),
         Form::CreateFileTransacted => create_file_transacted(alloc, text),
         Form::ReadFile => read_file(text).ok_or(BadLine),
         Form::WriteFile => write_file(alloc, text),
         Form::SetEndOfFile => set_end_of_file(text).ok_or(BadLine),
-        Form::GetFileSizeEx => {
-            let file = one_label(text).ok_or(BadLine)?;
-            Ok(Command::GetFileSizeEx { file })
-        }
-        Form::FlushFileBuffers => {
-            let file = one_label(text).ok_or(BadLine)?;
-            Ok(Command::FlushFileBuffers { file })
-        }
-        Form::DeleteFile => {
-            let path = one_text(alloc, text)?;
-            Ok(Command::DeleteFile { path })
-        }
-        Form::CreateDirectory => {
-            let path = one_text(alloc, text)?;
-            Ok(Command::CreateDirectory { path })
-        }
-        Form::RemoveDirectory => {
-            let path = one_text(alloc, text)?;
-            Ok(Command::RemoveDirectory { path })
-        }
+        Form::GetFileSizeEx => of_label!(text, GetFileSizeEx, file),
+        Form::FlushFileBuffers => of_label!(text, FlushFileBuffers, file),
+        Form::DeleteFile => of_text!(alloc, text, DeleteFile, path),
+        Form::CreateDirectory => of_text!(alloc, text, CreateDirectory, path),
+        Form::RemoveDirectory => of_text!(alloc, text, RemoveDirectory, path),
         Form::MoveFile => move_file(alloc, text),
-        Form::DeleteFileTransacted => {
-            let (path, transaction) = text_and_label(alloc, text)?;
-            Ok(Command::DeleteFileTransacted { path, transaction })
-        }
-        Form::CreateDirectoryTransacted => {
-            let (path, transaction) = text_and_label(alloc, text)?;
-            Ok(Command::CreateDirectoryTransacted { path, transaction })
-        }
-        Form::RemoveDirectoryTransacted => {
-            let (path, transaction) = text_and_label(alloc, text)?;
-            Ok(Command::RemoveDirectoryTransacted { path, transaction })
-        }
+        Form::DeleteFileTransacted => in_transaction!(alloc, text, DeleteFileTransacted, path),
+        Form::CreateDirectoryTransacted => in_transaction!(
+            alloc,
+            text,
+            CreateDirectoryTransacted,
+            path
+        ),
+        Form::RemoveDirectoryTransacted => in_transaction!(
+            alloc,
+            text,
+            RemoveDirectoryTransacted,
+            path
+        ),
         Form::MoveFileTransacted => move_file_transacted(alloc, text),
-        Form::FindFiles => {
-            let pattern = one_text(alloc, text)?;
-            Ok(Command::FindFiles { pattern })
-        }
-        Form::FindFilesTransacted => {
-            let (pattern, transaction) = text_and_label(alloc, text)?;
-            Ok(Command::FindFilesTransacted {
-                pattern,
-                transaction,
-            })
-        }
+        Form::FindFiles => of_text!(alloc, text, FindFiles, pattern),
+        Form::FindFilesTransacted => in_transaction!(alloc, text, FindFilesTransacted, pattern),
         Form::KvSet => kv_set(alloc, text),
         Form::KvUnset => kv_unset(alloc, text),
         Form::KvGet => kv_get(alloc, text),
         Form::KvList => kv_list(text).ok_or(BadLine),
-        Form::CloseHandle => {
-            let label = one_label(text).ok_or(BadLine)?;
-            Ok(Command::CloseHandle { label })
-        }
+        Form::CloseHandle => of_label!(text, CloseHandle, label),
         Form::DuplicateHandle => duplicate_handle(text).ok_or(BadLine),
         Form::Exit => {
             end(text).ok_or(BadLine)?;

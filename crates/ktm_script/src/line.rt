@@ -6,11 +6,10 @@ ghost use Rattle.ktm_script.specs.Spelling.{IsLine, spelling};
 use crate::LineFault::{self, BadLine};
 use crate::command::command;
 use crate::parts::{end, read_count, read_process};
+use ktm_base::MOST_LINE_BYTES;
 use ktm_codec::strip_word;
 use ktm_types::Line;
 use std::alloc::Global;
-
-const MOST_BYTES: usize = 140_000;
 
 // A number behind a space, which nothing follows.
 #[tactic(auto, unfolding(crate::specs::Reading::last_count_at))]
@@ -64,7 +63,7 @@ pub fn read_line(alloc: Global, line: &[u8]) -> Result<Line, LineFault>
     // each such line is read, so a line is bad only where the bytes spell none
     ensures exact { (x : Line) → IsLine x → spelling x ≡ line.now → (result ≡ Ok x) ⊎ (result ≡ Err LineFault.NoMemory) }
 {
-    if line.len() > MOST_BYTES {
+    if line.len() > MOST_LINE_BYTES {
         return Err(BadLine);
     }
     line_of_any_length(alloc, line)

@@ -7,7 +7,7 @@ ghost use Rattle.ktm_script.specs.Reading.{GivesPart, access_at, behind_space, b
 
 use crate::LineFault::{self, BadLine};
 use crate::word::{one_of, split_word};
-use ktm_base::{Bytes, Label, Pid, Text};
+use ktm_base::{Bytes, Label, MOST_PROCESS, Pid, Text};
 use ktm_codec::{read_guid, read_hex_or_dash, read_number, read_quoted, strip_word};
 use ktm_types::{Access, Disposition, Durability, EnlistmentKind, ShareMode, View};
 use std::alloc::Global;
@@ -39,7 +39,7 @@ fn named<'a>(letter: &[u8], most: u64, text: &'a [u8]) -> Option<(u64, &'a [u8])
 pub fn read_process(text: &[u8]) -> Option<(Pid, &[u8])>
     ensures { option_map (λ read. (read.0, read.1.now)) result ≡ process_at text.now }
 {
-    let (number, rest) = named(b"p", 64, text)?;
+    let (number, rest) = named(b"p", u64::from(MOST_PROCESS), text)?;
     Some((Pid(number as u8), rest))
 }
 

@@ -80,256 +80,193 @@ fn put_text_and_label(
     put_label(out, label)
 }
 
+// A match on a command: a form in a line where it is known by what stands behind its name, and then the others.
+macro_rules! put_forms {
+    ($out:ident, $command:ident,
+        label { $($label_form:ident $label:ident,)* }
+        label_and_guid { $($guid_form:ident,)* }
+        text { $($text_form:ident $text:ident,)* }
+        text_in_transaction { $($both_form:ident $both:ident,)* }
+        others { $($pattern:pat => $put:expr,)* }
+    ) => {
+        match $command {
+            $(Command::$label_form { $label } => put_one_label($out, Form::$label_form, *$label),)*
+            $(Command::$guid_form { label, guid } => {
+                put_label_and_guid($out, Form::$guid_form, *label, guid)
+            })*
+            $(Command::$text_form { $text } => put_one_text($out, Form::$text_form, $text),)*
+            $(Command::$both_form { $both, transaction } => {
+                put_text_and_label($out, Form::$both_form, $both, *transaction)
+            })*
+            $($pattern => $put,)*
+        }
+    };
+}
+
 // A command behind a space.
 fn put_command(out: &mut Vec<u8>, command: &Command) -> Result<(), NoMemory>
     ensures { OnOk result (out.new.items ≡ out.old.items ++ space ∷ command_spelling command.now) }
 {
-    match command {
-        Command::CreateTransaction { label, timeout } => {
-            put_label_and_count(out, Form::CreateTransaction, *label, u64::from(*timeout))
+    put_forms!(out, command,
+        label {
+            CommitTransaction transaction,
+            RollbackTransaction transaction,
+            GetTransactionInformation transaction,
+            RecoverResourceManager manager,
+            GetNotificationResourceManager manager,
+            RecoverEnlistment enlistment,
+            PrePrepareComplete enlistment,
+            PrepareComplete enlistment,
+            ReadOnlyEnlistment enlistment,
+            CommitComplete enlistment,
+            RollbackComplete enlistment,
+            SinglePhaseReject enlistment,
+            RollbackEnlistment enlistment,
+            PrePrepareEnlistment enlistment,
+            PrepareEnlistment enlistment,
+            CommitEnlistment enlistment,
+            GetEnlistmentRecoveryInformation enlistment,
+            GetFileSizeEx file,
+            FlushFileBuffers file,
+            CloseHandle label,
         }
-        Command::OpenTransaction { label, guid } => put_label_and_guid(
-            out,
-            Form::OpenTransaction,
-            *label,
-            guid,
-        ),
-        Command::CommitTransaction { transaction } => put_one_label(
-            out,
-            Form::CommitTransaction,
-            *transaction,
-        ),
-        Command::RollbackTransaction { transaction } => put_one_label(
-            out,
-            Form::RollbackTransaction,
-            *transaction,
-        ),
-        Command::GetTransactionInformation { transaction } => put_one_label(
-            out,
-            Form::GetTransactionInformation,
-            *transaction,
-        ),
-        Command::CreateResourceManager { label, durability } => {
-            put_one_label(out, Form::CreateResourceManager, *label)?;
-            put_word(out, *durability)
+        label_and_guid {
+            OpenTransaction,
+            OpenResourceManager,
         }
-        Command::OpenResourceManager { label, guid } => put_label_and_guid(
-            out,
-            Form::OpenResourceManager,
-            *label,
-            guid,
-        ),
-        Command::RecoverResourceManager { manager } => put_one_label(
-            out,
-            Form::RecoverResourceManager,
-            *manager,
-        ),
-        Command::GetNotificationResourceManager { manager } => put_one_label(
-            out,
-            Form::GetNotificationResourceManager,
-            *manager,
-        ),
-        Command::CreateEnlistment {
-            label,
-            manager,
-            transaction,
-            kind,
-        } => {
-            put_one_label(out, Form::CreateEnlistment, *label)?;
-            put_label(out, *manager)?;
-            put_label(out, *transaction)?;
-            put_word(out, *kind)
+        text {
+            DeleteFile path,
+            CreateDirectory path,
+            RemoveDirectory path,
+            FindFiles pattern,
         }
-        Command::OpenEnlistment {
-            label,
-            manager,
-            guid,
-        } => {
-            put_one_label(out, Form::OpenEnlistment, *label)?;
-            put_label(out, *manager)?;
-            put_guid_part(out, guid)
+        text_in_transaction {
+            DeleteFileTransacted path,
+            CreateDirectoryTransacted path,
+            RemoveDirectoryTransacted path,
+            FindFilesTransacted pattern,
         }
-        Command::RecoverEnlistment { enlistment } => put_one_label(
-            out,
-            Form::RecoverEnlistment,
-            *enlistment,
-        ),
-        Command::PrePrepareComplete { enlistment } => put_one_label(
-            out,
-            Form::PrePrepareComplete,
-            *enlistment,
-        ),
-        Command::PrepareComplete { enlistment } => put_one_label(
-            out,
-            Form::PrepareComplete,
-            *enlistment,
-        ),
-        Command::ReadOnlyEnlistment { enlistment } => put_one_label(
-            out,
-            Form::ReadOnlyEnlistment,
-            *enlistment,
-        ),
-        Command::CommitComplete { enlistment } => put_one_label(
-            out,
-            Form::CommitComplete,
-            *enlistment,
-        ),
-        Command::RollbackComplete { enlistment } => put_one_label(
-            out,
-            Form::RollbackComplete,
-            *enlistment,
-        ),
-        Command::SinglePhaseReject { enlistment } => put_one_label(
-            out,
-            Form::SinglePhaseReject,
-            *enlistment,
-        ),
-        Command::RollbackEnlistment { enlistment } => put_one_label(
-            out,
-            Form::RollbackEnlistment,
-            *enlistment,
-        ),
-        Command::PrePrepareEnlistment { enlistment } => put_one_label(
-            out,
-            Form::PrePrepareEnlistment,
-            *enlistment,
-        ),
-        Command::PrepareEnlistment { enlistment } => put_one_label(
-            out,
-            Form::PrepareEnlistment,
-            *enlistment,
-        ),
-        Command::CommitEnlistment { enlistment } => put_one_label(
-            out,
-            Form::CommitEnlistment,
-            *enlistment,
-        ),
-        Command::SetEnlistmentRecoveryInformation {
-            enlistment,
-            information,
-        } => {
-            put_one_label(out, Form::SetEnlistmentRecoveryInformation, *enlistment)?;
-            put_bytes(out, information)
+        others {
+            Command::CreateTransaction { label, timeout } => {
+                put_label_and_count(out, Form::CreateTransaction, *label, u64::from(*timeout))
+            },
+            Command::CreateResourceManager { label, durability } => {
+                put_one_label(out, Form::CreateResourceManager, *label)?;
+                put_word(out, *durability)
+            },
+            Command::CreateEnlistment {
+                label,
+                manager,
+                transaction,
+                kind,
+            } => {
+                put_one_label(out, Form::CreateEnlistment, *label)?;
+                put_label(out, *manager)?;
+                put_label(out, *transaction)?;
+                put_word(out, *kind)
+            },
+            Command::OpenEnlistment {
+                label,
+                manager,
+                guid,
+            } => {
+                put_one_label(out, Form::OpenEnlistment, *label)?;
+                put_label(out, *manager)?;
+                put_guid_part(out, guid)
+            },
+            Command::SetEnlistmentRecoveryInformation {
+                enlistment,
+                information,
+            } => {
+                put_one_label(out, Form::SetEnlistmentRecoveryInformation, *enlistment)?;
+                put_bytes(out, information)
+            },
+            Command::CreateFile {
+                label,
+                path,
+                access,
+                share,
+                disposition,
+            } => {
+                put_label_and_text(out, Form::CreateFile, *label, path)?;
+                put_modes(out, *access, *share, *disposition)
+            },
+            Command::CreateFileTransacted {
+                label,
+                path,
+                access,
+                share,
+                disposition,
+                transaction,
+            } => {
+                put_label_and_text(out, Form::CreateFileTransacted, *label, path)?;
+                put_modes_and_label(out, *access, *share, *disposition, *transaction)
+            },
+            Command::ReadFile {
+                file,
+                offset,
+                length,
+            } => {
+                put_label_and_count(out, Form::ReadFile, *file, *offset)?;
+                put_count(out, *length)
+            },
+            Command::WriteFile {
+                file,
+                offset,
+                bytes,
+            } => {
+                put_label_and_count(out, Form::WriteFile, *file, *offset)?;
+                put_bytes(out, bytes)
+            },
+            Command::SetEndOfFile { file, size } => {
+                put_label_and_count(out, Form::SetEndOfFile, *file, *size)
+            },
+            Command::MoveFile { source, target } => {
+                put_one_text(out, Form::MoveFile, source)?;
+                put_text(out, target)
+            },
+            Command::MoveFileTransacted {
+                source,
+                target,
+                transaction,
+            } => {
+                put_one_text(out, Form::MoveFileTransacted, source)?;
+                put_text(out, target)?;
+                put_label(out, *transaction)
+            },
+            Command::KvSet {
+                transaction,
+                key,
+                value,
+            } => {
+                put_label_and_text(out, Form::KvSet, *transaction, key)?;
+                put_bytes(out, value)
+            },
+            Command::KvUnset { transaction, key } => {
+                put_label_and_text(out, Form::KvUnset, *transaction, key)
+            },
+            Command::KvGet { view, key } => {
+                put_word(out, Form::KvGet)?;
+                put_view(out, *view)?;
+                put_text(out, key)
+            },
+            Command::KvList { view } => {
+                put_word(out, Form::KvList)?;
+                put_view(out, *view)
+            },
+            Command::DuplicateHandle {
+                label,
+                process,
+                source,
+            } => {
+                put_one_label(out, Form::DuplicateHandle, *label)?;
+                out.push(b' ')?;
+                put_process(out, *process)?;
+                put_label(out, *source)
+            },
+            Command::Exit => put_word(out, Form::Exit),
         }
-        Command::GetEnlistmentRecoveryInformation { enlistment } => put_one_label(
-            out,
-            Form::GetEnlistmentRecoveryInformation,
-            *enlistment,
-        ),
-        Command::CreateFile {
-            label,
-            path,
-            access,
-            share,
-            disposition,
-        } => {
-            put_label_and_text(out, Form::CreateFile, *label, path)?;
-            put_modes(out, *access, *share, *disposition)
-        }
-        Command::CreateFileTransacted {
-            label,
-            path,
-            access,
-            share,
-            disposition,
-            transaction,
-        } => {
-            put_label_and_text(out, Form::CreateFileTransacted, *label, path)?;
-            put_modes_and_label(out, *access, *share, *disposition, *transaction)
-        }
-        Command::ReadFile {
-            file,
-            offset,
-            length,
-        } => {
-            put_label_and_count(out, Form::ReadFile, *file, *offset)?;
-            put_count(out, *length)
-        }
-        Command::WriteFile {
-            file,
-            offset,
-            bytes,
-        } => {
-            put_label_and_count(out, Form::WriteFile, *file, *offset)?;
-            put_bytes(out, bytes)
-        }
-        Command::SetEndOfFile { file, size } => {
-            put_label_and_count(out, Form::SetEndOfFile, *file, *size)
-        }
-        Command::GetFileSizeEx { file } => put_one_label(out, Form::GetFileSizeEx, *file),
-        Command::FlushFileBuffers { file } => put_one_label(out, Form::FlushFileBuffers, *file),
-        Command::DeleteFile { path } => put_one_text(out, Form::DeleteFile, path),
-        Command::CreateDirectory { path } => put_one_text(out, Form::CreateDirectory, path),
-        Command::RemoveDirectory { path } => put_one_text(out, Form::RemoveDirectory, path),
-        Command::MoveFile { source, target } => {
-            put_one_text(out, Form::MoveFile, source)?;
-            put_text(out, target)
-        }
-        Command::DeleteFileTransacted { path, transaction } => put_text_and_label(
-            out,
-            Form::DeleteFileTransacted,
-            path,
-            *transaction,
-        ),
-        Command::CreateDirectoryTransacted { path, transaction } => put_text_and_label(
-            out,
-            Form::CreateDirectoryTransacted,
-            path,
-            *transaction,
-        ),
-        Command::RemoveDirectoryTransacted { path, transaction } => put_text_and_label(
-            out,
-            Form::RemoveDirectoryTransacted,
-            path,
-            *transaction,
-        ),
-        Command::MoveFileTransacted {
-            source,
-            target,
-            transaction,
-        } => {
-            put_one_text(out, Form::MoveFileTransacted, source)?;
-            put_text(out, target)?;
-            put_label(out, *transaction)
-        }
-        Command::FindFiles { pattern } => put_one_text(out, Form::FindFiles, pattern),
-        Command::FindFilesTransacted {
-            pattern,
-            transaction,
-        } => put_text_and_label(out, Form::FindFilesTransacted, pattern, *transaction),
-        Command::KvSet {
-            transaction,
-            key,
-            value,
-        } => {
-            put_label_and_text(out, Form::KvSet, *transaction, key)?;
-            put_bytes(out, value)
-        }
-        Command::KvUnset { transaction, key } => {
-            put_label_and_text(out, Form::KvUnset, *transaction, key)
-        }
-        Command::KvGet { view, key } => {
-            put_word(out, Form::KvGet)?;
-            put_view(out, *view)?;
-            put_text(out, key)
-        }
-        Command::KvList { view } => {
-            put_word(out, Form::KvList)?;
-            put_view(out, *view)
-        }
-        Command::CloseHandle { label } => put_one_label(out, Form::CloseHandle, *label),
-        Command::DuplicateHandle {
-            label,
-            process,
-            source,
-        } => {
-            put_one_label(out, Form::DuplicateHandle, *label)?;
-            out.push(b' ')?;
-            put_process(out, *process)?;
-            put_label(out, *source)
-        }
-        Command::Exit => put_word(out, Form::Exit),
-    }
+    )
 }
 
 /// The spelling of the line, without a newline.

@@ -6,13 +6,10 @@ ghost use Rattle.ktm_tm.specs.TmState.{if_live, next_id, with_new, is_given, IsP
 
 use crate::live::{if_live, is_live, put_number};
 use crate::refusals::may_roll_back;
-use ktm_base::{Id, NoMemory};
+use ktm_base::{Id, MOST_LIVE, MOST_NUMBER, NoMemory};
 use ktm_types::{Phase, Transaction, TransactionOutcome};
 use std::alloc::Global;
 use std::marker::Model;
-
-/// The most live transactions.
-const MOST_LIVE: usize = 64;
 
 /// The transactions of a boot, and its clock. A transaction is found by its number, without a walk.
 #[derive(Drop)]
@@ -154,7 +151,7 @@ impl Tm {
     pub fn is_full(&self) -> bool
         ensures { result ≡ no_transaction_left self.now.now }
     {
-        self.live_count() >= MOST_LIVE || self.items.len() >= u32::MAX as usize
+        self.live_count() >= MOST_LIVE || self.items.len() >= MOST_NUMBER as usize
     }
 
     /// Takes the memory that one transaction more needs.

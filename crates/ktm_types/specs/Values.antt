@@ -1,6 +1,7 @@
 -- The values that the parts of a command may have.
 use Rattle.std.specs.Prelude.{◌≡◌, ℕ, ◌^◌, ◌<◌, ◌≤◌, ◌≢◌, List, length}
 use Rattle.std.specs.List.{AllByRecursion}
+use Rattle.ktm_base.specs.declared.limits.TheConstants.{MOST_PROCESS}
 use Rattle.ktm_base.specs.declared.id.Label.{Label}
 use Rattle.ktm_base.specs.declared.id.Pid.{Pid}
 use Rattle.ktm_base.specs.Bytes.{AreBytes}
@@ -26,7 +27,7 @@ IsText text = AllByRecursion IsTextByte text
 -- processes are numbered from 1 to 64
 pub record IsPid (process : Pid) : Type 0 where
   pub from : 1 ≤ process.0
-  pub to : process.0 ≤ 64
+  pub to : process.0 ≤ MOST_PROCESS
 
 -- labels are numbered from 1 to 65,535
 pub record IsLabel (label : Label) : Type 0 where

@@ -1,8 +1,5 @@
 // What is changed in the tree of files.
-ghost use Rattle.std.specs.Prelude.{◌≡◌};
-
-use ktm_base::{Bytes, PageList, Text};
-use std::marker::Model;
+use ktm_base::{Bytes, Items, PageList, Text};
 
 /// What a node of the tree is.
 #[derive(Clone, Copy, Debug, PartialEq, Eq)]
@@ -53,39 +50,5 @@ pub enum Change {
     },
 }
 
-/// Changes in their order. They are made from a vector, and give it back, with no memory.
-#[derive(Debug, Drop)]
-pub struct Changes {
-    items: Vec<Change>,
-}
-
-impl Model for Changes {
-    ghost use Rattle.std.specs.Prelude.{List};
-    ghost use Rattle.ktm_types.specs.declared.change.Change.{Change};
-
-    ghost Value = { List Change };
-
-    ghost view = { λ s. s.items.items };
-}
-
-impl Changes {
-    pub fn new(items: Vec<Change>) -> Self
-        ensures { result ≡ items.items }
-    {
-        Changes { items }
-    }
-
-    /// The vector that it was made from.
-    pub fn into_vec(self) -> Vec<Change>
-        ensures { result.items ≡ self }
-    {
-        let Changes { items } = self;
-        items
-    }
-
-    pub fn as_slice(&self) -> &[Change]
-        ensures { result.now ≡ self.now }
-    {
-        &self.items
-    }
-}
+/// Changes in their order.
+pub type Changes = Items<Change>;

@@ -1,10 +1,7 @@
 // What is recorded in the log.
-ghost use Rattle.std.specs.Prelude.{◌≡◌};
-
 use crate::{Change, Changes};
-use ktm_base::{Bytes, Id};
+use ktm_base::{Bytes, Id, Items};
 use ktm_keyed::Keyed;
-use std::marker::Model;
 
 /// A key of the store, with its value.
 pub type Entry = Keyed<Bytes>;
@@ -12,42 +9,8 @@ pub type Entry = Keyed<Bytes>;
 /// A key, and the value that it is given, or none where it is unset.
 pub type Setting = Keyed<Option<Bytes>>;
 
-/// Settings, one for each key, by rising key. They are made from a vector, and give it back, with no memory.
-#[derive(Debug, Drop)]
-pub struct Settings {
-    items: Vec<Setting>,
-}
-
-impl Model for Settings {
-    ghost use Rattle.std.specs.Prelude.{List, Option, ℕ};
-    ghost use Rattle.ktm_keyed.specs.declared.keyed.Keyed.{Keyed};
-
-    ghost Value = { List (Keyed (Option (List ℕ))) };
-
-    ghost view = { λ s. s.items.items };
-}
-
-impl Settings {
-    pub fn new(items: Vec<Setting>) -> Self
-        ensures { result ≡ items.items }
-    {
-        Settings { items }
-    }
-
-    /// The vector that it was made from.
-    pub fn into_vec(self) -> Vec<Setting>
-        ensures { result.items ≡ self }
-    {
-        let Settings { items } = self;
-        items
-    }
-
-    pub fn as_slice(&self) -> &[Setting]
-        ensures { result.now ≡ self.now }
-    {
-        &self.items
-    }
-}
+/// Settings, one for each key, by rising key.
+pub type Settings = Items<Setting>;
 
 /// What one participant of a transaction has to record.
 #[derive(Debug, Drop)]

@@ -3,11 +3,11 @@ use Rattle.std.proofs.Common.{◌≡◌, ℕ, ◌+◌, ◌-◌, ◌^◌, ◌≤�
 use Rattle.std.proofs.Math.Bool.{and_assoc, and-true}
 use Rattle.std.proofs.lemmas.Bool.{and_parts, eqb-true, leb-true}
 use Rattle.std.proofs.lemmas.List.Sums.{fold-append}
+use Rattle.ktm_base.specs.declared.limits.TheConstants.{MOST_LIVE}
 use Rattle.ktm_types.specs.declared.event.DonePart.{DonePart}
 use Rattle.ktm_types.specs.declared.event.Event.{Event}
 use Rattle.ktm_types.specs.declared.event.Event.TheVariants.{Boot, MadeRm, Plain, Ready, Single, Held, Decide, Undo, Done}
 use Rattle.ktm_world.specs.Durable.{Durable, Recorded, stand, fact_of, fact_applies, event_applies, after_event, after_events, events_apply, log_applies, decide_recorded, finish_recorded, recorded_at, units_in_use, nodes_in_use, keys_in_use, changes_in_wait, enlistments_in_use, is_within_limits}
-use Rattle.ktm_world.specs.Limits.{most_live}
 use Rattle.ktm_world.specs.Logs.{Group, as_groups}
 
 pub after_events-append : (s : Durable) (a b : List Event) → after_events s (a ++ b) ≡ after_events (after_events s a) b
@@ -109,8 +109,8 @@ few_within : (s : Durable) → is_within_limits s ≡ true → length s.keys ≤
 unfolding is_within_limits
 few_within s within =
     let few = leb-true (keys_in_use s) s.units
-    (third (nat_le (units_in_use s) s.units) (nat_le (nodes_in_use s) s.units) (nat_le (keys_in_use s) s.units) (nat_le (changes_in_wait s) s.units) (nat_le (length s.transactions) most_live)
-    (nat_le (enlistments_in_use s) most_live) (nat_le (length s.managers) most_live) within) in
+    (third (nat_le (units_in_use s) s.units) (nat_le (nodes_in_use s) s.units) (nat_le (keys_in_use s) s.units) (nat_le (changes_in_wait s) s.units) (nat_le (length s.transactions) MOST_LIVE)
+    (nat_le (enlistments_in_use s) MOST_LIVE) (nat_le (length s.managers) MOST_LIVE) within) in
     omega (arith, few)
 
 after_event-keys : (s : Durable) (event : Event) → IsTrue (event_applies s event) → length (after_event s event).keys ≤ s.units

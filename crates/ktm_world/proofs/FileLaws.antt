@@ -4,6 +4,7 @@ use Rattle.std.proofs.Math.Bool.{or-false}
 use Rattle.std.proofs.lemmas.Bool.{cases_Bool, lt-ltb, ltb-true, le-ltb, ltb-false, or_parts}
 use Rattle.std.proofs.lemmas.Bool.Decides.{eqb_tells}
 use Rattle.std.proofs.lemmas.List.{append-nil, length-map}
+use Rattle.ktm_base.specs.declared.limits.TheConstants.{MOST_LIVE, MOST_HANDLES, MOST_NUMBER, END_OF_NODES}
 use Rattle.ktm_base.specs.declared.id.Id.{Id}
 use Rattle.ktm_base.specs.declared.id.Label.{Label}
 use Rattle.ktm_base.specs.declared.id.Pid.{Pid}
@@ -21,7 +22,6 @@ use Rattle.ktm_world.specs.Outcome.{apply, served}
 use Rattle.ktm_world.specs.Present.{Present}
 use Rattle.ktm_world.specs.Transactions.{is_live}
 use Rattle.ktm_world.specs.FileUses.{file_changes_waiting, nodes_used, units_used}
-use Rattle.ktm_world.specs.Limits.{end_of_nodes, most_handles, most_live, most_number}
 use Rattle.ktm_world.specs.Uses.{changes_waiting, file_room, is_over_disk, is_over_quota}
 use Rattle.ktm_world.specs.Laws.{FilesLaw}
 use Rattle.ktm_world.proofs.Worlds.{filter_all}
@@ -111,72 +111,72 @@ some_of_ten false b c d true f g h i j no_b no_c no_d no_f no_g no_h = rw (no_b,
 some_of_ten false b c d false f g h i j no_b no_c no_d no_f no_g no_h = rw (no_b, no_c, no_d, no_f, no_g, no_h) refl
 
 -- one handle more is too many exactly where none is free
-handles_exact : (n : ℕ) → nat_lt most_handles n ≡ false → (most_handles - n == 0) ≡ nat_lt most_handles (n + 1)
+handles_exact : (n : ℕ) → nat_lt MOST_HANDLES n ≡ false → (MOST_HANDLES - n == 0) ≡ nat_lt MOST_HANDLES (n + 1)
 handles_exact n within =
-    let some : n ≤ most_handles = ltb-false most_handles n within in
-    elim (eqb_tells (most_handles - n) 0) [
-      | inl none ↦ none.0 ∙ sym (lt-ltb most_handles (n + 1) (omega (arith, none.1)))
-      | inr free ↦ free.0 ∙ sym (le-ltb most_handles (n + 1) (omega (arith, free.1)))
+    let some : n ≤ MOST_HANDLES = ltb-false MOST_HANDLES n within in
+    elim (eqb_tells (MOST_HANDLES - n) 0) [
+      | inl none ↦ none.0 ∙ sym (lt-ltb MOST_HANDLES (n + 1) (omega (arith, none.1)))
+      | inr free ↦ free.0 ∙ sym (le-ltb MOST_HANDLES (n + 1) (omega (arith, free.1)))
     ]
 
 -- with so many handles then, of which one may be new
 quota_with : (x : Present) (who : Option Id) (o : FileOutcome) (handles : ℕ) (lacks : Bool) → is_over_quota x ≡ false
-    → (nat_lt most_handles (length x.handles) ≡ false → lacks ≡ nat_lt most_handles handles)
+    → (nat_lt MOST_HANDLES (length x.handles) ≡ false → lacks ≡ nat_lt MOST_HANDLES handles)
     → (nat_lt (after_events x.recorded (events_of who o.change)).units (file_changes_waiting (files_after x.files who o) + keys_unset x.keys)
-    || nat_lt most_live (count_by is_live x.transactions.items)
-    || nat_lt most_live (count_by (is_live_enlistment x.transactions.items) x.transactions.enlistments)
-    || nat_lt most_live (length (map (served None []) (x.managers ++ [])))
-    || nat_lt most_handles handles
-    || nat_lt most_number x.transactions.last_transaction
-    || nat_lt most_number x.transactions.last_manager
-    || nat_lt most_number x.transactions.last_enlistment
-    || nat_lt most_number (table_after x.files who o).last_open
-    || nat_lt end_of_nodes (table_after x.files who o).next_node)
+    || nat_lt MOST_LIVE (count_by is_live x.transactions.items)
+    || nat_lt MOST_LIVE (count_by (is_live_enlistment x.transactions.items) x.transactions.enlistments)
+    || nat_lt MOST_LIVE (length (map (served None []) (x.managers ++ [])))
+    || nat_lt MOST_HANDLES handles
+    || nat_lt MOST_NUMBER x.transactions.last_transaction
+    || nat_lt MOST_NUMBER x.transactions.last_manager
+    || nat_lt MOST_NUMBER x.transactions.last_enlistment
+    || nat_lt MOST_NUMBER (table_after x.files who o).last_open
+    || nat_lt END_OF_NODES (table_after x.files who o).next_node)
     ≡ (nat_lt (x.recorded.units - keys_unset x.keys) (file_changes_waiting (files_after x.files who o)) || lacks
-    || nat_lt most_number (table_after x.files who o).last_open || nat_lt end_of_nodes (table_after x.files who o).next_node)
+    || nat_lt MOST_NUMBER (table_after x.files who o).last_open || nat_lt END_OF_NODES (table_after x.files who o).next_node)
 unfolding is_over_quota changes_waiting
 quota_with x who o handles lacks within exact =
     let parts = none_of_ten
     (nat_lt x.recorded.units (file_changes_waiting x.files + keys_unset x.keys))
-    (nat_lt most_live (count_by is_live x.transactions.items))
-    (nat_lt most_live (count_by (is_live_enlistment x.transactions.items) x.transactions.enlistments))
-    (nat_lt most_live (length x.managers))
-    (nat_lt most_handles (length x.handles))
-    (nat_lt most_number x.transactions.last_transaction)
-    (nat_lt most_number x.transactions.last_manager)
-    (nat_lt most_number x.transactions.last_enlistment)
-    (nat_lt most_number x.files.table.last_open)
-    (nat_lt end_of_nodes x.files.table.next_node)
+    (nat_lt MOST_LIVE (count_by is_live x.transactions.items))
+    (nat_lt MOST_LIVE (count_by (is_live_enlistment x.transactions.items) x.transactions.enlistments))
+    (nat_lt MOST_LIVE (length x.managers))
+    (nat_lt MOST_HANDLES (length x.handles))
+    (nat_lt MOST_NUMBER x.transactions.last_transaction)
+    (nat_lt MOST_NUMBER x.transactions.last_manager)
+    (nat_lt MOST_NUMBER x.transactions.last_enlistment)
+    (nat_lt MOST_NUMBER x.files.table.last_open)
+    (nat_lt END_OF_NODES x.files.table.next_node)
     within in
     let some : file_changes_waiting x.files + keys_unset x.keys ≤ x.recorded.units = ltb-false x.recorded.units (file_changes_waiting x.files + keys_unset x.keys) parts.0 in
     let kept = file_changes_waiting (files_after x.files who o) in
     some_of_ten
     (nat_lt (after_events x.recorded (events_of who o.change)).units (kept + keys_unset x.keys))
-    (nat_lt most_live (count_by is_live x.transactions.items))
-    (nat_lt most_live (count_by (is_live_enlistment x.transactions.items) x.transactions.enlistments))
-    (nat_lt most_live (length (map (served None []) (x.managers ++ []))))
-    (nat_lt most_handles handles)
-    (nat_lt most_number x.transactions.last_transaction)
-    (nat_lt most_number x.transactions.last_manager)
-    (nat_lt most_number x.transactions.last_enlistment)
-    (nat_lt most_number (table_after x.files who o).last_open)
-    (nat_lt end_of_nodes (table_after x.files who o).next_node)
-    parts.1 parts.2 (ap (nat_lt most_live) (managers_same x.managers) ∙ parts.3) parts.5 parts.6 parts.7
-    ∙ (λ i. nat_lt (units_same x who o.change i) (kept + keys_unset x.keys) || sym (exact parts.4) i || nat_lt most_number (table_after x.files who o).last_open
-    || nat_lt end_of_nodes (table_after x.files who o).next_node)
-    ∙ ap (λ changes. changes || lacks || nat_lt most_number (table_after x.files who o).last_open || nat_lt end_of_nodes (table_after x.files who o).next_node)
+    (nat_lt MOST_LIVE (count_by is_live x.transactions.items))
+    (nat_lt MOST_LIVE (count_by (is_live_enlistment x.transactions.items) x.transactions.enlistments))
+    (nat_lt MOST_LIVE (length (map (served None []) (x.managers ++ []))))
+    (nat_lt MOST_HANDLES handles)
+    (nat_lt MOST_NUMBER x.transactions.last_transaction)
+    (nat_lt MOST_NUMBER x.transactions.last_manager)
+    (nat_lt MOST_NUMBER x.transactions.last_enlistment)
+    (nat_lt MOST_NUMBER (table_after x.files who o).last_open)
+    (nat_lt END_OF_NODES (table_after x.files who o).next_node)
+    parts.1 parts.2 (ap (nat_lt MOST_LIVE) (managers_same x.managers) ∙ parts.3) parts.5 parts.6 parts.7
+    ∙ (λ i. nat_lt (units_same x who o.change i) (kept + keys_unset x.keys) || sym (exact parts.4) i || nat_lt MOST_NUMBER (table_after x.files who o).last_open
+    || nat_lt END_OF_NODES (table_after x.files who o).next_node)
+    ∙ ap (λ changes. changes || lacks || nat_lt MOST_NUMBER (table_after x.files who o).last_open || nat_lt END_OF_NODES (table_after x.files who o).next_node)
     (sym (beside_exact x.recorded.units kept (keys_unset x.keys) (le-ltb x.recorded.units (keys_unset x.keys) (omega arith))))
 
 quota_exact : (x : Present) (process : Pid) (label : Label) (who : Option Id) (o : FileOutcome) (opened : Option OpenFile) → is_over_quota x ≡ false
     → is_over_quota (apply x (bound_file process label opened (of_files x who o)))
-    ≡ (nat_lt (x.recorded.units - keys_unset x.keys) (file_changes_waiting (files_after x.files who o)) || (is_some opened && most_handles - length x.handles == 0)
-    || nat_lt most_number (table_after x.files who o).last_open || nat_lt end_of_nodes (table_after x.files who o).next_node)
+    ≡ (nat_lt (x.recorded.units - keys_unset x.keys) (file_changes_waiting (files_after x.files who o)) || (is_some opened && MOST_HANDLES - length x.handles == 0)
+    || nat_lt MOST_NUMBER (table_after x.files who o).last_open || nat_lt END_OF_NODES (table_after x.files who o).next_node)
 unfolding is_over_quota changes_waiting file_changes_waiting
 quota_exact x process label who o None within = quota_with x who o (length x.handles) false within sym
 quota_exact x process label who o (Some file) within =
     let handle : Handle = record { process = process; label = label; object = Object.File file.number } in
-    quota_with x who o (length (x.handles ++ handle ∷ [])) (most_handles - length x.handles == 0) within
-    (λ few. handles_exact (length x.handles) few ∙ ap (nat_lt most_handles) (sym (length-append x.handles (handle ∷ []))))
+    quota_with x who o (length (x.handles ++ handle ∷ [])) (MOST_HANDLES - length x.handles == 0) within
+    (λ few. handles_exact (length x.handles) few ∙ ap (nat_lt MOST_HANDLES) (sym (length-append x.handles (handle ∷ []))))
 
 pub files_law : FilesLaw
 unfolding lacks_quota file_room

@@ -7,3 +7,4 @@ mod FileLaws
 pub mod Texts
 pub mod Transcripts
 pub mod Computing
+pub mod Lookups

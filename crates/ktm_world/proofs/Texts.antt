@@ -6,6 +6,7 @@ use Rattle.std.proofs.lemmas.List.{append-nil}
 use Rattle.std.proofs.lemmas.List.Elements.{All-cons, All-head, All-nil, All-push, All-tail, All-weaker}
 use Rattle.std.proofs.lemmas.List.Sums.{AllPass-from_list_all, list_all-from_AllPass}
 use Rattle.std.proofs.lemmas.Option.{same_Some}
+use Rattle.ktm_base.specs.declared.limits.TheConstants.{MOST_NAME_BYTES, MOST_PARTS}
 use Rattle.ktm_base.specs.Names.{IsLastPart, IsName, IsPath, IsPattern, backslash, is_name_byte, is_pattern_byte, last_byte, path_text}
 use Rattle.ktm_world.specs.Paths.{Search, few_parts, is_last_part, is_name, names_in, parts_from, parts_of, path_of, pattern_of, search_in, with_part}
 use Rattle.ktm_world.specs.Laws.{PathLaw}
@@ -21,7 +22,7 @@ read_name name e =
     let d = and_parts _ _ c.0 in
     record {
       some = leb-true 1 (length name) d.0;
-      few = leb-true (length name) 255 d.1;
+      few = leb-true (length name) MOST_NAME_BYTES d.1;
       characters = AllPass-from_list_all is_name_byte name c.1;
       no_space = eqb-false (last_byte name) 0x20 (not-true _ b.1);
       no_dot = eqb-false (last_byte name) 0x2E (not-true _ a.1);
@@ -32,7 +33,7 @@ unfolding is_name
 name_is_read name h =
     and_from _ _
     (and_from _ _
-    (and_from _ _ (and_from _ _ (le-leb 1 (length name) h.some) (le-leb (length name) 255 h.few)) (list_all-from_AllPass is_name_byte name h.characters))
+    (and_from _ _ (and_from _ _ (le-leb 1 (length name) h.some) (le-leb (length name) MOST_NAME_BYTES h.few)) (list_all-from_AllPass is_name_byte name h.characters))
     (not_from_false _ (ne_eqb (last_byte name) 0x20 h.no_space)))
     (not_from_false _ (ne_eqb (last_byte name) 0x2E h.no_dot))
 
@@ -41,12 +42,12 @@ unfolding is_last_part
 read_last_part last e =
     let a = and_parts _ _ e in
     let b = and_parts _ _ a.0 in
-    record { some = leb-true 1 (length last) b.0; few = leb-true (length last) 255 b.1; characters = AllPass-from_list_all is_pattern_byte last a.1 }
+    record { some = leb-true 1 (length last) b.0; few = leb-true (length last) MOST_NAME_BYTES b.1; characters = AllPass-from_list_all is_pattern_byte last a.1 }
 
 last_part_is_read : (last : List ℕ) → IsLastPart last → is_last_part last ≡ true
 unfolding is_last_part
 last_part_is_read last h =
-    and_from _ _ (and_from _ _ (le-leb 1 (length last) h.some) (le-leb (length last) 255 h.few)) (list_all-from_AllPass is_pattern_byte last h.characters)
+    and_from _ _ (and_from _ _ (le-leb 1 (length last) h.some) (le-leb (length last) MOST_NAME_BYTES h.few)) (list_all-from_AllPass is_pattern_byte last h.characters)
 
 read_names : (names : List (List ℕ)) → list_all is_name names ≡ true → All IsName names
 read_names names e = All-weaker (λ name. is_name name ≡ true) IsName read_name names (AllPass-from_list_all is_name names e)
@@ -152,16 +153,16 @@ read_path text names e = go (parts_of text) refl e
   where
     go : (found : Option (List (List ℕ))) → parts_of text ≡ found → names_in found ≡ Some names → IsPath names text
     go None is e = cc
-    go (Some parts) is e = elim (cases_Bool (nat_le (length parts) 32 && list_all is_name parts)) [
+    go (Some parts) is e = elim (cases_Bool (nat_le (length parts) MOST_PARTS && list_all is_name parts)) [
       | inl good ↦
           let same : parts ≡ names = same_Some parts names (rw good at e) in
           let tests = and_parts _ _ good in
-          subst (λ ns. IsPath ns text) same (record { few = leb-true (length parts) 32 tests.0; each = read_names parts tests.1; spelled = read_parts text parts is })
+          subst (λ ns. IsPath ns text) same (record { few = leb-true (length parts) MOST_PARTS tests.0; each = read_names parts tests.1; spelled = read_parts text parts is })
       | inr bad ↦ cc (rw bad at e)
     ]
 
-names_within : (names : List (List ℕ)) → length names ≤ 32 → All IsName names → names_in (Some names) ≡ Some names
-names_within names few each = rw (and_from _ _ (le-leb (length names) 32 few) (names_are_read names each)) refl
+names_within : (names : List (List ℕ)) → length names ≤ MOST_PARTS → All IsName names → names_in (Some names) ≡ Some names
+names_within names few each = rw (and_from _ _ (le-leb (length names) MOST_PARTS few) (names_are_read names each)) refl
 
 path_is_read : (text : List ℕ) (names : List (List ℕ)) → IsPath names text → path_of text ≡ Some names
 unfolding path_of
@@ -214,11 +215,11 @@ read_pattern text directory last e = go (parts_of text) refl e
   where
     go : (found : Option (List (List ℕ))) → parts_of text ≡ found → few_parts found ≡ Some (record { directory = directory; last = last }) → IsPattern directory last text
     go None is e = cc
-    go (Some parts) is e = elim (cases_Bool (nat_le (length parts) 32)) [
+    go (Some parts) is e = elim (cases_Bool (nat_le (length parts) MOST_PARTS)) [
       | inl good ↦
           let read = read_search parts (record { directory = directory; last = last }) (rw good at e) in
           let long = ap length read.parts_are ∙ length-append directory (last ∷ []) in
-          let few = leb-true (length parts) 32 good in
+          let few = leb-true (length parts) MOST_PARTS good in
           record { few = omega arith; each = read.each; ending = read.ending; spelled = read_parts text parts is ∙ ap path_text read.parts_are }
       | inr bad ↦ cc (rw bad at e)
     ]
@@ -226,9 +227,9 @@ read_pattern text directory last e = go (parts_of text) refl e
 pattern_is_read : (text : List ℕ) (directory : List (List ℕ)) (last : List ℕ) → IsPattern directory last text → pattern_of text ≡ Some (record { directory = directory; last = last })
 unfolding pattern_of
 pattern_is_read text directory last h =
-    ap few_parts (parts_again directory h) ∙ rw (le-leb (length (directory ++ last ∷ [])) 32 few) (search_is_read directory last h.each h.ending)
+    ap few_parts (parts_again directory h) ∙ rw (le-leb (length (directory ++ last ∷ [])) MOST_PARTS few) (search_is_read directory last h.each h.ending)
   where
-    few : length (directory ++ last ∷ []) ≤ 32
+    few : length (directory ++ last ∷ []) ≤ MOST_PARTS
     few = let long = length-append directory (last ∷ []) in omega (arith, h.few)
 
     parts_again : (directory : List (List ℕ)) → IsPattern directory last text → parts_of text ≡ Some (directory ++ last ∷ [])

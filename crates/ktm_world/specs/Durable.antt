@@ -1,6 +1,7 @@
 -- The durable state, and what the events of a log make of it.
 use Rattle.std.specs.Prelude.{ℕ, ◌+◌, ◌-◌, ◌^◌, ◌==◌, ◌&&◌, ◌||◌, not, Bool, true, false, List, [], ◌∷◌, ◌++◌, length, map, filter, find, fold, sum_by, count_by, nat_lt, nat_le, Option, Some, None, is_some, is_none, if◌then◌else◌}
 use Rattle.std.specs.List.{list_any, list_all, flat_map}
+use Rattle.ktm_base.specs.declared.limits.TheConstants.{MOST_LIVE, MOST_INFORMATION_BYTES}
 use Rattle.ktm_base.specs.declared.id.Id.{Id}
 use Rattle.ktm_types.specs.declared.change.Change.{Change}
 use Rattle.ktm_types.specs.declared.change.Change.TheVariants.{Make, Put, Cut, Move, Drop}
@@ -20,7 +21,6 @@ use Rattle.ktm_world.specs.Changes.{changed, changed_all, apply_all, node_of, ch
 use Rattle.ktm_world.specs.Committed.{written_files}
 use Rattle.ktm_world.specs.Holds.{Holds, holds_by, Act, place, opens, deletes, moves_file, makes, drops_directory, moves_directory, meets}
 use Rattle.ktm_world.specs.Tree.{Tree, node_at, bytes_or_none, bytes_of, units_of}
-use Rattle.ktm_world.specs.Limits.{most_information, most_live}
 
 -- a transaction that is not over
 pub record Recorded : Type 0 where
@@ -298,7 +298,7 @@ is_manager s id = list_any (λ other. same_id other id) s.managers
 abbrev pub is_new_enlistment : Durable → Id → Id → List ℕ → Bool
 is_new_enlistment s enlistment manager information =
     enlistment.boot == s.boots && not (list_any (λ t. list_any (λ other. same_id other enlistment) (enlistments_of t)) s.transactions)
-    && is_manager s manager && nat_le (length information) most_information
+    && is_manager s manager && nat_le (length information) MOST_INFORMATION_BYTES
 
 -- has the transaction the files' part
 abbrev pub has_changes_part : Recorded → Bool
@@ -384,7 +384,7 @@ enlistments_in_use s = sum_by (λ t. length (enlistments_of t)) s.transactions
 unfoldable pub is_within_limits : Durable → Bool
 is_within_limits s =
     nat_le (units_in_use s) s.units && nat_le (nodes_in_use s) s.units && nat_le (keys_in_use s) s.units && nat_le (changes_in_wait s) s.units
-    && nat_le (length s.transactions) most_live && nat_le (enlistments_in_use s) most_live && nat_le (length s.managers) most_live
+    && nat_le (length s.transactions) MOST_LIVE && nat_le (enlistments_in_use s) MOST_LIVE && nat_le (length s.managers) MOST_LIVE
 
 -- does an event apply: the limits hold then, and there are fewer than 2^63 events
 abbrev pub event_applies : Durable → Event → Bool

@@ -1,6 +1,7 @@
 -- The calls on files and directories: for each the tests in their order, and what it does, by the files alone, the transaction that calls, if one
 -- does, and the room that there is.
 use Rattle.std.specs.Prelude.{ℕ, ◌+◌, ◌==◌, ◌&&◌, ◌||◌, not, Bool, true, false, List, [], ◌∷◌, ◌++◌, length, map, filter, take, drop, nat_lt, Option, Some, None, is_some, is_none, if◌then◌else◌}
+use Rattle.ktm_base.specs.declared.limits.TheConstants.{MOST_AT_ONCE}
 use Rattle.ktm_base.specs.Names.{folded, matches, backslash}
 use Rattle.ktm_base.specs.declared.id.Id.{Id}
 use Rattle.ktm_base.specs.declared.refusal.Refusal.{Refusal}
@@ -201,13 +202,9 @@ create_file_tests files room who path access mode disposition =
 
 -- ---- calls on an open file
 
--- the most bytes that are read or written at once
-abbrev pub most_at_once : ℕ
-most_at_once = 65536
-
 -- the tests of ReadFile
 unfoldable pub read_file_tests : OpenFile → ℕ → List (Bool × Refusal)
-read_file_tests o many = (nat_lt most_at_once many, InvalidParameter) ∷ (not (reads o.access), AccessDenied) ∷ []
+read_file_tests o many = (nat_lt MOST_AT_ONCE many, InvalidParameter) ∷ (not (reads o.access), AccessDenied) ∷ []
 
 -- the bytes from the offset on, at most so many
 unfoldable pub read_file : FilesNow → OpenFile → ℕ → ℕ → FileOutcome
@@ -225,7 +222,7 @@ write_access_test o = (not (writes o.access), AccessDenied)
 -- the tests of WriteFile
 unfoldable pub write_file_tests : FilesNow → FileRoom → OpenFile → ℕ → List ℕ → List (Bool × Refusal)
 write_file_tests files room o offset bytes =
-    (nat_lt most_at_once (length bytes), InvalidParameter)
+    (nat_lt MOST_AT_ONCE (length bytes), InvalidParameter)
     ∷ write_access_test o
     ∷ (lacks_disk files room o.transaction (write_file o offset bytes), DiskFull)
     ∷ []

@@ -1,5 +1,6 @@
 -- What a call on files comes to, as data, what it makes of the files, and the room that it wants.
 use Rattle.std.specs.Prelude.{ℕ, ◌==◌, ◌&&◌, ◌||◌, Bool, List, [], ◌∷◌, ◌++◌, map, nat_lt, Option, Some, None, is_some}
+use Rattle.ktm_base.specs.declared.limits.TheConstants.{MOST_NUMBER, END_OF_NODES}
 use Rattle.ktm_base.specs.declared.id.Id.{Id}
 use Rattle.ktm_types.specs.declared.change.Change.{Change}
 use Rattle.ktm_types.specs.declared.reply.Reply.{Reply}
@@ -8,7 +9,6 @@ use Rattle.ktm_world.specs.Changes.{next_after}
 use Rattle.ktm_world.specs.Committed.{Work, committed_with}
 use Rattle.ktm_world.specs.Files.{FilesNow, FileTable, OwnChanges, OpenFile, Opening, committed_files, first_open, files_with, with_own_changes, changes_with}
 use Rattle.ktm_world.specs.FileUses.{units_used, nodes_used, file_changes_waiting}
-use Rattle.ktm_world.specs.Limits.{most_number, end_of_nodes}
 
 -- what a call on files comes to: its reply, and what of the files it changes
 pub record FileOutcome : Type 0 where
@@ -77,8 +77,8 @@ pub record FileRoom : Type 0 where
 unfoldable pub lacks_quota : FilesNow → FileRoom → Option Id → FileOutcome → Bool
 lacks_quota files room who o =
     let after = files_after files who o in
-    nat_lt room.changes (file_changes_waiting after) || (is_some o.opened && room.handles == 0) || nat_lt most_number after.table.last_open
-    || nat_lt end_of_nodes after.table.next_node
+    nat_lt room.changes (file_changes_waiting after) || (is_some o.opened && room.handles == 0) || nat_lt MOST_NUMBER after.table.last_open
+    || nat_lt END_OF_NODES after.table.next_node
 
 -- is the disk too full then: more units or nodes than the image has units
 unfoldable pub lacks_disk : FilesNow → FileRoom → Option Id → FileOutcome → Bool

@@ -1,9 +1,9 @@
 -- The handles of all processes.
 use Rattle.std.specs.Prelude.{◌+◌, ◌==◌, ◌&&◌, Bool, List, [], ◌∷◌, length, nat_lt, Option, Some, None, if◌then◌else◌}
+use Rattle.ktm_base.specs.declared.limits.TheConstants.{MOST_HANDLES}
 use Rattle.ktm_base.specs.declared.id.Id.{Id}
 use Rattle.ktm_base.specs.declared.id.Pid.{Pid}
 use Rattle.ktm_base.specs.declared.id.Label.{Label}
-use Rattle.ktm_world.specs.Limits.{most_handles}
 use Rattle.ktm_types.specs.declared.object.Handle.{Handle}
 use Rattle.ktm_types.specs.declared.object.Object.{Object}
 use Rattle.ktm_types.specs.declared.object.Object.TheVariants.{Transaction, Manager, Enlistment, File}
@@ -23,4 +23,4 @@ transaction_id None = None
 
 -- would one handle more pass the limit over all processes
 abbrev pub no_handle_left : List Handle → Bool
-no_handle_left handles = nat_lt most_handles (length handles + 1)
+no_handle_left handles = nat_lt MOST_HANDLES (length handles + 1)

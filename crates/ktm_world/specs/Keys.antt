@@ -1,6 +1,7 @@
 -- The store of keys, and what each undecided transaction has set.
 use Rattle.std.specs.Prelude.{ℕ, ◌+◌, ◌==◌, ◌&&◌, ◌||◌, not, Bool, false, List, [], ◌∷◌, length, map, nat_lt, Option, Some, None, is_some, is_none, sum_by, count_by, if◌then◌else◌}
 use Rattle.std.specs.List.{list_all}
+use Rattle.ktm_base.specs.declared.limits.TheConstants.{MOST_KEY_BYTES, MOST_VALUE_BYTES}
 use Rattle.ktm_base.specs.declared.id.Id.{Id}
 use Rattle.ktm_keyed.specs.declared.keyed.Keyed.{Keyed}
 use Rattle.ktm_keyed.specs.Keyed.{value_at, put, without, is_rising}
@@ -8,11 +9,11 @@ use Rattle.ktm_world.specs.Transactions.{same_id}
 
 -- a key has 1 to 64 bytes
 abbrev pub is_bad_key : List ℕ → Bool
-is_bad_key key = (length key == 0) || nat_lt 64 (length key)
+is_bad_key key = (length key == 0) || nat_lt MOST_KEY_BYTES (length key)
 
 -- a value has at most 960 bytes
 abbrev pub is_bad_value : List ℕ → Bool
-is_bad_value value = nat_lt 960 (length value)
+is_bad_value value = nat_lt MOST_VALUE_BYTES (length value)
 
 -- committed keys with their values
 abbrev pub Store : Type 0

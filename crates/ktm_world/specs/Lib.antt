@@ -2,7 +2,6 @@ pub mod SizeLaw
 pub mod Handles
 pub mod Transactions
 pub mod Keys
-pub mod Limits
 pub mod Logs
 pub mod Tree
 pub mod Paths

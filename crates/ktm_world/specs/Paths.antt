@@ -1,15 +1,16 @@
 -- Names, paths and patterns, read from texts.
 use Rattle.std.specs.Prelude.{ℕ, ◌==◌, ◌&&◌, not, Bool, List, [], ◌∷◌, ◌++◌, length, nat_le, Option, Some, None, if◌then◌else◌}
 use Rattle.std.specs.List.{list_all}
+use Rattle.ktm_base.specs.declared.limits.TheConstants.{MOST_NAME_BYTES, MOST_PARTS}
 use Rattle.ktm_base.specs.Names.{backslash, is_name_byte, is_pattern_byte, last_byte}
 
 -- is the text a name: 1 to 255 characters of names, of which the last is neither a space nor a dot
 unfoldable pub is_name : List ℕ → Bool
-is_name name = nat_le 1 (length name) && nat_le (length name) 255 && list_all is_name_byte name && not (last_byte name == 0x20) && not (last_byte name == 0x2E)
+is_name name = nat_le 1 (length name) && nat_le (length name) MOST_NAME_BYTES && list_all is_name_byte name && not (last_byte name == 0x20) && not (last_byte name == 0x2E)
 
 -- is the text the last part of a pattern: 1 to 255 characters of patterns
 unfoldable pub is_last_part : List ℕ → Bool
-is_last_part last = nat_le 1 (length last) && nat_le (length last) 255 && list_all is_pattern_byte last
+is_last_part last = nat_le 1 (length last) && nat_le (length last) MOST_NAME_BYTES && list_all is_pattern_byte last
 
 -- the parts between backslashes, the first of which begins so
 abbrev pub parts_from : List ℕ → List ℕ → List (List ℕ)
@@ -25,7 +26,7 @@ parts_of (c ∷ d ∷ cs) = if c == backslash then Some (parts_from [] (d ∷ cs
 -- parts as the names of a path: 32 at most, and each a name
 abbrev pub names_in : Option (List (List ℕ)) → Option (List (List ℕ))
 names_in None = None
-names_in (Some parts) = if nat_le (length parts) 32 && list_all is_name parts then Some parts else None
+names_in (Some parts) = if nat_le (length parts) MOST_PARTS && list_all is_name parts then Some parts else None
 
 -- the names of a path, if the text is one
 unfoldable pub path_of : List ℕ → Option (List (List ℕ))
@@ -50,7 +51,7 @@ search_in (part ∷ next ∷ parts) = with_part part (search_in (next ∷ parts)
 -- the same of 32 parts at most
 abbrev pub few_parts : Option (List (List ℕ)) → Option Search
 few_parts None = None
-few_parts (Some parts) = if nat_le (length parts) 32 then search_in parts else None
+few_parts (Some parts) = if nat_le (length parts) MOST_PARTS then search_in parts else None
 
 -- what a text asks for, if it is a pattern
 unfoldable pub pattern_of : List ℕ → Option Search

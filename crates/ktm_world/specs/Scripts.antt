@@ -1,5 +1,6 @@
 -- Scripts and what the model answers, for worked examples.
 use Rattle.std.specs.Prelude.{◌≡◌, ℕ, ◌+◌, ◌*◌, List, [], ◌∷◌, length, map, Option, Some, None, if◌then◌else◌}
+use Rattle.ktm_base.specs.declared.limits.TheConstants.{NEW_UNITS}
 use Rattle.ktm_base.specs.declared.id.Label.{Label}
 use Rattle.ktm_base.specs.declared.id.ObjectKind.{ObjectKind}
 use Rattle.ktm_base.specs.declared.id.Pid.{Pid}
@@ -68,7 +69,7 @@ new_image units = opened (empty_state units 1) (8192 * units + 65536) []
 
 -- one of 1,024 units
 abbrev pub blank : World
-blank = new_image 1024
+blank = new_image NEW_UNITS
 
 -- ---- lines
 

@@ -1,5 +1,6 @@
 -- The calls on transactions, resource managers and enlistments: for each the tests in their order, and what it does.
 use Rattle.std.specs.Prelude.{ℕ, ◌+◌, ◌-◌, ◌^◌, ◌==◌, ◌&&◌, ◌||◌, not, Bool, true, false, List, [], ◌∷◌, ◌++◌, length, map, filter, find, min, count_by, nat_lt, nat_le, Option, Some, None, is_some, is_none, option_map, if◌then◌else◌, bytes_eq}
+use Rattle.ktm_base.specs.declared.limits.TheConstants.{MOST_LIVE, MOST_NUMBER, MOST_INFORMATION_BYTES}
 use Rattle.ktm_base.specs.Guid.{guid_of}
 use Rattle.ktm_base.specs.declared.id.Id.{Id}
 use Rattle.ktm_base.specs.declared.id.Label.{Label}
@@ -27,7 +28,6 @@ use Rattle.ktm_world.specs.Transactions.{same_id, transaction_at, change_at, is_
 use Rattle.ktm_world.specs.Enlistments.{Enlistment, Manager, Note, Sent, is_superior, is_open_for_votes, owes_commit, is_live_enlistment, is_ended, has_id, with_enlistments, superior_of}
 use Rattle.ktm_world.specs.Files.{own_changes, without_transaction}
 use Rattle.ktm_world.specs.Labels.{is_bound, holds_of, invalid_handle, outcome_tests, transaction_tests, binding}
-use Rattle.ktm_world.specs.Limits.{most_information, most_live, most_number}
 use Rattle.ktm_world.specs.Outcome.{Outcome, only_reply, and_then}
 use Rattle.ktm_world.specs.Phases.{Course, aborting, committing, to_commit, to_pre_prepare, to_prepare, pre_prepare_answered, prepare_answered, read_only_answered, commit_answered, rollback_answered, single_phase_rejected, recovered, is_single_phase}
 use Rattle.ktm_world.specs.Present.{Present, Transactions}
@@ -108,7 +108,7 @@ create_transaction x process label timeout =
 
 -- would one transaction more pass the limit on live ones, or the greatest number
 abbrev pub no_transaction_left : Transactions → Bool
-no_transaction_left ts = nat_lt most_live (count_by is_live ts.items + 1) || nat_lt most_number (ts.last_transaction + 1)
+no_transaction_left ts = nat_lt MOST_LIVE (count_by is_live ts.items + 1) || nat_lt MOST_NUMBER (ts.last_transaction + 1)
 
 -- the tests of CreateTransaction
 unfoldable pub create_transaction_tests : Present → Pid → Label → List (Bool × Refusal)
@@ -232,7 +232,7 @@ create_resource_manager x process label durability =
 
 -- would one resource manager more pass the limit on them, or the greatest number
 abbrev pub no_manager_left : List Manager → Transactions → Bool
-no_manager_left ms ts = nat_lt most_live (length ms + 1) || nat_lt most_number (ts.last_manager + 1)
+no_manager_left ms ts = nat_lt MOST_LIVE (length ms + 1) || nat_lt MOST_NUMBER (ts.last_manager + 1)
 
 -- the tests of CreateResourceManager
 unfoldable pub create_resource_manager_tests : Present → Pid → Label → List (Bool × Refusal)
@@ -333,7 +333,7 @@ create_enlistment x process label m t kind = enlist x process label m t kind
 
 -- would one enlistment more pass the limit on live ones, or the greatest number
 abbrev pub no_enlistment_left : Transactions → Bool
-no_enlistment_left ts = nat_lt most_live (count_by (is_live_enlistment ts.items) ts.enlistments + 1) || nat_lt most_number (ts.last_enlistment + 1)
+no_enlistment_left ts = nat_lt MOST_LIVE (count_by (is_live_enlistment ts.items) ts.enlistments + 1) || nat_lt MOST_NUMBER (ts.last_enlistment + 1)
 
 -- a superior wants a durable resource manager, and a transaction without one
 unfoldable pub create_enlistment_tests : Present → Pid → Label → Option Manager → Option Transaction → EnlistmentKind → List (Bool × Refusal)
@@ -486,7 +486,7 @@ recover_enlistment x e = answering x e recovered
 
 -- the tests of SetEnlistmentRecoveryInformation
 abbrev pub set_information_tests : Present → Option Enlistment → List ℕ → List (Bool × Refusal)
-set_information_tests x e information = enlistment_tests e (may_set_information x) ++ (nat_lt most_information (length information), InvalidParameter) ∷ []
+set_information_tests x e information = enlistment_tests e (may_set_information x) ++ (nat_lt MOST_INFORMATION_BYTES (length information), InvalidParameter) ∷ []
 
 -- the enlistment has this recovery information from now on
 abbrev pub keep_information : Present → Option Enlistment → List ℕ → Outcome

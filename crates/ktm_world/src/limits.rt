@@ -3,15 +3,9 @@ ghost use Rattle.std.specs.Prelude.{◌≡◌, ◌==◌, not};
 ghost use Rattle.std.specs.List.{list_all};
 ghost use Rattle.ktm_world.specs.Keys.{is_bad_key, is_bad_value, is_bad_set_to, is_good_setting, are_good_settings};
 
-use ktm_base::{Bytes, Text};
+use ktm_base::{Bytes, MOST_KEY_BYTES, MOST_VALUE_BYTES, Text};
 use ktm_keyed::is_rising;
 use ktm_types::Setting;
-
-/// The longest key, in bytes.
-const MOST_KEY_BYTES: usize = 64;
-
-/// The longest value, in bytes.
-const MOST_VALUE_BYTES: usize = 960;
 
 pub fn is_bad_key(key: &Text) -> bool
     ensures { result ≡ is_bad_key key.now }

@@ -6,6 +6,7 @@ use Rattle.std.proofs.lemmas.List.{length-map}
 use Rattle.std.proofs.lemmas.List.Elements.{All-cons, All-head, All-nil, All-tail}
 use Rattle.std.proofs.lemmas.Option.{none-some, same_Some}
 use Rattle.std.proofs.lemmas.Slice.Eq.{bytes_eq-Decides}
+use Rattle.ktm_base.specs.declared.limits.TheConstants.{MOST_NAME_BYTES}
 use Rattle.ktm_base.specs.Names.{IsName, folded, folded_byte}
 use Rattle.ktm_types.specs.declared.recorded.Node.{Node}
 use Rattle.ktm_world.specs.FileCalls.{no_way, at_root, entered, reached, walk}
@@ -79,10 +80,10 @@ rooted tree (Free d n) led = absurd led
 rooted tree Root led = tt
 rooted tree (At node n) led = absurd led
 
-module _ (tree : Tree) (directory : ℕ) (name : List ℕ) (there : is_there tree directory ≡ true) (short : length name ≤ 255) where
+module _ (tree : Tree) (directory : ℕ) (name : List ℕ) (there : is_there tree directory ≡ true) (short : length name ≤ MOST_NAME_BYTES) where
   last : (c : Option Node) → child_of tree directory name ≡ c → (t : Whereabouts) → Leads t (reached c directory name) → IsFound tree t
   last None is NoWay led = tt
-  last None is (Free d n) led = record { there = subst (λ d. is_there tree d ≡ true) (sym led.0) there; short = subst (λ n. length n ≤ 255) (sym led.1) short }
+  last None is (Free d n) led = record { there = subst (λ d. is_there tree d ≡ true) (sym led.0) there; short = subst (λ n. length n ≤ MOST_NAME_BYTES) (sym led.1) short }
   last None is Root led = tt
   last None is (At node n) led = absurd led
   last (Some other) is NoWay led = tt
@@ -111,11 +112,11 @@ found-there law tree text names is t led = found-along tree root names refl ((la
 
 -- ---- short names
 
-short-place : (directory : ℕ) (name : List ℕ) → length name ≤ 255 → length (place directory name).name ≤ 255
+short-place : (directory : ℕ) (name : List ℕ) → length name ≤ MOST_NAME_BYTES → length (place directory name).name ≤ MOST_NAME_BYTES
 short-place directory name short = subst (λ k. k ≤ 255) (sym (length-folded name)) short
 
-pub one-short : (directory : ℕ) (name : List ℕ) → length name ≤ 255 → All (λ (p : Place). length p.name ≤ 255) (place directory name ∷ [])
-one-short directory name short = All-cons (λ (p : Place). length p.name ≤ 255) (place directory name) [] (short-place directory name short) (All-nil (λ (p : Place). length p.name ≤ 255))
+pub one-short : (directory : ℕ) (name : List ℕ) → length name ≤ MOST_NAME_BYTES → All (λ (p : Place). length p.name ≤ MOST_NAME_BYTES) (place directory name ∷ [])
+one-short directory name short = All-cons (λ (p : Place). length p.name ≤ MOST_NAME_BYTES) (place directory name) [] (short-place directory name short) (All-nil (λ (p : Place). length p.name ≤ MOST_NAME_BYTES))
 
-pub two-short : (from to : ℕ) (left taken : List ℕ) → length left ≤ 255 → length taken ≤ 255 → All (λ (p : Place). length p.name ≤ 255) (place from left ∷ place to taken ∷ [])
-two-short from to left taken short-left short-taken = All-cons (λ (p : Place). length p.name ≤ 255) (place from left) (place to taken ∷ []) (short-place from left short-left) (one-short to taken short-taken)
+pub two-short : (from to : ℕ) (left taken : List ℕ) → length left ≤ 255 → length taken ≤ 255 → All (λ (p : Place). length p.name ≤ MOST_NAME_BYTES) (place from left ∷ place to taken ∷ [])
+two-short from to left taken short-left short-taken = All-cons (λ (p : Place). length p.name ≤ MOST_NAME_BYTES) (place from left) (place to taken ∷ []) (short-place from left short-left) (one-short to taken short-taken)

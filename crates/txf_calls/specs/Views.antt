@@ -1,5 +1,6 @@
 -- How what the code passes on stands for what the model has.
 use Rattle.std.specs.Prelude.{◌≤◌, ◌||◌, All, Bool, false, length, Option}
+use Rattle.ktm_base.specs.declared.limits.TheConstants.{MOST_NAME_BYTES}
 use Rattle.ktm_base.specs.declared.id.Id.{Id}
 use Rattle.ktm_world.specs.Conflicts.{is_open_in, violates_sharing, writes}
 use Rattle.ktm_world.specs.Files.{FilesNow, OpenFile}
@@ -29,7 +30,7 @@ act_of (MoveDirectory directory from to) = holds.moves_directory directory (plac
 
 -- each name that the call changes has at most 255 bytes
 abbrev pub HasShortNames : Act → Type 0
-HasShortNames act = All (λ p. length p.name ≤ 255) (places_changed (act_of act))
+HasShortNames act = All (λ p. length p.name ≤ MOST_NAME_BYTES) (places_changed (act_of act))
 
 -- is it against the share mode of an open file of the caller's group: a file that is opened, deleted or moved
 abbrev pub is_against_sharing : FilesNow → Option Id → Act → Bool

@@ -1,10 +1,10 @@
 // CreateFile, plain or in a transaction.
 ghost use Rattle.std.specs.Prelude.{◌≡◌, ◌≤◌, ◌&&◌, not, true, IfOk, IfSome, IfNone, length};
+ghost use Rattle.ktm_base.specs.declared.limits.TheConstants.{MOST_NUMBER, MOST_NAME_BYTES};
 ghost use Rattle.ktm_types.specs.declared.recorded.Node.{Node};
 ghost use Rattle.ktm_world.specs.Conflicts.{writes};
 ghost use Rattle.ktm_world.specs.FileCalls.{Whereabouts as There, at_node, create_at, empties, emptying, first_opening, free, is_truncate_existing, new_open};
 ghost use Rattle.ktm_world.specs.Files.{tree_seen};
-ghost use Rattle.ktm_world.specs.Limits.{most_number};
 ghost use Rattle.txf_calls.specs.Calls.{file_outcome};
 ghost use Rattle.txf_calls.specs.Fits.{IsOrderly};
 ghost use Rattle.txf_calls.specs.Found.{IsFound, has_file};
@@ -37,7 +37,7 @@ pub(crate) struct Modes {
 // The file that is open then. No number is left behind the last one.
 fn next_open<V: Volume>(volume: &V, who: Option<Id>, node: u64, modes: Modes) -> Option<OpenFile>
     ensures some { IfSome result (λ o. open_of o ≡ new_open (V.files volume.now) who node modes.access modes.share) }
-    ensures none { IfNone result ((V.files volume.now).table.last_open ≡ most_number) }
+    ensures none { IfNone result ((V.files volume.now).table.last_open ≡ MOST_NUMBER) }
 {
     match volume.last_open().checked_add(1) {
         Some(number) => Some(OpenFile {
@@ -61,7 +61,7 @@ fn make_file<V: Volume>(
     room: &Room,
 ) -> Result<Plan, NoMemory>
     requires orderly { IsOrderly (V.files volume.now) }
-    requires short { length at.name.now ≤ 255 }
+    requires short { length at.name.now ≤ MOST_NAME_BYTES }
     ensures { IfOk result (λ plan. plan ≡ checked (V.files volume.now) room.now who (Make at.entry) (create_at (V.files volume.now) who (free at.entry.directory at.entry.name.now) modes.access modes.share modes.disposition)) }
 {
     if let Some(refusal) = volume.check(who, Act::Make { at }) {
@@ -185,7 +185,7 @@ fn make_free<V: Volume>(
     room: &Room,
 ) -> Result<Plan, NoMemory>
     requires orderly { IsOrderly (V.files volume.now) }
-    requires short { length at.name.now ≤ 255 }
+    requires short { length at.name.now ≤ MOST_NAME_BYTES }
     ensures { IfOk result (λ plan. plan ≡ create_there (V.files volume.now) room.now who modes.access modes.share modes.disposition (free at.entry.directory at.entry.name.now)) }
 {
     if wants_existing(modes.disposition) {

@@ -1,5 +1,6 @@
 // CreateDirectory, plain or in a transaction.
 ghost use Rattle.std.specs.Prelude.{◌≡◌, ◌≤◌, IfOk, length};
+ghost use Rattle.ktm_base.specs.declared.limits.TheConstants.{MOST_NAME_BYTES};
 ghost use Rattle.ktm_world.specs.FileCalls.{Whereabouts as There, free};
 ghost use Rattle.ktm_world.specs.Files.{tree_seen};
 ghost use Rattle.txf_calls.specs.Calls.{file_outcome};
@@ -28,7 +29,7 @@ fn make<V: Volume>(
     room: &Room,
 ) -> Result<Plan, NoMemory>
     requires orderly { IsOrderly (V.files volume.now) }
-    requires short { length at.name.now ≤ 255 }
+    requires short { length at.name.now ≤ MOST_NAME_BYTES }
     ensures { IfOk result (λ plan. plan ≡ make_there (V.files volume.now) room.now who (free at.entry.directory at.entry.name.now)) }
 {
     if let Some(refusal) = volume.check(who, Act::Make { at }) {

@@ -13,12 +13,9 @@ use crate::call::{OpenFile, Room};
 use crate::modes::{reads, writes};
 use crate::plan::Plan;
 use crate::volume::Volume;
-use ktm_base::{Bytes, Id, NoMemory, PageList, Refusal};
+use ktm_base::{Bytes, Id, MOST_AT_ONCE, NoMemory, PageList, Refusal};
 use ktm_types::{Change, Contents, Reply};
 use std::alloc::Global;
-
-/// The most bytes that are read or written at once.
-const MOST_AT_ONCE: usize = 65_536;
 
 // The plan, where it does not fill the disk.
 fn within_disk<V: Volume>(volume: &V, who: Option<Id>, plan: Plan, room: &Room) -> Plan

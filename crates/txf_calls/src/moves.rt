@@ -1,5 +1,6 @@
 // MoveFile, plain or in a transaction.
 ghost use Rattle.std.specs.Prelude.{◌≡◌, ◌≤◌, ◌∷◌, [], IfOk, length};
+ghost use Rattle.ktm_base.specs.declared.limits.TheConstants.{MOST_NAME_BYTES};
 ghost use Rattle.ktm_base.specs.Names.{folded};
 ghost use Rattle.ktm_base.specs.declared.refusal.Refusal.TheVariants.{SharingViolation};
 ghost use Rattle.ktm_types.specs.declared.change.Change.TheVariants.{Move as Shift};
@@ -33,8 +34,8 @@ fn check<V: Volume>(
     name: &[u8],
     to: Place,
 ) -> Option<Refusal>
-    requires from { length name.now ≤ 255 }
-    requires to { length to.name.now ≤ 255 }
+    requires from { length name.now ≤ MOST_NAME_BYTES }
+    requires to { length to.name.now ≤ MOST_NAME_BYTES }
     ensures { (other : Node) → node ≡ seen_of other → folded other.name ≡ folded name.now
         → result ≡ first_refusal (conflict_test (V.files volume.now) who (move_act (at_node other) (free to.entry.directory to.entry.name.now)) ∷ (is_open_at (V.files volume.now) who (at_node other), SharingViolation) ∷ []) }
 {
@@ -79,7 +80,7 @@ fn move_node<V: Volume>(
     to: Place,
     room: &Room,
 ) -> Result<Plan, NoMemory>
-    requires from { length name.now ≤ 255 }
+    requires from { length name.now ≤ MOST_NAME_BYTES }
     requires to { IsRoom (tree_seen (V.files volume.now) who) to.directory to.name.now }
     ensures { (other : Node) → node ≡ seen_of other → folded other.name ≡ folded name.now → IfOk result (λ plan. plan ≡ move_there (V.files volume.now) room.now who (at_node other) (free to.entry.directory to.entry.name.now)) }
 {
@@ -127,7 +128,7 @@ fn move_to<V: Volume>(
     to: Whereabouts,
     room: &Room,
 ) -> Result<Plan, NoMemory>
-    requires from { length name.now ≤ 255 }
+    requires from { length name.now ≤ MOST_NAME_BYTES }
     requires to { IsFound (tree_seen (V.files volume.now) who) to }
     ensures { (other : Node) (w : There) → node ≡ seen_of other → folded other.name ≡ folded name.now → Leads to.entry w → IfOk result (λ plan. plan ≡ move_there (V.files volume.now) room.now who (at_node other) w) }
 {

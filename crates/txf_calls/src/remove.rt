@@ -1,5 +1,6 @@
 // DeleteFile and RemoveDirectory, plain or in a transaction.
 ghost use Rattle.std.specs.Prelude.{◌≡◌, ◌≤◌, IfOk, length};
+ghost use Rattle.ktm_base.specs.declared.limits.TheConstants.{MOST_NAME_BYTES};
 ghost use Rattle.ktm_base.specs.Names.{folded};
 ghost use Rattle.ktm_types.specs.declared.recorded.Node.{Node};
 ghost use Rattle.ktm_world.specs.FileCalls.{Whereabouts as There, at_node};
@@ -35,7 +36,7 @@ fn drop_node<V: Volume>(volume: &V, who: Option<Id>, act: Act, node: u64, room: 
 
 // The file that is there is dropped.
 fn delete_node<V: Volume>(volume: &V, who: Option<Id>, node: Seen, name: &[u8], room: &Room) -> Plan
-    requires { length name.now ≤ 255 }
+    requires { length name.now ≤ MOST_NAME_BYTES }
     ensures { (other : Node) → node ≡ seen_of other → folded other.name ≡ folded name.now → result ≡ delete_there (V.files volume.now) room.now who (at_node other) }
 {
     if !node.is_file {
@@ -83,7 +84,7 @@ pub(crate) fn delete<V: Volume>(
 
 // The directory that is there is dropped.
 fn remove_node<V: Volume>(volume: &V, who: Option<Id>, node: Seen, name: &[u8], room: &Room) -> Plan
-    requires { length name.now ≤ 255 }
+    requires { length name.now ≤ MOST_NAME_BYTES }
     ensures { (other : Node) → node ≡ seen_of other → folded other.name ≡ folded name.now → result ≡ remove_there (V.files volume.now) room.now who (at_node other) }
 {
     if node.is_file {

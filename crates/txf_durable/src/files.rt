@@ -6,17 +6,14 @@ ghost use Rattle.ktm_world.specs.Durable.{is_new_in, next_after_all};
 ghost use Rattle.ktm_world.specs.Tree.{bytes_of, bytes_or_none, units_of};
 ghost use Rattle.txf_tree.specs.TreeState.{tree_of, versions_of};
 
-use ktm_base::NoMemory;
+use ktm_base::{NoMemory, UNIT_BYTES};
 use ktm_types::Change;
 use std::alloc::Global;
 use std::marker::Model;
 use txf_tree::{Tree, is_make, next_after, node_of};
 
-/// How many bytes a unit has.
-const UNIT: u64 = 4096;
-
 /// How many units there may be before a change, which adds no more than 2^52.
-const MOST_UNITS: u64 = u64::MAX - (1 << 52);
+const MOST_COUNTED: u64 = u64::MAX - (1 << 52);
 
 /// The number of the first node that is made.
 const FIRST_NODE: u64 = 2;
@@ -58,7 +55,7 @@ fn units_in(bytes: &[u8]) -> u64
     ensures units { result ≡ units_of bytes.now }
     ensures few { result ≤ 2 ^ 52 }
 {
-    (bytes.len() as u64).div_ceil(UNIT)
+    (bytes.len() as u64).div_ceil(UNIT_BYTES)
 }
 
 impl DurableFiles {
@@ -170,7 +167,7 @@ impl DurableFiles {
         ensures { OnOk result ((self.new.tree ≡ changed self.old.tree change) × (self.new.next_node ≡ next_after self.old.next_node change)) }
     {
         self.tree.prepare(&change)?;
-        if self.units > MOST_UNITS {
+        if self.units > MOST_COUNTED {
             return Err(NoMemory);
         }
         let node = node_of(&change);

@@ -13,15 +13,11 @@ use Rattle.ktm_world.specs.FileCalls.{entries as matching, in_order, listed, wit
 use Rattle.ktm_world.specs.Tree.{Tree}
 use Rattle.txf_tree.specs.Children.{children, entries_in, shown}
 use Rattle.txf_find.specs.Found.{found, shown_text}
+use Rattle.ktm_links.proofs.Comparing.{less_from}
 
 -- does the first name come before the second, both folded
 abbrev before : Node → Node → Bool
 before node other = comes_before (folded node.name) (folded other.name)
-
-less_from : (o : Ordering) → is_lt o ≡ true → o ≡ Less
-less_from Less less = refl
-less_from Equal less = absurd (cc)
-less_from Greater less = absurd (cc)
 
 not_greater : (o : Ordering) → o ≡ Less → is_lt (ordering_reverse o) ≡ false
 not_greater o is = rw is refl

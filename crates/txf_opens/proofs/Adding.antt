@@ -5,15 +5,16 @@ use Rattle.std.proofs.lemmas.Option.{same_Some}
 use Rattle.ktm_world.specs.Files.{OpenFile}
 use Rattle.ktm_links.specs.declared.list.Key.{Key}
 use Rattle.ktm_links.specs.Items.{Item, value_at}
-use Rattle.ktm_links.specs.Mapped.{NamedItem}
+use Rattle.ktm_links.specs.Mapped.{NamedItem, key_under}
 use Rattle.txf_opens.specs.declared.file.OpenFile.{OpenFile as Kept}
 use Rattle.txf_opens.specs.declared.uses.Uses.{Uses}
-use Rattle.txf_opens.specs.Indexed.{key_under, is_any, is_denying_read, is_denying_write, is_reader, is_writer, Adds, AddsUse, AreUses, IsFree, IsIndex, Takes, TakesUse}
+use Rattle.txf_opens.specs.Indexed.{is_any, is_denying_read, is_denying_write, is_reader, is_writer, Adds, AddsUse, AreUses, IsFree, IsIndex, Takes, TakesUse}
 use Rattle.txf_opens.specs.Names.{number_name, use_name}
 use Rattle.txf_opens.specs.OpensState.{open_of}
 use Rattle.txf_opens.proofs.Bytes.{use_name-tells}
-use Rattle.txf_opens.proofs.Found.{cases_name, cases_option, one_key}
-use Rattle.txf_opens.proofs.Listed.{cases_key}
+use Rattle.ktm_links.proofs.Comparing.{cases_name}
+use Rattle.txf_opens.proofs.Found.{cases_option, one_key}
+use Rattle.ktm_links.proofs.Keys.{cases_key}
 
 -- ---- one more
 -- the open file has the key now, and each other key what it had

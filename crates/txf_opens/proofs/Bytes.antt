@@ -6,11 +6,11 @@ use Rattle.ktm_world.specs.Conflicts.{same_group}
 use Rattle.ktm_world.specs.Files.{OpenFile}
 use Rattle.ktm_world.specs.Transactions.{is_of}
 use Rattle.ktm_links.specs.Mapped.{Begins}
-use Rattle.txf_opens.specs.Names.{boot_of, group_bytes, group_name, kind_of, node_bytes, number_bytes, number_name, number_of, use_name}
+use Rattle.ktm_links.specs.Numbers.{number_bytes, long_bytes}
+use Rattle.txf_opens.specs.Names.{boot_of, group_bytes, group_name, kind_of, number_name, number_of, use_name}
+use Rattle.ktm_links.proofs.Numbers.{number_from}
 
 -- ---- numbers
-number_from : (a b : ℕ) → a / 16777216 ≡ b / 16777216 → a / 65536 % 256 ≡ b / 65536 % 256 → a / 256 % 256 ≡ b / 256 % 256 → a % 256 ≡ b % 256 → a ≡ b
-number_from a b fourth third second first = omega arith
 
 halves : (a b : ℕ) → a / 4294967296 ≡ b / 4294967296 → a % 4294967296 ≡ b % 4294967296 → a ≡ b
 halves a b high low = omega arith
@@ -21,13 +21,13 @@ number_tells a b left right same = number_from a b (cc) (cc) (cc) (cc)
 pub number_leaves : (a b : ℕ) (left right : List ℕ) → number_bytes a left ≡ number_bytes b right → left ≡ right
 number_leaves a b left right same = cc
 
-pub node_tells : (a b : ℕ) (left right : List ℕ) → node_bytes a left ≡ node_bytes b right → a ≡ b
+pub node_tells : (a b : ℕ) (left right : List ℕ) → long_bytes a left ≡ long_bytes b right → a ≡ b
 node_tells a b left right same =
     let high = number_tells (a / 4294967296) (b / 4294967296) (number_bytes (a % 4294967296) left) (number_bytes (b % 4294967296) right) same in
     let rest = number_leaves (a / 4294967296) (b / 4294967296) (number_bytes (a % 4294967296) left) (number_bytes (b % 4294967296) right) same in
     halves a b high (number_tells (a % 4294967296) (b % 4294967296) left right rest)
 
-pub node_leaves : (a b : ℕ) (left right : List ℕ) → node_bytes a left ≡ node_bytes b right → left ≡ right
+pub node_leaves : (a b : ℕ) (left right : List ℕ) → long_bytes a left ≡ long_bytes b right → left ≡ right
 node_leaves a b left right same =
     number_leaves (a % 4294967296) (b % 4294967296) left right
     (number_leaves (a / 4294967296) (b / 4294967296) (number_bytes (a % 4294967296) left) (number_bytes (b % 4294967296) right) same)
@@ -95,7 +95,7 @@ group_begins group o begins = group_tells o.transaction group (number_name o) be
 pub begins_group : (group : Option Id) (o : OpenFile) → same_group o.transaction group ≡ true → Begins (group_bytes group []) (group_name o)
 begins_group group o same = record { after = number_name o; is = ap (λ g. group_bytes g (number_name o)) (same_group-true o.transaction group same) }
 
-pub use_begins : (node : ℕ) (group : Option Id) (o : OpenFile) → Begins (node_bytes node (group_bytes group [])) (use_name o)
+pub use_begins : (node : ℕ) (group : Option Id) (o : OpenFile) → Begins (long_bytes node (group_bytes group [])) (use_name o)
     → (same_group o.transaction group && eqb o.node node) ≡ true
 use_begins node group o begins =
     let same_node = node_tells o.node node (group_name o) (group_bytes group begins.after) begins.is in
@@ -103,14 +103,14 @@ use_begins node group o begins =
     and_from (same_group o.transaction group) (eqb o.node node) (group_tells o.transaction group (number_name o) begins.after rest) (eq-eqb o.node node same_node)
 
 pub begins_use : (node : ℕ) (group : Option Id) (o : OpenFile) → (same_group o.transaction group && eqb o.node node) ≡ true
-    → Begins (node_bytes node (group_bytes group [])) (use_name o)
+    → Begins (long_bytes node (group_bytes group [])) (use_name o)
 begins_use node group o same =
     let parts = and_parts (same_group o.transaction group) (eqb o.node node) same in
     record {
       after = number_name o;
       is =
-          ap (λ n. node_bytes n (group_name o)) (eqb-true o.node node parts.1)
-          ∙ ap (λ g. node_bytes node (group_bytes g (number_name o))) (same_group-true o.transaction group parts.0);
+          ap (λ n. long_bytes n (group_name o)) (eqb-true o.node node parts.1)
+          ∙ ap (λ g. long_bytes node (group_bytes g (number_name o))) (same_group-true o.transaction group parts.0);
     }
 
 kind_some : (group : Option Id) → kind_of group ≡ 1 → is_some group ≡ true
@@ -121,19 +121,19 @@ some_kind : (group : Option Id) → is_some group ≡ true → kind_of group ≡
 some_kind None is = absurd (cc)
 some_kind (Some id) is = refl
 
-pub transacted_begins : (node : ℕ) (o : OpenFile) → Begins (node_bytes node (1 ∷ [])) (use_name o) → (is_some o.transaction && eqb o.node node) ≡ true
+pub transacted_begins : (node : ℕ) (o : OpenFile) → Begins (long_bytes node (1 ∷ [])) (use_name o) → (is_some o.transaction && eqb o.node node) ≡ true
 transacted_begins node o begins =
     let same_node = node_tells o.node node (group_name o) (1 ∷ begins.after) begins.is in
     let rest = node_leaves o.node node (group_name o) (1 ∷ begins.after) begins.is in
     let kind : kind_of o.transaction ≡ 1 = cc in
     and_from (is_some o.transaction) (eqb o.node node) (kind_some o.transaction kind) (eq-eqb o.node node same_node)
 
-pub begins_transacted : (node : ℕ) (o : OpenFile) → (is_some o.transaction && eqb o.node node) ≡ true → Begins (node_bytes node (1 ∷ [])) (use_name o)
+pub begins_transacted : (node : ℕ) (o : OpenFile) → (is_some o.transaction && eqb o.node node) ≡ true → Begins (long_bytes node (1 ∷ [])) (use_name o)
 begins_transacted node o same =
     let parts = and_parts (is_some o.transaction) (eqb o.node node) same in
     record {
       after = number_bytes (boot_of o.transaction) (number_bytes (number_of o.transaction) (number_name o));
       is =
-          ap (λ n. node_bytes n (group_name o)) (eqb-true o.node node parts.1)
-          ∙ ap (λ k. node_bytes node (k ∷ number_bytes (boot_of o.transaction) (number_bytes (number_of o.transaction) (number_name o)))) (some_kind o.transaction parts.0);
+          ap (λ n. long_bytes n (group_name o)) (eqb-true o.node node parts.1)
+          ∙ ap (λ k. long_bytes node (k ∷ number_bytes (boot_of o.transaction) (number_bytes (number_of o.transaction) (number_name o)))) (some_kind o.transaction parts.0);
     }

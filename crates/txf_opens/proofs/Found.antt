@@ -3,29 +3,20 @@ use Rattle.std.proofs.Common.{◌≡◌, ℕ, ◌==◌, ◌⊎◌, Bool, true, f
 use Rattle.std.specs.Bool.{MatchBool}
 use Rattle.std.specs.List.{find, list_any}
 use Rattle.std.specs.Option.{option_map}
-use Rattle.std.specs.Ordering.{is_eq}
-use Rattle.std.specs.declared.cmp.Ordering.TheVariants.{Equal}
-use Rattle.std.proofs.lemmas.Bool.{cases_Bool, eqb-true, eq-eqb}
+use Rattle.std.proofs.lemmas.Bool.{eqb-true, eq-eqb}
 use Rattle.std.proofs.lemmas.Option.{same_Some}
 use Rattle.ktm_world.specs.Files.{OpenFile}
 use Rattle.ktm_links.specs.declared.list.Key.{Key}
 use Rattle.ktm_links.specs.Items.{Item, value_at}
-use Rattle.ktm_links.specs.Mapped.{NamedItem, at, key_at, name_cmp, Begins}
+use Rattle.ktm_links.specs.Mapped.{NamedItem, at, key_at, Begins, key_under}
 use Rattle.ktm_links.proofs.Entries.{key_at-at}
-use Rattle.ktm_links.proofs.Names.{name_equal, name_same, from_is_eq}
 use Rattle.txf_opens.specs.declared.file.OpenFile.{OpenFile as Kept}
-use Rattle.txf_opens.specs.Indexed.{is_any, key_under, opens_of, AreDistinct, HasUnder, IsIndex, IsNoneUnder}
+use Rattle.txf_opens.specs.Indexed.{is_any, opens_of, AreDistinct, HasUnder, IsIndex, IsNoneUnder}
 use Rattle.txf_opens.specs.OpensState.{open_of}
-use Rattle.txf_opens.specs.Names.{number_bytes, number_name}
+use Rattle.ktm_links.specs.Numbers.{number_bytes}
+use Rattle.txf_opens.specs.Names.{number_name}
 use Rattle.txf_opens.proofs.Bytes.{number_tells}
 use Rattle.txf_opens.proofs.Listed.{any_from, find-none, find-there, none_passes, IsOnly}
-
-pub cases_name : (a b : List ℕ) → (a ≡ b) ⊎ (a ≡ b → ⊥)
-cases_name a b =
-    elim (cases_Bool (is_eq (name_cmp a b))) [
-      | inl same ↦ inl (name_equal a b (from_is_eq (name_cmp a b) same))
-      | inr differs ↦ inr (λ same. absurd (let equal : name_cmp a b ≡ Equal = rw same (name_same b) in let is = rw equal at differs in cc))
-    ]
 
 pub cases_option : (o : Option Key) → (o ≡ None) ⊎ ((key : Key) × (o ≡ Some key))
 cases_option None = inl refl

@@ -1,5 +1,5 @@
 -- Lemmas on the open files in order, each with its key.
-use Rattle.std.proofs.Common.{◌≡◌, ◌⊎◌, Bool, true, false, not, List, [], ◌∷◌, ◌++◌, filter, Some, None, refl, sym, ap, ◌∙◌, inl, inr}
+use Rattle.std.proofs.Common.{◌≡◌, Bool, true, false, not, List, [], ◌∷◌, ◌++◌, filter, Some, None, refl, sym, ap, ◌∙◌, inl, inr}
 use Rattle.std.specs.List.{list_any, find}
 use Rattle.std.proofs.lemmas.Bool.{cases_Bool, or_cases, or_left, or_right, or_parts}
 use Rattle.std.proofs.lemmas.Option.{same_Some}
@@ -10,13 +10,6 @@ use Rattle.ktm_links.proofs.Keys.{same_key-true, same_key-self, value_at-others,
 use Rattle.txf_opens.specs.declared.file.OpenFile.{OpenFile as Kept}
 use Rattle.txf_opens.specs.Indexed.{AreDistinct, opens_of}
 use Rattle.txf_opens.specs.OpensState.{open_of}
-
-pub cases_key : (a b : Key) → (a ≡ b) ⊎ (a ≡ b → ⊥)
-cases_key a b =
-    elim (cases_Bool (same_key a b)) [
-      | inl same ↦ inl (same_key-true a b same)
-      | inr differs ↦ inr (λ same. let is = same_key-self a b same in absurd (cc))
-    ]
 
 -- ---- distinct keys
 pub AreDistinct-push : (xs : List (Item Kept)) (key : Key) (e : Kept) → AreDistinct xs → value_at xs key ≡ None → AreDistinct (xs ++ item key e ∷ [])

@@ -16,7 +16,8 @@ use Rattle.ktm_links.specs.Items.{Item}
 use Rattle.ktm_links.specs.Mapped.{NamedItem, Begins}
 use Rattle.txf_opens.specs.declared.file.OpenFile.{OpenFile as Kept}
 use Rattle.txf_opens.specs.Indexed.{opens_of, AreDistinct, HasUnder, IsIndex, IsNoneUnder}
-use Rattle.txf_opens.specs.Names.{group_bytes, node_bytes, use_name}
+use Rattle.ktm_links.specs.Numbers.{long_bytes}
+use Rattle.txf_opens.specs.Names.{group_bytes, use_name}
 use Rattle.txf_opens.proofs.Bytes.{begins_transacted, begins_use, is_of-group, same_group-true, transacted_begins, use_begins}
 use Rattle.txf_opens.proofs.Found.{any_under}
 use Rattle.txf_opens.proofs.Lists.{any-filter, any-map, any_or, any_same}
@@ -29,19 +30,19 @@ any_and false f (o ∷ os) = any_and false f os
 
 -- ---- by the maps
 module _ (has : OpenFile → Bool) (items : List (Item Kept)) (named : List (NamedItem Key)) (index : IsIndex has use_name items named) (distinct : AreDistinct items) where
-  pub in_group : (group : Option Id) (node : ℕ) (b : Bool) → MatchBool b (HasUnder (Begins (node_bytes node (group_bytes group []))) named) (IsNoneUnder (Begins (node_bytes node (group_bytes group []))) named)
+  pub in_group : (group : Option Id) (node : ℕ) (b : Bool) → MatchBool b (HasUnder (Begins (long_bytes node (group_bytes group []))) named) (IsNoneUnder (Begins (long_bytes node (group_bytes group []))) named)
       → b ≡ list_any has (opened_in (opens_of items) group node)
   in_group group node b told =
-      any_under has use_name items named index distinct (λ o. (same_group o.transaction group && o.node == node) && has o) (node_bytes node (group_bytes group [])) b told
+      any_under has use_name items named index distinct (λ o. (same_group o.transaction group && o.node == node) && has o) (long_bytes node (group_bytes group [])) b told
       (λ o so begins. and_from (same_group o.transaction group && eqb o.node node) (has o) (use_begins node group o begins) so)
       (λ o passes. (and_parts (same_group o.transaction group && eqb o.node node) (has o) passes).1)
       (λ o passes. begins_use node group o (and_parts (same_group o.transaction group && eqb o.node node) (has o) passes).0)
       ∙ sym (any-filter has (λ o. same_group o.transaction group && o.node == node) (opens_of items))
 
-  pub in_transaction : (node : ℕ) (b : Bool) → MatchBool b (HasUnder (Begins (node_bytes node (1 ∷ []))) named) (IsNoneUnder (Begins (node_bytes node (1 ∷ []))) named)
+  pub in_transaction : (node : ℕ) (b : Bool) → MatchBool b (HasUnder (Begins (long_bytes node (1 ∷ []))) named) (IsNoneUnder (Begins (long_bytes node (1 ∷ []))) named)
       → b ≡ list_any (λ o. (is_some o.transaction && o.node == node) && has o) (opens_of items)
   in_transaction node b told =
-      any_under has use_name items named index distinct (λ o. (is_some o.transaction && o.node == node) && has o) (node_bytes node (1 ∷ [])) b told
+      any_under has use_name items named index distinct (λ o. (is_some o.transaction && o.node == node) && has o) (long_bytes node (1 ∷ [])) b told
       (λ o so begins. and_from (is_some o.transaction && eqb o.node node) (has o) (transacted_begins node o begins) so)
       (λ o passes. (and_parts (is_some o.transaction && eqb o.node node) (has o) passes).1)
       (λ o passes. begins_transacted node o (and_parts (is_some o.transaction && eqb o.node node) (has o) passes).0)

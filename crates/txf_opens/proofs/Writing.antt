@@ -1,26 +1,28 @@
 -- Lemmas on files that transactions have open for writing.
-use Rattle.std.proofs.Common.{◌≡◌, ℕ, ◌⊎◌, ◌/◌, ◌%◌, ◌^◌, ◌<◌, ◌==◌, ◌&&◌, true, false, not, eqb, List, [], ◌∷◌, ◌++◌, length, Option, Some, None, is_some, IfSome, IfNone, refl, sym, subst, ap, ◌∙◌, inl, inr, arith}
+use Rattle.std.proofs.Common.{◌≡◌, ℕ, ◌/◌, ◌%◌, ◌^◌, ◌<◌, ◌==◌, ◌&&◌, true, false, not, eqb, List, [], ◌∷◌, ◌++◌, length, Option, Some, None, is_some, IfSome, IfNone, refl, sym, subst, ap, ◌∙◌, inl, inr, arith}
 use Rattle.std.specs.List.{list_any}
-use Rattle.std.specs.Ordering.{is_gt, is_lt, nat_cmp, ordering_reverse, ordering_then}
+use Rattle.std.specs.Ordering.{nat_cmp, ordering_then}
 use Rattle.std.specs.declared.cmp.Ordering.{Ordering}
 use Rattle.std.specs.declared.cmp.Ordering.TheVariants.{Less, Equal, Greater}
 use Rattle.std.proofs.lemmas.Bool.{cases_Bool, and_parts, and_from, eqb-true, not-true, not_from_false}
-use Rattle.std.proofs.lemmas.Cmp.{nat_cmp_total, nat_list_cmp_total, ranked, tied_itself, upto}
+use Rattle.std.proofs.lemmas.Cmp.{nat_cmp_total, ranked, tied_itself}
 use Rattle.ktm_base.specs.declared.id.Id.{Id}
 use Rattle.ktm_world.specs.Conflicts.{same_group, writes}
 use Rattle.ktm_world.specs.Files.{OpenFile}
 use Rattle.ktm_links.specs.declared.list.Key.{Key}
 use Rattle.ktm_links.specs.Items.{Item, value_at}
-use Rattle.ktm_links.specs.Mapped.{name_cmp, NamedItem, Begins, IsNotBelow}
+use Rattle.ktm_links.specs.Mapped.{NamedItem, Begins, IsNotBelow}
 use Rattle.ktm_links.proofs.Names.{begins_between, begins_not_below}
 use Rattle.txf_opens.specs.declared.file.OpenFile.{OpenFile as Kept}
 use Rattle.txf_opens.specs.Indexed.{is_writer, opens_of, AreDistinct, IsFirstUnder, IsIndex}
-use Rattle.txf_opens.specs.Names.{group_bytes, node_bytes, number_bytes, number_name, past, use_name}
+use Rattle.ktm_links.specs.Numbers.{number_bytes, long_bytes}
+use Rattle.txf_opens.specs.Names.{group_bytes, number_name, past, use_name}
 use Rattle.txf_opens.specs.OpensState.{is_other_writer, open_of}
 use Rattle.txf_opens.specs.Writers.{IsFirstWriter, IsNoWriter}
 use Rattle.txf_opens.proofs.Bytes.{begins_transacted, group_tells, node_leaves, same_group-true, transacted_begins}
 use Rattle.txf_opens.proofs.Found.{found_at}
 use Rattle.txf_opens.proofs.Listed.{any_from, none_passes}
+use Rattle.ktm_links.proofs.Comparing.{not_below_upto, level}
 
 -- ---- the first writer
 module _ (P : List ℕ → Type 0) (items : List (Item Kept)) (named : List (NamedItem Key)) (key : Key) (index : IsIndex is_writer use_name items named) (first : IsFirstUnder P named key) where
@@ -44,17 +46,6 @@ module _ (P : List ℕ → Type 0) (items : List (Item Kept)) (named : List (Nam
   some_writer (Some file) is = tt
 
 -- ---- the order of names
-turned_is : (o : Ordering) → is_lt (ordering_reverse o) ≡ is_gt o
-turned_is Less = refl
-turned_is Equal = refl
-turned_is Greater = refl
-
-not_above : (a b : List ℕ) → IsNotBelow a b → is_gt (name_cmp b a) ≡ false
-not_above a b not_below = sym (ap is_lt (nat_list_cmp_total.antisymm a b) ∙ turned_is (name_cmp b a)) ∙ not_below
-
-pub not_below_upto : (a b c : List ℕ) → IsNotBelow a b → IsNotBelow b c → IsNotBelow a c
-not_below_upto a b c high low =
-    ap is_lt (nat_list_cmp_total.antisymm a c) ∙ turned_is (name_cmp c a) ∙ upto nat_list_cmp_total c b a (not_above b c low) (not_above a b high)
 
 -- what two names begin with alike does not order them
 behind : (p a b : List ℕ) → IsNotBelow (p ++ a) (p ++ b) → IsNotBelow a b
@@ -76,12 +67,6 @@ decided (a ∷ at) (b ∷ bs) x y z same differs not_below =
         let same : a ≡ b = ranked a b Equal is in
         rw (← is) (rest (λ tails. differs (ap (λ h. h ∷ at) same ∙ ap (λ l. b ∷ l) tails)) (rw (← is) at not_below))
     by_first Greater is rest not_below = rw (← is) refl
-
--- the first numbers decide, or the rest does
-level : (a b : ℕ) (rest o : Ordering) → o ≡ nat_cmp a b → is_lt (ordering_then o rest) ≡ false → (b < a) ⊎ ((a ≡ b) × (is_lt rest ≡ false))
-level a b rest Less is not_below = absurd (cc)
-level a b rest Equal is not_below = inr (ranked a b Equal is, not_below)
-level a b rest Greater is not_below = inl (ranked a b Greater is)
 
 -- no number's bytes come after the greatest ones
 not_past : (n : ℕ) → n < 2 ^ 32 → IsNotBelow (number_bytes n []) (255 ∷ 255 ∷ 255 ∷ 255 ∷ 0 ∷ []) → ⊥
@@ -128,7 +113,7 @@ other_to who node o is =
     (and_from (is_some o.transaction) (not (same_group o.transaction who)) is.transacted (not_from_false (same_group o.transaction who) is.other)) is.writes) is.on
 
 abbrev pub transacted : ℕ → List ℕ
-transacted node = node_bytes node (1 ∷ [])
+transacted node = long_bytes node (1 ∷ [])
 
 begins_other : (who : Option Id) (node : ℕ) (o : OpenFile) → IsOther who node o → Begins (transacted node) (use_name o)
 begins_other who node o is = begins_transacted node o (and_from (is_some o.transaction) (eqb o.node node) is.transacted is.on)
@@ -157,20 +142,20 @@ module _ (items : List (Item Kept)) (who : Option Id) (node : ℕ) (distinct : A
         let high = is_first.first key e there is.writes begins in
         let first_node : first.node ≡ node = eqb-true first.node node (and_parts (is_some first.transaction) (eqb first.node node) (transacted_begins node (open_of first) is_first.so)).1 in
         let e_node : e.node ≡ node = eqb-true e.node node is.on in
-        let first_name : use_name (open_of first) ≡ node_bytes node (group_bytes who (number_name (open_of first))) =
-        ap (λ n. node_bytes n (group_bytes first.transaction (number_name (open_of first)))) first_node
-        ∙ ap (λ g. node_bytes node (group_bytes g (number_name (open_of first)))) (same_group-true first.transaction who own) in
-        let e_name : use_name (open_of e) ≡ node_bytes node (group_bytes e.transaction (number_name (open_of e))) =
-        ap (λ n. node_bytes n (group_bytes e.transaction (number_name (open_of e)))) e_node in
+        let first_name : use_name (open_of first) ≡ long_bytes node (group_bytes who (number_name (open_of first))) =
+        ap (λ n. long_bytes n (group_bytes first.transaction (number_name (open_of first)))) first_node
+        ∙ ap (λ g. long_bytes node (group_bytes g (number_name (open_of first)))) (same_group-true first.transaction who own) in
+        let e_name : use_name (open_of e) ≡ long_bytes node (group_bytes e.transaction (number_name (open_of e))) =
+        ap (λ n. long_bytes n (group_bytes e.transaction (number_name (open_of e)))) e_node in
         let P : List ℕ → Type 0 = λ q. IsNotBelow (use_name (open_of e)) q in
-        let Q : List ℕ → Type 0 = λ q. IsNotBelow q (node_bytes node (group_bytes who (number_name (open_of first)))) in
+        let Q : List ℕ → Type 0 = λ q. IsNotBelow q (long_bytes node (group_bytes who (number_name (open_of first)))) in
         let R : List ℕ → Type 0 = λ q. IsNotBelow q (past node who) in
-        let apart : node_bytes node (group_bytes e.transaction []) ≡ node_bytes node (group_bytes who []) → ⊥ = λ same.
+        let apart : long_bytes node (group_bytes e.transaction []) ≡ long_bytes node (group_bytes who []) → ⊥ = λ same.
         let groups = node_leaves node node (group_bytes e.transaction []) (group_bytes who []) same in
         let is_same = group_tells e.transaction who [] [] groups in
         absurd (let no = is.other in cc) in
         subst R (sym e_name)
-        (decided (node_bytes node (group_bytes e.transaction [])) (node_bytes node (group_bytes who [])) (number_name (open_of e)) (number_name (open_of first)) (255 ∷ 255 ∷ 255 ∷ 255 ∷ 0 ∷ [])
+        (decided (long_bytes node (group_bytes e.transaction [])) (long_bytes node (group_bytes who [])) (number_name (open_of e)) (number_name (open_of first)) (255 ∷ 255 ∷ 255 ∷ 255 ∷ 0 ∷ [])
         refl apart (subst Q e_name (subst P first_name high)))
 
     -- none comes behind them
@@ -191,9 +176,9 @@ module _ (items : List (Item Kept)) (who : Option Id) (node : ℕ) (distinct : A
     is_behind : (next : Kept) → next.number < 2 ^ 32 → IsNotBelow (use_name (open_of next)) (past node who) → next.node ≡ node
         → (is_some next.transaction ≡ true) × (same_group next.transaction who ≡ false)
     is_behind next small high same =
-        let P : ℕ → Type 0 = λ n. IsNotBelow (node_bytes n (group_bytes next.transaction (number_name (open_of next)))) (past node who) in
+        let P : ℕ → Type 0 = λ n. IsNotBelow (long_bytes n (group_bytes next.transaction (number_name (open_of next)))) (past node who) in
         let groups : IsNotBelow (group_bytes next.transaction (number_name (open_of next))) (group_bytes who (255 ∷ 255 ∷ 255 ∷ 255 ∷ 0 ∷ [])) =
-        behind (node_bytes node []) (group_bytes next.transaction (number_name (open_of next))) (group_bytes who (255 ∷ 255 ∷ 255 ∷ 255 ∷ 0 ∷ [])) (subst P same high) in
+        behind (long_bytes node []) (group_bytes next.transaction (number_name (open_of next))) (group_bytes who (255 ∷ 255 ∷ 255 ∷ 255 ∷ 0 ∷ [])) (subst P same high) in
         let some = who_some who own in
         let Q : Option Id → Type 0 = λ w. IsNotBelow (group_bytes next.transaction (number_name (open_of next))) (group_bytes w (255 ∷ 255 ∷ 255 ∷ 255 ∷ 0 ∷ [])) in
         (in_one next.transaction (number_name (open_of next)) some.0 (subst Q some.1 groups), apart groups)

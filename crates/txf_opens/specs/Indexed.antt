@@ -1,14 +1,13 @@
 -- How the maps from names stand to the open files. No public clause cites this module.
-use Rattle.std.specs.Prelude.{◌≡◌, ℕ, ◌<◌, ◌≤◌, ◌^◌, ◌==◌, ◌&&◌, not, Bool, true, false, List, [], ◌∷◌, Option, Some, None, is_some, map, min}
+use Rattle.std.specs.Prelude.{◌≡◌, ℕ, ◌<◌, ◌≤◌, ◌^◌, ◌==◌, ◌&&◌, not, Bool, true, false, List, [], ◌∷◌, Some, None, is_some, map, min}
 use Rattle.std.specs.List.{list_any}
-use Rattle.std.specs.Option.{option_map}
 use Rattle.ktm_base.specs.declared.id.Id.{Id}
 use Rattle.ktm_world.specs.Conflicts.{lets_read, lets_write, reads, writes}
 use Rattle.ktm_world.specs.Files.{OpenFile}
 use Rattle.ktm_world.specs.Transactions.{is_of}
 use Rattle.ktm_links.specs.declared.list.Key.{Key}
 use Rattle.ktm_links.specs.Items.{Item, value_at}
-use Rattle.ktm_links.specs.Mapped.{NamedItem, at, IsNotBelow}
+use Rattle.ktm_links.specs.Mapped.{NamedItem, IsNotBelow, key_under}
 use Rattle.txf_opens.specs.declared.file.OpenFile.{OpenFile as Kept}
 use Rattle.txf_opens.specs.declared.uses.Uses.{Uses}
 use Rattle.txf_opens.specs.Names.{number_name, group_name, use_name}
@@ -21,10 +20,6 @@ open_in item = open_of item.value
 -- the open files alone
 abbrev pub opens_of : List (Item Kept) → List OpenFile
 opens_of items = map open_in items
-
--- the key that a map has under the name
-abbrev pub key_under : List (NamedItem Key) → List ℕ → Option Key
-key_under named name = option_map (λ e. e.1) (at named name)
 
 -- the key is under the first of the names of which this is so
 pub record IsFirstUnder (P : List ℕ → Type 0) (named : List (NamedItem Key)) (key : Key) : Type 0 where

@@ -1,15 +1,8 @@
 -- Numbers as bytes, which are in the order of the numbers, and the names under which the open files are sorted.
-use Rattle.std.specs.Prelude.{ℕ, ◌/◌, ◌%◌, List, [], ◌∷◌, Option, Some, None}
+use Rattle.std.specs.Prelude.{ℕ, List, [], ◌∷◌, Option, Some, None}
 use Rattle.ktm_base.specs.declared.id.Id.{Id}
 use Rattle.ktm_world.specs.Files.{OpenFile}
-
--- a number, its greatest byte first, and then these bytes
-abbrev pub number_bytes : ℕ → List ℕ → List ℕ
-number_bytes n rest = n / 16777216 ∷ n / 65536 % 256 ∷ n / 256 % 256 ∷ n % 256 ∷ rest
-
--- a node, its greatest byte first, and then these bytes
-abbrev pub node_bytes : ℕ → List ℕ → List ℕ
-node_bytes n rest = number_bytes (n / 4294967296) (number_bytes (n % 4294967296) rest)
+use Rattle.ktm_links.specs.Numbers.{number_bytes, long_bytes}
 
 -- what the plain open files have in their names in front of those of transactions
 abbrev pub kind_of : Option Id → ℕ
@@ -40,8 +33,8 @@ group_name o = group_bytes o.transaction (number_name o)
 
 -- by which name it stands under what it is open on
 abbrev pub use_name : OpenFile → List ℕ
-use_name o = node_bytes o.node (group_name o)
+use_name o = long_bytes o.node (group_name o)
 
 -- the names that come after those of the open files of a group on a node begin here
 abbrev pub past : ℕ → Option Id → List ℕ
-past node group = node_bytes node (group_bytes group (255 ∷ 255 ∷ 255 ∷ 255 ∷ 0 ∷ []))
+past node group = long_bytes node (group_bytes group (255 ∷ 255 ∷ 255 ∷ 255 ∷ 0 ∷ []))

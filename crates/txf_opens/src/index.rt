@@ -1,8 +1,8 @@
 // Maps from names to the keys of open files.
 ghost use Rattle.std.specs.Prelude.{◌≡◌, ℕ, List, ◌<◌, ◌≤◌, ◌+◌, None, IfNone, IfSome, true};
 ghost use Rattle.std.specs.Bool.{MatchBool};
-ghost use Rattle.ktm_links.specs.Mapped.{Begins, IsNotBelow};
-ghost use Rattle.txf_opens.specs.Indexed.{key_under, Adds, HasUnder, IsFirstUnder, IsNoneUnder, Takes};
+ghost use Rattle.ktm_links.specs.Mapped.{Begins, IsNotBelow, key_under};
+ghost use Rattle.txf_opens.specs.Indexed.{Adds, HasUnder, IsFirstUnder, IsNoneUnder, Takes};
 
 use ktm_links::{Chains, Key, Name};
 

@@ -8,5 +8,4 @@ mod opens;
 mod uses;
 
 pub use file::{OpenFile, asks_write, lets_read, lets_write, reads, writes};
-pub use name::{node_bytes, number_bytes};
 pub use opens::Opens;

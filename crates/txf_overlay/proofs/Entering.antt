@@ -9,6 +9,7 @@ use Rattle.std.proofs.lemmas.Bool.{cases_Bool, eqb-true, eq-eqb, ne_eqb, not-tru
 use Rattle.std.proofs.lemmas.Option.{none-some, same_Some}
 use Rattle.std.proofs.lemmas.List.{length-map}
 use Rattle.std.proofs.lemmas.Slice.Eq.{bytes_eq-Decides}
+use Rattle.ktm_base.specs.declared.limits.TheConstants.{MOST_NAME_BYTES}
 use Rattle.ktm_base.specs.Names.{IsName, folded}
 use Rattle.ktm_keyed.specs.Keyed.{comes_before}
 use Rattle.ktm_links.specs.Mapped.{name_cmp, Begins, IsNotBelow}
@@ -22,13 +23,15 @@ use Rattle.txf_tree.specs.declared.entry.Entry.{Entry}
 use Rattle.txf_tree.specs.Places.{after_child, child_name, entries_behind, entries_from, number_bytes}
 use Rattle.txf_tree.proofs.Digits.{number_begins}
 use Rattle.txf_tree.proofs.Listing.{AreDistinct, in_order-ascends, in_order-from, in_order-in}
-use Rattle.txf_tree.proofs.Ordered.{AreAscending, IsIn, above_next, below_next, entries_begun, entries_from-first, entries_from-none, greater_from, in-map, less_from, not_below, not_below_upto, of-map}
+use Rattle.ktm_links.proofs.Comparing.{less_from, not_below_upto}
+use Rattle.txf_tree.proofs.Ordered.{AreAscending, IsIn, above_next, below_next, entries_begun, entries_from-first, entries_from-none, greater_from, in-map, not_below, of-map}
 use Rattle.txf_overlay.specs.declared.listing.SeatRef.{SeatRef}
 use Rattle.txf_overlay.specs.OverlayState.{is_of_names, OverlayState, Seat, seen}
 use Rattle.txf_overlay.specs.Listing.{is_before, IsNextSeat, IsNoSeat}
 use Rattle.txf_overlay.specs.Names.{place_in}
 use Rattle.txf_overlay.specs.Views.{last_seat, seat_at, seats_of, StandsOver}
-use Rattle.txf_overlay.proofs.Trees.{Above, Rises, Rises-from, at-All}
+use Rattle.ktm_world.proofs.Lookups.{Above, Rises, Rises-from}
+use Rattle.txf_overlay.proofs.Trees.{at-All}
 use Rattle.txf_overlay.proofs.Views.{IsOneEach, IsOneEach-from, Seated, seated}
 
 -- ---- members
@@ -199,7 +202,7 @@ pub record IsReached (t : Tree) (o : OverlayState) (directory : ℕ) (from : Lis
   pub reached : List ℕ
   pub same : entries_from directory from (entries_in (seen t o) directory) ≡ entries_from directory reached (entries_in (seen t o) directory)
   pub behind : entries_from directory reached (entries_in t directory) ≡ entries_behind directory (entries_in t directory) kept
-  pub few : IfSome kept (λ entry. length entry.name.now ≤ 255)
+  pub few : IfSome kept (λ entry. length entry.name.now ≤ MOST_NAME_BYTES)
   pub held : IfSome next (λ seat. IsNextSeat o.held directory reached seat.place.now seat.node)
   pub free : IfNone next (IsNoSeat o.held directory reached)
 
@@ -252,11 +255,11 @@ module _ (t : Tree) (o : OverlayState) (directory : ℕ) (only : list_all is_of_
 
   -- the names that are seen are short
   pub few-seen : (from : List ℕ) (r : Option Entry) → entries_from directory from (entries_in (seen t o) directory) ≡ entries_behind directory (entries_in (seen t o) directory) r
-      → IfSome r (λ entry. length entry.name.now ≤ 255)
+      → IfSome r (λ entry. length entry.name.now ≤ MOST_NAME_BYTES)
   few-seen from None is = tt
   few-seen from (Some r) is =
       let e = entry-of (seen t o) directory (entry_seen r) stands.after (first-told directory from (entries_in (seen t o) directory) (Some r) is).there in
-      subst (λ (s : Shown). length s.name ≤ 255) e.is (at-All (λ n. IsName n.name) (seen t o) stands.after.names e.number e.node e.found).few
+      subst (λ (s : Shown). length s.name ≤ MOST_NAME_BYTES) e.is (at-All (λ n. IsName n.name) (seen t o) stands.after.names e.number e.node e.found).few
 
   -- ---- where no place is held any more
   pub last-seen : (from : List ℕ) (kept : Option Entry) (next : Option SeatRef) → IsReached t o directory from kept next → next ≡ None

@@ -10,6 +10,7 @@ use Rattle.std.proofs.lemmas.List.Sums.{fold-append}
 use Rattle.std.proofs.lemmas.Map.Text.{is_eq-slice_cmp}
 use Rattle.std.proofs.lemmas.Option.{none-some, same_Some}
 use Rattle.std.proofs.lemmas.Slice.Eq.{bytes_eq-Decides}
+use Rattle.ktm_base.specs.declared.limits.TheConstants.{MOST_NAME_BYTES}
 use Rattle.ktm_base.specs.Names.{IsName, folded, folded_byte, is_name_byte, last_byte}
 use Rattle.ktm_links.specs.Mapped.{NamedItem, name_cmp}
 use Rattle.ktm_types.specs.declared.change.Change.{Change}
@@ -34,7 +35,8 @@ use Rattle.txf_overlay.specs.Written.{total_units}
 use Rattle.txf_overlay.proofs.NodesSeen.{made-push, made-drop, was-counted, drops, lasts, AreSeen-push, IsNext}
 use Rattle.txf_overlay.proofs.Options.{or_some, or-assoc}
 use Rattle.txf_overlay.proofs.Views.{come_to, come-some, last_seat-append, left-some, puts, seats-are}
-use Rattle.txf_overlay.proofs.Trees.{Applies-from, at-All, node_at-elsewhere, node_at-there, remade}
+use Rattle.ktm_world.proofs.Lookups.{remade}
+use Rattle.txf_overlay.proofs.Trees.{Applies-from, at-All, node_at-elsewhere, node_at-there}
 
 -- ---- lists of changes
 pub only-push : (cs : List Change) (c : Change) → list_all is_of_names cs ≡ true → is_of_names c ≡ true → list_all is_of_names (cs ++ c ∷ []) ≡ true
@@ -105,14 +107,14 @@ stands-after tree o o' c stands is formed names held =
     }
 
 -- ---- names that are short
-is_name-short : (name : List ℕ) → is_name name ≡ true → length name ≤ 255
+is_name-short : (name : List ℕ) → is_name name ≡ true → length name ≤ MOST_NAME_BYTES
 unfolding is_name
 is_name-short name is =
-    let e = and_parts (nat_le 1 (length name) && nat_le (length name) 255 && list_all is_name_byte name && not (last_byte name == 0x20)) (not (last_byte name == 0x2E)) is in
-    let d = and_parts (nat_le 1 (length name) && nat_le (length name) 255 && list_all is_name_byte name) (not (last_byte name == 0x20)) e.0 in
-    let c = and_parts (nat_le 1 (length name) && nat_le (length name) 255) (list_all is_name_byte name) d.0 in
-    let b = and_parts (nat_le 1 (length name)) (nat_le (length name) 255) c.0 in
-    leb-true (length name) 255 b.1
+    let e = and_parts (nat_le 1 (length name) && nat_le (length name) MOST_NAME_BYTES && list_all is_name_byte name && not (last_byte name == 0x20)) (not (last_byte name == 0x2E)) is in
+    let d = and_parts (nat_le 1 (length name) && nat_le (length name) MOST_NAME_BYTES && list_all is_name_byte name) (not (last_byte name == 0x20)) e.0 in
+    let c = and_parts (nat_le 1 (length name) && nat_le (length name) MOST_NAME_BYTES) (list_all is_name_byte name) d.0 in
+    let b = and_parts (nat_le 1 (length name)) (nat_le (length name) MOST_NAME_BYTES) c.0 in
+    leb-true (length name) MOST_NAME_BYTES b.1
 
 pub short-from : (t : Tree) (c : Change) → applies t c ≡ true → IsShort c
 short-from t (Make node parent kind name) is = is_name-short name (Applies-from t (Make node parent kind name) is).1
@@ -121,7 +123,7 @@ short-from t (Cut node size pages) is = tt
 short-from t (Move node parent name) is = is_name-short name (Applies-from t (Move node parent name) is).2
 short-from t (Drop node) is = tt
 
-place-short : (directory : ℕ) (name : List ℕ) → length name ≤ 255 → length (place_bytes (place directory name)) ≤ 263
+place-short : (directory : ℕ) (name : List ℕ) → length name ≤ MOST_NAME_BYTES → length (place_bytes (place directory name)) ≤ 263
 place-short directory name short =
     omega (arith, short, length-append (number_bytes directory) (folded name), length-number_bytes directory, length-map name folded_byte)
 

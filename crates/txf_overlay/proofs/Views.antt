@@ -7,6 +7,7 @@ use Rattle.std.proofs.lemmas.Bool.{cases_Bool, cases_eq, eq-eqb, ne_eqb, eqb-tru
 use Rattle.std.proofs.lemmas.List.{append-nil, length-map, take_at, drop_at}
 use Rattle.std.proofs.lemmas.Option.{none-some, same_Some}
 use Rattle.std.proofs.lemmas.Slice.Eq.{bytes_eq-Decides}
+use Rattle.ktm_base.specs.declared.limits.TheConstants.{MOST_NAME_BYTES}
 use Rattle.ktm_base.specs.Names.{IsName, folded, folded_byte}
 use Rattle.ktm_types.specs.declared.change.Change.{Change}
 use Rattle.ktm_types.specs.declared.change.Change.TheVariants.{Make, Put, Cut, Move, Drop}
@@ -23,7 +24,8 @@ use Rattle.txf_overlay.specs.Sight.{sight_of}
 use Rattle.txf_overlay.specs.Views.{or_before, if_at, last_seat, left_by, seat, seats_of}
 use Rattle.txf_tree.proofs.Digits.{length-number_bytes, number_bytes-one}
 use Rattle.txf_overlay.proofs.Options.{or_none, or_some, or-assoc, or-nothing}
-use Rattle.txf_overlay.proofs.Trees.{Applies-from, Rises-from, at-All, fails-all, found-at, is_there-none, is_there-some, node_at-elsewhere, node_at-there, number-at, remade}
+use Rattle.ktm_world.proofs.Lookups.{Rises-from, remade}
+use Rattle.txf_overlay.proofs.Trees.{Applies-from, at-All, fails-all, found-at, is_there-none, is_there-some, node_at-elsewhere, node_at-there, number-at}
 
 -- ---- places by name
 
@@ -456,7 +458,7 @@ pub child-held : (t t' : Tree) (directory : ℕ) (name : List ℕ) (ss : List Se
 child-held t t' directory name ss None is last = is.none last
 child-held t t' directory name ss (Some n) is last = is.some n last
 
-pub child-long : (t : Tree) (directory : ℕ) (name : List ℕ) → IsWellFormed t → 255 < length name → None ≡ option_map (λ n. n.number) (child_of t directory name)
+pub child-long : (t : Tree) (directory : ℕ) (name : List ℕ) → IsWellFormed t → MOST_NAME_BYTES < length name → None ≡ option_map (λ n. n.number) (child_of t directory name)
 child-long t directory name formed long = go (child_of t directory name) refl
   where
     go : (o : Option Node) → child_of t directory name ≡ o → None ≡ option_map (λ (n : Node). n.number) o

@@ -1,6 +1,7 @@
 -- What became of the nodes that a transaction made, moved or dropped. No public clause cites this module.
 use Rattle.std.specs.Prelude.{◌≡◌, ℕ, ◌+◌, ◌<◌, ◌≤◌, ◌^◌, ⊤, ◌==◌, ◌&&◌, not, Bool, false, List, [], ◌∷◌, length, drop, Option, Some, None, if◌then◌else◌}
 use Rattle.std.specs.List.{list_any, slice_get}
+use Rattle.ktm_base.specs.declared.limits.TheConstants.{MOST_NAME_BYTES}
 use Rattle.ktm_types.specs.declared.change.Change.{Change}
 use Rattle.ktm_types.specs.declared.change.Change.TheVariants.{Make, Put, Cut, Move, Drop}
 use Rattle.ktm_types.specs.declared.change.NodeKind.{NodeKind}
@@ -53,10 +54,10 @@ given_name (Drop node) = None
 
 -- the name that it gives the node has at most 255 bytes
 abbrev pub IsShort : Change → Type 0
-IsShort (Make node parent kind name) = length name ≤ 255
+IsShort (Make node parent kind name) = length name ≤ MOST_NAME_BYTES
 IsShort (Put node offset contents) = ⊤
 IsShort (Cut node size pages) = ⊤
-IsShort (Move node parent name) = length name ≤ 255
+IsShort (Move node parent name) = length name ≤ MOST_NAME_BYTES
 IsShort (Drop node) = ⊤
 
 -- the kind of the node, if the change makes it

@@ -2,6 +2,7 @@
 ghost use Rattle.std.specs.Prelude.{◌≡◌, ℕ, List, ◌≤◌, true, length, Some, IfOk, IfNone, IfSome};
 ghost use Rattle.std.specs.List.{list_all};
 ghost use Rattle.std.specs.Option.{option_map};
+ghost use Rattle.ktm_base.specs.declared.limits.TheConstants.{MOST_NAME_BYTES};
 ghost use Rattle.ktm_links.specs.Mapped.{Begins};
 ghost use Rattle.ktm_world.specs.Tree.{has_entries, node_at};
 ghost use Rattle.txf_tree.specs.Children.{entry_seen, entries_in, shown};
@@ -26,7 +27,7 @@ pub(crate) struct SeatRef<'a> {
 
 // Does the entry of the directory, if there is one, stand before the place.
 fn is_before(directory: u64, entry: Option<Entry<'_>>, place: &[u8]) -> bool
-    requires { IfSome entry (λ entry. length entry.name.now ≤ 255) }
+    requires { IfSome entry (λ entry. length entry.name.now ≤ MOST_NAME_BYTES) }
     ensures { result ≡ is_before directory entry.entry place.now }
 {
     match entry {
@@ -90,7 +91,7 @@ impl Overlay {
         requires stands { StandsOver (tree_of tree.now) self.now }
         requires from { Begins (number_bytes directory) from.now }
         ensures entries { entries_from directory from.now (entries_in (seen (tree_of tree.now) self.now) directory) ≡ entries_behind directory (entries_in (seen (tree_of tree.now) self.now) directory) result }
-        ensures few { IfSome result (λ entry. length entry.name.now ≤ 255) }
+        ensures few { IfSome result (λ entry. length entry.name.now ≤ MOST_NAME_BYTES) }
     {
         let mut kept = tree.next_entry(directory, from);
         let mut next = self.next_seat(directory, from);

@@ -16,12 +16,10 @@ ghost use Rattle.txf_overlay.specs.Sight.{sight_of};
 use crate::maps::get;
 use crate::node::{given_parent, seen};
 use crate::overlay::Overlay;
+use ktm_base::MOST_NAME_BYTES;
 use ktm_links::Name;
 use ktm_types::NodeKind;
 use txf_tree::{Tree, child_name};
-
-/// The longest name of a node, in bytes.
-const LONGEST_NAME: usize = 255;
 
 /// The number of the root.
 const ROOT: u64 = 1;
@@ -58,7 +56,7 @@ impl Overlay {
 
     // Which node stands now at a place, if the place is held.
     pub(crate) fn seat(&self, directory: u64, name: &[u8]) -> Option<Option<u64>>
-        requires { length name.now ≤ 255 }
+        requires { length name.now ≤ MOST_NAME_BYTES }
         ensures seat { result ≡ seat_at self.now.held (place_bytes (place directory name.now)) }
         ensures only { list_all is_of_names self.now.names ≡ true }
     {
@@ -109,7 +107,7 @@ impl Overlay {
         requires { StandsOver (tree_of tree.now) self.now }
         ensures { result ≡ option_map (λ node. node.number) (child_of (seen (tree_of tree.now) self.now) directory name.now) }
     {
-        if name.len() > LONGEST_NAME {
+        if name.len() > MOST_NAME_BYTES {
             return None;
         }
         match self.seat(directory, name) {

@@ -10,7 +10,7 @@ ghost use Rattle.txf_tree.specs.Places.{number_bytes};
 ghost use Rattle.txf_overlay.specs.Written.{bytes_at, bytes_or, file_of, first_from, with_file, with_made, without_file};
 
 use crate::maps::{get, set};
-use ktm_base::{Bytes, NoMemory};
+use ktm_base::{Bytes, NoMemory, UNIT_BYTES};
 use ktm_links::Chains;
 use ktm_types::NodeKind;
 use std::alloc::Global;
@@ -99,7 +99,7 @@ impl WrittenFile {
     pub(crate) fn units(&self) -> u64
         ensures { result ≡ units_of self.now.bytes }
     {
-        (self.bytes.len() as u64).div_ceil(4096)
+        (self.bytes.len() as u64).div_ceil(UNIT_BYTES)
     }
 
     // Puts bytes over what is there, from the offset on.

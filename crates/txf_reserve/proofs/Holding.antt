@@ -8,7 +8,7 @@ use Rattle.std.proofs.lemmas.Slice.Eq.{bytes_eq-Decides}
 use Rattle.ktm_base.specs.declared.id.Id.{Id}
 use Rattle.ktm_world.specs.Holds.{Place, directories_of, is_in, is_place_in, same_place}
 use Rattle.ktm_world.specs.Transactions.{same_id, is_of}
-use Rattle.txf_opens.specs.Names.{node_bytes}
+use Rattle.ktm_links.specs.Numbers.{long_bytes}
 use Rattle.txf_opens.proofs.Bytes.{node_leaves, node_tells}
 use Rattle.txf_opens.proofs.Sharing.{turned_group}
 use Rattle.txf_reserve.specs.HeldPairs.{has_pair, is_of_other, is_pair, Pair}
@@ -32,10 +32,10 @@ and_turned false true = refl
 and_turned false false = refl
 
 -- ---- keys
-node_of-bytes : (n : ℕ) (rest : List ℕ) → node_of_key (node_bytes n rest) ≡ n
+node_of-bytes : (n : ℕ) (rest : List ℕ) → node_of_key (long_bytes n rest) ≡ n
 node_of-bytes n rest = rw (number_from-bytes (n / 4294967296), number_from-bytes (n % 4294967296)) (omega arith)
 
-place_of-bytes : (n : ℕ) (name : List ℕ) → place_of_key (node_bytes n name) ≡ record { directory = n; name = name }
+place_of-bytes : (n : ℕ) (name : List ℕ) → place_of_key (long_bytes n name) ≡ record { directory = n; name = name }
 place_of-bytes n name =
     let P : ℕ → Place = λ d. record { directory = d; name = name } in
     rw (number_from-bytes (n / 4294967296), number_from-bytes (n % 4294967296)) (let whole : 4294967296 * (n / 4294967296) + n % 4294967296 ≡ n = omega arith in ap P whole)
@@ -59,9 +59,9 @@ place_same key p named =
     let directory = eqb-true p.directory named.place.directory parts.0 in
     let name = (bytes_eq-Decides p.name named.place.name).0 parts.1 in
     (bytes_eq-Decides key (place_key p)).1
-    (named.is ∙ ap (λ d. node_bytes d named.place.name) (sym directory) ∙ ap (node_bytes p.directory) (sym name)))
+    (named.is ∙ ap (λ d. long_bytes d named.place.name) (sym directory) ∙ ap (long_bytes p.directory) (sym name)))
     (λ same.
-    let is : node_bytes p.directory p.name ≡ node_bytes named.place.directory named.place.name = sym ((bytes_eq-Decides key (place_key p)).0 same) ∙ named.is in
+    let is : long_bytes p.directory p.name ≡ long_bytes named.place.directory named.place.name = sym ((bytes_eq-Decides key (place_key p)).0 same) ∙ named.is in
     and_from (eqb p.directory named.place.directory) (bytes_eq p.name named.place.name)
     (eq-eqb p.directory named.place.directory (node_tells p.directory named.place.directory p.name named.place.name is))
     ((bytes_eq-Decides p.name named.place.name).1 (node_leaves p.directory named.place.directory p.name named.place.name is)))

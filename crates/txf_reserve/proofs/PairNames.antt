@@ -1,15 +1,12 @@
 -- Lemmas on the names of pairs.
-use Rattle.std.proofs.Common.{◌≡◌, ℕ, ◌/◌, ◌%◌, ◌<◌, true, false, eqb, List, [], ◌∷◌, ◌++◌, length, Option, Some, refl, sym, ap, ◌∙◌, arith, append_assoc}
-use Rattle.std.specs.Ordering.{nat_cmp}
-use Rattle.std.specs.declared.cmp.Ordering.{Ordering}
-use Rattle.std.specs.declared.cmp.Ordering.TheVariants.{Less, Equal, Greater}
+use Rattle.std.proofs.Common.{◌≡◌, ℕ, ◌/◌, ◌%◌, true, false, eqb, List, [], ◌∷◌, ◌++◌, length, Option, Some, refl, sym, ap, ◌∙◌, arith, append_assoc}
 use Rattle.std.proofs.lemmas.Bool.{and_from, eq-eqb}
-use Rattle.std.proofs.lemmas.Cmp.{nat_cmp_total, ranked, tied_itself}
+use Rattle.std.proofs.lemmas.Cmp.{nat_cmp_total, tied_itself}
 use Rattle.std.proofs.lemmas.Option.{same_Some}
 use Rattle.ktm_base.specs.declared.id.Id.{Id}
 use Rattle.ktm_world.specs.Transactions.{is_of, same_id}
 use Rattle.ktm_links.specs.Mapped.{Begins, IsNotBelow}
-use Rattle.txf_opens.specs.Names.{number_bytes}
+use Rattle.ktm_links.specs.Numbers.{number_bytes}
 use Rattle.txf_opens.proofs.Bytes.{is_of-group, number_leaves, number_tells, same_group-true}
 use Rattle.txf_reserve.specs.HeldPairs.{id_bytes, key_bytes, key_name, number_from, owner_name}
 
@@ -81,26 +78,6 @@ pub number_from-bytes : (n : ℕ) → number_from (n / 16777216) (n / 65536 % 25
 number_from-bytes n = omega arith
 
 -- ---- the order of names
--- where a name is above another, it is not below the one right after that
-pub above_next : (q n : List ℕ) → IsNotBelow q n → (q ≡ n → ⊥) → IsNotBelow q (n ++ 0 ∷ [])
-above_next [] [] not_below differs = absurd (differs refl)
-above_next (c ∷ cs) [] not_below differs = first_above c cs (nat_cmp c 0) refl
-  where
-    first_above : (c : ℕ) (cs : List ℕ) (o : Ordering) → o ≡ nat_cmp c 0 → IsNotBelow (c ∷ cs) (0 ∷ [])
-    first_above c cs Less is = let no : c < 0 = ranked c 0 Less is in absurd (omega arith)
-    first_above c [] Equal is = rw (← is) refl
-    first_above c (d ∷ ds) Equal is = rw (← is) refl
-    first_above c cs Greater is = rw (← is) refl
-above_next [] (a ∷ ms) not_below differs = absurd (cc)
-above_next (b ∷ bs) (a ∷ ms) not_below differs = by_first b a bs ms (nat_cmp b a) refl (above_next bs ms) not_below differs
-  where
-    by_first : (b a : ℕ) (bs ms : List ℕ) (o : Ordering) → o ≡ nat_cmp b a → (IsNotBelow bs ms → (bs ≡ ms → ⊥) → IsNotBelow bs (ms ++ 0 ∷ []))
-        → IsNotBelow (b ∷ bs) (a ∷ ms) → (b ∷ bs ≡ a ∷ ms → ⊥) → IsNotBelow (b ∷ bs) (a ∷ (ms ++ 0 ∷ []))
-    by_first b a bs ms Less is rest not_below differs = absurd (let no = rw (← is) at not_below in cc)
-    by_first b a bs ms Equal is rest not_below differs =
-        let same : b ≡ a = ranked b a Equal is in
-        rw (← is) (rest (rw (← is) at not_below) (λ tails. differs (ap (λ x. x ∷ bs) same ∙ ap (λ l. a ∷ l) tails)))
-    by_first b a bs ms Greater is rest not_below differs = rw (← is) refl
 
 -- and a name is below the one right after it
 pub not_behind : (n : List ℕ) → IsNotBelow n (n ++ 0 ∷ []) → ⊥

@@ -1,5 +1,6 @@
 -- What a change holds, and what a call does, as the model has it.
 use Rattle.std.specs.Prelude.{ℕ, ◌≤◌, ◌||◌, Bool, false, List, [], ◌∷◌, ◌++◌, length, Option, Some, None, All}
+use Rattle.ktm_base.specs.declared.limits.TheConstants.{MOST_NAME_BYTES}
 use Rattle.ktm_base.specs.declared.id.Id.{Id}
 use Rattle.ktm_world.specs.Conflicts.{is_open_in, violates_sharing, writes}
 use Rattle.ktm_world.specs.Files.{OpenFile}
@@ -25,7 +26,7 @@ listed_place (Some p) = place_in p ∷ []
 
 -- each name has at most 255 bytes
 abbrev pub HaveShortNames : List Place → Type 0
-HaveShortNames = All (λ p. length p.name ≤ 255)
+HaveShortNames = All (λ p. length p.name ≤ MOST_NAME_BYTES)
 
 -- the names that a change holds
 abbrev pub places_held : Held → List Place

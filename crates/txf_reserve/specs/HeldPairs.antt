@@ -5,7 +5,7 @@ use Rattle.ktm_base.specs.declared.id.Id.{Id}
 use Rattle.ktm_world.specs.Transactions.{same_id, is_of}
 use Rattle.ktm_links.specs.declared.list.Key.{Key}
 use Rattle.ktm_links.specs.Mapped.{NamedItem, at, Begins, IsNotBelow}
-use Rattle.txf_opens.specs.Names.{number_bytes}
+use Rattle.ktm_links.specs.Numbers.{number_bytes}
 
 -- a transaction holds a key
 pub record Pair : Type 0 where

@@ -2,17 +2,17 @@
 use Rattle.std.specs.Prelude.{◌≡◌, ℕ, ◌+◌, ◌*◌, true, List, [], ◌∷◌}
 use Rattle.ktm_base.specs.declared.id.Id.{Id}
 use Rattle.ktm_world.specs.Holds.{Place}
-use Rattle.txf_opens.specs.Names.{node_bytes}
+use Rattle.ktm_links.specs.Numbers.{long_bytes}
 use Rattle.txf_reserve.specs.HeldPairs.{has_pair, number_from, Pair}
 use Rattle.txf_reserve.specs.ReserveState.{NumberHeld, PlaceHeld}
 
 -- the key of a file or a directory
 abbrev pub node_key : ℕ → List ℕ
-node_key n = node_bytes n []
+node_key n = long_bytes n []
 
 -- the key of a name in a directory
 abbrev pub place_key : Place → List ℕ
-place_key p = node_bytes p.directory p.name
+place_key p = long_bytes p.directory p.name
 
 -- the number whose key this is
 abbrev pub node_of_key : List ℕ → ℕ

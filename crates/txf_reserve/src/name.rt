@@ -1,13 +1,13 @@
 // Names of what transactions hold, by which it is sorted.
 ghost use Rattle.std.specs.Prelude.{◌≡◌, ℕ, ◌+◌, ◌<◌, ◌≤◌, ◌∷◌, ◌++◌, [], length, take};
+ghost use Rattle.ktm_base.specs.declared.limits.TheConstants.{MOST_NAME_BYTES};
 ghost use Rattle.txf_reserve.specs.Acts.{place_in};
 ghost use Rattle.txf_reserve.specs.HeldPairs.{id_bytes, key_bytes, key_name, owner_name};
 ghost use Rattle.txf_reserve.specs.ReserveKeys.{place_key};
 
 use crate::act::Place;
 use ktm_base::Id;
-use ktm_links::{InlineName, Name};
-use txf_opens::{node_bytes, number_bytes};
+use ktm_links::{InlineName, Name, long_bytes, number_bytes};
 
 // The most bytes of a name: those of a key, of how long it is, and of a transaction, and one more.
 const MOST: usize = 274;
@@ -116,11 +116,11 @@ pub(crate) fn owner_name<K: PairName>(id: Id, key: &[u8]) -> K
 
 /// The key of a name in a directory.
 pub(crate) fn place_key(place: Place) -> InlineName<263>
-    requires { length place.name.now ≤ 255 }
+    requires { length place.name.now ≤ MOST_NAME_BYTES }
     ensures { result ≡ place_key (place_in place.entry) }
 {
     let mut room = [0; 263];
-    put(&mut room, 0, &node_bytes(place.directory));
+    put(&mut room, 0, &long_bytes(place.directory));
     put(&mut room, 8, place.name);
     InlineName::new(&room[..8 + place.name.len()])
 }

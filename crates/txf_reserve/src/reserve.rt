@@ -1,6 +1,7 @@
 // What undecided transactions hold.
 ghost use Rattle.std.specs.Prelude.{◌≡◌, ℕ, List, [], ◌+◌, ◌<◌, ◌≤◌, ◌&&◌, ◌||◌, not, length, IsOk, OnOk};
 ghost use Rattle.std.specs.List.{list_any};
+ghost use Rattle.ktm_base.specs.declared.limits.TheConstants.{MOST_NAME_BYTES};
 ghost use Rattle.ktm_base.specs.declared.id.Id.{Id};
 ghost use Rattle.ktm_world.specs.Holds.{Place as HeldPlace, directories_of, is_in, is_place_in};
 ghost use Rattle.ktm_world.specs.Transactions.{is_of, same_id};
@@ -14,10 +15,9 @@ use crate::act::{Held, Place, directory_of};
 use crate::name::{EmptyName, NodeName, PlaceName, place_key};
 use crate::pairs::Pairs;
 use ktm_base::{Id, NoMemory};
-use ktm_links::Name;
+use ktm_links::{Name, long_bytes};
 use std::alloc::Global;
 use std::marker::Model;
-use txf_opens::node_bytes;
 
 /// What each undecided transaction holds by its changes.
 #[derive(Drop)]
@@ -59,7 +59,7 @@ fn hold_number(pairs: &mut Pairs<NodeName>, transaction: Id, number: Option<u64>
     ensures spare { pairs.old.spare ≤ pairs.new.spare + 1 }
 {
     if let Some(number) = number {
-        pairs.insert(&node_bytes(number), transaction);
+        pairs.insert(&long_bytes(number), transaction);
     }
 }
 
@@ -186,26 +186,26 @@ impl Reserve {
     pub(crate) fn is_node_held(&self, who: Option<Id>, node: u64) -> bool
         ensures { result ≡ is_number_held who self.now.nodes node }
     {
-        self.nodes.is_held_by_other(&node_bytes(node), who)
+        self.nodes.is_held_by_other(&long_bytes(node), who)
     }
 
     /// Does another transaction hold the use of the directory.
     pub(crate) fn is_used(&self, who: Option<Id>, directory: u64) -> bool
         ensures { result ≡ is_number_held who self.now.uses directory }
     {
-        self.uses.is_held_by_other(&node_bytes(directory), who)
+        self.uses.is_held_by_other(&long_bytes(directory), who)
     }
 
     /// Has another transaction dropped the directory.
     pub(crate) fn is_dropped(&self, who: Option<Id>, directory: u64) -> bool
         ensures { result ≡ is_number_held who self.now.dropped directory }
     {
-        self.dropped.is_held_by_other(&node_bytes(directory), who)
+        self.dropped.is_held_by_other(&long_bytes(directory), who)
     }
 
     /// Does another transaction hold the name.
     pub(crate) fn is_place_held(&self, who: Option<Id>, place: Place) -> bool
-        requires { length place.name.now ≤ 255 }
+        requires { length place.name.now ≤ MOST_NAME_BYTES }
         ensures { result ≡ is_place_held who self.now.places (place_in place.entry) }
     {
         self.places

@@ -3,6 +3,7 @@ use Rattle.std.proofs.Common.{◌≡◌, ℕ, ◌≤◌, ◌&&◌, not, true, fa
 use Rattle.std.specs.List.{list_all}
 use Rattle.std.specs.Option.{option_map}
 use Rattle.std.proofs.lemmas.Bool.{and_parts, cases_Bool, leb-true, not-true}
+use Rattle.ktm_base.specs.declared.limits.TheConstants.{MOST_NAME_BYTES}
 use Rattle.ktm_base.specs.Names.{is_name_byte, last_byte}
 use Rattle.ktm_types.specs.declared.change.Change.TheVariants.{Make, Move}
 use Rattle.ktm_types.specs.declared.change.NodeKind.{NodeKind}
@@ -18,13 +19,13 @@ use Rattle.txf_tree.specs.TreeState.{NodeNow, now_at, plain, tree_in}
 use Rattle.txf_tree.proofs.Naming.{node_at-now}
 
 -- a name has at most 255 characters
-few_characters : (name : List ℕ) → is_name name ≡ true → length name ≤ 255
+few_characters : (name : List ℕ) → is_name name ≡ true → length name ≤ MOST_NAME_BYTES
 unfolding is_name
 few_characters name is =
-    let no_dot = and_parts ((((nat_le 1 (length name) && nat_le (length name) 255) && list_all is_name_byte name) && not (eqb (last_byte name) 0x20))) (not (eqb (last_byte name) 0x2E)) is in
-    let no_space = and_parts (((nat_le 1 (length name) && nat_le (length name) 255) && list_all is_name_byte name)) (not (eqb (last_byte name) 0x20)) no_dot.0 in
-    let all = and_parts (nat_le 1 (length name) && nat_le (length name) 255) (list_all is_name_byte name) no_space.0 in
-    leb-true (length name) 255 (and_parts (nat_le 1 (length name)) (nat_le (length name) 255) all.0).1
+    let no_dot = and_parts ((((nat_le 1 (length name) && nat_le (length name) MOST_NAME_BYTES) && list_all is_name_byte name) && not (eqb (last_byte name) 0x20))) (not (eqb (last_byte name) 0x2E)) is in
+    let no_space = and_parts (((nat_le 1 (length name) && nat_le (length name) MOST_NAME_BYTES) && list_all is_name_byte name)) (not (eqb (last_byte name) 0x20)) no_dot.0 in
+    let all = and_parts (nat_le 1 (length name) && nat_le (length name) MOST_NAME_BYTES) (list_all is_name_byte name) no_space.0 in
+    leb-true (length name) MOST_NAME_BYTES (and_parts (nat_le 1 (length name)) (nat_le (length name) MOST_NAME_BYTES) all.0).1
 
 none_from : {A : Type 0} (o : Option A) → is_none o ≡ true → o ≡ None
 none_from None none = refl
@@ -43,7 +44,7 @@ no_node tree n free = by_cases (node_at tree n) refl
 -- what is so where a node can be made
 pub record CanMake (nodes : List NodeNow) (n parent : ℕ) (name : List ℕ) : Type 0 where
   pub number : node_at (tree_in nodes) n ≡ None
-  pub few : length name ≤ 255
+  pub few : length name ≤ MOST_NAME_BYTES
   pub free : child_of (tree_in nodes) parent name ≡ None
 
 pub now_none : (nodes : List NodeNow) (n : ℕ) → node_at (tree_in nodes) n ≡ None → now_at nodes n ≡ None
@@ -69,7 +70,7 @@ can_make nodes n parent kind name is =
 -- what is so where a node can move
 pub record CanMove (nodes : List NodeNow) (n parent : ℕ) (name : List ℕ) : Type 0 where
   pub there : is_some (now_at nodes n) ≡ true
-  pub few : length name ≤ 255
+  pub few : length name ≤ MOST_NAME_BYTES
   pub free : child_of (tree_in nodes) parent name ≡ None
 
 there_now : (nodes : List NodeNow) (n : ℕ) → not (eqb n root) ≡ true → is_there (tree_in nodes) n ≡ true → is_some (now_at nodes n) ≡ true

@@ -14,7 +14,8 @@ use Rattle.txf_tree.specs.Indexes.{AreAbove, AreNamed, AreRising, IsFirstUnder, 
 use Rattle.txf_tree.specs.Places.{after_child, child_name, entries_from, number_bytes}
 use Rattle.txf_tree.specs.TreeState.{NodeNow, now_at, tree_in}
 use Rattle.txf_tree.proofs.Digits.{number_begins}
-use Rattle.txf_tree.proofs.Ordered.{AreAscending, IsBefore, IsBefore-lower, IsIn, entries_from-first, entries_from-none, greater_from, in-map, less_from, not_below_upto, of-map}
+use Rattle.ktm_links.proofs.Comparing.{less_from, not_below_upto}
+use Rattle.txf_tree.proofs.Ordered.{AreAscending, IsBefore, IsBefore-lower, IsIn, entries_from-first, entries_from-none, greater_from, in-map, of-map}
 
 -- ---- which nodes are in the order
 with_entry-in : (ns : List Node) (node other : Node) → (node ≡ other) ⊎ IsIn other ns → IsIn other (with_entry ns node)

@@ -6,6 +6,7 @@ use Rattle.std.proofs.lemmas.Bool.{cases_Bool, and_parts, and_from, or_right, eq
 use Rattle.std.proofs.lemmas.List.{length-map}
 use Rattle.std.proofs.lemmas.Map.Text.{is_eq-slice_cmp}
 use Rattle.std.proofs.lemmas.Option.{same_Some}
+use Rattle.ktm_base.specs.declared.limits.TheConstants.{MOST_NAME_BYTES}
 use Rattle.ktm_base.specs.Names.{folded, folded_byte}
 use Rattle.ktm_types.specs.declared.recorded.Node.{Node}
 use Rattle.ktm_links.specs.declared.list.Key.{Key}
@@ -113,7 +114,7 @@ child_number nodes names directory name tree = by_cases (under names (child_name
         rw (child_found names nodes directory name n at.0 tree.named is at.1 at.2) (ap Some (sym (numbered_now nodes n at.0 at.1)))
 
 -- a longer name has no node
-pub child_long : (nodes : List NodeNow) (names : List (NamedItem ℕ)) (directory : ℕ) (name : List ℕ) → AreNamed names nodes → 255 < length name
+pub child_long : (nodes : List NodeNow) (names : List (NamedItem ℕ)) (directory : ℕ) (name : List ℕ) → AreNamed names nodes → MOST_NAME_BYTES < length name
     → None ≡ option_map (λ (node : Node). node.number) (child_of (tree_in nodes) directory name)
 unfolding is_child
 child_long [] names directory name all long = refl

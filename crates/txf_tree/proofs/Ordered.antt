@@ -1,38 +1,23 @@
 -- Lemmas on entries in the order of their folded names, and on those from a place on.
-use Rattle.std.proofs.Common.{◌≡◌, ◌⊎◌, ℕ, ◌<◌, true, false, List, [], ◌∷◌, ◌++◌, map, refl, sym, ap, ◌∙◌, inl, inr, arith}
-use Rattle.std.specs.Ordering.{is_gt, is_lt, nat_cmp, ordering_reverse}
+use Rattle.std.proofs.Common.{◌≡◌, ◌⊎◌, ℕ, ◌<◌, false, List, [], ◌∷◌, ◌++◌, map, refl, sym, ap, ◌∙◌, inl, inr, arith}
+use Rattle.std.specs.Ordering.{is_lt, nat_cmp, ordering_reverse}
 use Rattle.std.specs.declared.cmp.Ordering.{Ordering}
 use Rattle.std.specs.declared.cmp.Ordering.TheVariants.{Less, Equal, Greater}
 use Rattle.std.proofs.lemmas.Bool.{cases_Bool}
-use Rattle.std.proofs.lemmas.Cmp.{nat_cmp_total, nat_list_cmp_total, ranked, tied_back, tied_itself, upto}
+use Rattle.std.proofs.lemmas.Cmp.{nat_cmp_total, nat_list_cmp_total, ranked, tied_back, tied_itself}
 use Rattle.ktm_base.specs.Names.{folded}
 use Rattle.ktm_links.specs.Mapped.{name_cmp, IsNotBelow}
 use Rattle.ktm_links.proofs.Names.{begins_not_below, name_equal, turned}
 use Rattle.txf_tree.specs.Children.{Shown}
 use Rattle.txf_tree.specs.Places.{after_child, child_name, entries_from, number_bytes}
 use Rattle.txf_tree.proofs.Digits.{number_bytes-alike}
+use Rattle.ktm_links.proofs.Comparing.{not_below_upto}
 
 -- ---- the order of names
-turned_is : (o : Ordering) → is_lt (ordering_reverse o) ≡ is_gt o
-turned_is Less = refl
-turned_is Equal = refl
-turned_is Greater = refl
-
-not_above : (a b : List ℕ) → IsNotBelow a b → is_gt (name_cmp b a) ≡ false
-not_above a b not_below = sym (ap is_lt (nat_list_cmp_total.antisymm a b) ∙ turned_is (name_cmp b a)) ∙ not_below
-
-pub not_below_upto : (a b c : List ℕ) → IsNotBelow a b → IsNotBelow b c → IsNotBelow a c
-not_below_upto a b c high low =
-    ap is_lt (nat_list_cmp_total.antisymm a c) ∙ turned_is (name_cmp c a) ∙ upto nat_list_cmp_total c b a (not_above b c low) (not_above a b high)
 
 -- a name above another is not below it
 pub not_below : (a b : List ℕ) → name_cmp a b ≡ Less → IsNotBelow b a
 not_below a b less = let greater : name_cmp b a ≡ Greater = nat_list_cmp_total.antisymm b a ∙ ap ordering_reverse less in rw greater refl
-
-pub less_from : (o : Ordering) → is_lt o ≡ true → o ≡ Less
-less_from Less less = refl
-less_from Equal less = absurd (cc)
-less_from Greater less = absurd (cc)
 
 -- a name is below the one right after it
 pub below_next : (name : List ℕ) → name_cmp name (name ++ 0 ∷ []) ≡ Less

@@ -3,6 +3,7 @@ use Rattle.std.proofs.Common.{◌≡◌, ◌⊎◌, ℕ, ◌≤◌, true, eqb, n
 use Rattle.std.specs.Ordering.{is_eq}
 use Rattle.std.proofs.lemmas.Bool.{cases_Bool, cases_eq, eqb-false}
 use Rattle.std.proofs.lemmas.Option.{same_Some}
+use Rattle.ktm_base.specs.declared.limits.TheConstants.{MOST_NAME_BYTES}
 use Rattle.ktm_links.specs.Mapped.{NamedItem, name_cmp}
 use Rattle.ktm_links.proofs.Names.{from_is_eq, name_equal, name_same}
 use Rattle.txf_tree.specs.Indexes.{AreNamed, IsNamedAt, IsTree, name_of, replaced, under, with_now, without_now}
@@ -74,7 +75,7 @@ AreNamed-renamed names new (y ∷ ys) n was x all at old free others =
 
 -- a node stands under its new name, and no more under the one that it had
 pub IsTree-renamed : (nodes : List NodeNow) (names new : List (NamedItem ℕ)) (n : ℕ) (s x : NodeNow) → IsTree nodes names → now_at nodes n ≡ Some s
-    → x.node.number ≡ n → length x.node.name ≤ 255 → under names (name_of x.node) ≡ None → under new (name_of x.node) ≡ Some n → under new (name_of s.node) ≡ None
+    → x.node.number ≡ n → length x.node.name ≤ MOST_NAME_BYTES → under names (name_of x.node) ≡ None → under new (name_of x.node) ≡ Some n → under new (name_of s.node) ≡ None
     → ((q : List ℕ) → (q ≡ name_of s.node → ⊥) → (q ≡ name_of x.node → ⊥) → under new q ≡ under names q) → IsTree (replaced nodes n x) new
 IsTree-renamed nodes names new n s x tree found number few free here gone others =
     let at = named_now names nodes n s tree.named found in
@@ -121,7 +122,7 @@ AreNamed-with names (y ∷ ys) x all at =
 
 -- a node stands under its name, where no other did
 pub IsTree-with : (nodes : List NodeNow) (names new : List (NamedItem ℕ)) (x : NodeNow) → IsTree nodes names → now_at nodes x.node.number ≡ None
-    → length x.node.name ≤ 255 → under names (name_of x.node) ≡ None → under new (name_of x.node) ≡ Some x.node.number
+    → length x.node.name ≤ MOST_NAME_BYTES → under names (name_of x.node) ≡ None → under new (name_of x.node) ≡ Some x.node.number
     → ((q : List ℕ) → (q ≡ name_of x.node → ⊥) → under new q ≡ under names q) → IsTree (with_now nodes x) new
 IsTree-with nodes names new x tree free_number few free here others =
     record {

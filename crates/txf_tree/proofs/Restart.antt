@@ -3,6 +3,7 @@ use Rattle.std.proofs.Common.{◌≡◌, ℕ, ◌<◌, ◌≤◌, ◌&&◌, true
 use Rattle.std.proofs.lemmas.Bool.{and_from, and_parts, cases_Bool, le-ltb, lt-ltb, ltb-true, ne_eqb}
 use Rattle.std.proofs.lemmas.List.{get_or_at}
 use Rattle.std.proofs.lemmas.Option.{same_Some}
+use Rattle.ktm_base.specs.declared.limits.TheConstants.{MOST_NAME_BYTES}
 use Rattle.ktm_base.specs.Names.{IsName}
 use Rattle.ktm_types.specs.declared.recorded.Node.{Node}
 use Rattle.ktm_world.specs.Tree.{Tree, child_of, node_at, numbers_rise, same_name, with_node}
@@ -54,7 +55,7 @@ with_node-last (d ∷ ds) node below =
 
 -- a node that comes behind those with lower numbers
 pub record IsNext (done : Tree) (node : Node) : Type 0 where
-  pub few : length node.name ≤ 255
+  pub few : length node.name ≤ MOST_NAME_BYTES
   pub number : node_at done node.number ≡ None
   pub name : child_of done node.parent node.name ≡ None
   pub last : with_node done node ≡ done ++ node ∷ []

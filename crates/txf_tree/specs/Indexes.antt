@@ -1,6 +1,7 @@
 -- How nodes are found by their numbers and by their names. No public clause cites this module.
 use Rattle.std.specs.Prelude.{◌≡◌, ℕ, ◌+◌, ◌<◌, ◌≤◌, not, true, List, [], ◌∷◌, length, map, filter, Option, Some, None, is_some, if◌then◌else◌, nat_lt}
 use Rattle.std.specs.Option.{option_map}
+use Rattle.ktm_base.specs.declared.limits.TheConstants.{MOST_NAME_BYTES}
 use Rattle.ktm_types.specs.declared.change.Change.{Change}
 use Rattle.ktm_types.specs.declared.recorded.Node.{Node}
 use Rattle.ktm_links.specs.declared.list.Key.{Key}
@@ -71,7 +72,7 @@ replaced nodes number node = map (λ n. if is_numbered number n then node else n
 
 -- the number of the node stands under its name, which has at most 255 bytes
 pub record IsNamedAt (names : List (NamedItem ℕ)) (n : NodeNow) : Type 0 where
-  pub few : length n.node.name ≤ 255
+  pub few : length n.node.name ≤ MOST_NAME_BYTES
   pub under : under names (name_of n.node) ≡ Some n.node.number
 
 -- the same of each node

@@ -1,5 +1,6 @@
 // The names under which nodes stand.
 ghost use Rattle.std.specs.Prelude.{◌≡◌, ◌+◌, ◌≤◌, ◌++◌, ◌∷◌, [], length, drop};
+ghost use Rattle.ktm_base.specs.declared.limits.TheConstants.{MOST_NAME_BYTES};
 ghost use Rattle.ktm_base.specs.Bytes.{written};
 ghost use Rattle.ktm_base.specs.Names.{folded};
 ghost use Rattle.txf_tree.specs.Places.{after_child, child_name, number_bytes};
@@ -41,7 +42,7 @@ fn write_child(room: &mut [u8], directory: u64, name: &[u8])
 
 /// The place of a child of the directory.
 pub fn child_name(directory: u64, name: &[u8]) -> ChildName
-    requires { length name.now ≤ 255 }
+    requires { length name.now ≤ MOST_NAME_BYTES }
     ensures { result ≡ child_name directory name.now }
 {
     let mut room = [0; 263];
@@ -51,7 +52,7 @@ pub fn child_name(directory: u64, name: &[u8]) -> ChildName
 
 /// The first place behind that of the child.
 pub fn after_child(directory: u64, name: &[u8]) -> InlineName<264>
-    requires { length name.now ≤ 255 }
+    requires { length name.now ≤ MOST_NAME_BYTES }
     ensures { result ≡ after_child directory name.now }
 {
     let mut room = [0; 264];

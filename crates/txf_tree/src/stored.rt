@@ -1,6 +1,7 @@
 // A node as it is kept.
 ghost use Rattle.std.specs.Prelude.{◌≡◌, ◌+◌, ◌-◌, ◌^◌, ◌<◌, ◌≤◌, true, is_some, length, OnOk, IsOk};
 ghost use Rattle.std.specs.Option.{option_map};
+ghost use Rattle.ktm_base.specs.declared.limits.TheConstants.{MOST_NAME_BYTES};
 ghost use Rattle.ktm_world.specs.Tree.{bytes_or_none, cut_to, put_over};
 ghost use Rattle.txf_tree.specs.Children.{entry_seen, node_seen, shown};
 ghost use Rattle.txf_tree.specs.Indexes.{with_content};
@@ -26,6 +27,7 @@ pub(crate) struct Stored {
 impl Model for Stored {
     ghost use Rattle.std.specs.Prelude.{◌≤◌, length, vec_capacity};
     ghost use Rattle.std.specs.Option.{option_map, unwrap_or};
+    ghost use Rattle.ktm_base.specs.declared.limits.TheConstants.{MOST_NAME_BYTES};
     ghost use Rattle.txf_tree.specs.TreeState.{NodeNow};
 
     ghost Value = { NodeNow };
@@ -36,7 +38,7 @@ impl Model for Stored {
       room = unwrap_or (option_map (λ bytes. vec_capacity bytes) s.content) 0;
     } };
 
-    ghost invariant = { λ s. length s.name ≤ 255 };
+    ghost invariant = { λ s. length s.name ≤ MOST_NAME_BYTES };
 }
 
 fn bytes_in(content: Option<Bytes>) -> Option<Vec<u8>>
@@ -51,7 +53,7 @@ fn bytes_in(content: Option<Bytes>) -> Option<Vec<u8>>
 impl Stored {
     /// A node whose bytes were never changed.
     pub(crate) fn new(node: Node) -> Stored
-        requires { length node.name ≤ 255 }
+        requires { length node.name ≤ MOST_NAME_BYTES }
         ensures node { result.node ≡ node }
         ensures version { result.version ≡ 0 }
     {
@@ -151,7 +153,7 @@ impl Stored {
     /// The node, as an entry of its directory.
     pub(crate) fn as_entry(&self) -> Entry<'_>
         ensures entry { entry_seen result ≡ shown self.now.node }
-        ensures few { length result.name.now ≤ 255 }
+        ensures few { length result.name.now ≤ MOST_NAME_BYTES }
     {
         Entry {
             name: self.name(),
@@ -244,7 +246,7 @@ impl Stored {
 
     /// Gives the node another directory and another name.
     pub(crate) fn rename(&mut self, parent: u64, name: Text)
-        requires { length name ≤ 255 }
+        requires { length name ≤ MOST_NAME_BYTES }
         ensures node { self.new.node ≡ record self.old.node { parent = parent; name = name } }
         ensures version { self.new.version ≡ self.old.version }
         ensures room { self.new.room ≡ self.old.room }

@@ -17,7 +17,7 @@ use crate::entry::{Entries, Entry, NodeRef};
 use crate::name::{ChildName, after_child, child_name, number_bytes};
 use crate::nodes::Nodes;
 use crate::stored::Stored;
-use ktm_base::{Bytes, NoMemory, Text};
+use ktm_base::{Bytes, MOST_NAME_BYTES, NoMemory, Text};
 use ktm_links::{Chains, Name};
 use ktm_types::{Change, Contents, Node, NodeKind};
 use std::alloc::Global;
@@ -25,9 +25,6 @@ use std::marker::Model;
 
 /// The number of the root.
 pub(crate) const ROOT: u64 = 1;
-
-/// The most characters of a name.
-const MOST_CHARACTERS: usize = 255;
 
 /// The committed files and directories.
 #[derive(Drop)]
@@ -191,7 +188,7 @@ impl Tree {
         ensures { result ≡ option_map (λ node. node.number) (child_of (tree_of self.now) directory name.now) }
     {
         let names = &self.names;
-        if name.len() > MOST_CHARACTERS {
+        if name.len() > MOST_NAME_BYTES {
             return None;
         }
         number_under(names, child_name(directory, name).as_slice())
@@ -242,7 +239,7 @@ impl Tree {
     pub fn next_entry(&self, directory: u64, from: &[u8]) -> Option<Entry<'_>>
         requires { Begins (number_bytes directory) from.now }
         ensures entries { entries_from directory from.now (entries_in (tree_of self.now) directory) ≡ entries_behind directory (entries_in (tree_of self.now) directory) result }
-        ensures few { IfSome result (λ entry. length entry.name.now ≤ 255) }
+        ensures few { IfSome result (λ entry. length entry.name.now ≤ MOST_NAME_BYTES) }
     {
         let Some(number) = first_under(&self.names, from) else {
             return None;
@@ -388,7 +385,7 @@ impl Tree {
     // Puts a node whose number and name are free, and whose bytes were never changed. It takes no memory.
     fn push(&mut self, node: Node)
         requires spare { 0 < self.old.spare }
-        requires few { length node.name ≤ 255 }
+        requires few { length node.name ≤ MOST_NAME_BYTES }
         requires number { node_at (tree_of self.old) node.number ≡ None }
         requires name { child_of (tree_of self.old) node.parent node.name ≡ None }
         ensures tree { tree_of self.new ≡ with_node (tree_of self.old) node }

@@ -2,27 +2,18 @@
 use Rattle.std.proofs.Common.{◌≡◌, ℕ, ◌⊎◌, Bool, true, false, List, [], ◌∷◌, ◌++◌, Option, Some, None, is_some, IfSome, IfNone, find, refl, sym, ap, ◌∙◌, inl, inr}
 use Rattle.std.specs.List.{list_any}
 use Rattle.std.specs.Option.{option_map}
-use Rattle.std.specs.Ordering.{is_eq}
-use Rattle.std.specs.declared.cmp.Ordering.TheVariants.{Equal}
 use Rattle.std.proofs.lemmas.Bool.{cases_Bool, or_right}
 use Rattle.std.proofs.lemmas.List.{map-append}
 use Rattle.std.proofs.lemmas.Option.{same_Some}
 use Rattle.ktm_links.specs.declared.list.Key.{Key}
 use Rattle.ktm_links.specs.Items.{Item, item, same_key, value_at, without}
-use Rattle.ktm_links.specs.Mapped.{NamedItem, name_cmp, at, key_at}
+use Rattle.ktm_links.specs.Mapped.{NamedItem, at, key_at, key_under}
 use Rattle.ktm_links.proofs.Keys.{same_key-true, same_key-self, split}
 use Rattle.ktm_links.proofs.Entries.{key_at-at}
-use Rattle.ktm_links.proofs.Names.{name_equal, name_same, from_is_eq}
 use Rattle.txf_versions.specs.declared.opened.Opened.{Opened}
 use Rattle.txf_versions.specs.Parts.{IsTaken}
-use Rattle.txf_versions.specs.Indexed.{key_under, value_in, values_of, AreNamed, IsIndex, IsFirstUnder, IsNoneUnder}
-
-cases_name : (a b : List ℕ) → (a ≡ b) ⊎ (a ≡ b → ⊥)
-cases_name a b =
-    elim (cases_Bool (is_eq (name_cmp a b))) [
-      | inl same ↦ inl (name_equal a b (from_is_eq (name_cmp a b) same))
-      | inr differs ↦ inr (λ same. absurd (let equal : name_cmp a b ≡ Equal = rw same (name_same b) in let is = rw equal at differs in cc))
-    ]
+use Rattle.txf_versions.specs.Indexed.{value_in, values_of, AreNamed, IsIndex, IsFirstUnder, IsNoneUnder}
+use Rattle.ktm_links.proofs.Comparing.{cases_name}
 
 option_cases : (o : Option Key) → (o ≡ None) ⊎ ((key : Key) × (o ≡ Some key))
 option_cases None = inl refl

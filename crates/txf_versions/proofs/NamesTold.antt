@@ -11,14 +11,14 @@ use Rattle.ktm_world.specs.Transactions.{same_id}
 use Rattle.ktm_links.specs.Mapped.{Begins, name_cmp}
 use Rattle.txf_versions.specs.declared.kept.Older.{Older}
 use Rattle.txf_versions.specs.declared.opened.Opened.{Opened}
-use Rattle.txf_versions.specs.Names.{holder_name, long_bytes, own_name, open_name, transaction_bytes, version_bytes, word_bytes}
+use Rattle.ktm_links.specs.Numbers.{number_bytes, long_bytes}
+use Rattle.txf_versions.specs.Names.{holder_name, own_name, open_name, transaction_bytes, version_bytes}
 use Rattle.txf_versions.specs.VersionsState.{comes_before, fixes, is_open_of, is_own, is_version}
+use Rattle.ktm_links.proofs.Numbers.{number_from}
 
 -- ---- numbers
-number_from : (a b : ℕ) → a / 16777216 ≡ b / 16777216 → a / 65536 % 256 ≡ b / 65536 % 256 → a / 256 % 256 ≡ b / 256 % 256 → a % 256 ≡ b % 256 → a ≡ b
-number_from a b fourth third second first = omega arith
 
-word_from : (n m : ℕ) (left right : List ℕ) → word_bytes n left ≡ word_bytes m right → (n ≡ m) × (left ≡ right)
+word_from : (n m : ℕ) (left right : List ℕ) → number_bytes n left ≡ number_bytes m right → (n ≡ m) × (left ≡ right)
 word_from n m left right same = (number_from n m (cc) (cc) (cc) (cc), cc)
 
 halves : (n m : ℕ) → n / 4294967296 ≡ m / 4294967296 → n % 4294967296 ≡ m % 4294967296 → n ≡ m
@@ -26,14 +26,14 @@ halves n m high low = omega arith
 
 long_from : (n m : ℕ) (left right : List ℕ) → long_bytes n left ≡ long_bytes m right → (n ≡ m) × (left ≡ right)
 long_from n m left right same =
-    let high = word_from (n / 4294967296) (m / 4294967296) (word_bytes (n % 4294967296) left) (word_bytes (m % 4294967296) right) same in
+    let high = word_from (n / 4294967296) (m / 4294967296) (number_bytes (n % 4294967296) left) (number_bytes (m % 4294967296) right) same in
     let low = word_from (n % 4294967296) (m % 4294967296) left right high.1 in
     (halves n m high.0 low.0, low.1)
 
 -- ---- transactions and versions
 transaction_from : (a b : Id) (left right : List ℕ) → transaction_bytes a left ≡ transaction_bytes b right → (same_id a b ≡ true) × (left ≡ right)
 transaction_from a b left right same =
-    let boot = word_from a.boot b.boot (word_bytes a.number left) (word_bytes b.number right) same in
+    let boot = word_from a.boot b.boot (number_bytes a.number left) (number_bytes b.number right) same in
     let number = word_from a.number b.number left right boot.1 in (
       and_from (eqb a.boot b.boot) (eqb a.number b.number) (eq-eqb a.boot b.boot boot.0) (eq-eqb a.number b.number number.0),
       number.1,
@@ -132,7 +132,7 @@ joined : (a b c d : Ordering) → ordering_then a b ≡ d → ordering_then a (o
 joined a b c d is = sym (then_assoc a b c) ∙ ap (λ o. ordering_then o c) is
 
 -- numbers come first in the order of names
-word_order : (n m : ℕ) (left right : List ℕ) → name_cmp (word_bytes n left) (word_bytes m right) ≡ ordering_then (nat_cmp n m) (name_cmp left right)
+word_order : (n m : ℕ) (left right : List ℕ) → name_cmp (number_bytes n left) (number_bytes m right) ≡ ordering_then (nat_cmp n m) (name_cmp left right)
 word_order n m left right =
     let rest : Ordering = name_cmp left right in
     let last : Ordering = nat_cmp (n % 256) (m % 256) in
@@ -145,7 +145,7 @@ word_order n m left right =
 
 long_order : (n m : ℕ) (left right : List ℕ) → name_cmp (long_bytes n left) (long_bytes m right) ≡ ordering_then (nat_cmp n m) (name_cmp left right)
 long_order n m left right =
-    word_order (n / 4294967296) (m / 4294967296) (word_bytes (n % 4294967296) left) (word_bytes (m % 4294967296) right)
+    word_order (n / 4294967296) (m / 4294967296) (number_bytes (n % 4294967296) left) (number_bytes (m % 4294967296) right)
     ∙ ap (λ o. ordering_then (nat_cmp (n / 4294967296) (m / 4294967296)) o) (word_order (n % 4294967296) (m % 4294967296) left right)
     ∙ joined (nat_cmp (n / 4294967296) (m / 4294967296)) (nat_cmp (n % 4294967296) (m % 4294967296)) (name_cmp left right) (nat_cmp n m)
     (words_order n m (n / 4294967296) (m / 4294967296) refl refl)

@@ -1,13 +1,8 @@
 -- How a map from names stands to the values of a list. No public clause cites this module.
-use Rattle.std.specs.Prelude.{◌≡◌, ℕ, true, List, [], ◌∷◌, Option, Some, None, is_some, map}
-use Rattle.std.specs.Option.{option_map}
+use Rattle.std.specs.Prelude.{◌≡◌, ℕ, true, List, [], ◌∷◌, Some, None, is_some, map}
 use Rattle.ktm_links.specs.declared.list.Key.{Key}
 use Rattle.ktm_links.specs.Items.{Item, value_at}
-use Rattle.ktm_links.specs.Mapped.{NamedItem, at, IsNotBelow}
-
--- the key that a map has under the name
-abbrev pub key_under : List (NamedItem Key) → List ℕ → Option Key
-key_under named name = option_map (λ e. e.1) (at named name)
+use Rattle.ktm_links.specs.Mapped.{NamedItem, IsNotBelow, key_under}
 
 -- the key is under the first of the names of which this is so
 pub record IsFirstUnder (P : List ℕ → Type 0) (named : List (NamedItem Key)) (key : Key) : Type 0 where

@@ -1,19 +1,12 @@
 -- The names under which first opens and versions are sorted. No public clause cites this module.
-use Rattle.std.specs.Prelude.{ℕ, ◌/◌, ◌%◌, List, [], ◌∷◌}
+use Rattle.std.specs.Prelude.{ℕ, List, []}
 use Rattle.ktm_base.specs.declared.id.Id.{Id}
 use Rattle.txf_versions.specs.declared.opened.Opened.{Opened}
-
--- a number below 2 ^ 32, its greatest byte first, and then these bytes
-abbrev pub word_bytes : ℕ → List ℕ → List ℕ
-word_bytes n rest = n / 16777216 ∷ n / 65536 % 256 ∷ n / 256 % 256 ∷ n % 256 ∷ rest
-
--- a number below 2 ^ 64, its greatest byte first, and then these bytes
-abbrev pub long_bytes : ℕ → List ℕ → List ℕ
-long_bytes n rest = word_bytes (n / 4294967296) (word_bytes (n % 4294967296) rest)
+use Rattle.ktm_links.specs.Numbers.{number_bytes, long_bytes}
 
 -- a transaction, and then these bytes
 abbrev pub transaction_bytes : Id → List ℕ → List ℕ
-transaction_bytes id rest = word_bytes id.boot (word_bytes id.number rest)
+transaction_bytes id rest = number_bytes id.boot (number_bytes id.number rest)
 
 -- a version of a file, and then these bytes
 abbrev pub version_bytes : ℕ → ℕ → List ℕ → List ℕ

@@ -5,7 +5,7 @@ ghost use Rattle.ktm_world.specs.Tree.{units_of};
 ghost use Rattle.txf_versions.specs.VersionsState.{is_version, older_units, version_units, with_older};
 
 use crate::name::{VersionName, version_name};
-use ktm_base::{Bytes, NoMemory};
+use ktm_base::{Bytes, NoMemory, UNIT_BYTES};
 use ktm_links::Chains;
 use std::alloc::Global;
 use std::marker::Model;
@@ -42,7 +42,7 @@ impl Model for Kept {
 fn units_of(bytes: &Bytes) -> u64
     ensures { result ≡ units_of bytes.now }
 {
-    (bytes.len() as u64).div_ceil(4096)
+    (bytes.len() as u64).div_ceil(UNIT_BYTES)
 }
 
 impl Kept {

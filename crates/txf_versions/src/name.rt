@@ -1,9 +1,11 @@
 // Names by which first opens and versions are sorted.
 ghost use Rattle.std.specs.Prelude.{◌≡◌, []};
-ghost use Rattle.txf_versions.specs.Names.{holder_name, long_bytes, open_name, transaction_bytes, version_bytes, word_bytes};
+ghost use Rattle.ktm_links.specs.Numbers.{long_bytes, number_bytes};
+ghost use Rattle.txf_versions.specs.Names.{holder_name, open_name, transaction_bytes, version_bytes};
 
 use crate::opened::Opened;
 use ktm_base::Id;
+use ktm_links::{long_bytes, number_bytes};
 
 /// The name of a first open by its transaction: the transaction, and then the file.
 pub(crate) type OpenName = [u8; 16];
@@ -14,33 +16,12 @@ pub(crate) type VersionName = [u8; 16];
 /// The name of a first open by its version: the version's name, and then the transaction.
 pub(crate) type HolderName = [u8; 24];
 
-// The bytes of a number, its greatest first.
-fn word_bytes(n: u32) -> [u8; 4]
-    ensures { result ≡ word_bytes n [] }
-{
-    [
-        (n / 16_777_216) as u8,
-        (n / 65_536 % 256) as u8,
-        (n / 256 % 256) as u8,
-        (n % 256) as u8,
-    ]
-}
-
-// The bytes of a number, its greatest first.
-fn long_bytes(n: u64) -> [u8; 8]
-    ensures { result ≡ long_bytes n [] }
-{
-    let [a0, a1, a2, a3] = word_bytes((n / 4_294_967_296) as u32);
-    let [b0, b1, b2, b3] = word_bytes((n % 4_294_967_296) as u32);
-    [a0, a1, a2, a3, b0, b1, b2, b3]
-}
-
 /// The bytes that the names of a transaction's first opens begin with.
 pub(crate) fn transaction_bytes(transaction: Id) -> [u8; 8]
     ensures { result ≡ transaction_bytes transaction [] }
 {
-    let [a0, a1, a2, a3] = word_bytes(transaction.boot);
-    let [b0, b1, b2, b3] = word_bytes(transaction.number);
+    let [a0, a1, a2, a3] = number_bytes(transaction.boot);
+    let [b0, b1, b2, b3] = number_bytes(transaction.number);
     [a0, a1, a2, a3, b0, b1, b2, b3]
 }
 

@@ -1,8 +1,8 @@
 // The first opens, found by transaction and by version.
 ghost use Rattle.std.specs.Prelude.{◌≡◌, ◌<◌, ◌≤◌, ◌+◌, ◌++◌, ◌∷◌, [], find, length, min, None, Some, true, false, IfNone, IfSome, IsOk, OnOk, OnSome};
 ghost use Rattle.std.specs.List.{list_any};
-ghost use Rattle.ktm_links.specs.Mapped.{Begins};
-ghost use Rattle.txf_versions.specs.Indexed.{key_under, IsFirstUnder, IsNoneUnder};
+ghost use Rattle.ktm_links.specs.Mapped.{Begins, key_under};
+ghost use Rattle.txf_versions.specs.Indexed.{IsFirstUnder, IsNoneUnder};
 ghost use Rattle.txf_versions.specs.Parts.{IsTaken};
 ghost use Rattle.txf_versions.specs.VersionsState.{is_open_of, is_own, is_pinned};
 

@@ -18,10 +18,12 @@ use Rattle.txf_volume.specs.Held.{first_held, version_bytes}
 use Rattle.txf_volume.specs.Ties.{IsKeptOpen, is_last}
 use Rattle.ktm_laws.specs.Footprint.{IsIn}
 use Rattle.ktm_laws.proofs.Elements.{list_any-from}
-use Rattle.txf_volume.proofs.Elements.{All-by, All-in, each-mapped}
+use Rattle.ktm_laws.proofs.Passing.{All-by, All-in}
+use Rattle.txf_volume.proofs.Elements.{each-mapped}
 use Rattle.ktm_laws.proofs.OlderVersions.{older-is, older_units, version_units}
 use Rattle.txf_volume.proofs.OlderVersions.{older-alike, older-more}
-use Rattle.txf_volume.proofs.PlainUses.{eqb-turned, is_older}
+use Rattle.ktm_laws.proofs.CommittedUnits.{is_older}
+use Rattle.txf_volume.proofs.PlainUses.{eqb-turned}
 
 -- the units of older versions, by a test
 pub older-of : (tree : Tree) (vs : List Version) (os : List FirstOpen) → units_older tree vs os ≡ older_units (is_older tree vs) os

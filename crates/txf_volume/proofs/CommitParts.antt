@@ -9,9 +9,9 @@ use Rattle.std.proofs.lemmas.List.Sums.{fold-append, sum_by-cons}
 use Rattle.std.specs.List.{flat_map, list_all}
 use Rattle.ktm_laws.proofs.Applying.{Applies-from, Fits-from}
 use Rattle.ktm_laws.proofs.CommittedUnits.{cut-empty, suits-applies}
-use Rattle.ktm_laws.proofs.Lookups.{Rises-changed, Rises-from as Rises-of, numbers_rise-from}
+use Rattle.ktm_world.proofs.Lookups.{Rises-changed, Rises-from as Rises-of, numbers_rise-from}
 use Rattle.ktm_laws.proofs.NormalForms.{apply_all-second}
-use Rattle.ktm_laws.proofs.Passing.{apply_all-first}
+use Rattle.ktm_laws.proofs.Passing.{apply_all-first, All-by, All-in}
 use Rattle.ktm_types.specs.declared.change.Change.{Change}
 use Rattle.ktm_types.specs.declared.change.Change.TheVariants.{Make, Put, Cut, Move, Drop}
 use Rattle.ktm_types.specs.declared.change.Contents.TheVariants.{Whole}
@@ -33,9 +33,9 @@ use Rattle.txf_volume.proofs.CommitKept.{IsStill, absent, ended-firsts, ended-op
 use Rattle.txf_volume.proofs.CommitVersions.{AllFresh, Rests, content-elsewhere, content-final-other, content-dropped, content-moved, file-dropped, rests-all, units-rise-all, version-final, version-final-other}
 use Rattle.ktm_laws.specs.Footprint.{IsIn}
 use Rattle.ktm_laws.proofs.Elements.{list_any-from}
-use Rattle.txf_volume.proofs.Elements.{All-by, All-in, each-mapped}
+use Rattle.txf_volume.proofs.Elements.{each-mapped}
 use Rattle.ktm_laws.proofs.NormalForms.{cut-none, put-none}
-use Rattle.ktm_laws.proofs.Lookups.{Rises-from}
+use Rattle.ktm_world.proofs.Lookups.{Rises-from}
 use Rattle.txf_volume.proofs.Steady.{versions-rise}
 use Rattle.txf_volume.proofs.TreeUnits.{units-changed}
 use Rattle.ktm_laws.proofs.Versions.{version_of-without, version-elsewhere}

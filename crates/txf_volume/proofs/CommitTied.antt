@@ -6,7 +6,7 @@ use Rattle.std.proofs.lemmas.Option.{none-some}
 use Rattle.std.specs.List.{flat_map, list_all, list_any}
 use Rattle.std.specs.Option.{option_map}
 use Rattle.ktm_base.specs.declared.id.Id.{Id}
-use Rattle.ktm_laws.proofs.Passing.{apply_all-first}
+use Rattle.ktm_laws.proofs.Passing.{apply_all-first, All-by, All-in, own_changes-of}
 use Rattle.ktm_laws.proofs.Reserving.{tree-of}
 use Rattle.ktm_laws.proofs.Sums.{sum-filter-less}
 use Rattle.std.proofs.Math.Bool.{and-false, and-true}
@@ -41,12 +41,12 @@ use Rattle.txf_volume.proofs.CommitKept.{older-of}
 use Rattle.ktm_laws.specs.Footprint.{IsIn}
 use Rattle.ktm_laws.proofs.Elements.{IsIn-filter, list_all-from, list_any-at, list_any-from}
 use Rattle.ktm_laws.proofs.Elements.{each_pair-filter}
-use Rattle.txf_volume.proofs.Elements.{All-by, All-in}
 use Rattle.ktm_laws.proofs.NormalForms.{AllBytes}
 use Rattle.txf_volume.proofs.OlderKept.{older-kept}
 use Rattle.ktm_laws.proofs.OlderVersions.{older-is, version_units}
-use Rattle.txf_volume.proofs.OwnTables.{own_changes-none, own_changes-of, same_id-equal}
-use Rattle.txf_volume.proofs.PlainUses.{is_older}
+use Rattle.ktm_laws.proofs.Tables.{same_id-equal}
+use Rattle.txf_volume.proofs.OwnTables.{own_changes-none}
+use Rattle.ktm_laws.proofs.CommittedUnits.{is_older}
 use Rattle.txf_volume.proofs.Seen.{changes_in, over-in, own_changes-held}
 use Rattle.txf_volume.proofs.Steady.{finals-bytes, steady}
 

@@ -2,7 +2,7 @@
 use Rattle.std.proofs.Common.{◌≡◌, ℕ, ◌+◌, ◌<◌, ◌≤◌, ◌==◌, ◌&&◌, not, Bool, true, false, cond, fold, is_some, List, [], ◌∷◌, Option, Some, None, refl, sym, ◌∙◌, ap, subst, arith, inl, inr}
 use Rattle.std.proofs.lemmas.Bool.{cases_Bool, and_parts, eqb-false, eqb-true, false_from_ne_true, not_from_false, true≢false}
 use Rattle.ktm_laws.proofs.Applying.{Applies-from, Fits-from}
-use Rattle.ktm_laws.proofs.CommittedUnits.{suits-applies}
+use Rattle.ktm_laws.proofs.CommittedUnits.{suits-applies, older-like, Fresh, is_older}
 use Rattle.ktm_types.specs.declared.change.Change.{Change}
 use Rattle.ktm_types.specs.declared.change.Change.TheVariants.{Make, Put, Cut, Move, Drop}
 use Rattle.ktm_types.specs.declared.change.Contents.TheVariants.{Whole}
@@ -15,9 +15,8 @@ use Rattle.ktm_world.specs.Tree.{Tree, content_of, is_file, node_at}
 use Rattle.ktm_laws.specs.GoodState.{each_pair}
 use Rattle.ktm_laws.specs.SoundFiles.{files_rise}
 use Rattle.ktm_laws.specs.Footprint.{IsIn}
-use Rattle.ktm_laws.proofs.Lookups.{map_node, node_at-elsewhere, node_at-there}
+use Rattle.ktm_world.proofs.Lookups.{map_node, node_at-elsewhere, node_at-there}
 use Rattle.ktm_laws.proofs.OlderVersions.{has_older, list_any-alike, older-cons, older_units, version_units}
-use Rattle.txf_volume.proofs.PlainUses.{is_older}
 use Rattle.ktm_laws.proofs.Versions.{version_of-raised, version-elsewhere}
 use Rattle.txf_volume.proofs.Versions.{rises-after, version_of-twice}
 
@@ -50,23 +49,12 @@ older-rises old new (o ∷ os) like still =
     none false true = refl
     none false false = refl
 
-older-like : (tree : Tree) (vs : List Version) (a b : FirstOpen) → same_version a b ≡ true → is_older tree vs a ≡ is_older tree vs b
-older-like tree vs a b same =
-    let parts = and_parts (a.file == b.file) (a.version == b.version) same in
-    let file = eqb-true _ _ parts.0 in
-    let version = eqb-true _ _ parts.1 in
-    λ i. not (is_file tree (file i) && version i == version_of vs (file i))
-
 -- ---- what is committed, and the versions that were first opened
 
 -- versions rise by their files, and those that were first opened were there
 pub record Rests (tree : Tree) (vs : List Version) (os : List FirstOpen) : Type 0 where
   pub rise : each_pair files_rise vs ≡ true
   pub was : (o : FirstOpen) → IsIn o os → is_file tree o.file ≡ true → o.version ≤ version_of vs o.file
-
--- the change makes no file that was first opened
-abbrev pub Fresh : Change → List FirstOpen → Type 0
-Fresh c os = (o : FirstOpen) → IsIn o os → is_make c ≡ true → node_of c ≡ o.file → ⊥
 
 -- a move leaves the content
 pub moved : (f : Node → Node) → ((n : Node) → (f n).content ≡ n.content) → (n : Option Node) → content_of (map_node f n) ≡ content_of n

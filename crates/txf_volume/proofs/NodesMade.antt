@@ -9,7 +9,7 @@ use Rattle.ktm_world.specs.Committed.{changes_to_commit, written_files}
 use Rattle.txf_volume.specs.Uses.{one_if}
 use Rattle.ktm_laws.proofs.NormalForms.{AllBytes, ends-bytes, names-kept, names_only}
 use Rattle.ktm_laws.proofs.NormalForms.{ends_of}
-use Rattle.txf_volume.proofs.Forms.{names_of}
+use Rattle.ktm_laws.specs.FinalChanges.{names_of}
 use Rattle.ktm_laws.proofs.Sums.{count-append, count-cons, one_where}
 
 -- do changes drop the node

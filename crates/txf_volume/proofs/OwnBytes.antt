@@ -17,9 +17,9 @@ use Rattle.ktm_world.specs.Tree.{Tree, bytes_of, cut_to, put_over, units_of}
 use Rattle.txf_volume.specs.Uses.{gain, loss, own_bytes}
 use Rattle.ktm_laws.specs.Footprint.{IsIn}
 use Rattle.ktm_laws.proofs.Elements.{IsIn-filter, list_any-from}
-use Rattle.ktm_laws.proofs.NormalForms.{RisingNumbers, is_of_file, rising-written}
+use Rattle.ktm_laws.proofs.NormalForms.{RisingNumbers, is_of_file, rising-written, ends-elsewhere, names-of-no-file}
 use Rattle.ktm_laws.proofs.NormalForms.{bytes-final, ends_of, filter-append}
-use Rattle.txf_volume.proofs.Forms.{ends-elsewhere, names-of-no-file, names_of}
+use Rattle.ktm_laws.specs.FinalChanges.{names_of}
 use Rattle.ktm_laws.proofs.Sums.{sum-same}
 
 -- ---- sums over rising numbers

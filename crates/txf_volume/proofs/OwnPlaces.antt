@@ -14,7 +14,7 @@ use Rattle.txf_volume.specs.Ties.{held_by_two}
 use Rattle.ktm_laws.specs.GoodState.{each_pair}
 use Rattle.ktm_laws.specs.Footprint.{IsIn}
 use Rattle.ktm_laws.proofs.Elements.{list_all-at}
-use Rattle.txf_volume.proofs.OwnTables.{same_id-equal, same_id-sym}
+use Rattle.ktm_laws.proofs.Tables.{same_id-equal, same_id-sym}
 
 filter-all : {X : Type 0} (keep : X → Bool) (xs : List X) → ((x : X) → IsIn x xs → keep x ≡ true) → filter keep xs ≡ xs
 filter-all keep [] each = refl

@@ -1,6 +1,6 @@
 -- The own changes of transactions, where one of them has others from now on.
-use Rattle.std.proofs.Common.{◌≡◌, ℕ, ◌+◌, ◌==◌, true, false, List, [], ◌∷◌, sum_by, refl, sym, ◌∙◌, ap, subst, arith, inl, inr}
-use Rattle.std.proofs.lemmas.Bool.{cases_Bool, and_parts, and_from, eq-eqb, eqb-true, not-true, true≢false, false_from_ne_true}
+use Rattle.std.proofs.Common.{◌≡◌, ℕ, ◌+◌, true, false, List, [], ◌∷◌, sum_by, refl, sym, subst, arith, inl, inr}
+use Rattle.std.proofs.lemmas.Bool.{cases_Bool, and_parts, not-true, true≢false}
 use Rattle.std.proofs.lemmas.List.Sums.{sum_by-cons}
 use Rattle.std.specs.List.{list_all, list_any}
 use Rattle.ktm_base.specs.declared.id.Id.{Id}
@@ -12,31 +12,9 @@ use Rattle.ktm_laws.specs.GoodState.{each_pair}
 use Rattle.ktm_laws.specs.Footprint.{IsIn}
 use Rattle.ktm_laws.proofs.Elements.{list_all-at}
 use Rattle.ktm_laws.proofs.Sums.{sum-same}
-
--- ---- Ids
-
-pub same_id-equal : (a b : Id) → same_id a b ≡ true → a ≡ b
-same_id-equal a b same =
-    let parts = and_parts (a.boot == b.boot) (a.number == b.number) same in
-    let boot : a.boot ≡ b.boot = eqb-true _ _ parts.0 in
-    let number : a.number ≡ b.number = eqb-true _ _ parts.1 in
-    λ i. record { boot = boot i; number = number i }
-
-pub same_id-from : (a b : Id) → a ≡ b → same_id a b ≡ true
-same_id-from a b e = subst (λ (x : Id). same_id a x ≡ true) e (and_from _ _ (eq-eqb a.boot a.boot refl) (eq-eqb a.number a.number refl))
-
-pub same_id-sym : (a b : Id) → same_id a b ≡ false → same_id b a ≡ false
-same_id-sym a b other = false_from_ne_true _ (λ same. true≢false (sym (same_id-from a b (sym (same_id-equal b a same))) ∙ other))
+use Rattle.ktm_laws.proofs.Tables.{same_id-equal, same_id-from, same_id-sym}
 
 -- ---- the changes of each
-
--- the changes of an entry are those of its transaction
-pub own_changes-of : (own : List OwnChanges) → each_pair changed_by_two own ≡ true → (o : OwnChanges) → IsIn o own → own_changes own o.transaction ≡ o.changes
-own_changes-of [] once o there = absurd there
-own_changes-of (p ∷ ps) once o (inl e) = rw (same_id-from p.transaction o.transaction (ap (λ (q : OwnChanges). q.transaction) e)) (ap (λ (q : OwnChanges). q.changes) e)
-own_changes-of (p ∷ ps) once o (inr there) =
-    let parts = and_parts (list_all (changed_by_two p) ps) (each_pair changed_by_two ps) once in
-    rw (not-true _ (list_all-at (changed_by_two p) ps parts.0 o there)) (own_changes-of ps parts.1 o there)
 
 pub own_changes-new : (own : List OwnChanges) (id : Id) (new : List Change) → own_changes (with_own_changes own id new) id ≡ new
 own_changes-new [] id new = rw (same_id-from id id refl) refl

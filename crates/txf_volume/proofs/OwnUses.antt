@@ -15,18 +15,20 @@ use Rattle.ktm_world.specs.FileUses.{own_units, older_versions, same_version, un
 use Rattle.ktm_world.specs.Transactions.{same_id}
 use Rattle.ktm_world.specs.Tree.{is_file, bytes_of, node_at, units_of}
 use Rattle.txf_calls.specs.Fits.{Suits, opens_file}
-use Rattle.txf_volume.specs.Held.{tree_units}
 use Rattle.txf_volume.specs.Uses.{IsSteady, PlainUses, OwnUses, SameUses, UsesLaw, gain, loss, kept, names_added, one_if, own_bytes}
 use Rattle.ktm_laws.specs.Footprint.{IsIn}
-use Rattle.txf_volume.proofs.Elements.{All-in}
+use Rattle.ktm_laws.proofs.Passing.{All-in, own_changes-of}
 use Rattle.ktm_laws.proofs.NormalForms.{names_only}
 use Rattle.ktm_laws.proofs.NormalForms.{bytes-final, written-final}
-use Rattle.ktm_laws.proofs.Lookups.{Rises-from}
+use Rattle.ktm_world.proofs.Lookups.{Rises-from}
 use Rattle.txf_volume.proofs.NodesMade.{made-final, made-last, waiting-final, waiting-last}
 use Rattle.ktm_laws.proofs.OlderVersions.{older_by, older_units, older-is, version_units}
 use Rattle.txf_volume.proofs.OwnBytes.{written-units}
-use Rattle.txf_volume.proofs.OwnTables.{own_changes-new, own_changes-none, own_changes-of, own_changes-other, same_id-equal, same_id-sym, sum-with_own}
-use Rattle.txf_volume.proofs.PlainUses.{is_older, older-then}
+use Rattle.ktm_laws.proofs.Tables.{same_id-equal, same_id-sym}
+use Rattle.txf_volume.proofs.OwnTables.{own_changes-new, own_changes-none, own_changes-other, sum-with_own}
+use Rattle.txf_volume.specs.Held.{tree_units}
+use Rattle.ktm_laws.proofs.CommittedUnits.{is_older}
+use Rattle.txf_volume.proofs.PlainUses.{older-then}
 use Rattle.ktm_laws.proofs.Sums.{sum-same}
 use Rattle.txf_volume.proofs.TreeUnits.{nodes-changed, units-changed}
 

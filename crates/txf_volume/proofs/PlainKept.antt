@@ -27,9 +27,10 @@ use Rattle.ktm_laws.specs.SoundFiles.{files_rise}
 use Rattle.txf_volume.specs.Uses.{ends}
 use Rattle.ktm_laws.specs.Footprint.{IsIn}
 use Rattle.ktm_laws.proofs.Elements.{list_any-at, list_any-from}
-use Rattle.txf_volume.proofs.Elements.{All-by, All-in}
-use Rattle.ktm_laws.proofs.Lookups.{map_node, node_at-elsewhere, node_at-there}
-use Rattle.txf_volume.proofs.PlainUses.{is_older, older-after}
+use Rattle.ktm_laws.proofs.Passing.{All-by, All-in}
+use Rattle.ktm_world.proofs.Lookups.{map_node, node_at-elsewhere, node_at-there}
+use Rattle.ktm_laws.proofs.CommittedUnits.{is_older}
+use Rattle.txf_volume.proofs.PlainUses.{older-after}
 use Rattle.ktm_laws.proofs.Versions.{version_of-raised, version-elsewhere}
 
 -- ---- lists and options

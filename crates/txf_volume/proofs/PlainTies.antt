@@ -31,8 +31,8 @@ use Rattle.txf_calls.specs.Fits.{Suits}
 use Rattle.txf_volume.specs.Uses.{gain, kept, loss}
 use Rattle.txf_volume.proofs.Counted.{pinned-last}
 use Rattle.ktm_laws.specs.Footprint.{IsIn}
-use Rattle.txf_volume.proofs.Elements.{All-by, All-in}
-use Rattle.ktm_laws.proofs.Lookups.{Rises-from}
+use Rattle.ktm_laws.proofs.Passing.{All-by, All-in}
+use Rattle.ktm_world.proofs.Lookups.{Rises-from}
 use Rattle.txf_volume.proofs.OwnUses.{uses_law}
 use Rattle.txf_volume.proofs.PlainKept.{IsIn-map, firsts-then, opened-then}
 use Rattle.txf_volume.proofs.Seen.{changes_in, own_changes-held}

@@ -15,15 +15,12 @@ use Rattle.ktm_laws.specs.SoundFiles.{files_rise}
 use Rattle.txf_volume.specs.Uses.{IsSteady, ends, is_last_opened, kept}
 use Rattle.ktm_laws.specs.Footprint.{IsIn}
 use Rattle.ktm_laws.proofs.Elements.{list_any-from}
-use Rattle.txf_volume.proofs.Elements.{All-in}
-use Rattle.ktm_laws.proofs.Lookups.{map_node, node_at-elsewhere, node_at-there}
+use Rattle.ktm_laws.proofs.Passing.{All-in}
+use Rattle.ktm_world.proofs.Lookups.{map_node, node_at-elsewhere, node_at-there}
 use Rattle.ktm_laws.proofs.OlderVersions.{list_any-alike, older_units, version_units}
 use Rattle.txf_volume.proofs.OlderVersions.{older-alike, older-more}
 use Rattle.ktm_laws.proofs.Versions.{version_of-raised, version-elsewhere}
-
--- is it an older version than that of the tree
-abbrev pub is_older : Tree → List Version → FirstOpen → Bool
-is_older tree vs o = not (is_file tree o.file && o.version == version_of vs o.file)
+use Rattle.ktm_laws.proofs.CommittedUnits.{is_older}
 
 -- is it the last version of the file
 abbrev pub is_last : List Version → ℕ → FirstOpen → Bool

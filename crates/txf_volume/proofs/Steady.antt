@@ -30,16 +30,16 @@ use Rattle.txf_volume.specs.Uses.{IsSteady}
 use Rattle.txf_volume.specs.Writes.{CanBeCounted}
 use Rattle.ktm_laws.specs.Footprint.{IsIn}
 use Rattle.ktm_laws.proofs.Elements.{list_all-at}
-use Rattle.txf_volume.proofs.Elements.{All-in}
+use Rattle.ktm_laws.proofs.Passing.{All-in}
 use Rattle.ktm_laws.proofs.NormalForms.{AllBytes, names_only}
 use Rattle.ktm_laws.proofs.NormalForms.{ends_of, filter-append, no-names}
-use Rattle.txf_volume.proofs.Forms.{names_of}
-use Rattle.ktm_laws.proofs.Lookups.{Above, Rises, Rises-from}
+use Rattle.ktm_laws.specs.FinalChanges.{names_of}
+use Rattle.ktm_world.proofs.Lookups.{Above, Rises, Rises-from}
 use Rattle.txf_volume.proofs.NodesMade.{made-append, made-bytes, drops-bytes, waiting-bytes}
 use Rattle.txf_volume.proofs.OlderKept.{older-kept}
 use Rattle.ktm_laws.proofs.OlderVersions.{older-is, version_units}
-use Rattle.txf_volume.proofs.OwnTables.{same_id-from}
-use Rattle.txf_volume.proofs.PlainUses.{is_older}
+use Rattle.ktm_laws.proofs.Tables.{same_id-from}
+use Rattle.ktm_laws.proofs.CommittedUnits.{is_older}
 use Rattle.txf_volume.proofs.Seen.{seen-some}
 use Rattle.ktm_laws.proofs.Sums.{count-append, one_where, count-cons}
 use Rattle.ktm_laws.proofs.Sums.{sum-same}

@@ -32,7 +32,7 @@ use Rattle.txf_volume.specs.Uses.{IsSteady}
 use Rattle.txf_volume.specs.Writes.{CanBeCounted}
 use Rattle.ktm_laws.specs.Footprint.{IsIn}
 use Rattle.ktm_laws.proofs.Elements.{list_any-at}
-use Rattle.txf_volume.proofs.Elements.{All-by, All-in}
+use Rattle.ktm_laws.proofs.Passing.{All-by, All-in}
 use Rattle.txf_volume.proofs.OwnUses.{uses_law}
 use Rattle.txf_volume.proofs.Seen.{first_open-held}
 use Rattle.txf_volume.proofs.Steady.{sum-map}

@@ -31,10 +31,11 @@ use Rattle.txf_volume.specs.Ties.{AreFew, AreTied, IsOver, held_by_two, units_he
 use Rattle.ktm_laws.specs.GoodState.{each_pair}
 use Rattle.txf_volume.specs.Writes.{CanBeCounted}
 use Rattle.ktm_laws.specs.Footprint.{IsIn}
-use Rattle.txf_volume.proofs.Elements.{All-by, All-in}
+use Rattle.ktm_laws.proofs.Passing.{All-by, All-in}
 use Rattle.ktm_laws.proofs.NormalForms.{written-final}
-use Rattle.txf_volume.proofs.Forms.{names_of}
-use Rattle.txf_volume.proofs.OwnTables.{own_changes-new, own_changes-other, same_id-equal, same_id-sym}
+use Rattle.ktm_laws.specs.FinalChanges.{names_of}
+use Rattle.ktm_laws.proofs.Tables.{same_id-equal, same_id-sym}
+use Rattle.txf_volume.proofs.OwnTables.{own_changes-new, own_changes-other}
 use Rattle.txf_volume.proofs.Seen.{changes_in, has_made-own, made-append, over-in, own_changes-held}
 use Rattle.txf_volume.proofs.Steady.{few-counted, names-own}
 

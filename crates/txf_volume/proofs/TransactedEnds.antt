@@ -23,8 +23,8 @@ use Rattle.txf_volume.specs.Transacted.{forgotten}
 use Rattle.ktm_laws.specs.GoodState.{each_pair}
 use Rattle.ktm_laws.specs.Footprint.{IsIn}
 use Rattle.ktm_laws.proofs.Elements.{IsIn-filter, list_any-from}
-use Rattle.txf_volume.proofs.Elements.{All-by, All-in}
-use Rattle.txf_volume.proofs.OwnTables.{same_id-equal, same_id-from}
+use Rattle.ktm_laws.proofs.Passing.{All-by, All-in}
+use Rattle.ktm_laws.proofs.Tables.{same_id-equal, same_id-from}
 
 -- ---- some elements of a list
 

@@ -5,6 +5,7 @@ use Rattle.std.proofs.lemmas.List.{length-map}
 use Rattle.std.proofs.lemmas.Option.{same_Some, none-some}
 use Rattle.std.specs.List.{list_all, list_any}
 use Rattle.std.specs.Option.{option_map}
+use Rattle.ktm_base.specs.declared.limits.TheConstants.{MOST_NAME_BYTES}
 use Rattle.ktm_base.specs.Names.{IsName, folded_byte}
 use Rattle.ktm_base.specs.declared.id.Id.{Id}
 use Rattle.ktm_types.specs.declared.change.Change.{Change}
@@ -18,7 +19,8 @@ use Rattle.txf_overlay.specs.Laws.{written_with}
 use Rattle.txf_overlay.specs.Nodes.{last_of}
 use Rattle.txf_overlay.specs.OverlayState.{OverlayState, is_of_names, seen}
 use Rattle.txf_overlay.specs.Views.{StandsOver, last_seat, seat_at, seats_of}
-use Rattle.txf_overlay.proofs.Trees.{Applies-from, at-All, is_there-some, node_at-there, remade}
+use Rattle.ktm_world.proofs.Lookups.{remade}
+use Rattle.txf_overlay.proofs.Trees.{Applies-from, at-All, is_there-some, node_at-there}
 use Rattle.txf_overlay.proofs.Views.{LastIs, last-is, untouched}
 use Rattle.txf_reserve.specs.ReserveState.{ReserveState}
 use Rattle.txf_volume.specs.Held.{OwnHeld, overlay_in}
@@ -52,10 +54,10 @@ place-by-last tree o node c stands only last = where-is (seen tree o) node c (la
 pub seen-untouched : (tree : Tree) (o : OverlayState) (node : ℕ) → StandsOver tree o → None ≡ last_of o.names node → node_at (seen tree o) node ≡ node_at tree node
 seen-untouched tree o node stands none = untouched o.names tree node stands.applies (sym none)
 
-pub short-place : (tree : Tree) (node directory : ℕ) (name : List ℕ) → IsWellFormed tree → Some (place directory name) ≡ option_map (λ (n : Node). place n.parent n.name) (node_at tree node) → length name ≤ 255
+pub short-place : (tree : Tree) (node directory : ℕ) (name : List ℕ) → IsWellFormed tree → Some (place directory name) ≡ option_map (λ (n : Node). place n.parent n.name) (node_at tree node) → length name ≤ MOST_NAME_BYTES
 short-place tree node directory name formed is = go (node_at tree node) refl is
   where
-    go : (found : Option Node) → node_at tree node ≡ found → Some (place directory name) ≡ option_map (λ (n : Node). place n.parent n.name) found → length name ≤ 255
+    go : (found : Option Node) → node_at tree node ≡ found → Some (place directory name) ≡ option_map (λ (n : Node). place n.parent n.name) found → length name ≤ MOST_NAME_BYTES
     go None at e = absurd (none-some (place directory name) (sym e))
     go (Some x) at e =
         let few = (at-All (λ n. IsName n.name) tree formed.names node x at).few in

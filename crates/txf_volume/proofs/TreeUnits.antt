@@ -10,16 +10,10 @@ use Rattle.ktm_types.specs.declared.change.NodeKind.TheVariants.{File, Directory
 use Rattle.ktm_types.specs.declared.recorded.Node.{Node}
 use Rattle.ktm_world.specs.Changes.{changed, bytes_in, new_content, changes_bytes, is_drop, is_make, node_of}
 use Rattle.ktm_world.specs.Tree.{Tree, node_at, content_of, is_file, bytes_or_none, bytes_of, units_of, cut_to, put_over, with_node, with_changed, without_node}
-use Rattle.txf_volume.specs.Held.{node_units, tree_units}
 use Rattle.txf_volume.specs.Uses.{gain, loss, one_if}
-use Rattle.ktm_laws.proofs.Lookups.{Above, Rises}
-
-units-with_node : (tree : Tree) (node : Node) → tree_units (with_node tree node) ≡ node_units node + tree_units tree
-units-with_node [] node = omega (arith, sum_by-cons node_units node [])
-units-with_node (n ∷ ns) node = elim (cases_Bool (nat_lt node.number n.number)) [
-  | inl before ↦ rw before (sum_by-cons node_units node (n ∷ ns))
-  | inr behind ↦ rw behind (let rest = units-with_node ns node in let a = sum_by-cons node_units n (with_node ns node) in let b = sum_by-cons node_units n ns in omega arith)
-]
+use Rattle.ktm_world.proofs.Lookups.{Above, Rises}
+use Rattle.txf_volume.specs.Held.{node_units, tree_units}
+use Rattle.ktm_laws.proofs.CommittedUnits.{units-with_node, changed-above, units-with_same, file-found}
 
 -- the units of a node, where there is one
 abbrev units_in : Option Node → ℕ
@@ -46,10 +40,6 @@ nodes-without_node (x ∷ xs) n rises = elim (cases_Bool (x.number == n)) [
   | inr other ↦ rw other (let rest = nodes-without_node xs n rises.1 in omega arith)
 ]
 
-changed-above : (tree : Tree) (n m : ℕ) (f : Node → Node) → Above n tree → m ≤ n → with_changed tree m f ≡ tree
-changed-above [] n m f above low = refl
-changed-above (x ∷ xs) n m f above low = rw (ne_eqb x.number m (λ e. omega (arith, above.0))) (ap (λ ys. x ∷ ys) (changed-above xs n m f above.1 low))
-
 units-with_changed : (tree : Tree) (n : ℕ) (f : Node → Node) (node : Node) → Rises tree → node_at tree n ≡ Some node → tree_units (with_changed tree n f) + node_units node ≡ tree_units tree + node_units (f node)
 units-with_changed [] n f node rises found = absurd (true≢false (sym (ap is_some found)))
 units-with_changed (x ∷ xs) n f node rises found =
@@ -61,23 +51,6 @@ units-with_changed (x ∷ xs) n f node rises found =
           rw here (let new = sum_by-cons node_units (f x) (with_changed xs n f) in let tail = ap tree_units rest in let e = ap node_units is in let e' = ap (λ y. node_units (f y)) is in omega arith)
       | inr other ↦ rw other (let rest = units-with_changed xs n f node rises.1 (rw other at found) in let new = sum_by-cons node_units x (with_changed xs n f) in omega arith)
     ]
-
-units-with_same : (tree : Tree) (n : ℕ) (f : Node → Node) → ((x : Node) → (f x).content ≡ x.content) → tree_units (with_changed tree n f) ≡ tree_units tree
-units-with_same [] n f same = refl
-units-with_same (x ∷ xs) n f same =
-    let rest = units-with_same xs n f same in
-    let all = sum_by-cons node_units x xs in
-    elim (cases_Bool (x.number == n)) [
-      | inl here ↦ rw here (let new = sum_by-cons node_units (f x) (with_changed xs n f) in let e = ap (λ c. units_of (bytes_or_none c)) (same x) in omega arith)
-      | inr other ↦ rw other (let new = sum_by-cons node_units x (with_changed xs n f) in omega arith)
-    ]
-
-file-found : (tree : Tree) (n : ℕ) → is_file tree n ≡ true → (node : Node) × (node_at tree n ≡ Some node)
-file-found tree n file = go (node_at tree n) refl file
-  where
-    go : (o : Option Node) → node_at tree n ≡ o → is_some (content_of o) ≡ true → (node : Node) × (node_at tree n ≡ Some node)
-    go None e some = absurd (true≢false (sym some))
-    go (Some node) e some = (node, e)
 
 pub units-changed : (tree : Tree) (c : Change) → (changes_bytes c ≡ true → is_file tree (node_of c) ≡ true) → Rises tree
     → tree_units (changed tree c) + loss (bytes_of tree (node_of c)) c ≡ tree_units tree + gain (bytes_of tree (node_of c)) c

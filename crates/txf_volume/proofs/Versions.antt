@@ -1,5 +1,5 @@
 -- Versions of files while changes are committed.
-use Rattle.std.proofs.Common.{◌≡◌, ℕ, ◌+◌, ◌<◌, ◌==◌, not, true, List, [], ◌∷◌, refl, sym, ◌∙◌, ap, arith, inl, inr, ◌⊎◌}
+use Rattle.std.proofs.Common.{◌≡◌, ℕ, ◌+◌, ◌==◌, not, true, List, [], ◌∷◌, refl, sym, ◌∙◌, ap, arith, inl, inr, ◌⊎◌}
 use Rattle.std.proofs.lemmas.Bool.{cases_Bool, eqb-true, eqb-false, ltb-true, ltb-false, lt-ltb, and_parts, and_from}
 use Rattle.std.specs.List.{list_all}
 use Rattle.std.specs.Prelude.{nat_lt}
@@ -11,10 +11,7 @@ use Rattle.ktm_laws.specs.SoundFiles.{files_rise}
 use Rattle.ktm_laws.specs.Footprint.{IsIn}
 use Rattle.ktm_laws.proofs.Elements.{list_all-at, list_all-from}
 use Rattle.ktm_laws.proofs.Elements.{each_pair-filter}
-use Rattle.ktm_laws.proofs.Versions.{version_of-raised}
-
-rises-behind : (v : Version) (vs : List Version) → each_pair files_rise (v ∷ vs) ≡ true → (u : Version) → IsIn u vs → v.file < u.file
-rises-behind v vs rises u there = ltb-true v.file u.file (list_all-at (files_rise v) vs (and_parts (list_all (files_rise v) vs) (each_pair files_rise vs) rises).0 u there)
+use Rattle.ktm_laws.proofs.Versions.{version_of-raised, rises-behind}
 
 -- a version that was there, or one of the file
 IsIn-raised : (vs : List Version) (n : ℕ) (v : Version) → IsIn v (raised_version vs n) → IsIn v vs ⊎ (v.file ≡ n)

@@ -13,13 +13,10 @@ ghost use Rattle.txf_tree.specs.TreeState.{tree_of, versions_of};
 ghost use Rattle.txf_volume.specs.Held.{files_of};
 
 use crate::files::Files;
-use ktm_base::{Id, Refusal, fold};
+use ktm_base::{Id, MOST_NAME_BYTES, Refusal, fold};
 use ktm_links::{InlineName, Name};
 use txf_opens::asks_write;
 use txf_reserve::{Act as Held, Place};
-
-/// The most bytes of a name.
-const LONGEST_NAME: usize = 255;
 
 // Writes the folded name.
 fn write_folded(room: &mut [u8], name: &[u8])
@@ -32,17 +29,17 @@ fn write_folded(room: &mut [u8], name: &[u8])
 }
 
 /// The folded name.
-pub(crate) fn folded_name(name: &[u8]) -> InlineName<255>
-    requires { length name.now ≤ 255 }
+pub(crate) fn folded_name(name: &[u8]) -> InlineName<MOST_NAME_BYTES>
+    requires { length name.now ≤ MOST_NAME_BYTES }
     ensures { result ≡ folded name.now }
 {
-    let mut room = [0; LONGEST_NAME];
+    let mut room = [0; MOST_NAME_BYTES];
     write_folded(&mut room, name);
     InlineName::new(&room[..name.len()])
 }
 
 /// The name in the directory.
-pub(crate) fn place(directory: u64, name: &InlineName<255>) -> Place<'_>
+pub(crate) fn place(directory: u64, name: &InlineName<MOST_NAME_BYTES>) -> Place<'_>
     ensures { place_in result ≡ record { directory = directory; name = name.now } }
 {
     Place {

@@ -11,14 +11,14 @@ ghost use Rattle.txf_volume.specs.Making.{parts, AreMade, AreRight, CanName, Can
 ghost use Rattle.txf_volume.specs.Held.{files_of};
 ghost use Rattle.txf_volume.specs.Writes.{CanBeCounted};
 
-use crate::change::{node_of, units_in};
+use crate::change::units_in;
 use crate::files::{Files, end_version, law_of_older};
 use crate::own::{overlay_of, take_overlay};
 use ktm_base::{Bytes, Id, NoMemory};
 use ktm_laws::law_of_forms;
 use ktm_types::Change;
 use txf_overlay::{Overlay, WrittenFile, law_of_other_trees};
-use txf_tree::Tree;
+use txf_tree::{Tree, node_of};
 use txf_versions::Versions;
 
 // The units of these bytes.

@@ -1,6 +1,7 @@
 // What a transaction holds by one change, and by which name it sees a node.
 ghost use Rattle.std.specs.Prelude.{◌≡◌, ◌<◌, ◌≤◌, ◌∷◌, [], Some, false, is_some, length, not};
 ghost use Rattle.std.specs.Option.{option_map};
+ghost use Rattle.ktm_base.specs.declared.limits.TheConstants.{MOST_NAME_BYTES};
 ghost use Rattle.ktm_types.specs.declared.recorded.Node.{Node};
 ghost use Rattle.ktm_world.specs.Holds.{place};
 ghost use Rattle.ktm_world.specs.Tree.{node_at};
@@ -41,7 +42,7 @@ pub(crate) fn place_seen<'a>(tree: &'a Tree, overlay: &'a Overlay, node: u64) ->
     requires stands { StandsOver (tree_of tree.now) overlay.now }
     requires there { (x : Node) × (node_at (seen (tree_of tree.now) overlay.now) node ≡ Some x) }
     ensures place { Some (place_in result) ≡ option_map (λ n. place n.parent n.name) (node_at (seen (tree_of tree.now) overlay.now) node) }
-    ensures short { length result.name.now ≤ 255 }
+    ensures short { length result.name.now ≤ MOST_NAME_BYTES }
 {
     match overlay.last_change(node) {
         Some(change) => match brought(change) {
@@ -89,7 +90,7 @@ pub(crate) fn hold_file(reserve: &mut Reserve, transaction: Id, file: u64)
 /// The transaction holds a node too that it made, and its name.
 pub(crate) fn hold_made(reserve: &mut Reserve, transaction: Id, node: u64, at: Place<'_>)
     requires spare { 0 < reserve.old.spare }
-    requires short { length at.name.now ≤ 255 }
+    requires short { length at.name.now ≤ MOST_NAME_BYTES }
     ensures { HoldsToo node (place_in at.entry ∷ []) [] false transaction reserve.old reserve.new }
 {
     let name = folded_name(at.name);
@@ -115,8 +116,8 @@ pub(crate) fn hold_moved(
     is_directory: bool,
 )
     requires spare { 0 < reserve.old.spare }
-    requires short_from { length from.name.now ≤ 255 }
-    requires short_to { length to.name.now ≤ 255 }
+    requires short_from { length from.name.now ≤ MOST_NAME_BYTES }
+    requires short_to { length to.name.now ≤ MOST_NAME_BYTES }
     ensures { HoldsToo node (place_in from.entry ∷ place_in to.entry ∷ []) [] is_directory transaction reserve.old reserve.new }
 {
     let left = folded_name(from.name);
@@ -142,7 +143,7 @@ pub(crate) fn hold_dropped(
     dropped: Option<u64>,
 )
     requires spare { 0 < reserve.old.spare }
-    requires short { length at.name.now ≤ 255 }
+    requires short { length at.name.now ≤ MOST_NAME_BYTES }
     ensures { HoldsToo node (place_in at.entry ∷ []) (listed dropped) false transaction reserve.old reserve.new }
 {
     let name = folded_name(at.name);

@@ -4,25 +4,19 @@ ghost use Rattle.ktm_base.specs.declared.id.Id.{Id};
 ghost use Rattle.ktm_world.specs.Changes.{is_drop, node_of};
 ghost use Rattle.ktm_world.specs.FileOutcome.{FileOutcome, files_after, next_node_after};
 ghost use Rattle.ktm_world.specs.FileUses.{file_changes_waiting, nodes_used, units_used};
-ghost use Rattle.ktm_world.specs.Limits.{end_of_nodes, most_number};
 ghost use Rattle.ktm_world.specs.Tree.{node_at};
 ghost use Rattle.txf_tree.specs.TreeState.{tree_of};
 ghost use Rattle.txf_volume.specs.Held.{files_of};
 ghost use Rattle.txf_calls.specs.Fits.{opens_file, IsFit, Suits};
 ghost use Rattle.txf_volume.specs.Uses.{kept, one_if, own_bytes, IsSteady};
 
-use crate::change::{changes_bytes, gain, is_drop, is_make, loss, node_of};
+use crate::change::{gain, loss};
 use crate::files::Files;
 use crate::own::{names_of, nodes_of, units_of};
-use ktm_base::Id;
+use ktm_base::{END_OF_NODES, Id, MOST_NUMBER};
 use ktm_types::Change;
 use txf_calls::{Plan, Room};
-
-/// Numbers of open files end here in each boot.
-const MOST_NUMBER: u64 = u32::MAX as u64;
-
-/// Node numbers end below this.
-const END_OF_NODES: u64 = 1 << 63;
+use txf_tree::{changes_bytes, is_drop, is_make, node_of};
 
 // One where it is so.
 fn one_if(so: bool) -> u128
@@ -180,7 +174,7 @@ impl Files {
 
     // Would a node number be beyond the last one.
     fn passes_nodes(&self, plan: &Plan) -> bool
-        ensures { result ≡ nat_lt end_of_nodes (next_node_after self.now.next_node plan.now.change) }
+        ensures { result ≡ nat_lt END_OF_NODES (next_node_after self.now.next_node plan.now.change) }
     {
         match &plan.change {
             Some(Change::Make { node, .. }) => {
@@ -209,8 +203,8 @@ impl Files {
 
     // Would the numbers of open files or nodes be beyond the last ones.
     pub(crate) fn passes_numbers(&self, plan: &Plan) -> bool
-        ensures { (who : Option Id) → result ≡ (nat_lt most_number (files_after (files_of self.now) who plan.now).table.last_open || nat_lt end_of_nodes (files_after (files_of self.now) who plan.now).table.next_node) }
+        ensures { (who : Option Id) → result ≡ (nat_lt MOST_NUMBER (files_after (files_of self.now) who plan.now).table.last_open || nat_lt END_OF_NODES (files_after (files_of self.now) who plan.now).table.next_node) }
     {
-        self.last_open_after(plan) as u64 > MOST_NUMBER || self.passes_nodes(plan)
+        self.last_open_after(plan) as u64 > u64::from(MOST_NUMBER) || self.passes_nodes(plan)
     }
 }

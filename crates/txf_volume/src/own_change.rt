@@ -14,7 +14,6 @@ ghost use Rattle.txf_volume.specs.OwnParts.{bare, bare_own, or_unchanged, starts
 ghost use Rattle.txf_volume.specs.Ties.{held_by_two, IsOver};
 ghost use Rattle.ktm_laws.specs.GoodState.{each_pair};
 
-use crate::change::bytes_in;
 use crate::holding::{
     hold_dropped, hold_file, hold_made, hold_moved, is_directory_seen, place_seen,
 };
@@ -26,7 +25,7 @@ use std::alloc::Global;
 use txf_calls::Place;
 use txf_overlay::Overlay;
 use txf_reserve::Reserve;
-use txf_tree::Tree;
+use txf_tree::{Tree, bytes_in};
 
 // The bytes from which changes of a file start.
 fn starts<'a>(overlay: &Overlay, fixed: &'a [u8], file: u64) -> &'a [u8]

@@ -12,7 +12,7 @@ ghost use Rattle.txf_volume.specs.Plain.{copied_for, CanBeKept, IsLeftOver, IsPl
 ghost use Rattle.txf_volume.specs.Ties.{IsKeptOpen};
 ghost use Rattle.txf_volume.specs.Writes.{CanBeCounted};
 
-use crate::change::{changes_bytes, gain, loss, next_after, node_of};
+use crate::change::{gain, loss};
 use crate::files::{Files, end_version, law_of_older};
 use ktm_base::{Bytes, NoMemory};
 use ktm_laws::law_of_forms;
@@ -20,7 +20,7 @@ use ktm_types::Change;
 use std::marker::Model;
 use txf_calls::{OpenFile, Plan};
 use txf_overlay::law_of_other_trees;
-use txf_tree::Tree;
+use txf_tree::{Tree, changes_bytes, next_after, node_of};
 use txf_versions::Versions;
 
 /// A plain call for which the memory is there: a copy of the bytes that its change ends, where they have to be kept.

@@ -9,13 +9,13 @@ ghost use Rattle.txf_overlay.specs.OverlayState.{final_of, is_of_names};
 ghost use Rattle.txf_overlay.specs.Written.{IsRising};
 ghost use Rattle.txf_volume.specs.Held.{files_of};
 
-use crate::change::next_after;
 use crate::files::Files;
 use ktm_base::{Id, NoMemory};
 use ktm_event::FileBytes;
 use ktm_types::Change;
 use std::alloc::Global;
 use txf_overlay::Overlay;
+use txf_tree::next_after;
 
 // The files that a transaction wrote, by rising number.
 fn written_in(alloc: Global, overlay: &Overlay) -> Result<Vec<FileBytes<'_>>, NoMemory>

@@ -13,7 +13,6 @@ ghost use Rattle.txf_volume.specs.Transacted.{changed_by, first_opened, forgotte
 ghost use Rattle.txf_volume.specs.Uses.{IsSteady};
 ghost use Rattle.txf_volume.specs.Writes.{CanBeCounted};
 
-use crate::change::{next_after, node_of};
 use crate::files::{Files, fixed_bytes};
 use crate::own::Own;
 use crate::own_change::change_own;
@@ -21,6 +20,7 @@ use ktm_base::{Id, NoMemory};
 use ktm_types::Change;
 use txf_calls::{OpenFile, Plan};
 use txf_overlay::law_of_own_forms;
+use txf_tree::{next_after, node_of};
 
 // The transaction has changed nothing from now on.
 fn drop_own(overlays: &mut Vec<Own>, transaction: Id)

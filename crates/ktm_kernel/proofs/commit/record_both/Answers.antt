@@ -3,7 +3,7 @@ use Rattle.std.proofs.lemmas.List.Elements.{recursion_from_All}
 use Rattle.ktm_event.specs.Spelling.{IsSpellableEvent}
 use Rattle.ktm_event.specs.Work.{part_of}
 use Rattle.ktm_event.specs.declared.work.Stage.TheVariants.{Ready as Prepared}
-use Rattle.ktm_kernel.specs.Decided.{parts_events}
+use Rattle.ktm_forms.specs.Commits.{parts_events}
 use Rattle.ktm_kernel.proofs.Rooms.{both_size, fits, no_room, some_room}
 use Rattle.ktm_kernel.proofs.commit.record_both.Goals as goal
 

@@ -6,7 +6,7 @@ use Rattle.ktm_types.specs.declared.event.Part.TheVariants.{Changes, Settings}
 use Rattle.ktm_world.specs.Files.{own_changes}
 use Rattle.ktm_world.specs.Keys.{own_settings}
 use Rattle.txf_volume.specs.Held.{files_of}
-use Rattle.ktm_kernel.specs.Decided.{parts_events}
+use Rattle.ktm_forms.specs.Commits.{parts_events}
 use Rattle.ktm_kernel.proofs.CommitGroups.{both_done, changes_are, only_changed, spelled_all, spelled_one}
 use Rattle.ktm_kernel.proofs.commit.record_commit.Goals as goal
 

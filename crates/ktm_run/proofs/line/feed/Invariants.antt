@@ -1,6 +1,6 @@
 use Rattle.std.proofs.Common.{◌≡◌, ◌≤◌, ℕ, List, ◌++◌, length, vec_capacity}
 use Rattle.ktm_kernel.specs.Stands.{IsReady}
-use Rattle.ktm_run.specs.Progress.{Progress}
+use Rattle.ktm_run.specs.Progress.{Progress, point}
 use Rattle.ktm_run.specs.Script.{kept_of, lines_from, part_from}
 use Rattle.ktm_run.proofs.line.feed.Given as goal
 
@@ -9,8 +9,8 @@ invariant-loop-end g l = record {
   -- the part that is kept now, and the lines that were done
   went : (part : List ℕ) → l.fn.kept.items ≡ kept_of part → (now : List ℕ) × (lines : List (List ℕ)) × (l.kept.items ≡ kept_of now)
       × (lines ++ lines_from now l.rest ≡ lines_from part l.bytes) × (part_from now l.rest ≡ part_from part l.bytes) × Progress
-      (record { scene = record { machine = l.fn.kernel; disk = g.D.Disk.told l.fn.disk; status = g.D.Disk.status l.fn.disk }; taken = g.K.Sink.taken l.fn.sink })
-      (record { scene = record { machine = l.kernel; disk = g.D.Disk.told l.disk; status = g.D.Disk.status l.disk }; taken = g.K.Sink.taken l.sink })
+      (point l.fn.kernel (g.D.Disk.told l.fn.disk) (g.D.Disk.status l.fn.disk) (g.K.Sink.taken l.fn.sink))
+      (point l.kernel (g.D.Disk.told l.disk) (g.D.Disk.status l.disk) (g.K.Sink.taken l.sink))
       lines;
   room : 140001 ≤ vec_capacity l.kept;
   ready : IsReady l.kernel (g.D.Disk.told l.disk) (g.D.Disk.status l.disk);

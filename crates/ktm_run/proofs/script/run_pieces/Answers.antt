@@ -1,8 +1,9 @@
 use Rattle.std.proofs.Common.{◌≡◌, ℕ, List, [], ◌++◌, length, take, refl, sym, ◌∙◌, ap, arith, length-append, length-take}
+use Rattle.ktm_base.specs.declared.limits.TheConstants.{MOST_SCRIPT_BYTES}
 use Rattle.ktm_run.proofs.Known.{Consumes-none, Consumes-trans, Consumes-end, Consumes-kept}
 use Rattle.ktm_run.proofs.Lines.{lines_from-append, part_from-append, take_front}
 use Rattle.ktm_run.proofs.Runs.{Progress-none, Progress-then, Progress-as, Stops-after, Stops-within, Stops-as}
-use Rattle.ktm_run.specs.Script.{lines_from, part_from, last_line, kept_of, most_script}
+use Rattle.ktm_run.specs.Script.{lines_from, part_from, last_line, kept_of}
 use Rattle.ktm_run.proofs.script.run_pieces.Goals as goal
 
 pub pieces-init : goal.pieces-init
@@ -99,9 +100,9 @@ pub returns-then-left-eq0-clause-behind : goal.returns-then-left-eq0-clause-behi
 returns-then-left-eq0-clause-behind g c = λ same.
     let (script, read, long, kept, went) = c.pieces.invariant.went in
     let piece = take c.in-Ok.count c.read_some.new.buffer in
-    let full : length script ≡ most_script = omega (arith, long, c.if-left-eq0.true) in (
+    let full : length script ≡ MOST_SCRIPT_BYTES = omega (arith, long, c.if-left-eq0.true) in (
       script ++ piece,
       Consumes-trans _ _ _ script piece read c.in-Ok.ensures.reads,
       omega (arith, length-append {A = ℕ}, length-take {A = ℕ}, long, c.in-Ok.ensures.within, c.in-Ok.ensures.count, c.max.ensures, c.if-left-eq0.true, c.if-count-eq0.false),
-      Progress-as _ _ _ _ (ap (λ (l : List ℕ). lines_from [] l) (sym (take_front most_script script piece full))) went,
+      Progress-as _ _ _ _ (ap (λ (l : List ℕ). lines_from [] l) (sym (take_front MOST_SCRIPT_BYTES script piece full))) went,
     )

@@ -1,10 +1,11 @@
 use Rattle.std.proofs.Common.{Err, [], true, false, ◌+◌, ◌-◌, ◌*◌, refl, ap, subst, sym, ◌∙◌, arith}
+use Rattle.ktm_base.specs.declared.limits.TheConstants.{MOST_UNITS}
 use Rattle.ktm_base.proofs.Images.{calls_law}
 use Rattle.ktm_base.proofs.ToldSteps.{IfTold-map}
 use Rattle.ktm_log.specs.declared.area.Area.{Area}
 use Rattle.ktm_world.specs.Tree.{IsWellFormed}
 use Rattle.ktm_world.specs.World.{own_group}
-use Rattle.txf_volume.specs.Held.{tree_units}
+use Rattle.ktm_laws.proofs.CommittedUnits.{tree_units}
 use Rattle.ktm_kernel.specs.Memory.{held, now_of}
 use Rattle.ktm_kernel.proofs.Restarts.{found, next_applies, own_held, own_length, unwritten_leaves, journal_at, found_grammatical, is_full, not_full, started, cut_off, fresh_now, held_fresh, fresh_ready}
 use Rattle.ktm_kernel.proofs.kernel.Kernel.restart.Goals as goal
@@ -38,10 +39,10 @@ pub start-requires-clause-units : goal.start-requires-clause-units
 start-requires-clause-units g c = c.into_files_and_keys-files.ensures.units ∙ ap tree_units (sym c.into_files_and_keys-files.ensures.tree)
 
 pub returns-in-Err-Down-append-clause-calls : goal.returns-in-Err-Down-append-clause-calls
-returns-in-Err-Down-append-clause-calls g c = calls_law _ _ _ (8 * 1024 + 64) 4 true c.in-Ok.ensures.calls (rw c.in-Err-Down-append.field-0-is at c.in-Err-Down-append.ensures.calls)
+returns-in-Err-Down-append-clause-calls g c = calls_law _ _ _ (8 * MOST_UNITS + 64) 4 true c.in-Ok.ensures.calls (rw c.in-Err-Down-append.field-0-is at c.in-Err-Down-append.ensures.calls)
 
 pub returns-clause-calls : goal.returns-clause-calls
-returns-clause-calls g c = calls_law _ _ _ (8 * 1024 + 64) 4 false c.in-Ok.ensures.calls c.in-Ok-append.ensures.calls
+returns-clause-calls g c = calls_law _ _ _ (8 * MOST_UNITS + 64) 4 false c.in-Ok.ensures.calls c.in-Ok-append.ensures.calls
 
 pub returns-clause-found : goal.returns-clause-found
 returns-clause-found g c = IfTold-map (g.D.Disk.told c.args.disk.now) _ _ c.in-Ok.ensures.stands (λ s stands. (c.in-Ok.loaded.state, stands))

@@ -9,7 +9,7 @@ use Rattle.ktm_kernel.proofs.kernel.Kernel.start_again.Goals as goal
 pub returns-in-Ok-clause-does : goal.returns-in-Ok-clause-does
 returns-in-Ok-clause-does g c = λ pick w at.
     let is = ap (λ (m : MemoryState). record { now = now_of c.kernel.inside.journal (held m); journal = c.kernel.inside.journal }) c.replace-in-Ok.ensures.after ∙ c.kernel.view_is in
-    subst (λ (k : KernelState). DoesLine w (Some (Restart pick)) (Restarted c.in-Ok.field-0.events c.in-Ok.field-0.in_doubt) k (g.D.Disk.told c.restart.new.disk)) (sym is)
+    subst (λ (k : KernelState). DoesLine w (Some (Restart pick)) (Restarted c.in-Ok.restarted.events c.in-Ok.restarted.in_doubt) k (g.D.Disk.told c.restart.new.disk)) (sym is)
     (started_line c.law_of_standing.ensures c.args.self.now _ _ _ (g.D.Disk.told c.args.disk.now) (g.D.Disk.told c.restart.new.disk) c.in-Ok.ensures.starts pick w at)
 
 pub returns-in-Ok-clause-few : goal.returns-in-Ok-clause-few

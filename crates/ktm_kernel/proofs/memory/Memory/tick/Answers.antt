@@ -2,11 +2,11 @@ use Rattle.std.proofs.Common.{◌≡◌, ◌+◌, ◌≤◌, suc, List, filter, 
 use Rattle.std.proofs.lemmas.List.Sums.{length-filter}
 use Rattle.std.proofs.lemmas.Option.{slice_get_within}
 use Rattle.std.specs.List.{slice_get}
+use Rattle.ktm_base.specs.declared.limits.TheConstants.{MOST_LIVE}
 use Rattle.ktm_built.proofs.Distinct.{Rise, rise-ended}
 use Rattle.ktm_built.specs.Forms.{with_tick}
 use Rattle.ktm_types.specs.declared.object.Transaction.{Transaction}
 use Rattle.ktm_types.specs.declared.object.TransactionOutcome.{TransactionOutcome}
-use Rattle.ktm_world.specs.Limits.{most_live}
 use Rattle.ktm_world.specs.Transactions.{is_live}
 use Rattle.ktm_world.specs.TransactionCalls.{is_due}
 use Rattle.ktm_kernel.specs.Memory.{held, now_of}
@@ -19,7 +19,7 @@ loop-t-init c =
     let items : c.advance.new.self.now.items ≡ c.args.self.now.tm.now.items = ap (λ now. now.items) c.advance.ensures.now ∙ ap (λ m. m.tm.now.items) c.self.view_is in
     record {
       rise = subst Rise (sym items) c.requires.0;
-      few = subst (λ (ts : List Transaction). length (filter is_live ts) ≤ most_live) (sym items) (omega (arith, length-filter is_live c.args.self.now.tm.now.items, c.requires.1));
+      few = subst (λ (ts : List Transaction). length (filter is_live ts) ≤ MOST_LIVE) (sym items) (omega (arith, length-filter is_live c.args.self.now.tm.now.items, c.requires.1));
       ticked = λ j.
           rw (c.advance.ensures.boot, c.advance.ensures.now)
           (ticked_all (now_of j (held (record { is_up = c.self.inside.is_up; handles = c.self.inside.handles; tm = c.self.inside.tm; files = c.self.inside.files; next_node = c.self.inside.next_node; keys = c.self.inside.keys }))) c.args.ms (subst (λ m. Rise m.tm.now.items) (sym c.self.view_is) c.requires.0)
@@ -52,7 +52,7 @@ loop-t-preserved-then-is_due c =
     let items = items_then c.loop-t.self c.roll_back.new.self c.in-Some.t c.roll_back.ensures.now in
     record {
       rise = subst Rise (sym items) (rise-ended TransactionOutcome.Aborted c.loop-t.self.tm.now.items c.in-Some.t.id c.loop-t.invariant.rise);
-      few = subst (λ (ts : List Transaction). length (filter is_live ts) ≤ most_live) (sym items) (omega (arith, at.fewer, c.loop-t.invariant.few));
+      few = subst (λ (ts : List Transaction). length (filter is_live ts) ≤ MOST_LIVE) (sym items) (omega (arith, at.fewer, c.loop-t.invariant.few));
       ticked = λ j.
           ap (λ x. ticked_from x c.loop-t.place) (c.roll_back.ensures.now j) ∙ ticked_due (now_of j (held c.loop-t.self)) c.loop-t.place c.in-Some.t at due ∙ c.loop-t.invariant.ticked j;
     }

@@ -2,7 +2,8 @@ use Rattle.std.proofs.Common.{◌≡◌, ◌==◌, [], Some, None, filter, sym, 
 use Rattle.std.proofs.lemmas.Bool.{eq-eqb}
 use Rattle.ktm_links.specs.Items.{value_at}
 use Rattle.txf_opens.specs.Indexed.{is_any, opens_of}
-use Rattle.txf_opens.specs.Names.{group_bytes, group_name, node_bytes, number_bytes, number_name}
+use Rattle.ktm_links.specs.Numbers.{number_bytes, long_bytes}
+use Rattle.txf_opens.specs.Names.{group_bytes, group_name, number_name}
 use Rattle.txf_opens.specs.OpensState.{is_other_number, OpensState}
 use Rattle.txf_opens.proofs.Adding.{one_number, was_there, AreUses-take, IsIndex-take, IsLess}
 use Rattle.txf_opens.proofs.Bytes.{group_name-tells, number_name-tells}
@@ -41,7 +42,7 @@ invariant_of-self c =
           (c.group_name.ensures ∙ ap (λ n. group_bytes file.transaction (number_bytes n [])) (sym number)) c.take-2.ensures.takes;
       by_use =
           AreUses-take _ _ _ _ c.in-Some.key file _ c.self.invariant.by_use is one
-          (c.use_name.ensures ∙ ap (λ n. node_bytes file.node (group_bytes file.transaction (number_bytes n []))) (sym number)) c.take-3.ensures.takes;
+          (c.use_name.ensures ∙ ap (λ n. long_bytes file.node (group_bytes file.transaction (number_bytes n []))) (sym number)) c.take-3.ensures.takes;
       distinct = rw c.in-Some-unlink.ensures.items (AreDistinct-without _ c.in-Some.key c.self.invariant.distinct);
       below = λ k f f_there. c.self.invariant.below k f (was_there _ _ c.in-Some.key file k f is f_there);
       small = c.self.invariant.small;

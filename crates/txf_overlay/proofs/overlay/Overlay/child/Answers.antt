@@ -7,9 +7,9 @@ use Rattle.txf_overlay.specs.Views.{seats_of}
 use Rattle.txf_overlay.proofs.Views.{child-held, child-is, child-long, seated, IsOneEach-from}
 use Rattle.txf_overlay.proofs.overlay.Overlay.child.Goals as goal
 
-pub returns-then-name-gt-LONGEST_NAME : goal.returns-then-name-gt-LONGEST_NAME
-returns-then-name-gt-LONGEST_NAME c =
-    child-long (seen (tree_of c.args.tree.now) c.args.self.now) c.args.directory c.args.name.now c.requires.after c.if-name-gt-LONGEST_NAME.true
+pub returns-then-name-gt-MOST_NAME_BYTES : goal.returns-then-name-gt-MOST_NAME_BYTES
+returns-then-name-gt-MOST_NAME_BYTES c =
+    child-long (seen (tree_of c.args.tree.now) c.args.self.now) c.args.directory c.args.name.now c.requires.after c.if-name-gt-MOST_NAME_BYTES.true
 
 pub returns-in-Some : goal.returns-in-Some
 returns-in-Some c =

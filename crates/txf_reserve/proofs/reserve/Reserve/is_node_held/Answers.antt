@@ -8,5 +8,5 @@ pub returns : goal.returns
 returns c =
     rw (← c.self.view_is)
     (c.is_held_by_other.ensures
-    ∙ ap (λ k. list_any (is_of_other k c.args.who) c.self.inside.nodes.pairs) c.node_bytes.ensures
+    ∙ ap (λ k. list_any (is_of_other k c.args.who) c.self.inside.nodes.pairs) c.long_bytes.ensures
     ∙ number_others c.self.inside.nodes.pairs c.self.invariant.nodes_are c.args.who c.args.node)

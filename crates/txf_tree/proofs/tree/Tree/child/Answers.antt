@@ -3,8 +3,8 @@ use Rattle.txf_tree.specs.Indexes.{under}
 use Rattle.txf_tree.proofs.Naming.{child_long, child_number}
 use Rattle.txf_tree.proofs.tree.Tree.child.Goals as goal
 
-pub returns-then-name-gt-MOST_CHARACTERS : goal.returns-then-name-gt-MOST_CHARACTERS
-returns-then-name-gt-MOST_CHARACTERS c =
+pub returns-then-name-gt-MOST_NAME_BYTES : goal.returns-then-name-gt-MOST_NAME_BYTES
+returns-then-name-gt-MOST_NAME_BYTES c =
     rw (← c.self.view_is) (child_long _ _ c.args.directory c.args.name.now c.self.invariant.named (omega arith))
 
 pub returns : goal.returns

@@ -1,4 +1,5 @@
 use Rattle.std.proofs.Common.{◌≡◌, ◌≤◌, ◌∙◌, None, length, ap, ap₂, sym, arith}
+use Rattle.ktm_base.specs.declared.limits.TheConstants.{MOST_NAME_BYTES}
 use Rattle.ktm_types.specs.declared.recorded.Node.{Node}
 use Rattle.txf_tree.specs.Indexes.{name_of, under}
 use Rattle.txf_tree.specs.Places.{child_name}
@@ -41,7 +42,7 @@ invariant_of-self c =
     c.child_name.ensures ∙ ap (child_name c.args.parent) c.as_slice-2.ensures ∙ ap name_of (sym c.rename.ensures.node) in
     let free : under c.self.inside.names.entries (name_of c.rename.new.self.node) ≡ None =
     ap (λ n. under c.self.inside.names.entries (name_of n)) c.rename.ensures.node ∙ name_free _ _ c.args.parent c.args.name c.self.invariant can.free in
-    let few : length c.rename.new.self.node.name ≤ 255 = rw c.rename.ensures.node can.few in
+    let few : length c.rename.new.self.node.name ≤ MOST_NAME_BYTES = rw c.rename.ensures.node can.few in
     let swap =
     IsSwapped-from _ _ _ c.args.node _ _ _ c.hollow.ensures c.replace-stored.ensures.was c.replace-stored.ensures.nodes (ap (λ (n : Node). n.number) c.rename.ensures.node)
     c.replace.ensures.nodes in

@@ -96,7 +96,7 @@ abbrev pub Rises : Tree → Type 0
 Rises [] = ⊤
 Rises (x ∷ xs) = Above x.number xs × Rises xs
 
-Above-lower : (m n : ℕ) (tree : Tree) → m ≤ n → Above n tree → Above m tree
+pub Above-lower : (m n : ℕ) (tree : Tree) → m ≤ n → Above n tree → Above m tree
 Above-lower m n [] low above = tt
 Above-lower m n (x ∷ xs) low above = (omega (arith, above.0), Above-lower m n xs low above.1)
 
