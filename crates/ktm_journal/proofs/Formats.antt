@@ -2,6 +2,7 @@
 use Rattle.std.proofs.Common.{◌≡◌, ◌⊎◌, inl, inr, ℕ, ◌+◌, ◌-◌, ◌%◌, ◌≤◌, List, [], ◌∷◌, length, get_or, take, drop, refl, sym, ◌∙◌, ap, subst, arith}
 use Rattle.std.proofs.lemmas.List.{take-take, drop-take, get_or-take}
 use Rattle.std.specs.Int.{from_le_bytes, w16, w32}
+use Rattle.ktm_base.specs.declared.limits.TheConstants.{LEAST_UNITS, MOST_UNITS}
 use Rattle.ktm_base.specs.Bytes.{written}
 use Rattle.ktm_base.specs.Disk.{DiskState, IsSafe, Grew}
 use Rattle.ktm_base.proofs.Images.{same_written, length-written}
@@ -79,7 +80,7 @@ header_part h b from n is fits =
     ∙ ap (λ (l : List ℕ). take n l) (drop-take from (18 - from) b)
     ∙ take-take n (18 - from) (drop from b) (omega arith))
 
-pub headed : (units image : ℕ) (h : List ℕ) (a b : DiskState) → 16 ≤ units → units ≤ 1024 → IsLaid units a.seen → IsHeader units image h → SettledBoth 0 h 2048 (0 ∷ []) a b → IsSafe b × IsLaid units b.seen × IsFormatted units image b.seen
+pub headed : (units image : ℕ) (h : List ℕ) (a b : DiskState) → LEAST_UNITS ≤ units → units ≤ MOST_UNITS → IsLaid units a.seen → IsHeader units image h → SettledBoth 0 h 2048 (0 ∷ []) a b → IsSafe b × IsLaid units b.seen × IsFormatted units image b.seen
 headed units image h a b least most was header settled =
     let apart : 0 + length h ≤ 2048 = omega (arith, header.long) in
     let fits : 2048 + 1 ≤ length a.seen = omega (arith, was.long) in

@@ -2,6 +2,7 @@
 use Rattle.std.proofs.Common.{◌≡◌, ℕ, suc, get_or, ◌≤◌, ◌<◌, ◌^◌, true, List, [], ◌∷◌, refl, sym, subst}
 use Rattle.std.proofs.lemmas.Bool.{and_from}
 use Rattle.std.specs.List.{list_all}
+use Rattle.ktm_base.specs.declared.limits.TheConstants.{LEAST_UNITS}
 use Rattle.ktm_base.specs.Bytes.{AreBytes}
 use Rattle.ktm_laws.specs.GoodState.{IsGoodState}
 use Rattle.ktm_laws.specs.GoodStates.{GoodStatesLaw}
@@ -25,7 +26,7 @@ spelled_grammatical law (group ∷ log) spelled =
     let (bytes, are_bytes, is) = spelled.0 in
     and_from (list_all is_grammatical group) (list_all (list_all is_grammatical) log) (law.1 group bytes are_bytes is) (spelled_grammatical law log spelled.1)
 
-pub comes_to_good : GrammarLaw → GoodStatesLaw → (units image : ℕ) (bytes : List ℕ) (state : Durable) → 16 ≤ units → image < 2 ^ 16 → AreBytes bytes
+pub comes_to_good : GrammarLaw → GoodStatesLaw → (units image : ℕ) (bytes : List ℕ) (state : Durable) → LEAST_UNITS ≤ units → image < 2 ^ 16 → AreBytes bytes
     → ComesTo units image (payloads_in bytes) state → IsGoodState state
 comes_to_good grammar good units image bytes state least number are_bytes comes =
     let spelled = groups_spelled comes.log (payloads_in bytes) comes.groups (payload_bytes bytes are_bytes) in

@@ -8,3 +8,4 @@ pub mod Spelled
 pub mod OneImage
 pub mod Groups
 pub mod GoodLogs
+mod Past

@@ -2,6 +2,7 @@
 use Rattle.std.specs.Prelude.{◌≡◌, ◌⊎◌, ℕ, ◌+◌, ◌-◌, ◌*◌, ◌%◌, ◌≤◌, IsTrue, List, [], ◌∷◌, ◌++◌, length, take, drop, slice_index, codes}
 use Rattle.std.specs.Int.{from_le_bytes, w16, w32}
 use Rattle.std.specs.List.{AllByRecursion}
+use Rattle.ktm_base.specs.declared.limits.TheConstants.{LEAST_UNITS, MOST_UNITS}
 use Rattle.ktm_base.specs.Bytes.{AreBytes}
 use Rattle.ktm_base.specs.Disk.{DiskState, MayLeave}
 use Rattle.ktm_log.specs.declared.area.Area.{Area}
@@ -32,8 +33,8 @@ empty_snapshot =
 
 -- the bytes begin with the header of this image, and are long enough for its areas
 pub record IsHeaded (units image : ℕ) (bytes : List ℕ) : Type 0 where
-  pub least : 16 ≤ units
-  pub most : units ≤ 1024
+  pub least : LEAST_UNITS ≤ units
+  pub most : units ≤ MOST_UNITS
   pub long : image_len units ≤ length bytes
   pub magic : take 8 bytes ≡ codes "KTMTXF01"
   pub layout : from_le_bytes w32 (take 4 (drop 8 bytes)) ≡ 1

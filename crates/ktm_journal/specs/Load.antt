@@ -1,5 +1,6 @@
 -- What a load finds on its way.
 use Rattle.std.specs.Prelude.{◌≡◌, ℕ, ◌+◌, ◌%◌, ◌≤◌, IsTrue, List, ◌∷◌, ◌++◌, Option, None, Some}
+use Rattle.ktm_base.specs.declared.limits.TheConstants.{LEAST_UNITS, MOST_UNITS}
 use Rattle.ktm_log.specs.Log.{end_of}
 use Rattle.ktm_forms.specs.Built.{is_built_log}
 use Rattle.ktm_world.specs.Logs.{Group}
@@ -11,8 +12,8 @@ use Rattle.ktm_journal.specs.Bad.{HasNoHeader, IsBadPayload}
 
 -- the header is that of an image, in bytes of this length and with this selector
 pub record IsFront (units image len selector : ℕ) (header : List ℕ) : Type 0 where
-  pub least : 16 ≤ units
-  pub most : units ≤ 1024
+  pub least : LEAST_UNITS ≤ units
+  pub most : units ≤ MOST_UNITS
   pub long : image_len units ≤ len
   pub even : selector % 2 ≡ 0
   pub header_is : IsHeader units image header

@@ -10,10 +10,10 @@ ghost use Rattle.ktm_world.specs.Changes.{apply_all, changed_all};
 ghost use Rattle.ktm_world.specs.Durable.{Durable, after_events, are_recorded_changes, empty_state, events_apply, is_new_in, is_sole, next_after_all};
 ghost use Rattle.ktm_world.specs.Keys.{are_good_settings, stored_all};
 ghost use Rattle.ktm_world.specs.Tree.{bytes_of, bytes_or_none, units_of};
-ghost use Rattle.ktm_journal.specs.Waiting.{has_units_for, may_wait};
+ghost use Rattle.ktm_journal.specs.Waiting.{has_units_for, may_wait, passes_units};
 ghost use Rattle.txf_tree.specs.TreeState.{tree_of, versions_of};
 
-use ktm_base::{Bytes, Id, NoMemory};
+use ktm_base::{Bytes, Id, NoMemory, UNIT_BYTES};
 use ktm_forms::is_built_group;
 use ktm_keyed::KeyedList;
 use ktm_types::{Change, Event, Part, Setting};
@@ -23,6 +23,7 @@ use std::marker::Model;
 use txf_durable::{
     DurableFiles, FilesRead, are_recorded_changes, name_changes, nodes_made, written_files,
 };
+use txf_tree::bytes_in;
 
 /// The most events that an image may ever record.
 const MOST_EVENTS: u64 = (1 << 63) - 1;
@@ -54,6 +55,23 @@ fn has_room(most: u32, used: usize, more: usize) -> bool
 {
     let most = most as usize;
     used <= most && more <= most - used
+}
+
+// Would the change leave its file longer than all units of the image together: it is then refused before memory is taken for
+// it.
+fn passes_units(units: u32, change: &Change) -> bool
+    ensures { result ≡ passes_units units change.now }
+{
+    let most = u128::from(units) * u128::from(UNIT_BYTES);
+    match change {
+        Change::Put {
+            offset,
+            contents,
+            ..
+        } => u128::from(*offset) + bytes_in(contents).len() as u128 > most,
+        Change::Cut { size, .. } => u128::from(*size) > most,
+        _ => false,
+    }
 }
 
 fn count_set(settings: &[Setting]) -> usize
@@ -179,6 +197,9 @@ impl Durable {
         ensures applies { IfOk result (λ applied. applied ≡ events_apply self.old (Plain change ∷ [])) }
         ensures after { result ≡ Ok true → self.new ≡ after_events self.old (Plain change ∷ []) }
     {
+        if passes_units(self.units, &change) {
+            return Ok(false);
+        }
         let mut changes = Vec::new(self.alloc);
         changes.push(change)?;
         self.change(changes)

@@ -1,13 +1,17 @@
 // Why a journal was not opened.
+use thiserror::Error;
 
 /// Why an image was not loaded.
-#[derive(Clone, Copy, Debug, PartialEq, Eq)]
+#[derive(Clone, Copy, Debug, PartialEq, Eq, Error)]
 pub enum LoadFault {
     /// The disk has no power.
+    #[error("the disk has no power")]
     Down,
     /// The bytes are no image of a state, for what stands at this offset: 0 for the length and the header, 4,096 for the
     /// snapshot, or the gate of the first bad frame.
+    #[error("bad image at {0}")]
     Bad(u64),
     /// Memory was wanted and not to be had. Nothing was written.
+    #[error("out of memory")]
     NoMemory,
 }

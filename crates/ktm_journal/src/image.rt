@@ -1,5 +1,6 @@
 // What a new image holds, and how it is written.
 ghost use Rattle.std.specs.Prelude.{false, ◌≡◌, ℕ, ◌+◌, ◌≤◌, length, OnOk, OnErr, is_err};
+ghost use Rattle.ktm_base.specs.declared.limits.TheConstants.{LEAST_UNITS, MOST_UNITS};
 ghost use Rattle.ktm_base.specs.Told.{IfTold, Goes};
 ghost use Rattle.ktm_base.specs.Disk.{DeviceCalls, IsSafe};
 ghost use Rattle.ktm_journal.specs.Image.{IsFormatted, area_len, empty_snapshot, image_len, log_area};
@@ -13,14 +14,14 @@ pub(crate) const SELECTOR_AT: u64 = 2048;
 pub(crate) const SNAPSHOT_AT: u64 = 4096;
 
 fn area_len(units: u32) -> u64
-    requires { units ≤ 1024 }
+    requires { units ≤ MOST_UNITS }
     ensures { result ≡ area_len units }
 {
     8192 * u64::from(units) + 65536
 }
 
 pub(crate) fn image_len(units: u32) -> u64
-    requires { units ≤ 1024 }
+    requires { units ≤ MOST_UNITS }
     ensures { result ≡ image_len units }
 {
     SNAPSHOT_AT + 4 * area_len(units)
@@ -28,7 +29,7 @@ pub(crate) fn image_len(units: u32) -> u64
 
 /// The area of the log.
 pub(crate) fn log_area(units: u32) -> Area
-    requires { units ≤ 1024 }
+    requires { units ≤ MOST_UNITS }
     ensures { result ≡ log_area units }
 {
     let len = area_len(units);
@@ -89,7 +90,7 @@ fn settle_both<D: Disk>(
 
 /// Makes room for an image, and writes what lies behind its header.
 pub(crate) fn lay<D: Disk>(disk: &mut D, units: u32) -> Result<(), Down>
-    requires small { units ≤ 1024 }
+    requires small { units ≤ MOST_UNITS }
     requires pending { (D.status disk.old).pending ≡ 0 }
     ensures ok { OnOk result (Goes (λ old new. IsLaid units new.seen) (D.told disk.old) (D.told disk.new)) }
     ensures err { OnErr result (Goes Anything (D.told disk.old) (D.told disk.new)) }
@@ -109,8 +110,8 @@ pub(crate) fn lay<D: Disk>(disk: &mut D, units: u32) -> Result<(), Down>
 
 /// Writes the header before what was laid.
 pub(crate) fn put_header<D: Disk>(disk: &mut D, units: u32, image: u16) -> Result<(), Down>
-    requires from { 16 ≤ units }
-    requires to { units ≤ 1024 }
+    requires from { LEAST_UNITS ≤ units }
+    requires to { units ≤ MOST_UNITS }
     requires laid { IfTold (D.told disk.old) (λ s. IsLaid units s.seen) }
     requires pending { (D.status disk.old).pending ≡ 0 }
     ensures ok { OnOk result (Goes (λ old new. IsSafe new × IsLaid units new.seen × IsFormatted units image new.seen) (D.told disk.old) (D.told disk.new)) }

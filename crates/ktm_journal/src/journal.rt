@@ -1,5 +1,6 @@
 // The journal of an image, and how it grows.
 ghost use Rattle.std.specs.Prelude.{◌^◌, ◌≡◌, ◌↔◌, ℕ, ◌+◌, ◌-◌, ◌*◌, ◌<◌, ◌≤◌, List, [], ◌∷◌, ◌++◌, length, IfOk, OnOk, OnErr, IfErr, IsTrue, Err, false, is_err, vec_capacity};
+ghost use Rattle.ktm_base.specs.declared.limits.TheConstants.{LEAST_UNITS, MOST_UNITS, MOST_PENDING};
 ghost use Rattle.ktm_base.specs.Told.{IfTold, Tells, Goes};
 ghost use Rattle.ktm_base.specs.Disk.{DeviceCalls, IsSafe};
 ghost use Rattle.ktm_log.specs.Fault.{IfAppendDown, append_went_down};
@@ -34,13 +35,14 @@ pub struct Journal {
 
 impl Model for Journal {
     ghost use Rattle.std.specs.Prelude.{◌≡◌, ◌*◌, ◌≤◌};
+    ghost use Rattle.ktm_base.specs.declared.limits.TheConstants.{MOST_UNITS};
     ghost use Rattle.ktm_journal.specs.Image.{JournalState, log_area};
 
     ghost Value = { JournalState };
 
     ghost view = { λ j. record { units = j.units; image = j.image; log = j.log; events = j.events } };
 
-    ghost invariant = { λ j. (j.units ≤ 1024) × (j.log.area ≡ log_area j.units) × (5 * j.events ≤ j.log.end) };
+    ghost invariant = { λ j. (j.units ≤ MOST_UNITS) × (j.log.area ≡ log_area j.units) × (5 * j.events ≤ j.log.end) };
 }
 
 /// A journal that was loaded, and the durable state that its image stands for.
@@ -54,8 +56,8 @@ impl Journal {
     /// Makes the disk a new image, whatever it held. It takes no memory. A format that the power ended leaves an image that
     /// may stand for nothing.
     pub fn format<D: Disk>(disk: &mut D, units: u32, image: u16) -> Result<(), Down>
-        requires from { 16 ≤ units }
-        requires to { units ≤ 1024 }
+        requires from { LEAST_UNITS ≤ units }
+        requires to { units ≤ MOST_UNITS }
         requires pending { (D.status disk.old).pending ≡ 0 }
         ensures ok { OnOk result (Goes (λ old new. IsSafe new × HoldsLog units image [] new.seen) (D.told disk.old) (D.told disk.new)) }
         ensures down { OnErr result (Goes Anything (D.told disk.old) (D.told disk.new)) }
@@ -79,7 +81,7 @@ impl Journal {
         disk: &mut D,
         buffer: &mut Vec<u8>,
     ) -> Result<Loaded, LoadFault>
-        ensures units { IfOk result (λ loaded. (loaded.journal.units ≡ loaded.state.units) × (16 ≤ loaded.state.units) × (loaded.state.units ≤ 1024)) }
+        ensures units { IfOk result (λ loaded. (loaded.journal.units ≡ loaded.state.units) × (LEAST_UNITS ≤ loaded.state.units) × (loaded.state.units ≤ MOST_UNITS)) }
         ensures image { IfOk result (λ loaded. loaded.journal.image ≡ loaded.state.image) }
         ensures number { IfOk result (λ loaded. loaded.state.image < 2 ^ 16) }
         ensures area { IfOk result (λ loaded. loaded.journal.log.area ≡ log_area loaded.state.units) }
@@ -101,7 +103,7 @@ impl Journal {
         ensures pending { (D.status disk.new).pending ≡ (D.status disk.old).pending }
         ensures up { OnOk result ((D.status disk.new).is_down ≡ false) }
         ensures up_bad { IfBad result (λ offset. (D.status disk.new).is_down ≡ false) }
-        ensures calls { DeviceCalls (8 * 1024 + 64) (D.status disk.old) (D.status disk.new) (load_went_down result) }
+        ensures calls { DeviceCalls (8 * MOST_UNITS + 64) (D.status disk.old) (D.status disk.new) (load_went_down result) }
         ensures few { (units image : ℕ) → Tells (D.told disk.old) (λ s. IsHeaded units image s.seen) → (D.status disk.new).calls ≤ (D.status disk.old).calls + (8 * units + 64) }
     {
         let header = match read_form(disk) {
@@ -118,8 +120,8 @@ impl Journal {
         header: Header,
         buffer: &mut Vec<u8>,
     ) -> Result<Loaded, LoadFault>
-        requires least { 16 ≤ header.units }
-        requires most { header.units ≤ 1024 }
+        requires least { LEAST_UNITS ≤ header.units }
+        requires most { header.units ≤ MOST_UNITS }
         requires formatted { IfTold (D.told disk.old) (λ s. IsFormatted header.units header.image s.seen) }
         ensures units { IfOk result (λ loaded. (loaded.journal.units ≡ header.units) × (loaded.state.units ≡ header.units)) }
         ensures image { IfOk result (λ loaded. (loaded.journal.image ≡ header.image) × (loaded.state.image ≡ header.image)) }
@@ -171,7 +173,7 @@ impl Journal {
     /// Records events as one group: once it is answered no loss of power takes it. It takes no memory and copies nothing, and
     /// makes four device calls.
     pub fn append<D: Disk>(&mut self, disk: &mut D, events: &Events) -> Result<(), AppendFault>
-        requires pending { (D.status disk.old).pending < 64 }
+        requires pending { (D.status disk.old).pending < MOST_PENDING }
         requires formatted { IfTold (D.told disk.old) (λ s. IsFormatted self.old.units self.old.image s.seen) }
         requires some { 1 ≤ events.now.count }
         ensures units { self.new.units ≡ self.old.units }

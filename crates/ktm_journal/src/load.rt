@@ -1,6 +1,5 @@
 // Reading an image.
-ghost use Rattle.std.specs.Prelude.{◌≡◌, ◌↔◌, ◌&&◌, ℕ, ◌+◌, ◌^◌, ◌<◌, ◌≤◌, List, length, take, drop, None, Ok, IfOk, IfSome, OnOk, IsTrue, is_err, false, true};
-ghost use Rattle.std.specs.Int.{from_le_bytes, w16, w32};
+ghost use Rattle.std.specs.Prelude.{◌≡◌, ◌↔◌, ◌&&◌, ℕ, ◌+◌, ◌^◌, ◌<◌, ◌≤◌, List, length, None, Ok, IfOk, IfSome, OnOk, IsTrue, is_err, false, true};
 ghost use Rattle.ktm_base.specs.Bytes.{AreBytes};
 ghost use Rattle.ktm_base.specs.Told.{IfTold};
 ghost use Rattle.ktm_base.specs.Disk.{DeviceCalls};
@@ -18,7 +17,8 @@ ghost use Rattle.ktm_journal.specs.Load.{BeginsAnImage, ComesTo, IsFirstBad, IsF
 use crate::LoadFault;
 use crate::durable::Durable;
 use crate::image::{SELECTOR_AT, SNAPSHOT_AT, empty_snapshot, image_len, log_area};
-use ktm_base::{Disk, Down, NoMemory};
+use ktm_base::{Disk, Down, LEAST_UNITS, MOST_UNITS, NoMemory};
+use ktm_codec::{u16_in, u32_in};
 use ktm_event::{EventFault, read_group};
 use ktm_laws::{law_of_good_states, law_of_grammar};
 use ktm_log::first_payload;
@@ -31,31 +31,17 @@ pub(crate) struct Header {
     pub image: u16,
 }
 
-fn u16_at(bytes: &[u8], at: usize) -> u16
-    requires { at + 2 ≤ length bytes.now }
-    ensures { result ≡ from_le_bytes w16 (take 2 (drop at bytes.now)) }
-{
-    u16::from_le_bytes([bytes[at], bytes[at + 1]])
-}
-
-fn u32_at(bytes: &[u8], at: usize) -> u32
-    requires { at + 4 ≤ length bytes.now }
-    ensures { result ≡ from_le_bytes w32 (take 4 (drop at bytes.now)) }
-{
-    u32::from_le_bytes([bytes[at], bytes[at + 1], bytes[at + 2], bytes[at + 3]])
-}
-
 // What these bytes say, if they begin an image of some size and number.
 fn parse(bytes: &[u8; 18]) -> Option<Header>
     ensures some { IfSome result (λ header. IsHeader header.units header.image bytes.now) }
     ensures none { result ≡ None → (units image : ℕ) → ¬ IsHeader units image bytes.now }
 {
-    if bytes[..8] != b"KTMTXF01"[..] || u32_at(bytes, 8) != 1 {
+    if bytes[..8] != b"KTMTXF01"[..] || u32_in(bytes, 8) != 1 {
         return None;
     }
     Some(Header {
-        units: u32_at(bytes, 12),
-        image: u16_at(bytes, 16),
+        units: u32_in(bytes, 12),
+        image: u16_in(bytes, 16),
     })
 }
 
@@ -67,8 +53,8 @@ fn front(bytes: &[u8; 18], selector: u8, len: u64) -> Option<Header>
     let Some(header) = parse(bytes) else {
         return None;
     };
-    if header.units < 16
-        || 1024 < header.units
+    if header.units < LEAST_UNITS
+        || MOST_UNITS < header.units
         || len < image_len(header.units)
         || selector % 2 != 0
     {
@@ -80,7 +66,7 @@ fn front(bytes: &[u8; 18], selector: u8, len: u64) -> Option<Header>
 // The header of the disk's image, if it has one.
 fn read_header<D: Disk>(disk: &mut D) -> Result<Option<Header>, Down>
     ensures told { IfOk result (λ found. IfTold (D.told disk.old) (λ s. BeginsAnImage found s.seen)) }
-    ensures size { IfOk result (λ found. IfSome found (λ header. (16 ≤ header.units) × (header.units ≤ 1024))) }
+    ensures size { IfOk result (λ found. IfSome found (λ header. (LEAST_UNITS ≤ header.units) × (header.units ≤ MOST_UNITS))) }
     ensures same { D.told disk.new ≡ D.told disk.old }
     ensures pending { (D.status disk.new).pending ≡ (D.status disk.old).pending }
     ensures up { OnOk result ((D.status disk.new).is_down ≡ false) }
@@ -123,7 +109,7 @@ fn read_snapshot<D: Disk>(disk: &mut D) -> Result<bool, Down>
 /// Reads what lies before the log.
 pub(crate) fn read_form<D: Disk>(disk: &mut D) -> Result<Header, LoadFault>
     ensures formatted { IfOk result (λ header. IfTold (D.told disk.old) (λ s. IsFormatted header.units header.image s.seen)) }
-    ensures size { IfOk result (λ header. (16 ≤ header.units) × (header.units ≤ 1024)) }
+    ensures size { IfOk result (λ header. (LEAST_UNITS ≤ header.units) × (header.units ≤ MOST_UNITS)) }
     ensures bad { IfBad result (λ offset. IfTold (D.told disk.old) (λ s. IsBadAt s.seen offset)) }
     ensures same { D.told disk.new ≡ D.told disk.old }
     ensures pending { (D.status disk.new).pending ≡ (D.status disk.old).pending }
@@ -157,8 +143,8 @@ fn apply(alloc: Global, state: &mut Durable, payload: &[u8]) -> Result<bool, NoM
 
 /// The state that the payloads of a log come to, which are read where they lie in its bytes.
 pub(crate) fn fold(alloc: Global, header: Header, bytes: &[u8]) -> Result<Durable, LoadFault>
-    requires least { 16 ≤ header.units }
-    requires most { header.units ≤ 1024 }
+    requires least { LEAST_UNITS ≤ header.units }
+    requires most { header.units ≤ MOST_UNITS }
     ensures good { IfOk result (λ state. ComesTo header.units header.image (payloads_in bytes.now) state) }
     ensures sound { IfOk result IsGoodState }
     ensures keys { IfOk result (λ state. length state.keys ≤ state.units) }
