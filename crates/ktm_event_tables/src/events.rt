@@ -130,31 +130,31 @@ fn each_kind_is_read(rt: HostRuntime) -> Result<(), Fail> {
         (MADE_RM, b"MadeRm { manager: Id { boot: 1, number: 2 } }"),
         (
             MAKE,
-            b"Plain { change: Make { node: 2, parent: 1, kind: Directory, name: Text { items: [100] } } }",
+            b"Plain { change: Make { node: 2, parent: 1, kind: Directory, name: Items { items: [100] } } }",
         ),
         (
             PUT,
-            b"Plain { change: Put { node: 3, offset: 4, contents: Whole(Bytes { items: [97, 98] }) } }",
+            b"Plain { change: Put { node: 3, offset: 4, contents: Whole(Items { items: [97, 98] }) } }",
         ),
         (
             MOVE,
-            b"Plain { change: Move { node: 3, parent: 2, name: Text { items: [101] } } }",
+            b"Plain { change: Move { node: 3, parent: 2, name: Items { items: [101] } } }",
         ),
         (
             READY,
-            b"Ready { transaction: Id { boot: 1, number: 1 }, part: Enlistment { enlistment: Id { boot: 1, number: 3 }, manager: Id { boot: 1, number: 2 }, information: Bytes { items: [105] } } }",
+            b"Ready { transaction: Id { boot: 1, number: 1 }, part: Enlistment { enlistment: Id { boot: 1, number: 3 }, manager: Id { boot: 1, number: 2 }, information: Items { items: [105] } } }",
         ),
         (
             SINGLE_OF_FILES,
-            b"Single { transaction: Id { boot: 1, number: 1 }, part: Changes(Changes { items: [Cut { node: 3, size: 9, pages: PageList { items: [] } }, Drop { node: 3 }] }) }",
+            b"Single { transaction: Id { boot: 1, number: 1 }, part: Changes(Items { items: [Cut { node: 3, size: 9, pages: Items { items: [] } }, Drop { node: 3 }] }) }",
         ),
         (
             SINGLE_OF_KEYS,
-            b"Single { transaction: Id { boot: 1, number: 1 }, part: Settings(Settings { items: [Keyed { key: Text { items: [107] }, value: Some(Bytes { items: [1] }) }] }) }",
+            b"Single { transaction: Id { boot: 1, number: 1 }, part: Settings(Items { items: [Keyed { key: Items { items: [107] }, value: Some(Items { items: [1] }) }] }) }",
         ),
         (
             HELD,
-            b"Held { transaction: Id { boot: 1, number: 1 }, enlistment: Id { boot: 1, number: 3 }, manager: Id { boot: 1, number: 2 }, information: Bytes { items: [] } }",
+            b"Held { transaction: Id { boot: 1, number: 1 }, enlistment: Id { boot: 1, number: 3 }, manager: Id { boot: 1, number: 2 }, information: Items { items: [] } }",
         ),
         (DECIDE, b"Decide { transaction: Id { boot: 1, number: 1 } }"),
         (UNDO, b"Undo { transaction: Id { boot: 1, number: 1 } }"),

@@ -38,31 +38,31 @@ p1 RollbackEnlistment h1 => Process(Pid(1), RollbackEnlistment { enlistment: Lab
 p1 PrePrepareEnlistment h1 => Process(Pid(1), PrePrepareEnlistment { enlistment: Label(1) })
 p1 PrepareEnlistment h1 => Process(Pid(1), PrepareEnlistment { enlistment: Label(1) })
 p1 CommitEnlistment h1 => Process(Pid(1), CommitEnlistment { enlistment: Label(1) })
-p1 SetEnlistmentRecoveryInformation h1 009a => Process(Pid(1), SetEnlistmentRecoveryInformation { enlistment: Label(1), information: Bytes { items: [0, 154] } })
+p1 SetEnlistmentRecoveryInformation h1 009a => Process(Pid(1), SetEnlistmentRecoveryInformation { enlistment: Label(1), information: Items { items: [0, 154] } })
 p1 GetEnlistmentRecoveryInformation h1 => Process(Pid(1), GetEnlistmentRecoveryInformation { enlistment: Label(1) })
-p1 CreateFile h1 "a" r - CREATE_NEW => Process(Pid(1), CreateFile { label: Label(1), path: Text { items: [97] }, access: Read, share: Nothing, disposition: CreateNew })
-p1 CreateFile h1 "a" w r CREATE_ALWAYS => Process(Pid(1), CreateFile { label: Label(1), path: Text { items: [97] }, access: Write, share: Read, disposition: CreateAlways })
-p1 CreateFile h1 "a" rw w OPEN_EXISTING => Process(Pid(1), CreateFile { label: Label(1), path: Text { items: [97] }, access: ReadWrite, share: Write, disposition: OpenExisting })
-p1 CreateFile h1 "a" r rw OPEN_ALWAYS => Process(Pid(1), CreateFile { label: Label(1), path: Text { items: [97] }, access: Read, share: ReadWrite, disposition: OpenAlways })
-p1 CreateFileTransacted h1 "a" w - TRUNCATE_EXISTING h2 => Process(Pid(1), CreateFileTransacted { label: Label(1), path: Text { items: [97] }, access: Write, share: Nothing, disposition: TruncateExisting, transaction: Label(2) })
+p1 CreateFile h1 "a" r - CREATE_NEW => Process(Pid(1), CreateFile { label: Label(1), path: Items { items: [97] }, access: Read, share: Nothing, disposition: CreateNew })
+p1 CreateFile h1 "a" w r CREATE_ALWAYS => Process(Pid(1), CreateFile { label: Label(1), path: Items { items: [97] }, access: Write, share: Read, disposition: CreateAlways })
+p1 CreateFile h1 "a" rw w OPEN_EXISTING => Process(Pid(1), CreateFile { label: Label(1), path: Items { items: [97] }, access: ReadWrite, share: Write, disposition: OpenExisting })
+p1 CreateFile h1 "a" r rw OPEN_ALWAYS => Process(Pid(1), CreateFile { label: Label(1), path: Items { items: [97] }, access: Read, share: ReadWrite, disposition: OpenAlways })
+p1 CreateFileTransacted h1 "a" w - TRUNCATE_EXISTING h2 => Process(Pid(1), CreateFileTransacted { label: Label(1), path: Items { items: [97] }, access: Write, share: Nothing, disposition: TruncateExisting, transaction: Label(2) })
 p1 ReadFile h1 0 18446744073709551615 => Process(Pid(1), ReadFile { file: Label(1), offset: 0, length: 18446744073709551615 })
-p1 WriteFile h1 18446744073709551615 - => Process(Pid(1), WriteFile { file: Label(1), offset: 18446744073709551615, bytes: Bytes { items: [] } })
+p1 WriteFile h1 18446744073709551615 - => Process(Pid(1), WriteFile { file: Label(1), offset: 18446744073709551615, bytes: Items { items: [] } })
 p1 SetEndOfFile h1 18446744073709551615 => Process(Pid(1), SetEndOfFile { file: Label(1), size: 18446744073709551615 })
 p1 GetFileSizeEx h1 => Process(Pid(1), GetFileSizeEx { file: Label(1) })
 p1 FlushFileBuffers h1 => Process(Pid(1), FlushFileBuffers { file: Label(1) })
-p1 DeleteFile "a" => Process(Pid(1), DeleteFile { path: Text { items: [97] } })
-p1 CreateDirectory "a" => Process(Pid(1), CreateDirectory { path: Text { items: [97] } })
-p1 RemoveDirectory "a" => Process(Pid(1), RemoveDirectory { path: Text { items: [97] } })
-p1 MoveFile "a" "a a" => Process(Pid(1), MoveFile { source: Text { items: [97] }, target: Text { items: [97, 32, 97] } })
-p1 DeleteFileTransacted "a" h1 => Process(Pid(1), DeleteFileTransacted { path: Text { items: [97] }, transaction: Label(1) })
-p1 CreateDirectoryTransacted "a" h1 => Process(Pid(1), CreateDirectoryTransacted { path: Text { items: [97] }, transaction: Label(1) })
-p1 RemoveDirectoryTransacted "a" h1 => Process(Pid(1), RemoveDirectoryTransacted { path: Text { items: [97] }, transaction: Label(1) })
-p1 MoveFileTransacted "a" "" h1 => Process(Pid(1), MoveFileTransacted { source: Text { items: [97] }, target: Text { items: [] }, transaction: Label(1) })
-p1 FindFiles "a" => Process(Pid(1), FindFiles { pattern: Text { items: [97] } })
-p1 FindFilesTransacted "a" h1 => Process(Pid(1), FindFilesTransacted { pattern: Text { items: [97] }, transaction: Label(1) })
-p1 KvSet h1 "a" 0aff => Process(Pid(1), KvSet { transaction: Label(1), key: Text { items: [97] }, value: Bytes { items: [10, 255] } })
-p1 KvUnset h1 "a" => Process(Pid(1), KvUnset { transaction: Label(1), key: Text { items: [97] } })
-p1 KvGet - "a" => Process(Pid(1), KvGet { view: Plain, key: Text { items: [97] } })
+p1 DeleteFile "a" => Process(Pid(1), DeleteFile { path: Items { items: [97] } })
+p1 CreateDirectory "a" => Process(Pid(1), CreateDirectory { path: Items { items: [97] } })
+p1 RemoveDirectory "a" => Process(Pid(1), RemoveDirectory { path: Items { items: [97] } })
+p1 MoveFile "a" "a a" => Process(Pid(1), MoveFile { source: Items { items: [97] }, target: Items { items: [97, 32, 97] } })
+p1 DeleteFileTransacted "a" h1 => Process(Pid(1), DeleteFileTransacted { path: Items { items: [97] }, transaction: Label(1) })
+p1 CreateDirectoryTransacted "a" h1 => Process(Pid(1), CreateDirectoryTransacted { path: Items { items: [97] }, transaction: Label(1) })
+p1 RemoveDirectoryTransacted "a" h1 => Process(Pid(1), RemoveDirectoryTransacted { path: Items { items: [97] }, transaction: Label(1) })
+p1 MoveFileTransacted "a" "" h1 => Process(Pid(1), MoveFileTransacted { source: Items { items: [97] }, target: Items { items: [] }, transaction: Label(1) })
+p1 FindFiles "a" => Process(Pid(1), FindFiles { pattern: Items { items: [97] } })
+p1 FindFilesTransacted "a" h1 => Process(Pid(1), FindFilesTransacted { pattern: Items { items: [97] }, transaction: Label(1) })
+p1 KvSet h1 "a" 0aff => Process(Pid(1), KvSet { transaction: Label(1), key: Items { items: [97] }, value: Items { items: [10, 255] } })
+p1 KvUnset h1 "a" => Process(Pid(1), KvUnset { transaction: Label(1), key: Items { items: [97] } })
+p1 KvGet - "a" => Process(Pid(1), KvGet { view: Plain, key: Items { items: [97] } })
 p1 KvList h1 => Process(Pid(1), KvList { view: Transaction(Label(1)) })
 p1 CloseHandle h65535 => Process(Pid(1), CloseHandle { label: Label(65535) })
 p1 DuplicateHandle h1 p64 h2 => Process(Pid(1), DuplicateHandle { label: Label(1), process: Pid(64), source: Label(2) })
@@ -92,7 +92,7 @@ fn a_round_trip(rt: HostRuntime) {
 
 #[test]
 fn bad_lines(rt: HostRuntime) {
-    for line in [
+    for &line in [
         "",
         " ",
         "nonsense",
@@ -167,7 +167,9 @@ fn bad_lines(rt: HostRuntime) {
         "p1 KvList --",
         "p1 KvList - ",
         "p1 DuplicateHandle h1 p65 h2",
-    ] {
+    ]
+    .iter()
+    {
         assert_eq!(rt;
             read_line(rt.alloc(), line.as_bytes()),
             Err(LineFault::BadLine),

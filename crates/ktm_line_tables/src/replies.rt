@@ -28,7 +28,7 @@ fn is_spelled(alloc: Global, reply: Reply, line: &str) -> Result<bool, NoMemory>
 
 #[test]
 fn refusals(rt: HostRuntime) -> Result<(), Fail> {
-    for (refusal, line) in [
+    for &(refusal, line) in [
         (Refusal::BadLine, "BAD_LINE"),
         (Refusal::MachineDown, "MACHINE_DOWN"),
         (
@@ -37,7 +37,9 @@ fn refusals(rt: HostRuntime) -> Result<(), Fail> {
         ),
         (Refusal::WaitTimeout, "WAIT_TIMEOUT"),
         (Refusal::LogFull, "ERROR_LOG_FULL"),
-    ] {
+    ]
+    .iter()
+    {
         assert!(rt;
             is_spelled(rt.alloc(), Reply::Refused(refusal), line)?,
             "{line}"
@@ -59,7 +61,7 @@ fn replies_without_values(rt: HostRuntime) -> Result<(), Fail> {
 fn transactions(rt: HostRuntime) -> Result<(), Fail> {
     let made = Reply::Guid(guid());
     assert!(rt; is_spelled(rt.alloc(), made, "ok 00000001-0002-00ab-0000-00000000cdef")?);
-    for (state, outcome, line) in [
+    for &(state, outcome, line) in [
         (
             TransactionState::Normal,
             TransactionOutcome::Undetermined,
@@ -75,7 +77,9 @@ fn transactions(rt: HostRuntime) -> Result<(), Fail> {
             TransactionOutcome::Committed,
             "ok 00000001-0002-00ab-0000-00000000cdef CommittedNotify Committed",
         ),
-    ] {
+    ]
+    .iter()
+    {
         let transaction = guid();
         let reply = Reply::Information {
             transaction,
@@ -89,7 +93,7 @@ fn transactions(rt: HostRuntime) -> Result<(), Fail> {
 
 #[test]
 fn notifications(rt: HostRuntime) -> Result<(), Fail> {
-    for (kind, line) in [
+    for &(kind, line) in [
         (
             Notify::PrePrepare,
             "ok PREPREPARE 00000001-0002-00ab-0000-00000000cdef",
@@ -102,7 +106,9 @@ fn notifications(rt: HostRuntime) -> Result<(), Fail> {
             Notify::CommitComplete,
             "ok COMMIT_COMPLETE 00000001-0002-00ab-0000-00000000cdef",
         ),
-    ] {
+    ]
+    .iter()
+    {
         let enlistment = Some(guid());
         let reply = Reply::Notification { kind, enlistment };
         assert!(rt; is_spelled(rt.alloc(), reply, line)?, "{line}");
@@ -123,11 +129,13 @@ fn contents_and_sizes(rt: HostRuntime) -> Result<(), Fail> {
         let reply = Reply::Contents(Bytes::new(bytes.to_vec(alloc)?));
         assert!(rt; is_spelled(alloc, reply, line)?, "{line}");
     }
-    for (size, line) in [
+    for &(size, line) in [
         (0, "ok 0"),
         (5, "ok 5"),
         (1_000_000_000_000_000_000, "ok 1000000000000000000"),
-    ] {
+    ]
+    .iter()
+    {
         assert!(rt; is_spelled(alloc, Reply::Size(size), line)?, "{line}");
     }
     Ok(())
@@ -146,14 +154,16 @@ fn names(rt: HostRuntime) -> Result<(), Fail> {
 #[test]
 fn restarts(rt: HostRuntime) -> Result<(), Fail> {
     let alloc = rt.alloc();
-    for (events, in_doubt, line) in [
+    for &(events, in_doubt, line) in [
         (0, u32::MAX, "restarted events=0 indoubt=4294967295"),
         (
             u64::MAX,
             0,
             "restarted events=18446744073709551615 indoubt=0",
         ),
-    ] {
+    ]
+    .iter()
+    {
         let reply = Reply::Restarted { events, in_doubt };
         assert!(rt; is_spelled(alloc, reply, line)?, "{line}");
     }
@@ -177,17 +187,20 @@ fn replies_spelled_as_an_earlier_form(rt: HostRuntime) -> Result<(), Fail> {
             "ok \"k\"",
             Reply::Names(texts(alloc, &["k"])?),
         ),
-    ] {
-        let written = write_reply(alloc, &reply)?;
+    ]
+    .iter()
+    {
+        let written = write_reply(alloc, reply)?;
         assert_eq!(rt; written.as_slice(), line.as_bytes(), "{line}");
-        assert_eq!(rt; read_reply(alloc, line.as_bytes()), Ok(first), "{line}");
+        let read = read_reply(alloc, line.as_bytes());
+        assert!(rt; read.as_ref() == Ok(first), "{line}");
     }
     Ok(())
 }
 
 #[test]
 fn lines_that_are_no_reply(rt: HostRuntime) {
-    for line in [
+    for &line in [
         "",
         "OK",
         "ok ",
@@ -221,7 +234,9 @@ fn lines_that_are_no_reply(rt: HostRuntime) {
         "BAD_IMAGE 01",
         "BAD_LINE ",
         "ERROR_FILE_EXIST",
-    ] {
+    ]
+    .iter()
+    {
         assert_eq!(rt;
             read_reply(rt.alloc(), line.as_bytes()),
             Err(ReplyFault::NotAReply),

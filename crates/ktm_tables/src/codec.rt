@@ -18,7 +18,7 @@ fn guids(rt: HostRuntime) -> Result<(), Fail> {
         b"00000001-0002-00ab-0001-02030405cdef x".as_slice()
     );
     assert_eq!(rt; read_guid(out.as_slice()), Some((guid, b" x".as_slice())));
-    for text in [
+    for &text in [
         "",
         "00000001-0002-00ab-0001-02030405cde",
         "00000001-0002-00AB-0001-02030405CDEF",
@@ -27,7 +27,9 @@ fn guids(rt: HostRuntime) -> Result<(), Fail> {
         "00000001000200ab000102030405cdef",
         "{00000001-0002-00ab-0001-02030405cdef}",
         "urn:uuid:00000001-0002-00ab-0001-02030405cdef",
-    ] {
+    ]
+    .iter()
+    {
         assert_eq!(rt; read_guid(text.as_bytes()), None, "{text}");
     }
     Ok(())
@@ -48,7 +50,7 @@ fn texts_of_bytes(rt: HostRuntime) -> Result<(), Fail> {
         let read = read_hex_or_dash(alloc, text.as_bytes())?.ok_or("not read")?;
         assert_eq!(rt; read.as_slice(), bytes, "{text}");
     }
-    for text in ["", "0", "0A", "-00", "00-", "0g", "--"] {
+    for &text in ["", "0", "0A", "-00", "00-", "0g", "--"].iter() {
         assert!(rt;
             read_hex_or_dash(alloc, text.as_bytes())?.is_none(),
             "{text}"
@@ -106,27 +108,31 @@ fn cut_short(rt: HostRuntime) {
 
 #[test]
 fn numbers(rt: HostRuntime) {
-    for (most, text, number, rest) in [
+    for &(most, text, number, rest) in [
         (9, "0", 0, ""),
         (9, "00", 0, "0"),
         (64, "64", 64, ""),
         (64, "7 h", 7, " h"),
         (u64::MAX, "18446744073709551615", u64::MAX, ""),
-    ] {
+    ]
+    .iter()
+    {
         assert_eq!(rt;
             read_number(most, text.as_bytes()),
             Some((number, rest.as_bytes())),
             "{text}"
         );
     }
-    for (most, text) in [
+    for &(most, text) in [
         (64, ""),
         (64, "x"),
         (64, "65"),
         (64, "-1"),
         (u64::MAX, "18446744073709551616"),
         (u64::MAX, "99999999999999999999"),
-    ] {
+    ]
+    .iter()
+    {
         assert_eq!(rt; read_number(most, text.as_bytes()), None, "{text}");
     }
     assert_eq!(rt; read_last_number(64, b"64"), Some(64));
@@ -135,7 +141,7 @@ fn numbers(rt: HostRuntime) {
 
 #[test]
 fn quoted_texts(rt: HostRuntime) -> Result<(), Fail> {
-    for (text, quoted) in [("", "\"\""), ("a b", "\"a b\""), ("~", "\"~\"")] {
+    for &(text, quoted) in [("", "\"\""), ("a b", "\"a b\""), ("~", "\"~\"")].iter() {
         let mut out = Vec::new(rt.alloc());
         put_quoted(&mut out, text.as_bytes())?;
         assert_eq!(rt; out.as_slice(), quoted.as_bytes(), "{text}");
@@ -150,7 +156,7 @@ fn quoted_texts(rt: HostRuntime) -> Result<(), Fail> {
         Some((b"k".as_slice(), b"\" \"".as_slice())),
         "up to the next mark"
     );
-    for text in ["", "k\"", "\"", "\"k", "\"k\t\"", "\"\x7f\""] {
+    for &text in ["", "k\"", "\"", "\"k", "\"k\t\"", "\"\x7f\""].iter() {
         assert_eq!(rt; read_quoted(text.as_bytes()), None, "{text}");
     }
     Ok(())

@@ -129,13 +129,15 @@ fn asks_its_file_for_what_it_must(rt: HostRuntime) -> Result<(), Fail> {
 
 #[test]
 fn answers_each_failure_of_its_file(rt: HostRuntime) -> Result<(), Fail> {
-    for (fails, asked) in [
+    for &(fails, asked) in [
         (1, "llgwsf"),
         (2, "lglgwsf"),
         (3, "lgwwsf"),
         (4, "lgwswsf"),
         (5, "lgwsfwsf"),
-    ] {
+    ]
+    .iter()
+    {
         let mut block = FileBlock::over(CountingFile::new(rt.alloc(), fails));
         assert_eq!(rt; change(&mut block), Err(Failed));
         assert_eq!(rt; block.faults(), 1);

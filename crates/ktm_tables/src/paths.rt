@@ -18,17 +18,19 @@ fn long(alloc: Global, names: usize, characters: usize) -> Result<Vec<u8>, Fail>
 #[test]
 fn paths(rt: HostRuntime) -> Result<(), Fail> {
     let alloc = rt.alloc();
-    for (text, names) in [
+    for &(text, names) in [
         ("\\", 0),
         ("\\a", 1),
         ("\\Dir\\g", 2),
         ("\\app\\bin\\f01 b.txt", 3),
         ("\\.a\\ b", 2),
         ("\\~!@#$%^&()_+-={}[];',`", 1),
-    ] {
+    ]
+    .iter()
+    {
         assert_eq!(rt; Path::read(alloc, text.as_bytes())?.len(), names, "{text}");
     }
-    for (names, characters) in [(32, 1), (1, 255), (32, 255)] {
+    for &(names, characters) in [(32, 1), (1, 255), (32, 255)].iter() {
         let text = long(alloc, names, characters)?;
         assert_eq!(rt; Path::read(alloc, &text)?.len(), names);
     }
@@ -42,18 +44,20 @@ fn paths(rt: HostRuntime) -> Result<(), Fail> {
 #[test]
 fn no_paths(rt: HostRuntime) -> Result<(), Fail> {
     let alloc = rt.alloc();
-    for text in [
+    for &text in [
         "", "a", "a\\b", "\\a\\", "\\\\", "\\\\a", "\\a\\\\b", "\\a.", "\\a ", "\\.", "\\..",
         "\\a.\\b", "\\a \\b", "\\a/b", "\\a:b", "\\a*b", "\\a?b", "\\a\"b", "\\a<b", "\\a>b",
         "\\a|b", "\\a\x1fb", "\\a\x7fb",
-    ] {
+    ]
+    .iter()
+    {
         assert_eq!(rt;
             Path::read(alloc, text.as_bytes()).err(),
             Some(PathFault::NotAPath),
             "{text}"
         );
     }
-    for (names, characters) in [(33, 1), (1, 256), (2, 256), (2000, 0)] {
+    for &(names, characters) in [(33, 1), (1, 256), (2, 256), (2000, 0)].iter() {
         let text = long(alloc, names, characters)?;
         assert_eq!(rt; Path::read(alloc, &text).err(), Some(PathFault::NotAPath));
     }

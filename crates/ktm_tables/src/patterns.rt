@@ -5,22 +5,26 @@ use std::test::Fail;
 #[test]
 fn patterns(rt: HostRuntime) -> Result<(), Fail> {
     let alloc = rt.alloc();
-    for (text, names, last) in [
+    for &(text, names, last) in [
         ("\\*", 0, "*"),
         ("\\Dir\\g", 1, "g"),
         ("\\app\\bin\\f0*", 2, "f0*"),
         ("\\a\\.", 1, "."),
         ("\\..", 0, ".."),
         ("\\a? ", 0, "a? "),
-    ] {
+    ]
+    .iter()
+    {
         let pattern = Pattern::read(alloc, text.as_bytes())?;
         assert_eq!(rt; pattern.directory().len(), names, "{text}");
         assert_eq!(rt; pattern.last(), last.as_bytes(), "{text}");
     }
-    for text in [
+    for &text in [
         "", "*", "\\", "\\a\\", "\\\\", "\\\\*", "\\a*\\b", "\\a?\\b", "\\a.\\b", "\\a \\b",
         "\\a/*", "\\*|", "\\*\x1f", "\\*\x7f",
-    ] {
+    ]
+    .iter()
+    {
         assert_eq!(rt;
             Pattern::read(alloc, text.as_bytes()).err(),
             Some(PathFault::NotAPath),
@@ -59,7 +63,7 @@ fn the_longest_patterns(rt: HostRuntime) -> Result<(), Fail> {
 #[test]
 fn names_that_match(rt: HostRuntime) -> Result<(), Fail> {
     let alloc = rt.alloc();
-    for (text, name, is_match) in [
+    for &(text, name, is_match) in [
         ("\\*", "a", true),
         ("\\*", "a.b c", true),
         ("\\?", "a", true),
@@ -92,7 +96,9 @@ fn names_that_match(rt: HostRuntime) -> Result<(), Fail> {
         ("\\[{", "[{", true),
         ("\\[{", "{[", false),
         ("\\@", "`", false),
-    ] {
+    ]
+    .iter()
+    {
         let pattern = Pattern::read(alloc, text.as_bytes())?;
         assert_eq!(rt; pattern.matches(name.as_bytes()), is_match, "{text} {name}");
     }

@@ -28,7 +28,7 @@ fn lines_and_machine(rt: HostRuntime) -> Result<(), Fail> {
 #[test]
 fn lines_of_odd_ends(rt: HostRuntime) -> Result<(), Fail> {
     let alloc = rt.alloc();
-    for (script, replies) in [
+    for &(script, replies) in [
         ("", ""),
         ("\n\n#\n# comment", ""),
         ("\r\n", "BAD_LINE\n"),
@@ -36,7 +36,9 @@ fn lines_of_odd_ends(rt: HostRuntime) -> Result<(), Fail> {
         (" \n", "BAD_LINE\n"),
         ("nonsense\n\nnonsense", "BAD_LINE\nBAD_LINE\n"),
         ("p1 KvList -\r\np1 KvList -", "BAD_LINE\nok\n"),
-    ] {
+    ]
+    .iter()
+    {
         let outcome = run(alloc, script.as_bytes(), small_image(alloc)?)?;
         expect(&rt, &outcome, replies.as_bytes(), Status::Done);
     }

@@ -146,7 +146,7 @@ fn arm_lets_so_many_calls_pass(rt: HostRuntime) -> Result<(), Fail> {
 #[test]
 fn a_failing_block_takes_the_disk_down(rt: HostRuntime) -> Result<(), Fail> {
     // growing asks the block for its length first
-    for (fails, calls) in [
+    for &(fails, calls) in [
         (1, 0),
         (2, 1),
         (3, 2),
@@ -155,7 +155,9 @@ fn a_failing_block_takes_the_disk_down(rt: HostRuntime) -> Result<(), Fail> {
         (6, 4),
         (7, 5),
         (100, CALLS),
-    ] {
+    ]
+    .iter()
+    {
         let mut disk = disk_of(rt.alloc(), &[0; 8], vec![in rt.alloc(); fails]?)?;
         assert_eq!(rt;
             answered(&rt, &mut disk),

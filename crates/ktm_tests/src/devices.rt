@@ -26,7 +26,7 @@ fn words_of_no_form(rt: HostRuntime) -> Result<(), Fail> {
     let alloc = rt.alloc();
     let usage =
         "usage: ktm run IMAGE SCRIPT | format IMAGE UNITS | dump IMAGE | gen IMAGE NUMBER LINES\n";
-    for text in ["", "run x", "ran image script", "run image script more"] {
+    for &text in ["", "run x", "ran image script", "run image script more"].iter() {
         let words = words_of(alloc, text)?;
         let script = Bytes::new(b"nonsense".to_vec(alloc)?);
         let outcome = run_words(alloc, &words, script, blank(alloc)?, NO_FAIL)?;
@@ -79,7 +79,7 @@ fn failing_streams(rt: HostRuntime) -> Result<(), Fail> {
 fn sink_that_is_not_there(rt: HostRuntime) -> Result<(), Fail> {
     let alloc = rt.alloc();
     let fails = Fails { source: 1, sink: 1 };
-    for text in ["run image script", "run image", ""] {
+    for &text in ["run image script", "run image", ""].iter() {
         let words = words_of(alloc, text)?;
         let script = Bytes::new(b"p1 KvList -".to_vec(alloc)?);
         let outcome = run_words(alloc, &words, script, blank(alloc)?, fails)?;
@@ -132,7 +132,7 @@ fn failing_disk(rt: HostRuntime) -> Result<(), Fail> {
 fn failing_disk_of_a_new_image(rt: HostRuntime) -> Result<(), Fail> {
     let alloc = rt.alloc();
     // its length, its growth, then the snapshot and the gate in three calls and the header in three
-    for call in [1, 2, 5, 8] {
+    for &call in [1, 2, 5, 8].iter() {
         let outcome = run(
             alloc,
             b"nonsense\n",
@@ -146,7 +146,7 @@ fn failing_disk_of_a_new_image(rt: HostRuntime) -> Result<(), Fail> {
 #[test]
 fn long_lines(rt: HostRuntime) -> Result<(), Fail> {
     let alloc = rt.alloc();
-    for (front, len, replies) in [
+    for &(front, len, replies) in [
         ("x", 140_000, "BAD_LINE\n"),
         ("x", 140_001, "BAD_LINE\n"),
         ("x", 200_000, "BAD_LINE\n"),
@@ -155,7 +155,9 @@ fn long_lines(rt: HostRuntime) -> Result<(), Fail> {
         // a line of the grammar, whose handle is missing and whose value is too long
         ("p1 KvSet h1 \"k\" ", 140_000, "ERROR_INVALID_HANDLE\n"),
         ("p1 KvSet h1 \"k\" ", 140_002, "BAD_LINE\n"),
-    ] {
+    ]
+    .iter()
+    {
         let mut script = front.as_bytes().to_vec(alloc)?;
         script.resize(len, b'0')?;
         let outcome = run(alloc, &script, small_image(alloc)?)?;
@@ -167,10 +169,12 @@ fn long_lines(rt: HostRuntime) -> Result<(), Fail> {
 #[test]
 fn longest_script(rt: HostRuntime) -> Result<(), Fail> {
     let alloc = rt.alloc();
-    for (len, status) in [
+    for &(len, status) in [
         (67_108_864, Status::Done),
         (67_108_865, Status::ScriptTooLong),
-    ] {
+    ]
+    .iter()
+    {
         let script = Bytes::new(vec![in alloc; b'#'; len]?);
         let outcome = run_script(alloc, script, small_image(alloc)?, NO_FAIL)?;
         expect(&rt, &outcome, b"", status);

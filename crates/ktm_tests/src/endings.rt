@@ -72,7 +72,7 @@ p1 CloseHandle h1 => ERROR_INVALID_HANDLE";
 #[test]
 fn transactions_end_without_a_commit(rt: HostRuntime) -> Result<(), Fail> {
     let alloc = rt.alloc();
-    for text in [HANDLES_AND_EXIT, TIMEOUT, ROLLED_BACK, REFUSALS] {
+    for &text in [HANDLES_AND_EXIT, TIMEOUT, ROLLED_BACK, REFUSALS].iter() {
         let transcript = Transcript::of(alloc, text)?;
         follow(&rt, alloc, &transcript, small_image(alloc)?)?;
     }

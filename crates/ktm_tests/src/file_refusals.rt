@@ -409,7 +409,7 @@ fn in_transaction(alloc: Global, text: &str) -> Result<String, NoMemory> {
 #[test]
 fn refusals_in_their_order(rt: HostRuntime) -> Result<(), Fail> {
     let alloc = rt.alloc();
-    for text in [
+    for &text in [
         HANDLES,
         OPEN_FILES,
         HELD,
@@ -417,7 +417,9 @@ fn refusals_in_their_order(rt: HostRuntime) -> Result<(), Fail> {
         NODES_AND_CHANGES,
         UNITS,
         LINES,
-    ] {
+    ]
+    .iter()
+    {
         let transcript = Transcript::of(alloc, text)?;
         follow(&rt, alloc, &transcript, small_image(alloc)?)?;
     }

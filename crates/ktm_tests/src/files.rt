@@ -304,7 +304,7 @@ fn power_cuts_in_changes_of_files(rt: HostRuntime) -> Result<(), Fail> {
     let alloc = rt.alloc();
     for row in &ROWS {
         // the body, a sync, the gate, a sync; only behind the second call the line may be done
-        for (calls, pick) in [(0, 1), (1, 1), (2, 2), (2, 7), (3, 2), (3, 7), (4, 1)] {
+        for &(calls, pick) in [(0, 1), (1, 1), (2, 2), (2, 7), (3, 2), (3, 7), (4, 1)].iter() {
             let lost = cut_transcript(alloc, row, calls, pick, false)?;
             let done = cut_transcript(alloc, row, calls, pick, true)?;
             let outcome = run(alloc, &lost.script, small_image(alloc)?)?;

@@ -49,7 +49,7 @@ p1 KvGet - \"k\" => ok 07";
 #[test]
 fn log_full(rt: HostRuntime) -> Result<(), Fail> {
     let alloc = rt.alloc();
-    for value in [960, 942] {
+    for &value in [960, 942].iter() {
         let mut transcript = nearly_full(alloc)?;
         set(alloc, &mut transcript, 199, value, "ERROR_LOG_FULL")?;
         transcript.add_all(DOWN)?;
@@ -64,11 +64,13 @@ fn log_full(rt: HostRuntime) -> Result<(), Fail> {
 fn log_full_at_a_restart(rt: HostRuntime) -> Result<(), Fail> {
     let alloc = rt.alloc();
     // a restart's boot needs 14 bytes and the one that has to stay
-    for (value, left, restarted) in [
+    for &(value, left, restarted) in [
         (941, 1, "ERROR_LOG_FULL"),
         (928, 14, "ERROR_LOG_FULL"),
         (927, 15, "restarted events=200 indoubt=0"),
-    ] {
+    ]
+    .iter()
+    {
         let mut transcript = nearly_full(alloc)?;
         set(alloc, &mut transcript, 199, value, "ok committed")?;
         transcript.add("crash", "ok")?;

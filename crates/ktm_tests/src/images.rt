@@ -39,7 +39,7 @@ fn opens_with(
 fn bad_images(rt: HostRuntime) -> Result<(), Fail> {
     let alloc = rt.alloc();
     let good = good_image(&rt, alloc)?;
-    for (at, byte, replies) in [
+    for &(at, byte, replies) in [
         (0, b'k', "bad image at 0\n"),
         (7, b'2', "bad image at 0\n"),
         // the layout
@@ -58,7 +58,9 @@ fn bad_images(rt: HostRuntime) -> Result<(), Fail> {
         (FIRST + 9, 2, "bad image at 200704\n"),
         (FIRST + 10, 2, "bad image at 200704\n"),
         (SECOND + 9, 99, "bad image at 200718\n"),
-    ] {
+    ]
+    .iter()
+    {
         let mut image = good.as_slice().to_vec(alloc)?;
         *image.get_mut(at).ok_or("short")? = byte;
         opens_with(&rt, alloc, image, replies, Status::BadImage)?;
@@ -72,11 +74,36 @@ fn bad_images(rt: HostRuntime) -> Result<(), Fail> {
     )
 }
 
+// The begin of the third frame, which is that of the write.
+const WRITE: usize = 200_748;
+
+const WRITTEN: &str = r#"p1 CreateFile h1 "\a" rw - CREATE_NEW => ok
+p1 WriteFile h1 0 6162 => ok"#;
+
+// A file that would be longer than the image is refused, and no memory is wanted for it.
+#[test]
+fn a_write_behind_all_units(rt: HostRuntime) -> Result<(), Fail> {
+    let alloc = rt.alloc();
+    let block = follow(
+        &rt,
+        alloc,
+        &Transcript::of(alloc, WRITTEN)?,
+        small_image(alloc)?,
+    )?;
+    // the third and the eighth byte of the offset
+    for &(at, byte) in [(WRITE + 21, 1), (WRITE + 26, 0x7f)].iter() {
+        let mut image = block.bytes().to_vec(alloc)?;
+        *image.get_mut(at).ok_or("short")? = byte;
+        opens_with(&rt, alloc, image, "bad image at 200748\n", Status::BadImage)?;
+    }
+    Ok(())
+}
+
 #[test]
 fn bytes_that_do_not_matter(rt: HostRuntime) -> Result<(), Fail> {
     let alloc = rt.alloc();
     let good = good_image(&rt, alloc)?;
-    for (at, byte) in [(100, 1), (2048, 2), (4095, 1)] {
+    for &(at, byte) in [(100, 1), (2048, 2), (4095, 1)].iter() {
         let mut image = good.as_slice().to_vec(alloc)?;
         *image.get_mut(at).ok_or("short")? = byte;
         opens_with(&rt, alloc, image, "ok 01\n", Status::Done)?;

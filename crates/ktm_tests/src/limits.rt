@@ -52,13 +52,15 @@ fn sizes_of_keys_and_values(rt: HostRuntime) -> Result<(), Fail> {
     let alloc = rt.alloc();
     let mut transcript = Transcript::new(alloc);
     create(alloc, &mut transcript, 1)?;
-    for (key, value, reply) in [
+    for &(key, value, reply) in [
         (64, 1, "ok"),
         (65, 1, "ERROR_INVALID_PARAMETER"),
         (1, 960, "ok"),
         (1, 961, "ERROR_INVALID_PARAMETER"),
         (64, 960, "ok"),
-    ] {
+    ]
+    .iter()
+    {
         transcript.add(&setting(alloc, key, value)?, reply)?;
     }
     follow(&rt, alloc, &transcript, small_image(alloc)?)?;

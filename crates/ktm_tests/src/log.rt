@@ -69,7 +69,7 @@ fn found_by(scanned: &Result<Log, LogFault>, buffer: &[u8]) -> Option<Result<usi
 #[test]
 fn torn_frame(rt: HostRuntime) -> Result<(), Fail> {
     let mut buffer = Vec::new(rt.alloc());
-    for (len, begin, wanted) in [
+    for &(len, begin, wanted) in [
         (40, [0, 9, 9, 9, 9, 9, 9, 9, 9, 9], Ok(0)),
         (40, [2, 1, 0, 0, 0, 5, 1, 0, 0, 0], Ok(0)),
         (40, [1, 34, 0, 0, 0, 0, 0, 0, 0, 0], Ok(1)),
@@ -81,7 +81,9 @@ fn torn_frame(rt: HostRuntime) -> Result<(), Fail> {
         (8, [1, 2, 0, 0, 0, 5, 6, 1, 0, 0], Err(15)),
         (7, [1, 2, 0, 0, 0, 5, 6, 0, 0, 0], Err(8)),
         (1, [1, 0, 0, 0, 0, 0, 0, 0, 0, 0], Err(8)),
-    ] {
+    ]
+    .iter()
+    {
         assert!(rt; 0 < len && len <= 40);
         let mut bytes = [0; 48];
         bytes[8..18].copy_from_slice(&begin);
