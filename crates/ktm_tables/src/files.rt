@@ -1,14 +1,11 @@
-// A block over a file that counts its calls, and over a real one.
+// The calls that a block over a file makes, where one of them fails.
 ghost use Rattle.std.specs.Prelude.{◌≡◌, Some, OnOk, OnErr};
 ghost use Rattle.ktm_base.specs.Count.{raised};
 
-use ktm_base::{Block, Failed, Source};
-use ktm_os::{FileBlock, FileSource, ImageFile};
+use ktm_base::{Block, Failed, NoMemory};
+use ktm_os::{FileBlock, ImageFile};
 use std::alloc::Global;
-use std::test::Fail;
-use std::{fs, io};
-
-const PATH: &str = "ktm_os_test_file";
+use std::io;
 
 /// A file in memory that tells, and keeps a letter for each call that it had. One of its calls fails.
 #[derive(Drop)]
@@ -115,63 +112,16 @@ fn change(block: &mut FileBlock<CountingFile>) -> Result<(), Failed> {
     block.flush()
 }
 
-#[test]
-fn asks_its_file_for_what_it_must(rt: HostRuntime) -> Result<(), Fail> {
-    let mut block = FileBlock::over(CountingFile::new(rt.alloc(), 0));
-    change(&mut block)?;
-    assert_eq!(rt; block.file().asked.as_str(), "lgwsf");
-    block.flush()?;
-    assert_eq!(rt; block.file().asked.as_str(), "lgwsf");
-    change(&mut block)?;
-    assert_eq!(rt; block.file().asked.as_str(), "lgwsfws");
-    Ok(())
-}
-
-#[test]
-fn answers_each_failure_of_its_file(rt: HostRuntime) -> Result<(), Fail> {
-    for &(fails, asked) in [
-        (1, "llgwsf"),
-        (2, "lglgwsf"),
-        (3, "lgwwsf"),
-        (4, "lgwswsf"),
-        (5, "lgwsfwsf"),
-    ]
-    .iter()
-    {
-        let mut block = FileBlock::over(CountingFile::new(rt.alloc(), fails));
-        assert_eq!(rt; change(&mut block), Err(Failed));
-        assert_eq!(rt; block.faults(), 1);
-        assert_eq!(rt; change(&mut block), Ok(()));
-        assert_eq!(rt; block.faults(), 1);
-        assert_eq!(rt; block.file().asked.as_str(), asked);
+/// A letter for each call of a file whose call with this number fails, where a change is made twice, and flushed once more.
+pub fn calls_of(alloc: Global, number: &str) -> Result<String, NoMemory> {
+    let fails = number.parse::<u64>().unwrap_or(0);
+    let mut block = FileBlock::over(CountingFile::new(alloc, fails));
+    let first = change(&mut block);
+    let second = change(&mut block);
+    let flushed = block.flush();
+    let is_as_it_must = first.is_ok() == (fails == 0) && second.is_ok() && flushed.is_ok();
+    if !is_as_it_must || block.faults() != u64::from(fails != 0) {
+        return Ok(String::from_str(alloc, "another answer")?);
     }
-    Ok(())
-}
-
-#[test]
-fn keeps_what_is_written_and_counts_what_fails(rt: HostRuntime) -> Result<(), Fail> {
-    let _ = fs::remove_file(&rt, PATH);
-    let mut block = FileBlock::new(rt, String::from_str(rt.alloc(), PATH)?);
-    assert_eq!(rt; block.len(), Ok(0));
-    block.ensure(5)?;
-    block.write_at(1, &[1, 2, 3])?;
-    block.flush()?;
-    block.ensure(2)?;
-    assert_eq!(rt; block.len(), Ok(5));
-    let mut back = [0; 3];
-    block.read_at(1, &mut back)?;
-    assert_eq!(rt; back, [1, 2, 3]);
-    assert_eq!(rt; block.faults(), 0);
-    assert_eq!(rt; block.read_at(3, &mut back), Err(Failed));
-    assert_eq!(rt; block.write_at(3, &back), Err(Failed));
-    assert_eq!(rt; block.faults(), 2);
-
-    let mut source = FileSource::new(rt, String::from_str(rt.alloc(), PATH)?);
-    let mut buf = [9; 8];
-    assert_eq!(rt; source.read(&mut buf), Ok(5));
-    assert_eq!(rt; buf, [0, 1, 2, 3, 0, 9, 9, 9]);
-    assert_eq!(rt; source.read(&mut buf), Ok(0));
-    assert_eq!(rt; source.faults(), 0);
-    fs::remove_file(&rt, PATH)?;
-    Ok(())
+    Ok(String::from_str(alloc, block.file().asked.as_str())?)
 }

@@ -1,114 +1,119 @@
-// Images that were changed.
-use crate::run::{block_of, expect, follow, run, small_image};
-use crate::transcript::Transcript;
+// The bytes of images that a script leaves, and what is read of them when some are changed.
+use crate::run::{NO_FAIL, block_of, follow, run, small_image, text_of};
+use crate::transcript::number_before;
+use ktm_base::NoMemory;
 use ktm_run::Status;
 use std::alloc::Global;
-use std::process::Abort;
-use std::test::Fail;
 
-/// The begins of the first two frames in an image of 16 units.
-const FIRST: usize = 200_704;
-
-const SECOND: usize = 200_718;
-
-const GOOD: &str = "p1 CreateTransaction h1 0 => ok 00000001-0001-0001-0000-000000000001
-p1 KvSet h1 \"k\" 01 => ok
-p1 CommitTransaction h1 => ok committed";
-
-// The image of a boot and a commit.
-fn good_image(rt: &impl Abort, alloc: Global) -> Result<Vec<u8>, Fail> {
-    let good = Transcript::of(alloc, GOOD)?;
-    let block = follow(rt, alloc, &good, small_image(alloc)?)?;
-    Ok(block.bytes().to_vec(alloc)?)
-}
-
-// What a run on this image comes to.
-fn opens_with(
-    rt: &impl Abort,
-    alloc: Global,
-    image: Vec<u8>,
-    replies: &str,
-    status: Status,
-) -> Result<(), Fail> {
-    let outcome = run(alloc, b"p1 KvGet - \"k\"", block_of(alloc, image, 0)?)?;
-    expect(rt, &outcome, replies.as_bytes(), status);
-    Ok(())
-}
-
-#[test]
-fn bad_images(rt: HostRuntime) -> Result<(), Fail> {
-    let alloc = rt.alloc();
-    let good = good_image(&rt, alloc)?;
-    for &(at, byte, replies) in [
-        (0, b'k', "bad image at 0\n"),
-        (7, b'2', "bad image at 0\n"),
-        // the layout
-        (8, 2, "bad image at 0\n"),
-        // the units
-        (12, 1, "bad image at 0\n"),
-        // the selector
-        (2048, 1, "bad image at 0\n"),
-        // the snapshot
-        (4096, 37, "bad image at 4096\n"),
-        (4139, 1, "bad image at 4096\n"),
-        // a length past the area, and one that is a byte too much
-        (FIRST + 4, 0x7f, "bad image at 200704\n"),
-        (FIRST + 1, 10, "bad image at 200704\n"),
-        // another kind of event, and a boot out of order
-        (FIRST + 9, 2, "bad image at 200704\n"),
-        (FIRST + 10, 2, "bad image at 200704\n"),
-        (SECOND + 9, 99, "bad image at 200718\n"),
-    ]
-    .iter()
-    {
-        let mut image = good.as_slice().to_vec(alloc)?;
-        *image.get_mut(at).ok_or("short")? = byte;
-        opens_with(&rt, alloc, image, replies, Status::BadImage)?;
+// The image that these rows leave, or what is not as it is wanted of their run.
+fn image_of(alloc: Global, rows: &str) -> Result<Result<Vec<u8>, String>, NoMemory> {
+    match follow(alloc, rows, small_image(alloc)?)? {
+        Ok(block) => Ok(Ok(block.bytes().to_vec(alloc)?)),
+        Err(what) => Ok(Err(what)),
     }
-    opens_with(
-        &rt,
-        alloc,
-        b"abc".to_vec(alloc)?,
-        "bad image at 0\n",
-        Status::BadImage,
-    )
 }
 
-// The begin of the third frame, which is that of the write.
-const WRITE: usize = 200_748;
+// The bytes that stand at a place, as many as the digits of a row are of, as digits.
+fn digits_at(alloc: Global, image: &[u8], at: usize, len: usize) -> Result<String, NoMemory> {
+    let mut digits = String::new(alloc);
+    for byte in image.iter().skip(at).take(len) {
+        digits.push_str(&format!(in alloc; "{byte:02x}")?)?;
+    }
+    Ok(digits)
+}
 
-const WRITTEN: &str = r#"p1 CreateFile h1 "\a" rw - CREATE_NEW => ok
-p1 WriteFile h1 0 6162 => ok"#;
+// The row without its blanks.
+fn joined(alloc: Global, row: &str) -> Result<String, NoMemory> {
+    let mut digits = String::new(alloc);
+    for word in row.split_whitespace() {
+        digits.push_str(word)?;
+    }
+    Ok(digits)
+}
 
-// A file that would be longer than the image is refused, and no memory is wanted for it.
-#[test]
-fn a_write_behind_all_units(rt: HostRuntime) -> Result<(), Fail> {
-    let alloc = rt.alloc();
-    let block = follow(
-        &rt,
-        alloc,
-        &Transcript::of(alloc, WRITTEN)?,
-        small_image(alloc)?,
-    )?;
-    // the third and the eighth byte of the offset
-    for &(at, byte) in [(WRITE + 21, 1), (WRITE + 26, 0x7f)].iter() {
-        let mut image = block.bytes().to_vec(alloc)?;
-        *image.get_mut(at).ok_or("short")? = byte;
-        opens_with(&rt, alloc, image, "bad image at 200748\n", Status::BadImage)?;
+/// What does not hold of a table of bytes. Its second part has comments, lines `at N` with the place of the bytes that follow,
+/// and lines of bytes, in digits with blanks between them.
+pub fn bytes_found(alloc: Global, table: &str) -> Result<Option<String>, NoMemory> {
+    let (script, rows) = table.split_once("\n\n").unwrap_or((table, ""));
+    match image_of(alloc, script)? {
+        Ok(image) => wrong_bytes(alloc, &image, rows),
+        Err(what) => Ok(Some(what)),
+    }
+}
+
+// The first bytes that are not those of the rows.
+fn wrong_bytes(alloc: Global, image: &[u8], rows: &str) -> Result<Option<String>, NoMemory> {
+    let mut at: usize = 0;
+    for row in rows.lines() {
+        if row.starts_with('#') {
+            continue;
+        }
+        if let Some(place) = row.strip_prefix("at ") {
+            at = place.parse::<usize>().unwrap_or(0);
+            continue;
+        }
+        let wanted = joined(alloc, row)?;
+        let len = wanted.len() / 2;
+        let digits = digits_at(alloc, image, at, len)?;
+        if digits != wanted {
+            return Ok(Some(format!(in alloc; "at {at} stands {digits}, not {wanted}")?));
+        }
+        at = at.saturating_add(len);
+    }
+    Ok(None)
+}
+
+// Changes a byte, or the length: `AT BYTE` or `len N`.
+fn change(image: &mut Vec<u8>, what: &str) -> Result<(), NoMemory> {
+    let (at, byte) = number_before(what);
+    match what.strip_prefix("len ") {
+        Some(len) => image.resize(len.parse::<usize>().unwrap_or(0), 0)?,
+        None => put(image, at as usize, byte.parse::<u8>().unwrap_or(0)),
     }
     Ok(())
 }
 
-#[test]
-fn bytes_that_do_not_matter(rt: HostRuntime) -> Result<(), Fail> {
-    let alloc = rt.alloc();
-    let good = good_image(&rt, alloc)?;
-    for &(at, byte) in [(100, 1), (2048, 2), (4095, 1)].iter() {
-        let mut image = good.as_slice().to_vec(alloc)?;
-        *image.get_mut(at).ok_or("short")? = byte;
-        opens_with(&rt, alloc, image, "ok 01\n", Status::Done)?;
+fn put(image: &mut [u8], at: usize, byte: u8) {
+    if at < image.len() {
+        image[at] = byte;
     }
-    let mut longer = good;
-    longer.extend_from_slice(b"abc")?;
-    opens_with(&rt, alloc, longer, "ok 01\n", Status::Done)
+}
+
+/// What does not hold of a table of images. Its second part has comments, and rows of a change of the image and what a plain
+/// KvGet of "k" is answered then.
+pub fn found(alloc: Global, table: &str) -> Result<Option<String>, NoMemory> {
+    let (script, rows) = table.split_once("\n\n").unwrap_or((table, ""));
+    match image_of(alloc, script)? {
+        Ok(image) => wrong_row(alloc, &image, rows),
+        Err(what) => Ok(Some(what)),
+    }
+}
+
+// The first row that does not hold.
+fn wrong_row(alloc: Global, image: &[u8], rows: &str) -> Result<Option<String>, NoMemory> {
+    for row in rows.lines() {
+        if row.starts_with('#') {
+            continue;
+        }
+        let (what, reply) = row.split_once(" => ").unwrap_or((row, ""));
+        if !is_answered(alloc, image, what, reply)? {
+            return Ok(Some(String::from_str(alloc, row)?));
+        }
+    }
+    Ok(None)
+}
+
+// Is this the reply where the image is changed so.
+fn is_answered(alloc: Global, image: &[u8], what: &str, reply: &str) -> Result<bool, NoMemory> {
+    let mut image = image.to_vec(alloc)?;
+    change(&mut image, what)?;
+    let status = if reply.starts_with("bad image") {
+        Status::BadImage
+    } else {
+        Status::Done
+    };
+    let block = block_of(alloc, &image, 0)?;
+    let outcome = run(alloc, b"p1 KvGet - \"k\"", block, NO_FAIL)?;
+    let replies = text_of(outcome.sink.bytes());
+    Ok(outcome.status == status && replies.lines().next() == Some(reply))
 }

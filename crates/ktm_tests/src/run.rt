@@ -6,8 +6,6 @@ use ktm_journal::Journal;
 use ktm_mem::{Calls, MemBlock, MemSink, MemSource};
 use ktm_run::{Status, ktm};
 use std::alloc::Global;
-use std::process::Abort;
-use std::test::Fail;
 
 /// The length of an image of 1,024 units.
 const IMAGE_LEN: usize = 33_820_672;
@@ -15,14 +13,19 @@ const IMAGE_LEN: usize = 33_820_672;
 /// How many bytes of replies a sink takes.
 const REPLIES: usize = 1 << 20;
 
-/// The number of the call that fails of the source, and of the sink, counted from 1. None fails at 0.
+/// The numbers of the calls that fail, counted from 1, of the source, the sink, and the block. None fails at 0.
 #[derive(Clone, Copy)]
 pub struct Fails {
     pub source: u64,
     pub sink: u64,
+    pub disk: u64,
 }
 
-pub const NO_FAIL: Fails = Fails { source: 0, sink: 0 };
+pub const NO_FAIL: Fails = Fails {
+    source: 0,
+    sink: 0,
+    disk: 0,
+};
 
 /// What a run came to.
 #[derive(Drop)]
@@ -39,35 +42,41 @@ fn calls(alloc: Global, number: u64) -> Result<Calls, NoMemory> {
 }
 
 /// A block with these bytes, and room for an image, whose call with this number fails.
-pub fn block_of(alloc: Global, bytes: Vec<u8>, fail: u64) -> Result<MemBlock, NoMemory> {
+pub fn block_of(alloc: Global, bytes: &[u8], fail: u64) -> Result<MemBlock, NoMemory> {
     let room = bytes.len().max(IMAGE_LEN);
-    MemBlock::new(alloc, Bytes::new(bytes), room, calls(alloc, fail)?)
+    let bytes = Bytes::new(bytes.to_vec(alloc)?);
+    MemBlock::new(alloc, bytes, room, calls(alloc, fail)?)
 }
 
 /// A block without a byte.
 pub fn blank(alloc: Global) -> Result<MemBlock, NoMemory> {
-    block_of(alloc, Vec::new(alloc), 0)
+    block_of(alloc, &[], 0)
 }
 
 /// A new image of 16 units.
-pub fn small_image(alloc: Global) -> Result<MemBlock, Fail> {
+pub fn small_image(alloc: Global) -> Result<MemBlock, NoMemory> {
     let mut disk = CutDisk::new(alloc, blank(alloc)?)?;
-    Journal::format(&mut disk, 16, 1)?;
+    // (a format that failed would show in what is run on it)
+    let _ = Journal::format(&mut disk, 16, 1);
     Ok(disk.into_block())
 }
 
-/// Runs the program with these words.
-pub fn run_words(
+/// Runs a script on a block, where a call of the source and one of the sink fail.
+pub fn run(
     alloc: Global,
-    words: &[String],
-    script: Bytes,
+    script: &[u8],
     block: MemBlock,
     fails: Fails,
 ) -> Result<Outcome, NoMemory> {
+    let mut words = Vec::new(alloc);
+    for word in ["run", "image", "script"] {
+        words.push(String::from_str(alloc, word)?)?;
+    }
+    let script = Bytes::new(script.to_vec(alloc)?);
     let mut source = MemSource::new(script, calls(alloc, fails.source)?);
     let mut sink = MemSink::new(alloc, REPLIES, calls(alloc, fails.sink)?)?;
     let mut disk = CutDisk::new(alloc, block)?;
-    let status = ktm(alloc, words, &mut source, &mut sink, &mut disk);
+    let status = ktm(alloc, &words, &mut source, &mut sink, &mut disk);
     Ok(Outcome {
         status,
         sink,
@@ -75,49 +84,37 @@ pub fn run_words(
     })
 }
 
-/// The words one by one.
-pub fn words_of(alloc: Global, text: &str) -> Result<Vec<String>, NoMemory> {
-    let mut words = Vec::new(alloc);
-    for word in text.split_whitespace() {
-        words.push(String::from_str(alloc, word)?)?;
+/// The bytes as a text.
+pub fn text_of(bytes: &[u8]) -> &str {
+    str::from_utf8(bytes).unwrap_or("no text")
+}
+
+/// The first reply that is not the one that is wanted.
+pub fn first_difference(alloc: Global, replies: &[u8], wanted: &[u8]) -> Result<String, NoMemory> {
+    let mut replies = text_of(replies).lines();
+    for (place, wanted) in text_of(wanted).lines().enumerate() {
+        let reply = replies.next().unwrap_or("none");
+        if reply != wanted {
+            return Ok(format!(in alloc; "reply {place} is {reply:.99}, not {wanted:.99}")?);
+        }
     }
-    Ok(words)
+    Ok(String::from_str(alloc, "more replies than are wanted")?)
 }
 
-/// Runs a script on an image.
-pub fn run_script(
-    alloc: Global,
-    script: Bytes,
-    block: MemBlock,
-    fails: Fails,
-) -> Result<Outcome, NoMemory> {
-    let words = words_of(alloc, "run image script")?;
-    run_words(alloc, &words, script, block, fails)
-}
-
-/// Runs these lines on an image.
-pub fn run(alloc: Global, script: &[u8], block: MemBlock) -> Result<Outcome, NoMemory> {
-    let script = Bytes::new(script.to_vec(alloc)?);
-    run_script(alloc, script, block, NO_FAIL)
-}
-
-/// The run ended with this status, and wrote these bytes.
-pub fn expect(rt: &impl Abort, outcome: &Outcome, replies: &[u8], status: Status) {
-    assert_eq!(rt;
-        str::from_utf8(outcome.sink.bytes()),
-        str::from_utf8(replies)
-    );
-    assert_eq!(rt; outcome.status, status);
-}
-
-/// Runs the script on the image to its end, with these replies, and gives the image back.
+/// Runs these rows on a block, and gives the block back, or what was not as it is wanted.
 pub fn follow(
-    rt: &impl Abort,
     alloc: Global,
-    transcript: &Transcript,
+    rows: &str,
     block: MemBlock,
-) -> Result<MemBlock, NoMemory> {
-    let outcome = run(alloc, &transcript.script, block)?;
-    expect(rt, &outcome, &transcript.replies, Status::Done);
-    Ok(outcome.block)
+) -> Result<Result<MemBlock, String>, NoMemory> {
+    let wanted = Transcript::of(alloc, rows)?;
+    let outcome = run(alloc, &wanted.script, block, NO_FAIL)?;
+    let status = outcome.status.exit_code();
+    if outcome.sink.bytes() != wanted.replies.as_slice() {
+        return Ok(Err(first_difference(alloc, outcome.sink.bytes(), &wanted.replies)?));
+    }
+    if status != wanted.status {
+        return Ok(Err(format!(in alloc; "the status is {status}")?));
+    }
+    Ok(Ok(outcome.block))
 }

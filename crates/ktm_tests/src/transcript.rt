@@ -1,4 +1,4 @@
-// A script, and the replies that are wanted.
+// Scripts with the replies that are wanted.
 use ktm_base::NoMemory;
 use std::alloc::Global;
 
@@ -6,6 +6,8 @@ use std::alloc::Global;
 pub struct Transcript {
     pub script: Vec<u8>,
     pub replies: Vec<u8>,
+    /// The exit status of the run.
+    pub status: u8,
 }
 
 fn put_line(text: &mut Vec<u8>, line: &str) -> Result<(), NoMemory> {
@@ -14,18 +16,28 @@ fn put_line(text: &mut Vec<u8>, line: &str) -> Result<(), NoMemory> {
     Ok(())
 }
 
-// A line, in which `^N X` at the end stands for N times X.
-fn put_long_line(text: &mut Vec<u8>, line: &str) -> Result<(), NoMemory> {
-    let Some((front, back)) = line.split_once('^') else {
-        return put_line(text, line);
-    };
-    text.extend_from_slice(front.as_bytes())?;
-    let (count, repeated) = back.split_once(' ').unwrap_or((back, ""));
-    for _ in 0..count.parse::<u32>().unwrap_or(0) {
-        text.extend_from_slice(repeated.as_bytes())?;
+/// The number that a text begins with, up to a blank, and what stands behind that.
+pub fn number_before(text: &str) -> (u64, &str) {
+    let (number, rest) = text.split_once(' ').unwrap_or((text, ""));
+    (number.parse::<u64>().unwrap_or(0), rest)
+}
+
+// The text with this number for each `$`, its twelve hexadecimal digits for each `&`, and N times X for `^N X` at its end.
+fn expanded(alloc: Global, text: &str, number: u64) -> Result<String, NoMemory> {
+    let (front, back) = text.split_once('^').unwrap_or((text, ""));
+    let mut line = String::new(alloc);
+    for letter in front.chars() {
+        match letter {
+            '$' => line.push_str(&format!(in alloc; "{number}")?)?,
+            '&' => line.push_str(&format!(in alloc; "{number:012x}")?)?,
+            _ => line.push(letter)?,
+        }
     }
-    text.push(b'\n')?;
-    Ok(())
+    let (count, repeated) = number_before(back);
+    for _ in 0..count {
+        line.push_str(repeated)?;
+    }
+    Ok(line)
 }
 
 impl Transcript {
@@ -33,30 +45,58 @@ impl Transcript {
         Transcript {
             script: Vec::new(alloc),
             replies: Vec::new(alloc),
+            status: 0,
         }
     }
 
-    /// Adds a line and its reply. In the line `^N X` at the end stands for N times X.
+    /// Adds a line and its reply.
     pub fn add(&mut self, line: &str, reply: &str) -> Result<(), NoMemory> {
-        put_long_line(&mut self.script, line)?;
+        put_line(&mut self.script, line)?;
         put_line(&mut self.replies, reply)
     }
 
-    /// Adds lines of a text, `LINE => REPLY` each, or one without a reply.
-    pub fn add_all(&mut self, text: &str) -> Result<(), NoMemory> {
-        for line in text.lines() {
-            match line.split_once(" => ") {
-                Some((line, reply)) => self.add(line, reply)?,
-                None => put_line(&mut self.script, line)?,
+    fn add_row(&mut self, row: &str) -> Result<(), NoMemory> {
+        match row.split_once(" => ") {
+            Some((line, reply)) => self.add(line, reply),
+            None => put_line(&mut self.script, row),
+        }
+    }
+
+    // Adds `FROM TO ROW | ROW`: the rows for each number.
+    fn add_each(&mut self, alloc: Global, each: &str) -> Result<(), NoMemory> {
+        let (from, rest) = number_before(each);
+        let (to, rows) = number_before(rest);
+        for number in from..=to {
+            for row in rows.split(" | ") {
+                let (line, reply) = row.split_once(" => ").unwrap_or((row, ""));
+                put_line(&mut self.script, &expanded(alloc, line, number)?)?;
+                if !reply.is_empty() {
+                    put_line(&mut self.replies, &expanded(alloc, reply, number)?)?;
+                }
             }
         }
         Ok(())
     }
 
-    /// The lines of such a text.
-    pub fn of(alloc: Global, text: &str) -> Result<Self, NoMemory> {
+    /// Adds rows: `LINE => REPLY`, or a line alone, or `each FROM TO ROW | ROW`, or `status N` for a run that does not end
+    /// with 0.
+    pub fn add_rows(&mut self, alloc: Global, rows: &str) -> Result<(), NoMemory> {
+        for row in rows.lines() {
+            if let Some(each) = row.strip_prefix("each ") {
+                self.add_each(alloc, each)?;
+            } else if let Some(status) = row.strip_prefix("status ") {
+                self.status = status.parse::<u8>().unwrap_or(0);
+            } else {
+                self.add_row(row)?;
+            }
+        }
+        Ok(())
+    }
+
+    /// The lines and replies of these rows.
+    pub fn of(alloc: Global, rows: &str) -> Result<Self, NoMemory> {
         let mut transcript = Transcript::new(alloc);
-        transcript.add_all(text)?;
+        transcript.add_rows(alloc, rows)?;
         Ok(transcript)
     }
 }

@@ -4,7 +4,7 @@ use ktm_base::{Bytes, Label, Pid, Text};
 use uuid::Uuid;
 
 /// A line of a script that is in its grammar.
-#[derive(PartialEq, Debug, Drop)]
+#[derive(Debug, Drop)]
 pub enum Line {
     /// So many milliseconds pass.
     Tick(u32),
@@ -20,7 +20,7 @@ pub enum Line {
 }
 
 /// A call of a process. A label names a handle of that process; the field `label` is one that the call binds.
-#[derive(PartialEq, Debug, Drop)]
+#[derive(Debug, Drop)]
 pub enum Command {
     /// Makes a transaction. The timeout is in milliseconds; 0 and 4,294,967,295 mean none.
     CreateTransaction {

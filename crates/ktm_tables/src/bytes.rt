@@ -1,0 +1,36 @@
+// Events and groups of events, as bytes.
+use ktm_base::NoMemory;
+use ktm_codec::read_hex_or_dash;
+use ktm_event::{EventFault, read_event, read_group};
+use std::alloc::Global;
+
+// The bytes that these digits spell.
+fn bytes_of(alloc: Global, digits: &str) -> Result<Vec<u8>, NoMemory> {
+    match read_hex_or_dash(alloc, digits.as_bytes())? {
+        Some(bytes) => Ok(bytes.into_vec()),
+        None => Ok(Vec::new(alloc)),
+    }
+}
+
+pub fn event_of(alloc: Global, digits: &str) -> Result<String, NoMemory> {
+    let bytes = bytes_of(alloc, digits)?;
+    let (event, end) = match read_event(alloc, &bytes, 0) {
+        Ok(read) => read,
+        Err(EventFault::NotAnEvent) => return Ok(String::from_str(alloc, "NOT_AN_EVENT")?),
+        Err(EventFault::NoMemory) => return Err(NoMemory),
+    };
+    if end != bytes.len() {
+        return Ok(String::from_str(alloc, "bytes behind it")?);
+    }
+    Ok(format!(in alloc; "{event:?}")?)
+}
+
+pub fn group_of(alloc: Global, digits: &str) -> Result<String, NoMemory> {
+    let bytes = bytes_of(alloc, digits)?;
+    let events = match read_group(alloc, &bytes) {
+        Ok(events) => events,
+        Err(EventFault::NotAnEvent) => return Ok(String::from_str(alloc, "NOT_A_GROUP")?),
+        Err(EventFault::NoMemory) => return Err(NoMemory),
+    };
+    Ok(format!(in alloc; "{events:?}")?)
+}

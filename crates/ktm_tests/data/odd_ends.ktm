@@ -1,0 +1,11 @@
+
+
+#
+# comment
+
+ 
+p1 KvList -
+p1 KvList -
+nonsense
+
+nonsense

@@ -1,0 +1,119 @@
+// Devices of which a call fails.
+use crate::run::{Fails, NO_FAIL, Outcome, block_of, run, small_image, text_of};
+use crate::transcript::{Transcript, number_before};
+use ktm_base::NoMemory;
+use ktm_run::Status;
+use std::alloc::Global;
+
+/// More calls of a device than a table's script makes.
+const MANY: u64 = 1000;
+
+// The fault of the device's call with this number.
+fn fails(device: &str, call: u64) -> Fails {
+    match device {
+        "source" => Fails {
+            source: call,
+            ..NO_FAIL
+        },
+        "sink" => Fails {
+            sink: call,
+            ..NO_FAIL
+        },
+        _ => Fails {
+            disk: call,
+            ..NO_FAIL
+        },
+    }
+}
+
+// From the first reply that is not the usual one, each is MACHINE_DOWN.
+fn goes_down_once(replies: &str, usual: &str) -> bool {
+    let mut is_down = false;
+    let mut usual = usual.lines();
+    for reply in replies.lines() {
+        let Some(line) = usual.next() else {
+            return false;
+        };
+        is_down = is_down || reply != line;
+        if is_down && reply != "MACHINE_DOWN" {
+            return false;
+        }
+    }
+    usual.next().is_none()
+}
+
+// May a run end so where a call of the device failed. A sink that fails at once is found before anything is touched.
+fn is_allowed(device: &str, outcome: &Outcome, usual: &[u8], is_touched: bool) -> bool {
+    let replies = outcome.sink.bytes();
+    match device {
+        "source" => outcome.status == Status::SourceFault && usual.starts_with(replies),
+        "sink" => {
+            outcome.status == Status::SinkFault
+                && usual.starts_with(replies)
+                && (!is_touched || !replies.is_empty())
+        }
+        _ => match outcome.status {
+            Status::DiskFault => replies.is_empty(),
+            Status::Done => goes_down_once(text_of(replies), text_of(usual)),
+            _ => false,
+        },
+    }
+}
+
+// The number of the first call of the device that a run on this image does not make, where each earlier one that failed ended
+// as it may.
+fn first_not_made(
+    alloc: Global,
+    device: &str,
+    image: &[u8],
+    wanted: &Transcript,
+) -> Result<Option<u64>, NoMemory> {
+    for call in 1..MANY {
+        let fails = fails(device, call);
+        let block = block_of(alloc, image, fails.disk)?;
+        let outcome = run(alloc, &wanted.script, block, fails)?;
+        if outcome.status == Status::Done && outcome.sink.bytes() == wanted.replies.as_slice() {
+            return Ok(Some(call));
+        }
+        let is_touched = call == 1 && outcome.block.bytes() != image;
+        if !is_allowed(device, &outcome, &wanted.replies, is_touched) {
+            return Ok(None);
+        }
+    }
+    Ok(None)
+}
+
+// What does not hold of a row on this image: a device, and how many calls of it are made at least.
+fn found_on(
+    alloc: Global,
+    row: &str,
+    image: &[u8],
+    wanted: &Transcript,
+) -> Result<Option<String>, NoMemory> {
+    let (device, least) = row.split_once(' ').unwrap_or((row, ""));
+    let made = first_not_made(alloc, device, image, wanted)?.unwrap_or(0);
+    if made > number_before(least).0 {
+        return Ok(None);
+    }
+    Ok(Some(format!(in alloc; "of the {device} the call {made}")?))
+}
+
+/// What does not hold of the table. Its first part is the script, and the second has comments and rows of devices. Each is
+/// tried on an image of 16 units, and on a block without a byte.
+pub fn found(alloc: Global, table: &str) -> Result<Option<String>, NoMemory> {
+    let (script, rows) = table.split_once("\n\n").unwrap_or((table, ""));
+    let wanted = Transcript::of(alloc, script)?;
+    let image = small_image(alloc)?;
+    for row in rows.lines() {
+        if row.starts_with('#') {
+            continue;
+        }
+        if let Some(what) = found_on(alloc, row, image.bytes(), &wanted)? {
+            return Ok(Some(what));
+        }
+        if let Some(what) = found_on(alloc, row, &[], &wanted)? {
+            return Ok(Some(what));
+        }
+    }
+    Ok(None)
+}

@@ -1,0 +1,68 @@
+//! Runs tables of scripts on images in memory, and says of each whether it holds. A word names a table, which is a file, and
+//! behind the dot its kind:
+//!
+//! - `rows`: runs one after another on one image, which has 16 units at first; and `blank`, where it has no byte at first.
+//! - `cuts`: a script whose last line records something, and what is seen where the power goes in that line.
+//! - `bytes`: the bytes of an image that a script leaves.
+//! - `images`: what is read of an image that a script leaves, where some of its bytes are changed.
+//! - `faults`: a script that is run with the first, the second, and so on to the last call of a device failing.
+//!
+//! A row is `LINE => REPLY`, or a line without a reply. A table has parts, with an empty line between them.
+#![tactic(auto)]
+
+mod cuts;
+mod faults;
+mod images;
+mod run;
+mod transcript;
+
+use crate::run::{blank, follow, small_image};
+use ktm_base::NoMemory;
+use ktm_mem::MemBlock;
+use std::alloc::Global;
+use std::{env, fs, io};
+
+fn main(rt: HostRuntime) -> io::Result<()> {
+    let alloc = rt.alloc();
+    for word in env::args(&rt)?.skip(1) {
+        let table = fs::read_to_string(&rt, word.as_str())?;
+        match found(alloc, kind_of(&word), &table) {
+            Ok(None) => println!(rt; "{word} holds")?,
+            Ok(Some(what)) => println!(rt; "{word} does not hold: {what}")?,
+            Err(NoMemory) => return Err(io::ErrorKind::OutOfMemory.into()),
+        }
+    }
+    Ok(())
+}
+
+fn kind_of(word: &str) -> &str {
+    match word.split_once('.') {
+        Some((_, kind)) => kind,
+        None => "",
+    }
+}
+
+// What does not hold of the table, if anything.
+fn found(alloc: Global, kind: &str, table: &str) -> Result<Option<String>, NoMemory> {
+    match kind {
+        "rows" => runs(alloc, table, small_image(alloc)?),
+        "blank" => runs(alloc, table, blank(alloc)?),
+        "cuts" => cuts::found(alloc, table),
+        "bytes" => images::bytes_found(alloc, table),
+        "images" => images::found(alloc, table),
+        "faults" => faults::found(alloc, table),
+        _ => Ok(Some(String::from_str(alloc, "a table of no kind")?)),
+    }
+}
+
+// The runs of the parts, each on the image that the one before left.
+fn runs(alloc: Global, table: &str, image: MemBlock) -> Result<Option<String>, NoMemory> {
+    let mut image = image;
+    for part in table.split("\n\n") {
+        match follow(alloc, part, image)? {
+            Ok(block) => image = block,
+            Err(what) => return Ok(Some(what)),
+        }
+    }
+    Ok(None)
+}
