@@ -1,6 +1,7 @@
 pub mod Readers
 pub mod WordLemmas
 pub mod FormLemmas
+pub mod LabelLemmas
 pub mod PartLemmas
 pub mod CommandLemmas
 pub mod LineLemmas

@@ -27,7 +27,9 @@ fn last_count(most: u64, text: &[u8]) -> Option<u64>
 fn process_line(alloc: Global, text: &[u8]) -> Result<Line, LineFault>
     ensures { Gives result (process_line_at text.now) }
 {
-    let (process, rest) = read_process(text).ok_or(BadLine)?;
+    let Some((process, rest)) = read_process(text) else {
+        return Err(BadLine);
+    };
     Ok(Line::Process(process, command(alloc, rest)?))
 }
 
@@ -37,15 +39,25 @@ fn line_of_any_length(alloc: Global, text: &[u8]) -> Result<Line, LineFault>
     ensures { Gives result (line_at text.now) }
 {
     if let Some(rest) = strip_word(text, b"tick") {
-        let milliseconds = last_count(u64::from(u32::MAX), rest).ok_or(BadLine)?;
-        Ok(Line::Tick(milliseconds as u32))
+        match last_count(u64::from(u32::MAX), rest) {
+            Some(milliseconds) => Ok(Line::Tick(milliseconds as u32)),
+            None => Err(BadLine),
+        }
     } else if let Some(rest) = strip_word(text, b"cut") {
-        Ok(Line::Cut(last_count(u64::MAX, rest).ok_or(BadLine)?))
+        match last_count(u64::MAX, rest) {
+            Some(calls) => Ok(Line::Cut(calls)),
+            None => Err(BadLine),
+        }
     } else if let Some(rest) = strip_word(text, b"crash") {
-        end(rest).ok_or(BadLine)?;
-        Ok(Line::Crash)
+        match end(rest) {
+            Some(()) => Ok(Line::Crash),
+            None => Err(BadLine),
+        }
     } else if let Some(rest) = strip_word(text, b"restart") {
-        Ok(Line::Restart(last_count(u64::MAX, rest).ok_or(BadLine)?))
+        match last_count(u64::MAX, rest) {
+            Some(seed) => Ok(Line::Restart(seed)),
+            None => Err(BadLine),
+        }
     } else {
         process_line(alloc, text)
     }
