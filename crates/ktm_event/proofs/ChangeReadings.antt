@@ -1,5 +1,5 @@
 -- How what is read of a change at one place goes on at the next.
-use Rattle.std.proofs.Common.{◌≡◌, ◌≢◌, ◌≤◌, ℕ, None, List, [], ◌∷◌, length, ap, arith}
+use Rattle.std.proofs.Common.{◌≡◌, ◌≢◌, ◌≤◌, ℕ, None, List, [], ◌∷◌, length, refl, ap, arith}
 use Rattle.ktm_base.specs.Grammar.{IsU8, IsBytesOf}
 use Rattle.ktm_codec.specs.Spans.{Spans, Reads}
 use Rattle.ktm_codec.proofs.Forms.{unambiguous_u8, unambiguous_bytes}
@@ -10,6 +10,7 @@ use Rattle.ktm_types.specs.declared.change.Contents.TheVariants.{Whole, Paged}
 use Rattle.ktm_types.specs.declared.change.NodeKind.TheVariants.{File, Directory}
 use Rattle.ktm_types.specs.EventGrammar.{IsKindOf, IsPutOf, IsChangeOf}
 use Rattle.ktm_event.specs.Reading.{Behind}
+use Rattle.ktm_event.proofs.Tags.{other_tag, no_byte}
 use Rattle.ktm_event.proofs.Changes.{IsMakeOf, IsPutAtOf, IsCutToOf, IsMoveOf}
 use Rattle.ktm_event.proofs.Readings.{Absent, tag_after}
 
@@ -46,14 +47,14 @@ module _ {bytes : List ℕ} {at : ℕ} where
     where
       none : Reads (Behind IsChangeOf 1) bytes at None
       none (Make node parent kind name) end spans = absent.none (node, (parent, (kind, name))) end (tag_after 1 spans)
-      none change end spans = let is = spans.form.1 in absurd cc
+      none change end spans = absurd (other_tag spans.form.1 refl)
 
   pub no_put : Absent IsPutAtOf bytes at → Absent (Behind IsChangeOf 2) bytes at
   no_put absent = record { none = none }
     where
       none : Reads (Behind IsChangeOf 2) bytes at None
       none (Put node offset contents) end spans = absent.none (node, (offset, contents)) end (tag_after 2 spans)
-      none change end spans = let is = spans.form.1 in absurd cc
+      none change end spans = absurd (other_tag spans.form.1 refl)
 
   pub no_cut : Absent IsCutToOf bytes at → Absent (Behind IsChangeOf 3) bytes at
   no_cut absent = record { none = none }
@@ -61,14 +62,14 @@ module _ {bytes : List ℕ} {at : ℕ} where
       none : Reads (Behind IsChangeOf 3) bytes at None
       none (Cut node size []) end spans = absent.none (node, size) end (tag_after 3 spans)
       none (Cut node size (page ∷ pages)) end spans = spans.form.2.4
-      none change end spans = let is = spans.form.1 in absurd cc
+      none change end spans = absurd (other_tag spans.form.1 refl)
 
   pub no_move : Absent IsMoveOf bytes at → Absent (Behind IsChangeOf 4) bytes at
   no_move absent = record { none = none }
     where
       none : Reads (Behind IsChangeOf 4) bytes at None
       none (Move node parent name) end spans = absent.none (node, (parent, name)) end (tag_after 4 spans)
-      none change end spans = let is = spans.form.1 in absurd cc
+      none change end spans = absurd (other_tag spans.form.1 refl)
 
   pub other_change : (tag : ℕ) → tag ≢ 1 → tag ≢ 2 → tag ≢ 3 → tag ≢ 4 → tag ≢ 5 → Reads (Behind IsChangeOf tag) bytes at None
   other_change tag make put cut move drop (Make node parent kind name) end spans = let is = spans.form.1 in make cc
@@ -79,5 +80,5 @@ module _ {bytes : List ℕ} {at : ℕ} where
 
 -- a change begins with its tag
 pub change_starts : (change : Change) → IsChangeOf change [] → ⊥
-change_starts (Drop node) is = let tag = is.1 in cc
-change_starts change is = let tag = is.1 in cc
+change_starts (Drop node) is = no_byte is.1
+change_starts change is = no_byte is.1

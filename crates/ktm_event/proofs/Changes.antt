@@ -9,6 +9,7 @@ use Rattle.ktm_types.specs.declared.change.Contents.TheVariants.{Whole, Paged}
 use Rattle.ktm_types.specs.declared.change.NodeKind.{NodeKind}
 use Rattle.ktm_types.specs.declared.change.NodeKind.TheVariants.{File, Directory}
 use Rattle.ktm_types.specs.EventGrammar.{IsKindOf, IsPutOf, IsCutOf, IsChangeOf}
+use Rattle.ktm_event.proofs.Tags.{other}
 use Rattle.ktm_event.proofs.Pairs.{Both, unambiguous_both}
 
 -- what stands behind the tag of a change, as pairs
@@ -69,7 +70,7 @@ unambiguous_change (Drop node) (Drop node') a b c d p q e =
     (ap Drop same, bytes)
 unambiguous_change (Cut node size (page ∷ pages)) y a b c d p q e = absurd p.2.4
 unambiguous_change x (Cut node size (page ∷ pages)) a b c d p q e = absurd q.2.4
-unambiguous_change x y a b c d p q e = let tags = other_tags _ _ a b c d p q e in absurd cc
+unambiguous_change x y a b c d p q e = absurd (other (other_tags _ _ a b c d p q e) refl)
 
 one_kind : OneSpelling IsKindOf
 one_kind File = one_u8 0

@@ -1,3 +1,4 @@
+pub mod Tags
 pub mod Pairs
 pub mod Changes
 pub mod Parts

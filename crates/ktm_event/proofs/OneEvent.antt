@@ -1,7 +1,7 @@
 -- No spelling of an event begins another one, and an event has one spelling.
-use Rattle.std.proofs.Common.{◌≡◌, ℕ, List, [], ◌∷◌, refl, ap}
+use Rattle.std.proofs.Common.{◌≡◌, ℕ, List, [], ◌∷◌, ◌++◌, refl, ap}
 use Rattle.ktm_base.specs.declared.id.Id.{Id}
-use Rattle.ktm_base.specs.Grammar.{IsU32, Then, IsListOf}
+use Rattle.ktm_base.specs.Grammar.{IsU32, Then, Tagged, IsListOf}
 use Rattle.ktm_codec.specs.Spans.{Unambiguous, OneSpelling}
 use Rattle.ktm_codec.proofs.Forms.{HasOne, unambiguous_u32, unambiguous_tagged, unambiguous_list, other_tags, one_u32, one_then, one_tagged, one_list}
 use Rattle.ktm_types.specs.declared.event.Part.{Part}
@@ -9,6 +9,7 @@ use Rattle.ktm_types.specs.declared.event.DonePart.{DonePart}
 use Rattle.ktm_types.specs.declared.event.Event.{Event}
 use Rattle.ktm_types.specs.declared.event.Event.TheVariants.{Boot, MadeRm, Plain, Ready, Single, Held, Decide, Undo}
 use Rattle.ktm_types.specs.EventGrammar.{IsIdOf, IsChangeOf, IsPartOf, IsSoleOf, IsDoneOf, IsEventOf, IsGroupOf}
+use Rattle.ktm_event.proofs.Tags.{other}
 use Rattle.ktm_event.proofs.Pairs.{Both, unambiguous_both}
 use Rattle.ktm_event.proofs.Changes.{unambiguous_change, one_change}
 use Rattle.ktm_event.proofs.Parts.{IsEnlistedOf, unambiguous_id, unambiguous_enlisted, unambiguous_part, unambiguous_sole, unambiguous_done, one_id, one_enlisted, one_part, one_sole, one_done}
@@ -16,6 +17,24 @@ use Rattle.ktm_event.proofs.Parts.{IsEnlistedOf, unambiguous_id, unambiguous_enl
 -- a thing of a transaction stands behind its Id
 unambiguous_of : {X : Type 0} (Rest : X → List ℕ → Type 0) → Unambiguous Rest → Unambiguous (Both IsIdOf Rest)
 unambiguous_of Rest one = unambiguous_both IsIdOf Rest unambiguous_id one
+
+abbrev event_tag : Event → ℕ
+event_tag (Boot boot) = 1
+event_tag (MadeRm manager) = 2
+event_tag (Plain change) = 3
+event_tag (Ready transaction part) = 4
+event_tag (Single transaction part) = 5
+event_tag (Held transaction enlistment manager information) = 6
+event_tag (Decide transaction) = 7
+event_tag (Undo transaction) = 8
+event_tag (Event.Done transaction done) = 9
+
+begins : (event : Event) (bytes : List ℕ) → IsEventOf event bytes → Tagged (event_tag event) (λ rest. Unit {0}) bytes
+begins (Boot boot) bytes is = (is.0, is.1, tt)
+begins event bytes is = (is.0, is.1, tt)
+
+same_tag : (x y : Event) (a b c d : List ℕ) → IsEventOf x a → IsEventOf y b → a ++ c ≡ b ++ d → event_tag x ≡ event_tag y
+same_tag x y a b c d p q e = other_tags (event_tag x) (event_tag y) a b c d (begins x a p) (begins y b q) e
 
 pub unambiguous_event : Unambiguous IsEventOf
 unambiguous_event (Boot x) (Boot y) a b c d p q e =
@@ -45,7 +64,7 @@ unambiguous_event (Undo x) (Undo y) a b c d p q e =
 unambiguous_event (Event.Done t x) (Event.Done u y) a b c d p q e =
     let (same, bytes) = unambiguous_tagged (Both IsIdOf IsDoneOf) (unambiguous_of IsDoneOf unambiguous_done) 9 (t, x) (u, y) a b c d p q e in
     (ap (λ (r : Id × DonePart). Event.Done r.0 r.1) same, bytes)
-unambiguous_event x y a b c d p q e = let tags = other_tags _ _ a b c d p q e in absurd cc
+unambiguous_event x y a b c d p q e = absurd (other (same_tag x y a b c d p q e) refl)
 
 pub unambiguous_events : Unambiguous (IsListOf IsEventOf)
 unambiguous_events = unambiguous_list IsEventOf unambiguous_event

@@ -14,6 +14,7 @@ use Rattle.ktm_types.specs.declared.event.DonePart.TheVariants.{Files, Keys}
 use Rattle.ktm_types.specs.EventGrammar.{IsIdOf, IsSetTo, IsSettingOf, AreSettingsOf, IsChangeOf, IsPartOf, IsSoleOf, IsDoneOf}
 use Rattle.ktm_keyed.specs.Keyed.{is_rising}
 use Rattle.ktm_event.specs.Reading.{Behind, IsKeyOf, IsRecordedOf}
+use Rattle.ktm_event.proofs.Tags.{other_tag, no_byte}
 use Rattle.ktm_event.proofs.Pairs.{Both}
 use Rattle.ktm_event.proofs.Parts.{IsEnlistedOf, unambiguous_part, unambiguous_setting, sole_is_part}
 use Rattle.ktm_event.proofs.Readings.{Absent, tag_after}
@@ -24,7 +25,7 @@ module _ {bytes : List ℕ} {at : ℕ} where
     where
       none : Reads (Behind IsSetTo 1) bytes at None
       none (Some value) end spans = none_of value end (tag_after 1 spans)
-      none None end spans = let is = spans.form.1 in absurd cc
+      none None end spans = absurd (other_tag spans.form.1 refl)
 
   pub other_set_to : (tag : ℕ) → tag ≢ 0 → tag ≢ 1 → Reads (Behind IsSetTo tag) bytes at None
   other_set_to tag unset set None end spans = let is = spans.form.1 in unset cc
@@ -62,21 +63,21 @@ module _ {bytes : List ℕ} {at : ℕ} where
     where
       none : Reads (Behind IsPartOf 1) bytes at None
       none (Enlistment enlistment manager information) end spans = absent.none (enlistment, manager, information) end (tag_after 1 spans)
-      none part end spans = let is = spans.form.1 in absurd cc
+      none part end spans = absurd (other_tag spans.form.1 refl)
 
   pub no_changes : Absent (IsListOf IsChangeOf) bytes at → Absent (Behind IsPartOf 2) bytes at
   no_changes absent = record { none = none }
     where
       none : Reads (Behind IsPartOf 2) bytes at None
       none (Changes changes) end spans = absent.none changes end (tag_after 2 spans)
-      none part end spans = let is = spans.form.1 in absurd cc
+      none part end spans = absurd (other_tag spans.form.1 refl)
 
   pub no_settings : Absent AreSettingsOf bytes at → Absent (Behind IsPartOf 3) bytes at
   no_settings absent = record { none = none }
     where
       none : Reads (Behind IsPartOf 3) bytes at None
       none (Settings settings) end spans = absent.none settings end (tag_after 3 spans)
-      none part end spans = let is = spans.form.1 in absurd cc
+      none part end spans = absurd (other_tag spans.form.1 refl)
 
   pub other_part : (tag : ℕ) → tag ≢ 1 → tag ≢ 2 → tag ≢ 3 → Reads (Behind IsPartOf tag) bytes at None
   other_part tag enlistment changes settings (Enlistment e m i) end spans = let is = spans.form.1 in enlistment cc
@@ -110,13 +111,13 @@ module _ {bytes : List ℕ} {at : ℕ} where
 
 -- each begins with its tag
 pub set_to_starts : (value : Option (List ℕ)) → IsSetTo value [] → ⊥
-set_to_starts None is = let tag = is.1 in cc
-set_to_starts value is = let tag = is.1 in cc
+set_to_starts None is = no_byte is.1
+set_to_starts value is = no_byte is.1
 
 pub part_starts : (part : Part) → IsPartOf part [] → ⊥
-part_starts (Settings settings) is = let tag = is.1 in cc
-part_starts part is = let tag = is.1 in cc
+part_starts (Settings settings) is = no_byte is.1
+part_starts part is = no_byte is.1
 
 pub done_starts : (done : DonePart) → IsDoneOf done [] → ⊥
-done_starts (DonePart.Enlistment enlistment) is = let tag = is.1 in cc
+done_starts (DonePart.Enlistment enlistment) is = no_byte is.1
 done_starts done is = let tag = is.value in cc

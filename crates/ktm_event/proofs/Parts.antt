@@ -10,6 +10,7 @@ use Rattle.ktm_types.specs.declared.event.DonePart.{DonePart}
 use Rattle.ktm_types.specs.declared.event.DonePart.TheVariants.{Files, Keys}
 use Rattle.ktm_types.specs.EventGrammar.{IsIdOf, IsSetTo, IsSettingOf, AreSettingsOf, IsChangeOf, IsRecordOf, IsPartOf, IsSoleOf, IsDoneOf}
 use Rattle.ktm_event.specs.Reading.{IsKeyOf}
+use Rattle.ktm_event.proofs.Tags.{other}
 use Rattle.ktm_event.proofs.Pairs.{Both, unambiguous_both}
 use Rattle.ktm_event.proofs.Changes.{unambiguous_change, one_change}
 
@@ -55,7 +56,7 @@ unambiguous_part (Changes x) (Changes y) a b c d p q is =
 unambiguous_part (Settings x) (Settings y) a b c d p q is =
     let (same, bytes) = unambiguous_tagged AreSettingsOf unambiguous_settings 3 x y a b c d p q is in
     (ap Settings same, bytes)
-unambiguous_part x y a b c d p q is = let tags = other_tags _ _ a b c d p q is in absurd cc
+unambiguous_part x y a b c d p q is = absurd (other (other_tags _ _ a b c d p q is) refl)
 
 -- what is spelled as the sole part is spelled as a part
 pub sole_is_part : (part : Part) (bytes : List ℕ) → IsSoleOf part bytes → IsPartOf part bytes

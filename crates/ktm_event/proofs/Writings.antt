@@ -1,19 +1,34 @@
 -- How what is written at the end goes on.
-use Rattle.std.proofs.Common.{◌≡◌, ◌+◌, ◌<◌, ◌≤◌, ℕ, List, [], ◌∷◌, ◌++◌, length, take, get_or, sum_by, refl, sym, ◌∙◌, ap, subst, arith, append_assoc}
+use Rattle.std.proofs.Common.{◌≡◌, ◌+◌, ◌<◌, ◌≤◌, ℕ, IsTrue, Option, Result, List, [], ◌∷◌, ◌++◌, length, take, get_or, sum_by, refl, sym, ◌∙◌, ap, subst, arith, append_assoc}
 use Rattle.std.proofs.lemmas.List.Sums.{sum_by_more, sum_by_more_le}
+use Rattle.std.specs.Result.{OnOk, OnErr}
+use Rattle.std.proofs.lemmas.Result.{on_ok_weaker, on_err_weaker}
 use Rattle.ktm_base.specs.declared.id.Id.{Id}
-use Rattle.ktm_base.specs.Grammar.{IsU8, IsBytesOf, Then, Tagged}
+use Rattle.ktm_base.specs.Grammar.{IsU8, IsTextOf, IsBytesOf, Then, Tagged, IsListOf}
+use Rattle.ktm_keyed.specs.declared.keyed.Keyed.{Keyed}
+use Rattle.ktm_keyed.specs.Keyed.{is_rising}
 use Rattle.ktm_codec.specs.Spans.{Adds}
 use Rattle.ktm_codec.proofs.Adding.{adds_then, adds_tagged}
 use Rattle.ktm_codec.proofs.SpansLemmas.{then_tagged}
+use Rattle.ktm_types.specs.declared.change.Change.{Change}
 use Rattle.ktm_types.specs.declared.change.Contents.TheVariants.{Whole}
 use Rattle.ktm_types.specs.declared.event.Part.{Part}
 use Rattle.ktm_types.specs.declared.event.Part.TheVariants.{Enlistment, Changes, Settings}
-use Rattle.ktm_types.specs.EventGrammar.{IsIdOf, IsPutOf, IsPartOf, IsSoleOf, IsEventOf}
-use Rattle.ktm_event.specs.Spelling.{IsSpellablePart, IsSpellableSole, IsSpellableEvent}
+use Rattle.ktm_types.specs.EventGrammar.{IsIdOf, IsPutOf, IsSetTo, IsSettingOf, AreSettingsOf, IsPartOf, IsSoleOf, IsEventOf}
+use Rattle.ktm_types.specs.Sizes.{event_size, part_size}
+use Rattle.ktm_types.specs.Values.{IsText}
+use Rattle.ktm_event.specs.Spelling.{IsSpellableId, AreSpellableChanges, AreSpellableSettings, IsSpellablePart, IsSpellableSole, IsSpellableEvent}
 use Rattle.ktm_event.specs.Work.{stage_tag, work_event}
 use Rattle.ktm_event.specs.declared.work.Stage.{Stage}
 use Rattle.ktm_event.specs.declared.work.Stage.TheVariants.{Ready, Single}
+
+-- a fact of a call that took memory, or of one that had none, and what follows from it
+module _ {T E P Q : Type 0} (r : Result T E) where
+  pub on_ok_so : OnOk r P → (P → Q) → OnOk r Q
+  on_ok_so fact so = on_ok_weaker r so fact
+
+  pub on_err_so : OnErr r P → (P → Q) → OnErr r Q
+  on_err_so fact so = on_err_weaker r so fact
 
 -- one thing and then another
 pub then : {P Q : List ℕ → Type 0} {a b c : List ℕ} → Adds P a b → Adds Q b c → Adds (Then P Q) a c
@@ -33,6 +48,15 @@ pushed {P} {a} {b} {c} {tag} is rest = adds_tagged tag P a b c is rest
 pub put : {a b : List ℕ} (contents : List ℕ) → 1 ≤ length contents → Adds (IsBytesOf contents) a b → Adds (IsPutOf (Whole contents)) a b
 put [] some adds = absurd (omega arith)
 put (c ∷ cs) some adds = adds
+
+-- a setting whose key is a text
+pub setting : {setting : Keyed (Option (List ℕ))} {a b : List ℕ} → IsText setting.key → Adds (Then (IsTextOf setting.key) (IsSetTo setting.value)) a b
+    → Adds (IsSettingOf setting) a b
+setting text parts = record { more = parts.more; is = parts.is; form = record { text = text; parts = parts.form } }
+
+-- settings whose keys rise are a list of settings
+pub rising : {settings : List (Keyed (Option (List ℕ)))} {a b : List ℕ} → IsTrue (is_rising settings) → Adds (IsListOf IsSettingOf settings) a b → Adds (AreSettingsOf settings) a b
+rising rise listed = record { more = listed.more; is = listed.is; form = record { rising = rise; listed = listed.form } }
 
 -- how many bytes the items of a list take so far
 module _ {X : Type 0} (size : X → ℕ) (xs : List X) (i : ℕ) (x : X) (inside : i < length xs) (is : x ≡ get_or xs i x) where
@@ -68,3 +92,21 @@ pub work : (stage : Stage) (part : Part) {transaction : Id} {a b c : List ℕ} �
     → Adds (Tagged (stage_tag stage) (IsIdOf transaction)) a b → Adds (IsPartOf part) b c → Adds (IsEventOf (work_event stage transaction part)) a c
 work Ready part spellable head rest = headed head rest
 work Single part spellable head rest = headed head (sole part spellable.1 rest)
+
+-- how many bytes it takes, and what has bytes where it has
+pub work_size : (stage : Stage) (transaction : Id) (part : Part) → event_size (work_event stage transaction part) ≡ 9 + part_size part
+work_size Ready transaction part = refl
+work_size Single transaction part = refl
+
+pub work_id : (stage : Stage) (part : Part) {transaction : Id} → IsSpellableEvent (work_event stage transaction part) → IsSpellableId transaction
+work_id Ready part spellable = spellable.0
+work_id Single part spellable = spellable.0
+
+pub work_changes : (stage : Stage) (transaction : Id) (changes : List Change) → IsSpellableEvent (work_event stage transaction (Changes changes)) → AreSpellableChanges changes
+work_changes Ready transaction changes spellable = spellable.1
+work_changes Single transaction changes spellable = spellable.1
+
+pub work_settings : (stage : Stage) (transaction : Id) (settings : List (Keyed (Option (List ℕ)))) → IsSpellableEvent (work_event stage transaction (Settings settings))
+    → AreSpellableSettings settings
+work_settings Ready transaction settings spellable = spellable.1
+work_settings Single transaction settings spellable = spellable.1

@@ -306,6 +306,5 @@ pub(crate) fn put_changes(out: &mut Vec<u8>, changes: &[Change]) -> Result<(), N
 {
     out.reserve(4)?;
     put_u32(out, changes.len() as u32);
-    put_row(out, changes)?;
-    Ok(())
+    put_row(out, changes)
 }

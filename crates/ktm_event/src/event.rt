@@ -170,8 +170,7 @@ fn put_plain(out: &mut Vec<u8>, change: &Change) -> Result<(), NoMemory>
     ensures full { OnErr result (vec_capacity out.old < vec_len out.old + 1 + change_size change.now) }
 {
     out.push(PLAIN)?;
-    put_change(out, change)?;
-    Ok(())
+    put_change(out, change)
 }
 
 fn put_ready(out: &mut Vec<u8>, transaction: Id, part: &Part) -> Result<(), NoMemory>
@@ -183,8 +182,7 @@ fn put_ready(out: &mut Vec<u8>, transaction: Id, part: &Part) -> Result<(), NoMe
     ensures full { OnErr result (vec_capacity out.old < vec_len out.old + 9 + part_size part.now) }
 {
     put_tagged_id(out, READY, transaction)?;
-    put_part(out, part)?;
-    Ok(())
+    put_part(out, part)
 }
 
 fn put_single(out: &mut Vec<u8>, transaction: Id, part: &Part) -> Result<(), NoMemory>
@@ -196,8 +194,7 @@ fn put_single(out: &mut Vec<u8>, transaction: Id, part: &Part) -> Result<(), NoM
     ensures full { OnErr result (vec_capacity out.old < vec_len out.old + 9 + part_size part.now) }
 {
     put_tagged_id(out, SINGLE, transaction)?;
-    put_part(out, part)?;
-    Ok(())
+    put_part(out, part)
 }
 
 fn put_held(
@@ -215,8 +212,7 @@ fn put_held(
     ensures full { OnErr result (vec_capacity out.old < vec_len out.old + 9 + record_size information.now) }
 {
     put_tagged_id(out, HELD, transaction)?;
-    put_record(out, enlistment, manager, information)?;
-    Ok(())
+    put_record(out, enlistment, manager, information)
 }
 
 fn put_finished(out: &mut Vec<u8>, transaction: Id, done: DonePart) -> Result<(), NoMemory>
@@ -228,8 +224,7 @@ fn put_finished(out: &mut Vec<u8>, transaction: Id, done: DonePart) -> Result<()
     ensures full { OnErr result (vec_capacity out.old < vec_len out.old + 9 + done_size done) }
 {
     put_tagged_id(out, DONE, transaction)?;
-    put_done(out, done)?;
-    Ok(())
+    put_done(out, done)
 }
 
 // What a participant has to record of a transaction's work.
@@ -247,10 +242,9 @@ pub(crate) fn put_work(
 {
     put_tagged_id(out, stage.tag(), transaction)?;
     match work {
-        Work::Changes { names, files } => put_names_and_files_part(out, names, files)?,
-        Work::Settings(settings) => put_settings_part(out, settings)?,
+        Work::Changes { names, files } => put_names_and_files_part(out, names, files),
+        Work::Settings(settings) => put_settings_part(out, settings),
     }
-    Ok(())
 }
 
 /// Writes the spelling of the event at the end. Where memory is not to be had, a front of it may have been written.

@@ -72,6 +72,5 @@ pub(crate) fn put_names_and_files(
     out.reserve(4)?;
     put_u32(out, count as u32);
     put_row(out, names)?;
-    put_files(out, files)?;
-    Ok(())
+    put_files(out, files)
 }

@@ -12,6 +12,7 @@ use crate::change::{changes_at, put_changes};
 use crate::field::{id_at, information_at, put_id, tag_at};
 use crate::files::put_names_and_files;
 use crate::setting::{put_settings, settings_at};
+use crate::size::done_size;
 use crate::{EventFault, FileBytes};
 use ktm_base::{Bytes, Id, NoMemory};
 use ktm_codec::{put_text, put_u8};
@@ -124,8 +125,7 @@ fn put_enlistment(
     ensures full { OnErr result (vec_capacity out.old < vec_len out.old + 1 + record_size information.now) }
 {
     out.push(ENLISTMENT)?;
-    put_record(out, enlistment, manager, information)?;
-    Ok(())
+    put_record(out, enlistment, manager, information)
 }
 
 pub(crate) fn put_names_and_files_part(
@@ -140,8 +140,7 @@ pub(crate) fn put_names_and_files_part(
     ensures full { OnErr result (vec_capacity out.old < vec_len out.old + 5 + sum_by change_size (changes_of names.now files.now)) }
 {
     out.push(CHANGES)?;
-    put_names_and_files(out, names, files)?;
-    Ok(())
+    put_names_and_files(out, names, files)
 }
 
 fn put_changes_part(out: &mut Vec<u8>, changes: &[Change]) -> Result<(), NoMemory>
@@ -152,8 +151,7 @@ fn put_changes_part(out: &mut Vec<u8>, changes: &[Change]) -> Result<(), NoMemor
     ensures full { OnErr result (vec_capacity out.old < vec_len out.old + 5 + sum_by change_size changes.now) }
 {
     out.push(CHANGES)?;
-    put_changes(out, changes)?;
-    Ok(())
+    put_changes(out, changes)
 }
 
 pub(crate) fn put_settings_part(out: &mut Vec<u8>, settings: &[Setting]) -> Result<(), NoMemory>
@@ -164,8 +162,7 @@ pub(crate) fn put_settings_part(out: &mut Vec<u8>, settings: &[Setting]) -> Resu
     ensures full { OnErr result (vec_capacity out.old < vec_len out.old + 5 + sum_by setting_size settings.now) }
 {
     out.push(SETTINGS)?;
-    put_settings(out, settings)?;
-    Ok(())
+    put_settings(out, settings)
 }
 
 pub(crate) fn put_part(out: &mut Vec<u8>, part: &Part) -> Result<(), NoMemory>
@@ -193,20 +190,14 @@ pub(crate) fn put_done(out: &mut Vec<u8>, done: DonePart) -> Result<(), NoMemory
     ensures room { vec_capacity out.old ≤ vec_capacity out.new }
     ensures full { OnErr result (vec_capacity out.old < vec_len out.old + done_size done) }
 {
+    out.reserve(done_size(done))?;
     match done {
         DonePart::Enlistment(enlistment) => {
-            out.reserve(9)?;
             put_u8(out, ENLISTMENT);
             put_id(out, enlistment);
         }
-        DonePart::Files => {
-            out.reserve(1)?;
-            put_u8(out, CHANGES);
-        }
-        DonePart::Keys => {
-            out.reserve(1)?;
-            put_u8(out, SETTINGS);
-        }
+        DonePart::Files => put_u8(out, CHANGES),
+        DonePart::Keys => put_u8(out, SETTINGS),
     }
     Ok(())
 }

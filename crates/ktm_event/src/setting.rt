@@ -101,8 +101,7 @@ fn put_setting(out: &mut Vec<u8>, setting: &Setting) -> Result<(), NoMemory>
 {
     out.reserve(1 + setting.key.len())?;
     put_text(out, setting.key.as_slice());
-    put_set_to(out, &setting.value)?;
-    Ok(())
+    put_set_to(out, &setting.value)
 }
 
 pub(crate) fn put_settings(out: &mut Vec<u8>, settings: &[Setting]) -> Result<(), NoMemory>

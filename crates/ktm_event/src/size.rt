@@ -106,7 +106,7 @@ fn part_size(part: &Part) -> usize
     }
 }
 
-fn done_size(done: DonePart) -> usize
+pub(crate) fn done_size(done: DonePart) -> usize
     ensures { result ≡ done_size done }
 {
     match done {

@@ -1,10 +1,15 @@
 use Rattle.std.proofs.Common.{arith}
+use Rattle.std.proofs.lemmas.List.{take_all}
 use Rattle.std.proofs.lemmas.Result.{err_from_is_err_and}
 use Rattle.ktm_types.specs.EventGrammar.{IsChangeOf}
 use Rattle.ktm_types.specs.Sizes.{change_size}
-use Rattle.ktm_event.proofs.Rows.{adds_more}
+use Rattle.ktm_event.specs.Spelling.{IsSpellableChange}
+use Rattle.ktm_event.proofs.Rows.{adds_none, adds_more, adds_all, each_of}
 use Rattle.ktm_event.proofs.Writings.{size_more, size_within}
 use Rattle.ktm_event.proofs.change.put_row.Goals as goal
+
+pub loop-change-init : goal.loop-change-init
+loop-change-init c = record { adds = adds_none IsChangeOf; len = omega arith; room = omega arith }
 
 pub returns-in_err-put_change-clause-full : goal.returns-in_err-put_change-clause-full
 returns-in_err-put_change-clause-full c =
@@ -17,3 +22,12 @@ loop-change-preserved c = record {
   len = omega (arith, c.in_ok-put_change.ensures.len, size_more change_size c.args.changes.now c.loop-change.change-index c.change-item.result (omega arith) c.change-item.is);
   room = omega arith;
 }
+
+pub returns-clause-adds : goal.returns-clause-adds
+returns-clause-adds c = adds_all IsChangeOf _ (omega arith) c.loop-change.invariant.adds
+
+pub returns-clause-len : goal.returns-clause-len
+returns-clause-len c = rw (take_all c.loop-change.change-index c.args.changes.now (omega arith)) at c.loop-change.invariant.len
+
+pub put_change-requires : goal.put_change-requires
+put_change-requires c = each_of IsSpellableChange c.args.changes.now c.loop-change.change-index (omega arith) c.change-item.is c.requires

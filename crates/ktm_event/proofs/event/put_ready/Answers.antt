@@ -1,5 +1,5 @@
-use Rattle.ktm_event.proofs.Writings.{headed}
+use Rattle.ktm_event.proofs.Writings.{headed, on_ok_so}
 use Rattle.ktm_event.proofs.event.put_ready.Goals as goal
 
 pub returns-clause-adds : goal.returns-clause-adds
-returns-clause-adds c = headed c.in_ok-put_tagged_id.ensures.adds c.in_ok-put_part.ensures.adds
+returns-clause-adds c = on_ok_so c.put_part.result c.put_part.ensures.adds (headed c.in_ok-put_tagged_id.ensures.adds)

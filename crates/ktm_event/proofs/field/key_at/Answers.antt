@@ -1,7 +1,9 @@
-use Rattle.std.proofs.Common.{sym, subst}
+use Rattle.std.proofs.Common.{sym, ◌∙◌, subst}
+use Rattle.std.proofs.lemmas.Bool.{true≢false}
 use Rattle.ktm_types.specs.Values.{IsText}
 use Rattle.ktm_event.proofs.Readings.{key_other}
 use Rattle.ktm_event.proofs.field.key_at.Goals as goal
 
 pub returns-then-not-is_text : goal.returns-then-not-is_text
-returns-then-not-is_text c = key_other c.in_ok-key.ensures (λ text. cc (c.is_text.ensures.1 (subst IsText (sym c.as_slice.ensures) text)))
+returns-then-not-is_text c =
+    key_other c.in_ok-key.ensures (λ text. true≢false (sym (c.is_text.ensures.1 (subst IsText (sym c.as_slice.ensures) text)) ∙ c.if-not-is_text.true))

@@ -1,5 +1,5 @@
-use Rattle.ktm_event.proofs.Writings.{pushed}
+use Rattle.ktm_event.proofs.Writings.{pushed, on_ok_so}
 use Rattle.ktm_event.proofs.part.put_changes_part.Goals as goal
 
 pub returns-clause-adds : goal.returns-clause-adds
-returns-clause-adds c = pushed c.in_ok-push.ensures.items c.in_ok-put_changes.ensures.adds
+returns-clause-adds c = on_ok_so c.put_changes.result c.put_changes.ensures.adds (pushed c.in_ok-push.ensures.items)
