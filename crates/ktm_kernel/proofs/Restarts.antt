@@ -1,5 +1,5 @@
 -- What a restart finds on a disk, and what it makes of it.
-use Rattle.std.proofs.Common.{◌≡◌, ℕ, ◌+◌, ◌-◌, ◌^◌, ◌≤◌, ◌<◌, true, false, List, [], ◌∷◌, ◌++◌, length, Bool, Ok, Err, Option, None, Some, refl, sym, ◌∙◌, ap, subst, arith, inl, inr, append_assoc}
+use Rattle.std.proofs.Common.{◌≡◌, ℕ, ◌+◌, ◌-◌, ◌^◌, ◌≤◌, ◌<◌, true, false, List, [], ◌∷◌, ◌++◌, length, Bool, Result, Ok, Err, Option, None, Some, refl, sym, ◌∙◌, ap, subst, arith, inl, inr, append_assoc}
 use Rattle.std.proofs.lemmas.Bool.{and_from, and_parts, eq-eqb, lt-ltb, false_from_ne_true}
 use Rattle.std.proofs.lemmas.List.Folds.{list_all-append}
 use Rattle.std.proofs.lemmas.List.Sums.{sum_by-cons}
@@ -43,7 +43,9 @@ use Rattle.txf_volume.specs.Held.{files_begun, files_of}
 use Rattle.ktm_world.specs.Files.{FilesNow}
 use Rattle.ktm_world.specs.Keys.{Store}
 use Rattle.ktm_log.specs.declared.fault.AppendFault.TheVariants.{Full}
-use Rattle.ktm_kernel.specs.Restarts.{HoldsBoth, base_of, is_full_for_own, Started, LeavesOwnOrNot}
+use Rattle.ktm_kernel.specs.Restarts.{HoldsBoth, base_of, is_full_for_own, Started, LeavesOwnOrNot, IfDown, IfFull, IfLoaded, IfBad, IfUnwritten}
+use Rattle.ktm_kernel.specs.declared.restart.RestartFault.{RestartFault}
+use Rattle.ktm_kernel.specs.declared.restart.RestartFault.TheVariants.{Down, Bad, Full as NoRoom, NoMemory}
 use Rattle.ktm_kernel.specs.Stands.{KernelState, IsReady}
 
 -- ---- what the grammar has
@@ -105,6 +107,42 @@ own_length state built = ap (λ (es : List Event). length es) (own_is state buil
 -- where an append answered Ok the log was not full
 pub not_full : {T : Type 0} (value : T) (full : Bool) → (IsTrue full → Ok value ≡ Err Full) → full ≡ false
 not_full value full tells = false_from_ne_true full (λ is. let wrong = tells is in cc)
+
+-- ---- what is handed on of a start that was not recorded
+
+-- whatever it would have given
+abbrev failed : RestartFault → Result Bool RestartFault
+failed fault = Err fault
+
+pub down_on : (fault : RestartFault) (P Q : Type 0) → (P → Q) → IfDown (failed fault) P → IfDown (failed fault) Q
+down_on Down P Q f is = f is
+down_on (Bad offset) P Q f is = tt
+down_on NoRoom P Q f is = tt
+down_on NoMemory P Q f is = tt
+
+pub full_on : (fault : RestartFault) (P Q : Type 0) → (P → Q) → IfFull (failed fault) P → IfFull (failed fault) Q
+full_on Down P Q f is = tt
+full_on (Bad offset) P Q f is = tt
+full_on NoRoom P Q f is = f is
+full_on NoMemory P Q f is = tt
+
+pub loaded_on : (fault : RestartFault) (P : Type 0) → P → IfLoaded (failed fault) P
+loaded_on Down P is = tt
+loaded_on (Bad offset) P is = tt
+loaded_on NoRoom P is = is
+loaded_on NoMemory P is = tt
+
+pub not_bad_on : (fault : RestartFault) (P : ℕ → Type 0) → IfBad (failed fault) (λ offset. ⊥) → IfBad (failed fault) P
+not_bad_on Down P is = tt
+not_bad_on (Bad offset) P is = absurd is
+not_bad_on NoRoom P is = tt
+not_bad_on NoMemory P is = tt
+
+pub unwritten_on : (fault : RestartFault) (P Q : Type 0) → (P → Q) → IfUnwritten (failed fault) P → IfUnwritten (failed fault) Q
+unwritten_on Down P Q f is = tt
+unwritten_on (Bad offset) P Q f is = f is
+unwritten_on NoRoom P Q f is = f is
+unwritten_on NoMemory P Q f is = f is
 
 -- what a machine holds that starts from this state
 abbrev pub fresh_held : Durable → Held
@@ -217,29 +255,29 @@ module _ (units image : ℕ) (before log : List Group) (state : Durable) (is : I
 
   -- of the journal that the group of the restart was added to
   module _ (may : events_apply state (own_group state) ≡ true) (j k : JournalState) (units_are : j.units ≡ state.units) (image_is : j.image ≡ state.image) (old new : Option DiskState)
-      (at : Tells old (JournalAt j (before ++ log))) (events : EventsState) (holds : Holds events (own_group state)) where
-    pub started : GoodStatesLaw → StandingLaw → FreshLaw → (is_log_grammatical before ≡ true) × (is_log_grammatical log ≡ true) → state.image < 2 ^ 16 → state.units ≤ MOST_UNITS → (kernel : KernelState) (left count : ℕ) → kernel.journal ≡ k → kernel.now ≡ fresh state left → left ≡ k.log.area.len - k.log.end → count ≡ state.events
-        → k.units ≡ j.units → k.image ≡ j.image → k.log.area ≡ j.log.area → ((group : Group) → Holds events group → k.log.end ≡ j.log.end + frame_size group)
+      (at : Tells old (JournalAt j (before ++ log))) where
+    pub started : GoodStatesLaw → StandingLaw → FreshLaw → (is_log_grammatical before ≡ true) × (is_log_grammatical log ≡ true) → state.image < 2 ^ 16 → state.units ≤ MOST_UNITS → (kernel : KernelState) (left count doubts : ℕ) → kernel.journal ≡ k → kernel.now ≡ fresh state left → left ≡ k.log.area.len - k.log.end → count ≡ state.events → doubts ≡ 0
+        → k.units ≡ j.units → k.image ≡ j.image → k.log.area ≡ j.log.area → k.log.end ≡ j.log.end + frame_size (own_group state)
         → is_full_in (j.log.area.len - j.log.end) (own_group state) ≡ false
-        → ((gs : List Group) (group : Group) → Holds events group → Tells old (JournalAt j gs) → Tells new (JournalAt k (gs ++ group ∷ [])))
-        → Started units image before log kernel count 0 new
-    started good law begins grammatical number most kernel left count journal now left_is count_is k_units k_image area end fits added = record {
+        → ((gs : List Group) → Tells old (JournalAt j gs) → Tells new (JournalAt k (gs ++ own_group state ∷ [])))
+        → Started units image before log kernel count doubts new
+    started good law begins grammatical number most kernel left count doubts journal now left_is count_is none k_units k_image area end fits added = record {
       room = sym (is_full j old units_are at) ∙ fits;
       stands = record {
-        now = now ∙ fresh_is begins left (omega (arith, left_is, ap (λ (a : Area). a.len) area, end (own_group state) holds, left_found j old units_are at, own_size state built_state_is));
+        now = now ∙ fresh_is begins left (omega (arith, left_is, ap (λ (a : Area). a.len) area, end, left_found j old units_are at, own_size state built_state_is));
         standing = standing good law (subst (λ (n : ℕ). n < 2 ^ 16) is.image_is number) (subst (λ (n : ℕ). n ≤ 1024) is.units_are most) (sym (is_full j old units_are at) ∙ fits) grammatical;
         before = before;
         began = rw (journal, k_units ∙ units_are ∙ is.units_are, k_image ∙ image_is ∙ is.image_is) (record { built = made.0; applies = applied.0; base = refl; room = refl });
         disk = subst (λ i. Tells new (JournalAt i (before ++ (log ++ own_group (stand base log) ∷ [])))) (sym journal)
             (subst (λ (gs : List Group). Tells new (JournalAt k gs)) (append_assoc before log (own_group (stand base log) ∷ []))
-            (subst (λ (s : Durable). Tells new (JournalAt k ((before ++ log) ++ own_group s ∷ []))) is.is (added (before ++ log) (own_group state) holds at)));
+            (subst (λ (s : Durable). Tells new (JournalAt k ((before ++ log) ++ own_group s ∷ []))) is.is (added (before ++ log) at)));
       };
       events_are = count_is ∙ ap (λ (s : Durable). s.events) is.is;
-      none_in_doubt = refl;
+      none_in_doubt = none;
     }
 
-    pub cut_off : ((gs : List Group) (group : Group) → Holds events group → Tells old (JournalAt j gs) → Tells new (LeavesGroupOrNot j gs group)) → Tells new (LeavesOwnOrNot units image before log)
-    cut_off left = Tells-map new _ (LeavesOwnOrNot units image before log) (left (before ++ log) (own_group state) holds at) (λ s either bytes may_be. elim (either bytes may_be) [
+    pub cut_off : ((gs : List Group) → Tells old (JournalAt j gs) → Tells new (LeavesGroupOrNot j gs (own_group state))) → Tells new (LeavesOwnOrNot units image before log)
+    cut_off left = Tells-map new _ (LeavesOwnOrNot units image before log) (left (before ++ log) at) (λ s either bytes may_be. elim (either bytes may_be) [
       | inl without ↦ inl (record { is = same (before ++ log) bytes without; built = is.built; applies = is.applies })
       | inr with_it ↦ inr (record { is = same _ bytes (subst (λ (gs : List Group). IsImage j.units j.image gs bytes) both with_it); built = both_built; applies = both_apply })
     ])

@@ -1,5 +1,5 @@
 // Starting the machine from its disk.
-ghost use Rattle.std.specs.Prelude.{◌≡◌, ◌+◌, ◌*◌, ◌≤◌, ℕ, List, IfOk, OnOk, OnErr, Some, true, false, [], vec_capacity};
+ghost use Rattle.std.specs.Prelude.{◌≡◌, ◌+◌, ◌-◌, ◌*◌, ◌^◌, ◌<◌, ◌≤◌, ◌∷◌, ◌++◌, ℕ, List, IfOk, OnOk, OnErr, Some, true, false, [], vec_capacity};
 ghost use Rattle.ktm_base.specs.declared.limits.TheConstants.{MOST_UNITS};
 ghost use Rattle.ktm_event.specs.Kept.{Holds};
 ghost use Rattle.ktm_base.specs.Count.{Rose};
@@ -9,9 +9,15 @@ ghost use Rattle.ktm_types.specs.declared.reply.Reply.TheVariants.{Refused};
 ghost use Rattle.ktm_base.specs.Told.{IfTold, Tells};
 ghost use Rattle.ktm_base.specs.Disk.{DeviceCalls};
 ghost use Rattle.ktm_journal.specs.Bad.{IsBadAt};
-ghost use Rattle.ktm_journal.specs.Image.{IsHeaded, StandsFor, area_len};
-ghost use Rattle.ktm_world.specs.Durable.{Durable};
-ghost use Rattle.ktm_world.specs.World.{World};
+ghost use Rattle.ktm_built.specs.Standing.{fresh};
+ghost use Rattle.ktm_forms.specs.Built.{IsBuiltState};
+ghost use Rattle.ktm_journal.specs.Image.{IsFormatted, IsHeaded, JournalAt, LeavesGroupOrNot, StandsFor, area_len};
+ghost use Rattle.ktm_laws.specs.GoodState.{IsGoodState};
+ghost use Rattle.ktm_types.specs.Sizes.{frame_size};
+ghost use Rattle.ktm_world.specs.Durable.{Durable as DurableState};
+ghost use Rattle.ktm_world.specs.Outcome.{is_full};
+ghost use Rattle.ktm_world.specs.World.{World, own_group};
+ghost use Rattle.ktm_kernel.specs.Memory.{IsRoomy};
 ghost use Rattle.ktm_world.specs.Logs.{Group};
 ghost use Rattle.ktm_kernel.specs.Restarts.{HoldsBoth, Started, LeavesOwnOrNot, is_full_for_own, IfDown, IfFull, IfLoaded, IfBad, IfUnwritten, IfUnwrittenBy, restart_went_down};
 ghost use Rattle.ktm_kernel.specs.Stands.{IsReady, FoundAt, DoesLine};
@@ -21,7 +27,7 @@ use crate::memory::Memory;
 use ktm_base::{Disk, NoMemory, Refusal};
 use ktm_built::{law_of_fresh, law_of_standing};
 use ktm_event::Events;
-use ktm_journal::{AppendFault, Journal, LoadFault, Loaded};
+use ktm_journal::{AppendFault, Durable, Journal, LoadFault, Loaded};
 use ktm_laws::{law_of_good_states, law_of_grammar};
 use ktm_types::{Event, Reply};
 use std::alloc::Global;
@@ -48,6 +54,86 @@ pub struct Restarted {
     pub events: u64,
     /// How many transactions are in doubt. None is, since none has a superior so far.
     pub in_doubt: u32,
+}
+
+// Records that a machine starts from this state. Its list of events takes the buffer, which is given back where that was not
+// recorded.
+fn record_start<D: Disk>(
+    alloc: Global,
+    disk: &mut D,
+    journal: &mut Journal,
+    state: &Durable,
+    buffer: &mut Vec<u8>,
+) -> Result<Events, RestartFault>
+    requires built { IsBuiltState state.now }
+    requires boots { state.now.boots + 1 < 2 ^ 32 }
+    requires most { journal.old.units ≤ MOST_UNITS }
+    requires reserved { area_len journal.old.units ≤ vec_capacity buffer.old }
+    requires pending { (D.status disk.old).pending ≡ 0 }
+    requires formatted { IfTold (D.told disk.old) (λ s. IsFormatted journal.old.units journal.old.image s.seen) }
+    ensures units { journal.new.units ≡ journal.old.units }
+    ensures image { journal.new.image ≡ journal.old.image }
+    ensures area { journal.new.log.area ≡ journal.old.log.area }
+    ensures end { OnOk result (journal.new.log.end ≡ journal.old.log.end + frame_size (own_group state.now)) }
+    ensures counted { OnOk result (journal.new.events ≡ journal.old.events + 1) }
+    ensures room { OnOk result (is_full (journal.old.log.area.len - journal.old.log.end) (own_group state.now) ≡ false) }
+    ensures full { IfFull result (is_full (journal.old.log.area.len - journal.old.log.end) (own_group state.now) ≡ true) }
+    ensures same { IfUnwritten result (D.told disk.new ≡ D.told disk.old) }
+    ensures waits { IfUnwritten result ((D.status disk.new).pending ≡ (D.status disk.old).pending) }
+    ensures adds { OnOk result ((log : List Group) → Tells (D.told disk.old) (JournalAt journal.old log) → Tells (D.told disk.new) (JournalAt journal.new (log ++ own_group state.now ∷ []))) }
+    ensures down { IfDown result ((log : List Group) → Tells (D.told disk.old) (JournalAt journal.old log) → Tells (D.told disk.new) (LeavesGroupOrNot journal.old log (own_group state.now))) }
+    ensures good { IfBad result (λ offset. ⊥) }
+    ensures formatted { OnOk result (IfTold (D.told disk.new) (λ s. IsFormatted journal.new.units journal.new.image s.seen)) }
+    ensures settled { OnOk result ((D.status disk.new).pending ≡ 0) }
+    ensures up { OnOk result ((D.status disk.new).is_down ≡ false) }
+    ensures calls { DeviceCalls 4 (D.status disk.old) (D.status disk.new) (restart_went_down result) }
+    ensures roomy { IfOk result (λ events. events.room + 9 ≡ area_len journal.old.units) }
+    ensures buffer { OnErr result (vec_capacity buffer.old ≤ vec_capacity buffer.new) }
+{
+    let mut events = events_in(replace(buffer, Vec::new(alloc)), journal);
+    events.push(&Event::Boot {
+        boot: state.boots() + 1,
+    });
+    match journal.append(disk, &events) {
+        Ok(()) => Ok(events),
+        Err(AppendFault::Down) => {
+            *buffer = events.into_buffer();
+            Err(RestartFault::Down)
+        }
+        Err(AppendFault::Full) => {
+            *buffer = events.into_buffer();
+            Err(RestartFault::Full)
+        }
+    }
+}
+
+// The machine that started from this state, once that is recorded.
+fn started(alloc: Global, journal: Journal, state: Durable, events: Events) -> Restarted
+    requires built { IsBuiltState state }
+    requires good { IsGoodState state }
+    requires boots { state.boots + 1 < 2 ^ 32 }
+    requires roomy { IsRoomy journal events }
+    requires units { journal.units ≡ state.units }
+    requires image { journal.image ≡ state.image }
+    requires counted { journal.events ≡ state.events + 1 }
+    ensures journal { result.kernel.journal ≡ journal }
+    ensures now { result.kernel.now ≡ fresh state (journal.log.area.len - journal.log.end) }
+    ensures events { result.events ≡ state.events }
+    ensures in_doubt { result.in_doubt ≡ 0 }
+{
+    let found = state.events();
+    let boot = state.boots() + 1;
+    let (files, keys) = state.into_files_and_keys();
+    Restarted {
+        kernel: Kernel {
+            alloc,
+            memory: Memory::start(alloc, boot, files, keys),
+            journal,
+            events,
+        },
+        events: found,
+        in_doubt: 0,
+    }
 }
 
 /// Why a machine did not start.
@@ -84,7 +170,7 @@ impl Kernel {
             → Tells (D.told disk.new) (LeavesOwnOrNot units image before log)) }
         ensures full { IfFull result ((units image : ℕ) (before log : List Group) → Tells (D.told disk.old) (HoldsBoth units image before log)
             → is_full_for_own units image before log ≡ true) }
-        ensures found { IfLoaded result (IfTold (D.told disk.old) (λ s. (state : Durable) × StandsFor state s.seen)) }
+        ensures found { IfLoaded result (IfTold (D.told disk.old) (λ s. (state : DurableState) × StandsFor state s.seen)) }
         ensures bad { IfBad result (λ offset. IfTold (D.told disk.old) (λ s. IsBadAt s.seen offset)) }
         ensures unwritten { IfUnwritten result (D.told disk.new ≡ D.told disk.old) }
         ensures pending { IfUnwritten result ((D.status disk.new).pending ≡ (D.status disk.old).pending) }
@@ -96,41 +182,16 @@ impl Kernel {
         law_of_standing();
         law_of_good_states();
         law_of_grammar();
-        let Loaded { journal, state } = match Journal::load(alloc, disk, buffer) {
+        let Loaded { mut journal, state } = match Journal::load(alloc, disk, buffer) {
             Ok(loaded) => loaded,
             Err(LoadFault::Down) => return Err(RestartFault::Down),
             Err(LoadFault::Bad(offset)) => return Err(RestartFault::Bad(offset)),
             Err(LoadFault::NoMemory) => return Err(RestartFault::NoMemory),
         };
-        let mut journal = journal;
-        let mut events = events_in(replace(buffer, Vec::new(alloc)), &journal);
-        events.push(&Event::Boot {
-            boot: state.boots() + 1,
-        });
-        match journal.append(disk, &events) {
-            Ok(()) => {}
-            Err(AppendFault::Down) => {
-                *buffer = events.into_buffer();
-                return Err(RestartFault::Down);
-            }
-            Err(AppendFault::Full) => {
-                *buffer = events.into_buffer();
-                return Err(RestartFault::Full);
-            }
+        match record_start(alloc, disk, &mut journal, &state, buffer) {
+            Ok(events) => Ok(started(alloc, journal, state, events)),
+            Err(fault) => Err(fault),
         }
-        let found = state.events();
-        let boot = state.boots() + 1;
-        let (files, keys) = state.into_files_and_keys();
-        Ok(Restarted {
-            kernel: Kernel {
-                alloc,
-                memory: Memory::start(alloc, boot, files, keys),
-                journal,
-                events,
-            },
-            events: found,
-            in_doubt: 0,
-        })
     }
 }
 
@@ -167,21 +228,14 @@ impl Kernel {
                     in_doubt: restarted.in_doubt,
                 })
             }
-            Err(RestartFault::Down) => {
+            Err(fault) => {
                 self.events = events_in(buffer, &self.journal);
-                Ok(Reply::Refused(Refusal::MachineDown))
-            }
-            Err(RestartFault::Bad(offset)) => {
-                self.events = events_in(buffer, &self.journal);
-                Ok(Reply::BadImage(offset))
-            }
-            Err(RestartFault::Full) => {
-                self.events = events_in(buffer, &self.journal);
-                Ok(Reply::Refused(Refusal::LogFull))
-            }
-            Err(RestartFault::NoMemory) => {
-                self.events = events_in(buffer, &self.journal);
-                Err(NoMemory)
+                match fault {
+                    RestartFault::Down => Ok(Reply::Refused(Refusal::MachineDown)),
+                    RestartFault::Bad(offset) => Ok(Reply::BadImage(offset)),
+                    RestartFault::Full => Ok(Reply::Refused(Refusal::LogFull)),
+                    RestartFault::NoMemory => Err(NoMemory),
+                }
             }
         }
     }

@@ -5,6 +5,7 @@ use Rattle.ktm_kernel.specs.Memory.{MemoryState, held, now_of}
 use Rattle.ktm_kernel.specs.Stands.{KernelState, DoesLine}
 use Rattle.ktm_kernel.proofs.StartAgain.{started_line, interrupted_line, full_line, found_is_good, found_few}
 use Rattle.ktm_kernel.proofs.kernel.Kernel.start_again.Goals as goal
+use Rattle.ktm_kernel.proofs.kernel.Kernel.start_again.Goals.{in-Down, in-Bad, in-Full, in-NoMemory}
 
 pub returns-in-Ok-clause-does : goal.returns-in-Ok-clause-does
 returns-in-Ok-clause-does g c = λ pick w at.
@@ -15,23 +16,13 @@ returns-in-Ok-clause-does g c = λ pick w at.
 pub returns-in-Ok-clause-few : goal.returns-in-Ok-clause-few
 returns-in-Ok-clause-few g c = found_few c.args.self.now (g.D.Disk.told c.args.disk.now) _ _ c.in-Ok.ensures.few
 
-pub returns-in-Err-Down-clause-does : goal.returns-in-Err-Down-clause-does
-returns-in-Err-Down-clause-does g c = rw c.self.view_is (interrupted_line c.law_of_standing.ensures c.args.self.now (g.D.Disk.told c.args.disk.now) (g.D.Disk.told c.restart.new.disk) (rw c.in-Err-Down.field-0-is at c.in-Err-Down.ensures.down))
+pub returns-after-fault-clause-few : goal.returns-after-fault-clause-few
+returns-after-fault-clause-few g c = found_few c.args.self.now (g.D.Disk.told c.args.disk.now) _ _ c.in-Err.ensures.few
 
-pub returns-in-Err-Down-clause-few : goal.returns-in-Err-Down-clause-few
-returns-in-Err-Down-clause-few g c = found_few c.args.self.now (g.D.Disk.told c.args.disk.now) _ _ c.in-Err-Down.ensures.few
-
-pub returns-in-Err-Bad-clause-does : goal.returns-in-Err-Bad-clause-does
-returns-in-Err-Bad-clause-does g c = λ pick w at. absurd (found_is_good c.args.self.now (g.D.Disk.told c.args.disk.now) c.in-Err-Bad.offset (rw c.in-Err-Bad.field-0-is at c.in-Err-Bad.ensures.bad) w at)
-
-pub returns-in-Err-Bad-clause-few : goal.returns-in-Err-Bad-clause-few
-returns-in-Err-Bad-clause-few g c = found_few c.args.self.now (g.D.Disk.told c.args.disk.now) _ _ c.in-Err-Bad.ensures.few
-
-pub returns-in-Err-Full-clause-does : goal.returns-in-Err-Full-clause-does
-returns-in-Err-Full-clause-does g c = rw c.self.view_is (full_line c.law_of_standing.ensures c.args.self.now (g.D.Disk.told c.args.disk.now) (g.D.Disk.told c.restart.new.disk) (rw c.in-Err-Full.field-0-is at c.in-Err-Full.ensures.unwritten) (rw c.in-Err-Full.field-0-is at c.in-Err-Full.ensures.full))
-
-pub returns-in-Err-Full-clause-few : goal.returns-in-Err-Full-clause-few
-returns-in-Err-Full-clause-few g c = found_few c.args.self.now (g.D.Disk.told c.args.disk.now) _ _ c.in-Err-Full.ensures.few
-
-pub returns-in-Err-NoMemory-clause-few : goal.returns-in-Err-NoMemory-clause-few
-returns-in-Err-NoMemory-clause-few g c = found_few c.args.self.now (g.D.Disk.told c.args.disk.now) _ _ c.in-Err-NoMemory.ensures.few
+pub returns-after-fault-clause-does : goal.returns-after-fault-clause-does
+returns-after-fault-clause-does g c = elim c.match-fault.branch [
+  | in-Down w ↦ rw (w.result-is, c.self.view_is) (interrupted_line c.law_of_standing.ensures c.args.self.now (g.D.Disk.told c.args.disk.now) (g.D.Disk.told c.restart.new.disk) (rw w.in-Down.is at c.in-Err.ensures.down))
+  | in-Bad w ↦ rw w.result-is (λ pick world at. absurd (found_is_good c.args.self.now (g.D.Disk.told c.args.disk.now) w.in-Bad.offset (rw w.in-Bad.is at c.in-Err.ensures.bad) world at))
+  | in-Full w ↦ rw (w.result-is, c.self.view_is) (full_line c.law_of_standing.ensures c.args.self.now (g.D.Disk.told c.args.disk.now) (g.D.Disk.told c.restart.new.disk) (rw w.in-Full.is at c.in-Err.ensures.unwritten) (rw w.in-Full.is at c.in-Err.ensures.full))
+  | in-NoMemory w ↦ rw w.result-is tt
+]
