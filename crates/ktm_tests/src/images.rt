@@ -13,8 +13,8 @@ fn image_of(alloc: Global, rows: &str) -> Result<Result<Vec<u8>, String>, NoMemo
     }
 }
 
-// The bytes that stand at a place, as many as the digits of a row are of, as digits.
-fn digits_at(alloc: Global, image: &[u8], at: usize, len: usize) -> Result<String, NoMemory> {
+/// So many bytes at a place, as digits.
+pub fn digits_at(alloc: Global, image: &[u8], at: usize, len: usize) -> Result<String, NoMemory> {
     let mut digits = String::new(alloc);
     for byte in image.iter().skip(at).take(len) {
         digits.push_str(&format!(in alloc; "{byte:02x}")?)?;

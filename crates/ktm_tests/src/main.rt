@@ -5,6 +5,7 @@
 //! - `cuts`: a script whose last line records something, and what is seen where the power goes in that line.
 //! - `bytes`: the bytes of an image that a script leaves.
 //! - `images`: what is read of an image that a script leaves, where some of its bytes are changed.
+//! - `picks`: what a loss of power leaves of a disk, by the number that it picks by.
 //! - `faults`: a script that is run with the first, the second, and so on to the last call of a device failing.
 //!
 //! A row is `LINE => REPLY`, or a line without a reply. A table has parts, with an empty line between them.
@@ -13,6 +14,7 @@
 mod cuts;
 mod faults;
 mod images;
+mod picks;
 mod run;
 mod transcript;
 
@@ -50,6 +52,7 @@ fn found(alloc: Global, kind: &str, table: &str) -> Result<Option<String>, NoMem
         "cuts" => cuts::found(alloc, table),
         "bytes" => images::bytes_found(alloc, table),
         "images" => images::found(alloc, table),
+        "picks" => picks::found(alloc, table),
         "faults" => faults::found(alloc, table),
         _ => Ok(Some(String::from_str(alloc, "a table of no kind")?)),
     }
