@@ -9,10 +9,10 @@ use Rattle.ktm_log.specs.Log.{LogState, IsLog, Rests, LeavesEither, SameElsewher
 use Rattle.ktm_log.proofs.Parts.{not_covered, same_part}
 use Rattle.ktm_world.specs.Logs.{Group}
 use Rattle.ktm_world.specs.Outcome.{is_full}
-use Rattle.ktm_types.specs.Sizes.{frame_size}
+use Rattle.ktm_types.specs.Sizes.{area_len, frame_size}
 use Rattle.std.proofs.lemmas.Bool.Decides.{nat_tests}
 use Rattle.ktm_types.specs.EventGrammar.{IsGroupOf}
-use Rattle.ktm_journal.specs.Image.{IsFormatted, HoldGroups, IsImage, JournalState, JournalAt, LeavesGroupOrNot, log_area, area_len}
+use Rattle.ktm_journal.specs.Image.{IsFormatted, HoldGroups, IsImage, JournalState, JournalAt, LeavesGroupOrNot, log_area}
 
 -- header and snapshot lie before the log
 pub formatted_elsewhere : (units image : ℕ) (old new : List ℕ) → IsFormatted units image old → SameElsewhere (log_area units) old new → IsFormatted units image new

@@ -11,11 +11,7 @@ use Rattle.ktm_forms.specs.Built.{is_built_log}
 use Rattle.ktm_world.specs.Logs.{Group}
 use Rattle.ktm_types.specs.EventGrammar.{IsGroupOf}
 use Rattle.ktm_world.specs.Durable.{Durable, empty_state, stand, log_applies}
-use Rattle.ktm_types.specs.Sizes.{log_size}
-
--- how many bytes an area has
-abbrev pub area_len : ℕ → ℕ
-area_len units = 8192 * units + 65536
+use Rattle.ktm_types.specs.Sizes.{area_len, log_size}
 
 -- the area of the log, behind the header and the snapshot's area
 abbrev pub log_area : ℕ → Area

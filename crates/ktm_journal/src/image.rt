@@ -3,7 +3,8 @@ ghost use Rattle.std.specs.Prelude.{false, ◌≡◌, ℕ, ◌+◌, ◌≤◌, l
 ghost use Rattle.ktm_base.specs.declared.limits.TheConstants.{LEAST_UNITS, MOST_UNITS};
 ghost use Rattle.ktm_base.specs.Told.{IfTold, Goes};
 ghost use Rattle.ktm_base.specs.Disk.{DeviceCalls, IsSafe};
-ghost use Rattle.ktm_journal.specs.Image.{IsFormatted, area_len, empty_snapshot, image_len, log_area};
+ghost use Rattle.ktm_journal.specs.Image.{IsFormatted, empty_snapshot, image_len, log_area};
+ghost use Rattle.ktm_types.specs.Sizes.{area_len};
 ghost use Rattle.ktm_journal.specs.Format.{Anything, IsHeader, IsLaid, SettledBoth};
 
 use ktm_base::{Disk, Down};
@@ -13,7 +14,8 @@ pub(crate) const SELECTOR_AT: u64 = 2048;
 
 pub(crate) const SNAPSHOT_AT: u64 = 4096;
 
-fn area_len(units: u32) -> u64
+/// The length in bytes of each area of an image of so many units.
+pub fn area_len(units: u32) -> u64
     requires { units ≤ MOST_UNITS }
     ensures { result ≡ area_len units }
 {

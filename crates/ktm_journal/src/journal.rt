@@ -8,9 +8,9 @@ ghost use Rattle.ktm_forms.specs.Built.{IsBuiltState};
 ghost use Rattle.ktm_world.specs.Logs.{Group};
 ghost use Rattle.ktm_laws.specs.GoodState.{IsGoodState};
 ghost use Rattle.ktm_world.specs.Outcome.{is_full};
-ghost use Rattle.ktm_types.specs.Sizes.{frame_size};
+ghost use Rattle.ktm_types.specs.Sizes.{area_len, frame_size};
 ghost use Rattle.ktm_event.specs.Kept.{Holds};
-ghost use Rattle.ktm_journal.specs.Image.{AreInLog, AreSpelled, HoldsLog, IsFormatted, IsHeaded, JournalAt, LeavesGroupOrNot, StandsFor, log_area, area_len};
+ghost use Rattle.ktm_journal.specs.Image.{AreInLog, AreSpelled, HoldsLog, IsFormatted, IsHeaded, JournalAt, LeavesGroupOrNot, StandsFor, log_area};
 ghost use Rattle.ktm_journal.specs.Bad.{IfBad, IsBadAt, load_went_down};
 ghost use Rattle.ktm_journal.specs.Format.{Anything};
 

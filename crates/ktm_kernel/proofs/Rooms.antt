@@ -2,9 +2,9 @@
 use Rattle.std.proofs.Common.{◌≡◌, ◌↔◌, ℕ, ◌+◌, ◌^◌, ◌-◌, ◌<◌, ◌≤◌, Bool, true, false, [], ◌∷◌, min, sum_by, IsTrue, refl, sym, ◌∙◌, ap, arith, inl, inr}
 use Rattle.std.proofs.lemmas.Bool.{cases_Bool}
 use Rattle.ktm_event.specs.Kept.{EventsState, Holds}
-use Rattle.ktm_journal.specs.Image.{JournalState, area_len}
+use Rattle.ktm_journal.specs.Image.{JournalState}
+use Rattle.ktm_types.specs.Sizes.{area_len, event_size}
 use Rattle.ktm_kernel.specs.Memory.{IsRoomy}
-use Rattle.ktm_types.specs.Sizes.{event_size}
 use Rattle.ktm_types.specs.declared.event.Event.{Event}
 use Rattle.ktm_world.specs.Logs.{Group}
 use Rattle.ktm_world.specs.Outcome.{is_full}

@@ -5,7 +5,8 @@ use Rattle.ktm_base.specs.declared.id.Label.{Label}
 use Rattle.ktm_base.specs.declared.id.Pid.{Pid}
 use Rattle.ktm_built.specs.Forms.{handles_with, with_bound, with_commit_made, with_files_made, with_handle_closed, with_process_gone, with_rollback, with_tick, with_transaction}
 use Rattle.ktm_event.specs.Kept.{EventsState}
-use Rattle.ktm_journal.specs.Image.{JournalState, area_len}
+use Rattle.ktm_journal.specs.Image.{JournalState}
+use Rattle.ktm_types.specs.Sizes.{area_len, log_size}
 use Rattle.ktm_laws.specs.GoodState.{each_pair}
 use Rattle.ktm_object.specs.Table.{HandleTable, handles_of}
 use Rattle.ktm_tm.specs.TmState.{TmState}
@@ -23,7 +24,6 @@ use Rattle.ktm_world.specs.Handles.{object_at}
 use Rattle.ktm_world.specs.Keys.{KeysNow, own_settings}
 use Rattle.ktm_world.specs.Logs.{as_groups}
 use Rattle.ktm_world.specs.Present.{Present, Transactions}
-use Rattle.ktm_types.specs.Sizes.{log_size}
 use Rattle.ktm_world.specs.TransactionCalls.{no_transaction_left}
 use Rattle.ktm_world.specs.Transactions.{is_live, transaction_at}
 use Rattle.kv_rm.specs.KvState.{KvState}

@@ -11,9 +11,9 @@ ghost use Rattle.ktm_base.specs.Disk.{DeviceCalls};
 ghost use Rattle.ktm_journal.specs.Bad.{IsBadAt};
 ghost use Rattle.ktm_built.specs.Standing.{fresh};
 ghost use Rattle.ktm_forms.specs.Built.{IsBuiltState};
-ghost use Rattle.ktm_journal.specs.Image.{IsFormatted, IsHeaded, JournalAt, LeavesGroupOrNot, StandsFor, area_len};
+ghost use Rattle.ktm_journal.specs.Image.{IsFormatted, IsHeaded, JournalAt, LeavesGroupOrNot, StandsFor};
+ghost use Rattle.ktm_types.specs.Sizes.{area_len, frame_size};
 ghost use Rattle.ktm_laws.specs.GoodState.{IsGoodState};
-ghost use Rattle.ktm_types.specs.Sizes.{frame_size};
 ghost use Rattle.ktm_world.specs.Durable.{Durable as DurableState};
 ghost use Rattle.ktm_world.specs.Outcome.{is_full};
 ghost use Rattle.ktm_world.specs.World.{World, own_group};
@@ -27,7 +27,7 @@ use crate::memory::Memory;
 use ktm_base::{Disk, NoMemory, Refusal};
 use ktm_built::{law_of_fresh, law_of_standing};
 use ktm_event::Events;
-use ktm_journal::{AppendFault, Durable, Journal, LoadFault, Loaded};
+use ktm_journal::{AppendFault, Durable, Journal, LoadFault, Loaded, area_len};
 use ktm_laws::{law_of_good_states, law_of_grammar};
 use ktm_types::{Event, Reply};
 use std::alloc::Global;
@@ -42,7 +42,7 @@ fn events_in(buffer: Vec<u8>, journal: &Journal) -> Events
     ensures room { result.room + 9 ≡ area_len journal.now.units }
     ensures capacity { vec_capacity buffer ≤ result.capacity }
 {
-    let room = 8192 * journal.units() as usize + 65536 - 9;
+    let room = area_len(journal.units()) as usize - 9;
     Events::with_buffer(buffer, room)
 }
 

@@ -12,7 +12,7 @@ fn bytes_of(alloc: Global, digits: &str) -> Result<Vec<u8>, NoMemory> {
     }
 }
 
-pub fn event_of(alloc: Global, digits: &str) -> Result<String, NoMemory> {
+pub(crate) fn event_of(alloc: Global, digits: &str) -> Result<String, NoMemory> {
     let bytes = bytes_of(alloc, digits)?;
     let (event, end) = match read_event(alloc, &bytes, 0) {
         Ok(read) => read,
@@ -25,7 +25,7 @@ pub fn event_of(alloc: Global, digits: &str) -> Result<String, NoMemory> {
     Ok(format!(in alloc; "{event:?}")?)
 }
 
-pub fn group_of(alloc: Global, digits: &str) -> Result<String, NoMemory> {
+pub(crate) fn group_of(alloc: Global, digits: &str) -> Result<String, NoMemory> {
     let bytes = bytes_of(alloc, digits)?;
     let events = match read_group(alloc, &bytes) {
         Ok(events) => events,

@@ -113,7 +113,7 @@ fn change(block: &mut FileBlock<CountingFile>) -> Result<(), Failed> {
 }
 
 /// A letter for each call of a file whose call with this number fails, where a change is made twice, and flushed once more.
-pub fn calls_of(alloc: Global, number: &str) -> Result<String, NoMemory> {
+pub(crate) fn calls_of(alloc: Global, number: &str) -> Result<String, NoMemory> {
     let fails = number.parse::<u64>().unwrap_or(0);
     let mut block = FileBlock::over(CountingFile::new(alloc, fails));
     let first = change(&mut block);

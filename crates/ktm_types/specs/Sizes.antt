@@ -1,5 +1,5 @@
 -- How many bytes events take in a log.
-use Rattle.std.specs.Prelude.{ℕ, ◌+◌, List, length, sum_by, Option, Some, None}
+use Rattle.std.specs.Prelude.{ℕ, ◌+◌, ◌*◌, List, length, sum_by, Option, Some, None}
 use Rattle.ktm_keyed.specs.declared.keyed.Keyed.{Keyed}
 use Rattle.ktm_types.specs.declared.event.Part.{Part}
 use Rattle.ktm_types.specs.declared.event.Part.TheVariants.{Enlistment, Changes, Settings}
@@ -73,3 +73,7 @@ frame_size events = 5 + group_size events
 -- the frames of a log
 abbrev pub log_size : List (List Event) → ℕ
 log_size log = sum_by frame_size log
+
+-- an area of an image of so many units, which its log may fill
+abbrev pub area_len : ℕ → ℕ
+area_len units = 8192 * units + 65536

@@ -12,6 +12,7 @@ use Rattle.ktm_types.specs.declared.command.Line.{Line}
 use Rattle.ktm_types.specs.declared.command.Line.TheVariants.{Tick, Cut, Crash, Restart, Process}
 use Rattle.ktm_types.specs.declared.reply.Reply.{Reply}
 use Rattle.ktm_types.specs.declared.reply.Reply.TheVariants.{Refused, Done, Notification, Restarted}
+use Rattle.ktm_types.specs.Sizes.{area_len}
 use Rattle.ktm_world.specs.Logs.{is_up}
 use Rattle.ktm_world.specs.Decide.{decide}
 use Rattle.ktm_world.specs.Durable.{empty_state, stand}
@@ -63,9 +64,9 @@ Answered w row = answers w (map (λ l. l.0) row) ≡ map (λ l. l.1) row
 
 -- ---- worlds to begin with
 
--- a new image with the number 1 and so many units, after its first boot; its log has 8,192 bytes for each unit, and 65,536
+-- a new image with the number 1 and so many units, after its first boot; its log has a whole area
 abbrev pub new_image : ℕ → World
-new_image units = opened (empty_state units 1) (8192 * units + 65536) []
+new_image units = opened (empty_state units 1) (area_len units) []
 
 -- one of 1,024 units
 abbrev pub blank : World
