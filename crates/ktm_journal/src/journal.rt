@@ -13,11 +13,14 @@ ghost use Rattle.ktm_event.specs.Kept.{Holds};
 ghost use Rattle.ktm_journal.specs.Image.{AreInLog, AreSpelled, HoldsLog, IsFormatted, IsHeaded, JournalAt, LeavesGroupOrNot, StandsFor, log_area};
 ghost use Rattle.ktm_journal.specs.Bad.{IfBad, IsBadAt, load_went_down};
 ghost use Rattle.ktm_journal.specs.Format.{Anything};
+ghost use Rattle.ktm_journal.specs.Load.{ComesTo};
+ghost use Rattle.ktm_log.specs.Log.{end_of, payloads_in};
+ghost use Rattle.ktm_world.specs.Durable.{empty_state};
 
 use crate::LoadFault;
 use crate::durable::Durable;
 use crate::image::{lay, log_area, put_header};
-use crate::load::{Header, fold, read_form};
+use crate::load::{Header, read_form, replay};
 use ktm_base::{Disk, Down};
 use ktm_event::Events;
 use ktm_log::{AppendFault, Log, LogFault};
@@ -50,6 +53,52 @@ impl Model for Journal {
 pub struct Loaded {
     pub journal: Journal,
     pub state: Durable,
+}
+
+// Reads the log behind this header, and makes of the state of a new image what the log says.
+fn replay_log<D: Disk>(
+    alloc: Global,
+    disk: &mut D,
+    header: Header,
+    buffer: &mut Vec<u8>,
+    state: &mut Durable,
+) -> Result<Log, LoadFault>
+    requires least { LEAST_UNITS ≤ header.units }
+    requires most { header.units ≤ MOST_UNITS }
+    requires formatted { IfTold (D.told disk.old) (λ s. IsFormatted header.units header.image s.seen) }
+    requires empty { state.old ≡ empty_state header.units header.image }
+    ensures area { IfOk result (λ log. log.area ≡ log_area header.units) }
+    ensures end { IfOk result (λ log. log.end ≡ end_of (payloads_in buffer.new.items)) }
+    ensures inside { IfOk result (λ log. log.end < log.area.len) }
+    ensures room { IfOk result (λ log. log.area.len ≤ vec_capacity buffer.new) }
+    ensures kept { vec_capacity buffer.old ≤ vec_capacity buffer.new }
+    ensures comes { OnOk result (ComesTo header.units header.image (payloads_in buffer.new.items) state.new) }
+    ensures good { OnOk result (IsGoodState state.new) }
+    ensures stands { OnOk result (IfTold (D.told disk.old) (λ s. StandsFor state.new s.seen)) }
+    ensures journal { IfOk result (λ end. (events : ℕ) (log : List Group) → Tells (D.told disk.old) (λ s. IsSafe s × HoldsLog header.units header.image log s.seen)
+        → Tells (D.told disk.new) (JournalAt (record { units = header.units; image = header.image; log = end; events = events }) log)) }
+    ensures spelled { OnOk result ((log : List Group) → Tells (D.told disk.old) (λ s. HoldsLog header.units header.image log s.seen) → AreSpelled log) }
+    ensures bad { IfBad result (λ offset. IfTold (D.told disk.old) (λ s. IsBadAt s.seen offset)) }
+    ensures same { D.told disk.new ≡ D.told disk.old }
+    ensures pending { (D.status disk.new).pending ≡ (D.status disk.old).pending }
+    ensures up { OnOk result ((D.status disk.new).is_down ≡ false) }
+    ensures up_bad { IfBad result (λ offset. (D.status disk.new).is_down ≡ false) }
+    ensures calls { DeviceCalls (2 * header.units + 16) (D.status disk.old) (D.status disk.new) (load_went_down result) }
+{
+    match Log::scan(disk, log_area(header.units), buffer) {
+        Ok(log) => match replay(alloc, header, buffer.as_slice(), state) {
+            Ok(()) => Ok(log),
+            Err(fault) => Err(fault),
+        },
+        Err(LogFault::Bad(offset)) => {
+            if let Err(fault) = replay(alloc, header, buffer.as_slice(), state) {
+                return Err(fault);
+            }
+            Err(LoadFault::Bad(offset))
+        }
+        Err(LogFault::Down) => Err(LoadFault::Down),
+        Err(LogFault::NoMemory) => Err(LoadFault::NoMemory),
+    }
 }
 
 impl Journal {
@@ -146,27 +195,18 @@ impl Journal {
         ensures up_bad { IfBad result (λ offset. (D.status disk.new).is_down ≡ false) }
         ensures calls { DeviceCalls (2 * header.units + 16) (D.status disk.old) (D.status disk.new) (load_went_down result) }
     {
-        match Log::scan(disk, log_area(header.units), buffer) {
-            Ok(log) => match fold(alloc, header, buffer.as_slice()) {
-                Ok(state) => Ok(Loaded {
-                    journal: Journal {
-                        units: header.units,
-                        image: header.image,
-                        log,
-                        events: state.events(),
-                    },
-                    state,
-                }),
-                Err(fault) => Err(fault),
-            },
-            Err(LogFault::Bad(offset)) => {
-                if let Err(fault) = fold(alloc, header, buffer.as_slice()) {
-                    return Err(fault);
-                }
-                Err(LoadFault::Bad(offset))
-            }
-            Err(LogFault::Down) => Err(LoadFault::Down),
-            Err(LogFault::NoMemory) => Err(LoadFault::NoMemory),
+        let mut state = Durable::empty(alloc, header.units, header.image);
+        match replay_log(alloc, disk, header, buffer, &mut state) {
+            Ok(log) => Ok(Loaded {
+                journal: Journal {
+                    units: header.units,
+                    image: header.image,
+                    log,
+                    events: state.events(),
+                },
+                state,
+            }),
+            Err(fault) => Err(fault),
         }
     }
 

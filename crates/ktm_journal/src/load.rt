@@ -3,13 +3,13 @@ ghost use Rattle.std.specs.Prelude.{◌≡◌, ◌↔◌, ◌&&◌, ℕ, ◌+◌
 ghost use Rattle.ktm_base.specs.Bytes.{AreBytes};
 ghost use Rattle.ktm_base.specs.Told.{IfTold};
 ghost use Rattle.ktm_base.specs.Disk.{DeviceCalls};
-ghost use Rattle.ktm_log.specs.Log.{end_of, payloads_in};
-ghost use Rattle.ktm_world.specs.Durable.{after_events, events_apply};
-ghost use Rattle.ktm_forms.specs.Built.{is_built_group, IsBuiltState};
+ghost use Rattle.ktm_log.specs.Log.{payloads_in};
+ghost use Rattle.ktm_world.specs.Durable.{Durable, after_events, empty_state, events_apply};
+ghost use Rattle.ktm_forms.specs.Built.{is_built_group};
 ghost use Rattle.ktm_world.specs.Logs.{Group};
 ghost use Rattle.ktm_laws.specs.GoodState.{IsGoodState};
 ghost use Rattle.ktm_types.specs.EventGrammar.{IsGroupOf};
-ghost use Rattle.ktm_journal.specs.Image.{AreInLog, IsFormatted, IsHeaded, empty_snapshot, snapshot_of};
+ghost use Rattle.ktm_journal.specs.Image.{IsFormatted, IsHeaded, empty_snapshot, snapshot_of};
 ghost use Rattle.ktm_journal.specs.Format.{IsHeader};
 ghost use Rattle.ktm_journal.specs.Bad.{IfBad, IsBadAt, IsBadPayload, load_went_down};
 ghost use Rattle.ktm_journal.specs.Load.{BeginsAnImage, ComesTo, IsFirstBad, IsFront};
@@ -25,7 +25,7 @@ use ktm_log::first_payload;
 use std::alloc::Global;
 
 /// What the header of an image says.
-#[derive(Clone, Copy, Debug)]
+#[derive(Clone, Copy)]
 pub(crate) struct Header {
     pub units: u32,
     pub image: u16,
@@ -141,29 +141,31 @@ fn apply(alloc: Global, state: &mut Durable, payload: &[u8]) -> Result<bool, NoM
     }
 }
 
-/// The state that the payloads of a log come to, which are read where they lie in its bytes.
-pub(crate) fn fold(alloc: Global, header: Header, bytes: &[u8]) -> Result<Durable, LoadFault>
+/// Makes of the state of a new image what the payloads of its log say, which are read where they lie in its bytes.
+pub(crate) fn replay(
+    alloc: Global,
+    header: Header,
+    bytes: &[u8],
+    state: &mut Durable,
+) -> Result<(), LoadFault>
     requires least { LEAST_UNITS ≤ header.units }
     requires most { header.units ≤ MOST_UNITS }
-    ensures good { IfOk result (λ state. ComesTo header.units header.image (payloads_in bytes.now) state) }
-    ensures sound { IfOk result IsGoodState }
-    ensures keys { IfOk result (λ state. length state.keys ≤ state.units) }
-    ensures built { IfOk result IsBuiltState }
-    ensures events { IfOk result (λ state. AreInLog state (end_of (payloads_in bytes.now))) }
+    requires empty { state.old ≡ empty_state header.units header.image }
+    ensures good { OnOk result (ComesTo header.units header.image (payloads_in bytes.now) state.new) }
+    ensures sound { OnOk result (IsGoodState state.new) }
     ensures read { AreBytes bytes.now }
     ensures bad { IfBad result (λ offset. IsFirstBad header.units header.image (payloads_in bytes.now) offset) }
     ensures up { load_went_down result ≡ false }
 {
-    law_of_grammar();
-    law_of_good_states();
-    let mut state = Durable::empty(alloc, header.units, header.image);
     let mut at = 0;
     while let Some(payload) = first_payload(&bytes[at..]) {
-        match apply(alloc, &mut state, payload) {
+        match apply(alloc, state, payload) {
             Ok(true) => at += payload.len() + 5,
             Ok(false) => return Err(LoadFault::Bad(log_area(header.units).at + at as u64)),
             Err(NoMemory) => return Err(LoadFault::NoMemory),
         }
     }
-    Ok(state)
+    law_of_grammar();
+    law_of_good_states();
+    Ok(())
 }

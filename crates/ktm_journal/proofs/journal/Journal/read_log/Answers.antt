@@ -1,51 +1,26 @@
-use Rattle.std.proofs.Common.{refl}
-use Rattle.ktm_base.specs.Disk.{DiskState}
-use Rattle.ktm_base.proofs.ToldSteps.{IfTold-map}
-use Rattle.ktm_log.specs.Log.{BeginsWith, IsLog, IsBadLog, area_bytes, payloads_in}
-use Rattle.ktm_journal.specs.Load.{IsFirstBad}
-use Rattle.ktm_journal.proofs.Known.{IfBad-map}
-use Rattle.ktm_journal.proofs.LogLoads.{comes_to_units, comes_to_image, stands_told, bad_payload_told, torn_told, journal_told}
-use Rattle.ktm_journal.proofs.Spelled.{spelled_told}
+use Rattle.std.proofs.Common.{refl, sym}
+use Rattle.ktm_journal.proofs.LogLoads.{comes_to_built, comes_to_events, comes_to_image, comes_to_keys, comes_to_units}
 use Rattle.ktm_journal.proofs.journal.Journal.read_log.Goals as goal
 
-pub returns-in-Ok-fold-clause-units : goal.returns-in-Ok-fold-clause-units
-returns-in-Ok-fold-clause-units g c = (refl, comes_to_units _ _ _ _ c.in-Ok-fold.ensures.good)
+pub returns-in-Ok-clause-units : goal.returns-in-Ok-clause-units
+returns-in-Ok-clause-units g c = (refl, comes_to_units _ _ _ _ c.in-Ok.ensures.comes)
 
-pub returns-in-Ok-fold-clause-image : goal.returns-in-Ok-fold-clause-image
-returns-in-Ok-fold-clause-image g c = (refl, comes_to_image _ _ _ _ c.in-Ok-fold.ensures.good)
+pub returns-in-Ok-clause-image : goal.returns-in-Ok-clause-image
+returns-in-Ok-clause-image g c = (refl, comes_to_image _ _ _ _ c.in-Ok.ensures.comes)
 
-pub returns-in-Ok-fold-clause-stands : goal.returns-in-Ok-fold-clause-stands
-returns-in-Ok-fold-clause-stands g c =
-    stands_told c.args.header.units c.args.header.image c.log_area.result c.log_area.ensures _ c.requires.formatted (payloads_in c.scan.new.buffer.items) c.in-Ok-fold.state
-    (rw c.as_slice.ensures.value at c.in-Ok-fold.ensures.good) c.in-Ok.ensures.log
+pub returns-in-Ok-clause-keys : goal.returns-in-Ok-clause-keys
+returns-in-Ok-clause-keys g c = comes_to_keys _ _ _ _ c.in-Ok.ensures.comes
 
-pub returns-in-Ok-fold-clause-journal : goal.returns-in-Ok-fold-clause-journal
-returns-in-Ok-fold-clause-journal g c =
-    journal_told c.args.header.units c.args.header.image c.log_area.result c.log_area.ensures c.in-Ok.log c.events.result (payloads_in c.scan.new.buffer.items) _ _ c.in-Ok.ensures.area c.scan.ensures.same c.in-Ok.ensures.stands
+pub returns-in-Ok-clause-built : goal.returns-in-Ok-clause-built
+returns-in-Ok-clause-built g c = comes_to_built _ _ _ _ c.in-Ok.ensures.comes
 
-pub returns-in-Ok-fold-clause-spelled : goal.returns-in-Ok-fold-clause-spelled
-returns-in-Ok-fold-clause-spelled g c =
-    spelled_told c.args.header.units c.args.header.image c.log_area.result c.log_area.ensures c.scan.new.buffer.items (rw c.as_slice.ensures.value at c.in-Ok-fold.ensures.read) (g.D.Disk.told c.args.disk.now) c.in-Ok.ensures.log
+pub returns-in-Ok-clause-events : goal.returns-in-Ok-clause-events
+returns-in-Ok-clause-events g c = comes_to_events _ _ _ _ c.in-Ok.ensures.comes _ c.in-Ok.ensures.end
 
-pub returns-in-Err-clause-bad : goal.returns-in-Err-clause-bad
-returns-in-Err-clause-bad g c =
-    let area = c.log_area.result in
-    let ps = payloads_in c.scan.new.buffer.items in
-    IfBad-map {P = IsFirstBad c.args.header.units c.args.header.image (payloads_in c.as_slice.result.now)} c.in-Err.fault c.in-Err.ensures.bad
-    (λ offset bad. bad_payload_told c.args.header.units c.args.header.image area c.log_area.ensures _ c.requires.formatted ps offset (rw c.as_slice.ensures.value at bad)
-    (IfTold-map _ (λ (s : DiskState). IsLog ps (area_bytes area s.seen)) (λ (s : DiskState). BeginsWith ps (area_bytes area s.seen)) c.in-Ok.ensures.log (λ s log. log.frames)))
+pub returns-in-Ok-clause-journal : goal.returns-in-Ok-clause-journal
+returns-in-Ok-clause-journal g c = c.in-Ok.ensures.journal c.events.result
 
-pub returns-in-Err-fold-clause-bad : goal.returns-in-Err-fold-clause-bad
-returns-in-Err-fold-clause-bad g c =
-    let area = c.log_area.result in
-    let ps = payloads_in c.scan.new.buffer.items in
-    let torn = rw c.in-Err-Bad.field-0-is at c.in-Err-Bad.ensures.bad in
-    IfBad-map {P = IsFirstBad c.args.header.units c.args.header.image (payloads_in c.as_slice-in-Err-Bad.result.now)} c.in-Err-fold.fault c.in-Err-fold.ensures.bad
-    (λ offset bad. bad_payload_told c.args.header.units c.args.header.image area c.log_area.ensures _ c.requires.formatted ps offset (rw c.as_slice-in-Err-Bad.ensures.value at bad)
-    (IfTold-map _ (λ (s : DiskState). IsBadLog ps (area_bytes area s.seen)) (λ (s : DiskState). BeginsWith ps (area_bytes area s.seen)) torn.1 (λ s log. log.frames)))
-
-pub returns-in_default-clause-bad : goal.returns-in_default-clause-bad
-returns-in_default-clause-bad g c =
-    let bad = rw c.in-Err-Bad.field-0-is at c.in-Err-Bad.ensures.bad in
-    torn_told c.args.header.units c.args.header.image c.log_area.result c.log_area.ensures _ c.requires.formatted (payloads_in c.scan.new.buffer.items) c.in_default.field-0 c.in-Err-Bad.offset
-    (rw c.as_slice-in-Err-Bad.ensures.value at c.in_default.ensures.good) bad.0 bad.1
+pub invariant_of-result : goal.invariant_of-result
+invariant_of-result g c =
+    let inside = comes_to_events _ _ _ _ c.in-Ok.ensures.comes _ c.in-Ok.ensures.end in
+    (c.requires.most, c.in-Ok.ensures.area, rw c.events.ensures inside.events)

@@ -1,6 +1,6 @@
 use Rattle.std.proofs.Common.{◌-◌, length}
 use Rattle.ktm_journal.proofs.Folds.{Folded}
-use Rattle.ktm_journal.proofs.load.fold.Given as goal
+use Rattle.ktm_journal.proofs.load.replay.Given as goal
 
 abbrev pub invariant-loop-payload : goal.invariant-loop-payload
 invariant-loop-payload l = Folded l.fn.header.units l.fn.header.image l.bytes l.at l.state

@@ -1,11 +1,12 @@
-use Rattle.std.proofs.Common.{◌≡◌, arith, rules, Ok, Some, drop, refl, ap, sym, ◌∙◌}
+use Rattle.std.proofs.Common.{◌≡◌, Ok, Some, drop, ap, sym, ◌∙◌, arith, rules}
 use Rattle.std.proofs.lemmas.List.{take_rest}
-use Rattle.ktm_log.specs.Log.{first_payload, payloads_in}
-use Rattle.ktm_journal.specs.Load.{ComesTo}
-use Rattle.ktm_journal.proofs.Folds.{folded_more, folded_all, first_bad}
+use Rattle.ktm_log.specs.Log.{first_payload}
+use Rattle.ktm_journal.proofs.Folds.{folded_none, folded_more, folded_all, first_bad}
 use Rattle.ktm_journal.proofs.GoodLogs.{bytes_fit, comes_to_good}
-use Rattle.ktm_journal.proofs.LogLoads.{comes_to_built, comes_to_keys, comes_to_events}
-use Rattle.ktm_journal.proofs.load.fold.Goals as goal
+use Rattle.ktm_journal.proofs.load.replay.Goals as goal
+
+pub loop-payload-init : goal.loop-payload-init
+loop-payload-init c = folded_none c.args.header.units c.args.header.image c.args.bytes.now c.args.state.now c.requires.empty
 
 pub loop-payload-preserved : goal.loop-payload-preserved
 loop-payload-preserved c =
@@ -23,24 +24,13 @@ returns-in-Ok-false-clause-bad c =
     rw c.log_area.ensures
     (first_bad c.args.header.units c.args.header.image c.args.bytes.now at c.loop-payload.state c.loop-payload.invariant c.in-Some.payload.now next (c.in-Ok-false.ensures.bad (ap Ok c.in-Ok-false.field-0-test)))
 
-module _ (c : goal.In_default) where
-  good : ComesTo c.args.header.units c.args.header.image (payloads_in c.args.bytes.now) c.loop-payload.state
-  good = folded_all c.args.header.units c.args.header.image c.args.bytes.now c.loop-payload.at c.loop-payload.state c.loop-payload.invariant
-      (ap first_payload (sym (take_rest c.args.bytes.now c.loop-payload.at)) ∙ c.in_default.ensures.is)
-
 pub returns-clause-good : goal.returns-clause-good
-returns-clause-good c = good c
-
-pub returns-clause-keys : goal.returns-clause-keys
-returns-clause-keys c = comes_to_keys c.args.header.units c.args.header.image _ c.loop-payload.state (good c)
-
-pub returns-clause-built : goal.returns-clause-built
-returns-clause-built c = comes_to_built c.args.header.units c.args.header.image _ c.loop-payload.state (good c)
-
-pub returns-clause-events : goal.returns-clause-events
-returns-clause-events c = comes_to_events c.args.header.units c.args.header.image _ c.loop-payload.state (good c) _ refl
+returns-clause-good c =
+    folded_all c.args.header.units c.args.header.image c.args.bytes.now c.loop-payload.at c.loop-payload.state c.loop-payload.invariant
+    (ap first_payload (sym (take_rest c.args.bytes.now c.loop-payload.at)) ∙ c.in_default.ensures.is)
 
 pub returns-clause-sound : goal.returns-clause-sound
 returns-clause-sound c =
     comes_to_good c.law_of_grammar.ensures c.law_of_good_states.ensures c.args.header.units c.args.header.image c.args.bytes.now c.loop-payload.state c.requires.least (search rules) (bytes_fit c.args.bytes.now (λ i. omega (arith, c.type_inv.bytes i)))
-    (good c)
+    (folded_all c.args.header.units c.args.header.image c.args.bytes.now c.loop-payload.at c.loop-payload.state c.loop-payload.invariant
+    (ap first_payload (sym (take_rest c.args.bytes.now c.loop-payload.at)) ∙ c.in_default.ensures.is))
