@@ -83,7 +83,7 @@ fn count_set(settings: &[Setting]) -> usize
 fn count_unset(settings: &[Setting]) -> usize
     ensures { result ≡ count_by (λ setting. is_none setting.value) settings.now }
 {
-    settings.iter().filter(|s| s.value.is_none()).count()
+    settings.len() - count_set(settings)
 }
 
 impl Durable {
