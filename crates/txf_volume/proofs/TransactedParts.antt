@@ -1,7 +1,9 @@
 -- What one change of a transaction makes of the parts of the files in memory.
-use Rattle.std.proofs.Common.{zero, suc, ◌≡◌, ℕ, ◌<◌, ◌≤◌, true, if◌then◌else◌, filter, get_or, set, drop, length, map, List, [], ◌∷◌, ◌++◌, Option, Some, None, Result, Ok, Err, OnOk, OnErr, refl, sym, ◌∙◌, ap, subst, arith, inl, inr}
+use Rattle.std.proofs.Common.{zero, suc, ◌≡◌, ℕ, ◌<◌, ◌≤◌, ◌^◌, true, if◌then◌else◌, filter, get_or, set, drop, take, length, map, List, [], ◌∷◌, ◌++◌, Option, Some, None, Result, Ok, Err, OnOk, OnErr, refl, sym, ◌∙◌, ap, subst, arith, inl, inr}
 use Rattle.std.proofs.lemmas.Bool.{cases_Bool, eq-eqb, true≢false}
-use Rattle.std.proofs.lemmas.List.{length-map}
+use Rattle.std.proofs.lemmas.List.{get_or-append_right, length-map}
+use Rattle.std.proofs.Math.Nat.{sub_self}
+use Rattle.std.proofs.Math.Seq.{set-append_seam, take-append_seam}
 use Rattle.std.proofs.lemmas.Option.{same_Some, none-some}
 use Rattle.std.specs.List.{list_all, list_any}
 use Rattle.std.specs.Option.{option_map}
@@ -16,6 +18,7 @@ use Rattle.ktm_world.specs.Holds.{Place, dropped_directory, each_change, moved_d
 use Rattle.ktm_world.specs.Transactions.{same_id}
 use Rattle.ktm_world.specs.Tree.{Tree, IsWellFormed, node_at}
 use Rattle.txf_overlay.specs.Laws.{written_with}
+use Rattle.txf_overlay.specs.Written.{total_units}
 use Rattle.txf_overlay.specs.Nodes.{last_of}
 use Rattle.txf_overlay.specs.OverlayState.{OverlayState, is_of_names, seen}
 use Rattle.txf_overlay.specs.Views.{StandsOver, last_seat, seat_at, seats_of}
@@ -24,7 +27,7 @@ use Rattle.txf_overlay.proofs.Trees.{Applies-from, at-All, is_there-some, node_a
 use Rattle.txf_overlay.proofs.Views.{LastIs, last-is, untouched}
 use Rattle.txf_reserve.specs.ReserveState.{ReserveState}
 use Rattle.txf_volume.specs.Held.{OwnHeld, overlay_in}
-use Rattle.txf_volume.specs.OwnParts.{HoldsToo, IsChanged, IsChangedIn, bare, bare_own, brought, or_unchanged, unchanged, with_overlay}
+use Rattle.txf_volume.specs.OwnParts.{HoldsToo, IsChanged, IsChangedIn, bare, bare_own, brought, or_unchanged, unchanged, with_overlay, written_next}
 
 -- ---- a node that is seen
 
@@ -76,6 +79,9 @@ stands-same tree o o' names held stands = record {
   held = λ name. ap (λ hs. seat_at hs name) held ∙ stands.held name ∙ ap (λ ns. last_seat (each_change seats_of tree ns) name) (sym names);
 }
 
+pub stands-new : (tree : Tree) (o : OverlayState) → o.names ≡ [] → o.held ≡ [] → IsWellFormed tree → StandsOver tree o
+stands-new tree o names held formed = stands-same tree unchanged o names held (record { before = formed; after = formed; applies = refl; held = λ name. refl; })
+
 -- what was there before counts by its names and its files alone
 pub changed-from : (tree : Tree) (fixed : List ℕ) (id : Id) (c : Change) (o p o' : OverlayState) (r r' : ReserveState) → o.names ≡ p.names → o.written ≡ p.written → IsChanged tree fixed id c o o' r r' → IsChanged tree fixed id c p o' r r'
 changed-from tree fixed id c o p o' r r' names written is = record {
@@ -84,6 +90,9 @@ changed-from tree fixed id c o p o' r r' names written is = record {
   stands = is.stands;
   holds = subst (λ ns. HoldsToo (node_of c) (places_of (changed_all tree ns) c) (dropped_directory (changed_all tree ns) c) (list_any (λ node. true) (moved_directory (changed_all tree ns) c)) id r r') names is.holds;
 }
+
+pub few-new : (o : OverlayState) (fixed : List ℕ) (c : Change) → o.names ≡ [] → o.written ≡ [] → total_units (written_next unchanged fixed c) < 2 ^ 64 → total_units (written_next o fixed c) < 2 ^ 64
+few-new o fixed c names written few = subst (λ n. n < 2 ^ 64) (sym (λ i. total_units (written_with (λ file. if has_made (names i) file then [] else fixed) (written i) c))) few
 
 pub bare-same : (o o' : OverlayState) → o'.names ≡ o.names → o'.held ≡ o.held → o'.written ≡ o.written → bare o' ≡ bare o
 bare-same o o' names held written = λ i. record { names = names i; held = held i; written = written i; spare = 0 }
@@ -106,6 +115,16 @@ changed-first tree fixed id c os os' o o' r r' none pushed names written is = re
   list = pushed ∙ sym (with-new os id o' none);
   is = subst (λ (now : Option OverlayState). IsChanged tree fixed id c (or_unchanged now) o' r r') (sym none) (changed-from tree fixed id c o unchanged o' r r' names written is);
 }
+
+-- a new last entry, found, and put in another's place
+pub pushed-is : (os ps : List OwnHeld) (i : ℕ) (o p d : OwnHeld) → ps ≡ os ++ o ∷ [] → i ≡ length os → p ≡ get_or ps i d → p ≡ o
+pushed-is os ps i o p d pushed last found = found ∙ (λ j. get_or (pushed j) (last j) d) ∙ get_or-append_right os (o ∷ []) (length os) (length os) d refl (omega arith) ∙ ap (λ k. get_or (o ∷ []) k d) (sub_self (length os))
+
+pub pushed-put : (os ps : List OwnHeld) (i : ℕ) (o p : OwnHeld) → ps ≡ os ++ o ∷ [] → i ≡ length os → set ps i p ≡ os ++ p ∷ []
+pushed-put os ps i o p pushed last = (λ j. set (pushed j) (last j) p) ∙ set-append_seam os o [] p
+
+pub pushed-taken : (os ps : List OwnHeld) (i : ℕ) (o p : OwnHeld) → ps ≡ os ++ o ∷ [] → i ≡ length os → take i (set ps i p) ≡ os
+pushed-taken os ps i o p pushed last = (λ j. take (last j) (pushed-put os ps i o p pushed last j)) ∙ take-append_seam os (p ∷ [])
 
 -- where only memory differs
 bare-set : (os : List OwnHeld) (i : ℕ) (o : OwnHeld) (d : OwnHeld) → i < length os → bare_own o ≡ bare_own (get_or os i d) → map bare_own (set os i o) ≡ map bare_own os

@@ -210,6 +210,29 @@ fn change_overlay(
     }
 }
 
+// Makes room for a change, then makes it and holds what it holds.
+fn make_room_and_change(
+    tree: &Tree,
+    reserve: &mut Reserve,
+    overlay: &mut Overlay,
+    transaction: Id,
+    fixed: &[u8],
+    change: Change,
+) -> Result<(), NoMemory>
+    requires spare { 0 < reserve.old.spare }
+    requires stands { StandsOver (tree_of tree.now) overlay.old }
+    requires applies { applies (seen (tree_of tree.now) overlay.old) change ≡ true }
+    requires few { total_units (written_next overlay.old fixed.now change) < 2 ^ 64 }
+    ensures ok { OnOk result (IsChanged (tree_of tree.now) fixed.now transaction change overlay.old overlay.new reserve.old reserve.new) }
+    ensures err { OnErr result (bare overlay.new ≡ bare overlay.old) }
+    ensures same { OnErr result (reserve.new ≡ reserve.old) }
+{
+    if let Err(NoMemory) = overlay.reserve(1) {
+        return Err(NoMemory);
+    }
+    change_overlay(tree, reserve, overlay, transaction, fixed, change)
+}
+
 // Makes a change of a transaction whose changes are at this place.
 fn change_at(
     tree: &Tree,
@@ -230,10 +253,7 @@ fn change_at(
     ensures same { OnErr result (reserve.new ≡ reserve.old) }
 {
     let overlay = &mut overlays[place].overlay;
-    if let Err(NoMemory) = overlay.reserve(1) {
-        return Err(NoMemory);
-    }
-    change_overlay(tree, reserve, overlay, transaction, fixed, change)
+    make_room_and_change(tree, reserve, overlay, transaction, fixed, change)
 }
 
 // Makes the first change of a transaction. One that cannot be made leaves nothing behind.
@@ -258,17 +278,16 @@ fn change_first(
     if let Err(_) = overlays.reserve(1) {
         return Err(NoMemory);
     }
-    let mut overlay = Overlay::new(alloc);
-    if let Err(NoMemory) = overlay.reserve(1) {
-        return Err(NoMemory);
-    }
-    if let Err(NoMemory) = change_overlay(tree, reserve, &mut overlay, transaction, fixed, change) {
-        return Err(NoMemory);
-    }
+    let place = overlays.len();
     overlays.push_reserved(Own {
         transaction,
-        overlay,
+        overlay: Overlay::new(alloc),
     });
+    let overlay = &mut overlays[place].overlay;
+    if let Err(NoMemory) = make_room_and_change(tree, reserve, overlay, transaction, fixed, change) {
+        overlays.truncate(place);
+        return Err(NoMemory);
+    }
     Ok(())
 }
 
