@@ -19,7 +19,7 @@ use Rattle.ktm_world.specs.Changes.{applies, apply_all, changed, changed_all, is
 use Rattle.ktm_world.specs.Committed.{Version, final_bytes, version_of, versions_after, without_version}
 use Rattle.ktm_world.specs.Files.{FirstOpen}
 use Rattle.ktm_world.specs.Tree.{Tree, bytes_of, bytes_or_none, content_of, is_file, node_at, numbers_rise, units_of}
-use Rattle.txf_overlay.specs.OverlayState.{OverlayState, Written, final_of, is_of_names}
+use Rattle.txf_overlay.specs.OverlayState.{OverlayState, Written, final_of, own_of, is_of_names}
 use Rattle.txf_overlay.specs.Written.{AreOver, units_in}
 use Rattle.txf_tree.specs.TreeState.{TreeState, dropped, takes, tree_of, versions_of}
 use Rattle.txf_versions.specs.VersionsState.{VersionsState, is_pinned, is_version, older_units as kept_units}
@@ -490,6 +490,9 @@ units-names (c ∷ cs) tree is only rise =
 module _ (p : Parts) (o : OverlayState) (can : CanTake p o) where
   pub take-names : CanName p o.names
   take-names = record { can = can-first p o.names (flat_map final_of o.written) can.can; only = can.only; spare = can.spare; few = can.few }
+
+  pub take-units : (q : Parts) → AreMade p q (own_of o) → q.units < 2 ^ 64
+  take-units q made = subst (λ n. n < 2 ^ 64) (sym (made.right.units ∙ ap tree_units made.tree)) can.sum
 
   pub take-files : (q : Parts) → AreMade p q o.names → CanReplace q o.written
   take-files q made = record {

@@ -80,7 +80,7 @@ stands-same tree o o' names held stands = record {
 }
 
 pub stands-new : (tree : Tree) (o : OverlayState) → o.names ≡ [] → o.held ≡ [] → IsWellFormed tree → StandsOver tree o
-stands-new tree o names held formed = stands-same tree unchanged o names held (record { before = formed; after = formed; applies = refl; held = λ name. refl; })
+stands-new tree o names held formed = stands-same tree unchanged o names held (record { before = formed; after = formed; applies = refl; held = λ name. refl })
 
 -- what was there before counts by its names and its files alone
 pub changed-from : (tree : Tree) (fixed : List ℕ) (id : Id) (c : Change) (o p o' : OverlayState) (r r' : ReserveState) → o.names ≡ p.names → o.written ≡ p.written → IsChanged tree fixed id c o o' r r' → IsChanged tree fixed id c p o' r r'

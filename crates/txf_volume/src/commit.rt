@@ -67,12 +67,11 @@ fn replace_file(tree: &mut Tree, versions: &mut Versions, units: &mut u128, writ
 }
 
 // Gives files the bytes that a transaction wrote.
-fn replace_files(tree: &mut Tree, versions: &mut Versions, units: &mut u128, overlay: Overlay)
-    requires { CanReplace (parts tree.old versions.old units.old) overlay.written }
-    ensures { AreMade (parts tree.old versions.old units.old) (parts tree.new versions.new units.new) (flat_map final_of overlay.written) }
+fn replace_files(tree: &mut Tree, versions: &mut Versions, units: &mut u128, overlay: &mut Overlay)
+    requires { CanReplace (parts tree.old versions.old units.old) overlay.old.written }
+    ensures { AreMade (parts tree.old versions.old units.old) (parts tree.new versions.new units.new) (flat_map final_of overlay.old.written) }
 {
-    let mut left = overlay;
-    while let Some(file) = left.pop_written() {
+    while let Some(file) = overlay.pop_written() {
         replace_file(tree, versions, units, file);
     }
 }
@@ -86,7 +85,9 @@ fn commit_overlay(tree: &mut Tree, versions: &mut Versions, units: u64, overlay:
     let mut units = units as u128;
     let names = overlay.take_names();
     apply_names(tree, versions, &mut units, names);
-    replace_files(tree, versions, &mut units, overlay);
+    replace_files(tree, versions, &mut units, &mut overlay);
+    // Its memory goes back in one call, and not part by part as at the end of the function.
+    drop(overlay);
     units as u64
 }
 

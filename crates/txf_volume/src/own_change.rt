@@ -284,7 +284,14 @@ fn change_first(
         overlay: Overlay::new(alloc),
     });
     let overlay = &mut overlays[place].overlay;
-    if let Err(NoMemory) = make_room_and_change(tree, reserve, overlay, transaction, fixed, change) {
+    if let Err(NoMemory) = make_room_and_change(
+        tree,
+        reserve,
+        overlay,
+        transaction,
+        fixed,
+        change,
+    ) {
         overlays.truncate(place);
         return Err(NoMemory);
     }

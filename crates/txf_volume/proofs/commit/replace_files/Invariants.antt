@@ -7,9 +7,9 @@ use Rattle.txf_volume.proofs.commit.replace_files.Given as goal
 -- the files that are left can have their bytes, and then all have
 abbrev pub invariant-loop-file : goal.invariant-loop-file
 invariant-loop-file l = record {
-  can : CanReplace (parts l.tree l.versions l.units) l.left.written;
-  all : (q : Parts) → AreMade (parts l.tree l.versions l.units) q (flat_map final_of l.left.written) → AreMade (parts l.initial.tree l.initial.versions l.initial.units) q (flat_map final_of l.fn.overlay.written);
+  can : CanReplace (parts l.tree l.versions l.units) l.overlay.written;
+  all : (q : Parts) → AreMade (parts l.tree l.versions l.units) q (flat_map final_of l.overlay.written) → AreMade (parts l.initial.tree l.initial.versions l.initial.units) q (flat_map final_of l.fn.overlay.written);
 }
 
 abbrev pub decreases-loop-file : goal.decreases-loop-file
-decreases-loop-file l = length l.left.written
+decreases-loop-file l = length l.overlay.written

@@ -1,7 +1,6 @@
 use Rattle.std.proofs.Common.{◌≡◌, ◌++◌, ◌∷◌, [], List, true, sym, ◌∙◌, ap, subst}
 use Rattle.ktm_types.specs.declared.change.Change.{Change}
 use Rattle.ktm_world.specs.Changes.{applies, changed_all}
-use Rattle.txf_overlay.specs.OverlayState.{OverlayState}
 use Rattle.txf_tree.specs.TreeState.{tree_of}
 use Rattle.txf_volume.specs.Held.{OwnHeld}
 use Rattle.txf_volume.proofs.TransactedParts.{changed-first, few-new, pushed-is, pushed-put, pushed-taken, stands-new}
