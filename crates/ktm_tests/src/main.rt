@@ -1,6 +1,7 @@
 //! Runs tables of scripts on images in memory, and says of each whether it holds. A word names a table, which is a file, and
 //! behind the dot its kind:
 //!
+//! - `ktm`: a script by itself on a new image, whose replies stand in the file of that name that ends in `out`.
 //! - `rows`: runs one after another on one image, which has 16 units at first; and `blank`, where it has no byte at first.
 //! - `cuts`: a script whose last line records something, and what is seen where the power goes in that line.
 //! - `bytes`: the bytes of an image that a script leaves.
@@ -18,9 +19,10 @@ mod picks;
 mod run;
 mod transcript;
 
-use crate::run::{blank, follow, small_image};
+use crate::run::{NO_FAIL, blank, first_difference, follow, run, small_image};
 use ktm_base::NoMemory;
 use ktm_mem::MemBlock;
+use ktm_run::Status;
 use std::alloc::Global;
 use std::{env, fs, io};
 
@@ -28,7 +30,14 @@ fn main(rt: HostRuntime) -> io::Result<()> {
     let alloc = rt.alloc();
     for word in env::args(&rt)?.skip(1) {
         let table = fs::read_to_string(&rt, word.as_str())?;
-        match found(alloc, kind_of(&word), &table) {
+        let found = match word.strip_suffix(".ktm") {
+            Some(name) => {
+                let replies = fs::read(&rt, format!(in alloc; "{name}.out")?)?;
+                wrong_reply(alloc, &table, &replies)
+            }
+            None => found(alloc, kind_of(&word), &table),
+        };
+        match found {
             Ok(None) => println!(rt; "{word} holds")?,
             Ok(Some(what)) => println!(rt; "{word} does not hold: {what}")?,
             Err(NoMemory) => return Err(io::ErrorKind::OutOfMemory.into()),
@@ -56,6 +65,15 @@ fn found(alloc: Global, kind: &str, table: &str) -> Result<Option<String>, NoMem
         "faults" => faults::found(alloc, table),
         _ => Ok(Some(String::from_str(alloc, "a table of no kind")?)),
     }
+}
+
+// The first reply of a script on a new image that is not the one that is wanted.
+fn wrong_reply(alloc: Global, script: &str, replies: &[u8]) -> Result<Option<String>, NoMemory> {
+    let outcome = run(alloc, script.as_bytes(), blank(alloc)?, NO_FAIL)?;
+    if outcome.status == Status::Done && outcome.sink.bytes() == replies {
+        return Ok(None);
+    }
+    Ok(Some(first_difference(alloc, outcome.sink.bytes(), replies)?))
 }
 
 // The runs of the parts, each on the image that the one before left.
