@@ -1,16 +1,6 @@
 -- What an object of the outside tells of its contents, if it tells them at all.
 use Rattle.std.specs.Prelude.{Option, None, Some}
 
--- the fact, where the object tells
-abbrev pub IfTold : {S : Type 0} → Option S → (S → Type 0) → Type 0
-IfTold None P = Unit {0}
-IfTold (Some s) P = P s
-
--- the object tells, and the fact holds
-abbrev pub Tells : {S : Type 0} → Option S → (S → Type 0) → Type 0
-Tells None P = ⊥
-Tells (Some s) P = P s
-
 -- an object that tells goes on telling, one that does not never tells, and from the old contents to the new there is this step
 abbrev pub Goes : {S : Type 0} → (S → S → Type 0) → Option S → Option S → Type 0
 Goes step None None = Unit {0}

@@ -1,6 +1,6 @@
 // A device of bytes that keeps what is written, until it fails.
-ghost use Rattle.std.specs.Prelude.{◌≡◌, ℕ, ◌+◌, ◌≤◌, Bool, true, false, Option, List, [], ◌∷◌, length, slice_range, IfOk, OnOk, OnErr};
-ghost use Rattle.ktm_base.specs.Told.{IfTold, Goes};
+ghost use Rattle.std.specs.Prelude.{◌≡◌, ℕ, ◌+◌, ◌≤◌, Bool, true, false, Option, List, [], ◌∷◌, length, slice_range, IfOk, OnOk, OnErr, IfSome};
+ghost use Rattle.ktm_base.specs.Told.{Goes};
 ghost use Rattle.ktm_base.specs.Bytes.{written, SameOutside, GrewTo, GrewTowards};
 ghost use Rattle.ktm_base.specs.Stream.{Faults};
 
@@ -18,22 +18,22 @@ pub trait Block {
     ghost waits: { Self → Bool };
 
     fn len(&mut self) -> Result<u64, Failed>
-        ensures value { IfOk result (λ n. IfTold (contents self.old) (λ bytes. n ≡ length bytes)) }
+        ensures value { IfOk result (λ n. IfSome (contents self.old) (λ bytes. n ≡ length bytes)) }
         ensures same { contents self.new ≡ contents self.old }
         ensures waits { waits self.new ≡ waits self.old }
         ensures faults { Faults (faults self.old) (faults self.new) result };
 
     /// Fills the buffer. A block that does not tell its contents fails where the range passes its end.
     fn read_at(&mut self, at: u64, buf: &mut [u8]) -> Result<(), Failed>
-        requires { IfTold (contents self.old) (λ bytes. at + length buf.old ≤ length bytes) }
-        ensures value { OnOk result (IfTold (contents self.old) (λ bytes. buf.new ≡ slice_range bytes at (at + length buf.old))) }
+        requires { IfSome (contents self.old) (λ bytes. at + length buf.old ≤ length bytes) }
+        ensures value { OnOk result (IfSome (contents self.old) (λ bytes. buf.new ≡ slice_range bytes at (at + length buf.old))) }
         ensures same { contents self.new ≡ contents self.old }
         ensures waits { waits self.new ≡ waits self.old }
         ensures faults { Faults (faults self.old) (faults self.new) result };
 
     /// Writes over what is there. After a failure the range may hold anything.
     fn write_at(&mut self, at: u64, bytes: &[u8]) -> Result<(), Failed>
-        requires { IfTold (contents self.old) (λ old. at + length bytes.now ≤ length old) }
+        requires { IfSome (contents self.old) (λ old. at + length bytes.now ≤ length old) }
         ensures ok { OnOk result (Goes (λ old new. new ≡ written old at bytes.now) (contents self.old) (contents self.new)) }
         ensures err { OnErr result (Goes (SameOutside ((at, length bytes.now) ∷ [])) (contents self.old) (contents self.new)) }
         ensures waits { waits self.new ≡ true }

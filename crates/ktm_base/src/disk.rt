@@ -1,7 +1,7 @@
 // A disk that loses power.
-ghost use Rattle.std.specs.Prelude.{◌≡◌, ℕ, ◌+◌, ◌<◌, ◌≤◌, Option, length, slice_range, IfOk, OnOk, OnErr, IsTrue, is_err, is_ok, if◌then◌else◌, false};
+ghost use Rattle.std.specs.Prelude.{◌≡◌, ℕ, ◌+◌, ◌<◌, ◌≤◌, Option, length, slice_range, IfOk, OnOk, OnErr, IsTrue, is_err, is_ok, if◌then◌else◌, false, IfSome};
 ghost use Rattle.ktm_base.specs.declared.limits.TheConstants.{MOST_PENDING};
-ghost use Rattle.ktm_base.specs.Told.{IfTold, Goes};
+ghost use Rattle.ktm_base.specs.Told.{Goes};
 ghost use Rattle.ktm_base.specs.Disk.{DiskState, DiskStatus, HasLengths, Wrote, WriteRefused, Synced, Grew, GrowthRefused, DeviceCall};
 
 use crate::Down;
@@ -17,22 +17,22 @@ pub trait Disk {
     ghost status: { Self → DiskStatus };
 
     fn len(&mut self) -> Result<u64, Down>
-        ensures value { IfOk result (λ n. IfTold (told self.old) (λ s. n ≡ length s.seen)) }
+        ensures value { IfOk result (λ n. IfSome (told self.old) (λ s. n ≡ length s.seen)) }
         ensures same { told self.new ≡ told self.old }
         ensures pending { (status self.new).pending ≡ (status self.old).pending }
         ensures call { DeviceCall (status self.old) (status self.new) (is_err result) };
 
     /// Fills the buffer. A disk that does not tell its bytes goes down where the range passes its end.
     fn read_at(&mut self, at: u64, buf: &mut [u8]) -> Result<(), Down>
-        requires { IfTold (told self.old) (λ s. at + length buf.old ≤ length s.seen) }
-        ensures value { OnOk result (IfTold (told self.old) (λ s. buf.new ≡ slice_range s.seen at (at + length buf.old))) }
+        requires { IfSome (told self.old) (λ s. at + length buf.old ≤ length s.seen) }
+        ensures value { OnOk result (IfSome (told self.old) (λ s. buf.new ≡ slice_range s.seen at (at + length buf.old))) }
         ensures same { told self.new ≡ told self.old }
         ensures pending { (status self.new).pending ≡ (status self.old).pending }
         ensures call { DeviceCall (status self.old) (status self.new) (is_err result) };
 
     /// Writes over what is there. Until a sync a loss of power may leave anything in the range.
     fn write_at(&mut self, at: u64, bytes: &[u8]) -> Result<(), Down>
-        requires within { IfTold (told self.old) (λ s. at + length bytes.now ≤ length s.seen) }
+        requires within { IfSome (told self.old) (λ s. at + length bytes.now ≤ length s.seen) }
         requires room { (status self.old).pending < MOST_PENDING }
         ensures ok { OnOk result (Goes (Wrote at bytes.now) (told self.old) (told self.new)) }
         ensures err { OnErr result ((status self.old).is_down ≡ false → Goes (WriteRefused at (length bytes.now)) (told self.old) (told self.new)) }
@@ -56,5 +56,5 @@ pub trait Disk {
         ensures call { DeviceCall (status self.old) (status self.new) (is_err result) };
 
     /// What a read sees is no shorter, and no longer, than what a loss of power may leave.
-    ghost lengths: { (disk : Self) → IfTold (told disk) HasLengths };
+    ghost lengths: { (disk : Self) → IfSome (told disk) HasLengths };
 }

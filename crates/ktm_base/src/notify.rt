@@ -1,7 +1,7 @@
 // What a resource manager is told.
 
 /// The kinds of notification, by Microsoft's names without the prefix.
-#[derive(Clone, Copy, Debug, PartialEq, Eq, Hash)]
+#[derive(Clone, Copy, PartialEq, Eq)]
 pub enum Notify {
     /// Get ready to prepare.
     PrePrepare,

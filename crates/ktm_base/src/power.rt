@@ -7,7 +7,7 @@ use crate::{Disk, Down, NoMemory};
 use std::alloc::Global;
 
 /// What was asked of the power of a disk.
-#[derive(Clone, Copy, Debug, PartialEq, Eq)]
+#[derive(Clone, Copy)]
 pub enum PowerCall {
     Arm(u64),
     Off,

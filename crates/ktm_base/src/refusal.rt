@@ -2,7 +2,7 @@
 
 /// The refusals, in the order in which a command is tested for them. The names after the first three are those of
 /// Microsoft's system error codes.
-#[derive(Clone, Copy, Debug, PartialEq, Eq, Hash)]
+#[derive(Clone, Copy, PartialEq, Eq)]
 pub enum Refusal {
     /// The line is not in the grammar.
     BadLine,

@@ -2,8 +2,7 @@
 use Rattle.std.proofs.Common.{◌≡◌, ℕ, not, Bool, true, false, cond, List, [], ◌∷◌, ◌++◌, filter, fold, Option, Some, None, append-nil, refl, sym, ap, subst, ◌∙◌, inl, inr}
 use native.Mathlib.Nat.{sub-zero}
 use Rattle.std.proofs.Math.Bool.{and-true, or-false}
-use Rattle.std.proofs.lemmas.Bool.{cases_Bool, and_parts, or_cases, false_from_ne_true, true≢false}
-use Rattle.std.proofs.lemmas.List.Folds.{list_any-append}
+use Rattle.std.proofs.lemmas.Bool.{and_parts, or_cases, false_from_ne_true, true≢false}
 use Rattle.ktm_base.specs.declared.id.Id.{Id}
 use Rattle.ktm_base.specs.declared.id.Label.{Label}
 use Rattle.ktm_base.specs.declared.id.Pid.{Pid}
@@ -24,6 +23,7 @@ use Rattle.ktm_world.specs.Phases.{ended, aborting}
 use Rattle.ktm_world.specs.Present.{Present}
 use Rattle.ktm_world.specs.Transactions.{same_id, transaction_at, change_at, is_active}
 use Rattle.ktm_world.specs.TransactionCalls.{aborted_by, is_due, may_roll_back, aborted_if_due, aborted_in_turn, with_clock, tick}
+use Rattle.ktm_laws.proofs.Arriving.{both-forgotten}
 use Rattle.ktm_laws.proofs.Calls.{active-phase}
 use Rattle.ktm_laws.proofs.Releasing.{filter-true}
 use Rattle.ktm_built.specs.Forms.{ComesTo, ended_aborted, with_rollback, with_rollback_if_active, with_file_closed, with_handle_gone, with_unbound, with_handle_closed, with_process_gone, with_rollback_if_due, with_tick}
@@ -63,20 +63,6 @@ apply-quiet x reply forgotten y built = by_alone (λ (z : Present). apply z (qui
 -- where no first opens end, all stay
 pub all_kept : (y : Present) → y ≡ with_parts_of y [] y
 all_kept y i = record y { files = record y.files { first_opens = sym (filter-true y.files.first_opens) i } }
-
--- where those of some transactions end, and then those of others, those of all of them have ended
-left_in_turn : (first second : List Id) (opens : List FirstOpen) → opens_left second (opens_left first opens) ≡ opens_left (first ++ second) opens
-left_in_turn first second [] = refl
-left_in_turn first second (f ∷ fs) =
-    let rest = left_in_turn first second fs in
-    let both = list_any-append (same_id f.transaction) first second in
-    elim (cases_Bool (is_forgotten first f.transaction)) [
-      | inl ends ↦ rw (both, ends) rest
-      | inr stays ↦ elim (cases_Bool (is_forgotten second f.transaction)) [
-        | inl ends ↦ rw (both, stays, ends) rest
-        | inr kept ↦ rw (both, stays, kept) (ap (λ fs. f ∷ fs) rest)
-      ]
-    ]
 
 -- ---- outcomes that record nothing, one after another
 
@@ -121,7 +107,7 @@ quiet_then x o reply said y z next built first second = record {
       second.parts
       ∙ ap (λ (v : Present). with_parts_of v second.forgotten z) first.parts
       ∙ ap (λ (opens : List FirstOpen). record x { transactions = z.transactions; files = record x.files { first_opens = opens; table = z.files.table }; keys = record x.keys { own = z.keys.own }; handles = z.handles })
-      (left_in_turn first.forgotten second.forgotten x.files.first_opens);
+      (sym (both-forgotten first.forgotten second.forgotten x.files.first_opens));
   built = second.built;
 }
 

@@ -1,4 +1,5 @@
 -- What a drawn word chooses to leave of a range.
+use Rattle.std.specs.Prelude.{IfSome}
 use Rattle.std.proofs.Common.{◌≡◌, ℕ, ◌+◌, ◌-◌, ◌/◌, ◌%◌, ◌==◌, ◌≤◌, false, arith, min, [], ◌∷◌, length, drop, get_or, ◌<◌, List, Option, None, Some, Result, refl, sym, ◌∙◌, ap}
 use Rattle.std.specs.Result.{OnOk}
 use Rattle.std.proofs.lemmas.List.{at_drop_more, at_drop_all}
@@ -7,7 +8,7 @@ use Rattle.rand_core.specs.Pcg32Seed.{pcg32_seed}
 use Rattle.rand_pcg.specs.Lcg.{Lcg}
 use Rattle.rand_pcg.specs.Pcg.{pcg32, pcg32_of_seed}
 use Rattle.ktm_base.specs.Bytes.{SameOutside}
-use Rattle.ktm_base.specs.Told.{Goes, IfTold}
+use Rattle.ktm_base.specs.Told.{Goes}
 use Rattle.ktm_cut.specs.Left.{with_drawn, with_zeros, left_by, left_of_range, left_of_ranges, left_of_added, left_of}
 use Rattle.ktm_cut.specs.Told.{length_at_sync}
 use Rattle.ktm_cut.proofs.Steps.{OnOk-map, Goes-map, Goes-then}
@@ -69,7 +70,7 @@ unfolding left_of_ranges
 left_of_ranges_none g y = refl
 
 -- one of the ranges is done
-pub ranges_next : (rs : List (ℕ × ℕ)) (i len from end : ℕ) (d : ℕ × ℕ) (f g h : Lcg) (a b c : Option (List ℕ)) → i < length rs → from ≡ min len (get_or rs i d).0 → end ≡ min len ((get_or rs i d).0 + (get_or rs i d).1) → IfTold b (λ bytes. len ≡ length bytes) → Goes (λ old new. left_of_ranges (drop i rs) g new ≡ left_of_ranges rs f old) a b → Goes (λ old new. (new, h) ≡ left_of_range from end g old) b c → Goes (λ old new. left_of_ranges (drop (i + 1) rs) h new ≡ left_of_ranges rs f old) a c
+pub ranges_next : (rs : List (ℕ × ℕ)) (i len from end : ℕ) (d : ℕ × ℕ) (f g h : Lcg) (a b c : Option (List ℕ)) → i < length rs → from ≡ min len (get_or rs i d).0 → end ≡ min len ((get_or rs i d).0 + (get_or rs i d).1) → IfSome b (λ bytes. len ≡ length bytes) → Goes (λ old new. left_of_ranges (drop i rs) g new ≡ left_of_ranges rs f old) a b → Goes (λ old new. (new, h) ≡ left_of_range from end g old) b c → Goes (λ old new. left_of_ranges (drop (i + 1) rs) h new ≡ left_of_ranges rs f old) a c
 ranges_next rs i len from end d f g h a b c low start stop long first next =
     Goes-then (λ y. len ≡ length y) (λ old new. left_of_ranges (drop i rs) g new ≡ left_of_ranges rs f old) (λ old new. (new, h) ≡ left_of_range from end g old) (λ old new. left_of_ranges (drop (i + 1) rs) h new ≡ left_of_ranges rs f old) a b c
     (λ x y z same so is.

@@ -1,8 +1,9 @@
 -- Bytes outside of the ranges that are written.
+use Rattle.std.specs.Prelude.{IfSome}
 use Rattle.std.proofs.Common.{suc, zero, ◌≡◌, ◌⊎◌, ℕ, ◌+◌, ◌-◌, ◌<◌, ◌≤◌, false, List, [], ◌∷◌, length, get_or, Option, None, Some, ◌∙◌, ap, sym, arith, refl, min}
 use Rattle.std.proofs.lemmas.Grind.{common_steps}
 use Rattle.std.proofs.lemmas.Bool.Decides.{nat_tests}
-use Rattle.ktm_base.specs.Told.{IfTold, Goes}
+use Rattle.ktm_base.specs.Told.{Goes}
 use Rattle.ktm_base.specs.Bytes.{covers, written, SameOutside}
 
 pub get_or-written : (old : List ℕ) (at : ℕ) (bytes : List ℕ) (k : ℕ) → at + length bytes ≤ length old → (k < at) ⊎ (at + length bytes ≤ k) → get_or (written old at bytes) k 0 ≡ get_or old k 0
@@ -37,7 +38,7 @@ same_outside rs None = tt
 same_outside rs (Some a) = record { same_length = refl; others = λ place h. refl }
 
 -- a write changes its range alone
-pub written_outside : (at : ℕ) (bytes : List ℕ) (a b : Option (List ℕ)) → IfTold a (λ old. at + length bytes ≤ length old) → Goes (λ old new. new ≡ written old at bytes) a b → Goes (SameOutside ((at, length bytes) ∷ [])) a b
+pub written_outside : (at : ℕ) (bytes : List ℕ) (a b : Option (List ℕ)) → IfSome a (λ old. at + length bytes ≤ length old) → Goes (λ old new. new ≡ written old at bytes) a b → Goes (SameOutside ((at, length bytes) ∷ [])) a b
 written_outside at bytes None None fits goes = tt
 written_outside at bytes None (Some b) fits goes = goes
 written_outside at bytes (Some a) None fits goes = goes
@@ -64,21 +65,21 @@ piece_more from end at size a b c low high first next =
     outside_more ((from, end - from) ∷ []) ((at, size) ∷ []) a b c (λ place h. covers-within from end at size place low high h) first next
 
 -- the length stays
-pub ends_within : (rs : List (ℕ × ℕ)) (end : ℕ) (a b : Option (List ℕ)) → IfTold a (λ bytes. end ≤ length bytes) → Goes (SameOutside rs) a b → IfTold b (λ bytes. end ≤ length bytes)
+pub ends_within : (rs : List (ℕ × ℕ)) (end : ℕ) (a b : Option (List ℕ)) → IfSome a (λ bytes. end ≤ length bytes) → Goes (SameOutside rs) a b → IfSome b (λ bytes. end ≤ length bytes)
 ends_within rs end None None within goes = tt
 ends_within rs end None (Some b) within goes = absurd goes
 ends_within rs end (Some a) None within goes = tt
 ends_within rs end (Some a) (Some b) within goes = omega (arith, goes.same_length)
 
 -- the length is still so
-pub length_stays : (rs : List (ℕ × ℕ)) (len : ℕ) (a b : Option (List ℕ)) → IfTold a (λ bytes. len ≡ length bytes) → Goes (SameOutside rs) a b → IfTold b (λ bytes. len ≡ length bytes)
+pub length_stays : (rs : List (ℕ × ℕ)) (len : ℕ) (a b : Option (List ℕ)) → IfSome a (λ bytes. len ≡ length bytes) → Goes (SameOutside rs) a b → IfSome b (λ bytes. len ≡ length bytes)
 length_stays rs len None None is goes = tt
 length_stays rs len None (Some b) is goes = absurd goes
 length_stays rs len (Some a) None is goes = tt
 length_stays rs len (Some a) (Some b) is goes = is ∙ sym goes.same_length
 
 -- a part of the bytes ends within them
-pub part_within : (end len : ℕ) (a : Option (List ℕ)) → end ≤ len → IfTold a (λ bytes. len ≡ length bytes) → IfTold a (λ bytes. end ≤ length bytes)
+pub part_within : (end len : ℕ) (a : Option (List ℕ)) → end ≤ len → IfSome a (λ bytes. len ≡ length bytes) → IfSome a (λ bytes. end ≤ length bytes)
 part_within end len None low is = tt
 part_within end len (Some a) low is = omega arith
 
@@ -94,6 +95,6 @@ range_more rs i len from end d a b c low start before stop first next =
     outside_more rs ((from, end - from) ∷ []) a b c (λ place h. part_covers (get_or rs i d) len from end place start before stop (covers-at rs i place d low h)) first next
 
 -- a piece that ends before the end fits
-pub fits : (at end : ℕ) (p : List ℕ) (a : Option (List ℕ)) → at + length p ≤ end → IfTold a (λ bytes. end ≤ length bytes) → IfTold a (λ bytes. at + length p ≤ length bytes)
+pub fits : (at end : ℕ) (p : List ℕ) (a : Option (List ℕ)) → at + length p ≤ end → IfSome a (λ bytes. end ≤ length bytes) → IfSome a (λ bytes. at + length p ≤ length bytes)
 fits at end p None low within = tt
 fits at end p (Some a) low within = omega arith

@@ -1,9 +1,9 @@
 // The disk over a block.
-ghost use Rattle.std.specs.Prelude.{◌≡◌, ◌⊎◌, ℕ, ◌+◌, ◌<◌, ◌≤◌, [], Some, None, false, Option, length, slice_range, IfOk, OnOk, OnErr, IsTrue, is_err, is_ok, if◌then◌else◌, vec_capacity};
+ghost use Rattle.std.specs.Prelude.{◌≡◌, ◌⊎◌, ℕ, ◌+◌, ◌<◌, ◌≤◌, [], Some, None, false, Option, length, slice_range, IfOk, OnOk, OnErr, IsTrue, is_err, is_ok, if◌then◌else◌, vec_capacity, IfSome};
 ghost use Rattle.ktm_base.specs.declared.limits.TheConstants.{MOST_PENDING};
 ghost use Rattle.ktm_base.specs.Count.{Rose};
 ghost use Rattle.ktm_base.specs.Stream.{Faults};
-ghost use Rattle.ktm_base.specs.Told.{IfTold, Goes};
+ghost use Rattle.ktm_base.specs.Told.{Goes};
 ghost use Rattle.ktm_base.specs.Disk.{DiskState, DiskStatus, Wrote, WriteRefused, Synced, Grew, GrowthRefused, DeviceCall, IsSafe};
 ghost use Rattle.ktm_base.specs.Power.{after_arm, after_off, Powers, Restored, NotRestored};
 ghost use Rattle.ktm_cut.specs.Switch.{after_call, with_pending, status_at_start};
@@ -38,7 +38,7 @@ impl<B: Block> Disk for CutDisk<B> {
     ghost status = { status_of };
 
     fn len(&mut self) -> Result<u64, Down>
-        ensures value { IfOk result (λ n. IfTold (told_by self.old) (λ s. n ≡ length s.seen)) }
+        ensures value { IfOk result (λ n. IfSome (told_by self.old) (λ s. n ≡ length s.seen)) }
         ensures same { told_by self.new ≡ told_by self.old }
         ensures pending { (status_of self.new).pending ≡ (status_of self.old).pending }
         ensures call { DeviceCall (status_of self.old) (status_of self.new) (is_err result) }
@@ -54,8 +54,8 @@ impl<B: Block> Disk for CutDisk<B> {
     }
 
     fn read_at(&mut self, at: u64, buf: &mut [u8]) -> Result<(), Down>
-        requires { IfTold (told_by self.old) (λ s. at + length buf.old ≤ length s.seen) }
-        ensures value { OnOk result (IfTold (told_by self.old) (λ s. buf.new ≡ slice_range s.seen at (at + length buf.old))) }
+        requires { IfSome (told_by self.old) (λ s. at + length buf.old ≤ length s.seen) }
+        ensures value { OnOk result (IfSome (told_by self.old) (λ s. buf.new ≡ slice_range s.seen at (at + length buf.old))) }
         ensures same { told_by self.new ≡ told_by self.old }
         ensures pending { (status_of self.new).pending ≡ (status_of self.old).pending }
         ensures call { DeviceCall (status_of self.old) (status_of self.new) (is_err result) }
@@ -71,7 +71,7 @@ impl<B: Block> Disk for CutDisk<B> {
     }
 
     fn write_at(&mut self, at: u64, bytes: &[u8]) -> Result<(), Down>
-        requires within { IfTold (told_by self.old) (λ s. at + length bytes.now ≤ length s.seen) }
+        requires within { IfSome (told_by self.old) (λ s. at + length bytes.now ≤ length s.seen) }
         requires room { (status_of self.old).pending < MOST_PENDING }
         ensures ok { OnOk result (Goes (Wrote at bytes.now) (told_by self.old) (told_by self.new)) }
         ensures err { OnErr result ((status_of self.old).is_down ≡ false → Goes (WriteRefused at (length bytes.now)) (told_by self.old) (told_by self.new)) }
@@ -254,7 +254,7 @@ impl<B: Block + Drop> CutDisk<B> {
     pub fn new(alloc: Global, block: B) -> Result<CutDisk<B>, NoMemory>
         ensures block { IfOk result (λ d. block_of d ≡ block) }
         ensures status { IfOk result (λ d. status_of d ≡ status_at_start) }
-        ensures safe { IfOk result (λ d. IfTold (told_by d) IsSafe) }
+        ensures safe { IfOk result (λ d. IfSome (told_by d) IsSafe) }
     {
         Ok(CutDisk {
             block,
@@ -268,7 +268,7 @@ impl<B: Block + Drop> CutDisk<B> {
 
 // The length after the last sync.
 fn length_after_sync<B: Block>(block: &mut B, grown_from: Option<u64>) -> Result<u64, Failed>
-    ensures value { IfOk result (λ n. IfTold (B.contents block.old) (λ bytes. n ≡ length_at_sync grown_from (length bytes))) }
+    ensures value { IfOk result (λ n. IfSome (B.contents block.old) (λ bytes. n ≡ length_at_sync grown_from (length bytes))) }
     ensures same { B.contents block.new ≡ B.contents block.old }
     ensures faults { Faults (B.faults block.old) (B.faults block.new) result }
 {

@@ -1,8 +1,8 @@
 // What is left of the dirty ranges of a block.
-ghost use Rattle.std.specs.Prelude.{◌≡◌, ℕ, ◌+◌, ◌-◌, ◌%◌, ◌<◌, ◌≤◌, min, List, [], ◌∷◌, length, Option, OnOk, false};
+ghost use Rattle.std.specs.Prelude.{◌≡◌, ℕ, ◌+◌, ◌-◌, ◌%◌, ◌<◌, ◌≤◌, min, List, [], ◌∷◌, length, Option, OnOk, false, IfSome};
 ghost use Rattle.ktm_base.specs.Bytes.{SameOutside};
 ghost use Rattle.ktm_base.specs.Stream.{Faults};
-ghost use Rattle.ktm_base.specs.Told.{IfTold, Goes};
+ghost use Rattle.ktm_base.specs.Told.{Goes};
 ghost use Rattle.ktm_cut.specs.Told.{SameElsewhere, length_at_sync};
 ghost use Rattle.ktm_cut.specs.Left.{with_zeros, with_drawn, left_of_range, left_of_ranges, left_of_added, left_of};
 
@@ -40,7 +40,7 @@ fn settle_ranges<B: Block>(
     ranges: &[(u64, u64)],
     len: u64,
 ) -> Result<(), Failed>
-    requires { IfTold (B.contents block.old) (λ bytes. len ≡ length bytes) }
+    requires { IfSome (B.contents block.old) (λ bytes. len ≡ length bytes) }
     ensures contents { Goes (SameOutside ranges.now) (B.contents block.old) (B.contents block.new) }
     ensures left { OnOk result (Goes (λ old new. (new, words.new) ≡ left_of_ranges ranges.now words.old old) (B.contents block.old) (B.contents block.new)) }
     ensures faults { Faults (B.faults block.old) (B.faults block.new) result }
@@ -60,7 +60,7 @@ fn settle_added<B: Block>(
     grown_from: Option<u64>,
     len: u64,
 ) -> Result<(), Failed>
-    requires { IfTold (B.contents block.old) (λ bytes. len ≡ length bytes) }
+    requires { IfSome (B.contents block.old) (λ bytes. len ≡ length bytes) }
     ensures contents { Goes (λ old new. SameElsewhere [] (length_at_sync grown_from (length old)) old new) (B.contents block.old) (B.contents block.new) }
     ensures left { OnOk result (Goes (λ old new. new ≡ left_of_added (length_at_sync grown_from (length old)) words.old old) (B.contents block.old) (B.contents block.new)) }
     ensures faults { Faults (B.faults block.old) (B.faults block.new) result }
@@ -79,7 +79,7 @@ fn settle_range<B: Block>(
     end: u64,
 ) -> Result<(), Failed>
     requires order { from ≤ end }
-    requires within { IfTold (B.contents block.old) (λ bytes. end ≤ length bytes) }
+    requires within { IfSome (B.contents block.old) (λ bytes. end ≤ length bytes) }
     ensures contents { Goes (SameOutside ((from, end - from) ∷ [])) (B.contents block.old) (B.contents block.new) }
     ensures left { OnOk result (Goes (λ old new. (new, words.new) ≡ left_of_range from end words.old old) (B.contents block.old) (B.contents block.new)) }
     ensures faults { Faults (B.faults block.old) (B.faults block.new) result }
@@ -94,7 +94,7 @@ fn settle_range<B: Block>(
 
 fn write_zeros<B: Block>(block: &mut B, from: u64, end: u64) -> Result<(), Failed>
     requires order { from ≤ end }
-    requires within { IfTold (B.contents block.old) (λ bytes. end ≤ length bytes) }
+    requires within { IfSome (B.contents block.old) (λ bytes. end ≤ length bytes) }
     ensures contents { Goes (SameOutside ((from, end - from) ∷ [])) (B.contents block.old) (B.contents block.new) }
     ensures left { OnOk result (Goes (λ old new. new ≡ with_zeros from end old) (B.contents block.old) (B.contents block.new)) }
     ensures faults { Faults (B.faults block.old) (B.faults block.new) result }
@@ -116,7 +116,7 @@ fn write_drawn<B: Block>(
     end: u64,
 ) -> Result<(), Failed>
     requires order { from ≤ end }
-    requires within { IfTold (B.contents block.old) (λ bytes. end ≤ length bytes) }
+    requires within { IfSome (B.contents block.old) (λ bytes. end ≤ length bytes) }
     ensures contents { Goes (SameOutside ((from, end - from) ∷ [])) (B.contents block.old) (B.contents block.new) }
     ensures left { OnOk result (Goes (λ old new. (new, words.new) ≡ with_drawn from end words.old old) (B.contents block.old) (B.contents block.new)) }
     ensures faults { Faults (B.faults block.old) (B.faults block.new) result }

@@ -26,7 +26,7 @@ pub enum Work<'a> {
 }
 
 /// What a participant's work is recorded with.
-#[derive(Clone, Copy, Debug, PartialEq, Eq)]
+#[derive(Clone, Copy)]
 pub enum Stage {
     /// The participant is prepared, and the transaction is still to be decided.
     Ready,

@@ -1,8 +1,9 @@
 -- What an append to the log makes of an image, and what may be left of it.
+use Rattle.std.specs.Prelude.{IfSome, IsSomeAnd}
 use Rattle.std.proofs.Common.{◌≡◌, inl, inr, ℕ, ◌+◌, ◌-◌, ◌%◌, ◌<◌, ◌≤◌, IsTrue, Option, None, Some, List, [], ◌∷◌, ◌++◌, length, get_or, take, drop, sym, ◌∙◌, ap, subst, arith}
 use Rattle.std.specs.Int.{from_le_bytes, w16, w32}
 use Rattle.ktm_base.specs.Disk.{DiskState, MayLeave}
-use Rattle.ktm_base.specs.Told.{IfTold, Tells, Goes}
+use Rattle.ktm_base.specs.Told.{Goes}
 use Rattle.ktm_base.proofs.Images.{safe_law}
 use Rattle.ktm_log.specs.declared.area.Area.{Area}
 use Rattle.ktm_log.specs.Log.{LogState, IsLog, Rests, LeavesEither, SameElsewhere, area_bytes}
@@ -59,17 +60,17 @@ what_is_left j log s image at left =
     })
 
 module _ (j : JournalState) where
-  pub stays_formatted : (old new : Option DiskState) → j.log.area ≡ log_area j.units → IfTold old (λ s. IsFormatted j.units j.image s.seen) → Goes (λ a b. SameElsewhere j.log.area a.seen b.seen) old new → IfTold new (λ s. IsFormatted j.units j.image s.seen)
+  pub stays_formatted : (old new : Option DiskState) → j.log.area ≡ log_area j.units → IfSome old (λ s. IsFormatted j.units j.image s.seen) → Goes (λ a b. SameElsewhere j.log.area a.seen b.seen) old new → IfSome new (λ s. IsFormatted j.units j.image s.seen)
   stays_formatted None None at was same = tt
   stays_formatted None (Some b) at was same = absurd same
   stays_formatted (Some a) None at was same = absurd same
   stays_formatted (Some a) (Some b) at was same = formatted_elsewhere j.units j.image a.seen b.seen was (subst (λ (x : Area). SameElsewhere x a.seen b.seen) at same)
 
   module _ (log : List Group) (events : Group) (p : List ℕ) (is : IsGroupOf events p) where
-    pub group_added : (l : LogState) (count : ℕ) (old new : Option DiskState) → l.area ≡ j.log.area → Tells old (JournalAt j log)
-        → ((ps : List (List ℕ)) → Tells old (Rests j.log.area ps j.log.end) → Tells new (Rests j.log.area (ps ++ p ∷ []) l.end))
+    pub group_added : (l : LogState) (count : ℕ) (old new : Option DiskState) → l.area ≡ j.log.area → IsSomeAnd old (JournalAt j log)
+        → ((ps : List (List ℕ)) → IsSomeAnd old (Rests j.log.area ps j.log.end) → IsSomeAnd new (Rests j.log.area (ps ++ p ∷ []) l.end))
         → Goes (λ a b. SameElsewhere j.log.area a.seen b.seen) old new
-        → Tells new (JournalAt (record j { log = l; events = count }) (log ++ events ∷ []))
+        → IsSomeAnd new (JournalAt (record j { log = l; events = count }) (log ++ events ∷ []))
     group_added l count None new same_area at rests same = absurd at
     group_added l count (Some a) None same_area at rests same = absurd same
     group_added l count (Some a) (Some b) same_area at rests same = record {
@@ -96,9 +97,9 @@ module _ (j : JournalState) where
           frames = subst (λ (x : Area). IsLog ps (area_bytes x image)) at.area frames;
         }
 
-    pub group_or_not : (old new : Option DiskState) → Tells old (JournalAt j log)
-        → ((ps : List (List ℕ)) → Tells old (Rests j.log.area ps j.log.end) → Goes (λ a b. LeavesEither j.log.area ps p a.seen b) old new)
-        → Tells new (LeavesGroupOrNot j log events)
+    pub group_or_not : (old new : Option DiskState) → IsSomeAnd old (JournalAt j log)
+        → ((ps : List (List ℕ)) → IsSomeAnd old (Rests j.log.area ps j.log.end) → Goes (λ a b. LeavesEither j.log.area ps p a.seen b) old new)
+        → IsSomeAnd new (LeavesGroupOrNot j log events)
     group_or_not None new at leaves = absurd at
     group_or_not (Some a) None at leaves = absurd (leaves at.payloads at.rests)
     group_or_not (Some a) (Some b) at leaves = either a b at leaves

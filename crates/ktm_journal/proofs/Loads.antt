@@ -1,11 +1,11 @@
 -- What lies before the log, as it was read.
+use Rattle.std.specs.Prelude.{IfSome}
 use Rattle.std.proofs.Common.{◌≡◌, ◌↔◌, ℕ, ◌+◌, ◌%◌, ◌≤◌, ◌==◌, Bool, Option, None, Some, List, length, get_or, take, drop, IsTrue, IfSome, slice_range, refl, sym, ◌∙◌, ap, arith, length-take}
 use Rattle.std.proofs.lemmas.List.{get_or-take}
 use Rattle.std.proofs.lemmas.Slice.Eq.{slice_eq-Decides}
 use Rattle.std.specs.Cmp.{unsigned_Decides}
 use Rattle.std.specs.Int.{from_le_bytes, w16, w32}
 use lib.Pointwise.{pointwise}
-use Rattle.ktm_base.specs.Told.{IfTold}
 use Rattle.ktm_base.specs.Disk.{DiskState}
 use Rattle.ktm_log.proofs.Frames.{first_at}
 use Rattle.ktm_journal.specs.declared.load.Header.{Header}
@@ -54,15 +54,15 @@ module _ (header selector : List ℕ) (len : ℕ) where
     begins (Some h) some none = from_front h.units h.image some
 
   -- where the bytes are told
-  pub header_told : (found : Option Header) (o : Option DiskState) → IfTold o (λ s. len ≡ length s.seen) → IfTold o (λ s. header ≡ slice_range s.seen 0 18)
-      → IfTold o (λ s. selector ≡ slice_range s.seen 2048 2049) → IfSome found (λ h. IsFront h.units h.image len (get_or selector 0 0) header)
-      → (found ≡ None → (units image : ℕ) → IsFront units image len (get_or selector 0 0) header → ⊥) → IfTold o (λ s. BeginsAnImage found s.seen)
+  pub header_told : (found : Option Header) (o : Option DiskState) → IfSome o (λ s. len ≡ length s.seen) → IfSome o (λ s. header ≡ slice_range s.seen 0 18)
+      → IfSome o (λ s. selector ≡ slice_range s.seen 2048 2049) → IfSome found (λ h. IsFront h.units h.image len (get_or selector 0 0) header)
+      → (found ≡ None → (units image : ℕ) → IsFront units image len (get_or selector 0 0) header → ⊥) → IfSome o (λ s. BeginsAnImage found s.seen)
   header_told found None long front at some none = tt
   header_told found (Some s) long front at some none = begins s.seen long front at found some none
 
 -- the test of the snapshot
 pub snapshot_told : (o : Option DiskState) (read empty : List ℕ) (is : Bool) → is ≡ pointwise (λ x y. x == y) read empty → empty ≡ empty_snapshot
-    → IfTold o (λ s. read ≡ slice_range s.seen 4096 4140) → IfTold o (λ s. IsTrue is ↔ (snapshot_of s.seen ≡ empty_snapshot))
+    → IfSome o (λ s. read ≡ slice_range s.seen 4096 4140) → IfSome o (λ s. IsTrue is ↔ (snapshot_of s.seen ≡ empty_snapshot))
 snapshot_told None read empty is eq empty_is read_is = tt
 snapshot_told (Some s) read empty is eq empty_is read_is =
     let (there, back) = slice_eq-Decides unsigned_Decides read empty is eq in (

@@ -1,13 +1,13 @@
 -- What a log that was read says of the image.
+use Rattle.std.specs.Prelude.{IfSome, IsSomeAnd}
 use Rattle.std.proofs.Common.{◌≡◌, inl, inr, ℕ, ◌+◌, ◌-◌, ◌*◌, ◌≤◌, length, Option, None, Some, List, [], ◌∷◌, sym, ◌∙◌, ap, subst, arith}
 use Rattle.std.proofs.lemmas.List.Sums.{sum_by-cons}
 use Rattle.ktm_base.specs.Disk.{DiskState, IsSafe}
-use Rattle.ktm_base.specs.Told.{IfTold, Tells}
 use Rattle.ktm_log.specs.declared.area.Area.{Area}
 use Rattle.ktm_log.specs.Log.{LogState, BeginsWith, IsLog, IsBadLog, Rests, area_bytes, end_of}
 use Rattle.ktm_log.proofs.Frames.{begins-split}
 use Rattle.ktm_log.proofs.GoodOrBad.{one_log}
-use Rattle.ktm_log.proofs.Steps.{IfTold-both}
+use Rattle.ktm_log.proofs.Steps.{IfSome-both}
 use Rattle.ktm_event.proofs.LeastSizes.{events_size-least}
 use Rattle.ktm_forms.specs.Built.{IsBuiltState}
 use Rattle.ktm_forms.proofs.BuiltStates.{built_log}
@@ -116,30 +116,30 @@ module _ (units image : ℕ) (area : Area) (at : area ≡ log_area units) where
       ))
 
   -- where the bytes are told
-  module _ (o : Option DiskState) (formatted : IfTold o (λ s. IsFormatted units image s.seen)) where
-    pub stands_told : (payloads : List (List ℕ)) (state : Durable) → ComesTo units image payloads state → IfTold o (λ s. IsLog payloads (area_bytes area s.seen)) → IfTold o (λ s. StandsFor state s.seen)
+  module _ (o : Option DiskState) (formatted : IfSome o (λ s. IsFormatted units image s.seen)) where
+    pub stands_told : (payloads : List (List ℕ)) (state : Durable) → ComesTo units image payloads state → IfSome o (λ s. IsLog payloads (area_bytes area s.seen)) → IfSome o (λ s. StandsFor state s.seen)
     stands_told payloads state comes log =
-        IfTold-both (λ (s : DiskState). IsFormatted units image s.seen) (λ (s : DiskState). IsLog payloads (area_bytes area s.seen)) (λ (s : DiskState). StandsFor state s.seen) o formatted log
+        IfSome-both (λ (s : DiskState). IsFormatted units image s.seen) (λ (s : DiskState). IsLog payloads (area_bytes area s.seen)) (λ (s : DiskState). StandsFor state s.seen) o formatted log
         (λ s f l. stands payloads state s.seen comes f l)
 
-    pub bad_payload_told : (payloads : List (List ℕ)) (offset : ℕ) → IsFirstBad units image payloads offset → IfTold o (λ s. BeginsWith payloads (area_bytes area s.seen)) → IfTold o (λ s. IsBadAt s.seen offset)
+    pub bad_payload_told : (payloads : List (List ℕ)) (offset : ℕ) → IsFirstBad units image payloads offset → IfSome o (λ s. BeginsWith payloads (area_bytes area s.seen)) → IfSome o (λ s. IsBadAt s.seen offset)
     bad_payload_told payloads offset first begins =
-        IfTold-both (λ (s : DiskState). IsFormatted units image s.seen) (λ (s : DiskState). BeginsWith payloads (area_bytes area s.seen)) (λ (s : DiskState). IsBadAt s.seen offset) o formatted begins
+        IfSome-both (λ (s : DiskState). IsFormatted units image s.seen) (λ (s : DiskState). BeginsWith payloads (area_bytes area s.seen)) (λ (s : DiskState). IsBadAt s.seen offset) o formatted begins
         (λ s f b. bad_payload payloads offset s.seen first f b)
 
-    pub torn_told : (payloads : List (List ℕ)) (state : Durable) (offset : ℕ) → ComesTo units image payloads state → offset ≡ area.at + end_of payloads → IfTold o (λ s. IsBadLog payloads (area_bytes area s.seen)) → IfTold o (λ s. IsBadAt s.seen offset)
+    pub torn_told : (payloads : List (List ℕ)) (state : Durable) (offset : ℕ) → ComesTo units image payloads state → offset ≡ area.at + end_of payloads → IfSome o (λ s. IsBadLog payloads (area_bytes area s.seen)) → IfSome o (λ s. IsBadAt s.seen offset)
     torn_told payloads state offset comes offset_is bad =
-        IfTold-both (λ (s : DiskState). IsFormatted units image s.seen) (λ (s : DiskState). IsBadLog payloads (area_bytes area s.seen)) (λ (s : DiskState). IsBadAt s.seen offset) o formatted bad
+        IfSome-both (λ (s : DiskState). IsFormatted units image s.seen) (λ (s : DiskState). IsBadLog payloads (area_bytes area s.seen)) (λ (s : DiskState). IsBadAt s.seen offset) o formatted bad
         (λ s f b. torn payloads state offset s.seen comes offset_is f b)
 
   -- the journal of whichever log the image holds
-  pub journal_told : (l : LogState) (count : ℕ) (payloads : List (List ℕ)) (o n : Option DiskState) → l.area ≡ area → n ≡ o → (Tells o IsSafe → Tells n (Rests area payloads l.end))
-      → (log : List Group) → Tells o (λ s. IsSafe s × HoldsLog units image log s.seen) → Tells n (JournalAt (record { units = units; image = image; log = l; events = count }) log)
+  pub journal_told : (l : LogState) (count : ℕ) (payloads : List (List ℕ)) (o n : Option DiskState) → l.area ≡ area → n ≡ o → (IsSomeAnd o IsSafe → IsSomeAnd n (Rests area payloads l.end))
+      → (log : List Group) → IsSomeAnd o (λ s. IsSafe s × HoldsLog units image log s.seen) → IsSomeAnd n (JournalAt (record { units = units; image = image; log = l; events = count }) log)
   journal_told l count payloads None n same_area same rests log holds = absurd holds
   journal_told l count payloads (Some s) n same_area same rests log holds =
-      let resting : Rests area payloads l.end s = subst (λ t. Tells t (Rests area payloads l.end)) same (rests holds.0) in
+      let resting : Rests area payloads l.end s = subst (λ t. IsSomeAnd t (Rests area payloads l.end)) same (rests holds.0) in
       let is = holds.1.is in
-      subst (λ t. Tells t (JournalAt (record { units = units; image = image; log = l; events = count }) log)) (sym same) (record {
+      subst (λ t. IsSomeAnd t (JournalAt (record { units = units; image = image; log = l; events = count }) log)) (sym same) (record {
         area = same_area ∙ at;
         formatted = is.formatted;
         payloads = payloads;

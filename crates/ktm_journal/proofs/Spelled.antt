@@ -1,9 +1,9 @@
 -- What was read as bytes spells the groups that it holds.
+use Rattle.std.specs.Prelude.{IfSome, IsSomeAnd}
 use Rattle.std.proofs.Common.{◌≡◌, ℕ, zero, suc, ◌+◌, Bool, true, false, if◌then◌else◌, length, take, drop, Option, None, Some, List, [], ◌∷◌, subst}
 use Rattle.std.specs.List.{AllByRecursion}
 use Rattle.ktm_base.specs.Bytes.{AreBytes}
 use Rattle.ktm_base.specs.Disk.{DiskState}
-use Rattle.ktm_base.specs.Told.{IfTold, Tells}
 use Rattle.ktm_log.specs.declared.area.Area.{Area}
 use Rattle.ktm_log.specs.Log.{IsLog, area_bytes, followed, payloads_in, payloads_up_to, size_at}
 use Rattle.ktm_log.proofs.GoodOrBad.{one_log}
@@ -43,8 +43,8 @@ groups_spelled (group ∷ log) [] hold all = absurd hold
 groups_spelled (group ∷ log) (p ∷ ps) hold all = ((p, all.0, hold.0), groups_spelled log ps hold.1 all.1)
 
 -- whichever log the image holds, where the buffer has what was read of it
-pub spelled_told : (units image : ℕ) (area : Area) → area ≡ log_area units → (buffer : List ℕ) → AreBytes buffer → (o : Option DiskState) → IfTold o (λ s. IsLog (payloads_in buffer) (area_bytes area s.seen))
-    → (log : List Group) → Tells o (λ s. HoldsLog units image log s.seen) → AreSpelled log
+pub spelled_told : (units image : ℕ) (area : Area) → area ≡ log_area units → (buffer : List ℕ) → AreBytes buffer → (o : Option DiskState) → IfSome o (λ s. IsLog (payloads_in buffer) (area_bytes area s.seen))
+    → (log : List Group) → IsSomeAnd o (λ s. HoldsLog units image log s.seen) → AreSpelled log
 spelled_told units image area at buffer all None read log holds = absurd holds
 spelled_told units image area at buffer all (Some s) read log holds =
     let is = holds.is in

@@ -37,13 +37,6 @@ IsBadAt bytes offset =
     ⊎ ((units : ℕ) × (image : ℕ) × IsHeaded units image bytes × (snapshot_of bytes ≢ empty_snapshot) × (offset ≡ 4096))
     ⊎ ((units : ℕ) × (image : ℕ) × (log : List Group) × IsBadFrame units image log bytes × (offset ≡ (log_area units).at + log_size log))
 
--- the fact of the offset, where an image is bad
-abbrev pub IfBad : {T : Type 0} → Result T LoadFault → (ℕ → Type 0) → Type 0
-IfBad (Ok value) P = Unit {0}
-IfBad (Err Down) P = Unit {0}
-IfBad (Err (Bad offset)) P = P offset
-IfBad (Err NoMemory) P = Unit {0}
-
 -- did a load find the disk down
 abbrev pub load_went_down : {T : Type 0} → Result T LoadFault → Bool
 load_went_down (Ok value) = false

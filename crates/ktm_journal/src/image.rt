@@ -1,7 +1,7 @@
 // What a new image holds, and how it is written.
-ghost use Rattle.std.specs.Prelude.{false, ◌≡◌, ℕ, ◌+◌, ◌≤◌, length, OnOk, OnErr, is_err};
+ghost use Rattle.std.specs.Prelude.{false, ◌≡◌, ℕ, ◌+◌, ◌≤◌, length, OnOk, OnErr, is_err, IfSome};
 ghost use Rattle.ktm_base.specs.declared.limits.TheConstants.{LEAST_UNITS, MOST_UNITS};
-ghost use Rattle.ktm_base.specs.Told.{IfTold, Goes};
+ghost use Rattle.ktm_base.specs.Told.{Goes};
 ghost use Rattle.ktm_base.specs.Disk.{DeviceCalls, IsSafe};
 ghost use Rattle.ktm_journal.specs.Image.{IsFormatted, empty_snapshot, image_len, log_area};
 ghost use Rattle.ktm_types.specs.Sizes.{area_len};
@@ -70,7 +70,7 @@ fn settle_both<D: Disk>(
     second_at: u64,
     second: &[u8],
 ) -> Result<(), Down>
-    requires within { IfTold (D.told disk.old) (λ s. (first_at + length first.now ≤ length s.seen) × (second_at + length second.now ≤ length s.seen)) }
+    requires within { IfSome (D.told disk.old) (λ s. (first_at + length first.now ≤ length s.seen) × (second_at + length second.now ≤ length s.seen)) }
     requires pending { (D.status disk.old).pending ≡ 0 }
     ensures ok { OnOk result (Goes (SettledBoth first_at first.now second_at second.now) (D.told disk.old) (D.told disk.new)) }
     ensures err { OnErr result (Goes Anything (D.told disk.old) (D.told disk.new)) }
@@ -114,7 +114,7 @@ pub(crate) fn lay<D: Disk>(disk: &mut D, units: u32) -> Result<(), Down>
 pub(crate) fn put_header<D: Disk>(disk: &mut D, units: u32, image: u16) -> Result<(), Down>
     requires from { LEAST_UNITS ≤ units }
     requires to { units ≤ MOST_UNITS }
-    requires laid { IfTold (D.told disk.old) (λ s. IsLaid units s.seen) }
+    requires laid { IfSome (D.told disk.old) (λ s. IsLaid units s.seen) }
     requires pending { (D.status disk.old).pending ≡ 0 }
     ensures ok { OnOk result (Goes (λ old new. IsSafe new × IsLaid units new.seen × IsFormatted units image new.seen) (D.told disk.old) (D.told disk.new)) }
     ensures err { OnErr result (Goes Anything (D.told disk.old) (D.told disk.new)) }

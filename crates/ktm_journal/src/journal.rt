@@ -1,9 +1,9 @@
 // The journal of an image, and how it grows.
-ghost use Rattle.std.specs.Prelude.{◌^◌, ◌≡◌, ◌↔◌, ℕ, ◌+◌, ◌-◌, ◌*◌, ◌<◌, ◌≤◌, List, [], ◌∷◌, ◌++◌, length, IfOk, OnOk, OnErr, IfErr, IsTrue, Err, false, is_err, vec_capacity};
+ghost use Rattle.std.specs.Prelude.{◌^◌, ◌≡◌, ◌↔◌, ℕ, ◌+◌, ◌-◌, ◌*◌, ◌<◌, ◌≤◌, List, [], ◌∷◌, ◌++◌, length, IfOk, OnOk, OnErr, IfErr, IsTrue, IsErrOf, false, is_err, vec_capacity, IfSome, IsSomeAnd};
 ghost use Rattle.ktm_base.specs.declared.limits.TheConstants.{LEAST_UNITS, MOST_UNITS, MOST_PENDING};
-ghost use Rattle.ktm_base.specs.Told.{IfTold, Tells, Goes};
+ghost use Rattle.ktm_base.specs.Told.{Goes};
 ghost use Rattle.ktm_base.specs.Disk.{DeviceCalls, IsSafe};
-ghost use Rattle.ktm_log.specs.Fault.{IfAppendDown, append_went_down};
+ghost use Rattle.ktm_log.specs.Fault.{append_went_down};
 ghost use Rattle.ktm_forms.specs.Built.{IsBuiltState};
 ghost use Rattle.ktm_world.specs.Logs.{Group};
 ghost use Rattle.ktm_laws.specs.GoodState.{IsGoodState};
@@ -11,7 +11,7 @@ ghost use Rattle.ktm_world.specs.Outcome.{is_full};
 ghost use Rattle.ktm_types.specs.Sizes.{area_len, frame_size};
 ghost use Rattle.ktm_event.specs.Kept.{Holds};
 ghost use Rattle.ktm_journal.specs.Image.{AreInLog, AreSpelled, HoldsLog, IsFormatted, IsHeaded, JournalAt, LeavesGroupOrNot, StandsFor, log_area};
-ghost use Rattle.ktm_journal.specs.Bad.{IfBad, IsBadAt, load_went_down};
+ghost use Rattle.ktm_journal.specs.Bad.{IsBadAt, load_went_down};
 ghost use Rattle.ktm_journal.specs.Format.{Anything};
 ghost use Rattle.ktm_journal.specs.Load.{ComesTo};
 ghost use Rattle.ktm_log.specs.Log.{end_of, payloads_in};
@@ -65,7 +65,7 @@ fn replay_log<D: Disk>(
 ) -> Result<Log, LoadFault>
     requires least { LEAST_UNITS ≤ header.units }
     requires most { header.units ≤ MOST_UNITS }
-    requires formatted { IfTold (D.told disk.old) (λ s. IsFormatted header.units header.image s.seen) }
+    requires formatted { IfSome (D.told disk.old) (λ s. IsFormatted header.units header.image s.seen) }
     requires empty { state.old ≡ empty_state header.units header.image }
     ensures area { IfOk result (λ log. log.area ≡ log_area header.units) }
     ensures end { IfOk result (λ log. log.end ≡ end_of (payloads_in buffer.new.items)) }
@@ -74,15 +74,15 @@ fn replay_log<D: Disk>(
     ensures kept { vec_capacity buffer.old ≤ vec_capacity buffer.new }
     ensures comes { OnOk result (ComesTo header.units header.image (payloads_in buffer.new.items) state.new) }
     ensures good { OnOk result (IsGoodState state.new) }
-    ensures stands { OnOk result (IfTold (D.told disk.old) (λ s. StandsFor state.new s.seen)) }
-    ensures journal { IfOk result (λ end. (events : ℕ) (log : List Group) → Tells (D.told disk.old) (λ s. IsSafe s × HoldsLog header.units header.image log s.seen)
-        → Tells (D.told disk.new) (JournalAt (record { units = header.units; image = header.image; log = end; events = events }) log)) }
-    ensures spelled { OnOk result ((log : List Group) → Tells (D.told disk.old) (λ s. HoldsLog header.units header.image log s.seen) → AreSpelled log) }
-    ensures bad { IfBad result (λ offset. IfTold (D.told disk.old) (λ s. IsBadAt s.seen offset)) }
+    ensures stands { OnOk result (IfSome (D.told disk.old) (λ s. StandsFor state.new s.seen)) }
+    ensures journal { IfOk result (λ end. (events : ℕ) (log : List Group) → IsSomeAnd (D.told disk.old) (λ s. IsSafe s × HoldsLog header.units header.image log s.seen)
+        → IsSomeAnd (D.told disk.new) (JournalAt (record { units = header.units; image = header.image; log = end; events = events }) log)) }
+    ensures spelled { OnOk result ((log : List Group) → IsSomeAnd (D.told disk.old) (λ s. HoldsLog header.units header.image log s.seen) → AreSpelled log) }
+    ensures bad { (offset : ℕ) → IsErrOf result (LoadFault.Bad offset) → IfSome (D.told disk.old) (λ s. IsBadAt s.seen offset) }
     ensures same { D.told disk.new ≡ D.told disk.old }
     ensures pending { (D.status disk.new).pending ≡ (D.status disk.old).pending }
     ensures up { OnOk result ((D.status disk.new).is_down ≡ false) }
-    ensures up_bad { IfBad result (λ offset. (D.status disk.new).is_down ≡ false) }
+    ensures up_bad { (offset : ℕ) → IsErrOf result (LoadFault.Bad offset) → (D.status disk.new).is_down ≡ false }
     ensures calls { DeviceCalls (2 * header.units + 16) (D.status disk.old) (D.status disk.new) (load_went_down result) }
 {
     match Log::scan(disk, log_area(header.units), buffer) {
@@ -142,18 +142,18 @@ impl Journal {
         ensures inside { IfOk result (λ loaded. loaded.journal.log.end < loaded.journal.log.area.len) }
         ensures room { IfOk result (λ loaded. loaded.journal.log.area.len ≤ vec_capacity buffer.new) }
         ensures kept { vec_capacity buffer.old ≤ vec_capacity buffer.new }
-        ensures stands { IfOk result (λ loaded. IfTold (D.told disk.old) (λ s. StandsFor loaded.state s.seen)) }
-        ensures formatted { IfOk result (λ loaded. IfTold (D.told disk.new) (λ s. IsFormatted loaded.journal.units loaded.journal.image s.seen)) }
-        ensures journal { IfOk result (λ loaded. (log : List Group) → Tells (D.told disk.old) (λ s. IsSafe s × HoldsLog loaded.state.units loaded.state.image log s.seen)
-            → Tells (D.told disk.new) (JournalAt loaded.journal log)) }
-        ensures spelled { IfOk result (λ loaded. (log : List Group) → Tells (D.told disk.old) (λ s. HoldsLog loaded.state.units loaded.state.image log s.seen) → AreSpelled log) }
-        ensures bad { IfBad result (λ offset. IfTold (D.told disk.old) (λ s. IsBadAt s.seen offset)) }
+        ensures stands { IfOk result (λ loaded. IfSome (D.told disk.old) (λ s. StandsFor loaded.state s.seen)) }
+        ensures formatted { IfOk result (λ loaded. IfSome (D.told disk.new) (λ s. IsFormatted loaded.journal.units loaded.journal.image s.seen)) }
+        ensures journal { IfOk result (λ loaded. (log : List Group) → IsSomeAnd (D.told disk.old) (λ s. IsSafe s × HoldsLog loaded.state.units loaded.state.image log s.seen)
+            → IsSomeAnd (D.told disk.new) (JournalAt loaded.journal log)) }
+        ensures spelled { IfOk result (λ loaded. (log : List Group) → IsSomeAnd (D.told disk.old) (λ s. HoldsLog loaded.state.units loaded.state.image log s.seen) → AreSpelled log) }
+        ensures bad { (offset : ℕ) → IsErrOf result (LoadFault.Bad offset) → IfSome (D.told disk.old) (λ s. IsBadAt s.seen offset) }
         ensures same { D.told disk.new ≡ D.told disk.old }
         ensures pending { (D.status disk.new).pending ≡ (D.status disk.old).pending }
         ensures up { OnOk result ((D.status disk.new).is_down ≡ false) }
-        ensures up_bad { IfBad result (λ offset. (D.status disk.new).is_down ≡ false) }
+        ensures up_bad { (offset : ℕ) → IsErrOf result (LoadFault.Bad offset) → (D.status disk.new).is_down ≡ false }
         ensures calls { DeviceCalls (8 * MOST_UNITS + 64) (D.status disk.old) (D.status disk.new) (load_went_down result) }
-        ensures few { (units image : ℕ) → Tells (D.told disk.old) (λ s. IsHeaded units image s.seen) → (D.status disk.new).calls ≤ (D.status disk.old).calls + (8 * units + 64) }
+        ensures few { (units image : ℕ) → IsSomeAnd (D.told disk.old) (λ s. IsHeaded units image s.seen) → (D.status disk.new).calls ≤ (D.status disk.old).calls + (8 * units + 64) }
     {
         let header = match read_form(disk) {
             Ok(header) => header,
@@ -171,7 +171,7 @@ impl Journal {
     ) -> Result<Loaded, LoadFault>
         requires least { LEAST_UNITS ≤ header.units }
         requires most { header.units ≤ MOST_UNITS }
-        requires formatted { IfTold (D.told disk.old) (λ s. IsFormatted header.units header.image s.seen) }
+        requires formatted { IfSome (D.told disk.old) (λ s. IsFormatted header.units header.image s.seen) }
         ensures units { IfOk result (λ loaded. (loaded.journal.units ≡ header.units) × (loaded.state.units ≡ header.units)) }
         ensures image { IfOk result (λ loaded. (loaded.journal.image ≡ header.image) × (loaded.state.image ≡ header.image)) }
         ensures number { IfOk result (λ loaded. loaded.state.image < 2 ^ 16) }
@@ -184,15 +184,15 @@ impl Journal {
         ensures inside { IfOk result (λ loaded. loaded.journal.log.end < loaded.journal.log.area.len) }
         ensures room { IfOk result (λ loaded. loaded.journal.log.area.len ≤ vec_capacity buffer.new) }
         ensures kept { vec_capacity buffer.old ≤ vec_capacity buffer.new }
-        ensures stands { IfOk result (λ loaded. IfTold (D.told disk.old) (λ s. StandsFor loaded.state s.seen)) }
-        ensures journal { IfOk result (λ loaded. (log : List Group) → Tells (D.told disk.old) (λ s. IsSafe s × HoldsLog header.units header.image log s.seen)
-            → Tells (D.told disk.new) (JournalAt loaded.journal log)) }
-        ensures spelled { IfOk result (λ loaded. (log : List Group) → Tells (D.told disk.old) (λ s. HoldsLog header.units header.image log s.seen) → AreSpelled log) }
-        ensures bad { IfBad result (λ offset. IfTold (D.told disk.old) (λ s. IsBadAt s.seen offset)) }
+        ensures stands { IfOk result (λ loaded. IfSome (D.told disk.old) (λ s. StandsFor loaded.state s.seen)) }
+        ensures journal { IfOk result (λ loaded. (log : List Group) → IsSomeAnd (D.told disk.old) (λ s. IsSafe s × HoldsLog header.units header.image log s.seen)
+            → IsSomeAnd (D.told disk.new) (JournalAt loaded.journal log)) }
+        ensures spelled { IfOk result (λ loaded. (log : List Group) → IsSomeAnd (D.told disk.old) (λ s. HoldsLog header.units header.image log s.seen) → AreSpelled log) }
+        ensures bad { (offset : ℕ) → IsErrOf result (LoadFault.Bad offset) → IfSome (D.told disk.old) (λ s. IsBadAt s.seen offset) }
         ensures same { D.told disk.new ≡ D.told disk.old }
         ensures pending { (D.status disk.new).pending ≡ (D.status disk.old).pending }
         ensures up { OnOk result ((D.status disk.new).is_down ≡ false) }
-        ensures up_bad { IfBad result (λ offset. (D.status disk.new).is_down ≡ false) }
+        ensures up_bad { (offset : ℕ) → IsErrOf result (LoadFault.Bad offset) → (D.status disk.new).is_down ≡ false }
         ensures calls { DeviceCalls (2 * header.units + 16) (D.status disk.old) (D.status disk.new) (load_went_down result) }
     {
         let mut state = Durable::empty(alloc, header.units, header.image);
@@ -214,7 +214,7 @@ impl Journal {
     /// makes four device calls.
     pub fn append<D: Disk>(&mut self, disk: &mut D, events: &Events) -> Result<(), AppendFault>
         requires pending { (D.status disk.old).pending < MOST_PENDING }
-        requires formatted { IfTold (D.told disk.old) (λ s. IsFormatted self.old.units self.old.image s.seen) }
+        requires formatted { IfSome (D.told disk.old) (λ s. IsFormatted self.old.units self.old.image s.seen) }
         requires some { 1 ≤ events.now.count }
         ensures units { self.new.units ≡ self.old.units }
         ensures image { self.new.image ≡ self.old.image }
@@ -224,12 +224,12 @@ impl Journal {
         ensures full { (group : Group) → Holds events.now group
             → (result ≡ Err AppendFault.Full) ↔ IsTrue (is_full (self.old.log.area.len - self.old.log.end) group) }
         ensures refused { IfErr result (λ fault. self.new ≡ self.old) }
-        ensures unchanged { result ≡ Err AppendFault.Full → (D.told disk.new ≡ D.told disk.old) × (D.status disk.new ≡ D.status disk.old) }
+        ensures unchanged { IsErrOf result AppendFault.Full → (D.told disk.new ≡ D.told disk.old) × (D.status disk.new ≡ D.status disk.old) }
         ensures ok { OnOk result ((log : List Group) (group : Group) → Holds events.now group
-            → Tells (D.told disk.old) (JournalAt self.old log) → Tells (D.told disk.new) (JournalAt self.new (log ++ group ∷ []))) }
-        ensures formatted { OnOk result (IfTold (D.told disk.new) (λ s. IsFormatted self.new.units self.new.image s.seen)) }
-        ensures down { IfAppendDown result ((log : List Group) (group : Group) → Holds events.now group
-            → Tells (D.told disk.old) (JournalAt self.old log) → Tells (D.told disk.new) (LeavesGroupOrNot self.old log group)) }
+            → IsSomeAnd (D.told disk.old) (JournalAt self.old log) → IsSomeAnd (D.told disk.new) (JournalAt self.new (log ++ group ∷ []))) }
+        ensures formatted { OnOk result (IfSome (D.told disk.new) (λ s. IsFormatted self.new.units self.new.image s.seen)) }
+        ensures down { IsErrOf result AppendFault.Down → (log : List Group) (group : Group) → Holds events.now group
+            → IsSomeAnd (D.told disk.old) (JournalAt self.old log) → IsSomeAnd (D.told disk.new) (LeavesGroupOrNot self.old log group) }
         ensures pending { OnOk result ((D.status disk.new).pending ≡ 0) }
         ensures up { OnOk result ((D.status disk.new).is_down ≡ false) }
         ensures calls { DeviceCalls 4 (D.status disk.old) (D.status disk.new) (append_went_down result) }

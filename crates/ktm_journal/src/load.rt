@@ -1,7 +1,6 @@
 // Reading an image.
-ghost use Rattle.std.specs.Prelude.{◌≡◌, ◌↔◌, ◌&&◌, ℕ, ◌+◌, ◌^◌, ◌<◌, ◌≤◌, List, length, None, Ok, IfOk, IfSome, OnOk, IsTrue, is_err, false, true};
+ghost use Rattle.std.specs.Prelude.{IsErrOf, ◌≡◌, ◌↔◌, ◌&&◌, ℕ, ◌+◌, ◌^◌, ◌<◌, ◌≤◌, List, length, None, Ok, IfOk, IfSome, OnOk, IsTrue, is_err, false, true};
 ghost use Rattle.ktm_base.specs.Bytes.{AreBytes};
-ghost use Rattle.ktm_base.specs.Told.{IfTold};
 ghost use Rattle.ktm_base.specs.Disk.{DeviceCalls};
 ghost use Rattle.ktm_log.specs.Log.{payloads_in};
 ghost use Rattle.ktm_world.specs.Durable.{Durable, after_events, empty_state, events_apply};
@@ -11,7 +10,7 @@ ghost use Rattle.ktm_laws.specs.GoodState.{IsGoodState};
 ghost use Rattle.ktm_types.specs.EventGrammar.{IsGroupOf};
 ghost use Rattle.ktm_journal.specs.Image.{IsFormatted, IsHeaded, empty_snapshot, snapshot_of};
 ghost use Rattle.ktm_journal.specs.Format.{IsHeader};
-ghost use Rattle.ktm_journal.specs.Bad.{IfBad, IsBadAt, IsBadPayload, load_went_down};
+ghost use Rattle.ktm_journal.specs.Bad.{IsBadAt, IsBadPayload, load_went_down};
 ghost use Rattle.ktm_journal.specs.Load.{BeginsAnImage, ComesTo, IsFirstBad, IsFront};
 
 use crate::LoadFault;
@@ -65,7 +64,7 @@ fn front(bytes: &[u8; 18], selector: u8, len: u64) -> Option<Header>
 
 // The header of the disk's image, if it has one.
 fn read_header<D: Disk>(disk: &mut D) -> Result<Option<Header>, Down>
-    ensures told { IfOk result (λ found. IfTold (D.told disk.old) (λ s. BeginsAnImage found s.seen)) }
+    ensures told { IfOk result (λ found. IfSome (D.told disk.old) (λ s. BeginsAnImage found s.seen)) }
     ensures size { IfOk result (λ found. IfSome found (λ header. (LEAST_UNITS ≤ header.units) × (header.units ≤ MOST_UNITS))) }
     ensures same { D.told disk.new ≡ D.told disk.old }
     ensures pending { (D.status disk.new).pending ≡ (D.status disk.old).pending }
@@ -92,8 +91,8 @@ fn read_header<D: Disk>(disk: &mut D) -> Result<Option<Header>, Down>
 
 // Is the empty snapshot there?
 fn read_snapshot<D: Disk>(disk: &mut D) -> Result<bool, Down>
-    requires within { IfTold (D.told disk.old) (λ s. 4096 + 44 ≤ length s.seen) }
-    ensures told { IfOk result (λ is. IfTold (D.told disk.old) (λ s. IsTrue is ↔ (snapshot_of s.seen ≡ empty_snapshot))) }
+    requires within { IfSome (D.told disk.old) (λ s. 4096 + 44 ≤ length s.seen) }
+    ensures told { IfOk result (λ is. IfSome (D.told disk.old) (λ s. IsTrue is ↔ (snapshot_of s.seen ≡ empty_snapshot))) }
     ensures same { D.told disk.new ≡ D.told disk.old }
     ensures pending { (D.status disk.new).pending ≡ (D.status disk.old).pending }
     ensures up { OnOk result ((D.status disk.new).is_down ≡ false) }
@@ -108,13 +107,13 @@ fn read_snapshot<D: Disk>(disk: &mut D) -> Result<bool, Down>
 
 /// Reads what lies before the log.
 pub(crate) fn read_form<D: Disk>(disk: &mut D) -> Result<Header, LoadFault>
-    ensures formatted { IfOk result (λ header. IfTold (D.told disk.old) (λ s. IsFormatted header.units header.image s.seen)) }
+    ensures formatted { IfOk result (λ header. IfSome (D.told disk.old) (λ s. IsFormatted header.units header.image s.seen)) }
     ensures size { IfOk result (λ header. (LEAST_UNITS ≤ header.units) × (header.units ≤ MOST_UNITS)) }
-    ensures bad { IfBad result (λ offset. IfTold (D.told disk.old) (λ s. IsBadAt s.seen offset)) }
+    ensures bad { (offset : ℕ) → IsErrOf result (LoadFault.Bad offset) → IfSome (D.told disk.old) (λ s. IsBadAt s.seen offset) }
     ensures same { D.told disk.new ≡ D.told disk.old }
     ensures pending { (D.status disk.new).pending ≡ (D.status disk.old).pending }
     ensures up { OnOk result ((D.status disk.new).is_down ≡ false) }
-    ensures up_bad { IfBad result (λ offset. (D.status disk.new).is_down ≡ false) }
+    ensures up_bad { (offset : ℕ) → IsErrOf result (LoadFault.Bad offset) → (D.status disk.new).is_down ≡ false }
     ensures calls { DeviceCalls 4 (D.status disk.old) (D.status disk.new) (load_went_down result) }
 {
     let header = match read_header(disk) {
@@ -154,7 +153,7 @@ pub(crate) fn replay(
     ensures good { OnOk result (ComesTo header.units header.image (payloads_in bytes.now) state.new) }
     ensures sound { OnOk result (IsGoodState state.new) }
     ensures read { AreBytes bytes.now }
-    ensures bad { IfBad result (λ offset. IsFirstBad header.units header.image (payloads_in bytes.now) offset) }
+    ensures bad { (offset : ℕ) → IsErrOf result (LoadFault.Bad offset) → IsFirstBad header.units header.image (payloads_in bytes.now) offset }
     ensures up { load_went_down result ≡ false }
 {
     let mut at = 0;

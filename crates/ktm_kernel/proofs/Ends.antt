@@ -2,15 +2,14 @@
 use Rattle.std.proofs.Common.{◌≡◌, ◌≢◌, ◌⊎◌, ℕ, ◌-◌, ◌≤◌, Bool, true, false, cond, List, [], ◌∷◌, ◌++◌, Option, Result, Ok, Err, refl, sym, ◌∙◌, ap, subst, arith, inl, inr}
 use Rattle.std.proofs.lemmas.Bool.{cases_eq, both_ways}
 use Rattle.std.proofs.lemmas.List.{append-nil}
-use Rattle.std.specs.Prelude.{IsTrue}
+use Rattle.std.specs.Prelude.{IsTrue, IsSomeAnd}
 use Rattle.ktm_base.specs.declared.refusal.Refusal.TheVariants.{LogFull, MachineDown}
 use Rattle.ktm_base.specs.Disk.{DiskState}
-use Rattle.ktm_base.specs.Told.{Tells}
 use Rattle.ktm_event.specs.Kept.{EventsState, Holds}
 use Rattle.ktm_journal.specs.Image.{JournalState, JournalAt, LeavesGroupOrNot}
+use Rattle.std.specs.Result.{IsErrOf}
 use Rattle.ktm_log.specs.declared.fault.AppendFault.{AppendFault}
-use Rattle.ktm_log.specs.declared.fault.AppendFault.TheVariants.{Down, Full}
-use Rattle.ktm_log.specs.Fault.{IfAppendDown}
+use Rattle.ktm_log.specs.declared.fault.AppendFault.TheVariants.{Down}
 use Rattle.ktm_types.specs.declared.event.Event.{Event}
 use Rattle.ktm_types.specs.declared.reply.Reply.{Reply}
 use Rattle.ktm_types.specs.declared.reply.Reply.TheVariants.{Refused}
@@ -41,17 +40,15 @@ pub kept : (j k : JournalState) (e f : EventsState) (group : Group) → k ≡ ap
 kept j k e f group grown roomy room = rw grown (record { most = roomy.most; room = omega (arith, roomy.room, room) })
 
 of_group : (events : EventsState) (j : JournalState) (log : List Group) (now : Option DiskState) → 1 ≤ events.count → (group : Group) → Holds events group
-    → Tells now (LeavesGroupOrNot j log group) → Tells now (LeavesWithOr j log (as_groups group))
+    → IsSomeAnd now (LeavesGroupOrNot j log group) → IsSomeAnd now (LeavesWithOr j log (as_groups group))
 of_group events j log now some [] holds leaves = absurd (omega (arith, some, holds.counted))
 of_group events j log now some (e ∷ es) holds leaves = leaves
 
 -- what an append leaves that was cut off, of a list that is not empty
 pub cut_groups : {T : Type 0} (result : Result T AppendFault) (events : EventsState) (j : JournalState) (before now : Option DiskState) → 1 ≤ events.count
-    → IfAppendDown result ((log : List Group) (group : Group) → Holds events group → Tells before (JournalAt j log) → Tells now (LeavesGroupOrNot j log group))
-    → IfAppendDown result ((log : List Group) (group : Group) → Holds events group → Tells before (JournalAt j log) → Tells now (LeavesWithOr j log (as_groups group)))
-cut_groups (Ok value) events j before now some left = tt
-cut_groups (Err Down) events j before now some left = λ log group holds at. of_group events j log now some group holds (left log group holds at)
-cut_groups (Err Full) events j before now some left = tt
+    → (IsErrOf result Down → (log : List Group) (group : Group) → Holds events group → IsSomeAnd before (JournalAt j log) → IsSomeAnd now (LeavesGroupOrNot j log group))
+    → IsErrOf result Down → (log : List Group) (group : Group) → Holds events group → IsSomeAnd before (JournalAt j log) → IsSomeAnd now (LeavesWithOr j log (as_groups group))
+cut_groups result events j before now some left failed log group holds at = of_group events j log now some group holds (left failed log group holds at)
 
 -- a list that is not empty has one at least
 pub counted_from : (count : ℕ) (empty : Bool) → empty ≡ false → (count ≡ 0 → IsTrue empty) → 1 ≤ count
@@ -77,7 +74,7 @@ module _ (j : JournalState) (h : Held) (o : Outcome) (reply : Reply) (then : Set
   -- the group was recorded, where there is one, and memory has settled
   pub done : (k : JournalState) (m : MemoryState) (before now : Option DiskState)
       → ((group : Group) → Holds events group → k ≡ appended j group) → ((i : JournalState) → now_of i (held m) ≡ settled (now_of i (held n)) then)
-      → ((log : List Group) (group : Group) → Holds events group → Tells before (JournalAt j log) → Tells now (JournalAt k (log ++ as_groups group)))
+      → ((log : List Group) (group : Group) → Holds events group → IsSomeAnd before (JournalAt j log) → IsSomeAnd now (JournalAt k (log ++ as_groups group)))
       → IsDone (record { now = x; journal = j }) (within_log x o) reply (record { now = now_of k (held m); journal = k }) before now
   done k m before now grows settles log =
       let same = with_room_done x o decided.room in
@@ -87,13 +84,13 @@ module _ (j : JournalState) (h : Held) (o : Outcome) (reply : Reply) (then : Set
         state = ap (λ i. now_of i (held m)) grown ∙ settles (appended j o.events) ∙ decided.comes_to ∙ ap (apply x) (sym same);
         units = ap (λ (i : JournalState). i.units) grown;
         image = ap (λ (i : JournalState). i.image) grown;
-        log = λ gs at. subst (λ (d : Outcome). Tells now (JournalAt k (gs ++ as_groups d.events))) (sym same) (log gs o.events decided.records at);
+        log = λ gs at. subst (λ (d : Outcome). IsSomeAnd now (JournalAt k (gs ++ as_groups d.events))) (sym same) (log gs o.events decided.records at);
       }
 
   -- the power went
   pub cut : (k : JournalState) (m : MemoryState) (before now : Option DiskState)
       → k ≡ j → held m ≡ record (held n) { is_up = false } → (Holds events [] → ⊥)
-      → ((log : List Group) (group : Group) → Holds events group → Tells before (JournalAt j log) → Tells now (LeavesWithOr j log (as_groups group)))
+      → ((log : List Group) (group : Group) → Holds events group → IsSomeAnd before (JournalAt j log) → IsSomeAnd now (LeavesWithOr j log (as_groups group)))
       → IsCutOff (record { now = x; journal = j }) (within_log x o) (Refused MachineDown) (record { now = now_of k (held m); journal = k }) before now
   cut k m before now same falls some left =
       let is = with_room_done x o decided.room in
@@ -102,7 +99,7 @@ module _ (j : JournalState) (h : Held) (o : Outcome) (reply : Reply) (then : Set
         says = refl;
         state = ap (λ i. now_of i (held m)) same ∙ ap (now_of j) (falls ∙ ap (λ (g : Held). record g { is_up = false }) was);
         journal = same;
-        log = λ gs at. subst (λ (d : Outcome). Tells now (LeavesWithOr j gs (as_groups d.events))) (sym is) (left gs o.events decided.records at);
+        log = λ gs at. subst (λ (d : Outcome). IsSomeAnd now (LeavesWithOr j gs (as_groups d.events))) (sym is) (left gs o.events decided.records at);
       }
 
   -- what was recorded was not refused, and its command records something
@@ -133,5 +130,5 @@ stopped j h o n m told standing full same falls =
       state = ap (now_of j) (falls ∙ ap (λ (g : Held). record g { is_up = false }) same) ∙ sym (apply-full x (built x standing)) ∙ ap (apply x) (sym stops);
       units = refl;
       image = refl;
-      log = λ gs at. subst (λ (d : Outcome). Tells told (JournalAt j (gs ++ as_groups d.events))) (sym stops) (subst (λ (l : List Group). Tells told (JournalAt j l)) (sym (append-nil gs)) at);
+      log = λ gs at. subst (λ (d : Outcome). IsSomeAnd told (JournalAt j (gs ++ as_groups d.events))) (sym stops) (subst (λ (l : List Group). IsSomeAnd told (JournalAt j l)) (sym (append-nil gs)) at);
     }

@@ -3,10 +3,9 @@ use Rattle.std.proofs.Common.{◌≡◌, ℕ, ◌&&◌, List, [], ◌++◌, leng
 use Rattle.std.proofs.lemmas.Bool.{and_from}
 use Rattle.std.proofs.lemmas.List.{append-nil}
 use Rattle.std.proofs.lemmas.List.Folds.{list_all-append}
-use Rattle.std.specs.Prelude.{Contains, IsTrue}
+use Rattle.std.specs.Prelude.{Contains, IsTrue, IsSomeAnd}
 use Rattle.ktm_base.specs.Disk.{DiskState}
-use Rattle.ktm_base.specs.Told.{Tells}
-use Rattle.ktm_base.proofs.ToldSteps.{Tells-map}
+use Rattle.ktm_base.proofs.ToldSteps.{IsSomeAnd-map}
 use Rattle.ktm_journal.specs.Image.{JournalState, JournalAt, HoldsLog, StandsFor}
 use Rattle.ktm_journal.proofs.Images.{what_is_left}
 use Rattle.ktm_world.specs.Durable.{Durable, empty_state, stand, log_applies}
@@ -56,17 +55,17 @@ log_is_possible w on kept = subst (λ p. Contains (possible_by p w.kept w.log) w
     (subst (λ (l : List Group). Contains (prefixes_from (length w.log) l) w.log) (append-nil w.log) (log_possible w.log [])))
 
 -- of a machine that is up
-pub left_up : (k : KernelState) (told : Option DiskState) (w : World) → w.power ≡ up → (stands : Stands k told w) → Tells told (LeavesPossible k.journal stands.before w)
-left_up k told w on stands = Tells-map told (JournalAt k.journal (stands.before ++ w.log)) (LeavesPossible k.journal stands.before w) stands.disk
+pub left_up : (k : KernelState) (told : Option DiskState) (w : World) → w.power ≡ up → (stands : Stands k told w) → IsSomeAnd told (LeavesPossible k.journal stands.before w)
+left_up k told w on stands = IsSomeAnd-map told (JournalAt k.journal (stands.before ++ w.log)) (LeavesPossible k.journal stands.before w) stands.disk
     (λ s at image left. (
       w.log,
       log_is_possible w on (stands.standing.running.kept),
       record { is = what_is_left k.journal (stands.before ++ w.log) s image at left; built = both_built k.journal stands.before w stands.began w.log stands.standing.built.log; applies = both_apply k.journal stands.before w stands.began w.log stands.standing.running.applies },
     ))
 
-left_by : (power : Power) (k : KernelState) (told : Option DiskState) (w : World) → w.power ≡ power → StandsBy (is_up power) k told w → Tells told (LeavesStates w)
-left_by up k told w is stands = Tells-map told _ _ (left_up k told w is stands) (λ s leaves. leaves_states k.journal stands.before w stands.began s leaves)
-left_by (down may) k told w is fallen = Tells-map told _ _ fallen.disk (λ s leaves. leaves_states k.journal fallen.before w fallen.began s leaves)
+left_by : (power : Power) (k : KernelState) (told : Option DiskState) (w : World) → w.power ≡ power → StandsBy (is_up power) k told w → IsSomeAnd told (LeavesStates w)
+left_by up k told w is stands = IsSomeAnd-map told _ _ (left_up k told w is stands) (λ s leaves. leaves_states k.journal stands.before w stands.began s leaves)
+left_by (down may) k told w is fallen = IsSomeAnd-map told _ _ fallen.disk (λ s leaves. leaves_states k.journal fallen.before w fallen.began s leaves)
 
 pub left_law : LeftLaw
 left_law k told w stands = left_by w.power k told w refl stands

@@ -4,12 +4,11 @@ use Rattle.std.proofs.lemmas.Bool.{and_from, and_parts, eq-eqb, lt-ltb, false_fr
 use Rattle.std.proofs.lemmas.List.Folds.{list_all-append}
 use Rattle.std.proofs.lemmas.List.Sums.{sum_by-cons}
 use Rattle.std.specs.List.{list_all}
-use Rattle.std.specs.Prelude.{IsTrue}
+use Rattle.std.specs.Prelude.{IsTrue, IfSome, IsSomeAnd}
 use Rattle.ktm_base.specs.declared.limits.TheConstants.{LEAST_UNITS, MOST_UNITS}
 use Rattle.ktm_base.specs.Disk.{DiskState, DiskStatus, IsSafe}
-use Rattle.ktm_base.specs.Told.{IfTold, Tells}
 use Rattle.ktm_base.proofs.Images.{safe_law}
-use Rattle.ktm_base.proofs.ToldSteps.{Tells-map}
+use Rattle.ktm_base.proofs.ToldSteps.{IsSomeAnd-map}
 use Rattle.ktm_log.specs.declared.area.Area.{Area}
 use Rattle.ktm_log.specs.Log.{LogState}
 use Rattle.ktm_journal.specs.Image.{AreInLog, AreSpelled, JournalState, JournalAt, IsImage, HoldsLog, IsFormatted, StandsFor, LeavesGroupOrNot, left_after, log_area}
@@ -43,9 +42,7 @@ use Rattle.txf_volume.specs.Held.{files_begun, files_of}
 use Rattle.ktm_world.specs.Files.{FilesNow}
 use Rattle.ktm_world.specs.Keys.{Store}
 use Rattle.ktm_log.specs.declared.fault.AppendFault.TheVariants.{Full}
-use Rattle.ktm_kernel.specs.Restarts.{HoldsBoth, base_of, is_full_for_own, Started, LeavesOwnOrNot, IfDown, IfFull, IfLoaded, IfBad, IfUnwritten}
-use Rattle.ktm_kernel.specs.declared.restart.RestartFault.{RestartFault}
-use Rattle.ktm_kernel.specs.declared.restart.RestartFault.TheVariants.{Down, Bad, Full as NoRoom, NoMemory}
+use Rattle.ktm_kernel.specs.Restarts.{HoldsBoth, base_of, is_full_for_own, Started, LeavesOwnOrNot}
 use Rattle.ktm_kernel.specs.Stands.{KernelState, IsReady}
 
 -- ---- what the grammar has
@@ -79,7 +76,7 @@ found_in units image before log state bytes stands holds =
       applies = holds.applies;
     }
 
-pub found : (units image : ℕ) (before log : List Group) (state : Durable) (told : Option DiskState) → IfTold told (λ s. StandsFor state s.seen) → Tells told (HoldsBoth units image before log) → IsFound units image before log state
+pub found : (units image : ℕ) (before log : List Group) (state : Durable) (told : Option DiskState) → IfSome told (λ s. StandsFor state s.seen) → IsSomeAnd told (HoldsBoth units image before log) → IsFound units image before log state
 found units image before log state None stands holds = absurd holds
 found units image before log state (Some s) stands holds = found_in units image before log state s.seen stands holds.1
 
@@ -108,42 +105,6 @@ own_length state built = ap (λ (es : List Event). length es) (own_is state buil
 pub not_full : {T : Type 0} (value : T) (full : Bool) → (IsTrue full → Ok value ≡ Err Full) → full ≡ false
 not_full value full tells = false_from_ne_true full (λ is. let wrong = tells is in cc)
 
--- ---- what is handed on of a start that was not recorded
-
--- whatever it would have given
-abbrev failed : RestartFault → Result Bool RestartFault
-failed fault = Err fault
-
-pub down_on : (fault : RestartFault) (P Q : Type 0) → (P → Q) → IfDown (failed fault) P → IfDown (failed fault) Q
-down_on Down P Q f is = f is
-down_on (Bad offset) P Q f is = tt
-down_on NoRoom P Q f is = tt
-down_on NoMemory P Q f is = tt
-
-pub full_on : (fault : RestartFault) (P Q : Type 0) → (P → Q) → IfFull (failed fault) P → IfFull (failed fault) Q
-full_on Down P Q f is = tt
-full_on (Bad offset) P Q f is = tt
-full_on NoRoom P Q f is = f is
-full_on NoMemory P Q f is = tt
-
-pub loaded_on : (fault : RestartFault) (P : Type 0) → P → IfLoaded (failed fault) P
-loaded_on Down P is = tt
-loaded_on (Bad offset) P is = tt
-loaded_on NoRoom P is = is
-loaded_on NoMemory P is = tt
-
-pub not_bad_on : (fault : RestartFault) (P : ℕ → Type 0) → IfBad (failed fault) (λ offset. ⊥) → IfBad (failed fault) P
-not_bad_on Down P is = tt
-not_bad_on (Bad offset) P is = absurd is
-not_bad_on NoRoom P is = tt
-not_bad_on NoMemory P is = tt
-
-pub unwritten_on : (fault : RestartFault) (P Q : Type 0) → (P → Q) → IfUnwritten (failed fault) P → IfUnwritten (failed fault) Q
-unwritten_on Down P Q f is = tt
-unwritten_on (Bad offset) P Q f is = f is
-unwritten_on NoRoom P Q f is = f is
-unwritten_on NoMemory P Q f is = f is
-
 -- what a machine holds that starts from this state
 abbrev pub fresh_held : Durable → Held
 fresh_held state = record {
@@ -164,8 +125,8 @@ held_fresh m state boot tree next store up boot_is now files next_node keys hand
     ap (λ (fs : FilesNow). record h { files = fs }) files ∙ rw (up, boot_is, now, next_node, keys, handles, is, tree_is, next_is, keys_are) refl
 
 -- what a disk that nothing was written to may leave
-pub unwritten_leaves : (units image : ℕ) (before log : List Group) (told : Option DiskState) → Tells told (HoldsBoth units image before log) → Tells told (LeavesOwnOrNot units image before log)
-unwritten_leaves units image before log told holds = Tells-map told (HoldsBoth units image before log) (LeavesOwnOrNot units image before log) holds
+pub unwritten_leaves : (units image : ℕ) (before log : List Group) (told : Option DiskState) → IsSomeAnd told (HoldsBoth units image before log) → IsSomeAnd told (LeavesOwnOrNot units image before log)
+unwritten_leaves units image before log told holds = IsSomeAnd-map told (HoldsBoth units image before log) (LeavesOwnOrNot units image before log) holds
     (λ s held bytes may. inl (subst (λ (l : List ℕ). HoldsLog units image (before ++ log) l) (sym ((safe_law s bytes held.0).0 may)) held.1))
 
 module _ (units image : ℕ) (before log : List Group) (state : Durable) (is : IsFound units image before log state) where
@@ -194,20 +155,20 @@ module _ (units image : ℕ) (before log : List Group) (state : Durable) (is : I
 
   -- its journal is at the groups that are there
   pub journal_at : (j : JournalState) (old new : Option DiskState)
-      → ((gs : List Group) → Tells old (λ s. IsSafe s × HoldsLog state.units state.image gs s.seen) → Tells new (JournalAt j gs))
-      → Tells old (HoldsBoth units image before log) → Tells new (JournalAt j (before ++ log))
-  journal_at j old new loaded holds = loaded (before ++ log) (Tells-map old (HoldsBoth units image before log) _ holds (λ s held. (held.0, here s.seen held.1)))
+      → ((gs : List Group) → IsSomeAnd old (λ s. IsSafe s × HoldsLog state.units state.image gs s.seen) → IsSomeAnd new (JournalAt j gs))
+      → IsSomeAnd old (HoldsBoth units image before log) → IsSomeAnd new (JournalAt j (before ++ log))
+  journal_at j old new loaded holds = loaded (before ++ log) (IsSomeAnd-map old (HoldsBoth units image before log) _ holds (λ s held. (held.0, here s.seen held.1)))
 
   -- what it has read is in the grammar
   pub found_grammatical : GrammarLaw → (told : Option DiskState)
-      → ((gs : List Group) → Tells told (λ s. HoldsLog state.units state.image gs s.seen) → AreSpelled gs)
-      → Tells told (HoldsBoth units image before log) → (is_log_grammatical before ≡ true) × (is_log_grammatical log ≡ true)
+      → ((gs : List Group) → IsSomeAnd told (λ s. HoldsLog state.units state.image gs s.seen) → AreSpelled gs)
+      → IsSomeAnd told (HoldsBoth units image before log) → (is_log_grammatical before ≡ true) × (is_log_grammatical log ≡ true)
   found_grammatical grammar told spelled holds =
-      let all = spelled (before ++ log) (Tells-map told (HoldsBoth units image before log) _ holds (λ s held. here s.seen held.1)) in
+      let all = spelled (before ++ log) (IsSomeAnd-map told (HoldsBoth units image before log) _ holds (λ s held. here s.seen held.1)) in
       and_parts _ _ (sym (list_all-append (list_all is_grammatical) before log) ∙ log_grammatical grammar (before ++ log) all)
 
   -- what it has left
-  pub left_found : (j : JournalState) (told : Option DiskState) → j.units ≡ state.units → Tells told (JournalAt j (before ++ log)) → j.log.area.len - j.log.end ≡ left_after units before - log_size log
+  pub left_found : (j : JournalState) (told : Option DiskState) → j.units ≡ state.units → IsSomeAnd told (JournalAt j (before ++ log)) → j.log.area.len - j.log.end ≡ left_after units before - log_size log
   left_found j None units_are at = absurd at
   left_found j (Some s) units_are at =
       let left = journal_left j (before ++ log) s at in
@@ -216,7 +177,7 @@ module _ (units image : ℕ) (before log : List Group) (state : Durable) (is : I
       omega arith
 
   -- the log is full exactly where the group of the restart does not fit
-  pub is_full : (j : JournalState) (told : Option DiskState) → j.units ≡ state.units → Tells told (JournalAt j (before ++ log))
+  pub is_full : (j : JournalState) (told : Option DiskState) → j.units ≡ state.units → IsSomeAnd told (JournalAt j (before ++ log))
       → is_full_in (j.log.area.len - j.log.end) (own_group state) ≡ is_full_for_own units image before log
   is_full j told units_are at =
       ap (λ n. is_full_in n (own_group state)) (left_found j told units_are at)
@@ -255,11 +216,11 @@ module _ (units image : ℕ) (before log : List Group) (state : Durable) (is : I
 
   -- of the journal that the group of the restart was added to
   module _ (may : events_apply state (own_group state) ≡ true) (j k : JournalState) (units_are : j.units ≡ state.units) (image_is : j.image ≡ state.image) (old new : Option DiskState)
-      (at : Tells old (JournalAt j (before ++ log))) where
+      (at : IsSomeAnd old (JournalAt j (before ++ log))) where
     pub started : GoodStatesLaw → StandingLaw → FreshLaw → (is_log_grammatical before ≡ true) × (is_log_grammatical log ≡ true) → state.image < 2 ^ 16 → state.units ≤ MOST_UNITS → (kernel : KernelState) (left count doubts : ℕ) → kernel.journal ≡ k → kernel.now ≡ fresh state left → left ≡ k.log.area.len - k.log.end → count ≡ state.events → doubts ≡ 0
         → k.units ≡ j.units → k.image ≡ j.image → k.log.area ≡ j.log.area → k.log.end ≡ j.log.end + frame_size (own_group state)
         → is_full_in (j.log.area.len - j.log.end) (own_group state) ≡ false
-        → ((gs : List Group) → Tells old (JournalAt j gs) → Tells new (JournalAt k (gs ++ own_group state ∷ [])))
+        → ((gs : List Group) → IsSomeAnd old (JournalAt j gs) → IsSomeAnd new (JournalAt k (gs ++ own_group state ∷ [])))
         → Started units image before log kernel count doubts new
     started good law begins grammatical number most kernel left count doubts journal now left_is count_is none k_units k_image area end fits added = record {
       room = sym (is_full j old units_are at) ∙ fits;
@@ -268,16 +229,16 @@ module _ (units image : ℕ) (before log : List Group) (state : Durable) (is : I
         standing = standing good law (subst (λ (n : ℕ). n < 2 ^ 16) is.image_is number) (subst (λ (n : ℕ). n ≤ 1024) is.units_are most) (sym (is_full j old units_are at) ∙ fits) grammatical;
         before = before;
         began = rw (journal, k_units ∙ units_are ∙ is.units_are, k_image ∙ image_is ∙ is.image_is) (record { built = made.0; applies = applied.0; base = refl; room = refl });
-        disk = subst (λ i. Tells new (JournalAt i (before ++ (log ++ own_group (stand base log) ∷ [])))) (sym journal)
-            (subst (λ (gs : List Group). Tells new (JournalAt k gs)) (append_assoc before log (own_group (stand base log) ∷ []))
-            (subst (λ (s : Durable). Tells new (JournalAt k ((before ++ log) ++ own_group s ∷ []))) is.is (added (before ++ log) at)));
+        disk = subst (λ i. IsSomeAnd new (JournalAt i (before ++ (log ++ own_group (stand base log) ∷ [])))) (sym journal)
+            (subst (λ (gs : List Group). IsSomeAnd new (JournalAt k gs)) (append_assoc before log (own_group (stand base log) ∷ []))
+            (subst (λ (s : Durable). IsSomeAnd new (JournalAt k ((before ++ log) ++ own_group s ∷ []))) is.is (added (before ++ log) at)));
       };
       events_are = count_is ∙ ap (λ (s : Durable). s.events) is.is;
       none_in_doubt = none;
     }
 
-    pub cut_off : ((gs : List Group) → Tells old (JournalAt j gs) → Tells new (LeavesGroupOrNot j gs (own_group state))) → Tells new (LeavesOwnOrNot units image before log)
-    cut_off left = Tells-map new _ (LeavesOwnOrNot units image before log) (left (before ++ log) at) (λ s either bytes may_be. elim (either bytes may_be) [
+    pub cut_off : ((gs : List Group) → IsSomeAnd old (JournalAt j gs) → IsSomeAnd new (LeavesGroupOrNot j gs (own_group state))) → IsSomeAnd new (LeavesOwnOrNot units image before log)
+    cut_off left = IsSomeAnd-map new _ (LeavesOwnOrNot units image before log) (left (before ++ log) at) (λ s either bytes may_be. elim (either bytes may_be) [
       | inl without ↦ inl (record { is = same (before ++ log) bytes without; built = is.built; applies = is.applies })
       | inr with_it ↦ inr (record { is = same _ bytes (subst (λ (gs : List Group). IsImage j.units j.image gs bytes) both with_it); built = both_built; applies = both_apply })
     ])
@@ -309,7 +270,7 @@ fresh_now k h state left built units image events left_is is =
 -- a machine that started is ready for calls: its counts do not end, since each event and each boot took bytes of the log
 pub fresh_ready : FreshLaw → (kernel : KernelState) (state : Durable) (log : LogState) (left : ℕ) (told : Option DiskState) (status : DiskStatus) → kernel.now ≡ fresh state left → IsBuiltState state → IsGoodState state
     → AreInLog state log.end → log.end < log.area.len → log.area ≡ log_area state.units → state.units ≤ MOST_UNITS → left ≤ log.area.len
-    → status.is_down ≡ false → status.pending ≡ 0 → IfTold told (λ s. IsFormatted kernel.journal.units kernel.journal.image s.seen) → IsReady kernel told status × (kernel.now.machine.is_up ≡ true)
+    → status.is_down ≡ false → status.pending ≡ 0 → IfSome told (λ s. IsFormatted kernel.journal.units kernel.journal.image s.seen) → IsReady kernel told status × (kernel.now.machine.is_up ≡ true)
 fresh_ready law kernel state log left told status now built good counted inside area most few up settled formatted = (
   record {
     powered = record { power = λ on. up; settled = λ on. settled; image = λ on. formatted };

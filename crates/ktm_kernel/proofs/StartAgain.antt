@@ -1,11 +1,10 @@
 -- A machine that is down, whose disk has the power back, and is started again.
 use Rattle.std.proofs.Common.{◌≡◌, ℕ, ◌+◌, ◌-◌, ◌*◌, ◌≤◌, Bool, true, false, List, [], ◌∷◌, ◌++◌, length, Option, None, Some, refl, sym, ◌∙◌, ap, subst, arith, inl, inr}
-use Rattle.std.specs.Prelude.{Contains}
+use Rattle.std.specs.Prelude.{Contains, IfSome, IsSomeAnd}
 use Rattle.ktm_base.specs.declared.refusal.Refusal.TheVariants.{MachineDown, LogFull}
 use Rattle.ktm_base.specs.Disk.{DiskState}
-use Rattle.ktm_base.specs.Told.{IfTold, Tells}
 use Rattle.ktm_base.proofs.Images.{safe_law, power_law as images_power_law}
-use Rattle.ktm_base.proofs.ToldSteps.{Tells-map, Tells-step}
+use Rattle.ktm_base.proofs.ToldSteps.{IsSomeAnd-map, IsSomeAnd-step}
 use Rattle.ktm_journal.specs.Bad.{IsBadAt}
 use Rattle.ktm_journal.specs.Image.{IsHeaded, HoldsLog}
 use Rattle.ktm_journal.proofs.OneImage.{not_bad}
@@ -41,14 +40,14 @@ power_law law k old new w off at = (
     standing = fallen.standing;
     before = fallen.before;
     began = fallen.began;
-    disk = Tells-step old new (LeavesPossible k.journal fallen.before w) _ fallen.disk restored (λ a b leaves back. (back.safe, leaves b.seen back.left));
+    disk = IsSomeAnd-step old new (LeavesPossible k.journal fallen.before w) _ fallen.disk restored (λ a b leaves back. (back.safe, leaves b.seen back.left));
   },
   λ failed. record {
     now = fallen.now ∙ off_present w off (possible_logs (interrupted_restart w));
     standing = law.interrupted_restarts w fallen.standing;
     before = fallen.before;
     began = began_on k.journal k.journal fallen.before w (interrupted_restart w) refl refl refl refl fallen.began;
-    disk = Tells-step old new (LeavesPossible k.journal fallen.before w) (LeavesPossible k.journal fallen.before (interrupted_restart w)) fallen.disk failed (λ a b leaves again image may.
+    disk = IsSomeAnd-step old new (LeavesPossible k.journal fallen.before w) (LeavesPossible k.journal fallen.before (interrupted_restart w)) fallen.disk failed (λ a b leaves again image may.
         let (log, possible, holds) = leaves image ((images_power_law a b image may).1 again) in
         (log, in_first (possible_logs w) _ log possible, holds));
   },
@@ -86,7 +85,7 @@ module _ (law : StandingLaw) (k : KernelState) (told now : Option DiskState) (w 
     subst (λ (s : Durable). KernelAt new now (opened s w.room log)) (sym at.began.base) (subst (λ n. KernelAt new now (opened base n log)) (sym at.began.room) starts.stands),
   )
 
-  cut : (log : List Group) → Contains (possible_logs w) log → Tells now (LeavesOwnOrNot k.journal.units k.journal.image at.before log) → DoesLine w (Some (Restart pick)) (Refused MachineDown) k now
+  cut : (log : List Group) → Contains (possible_logs w) log → IsSomeAnd now (LeavesOwnOrNot k.journal.units k.journal.image at.before log) → DoesLine w (Some (Restart pick)) (Refused MachineDown) k now
   cut log possible leaves = (
     interrupted,
     interrupted_restart w,
@@ -96,7 +95,7 @@ module _ (law : StandingLaw) (k : KernelState) (told now : Option DiskState) (w 
       standing = law.interrupted_restarts w at.standing;
       before = at.before;
       began = began_on k.journal k.journal at.before w (interrupted_restart w) refl refl refl refl at.began;
-      disk = Tells-map now (LeavesOwnOrNot k.journal.units k.journal.image at.before log) (LeavesPossible k.journal at.before (interrupted_restart w)) leaves (λ s either image may. elim (either image may) [
+      disk = IsSomeAnd-map now (LeavesOwnOrNot k.journal.units k.journal.image at.before log) (LeavesPossible k.journal at.before (interrupted_restart w)) leaves (λ s either image may. elim (either image may) [
         | inl without ↦ (log, in_first (possible_logs w) _ log possible, without)
         | inr with_it ↦ (
           log ++ own_group (stand w.base log) ∷ [],
@@ -107,7 +106,7 @@ module _ (law : StandingLaw) (k : KernelState) (told now : Option DiskState) (w 
     },
   )
 
-  stays : (log : List Group) → Contains (possible_logs w) log → is_full_for_own k.journal.units k.journal.image at.before log ≡ true → Tells now (HoldsBoth k.journal.units k.journal.image at.before log)
+  stays : (log : List Group) → Contains (possible_logs w) log → is_full_for_own k.journal.units k.journal.image at.before log ≡ true → IsSomeAnd now (HoldsBoth k.journal.units k.journal.image at.before log)
       → DoesLine w (Some (Restart pick)) (Refused LogFull) k now
   stays log possible is holds = (
     full log,
@@ -118,7 +117,7 @@ module _ (law : StandingLaw) (k : KernelState) (told now : Option DiskState) (w 
       standing = law.full_restarts w log (record { possible = possible; room = full_is log true is }) at.standing;
       before = at.before;
       began = began_on k.journal k.journal at.before w (found_full w log) refl refl refl refl at.began;
-      disk = Tells-map now (HoldsBoth k.journal.units k.journal.image at.before log) (LeavesPossible k.journal at.before (found_full w log)) holds (λ s held image may. (
+      disk = IsSomeAnd-map now (HoldsBoth k.journal.units k.journal.image at.before log) (LeavesPossible k.journal at.before (found_full w log)) holds (λ s held image may. (
         log,
         first_is log [],
         subst (λ (l : List ℕ). HoldsLog k.journal.units k.journal.image (at.before ++ log) l) (sym ((safe_law s image held.0).0 may)) held.1,
@@ -129,7 +128,7 @@ module _ (law : StandingLaw) (k : KernelState) (told now : Option DiskState) (w 
 -- ---- the answers of a restart, for the log that the disk holds
 
 pub started_line : StandingLaw → (k new : KernelState) (events in_doubt : ℕ) (told now : Option DiskState)
-    → ((units image : ℕ) (before log : List Group) → Tells told (HoldsBoth units image before log) → Started units image before log new events in_doubt now)
+    → ((units image : ℕ) (before log : List Group) → IsSomeAnd told (HoldsBoth units image before log) → Started units image before log new events in_doubt now)
     → (pick : ℕ) (w : World) → FoundAt k told w → DoesLine w (Some (Restart pick)) (Restarted events in_doubt) new now
 started_line law k new events in_doubt None now starts pick w at = absurd at.disk
 started_line law k new events in_doubt (Some s) now starts pick w at =
@@ -138,7 +137,7 @@ started_line law k new events in_doubt (Some s) now starts pick w at =
     started law k (Some s) now w pick at new events in_doubt log possible (starts k.journal.units k.journal.image at.before log (safe, holds))
 
 pub interrupted_line : StandingLaw → (k : KernelState) (told now : Option DiskState)
-    → ((units image : ℕ) (before log : List Group) → Tells told (HoldsBoth units image before log) → Tells now (LeavesOwnOrNot units image before log))
+    → ((units image : ℕ) (before log : List Group) → IsSomeAnd told (HoldsBoth units image before log) → IsSomeAnd now (LeavesOwnOrNot units image before log))
     → (pick : ℕ) (w : World) → FoundAt k told w → DoesLine w (Some (Restart pick)) (Refused MachineDown) k now
 interrupted_line law k None now leaves pick w at = absurd at.disk
 interrupted_line law k (Some s) now leaves pick w at =
@@ -147,17 +146,17 @@ interrupted_line law k (Some s) now leaves pick w at =
     cut law k (Some s) now w pick at log possible (leaves k.journal.units k.journal.image at.before log (safe, holds))
 
 pub full_line : StandingLaw → (k : KernelState) (told now : Option DiskState) → now ≡ told
-    → ((units image : ℕ) (before log : List Group) → Tells told (HoldsBoth units image before log) → is_full_for_own units image before log ≡ true)
+    → ((units image : ℕ) (before log : List Group) → IsSomeAnd told (HoldsBoth units image before log) → is_full_for_own units image before log ≡ true)
     → (pick : ℕ) (w : World) → FoundAt k told w → DoesLine w (Some (Restart pick)) (Refused LogFull) k now
 full_line law k None now same is pick w at = absurd at.disk
 full_line law k (Some s) now same is pick w at =
     let (safe, held) = at.disk in
     let (log, possible, holds) = held in
     stays law k (Some s) now w pick at log possible (is k.journal.units k.journal.image at.before log (safe, holds))
-    (subst (λ d. Tells d (HoldsBoth k.journal.units k.journal.image at.before log)) (sym same) (safe, holds))
+    (subst (λ d. IsSomeAnd d (HoldsBoth k.journal.units k.journal.image at.before log)) (sym same) (safe, holds))
 
 -- what holds one of the logs is not bad
-pub found_is_good : (k : KernelState) (told : Option DiskState) (offset : ℕ) → IfTold told (λ s. IsBadAt s.seen offset) → (w : World) → FoundAt k told w → ⊥
+pub found_is_good : (k : KernelState) (told : Option DiskState) (offset : ℕ) → IfSome told (λ s. IsBadAt s.seen offset) → (w : World) → FoundAt k told w → ⊥
 found_is_good k None offset bad w at = absurd at.disk
 found_is_good k (Some s) offset bad w at =
     let (safe, held) = at.disk in
@@ -165,7 +164,7 @@ found_is_good k (Some s) offset bad w at =
     not_bad (stand w.base log) s.seen offset (stands_for k.journal at.before w at.began log s.seen holds) bad
 
 -- it takes as many device calls as the units of the run's image ask for
-pub found_few : (k : KernelState) (told : Option DiskState) (a b : ℕ) → ((units image : ℕ) → Tells told (λ s. IsHeaded units image s.seen) → b ≤ a + (8 * units + 68))
+pub found_few : (k : KernelState) (told : Option DiskState) (a b : ℕ) → ((units image : ℕ) → IsSomeAnd told (λ s. IsHeaded units image s.seen) → b ≤ a + (8 * units + 68))
     → (w : World) → FoundAt k told w → b ≤ a + (8 * w.base.units + 68)
 found_few k None a b few w at = absurd at.disk
 found_few k (Some s) a b few w at =

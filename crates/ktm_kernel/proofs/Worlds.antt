@@ -1,13 +1,12 @@
 -- From what an outcome did to what it is for the world that the machine stands for.
 use Rattle.std.proofs.Common.{◌≡◌, ℕ, Bool, true, false, not, List, [], ◌∷◌, ◌++◌, length, Option, Some, Result, Ok, Err, IfOk, refl, sym, ◌∙◌, ap, subst, inl, inr, append_assoc}
 use Rattle.std.proofs.lemmas.List.{append-nil}
-use Rattle.std.specs.Prelude.{Contains}
+use Rattle.std.specs.Prelude.{Contains, IsSomeAnd}
 use Rattle.ktm_base.specs.declared.fault.NoMemory.{NoMemory}
 use Rattle.ktm_base.specs.declared.id.Pid.{Pid}
 use Rattle.ktm_base.specs.declared.refusal.Refusal.TheVariants.{MachineDown}
 use Rattle.ktm_base.specs.Disk.{DiskState}
-use Rattle.ktm_base.specs.Told.{Tells}
-use Rattle.ktm_base.proofs.ToldSteps.{Tells-map}
+use Rattle.ktm_base.proofs.ToldSteps.{IsSomeAnd-map}
 use Rattle.ktm_journal.specs.Image.{JournalState, JournalAt, IsImage, HoldsLog}
 use Rattle.ktm_journal.proofs.Images.{what_is_left}
 use Rattle.ktm_types.specs.declared.command.Command.{Command}
@@ -84,7 +83,7 @@ module _ (old new : KernelState) (o : Outcome) (reply : Reply) (before now : Opt
   now_then : IsDone old o reply new before now → new.now ≡ present (extend w o)
   now_then done = done.state ∙ ap (λ x. apply x o) stands.now ∙ sym (step_law.0 w o stands.standing.running.openings)
 
-  log_then : IsDone old o reply new before now → Tells now (JournalAt new.journal ((stands.before ++ w.log) ++ groups))
+  log_then : IsDone old o reply new before now → IsSomeAnd now (JournalAt new.journal ((stands.before ++ w.log) ++ groups))
   unfolding groups
   log_then done = done.log (stands.before ++ w.log) stands.disk
 
@@ -95,7 +94,7 @@ module _ (old new : KernelState) (o : Outcome) (reply : Reply) (before now : Opt
     standing = keeps.stands;
     before = stands.before;
     began = began_on old.journal new.journal stands.before w (extend w o) done.units done.image refl refl stands.began;
-    disk = subst (λ (l : List Group). Tells now (JournalAt new.journal l)) (append_assoc stands.before w.log groups) (log_then done);
+    disk = subst (λ (l : List Group). IsSomeAnd now (JournalAt new.journal l)) (append_assoc stands.before w.log groups) (log_then done);
   }
 
   done_stopped : IsDone old o reply new before now → o.stops ≡ true → HasFallen new now (extend w o)
@@ -105,7 +104,7 @@ module _ (old new : KernelState) (o : Outcome) (reply : Reply) (before now : Opt
     standing = keeps.stands;
     before = stands.before;
     began = began_on old.journal new.journal stands.before w (extend w o) done.units done.image refl refl stands.began;
-    disk = Tells-map now (JournalAt new.journal ((stands.before ++ w.log) ++ groups)) (LeavesPossible new.journal stands.before (extend w o)) (log_then done) (λ s at image left. (
+    disk = IsSomeAnd-map now (JournalAt new.journal ((stands.before ++ w.log) ++ groups)) (LeavesPossible new.journal stands.before (extend w o)) (log_then done) (λ s at image left. (
       w.log,
       subst (λ b. Contains (possible_by (power_after b w) (extend w o).kept (extend w o).log) w.log) (sym stops) (log_is_possible w on stands.standing.running.kept),
       record {
@@ -129,9 +128,9 @@ module _ (old new : KernelState) (o : Outcome) (reply : Reply) (before now : Opt
   pub done_line : IsDone old o reply new before now → DoesCall w o reply new now
   done_line done = (answered, extend w o, (done.says, refl), done_stands done o.stops refl)
 
-  left : IsCutOff old o reply new before now → Tells now (LeavesPossible new.journal stands.before (interrupted_by w o))
+  left : IsCutOff old o reply new before now → IsSomeAnd now (LeavesPossible new.journal stands.before (interrupted_by w o))
   unfolding groups
-  left cut = Tells-map now _ (LeavesPossible new.journal stands.before (interrupted_by w o)) (cut.log (stands.before ++ w.log) stands.disk)
+  left cut = IsSomeAnd-map now _ (LeavesPossible new.journal stands.before (interrupted_by w o)) (cut.log (stands.before ++ w.log) stands.disk)
       (λ s either image may. elim (either image may) [
         | inl without ↦ (w.log, kept (log_possible w.log groups), same (record { is = without; built = both_built old.journal stands.before w stands.began w.log stands.standing.built.log; applies = both_apply old.journal stands.before w stands.began w.log stands.standing.running.applies }))
         | inr with_it ↦ (

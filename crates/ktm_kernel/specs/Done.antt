@@ -1,9 +1,8 @@
 -- What an outcome did to the machine and to the groups on its disk, for whatever world it stands for.
-use Rattle.std.specs.Prelude.{◌≡◌, ◌≢◌, ◌⊎◌, ℕ, Bool, true, false, List, [], ◌++◌, Option}
+use Rattle.std.specs.Prelude.{◌≡◌, ◌≢◌, ◌⊎◌, ℕ, Bool, true, false, List, [], ◌++◌, Option, IsSomeAnd}
 use Rattle.ktm_base.specs.declared.refusal.Refusal.{Refusal}
 use Rattle.ktm_base.specs.declared.refusal.Refusal.TheVariants.{MachineDown}
 use Rattle.ktm_base.specs.Disk.{DiskState, MayLeave}
-use Rattle.ktm_base.specs.Told.{Tells}
 use Rattle.ktm_journal.specs.Image.{JournalState, JournalAt, IsImage}
 use Rattle.ktm_types.specs.declared.reply.Reply.{Reply}
 use Rattle.ktm_types.specs.declared.reply.Reply.TheVariants.{Refused}
@@ -18,7 +17,7 @@ pub record IsDone (old : KernelState) (o : Outcome) (reply : Reply) (new : Kerne
   pub state : new.now ≡ apply old.now o
   pub units : new.journal.units ≡ old.journal.units
   pub image : new.journal.image ≡ old.journal.image
-  pub log : (log : List Group) → Tells before (JournalAt old.journal log) → Tells now (JournalAt new.journal (log ++ as_groups o.events))
+  pub log : (log : List Group) → IsSomeAnd before (JournalAt old.journal log) → IsSomeAnd now (JournalAt new.journal (log ++ as_groups o.events))
 
 -- what is so once the machine is down
 abbrev pub fallen : Present → Present
@@ -33,7 +32,7 @@ pub record IsCutOff (old : KernelState) (o : Outcome) (reply : Reply) (new : Ker
   pub says : reply ≡ Refused MachineDown
   pub state : new.now ≡ fallen old.now
   pub journal : new.journal ≡ old.journal
-  pub log : (log : List Group) → Tells before (JournalAt old.journal log) → Tells now (LeavesWithOr old.journal log (as_groups o.events))
+  pub log : (log : List Group) → IsSomeAnd before (JournalAt old.journal log) → IsSomeAnd now (LeavesWithOr old.journal log (as_groups o.events))
 
 -- by whether the disk is down then
 abbrev pub Ends : Bool → KernelState → Outcome → Reply → KernelState → Option DiskState → Option DiskState → Type 0

@@ -38,46 +38,6 @@ abbrev pub LeavesOwnOrNot : ℕ → ℕ → List Group → List Group → DiskSt
 LeavesOwnOrNot units image before log s = (bytes : List ℕ) → MayLeave s bytes
     → HoldsLog units image (before ++ log) bytes ⊎ HoldsLog units image (before ++ (log ++ own_group (stand (base_of units image before) log) ∷ [])) bytes
 
--- the fact, where a restart found the disk down
-abbrev pub IfDown : {T : Type 0} → Result T RestartFault → Type 0 → Type 0
-IfDown (Ok value) P = Unit {0}
-IfDown (Err Down) P = P
-IfDown (Err (Bad offset)) P = Unit {0}
-IfDown (Err Full) P = Unit {0}
-IfDown (Err NoMemory) P = Unit {0}
-
--- the fact, where it found the log full
-abbrev pub IfFull : {T : Type 0} → Result T RestartFault → Type 0 → Type 0
-IfFull (Ok value) P = Unit {0}
-IfFull (Err Down) P = Unit {0}
-IfFull (Err (Bad offset)) P = Unit {0}
-IfFull (Err Full) P = P
-IfFull (Err NoMemory) P = Unit {0}
-
--- the fact, where it could open the image
-abbrev pub IfLoaded : {T : Type 0} → Result T RestartFault → Type 0 → Type 0
-IfLoaded (Ok value) P = P
-IfLoaded (Err Down) P = Unit {0}
-IfLoaded (Err (Bad offset)) P = Unit {0}
-IfLoaded (Err Full) P = P
-IfLoaded (Err NoMemory) P = Unit {0}
-
--- the fact of the offset, where it found the image bad
-abbrev pub IfBad : {T : Type 0} → Result T RestartFault → (ℕ → Type 0) → Type 0
-IfBad (Ok value) P = Unit {0}
-IfBad (Err Down) P = Unit {0}
-IfBad (Err (Bad offset)) P = P offset
-IfBad (Err Full) P = Unit {0}
-IfBad (Err NoMemory) P = Unit {0}
-
--- the fact, where it wrote nothing
-abbrev pub IfUnwritten : {T : Type 0} → Result T RestartFault → Type 0 → Type 0
-IfUnwritten (Ok value) P = Unit {0}
-IfUnwritten (Err Down) P = Unit {0}
-IfUnwritten (Err (Bad offset)) P = P
-IfUnwritten (Err Full) P = P
-IfUnwritten (Err NoMemory) P = P
-
 -- did it find the disk down
 abbrev pub restart_went_down : {T : Type 0} → Result T RestartFault → Bool
 restart_went_down (Ok value) = false

@@ -1,8 +1,8 @@
 -- When a machine with its disk stands for a world.
-use Rattle.std.specs.Prelude.{◌≡◌, ℕ, Bool, true, false, List, ◌++◌, Option, Contains, IsTrue}
+use Rattle.std.specs.Prelude.{◌≡◌, ℕ, Bool, true, false, List, ◌++◌, Option, Contains, IsTrue, IfSome, IsSomeAnd}
 use Rattle.ktm_base.specs.Disk.{DiskState, DiskStatus, MayLeave, IsSafe}
 use Rattle.ktm_base.specs.Power.{Restored, NotRestored}
-use Rattle.ktm_base.specs.Told.{Tells, IfTold, Goes}
+use Rattle.ktm_base.specs.Told.{Goes}
 use Rattle.ktm_journal.specs.Image.{JournalState, JournalAt, HoldsLog, IsFormatted, StandsFor, left_after}
 use Rattle.ktm_types.specs.declared.command.Line.{Line}
 use Rattle.ktm_types.specs.declared.reply.Reply.{Reply}
@@ -32,7 +32,7 @@ pub record Stands (k : KernelState) (told : Option DiskState) (w : World) : Type
   pub standing : IsStanding w
   pub before : List Group
   pub began : Began k.journal before w
-  pub disk : Tells told (JournalAt k.journal (before ++ w.log))
+  pub disk : IsSomeAnd told (JournalAt k.journal (before ++ w.log))
 
 -- each image that a loss of power may leave holds what the run began with and one of the possible logs
 abbrev pub LeavesPossible : JournalState → List Group → World → DiskState → Type 0
@@ -44,7 +44,7 @@ pub record HasFallen (k : KernelState) (told : Option DiskState) (w : World) : T
   pub standing : IsStanding w
   pub before : List Group
   pub began : Began k.journal before w
-  pub disk : Tells told (LeavesPossible k.journal before w)
+  pub disk : IsSomeAnd told (LeavesPossible k.journal before w)
 
 -- the same, by whether the world's machine is up
 abbrev pub StandsBy : Bool → KernelState → Option DiskState → World → Type 0
@@ -63,7 +63,7 @@ DoesLine w line reply k told = (step : Step) × (new : World) × Does w line ste
 pub record IsPowered (k : KernelState) (told : Option DiskState) (status : DiskStatus) : Type 0 where
   pub power : k.now.machine.is_up ≡ true → status.is_down ≡ false
   pub settled : k.now.machine.is_up ≡ true → status.pending ≡ 0
-  pub image : k.now.machine.is_up ≡ true → IfTold told (λ s. IsFormatted k.journal.units k.journal.image s.seen)
+  pub image : k.now.machine.is_up ≡ true → IfSome told (λ s. IsFormatted k.journal.units k.journal.image s.seen)
 
 -- and it keeps what it is to keep of what is so now
 pub record IsReady (k : KernelState) (told : Option DiskState) (status : DiskStatus) : Type 0 where
@@ -77,7 +77,7 @@ pub record FoundAt (k : KernelState) (told : Option DiskState) (w : World) : Typ
   pub standing : IsStanding w
   pub before : List Group
   pub began : Began k.journal before w
-  pub disk : Tells told (λ s. IsSafe s × ((log : List Group) × Contains (possible_logs w) log × HoldsLog k.journal.units k.journal.image (before ++ log) s.seen))
+  pub disk : IsSomeAnd told (λ s. IsSafe s × ((log : List Group) × Contains (possible_logs w) log × HoldsLog k.journal.units k.journal.image (before ++ log) s.seen))
 
 -- each image that a loss of power may leave stands for the state that one of the possible logs comes to
 abbrev pub LeavesStates : World → DiskState → Type 0
@@ -85,7 +85,7 @@ LeavesStates w s = (image : List ℕ) → MayLeave s image → (log : List Group
 
 -- a loss of power leaves the state of one of the possible logs
 abbrev pub LeftLaw : Type 0
-LeftLaw = (k : KernelState) (told : Option DiskState) (w : World) → KernelAt k told w → Tells told (LeavesStates w)
+LeftLaw = (k : KernelState) (told : Option DiskState) (w : World) → KernelAt k told w → IsSomeAnd told (LeavesStates w)
 
 -- what giving the power back to the disk of a machine that is down makes of it: one of the possible logs is found; or the power
 -- failed again, and what may be left is among the possible logs of the interrupted restart
@@ -95,4 +95,4 @@ PowerLaw = (k : KernelState) (old new : Option DiskState) (w : World) → is_up 
 
 -- what was found is safe, so a loss of power leaves its state
 abbrev pub FoundLaw : Type 0
-FoundLaw = (k : KernelState) (told : Option DiskState) (w : World) → FoundAt k told w → Tells told (LeavesStates w)
+FoundLaw = (k : KernelState) (told : Option DiskState) (w : World) → FoundAt k told w → IsSomeAnd told (LeavesStates w)

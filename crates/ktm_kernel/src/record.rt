@@ -1,10 +1,9 @@
 // Recording what a command has to record.
-ghost use Rattle.std.specs.Prelude.{◌≡◌, ◌-◌, true, false, List, [], ◌++◌, Err, IfErr, OnOk};
+ghost use Rattle.std.specs.Prelude.{◌≡◌, ◌-◌, true, false, List, [], ◌++◌, IfErr, IsErrOf, OnOk, IfSome, IsSomeAnd};
 ghost use Rattle.ktm_base.specs.Disk.{DeviceCalls};
-ghost use Rattle.ktm_base.specs.Told.{IfTold, Tells};
 ghost use Rattle.ktm_event.specs.Kept.{Holds};
 ghost use Rattle.ktm_journal.specs.Image.{IsFormatted, JournalAt};
-ghost use Rattle.ktm_log.specs.Fault.{IfAppendDown, append_went_down};
+ghost use Rattle.ktm_log.specs.Fault.{append_went_down};
 ghost use Rattle.ktm_world.specs.Logs.{Group, as_groups};
 ghost use Rattle.ktm_world.specs.Outcome.{is_full};
 ghost use Rattle.ktm_kernel.specs.Done.{LeavesWithOr};
@@ -22,20 +21,20 @@ pub(crate) fn record<D: Disk>(
 ) -> Result<(), AppendFault>
     requires up { (D.status disk.old).is_down ≡ false }
     requires pending { (D.status disk.old).pending ≡ 0 }
-    requires formatted { IfTold (D.told disk.old) (λ s. IsFormatted journal.old.units journal.old.image s.seen) }
+    requires formatted { IfSome (D.told disk.old) (λ s. IsFormatted journal.old.units journal.old.image s.seen) }
     ensures grows { OnOk result ((group : Group) → Holds events.now group → journal.new ≡ appended journal.old group) }
     ensures log { OnOk result ((log : List Group) (group : Group) → Holds events.now group
-        → Tells (D.told disk.old) (JournalAt journal.old log) → Tells (D.told disk.new) (JournalAt journal.new (log ++ as_groups group))) }
+        → IsSomeAnd (D.told disk.old) (JournalAt journal.old log) → IsSomeAnd (D.told disk.new) (JournalAt journal.new (log ++ as_groups group))) }
     ensures room { OnOk result ((group : Group) → Holds events.now group → is_full (journal.old.log.area.len - journal.old.log.end) group ≡ false) }
     ensures none { OnOk result (Holds events.now [] → (D.told disk.new ≡ D.told disk.old) × (D.status disk.new ≡ D.status disk.old)) }
     ensures refused { IfErr result (λ fault. journal.new ≡ journal.old) }
     ensures some { IfErr result (λ fault. Holds events.now [] → ⊥) }
-    ensures full { (result ≡ Err AppendFault.Full) → ((group : Group) → Holds events.now group → is_full (journal.old.log.area.len - journal.old.log.end) group ≡ true)
+    ensures full { IsErrOf result AppendFault.Full → ((group : Group) → Holds events.now group → is_full (journal.old.log.area.len - journal.old.log.end) group ≡ true)
         × (D.told disk.new ≡ D.told disk.old) × (D.status disk.new ≡ D.status disk.old) }
-    ensures cut { IfAppendDown result ((log : List Group) (group : Group) → Holds events.now group
-        → Tells (D.told disk.old) (JournalAt journal.old log) → Tells (D.told disk.new) (LeavesWithOr journal.old log (as_groups group))) }
-    ensures cut_room { IfAppendDown result ((group : Group) → Holds events.now group → is_full (journal.old.log.area.len - journal.old.log.end) group ≡ false) }
-    ensures formatted { OnOk result (IfTold (D.told disk.new) (λ s. IsFormatted journal.new.units journal.new.image s.seen)) }
+    ensures cut { IsErrOf result AppendFault.Down → (log : List Group) (group : Group) → Holds events.now group
+        → IsSomeAnd (D.told disk.old) (JournalAt journal.old log) → IsSomeAnd (D.told disk.new) (LeavesWithOr journal.old log (as_groups group)) }
+    ensures cut_room { IsErrOf result AppendFault.Down → (group : Group) → Holds events.now group → is_full (journal.old.log.area.len - journal.old.log.end) group ≡ false }
+    ensures formatted { OnOk result (IfSome (D.told disk.new) (λ s. IsFormatted journal.new.units journal.new.image s.seen)) }
     ensures pending { OnOk result ((D.status disk.new).pending ≡ 0) }
     ensures up { OnOk result ((D.status disk.new).is_down ≡ false) }
     ensures calls { DeviceCalls 4 (D.status disk.old) (D.status disk.new) (append_went_down result) }

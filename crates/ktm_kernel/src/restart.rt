@@ -1,12 +1,11 @@
 // Starting the machine from its disk.
-ghost use Rattle.std.specs.Prelude.{◌≡◌, ◌+◌, ◌-◌, ◌*◌, ◌^◌, ◌<◌, ◌≤◌, ◌∷◌, ◌++◌, ℕ, List, IfOk, OnOk, OnErr, Some, true, false, [], vec_capacity};
+ghost use Rattle.std.specs.Prelude.{◌≡◌, ◌+◌, ◌-◌, ◌*◌, ◌^◌, ◌<◌, ◌≤◌, ◌∷◌, ◌++◌, ℕ, List, IfOk, OnOk, IfErr, OnErr, IsErrOf, ◌≢◌, Some, true, false, [], vec_capacity, IfSome, IsSomeAnd};
 ghost use Rattle.ktm_base.specs.declared.limits.TheConstants.{MOST_UNITS};
 ghost use Rattle.ktm_event.specs.Kept.{Holds};
 ghost use Rattle.ktm_base.specs.Count.{Rose};
 ghost use Rattle.ktm_base.specs.declared.refusal.Refusal.TheVariants.{MachineDown, MachineUp};
 ghost use Rattle.ktm_types.specs.declared.command.Line.TheVariants.{Restart};
 ghost use Rattle.ktm_types.specs.declared.reply.Reply.TheVariants.{Refused};
-ghost use Rattle.ktm_base.specs.Told.{IfTold, Tells};
 ghost use Rattle.ktm_base.specs.Disk.{DeviceCalls};
 ghost use Rattle.ktm_journal.specs.Bad.{IsBadAt};
 ghost use Rattle.ktm_built.specs.Standing.{fresh};
@@ -19,7 +18,7 @@ ghost use Rattle.ktm_world.specs.Outcome.{is_full};
 ghost use Rattle.ktm_world.specs.World.{World, own_group};
 ghost use Rattle.ktm_kernel.specs.Memory.{IsRoomy};
 ghost use Rattle.ktm_world.specs.Logs.{Group};
-ghost use Rattle.ktm_kernel.specs.Restarts.{HoldsBoth, Started, LeavesOwnOrNot, is_full_for_own, IfDown, IfFull, IfLoaded, IfBad, IfUnwritten, IfUnwrittenBy, restart_went_down};
+ghost use Rattle.ktm_kernel.specs.Restarts.{HoldsBoth, Started, LeavesOwnOrNot, is_full_for_own, IfUnwrittenBy, restart_went_down};
 ghost use Rattle.ktm_kernel.specs.Stands.{IsReady, FoundAt, DoesLine};
 
 use crate::kernel::Kernel;
@@ -70,20 +69,20 @@ fn record_start<D: Disk>(
     requires most { journal.old.units ≤ MOST_UNITS }
     requires reserved { area_len journal.old.units ≤ vec_capacity buffer.old }
     requires pending { (D.status disk.old).pending ≡ 0 }
-    requires formatted { IfTold (D.told disk.old) (λ s. IsFormatted journal.old.units journal.old.image s.seen) }
+    requires formatted { IfSome (D.told disk.old) (λ s. IsFormatted journal.old.units journal.old.image s.seen) }
     ensures units { journal.new.units ≡ journal.old.units }
     ensures image { journal.new.image ≡ journal.old.image }
     ensures area { journal.new.log.area ≡ journal.old.log.area }
     ensures end { OnOk result (journal.new.log.end ≡ journal.old.log.end + frame_size (own_group state.now)) }
     ensures counted { OnOk result (journal.new.events ≡ journal.old.events + 1) }
     ensures room { OnOk result (is_full (journal.old.log.area.len - journal.old.log.end) (own_group state.now) ≡ false) }
-    ensures full { IfFull result (is_full (journal.old.log.area.len - journal.old.log.end) (own_group state.now) ≡ true) }
-    ensures same { IfUnwritten result (D.told disk.new ≡ D.told disk.old) }
-    ensures waits { IfUnwritten result ((D.status disk.new).pending ≡ (D.status disk.old).pending) }
-    ensures adds { OnOk result ((log : List Group) → Tells (D.told disk.old) (JournalAt journal.old log) → Tells (D.told disk.new) (JournalAt journal.new (log ++ own_group state.now ∷ []))) }
-    ensures down { IfDown result ((log : List Group) → Tells (D.told disk.old) (JournalAt journal.old log) → Tells (D.told disk.new) (LeavesGroupOrNot journal.old log (own_group state.now))) }
-    ensures good { IfBad result (λ offset. ⊥) }
-    ensures formatted { OnOk result (IfTold (D.told disk.new) (λ s. IsFormatted journal.new.units journal.new.image s.seen)) }
+    ensures full { IsErrOf result RestartFault.Full → is_full (journal.old.log.area.len - journal.old.log.end) (own_group state.now) ≡ true }
+    ensures same { IfErr result (λ fault. fault ≢ RestartFault.Down → D.told disk.new ≡ D.told disk.old) }
+    ensures waits { IfErr result (λ fault. fault ≢ RestartFault.Down → (D.status disk.new).pending ≡ (D.status disk.old).pending) }
+    ensures adds { OnOk result ((log : List Group) → IsSomeAnd (D.told disk.old) (JournalAt journal.old log) → IsSomeAnd (D.told disk.new) (JournalAt journal.new (log ++ own_group state.now ∷ []))) }
+    ensures down { IsErrOf result RestartFault.Down → (log : List Group) → IsSomeAnd (D.told disk.old) (JournalAt journal.old log) → IsSomeAnd (D.told disk.new) (LeavesGroupOrNot journal.old log (own_group state.now)) }
+    ensures good { (offset : ℕ) → IsErrOf result (RestartFault.Bad offset) → ⊥ }
+    ensures formatted { OnOk result (IfSome (D.told disk.new) (λ s. IsFormatted journal.new.units journal.new.image s.seen)) }
     ensures settled { OnOk result ((D.status disk.new).pending ≡ 0) }
     ensures up { OnOk result ((D.status disk.new).is_down ≡ false) }
     ensures calls { DeviceCalls 4 (D.status disk.old) (D.status disk.new) (restart_went_down result) }
@@ -163,20 +162,21 @@ impl Kernel {
         buffer: &mut Vec<u8>,
     ) -> Result<Restarted, RestartFault>
         requires pending { (D.status disk.old).pending ≡ 0 }
-        ensures starts { IfOk result (λ restarted. (units image : ℕ) (before log : List Group) → Tells (D.told disk.old) (HoldsBoth units image before log)
+        ensures starts { IfOk result (λ restarted. (units image : ℕ) (before log : List Group) → IsSomeAnd (D.told disk.old) (HoldsBoth units image before log)
             → Started units image before log restarted.kernel restarted.events restarted.in_doubt (D.told disk.new)) }
         ensures ready { IfOk result (λ restarted. IsReady restarted.kernel (D.told disk.new) (D.status disk.new) × (restarted.kernel.now.machine.is_up ≡ true)) }
-        ensures down { IfDown result ((units image : ℕ) (before log : List Group) → Tells (D.told disk.old) (HoldsBoth units image before log)
-            → Tells (D.told disk.new) (LeavesOwnOrNot units image before log)) }
-        ensures full { IfFull result ((units image : ℕ) (before log : List Group) → Tells (D.told disk.old) (HoldsBoth units image before log)
-            → is_full_for_own units image before log ≡ true) }
-        ensures found { IfLoaded result (IfTold (D.told disk.old) (λ s. (state : DurableState) × StandsFor state s.seen)) }
-        ensures bad { IfBad result (λ offset. IfTold (D.told disk.old) (λ s. IsBadAt s.seen offset)) }
-        ensures unwritten { IfUnwritten result (D.told disk.new ≡ D.told disk.old) }
-        ensures pending { IfUnwritten result ((D.status disk.new).pending ≡ (D.status disk.old).pending) }
+        ensures down { IsErrOf result RestartFault.Down → (units image : ℕ) (before log : List Group) → IsSomeAnd (D.told disk.old) (HoldsBoth units image before log)
+            → IsSomeAnd (D.told disk.new) (LeavesOwnOrNot units image before log) }
+        ensures full { IsErrOf result RestartFault.Full → (units image : ℕ) (before log : List Group) → IsSomeAnd (D.told disk.old) (HoldsBoth units image before log)
+            → is_full_for_own units image before log ≡ true }
+        ensures found { OnOk result (IfSome (D.told disk.old) (λ s. (state : DurableState) × StandsFor state s.seen)) }
+        ensures found_full { IsErrOf result RestartFault.Full → IfSome (D.told disk.old) (λ s. (state : DurableState) × StandsFor state s.seen) }
+        ensures bad { (offset : ℕ) → IsErrOf result (RestartFault.Bad offset) → IfSome (D.told disk.old) (λ s. IsBadAt s.seen offset) }
+        ensures unwritten { IfErr result (λ fault. fault ≢ RestartFault.Down → D.told disk.new ≡ D.told disk.old) }
+        ensures pending { IfErr result (λ fault. fault ≢ RestartFault.Down → (D.status disk.new).pending ≡ (D.status disk.old).pending) }
         ensures buffer { OnErr result (vec_capacity buffer.old ≤ vec_capacity buffer.new) }
         ensures calls { DeviceCalls (8 * MOST_UNITS + 68) (D.status disk.old) (D.status disk.new) (restart_went_down result) }
-        ensures few { (units image : ℕ) → Tells (D.told disk.old) (λ s. IsHeaded units image s.seen) → (D.status disk.new).calls ≤ (D.status disk.old).calls + (8 * units + 68) }
+        ensures few { (units image : ℕ) → IsSomeAnd (D.told disk.old) (λ s. IsHeaded units image s.seen) → (D.status disk.new).calls ≤ (D.status disk.old).calls + (8 * units + 68) }
     {
         law_of_fresh();
         law_of_standing();

@@ -10,7 +10,7 @@ use std::alloc::Global;
 use std::marker::Model;
 
 /// A value under a key.
-#[derive(Clone, PartialEq, Debug, Drop)]
+#[derive(Clone, Debug, Drop)]
 pub struct Keyed<V> {
     pub key: Text,
     pub value: V,

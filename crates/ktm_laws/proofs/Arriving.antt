@@ -50,6 +50,17 @@ of_one x works w cs one changes = (
   ap (λ ws. (committed_with (committed_now x) ws).versions) one ∙ ap (λ ds. (fold with_change (committed_now x) ds).versions) changes ∙ versions-store cs (committed_now x) (committed_files x.files []) refl refl,
 )
 
+-- where the first opens of some transactions end, and then those of others, those of all of them have ended
+pub both-forgotten : (as' bs : List Id) (fs : List FirstOpen) → filter (λ f. not (is_forgotten (as' ++ bs) f.transaction)) fs ≡ filter (λ f. not (is_forgotten bs f.transaction)) (filter (λ f. not (is_forgotten as' f.transaction)) fs)
+both-forgotten as' bs [] = refl
+both-forgotten as' bs (f ∷ fs) = elim (cases_Bool (is_forgotten as' f.transaction)) [
+  | inl first ↦ rw (list_any-append (same_id f.transaction) as' bs, first) (both-forgotten as' bs fs)
+  | inr not' ↦ elim (cases_Bool (is_forgotten bs f.transaction)) [
+    | inl second ↦ rw (list_any-append (same_id f.transaction) as' bs, not', second) (both-forgotten as' bs fs)
+    | inr kept ↦ rw (list_any-append (same_id f.transaction) as' bs, not', kept) (ap (λ gs. f ∷ gs) (both-forgotten as' bs fs))
+  ]
+]
+
 module _ (lists : ListsLaw) (formed : FormedLaw) where
   -- ---- a course has arrived
 
@@ -171,16 +182,6 @@ module _ (lists : ListsLaw) (formed : FormedLaw) where
 
   pub only_reply-goes : (x : Present) (reply : Reply) → Goes x (only_reply x reply)
   only_reply-goes x reply = record { opens = refl; keeps = λ order sound. (record { transactions_rise = order.transactions_rise; labels_differ = order.labels_differ }, only_reply-sound x reply sound) }
-
-  pub both-forgotten : (as' bs : List Id) (fs : List FirstOpen) → filter (λ f. not (is_forgotten (as' ++ bs) f.transaction)) fs ≡ filter (λ f. not (is_forgotten bs f.transaction)) (filter (λ f. not (is_forgotten as' f.transaction)) fs)
-  both-forgotten as' bs [] = refl
-  both-forgotten as' bs (f ∷ fs) = elim (cases_Bool (is_forgotten as' f.transaction)) [
-    | inl first ↦ rw (list_any-append (same_id f.transaction) as' bs, first) (both-forgotten as' bs fs)
-    | inr not' ↦ elim (cases_Bool (is_forgotten bs f.transaction)) [
-      | inl second ↦ rw (list_any-append (same_id f.transaction) as' bs, not', second) (both-forgotten as' bs fs)
-      | inr kept ↦ rw (list_any-append (same_id f.transaction) as' bs, not', kept) (ap (λ gs. f ∷ gs) (both-forgotten as' bs fs))
-    ]
-  ]
 
   pub and_then-goes : (x : Present) (o : Outcome) (next : Present → Outcome) → Goes x o → ((y : Present) → Goes y (next y)) → Goes x (and_then x o next)
   and_then-goes x o next first second = record {

@@ -91,7 +91,7 @@ module _ (lists : ListsLaw) (formed : FormedLaw) where
       firsts : first_opens_after x (joined a b) ≡ first_opens_after y b
       firsts =
           ap (λ os. filter (λ f. not (is_forgotten (a.forgotten ++ b.forgotten) f.transaction)) (x.files.first_opens ++ map (first_open (committed_now x)) os)) (ap (λ os. os ++ b.openings) none ∙ none')
-          ∙ both-forgotten lists formed a.forgotten b.forgotten (x.files.first_opens ++ [])
+          ∙ both-forgotten a.forgotten b.forgotten (x.files.first_opens ++ [])
           ∙ ap (λ os. filter (λ f. not (is_forgotten b.forgotten f.transaction)) (filter (λ f. not (is_forgotten a.forgotten f.transaction)) (x.files.first_opens ++ map (first_open (committed_now x)) os))) (sym none)
           ∙ ap (filter (λ f. not (is_forgotten b.forgotten f.transaction))) (sym (append-nil y.files.first_opens))
           ∙ ap (λ os. filter (λ f. not (is_forgotten b.forgotten f.transaction)) (y.files.first_opens ++ map (first_open (committed_now y)) os)) (sym none')

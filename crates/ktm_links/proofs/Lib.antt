@@ -3,6 +3,7 @@ pub mod Comparing
 pub mod Entries
 pub mod Found
 pub mod InOrder
+pub mod Indexes
 pub mod Keys
 pub mod Linked
 pub mod Names

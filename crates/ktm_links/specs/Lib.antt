@@ -1,5 +1,6 @@
 pub mod Blocks
 pub mod Entry
+pub mod Indexed
 pub mod Items
 pub mod Links
 pub mod Mapped

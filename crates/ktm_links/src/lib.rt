@@ -5,6 +5,7 @@
 mod block;
 mod chains;
 mod entry;
+mod index;
 mod list;
 mod name;
 mod named;
@@ -12,5 +13,6 @@ mod order;
 mod search;
 
 pub use chains::Chains;
+pub use index::{first_from, first_under, key_under};
 pub use list::{Key, List};
 pub use name::{InlineName, Name, long_bytes, number_bytes};

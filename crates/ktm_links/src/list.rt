@@ -10,7 +10,7 @@ use std::alloc::Global;
 use std::marker::Model;
 
 /// Which value of a list: where it stands, and a number that no other value of the list ever has.
-#[derive(Clone, Copy, PartialEq, Eq, Debug)]
+#[derive(Clone, Copy)]
 pub struct Key {
     pub place: usize,
     pub generation: u64,

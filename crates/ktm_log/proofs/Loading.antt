@@ -1,8 +1,8 @@
 -- An area that is read piece by piece.
+use Rattle.std.specs.Prelude.{IfSome, IsSomeAnd}
 use Rattle.std.proofs.Common.{◌≡◌, ℕ, ◌+◌, ◌-◌, ◌<◌, ◌≤◌, Bool, false, Option, None, Some, List, [], ◌∷◌, ◌++◌, length, get_or, take, drop, sym, ◌∙◌, ap, subst, arith, length-take, length-drop, length-append}
 use Rattle.std.proofs.lemmas.List.{take_at, take_all, drop_all, take-append-drop, take-take, drop-take, drop-drop, append-nil}
 use borrow.Rule.Slice.PartMut.{put_mid}
-use Rattle.ktm_base.specs.Told.{IfTold, Tells}
 use Rattle.ktm_base.specs.Disk.{DiskState, DiskStatus, DeviceCalls, IsSafe}
 use Rattle.ktm_log.specs.declared.area.Area.{Area}
 use Rattle.ktm_log.specs.Log.{area_bytes, size_at, IsClosed, IsTorn, IsFrame, IsLog, IsBadLog, Rests, end_of, first_payload, payloads_in}
@@ -10,9 +10,9 @@ use Rattle.ktm_log.specs.Load.{EndFrames, IsRead, Loads, WentOn, pieces}
 use Rattle.ktm_log.proofs.Parts.{area_part, length-area}
 use Rattle.ktm_log.proofs.Frames.{first_at, begins-push, end_of-push}
 use Rattle.ktm_base.proofs.Images.{calls_law}
-use Rattle.ktm_base.proofs.ToldSteps.{IfTold-map}
+use Rattle.ktm_base.proofs.ToldSteps.{IfSome-map}
 use Rattle.ktm_log.proofs.Payloads.{front_at, went_on_trans, size_went_on, begins_went_on, log_went_on, none_closed, payloads_are}
-use Rattle.ktm_log.proofs.Steps.{IfTold-both}
+use Rattle.ktm_log.proofs.Steps.{IfSome-both}
 
 -- a vector that was made longer, and then filled from its old end on
 pub filled : (old m buf rest : List ℕ) (from n len : ℕ) → take from m ≡ old → length m ≡ from + n → from ≡ length old → length buf ≡ n → len ≡ from + n → take len (put_mid from (length m - from) m buf ++ rest) ≡ old ++ buf
@@ -59,10 +59,10 @@ module _ (area : Area) (at : ℕ) where
       short = omega (arith, length-area area image one.within, length-drop at (area_bytes area image), size_is, size_went_on second (area_bytes area image) (in_area area second image two) at more);
     }
 
-    pub finds_torn : (o m : Option DiskState) → m ≡ o → IfTold o (λ s. IsRead area first s.seen) → IfTold m (λ s. IsRead area second s.seen) → area.len - at < size + 6 → at < area.len → IfTold m (λ s. IsTorn (drop at (area_bytes area s.seen)))
+    pub finds_torn : (o m : Option DiskState) → m ≡ o → IfSome o (λ s. IsRead area first s.seen) → IfSome m (λ s. IsRead area second s.seen) → area.len - at < size + 6 → at < area.len → IfSome m (λ s. IsTorn (drop at (area_bytes area s.seen)))
     finds_torn o m same one two short inside =
-        IfTold-both (λ (s : DiskState). IsRead area first s.seen) (λ (s : DiskState). IsRead area second s.seen) (λ (s : DiskState). IsTorn (drop at (area_bytes area s.seen))) m
-        (subst (λ t. IfTold t (λ (s : DiskState). IsRead area first s.seen)) (sym same) one) two (λ s a b. torn s.seen a b short inside)
+        IfSome-both (λ (s : DiskState). IsRead area first s.seen) (λ (s : DiskState). IsRead area second s.seen) (λ (s : DiskState). IsTorn (drop at (area_bytes area s.seen))) m
+        (subst (λ t. IfSome t (λ (s : DiskState). IsRead area first s.seen)) (sym same) one) two (λ s a b. torn s.seen a b short inside)
 
     -- the frame, in bytes that went on
     pub finds_frame : (third : List ℕ) → WentOn first second → WentOn second third → at + size + 6 ≤ length third → (payload : List ℕ) × (length payload ≡ size) × IsFrame payload (drop at third)
@@ -97,25 +97,25 @@ module _ (area : Area) (at : ℕ) (old read : List ℕ) (frames : EndFrames at o
   pub end_found : first_payload (drop at read) ≡ None → at ≡ end_of (payloads_in read)
   end_found none = frames.gate_at ∙ ap end_of (sym (all_payloads none))
 
-  pub log_found : IsClosed (drop at read) → (o n : Option DiskState) → n ≡ o → IfTold n (λ s. IsRead area read s.seen) → IfTold o (λ s. IsLog (payloads_in read) (area_bytes area s.seen))
+  pub log_found : IsClosed (drop at read) → (o n : Option DiskState) → n ≡ o → IfSome n (λ s. IsRead area read s.seen) → IfSome o (λ s. IsLog (payloads_in read) (area_bytes area s.seen))
   log_found closed o n same is =
       let ps = frames.payloads in
-      subst (λ t. IfTold t (λ (s : DiskState). IsLog (payloads_in read) (area_bytes area s.seen))) same
-      (IfTold-map n (λ (s : DiskState). IsRead area read s.seen) (λ (s : DiskState). IsLog (payloads_in read) (area_bytes area s.seen)) is
+      subst (λ t. IfSome t (λ (s : DiskState). IsLog (payloads_in read) (area_bytes area s.seen))) same
+      (IfSome-map n (λ (s : DiskState). IsRead area read s.seen) (λ (s : DiskState). IsLog (payloads_in read) (area_bytes area s.seen)) is
       (λ s r. subst (λ (l : List (List ℕ)). IsLog l (area_bytes area s.seen)) (sym (all_payloads (none_closed (drop at read) closed)))
       (log_went_on ps read (area_bytes area s.seen) (in_area area read s.seen r) (begins_went_on ps old read on frames.begins) (subst (λ k. IsClosed (drop k read)) frames.gate_at closed))))
 
-  pub bad_found : first_payload (drop at read) ≡ None → (o n : Option DiskState) → n ≡ o → IfTold o (λ s. IsRead area old s.seen) → IfTold n (λ s. IsTorn (drop at (area_bytes area s.seen)))
-      → IfTold o (λ s. IsBadLog (payloads_in read) (area_bytes area s.seen))
+  pub bad_found : first_payload (drop at read) ≡ None → (o n : Option DiskState) → n ≡ o → IfSome o (λ s. IsRead area old s.seen) → IfSome n (λ s. IsTorn (drop at (area_bytes area s.seen)))
+      → IfSome o (λ s. IsBadLog (payloads_in read) (area_bytes area s.seen))
   bad_found none o n same is short =
       let ps = frames.payloads in
-      IfTold-both (λ (s : DiskState). IsRead area old s.seen) (λ (s : DiskState). IsTorn (drop at (area_bytes area s.seen))) (λ (s : DiskState). IsBadLog (payloads_in read) (area_bytes area s.seen)) o is
-      (subst (λ t. IfTold t (λ (s : DiskState). IsTorn (drop at (area_bytes area s.seen)))) same short)
+      IfSome-both (λ (s : DiskState). IsRead area old s.seen) (λ (s : DiskState). IsTorn (drop at (area_bytes area s.seen))) (λ (s : DiskState). IsBadLog (payloads_in read) (area_bytes area s.seen)) o is
+      (subst (λ t. IfSome t (λ (s : DiskState). IsTorn (drop at (area_bytes area s.seen)))) same short)
       (λ s r t. subst (λ (l : List (List ℕ)). IsBadLog l (area_bytes area s.seen)) (sym (all_payloads none))
       (record { frames = begins_went_on ps old (area_bytes area s.seen) (in_area area old s.seen r) frames.begins; gate = subst (λ k. IsTorn (drop k (area_bytes area s.seen))) frames.gate_at t }))
 
 -- a log that was read from a safe disk rests on it
-pub rests_found : (area : Area) (ps : List (List ℕ)) (end : ℕ) → end ≡ end_of ps → (o n : Option DiskState) → n ≡ o → IfTold o (λ s. area.at + area.len ≤ length s.seen) → IfTold o (λ s. IsLog ps (area_bytes area s.seen))
-    → Tells o IsSafe → Tells n (Rests area ps end)
+pub rests_found : (area : Area) (ps : List (List ℕ)) (end : ℕ) → end ≡ end_of ps → (o n : Option DiskState) → n ≡ o → IfSome o (λ s. area.at + area.len ≤ length s.seen) → IfSome o (λ s. IsLog ps (area_bytes area s.seen))
+    → IsSomeAnd o IsSafe → IsSomeAnd n (Rests area ps end)
 rests_found area ps end gate None n same within log safe = absurd safe
-rests_found area ps end gate (Some s) n same within log safe = subst (λ t. Tells t (Rests area ps end)) (sym same) (record { safe = safe; within = within; log = log; gate_at = gate })
+rests_found area ps end gate (Some s) n same within log safe = subst (λ t. IsSomeAnd t (Rests area ps end)) (sym same) (record { safe = safe; within = within; log = log; gate_at = gate })

@@ -7,25 +7,12 @@ use Rattle.ktm_log.specs.declared.fault.FrameFault.TheVariants.{Down as FrameDow
 use Rattle.ktm_log.specs.declared.fault.AppendFault.{AppendFault}
 use Rattle.ktm_log.specs.declared.fault.AppendFault.TheVariants.{Down as AppendDown, Full}
 
--- the fact of the offset, where the log is bad
-abbrev pub IfBad : {T : Type 0} → Result T LogFault → (ℕ → Type 0) → Type 0
-IfBad (Ok value) P = Unit {0}
-IfBad (Err ScanDown) P = Unit {0}
-IfBad (Err (Bad offset)) P = P offset
-IfBad (Err NoMemory) P = Unit {0}
-
 -- did a scan find the disk down
 abbrev pub scan_went_down : {T : Type 0} → Result T LogFault → Bool
 scan_went_down (Ok value) = false
 scan_went_down (Err ScanDown) = true
 scan_went_down (Err (Bad offset)) = false
 scan_went_down (Err NoMemory) = false
-
--- the fact, where a frame is cut short
-abbrev pub IfTorn : {T : Type 0} → Result T FrameFault → Type 0 → Type 0
-IfTorn (Ok value) P = Unit {0}
-IfTorn (Err FrameDown) P = Unit {0}
-IfTorn (Err Torn) P = P
 
 -- did the search for a frame find the disk down
 abbrev pub frame_went_down : {T : Type 0} → Result T FrameFault → Bool
@@ -38,9 +25,3 @@ abbrev pub append_went_down : {T : Type 0} → Result T AppendFault → Bool
 append_went_down (Ok value) = false
 append_went_down (Err AppendDown) = true
 append_went_down (Err Full) = false
-
--- the fact, where an append found the disk down
-abbrev pub IfAppendDown : {T : Type 0} → Result T AppendFault → Type 0 → Type 0
-IfAppendDown (Ok value) P = Unit {0}
-IfAppendDown (Err AppendDown) P = P
-IfAppendDown (Err Full) P = Unit {0}

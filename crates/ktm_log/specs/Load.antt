@@ -1,7 +1,6 @@
 -- The part of an area that was read so far, and what it took to read it.
-use Rattle.std.specs.Prelude.{◌≡◌, ℕ, ◌+◌, ◌-◌, ◌*◌, ◌/◌, ◌<◌, ◌≤◌, Bool, false, Option, None, Some, List, length, take, drop}
+use Rattle.std.specs.Prelude.{◌≡◌, ℕ, ◌+◌, ◌-◌, ◌*◌, ◌/◌, ◌<◌, ◌≤◌, Bool, false, Option, None, Some, List, length, take, drop, IfSome}
 use Rattle.ktm_base.specs.Disk.{DiskState, DiskStatus, DeviceCalls}
-use Rattle.ktm_base.specs.Told.{IfTold}
 use Rattle.ktm_log.specs.declared.area.Area.{Area}
 use Rattle.ktm_log.specs.Log.{area_bytes, BeginsWith, IsFrame, IsClosed, end_of}
 
@@ -19,7 +18,7 @@ pub record Holds (area : Area) (told : Option DiskState) (is_down : Bool) (read 
   pub inside : length read ≤ area.len
   pub whole : length read < area.len → 4096 * (length read / 4096) ≡ length read
   pub up : 0 < length read → is_down ≡ false
-  pub bytes : IfTold told (λ s. IsRead area read s.seen)
+  pub bytes : IfSome told (λ s. IsRead area read s.seen)
 
 -- it grew from one length to another, by no more device calls than there are pieces between
 pub record Loads (area : Area) (before after : ℕ) (old new : DiskStatus) (refused : Bool) : Type 0 where

@@ -1,7 +1,7 @@
 // Where on a disk a log is.
 
 /// A part of a disk, in bytes.
-#[derive(Clone, Copy, Debug, PartialEq, Eq)]
+#[derive(Clone, Copy)]
 pub struct Area {
     pub at: u64,
     pub len: u64,

@@ -27,7 +27,7 @@ pub enum AppendFault {
 }
 
 /// Why no next frame was found, and no closed gate.
-#[derive(Clone, Copy, Debug, PartialEq, Eq)]
+#[derive(Clone, Copy)]
 pub(crate) enum FrameFault {
     /// The disk has no power.
     Down,

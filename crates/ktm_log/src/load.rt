@@ -1,7 +1,6 @@
 // Reading an area from its begin, in pieces.
-ghost use Rattle.std.specs.Prelude.{◌≡◌, ◌+◌, ◌^◌, ◌<◌, ◌≤◌, length, drop, None, OnOk, IfOk, is_err, vec_capacity, false};
-ghost use Rattle.ktm_base.specs.Told.{IfTold};
-ghost use Rattle.ktm_log.specs.Fault.{IfTorn, frame_went_down};
+ghost use Rattle.std.specs.Prelude.{◌≡◌, ◌+◌, ◌^◌, ◌<◌, ◌≤◌, length, drop, None, OnOk, IfOk, is_err, vec_capacity, false, IsErrOf, IfSome};
+ghost use Rattle.ktm_log.specs.Fault.{frame_went_down};
 ghost use Rattle.ktm_log.specs.Log.{area_bytes, first_payload, IsTorn};
 ghost use Rattle.ktm_log.specs.Load.{Holds, Loads, WentOn, Finds};
 
@@ -74,8 +73,8 @@ pub(crate) fn next_frame<D: Disk>(
     ensures loads { Loads area (length read.old.items) (length read.new.items) (D.status disk.old) (D.status disk.new) (frame_went_down result) }
     ensures up { frame_went_down result ≡ false → (D.status disk.new).is_down ≡ false }
     ensures found { IfOk result (λ found. Finds area read.new.items at found) }
-    ensures torn { IfTorn result (IfTold (D.told disk.new) (λ s. IsTorn (drop at (area_bytes area s.seen)))) }
-    ensures no_frame { IfTorn result (first_payload (drop at read.new.items) ≡ None) }
+    ensures torn { IsErrOf result FrameFault.Torn → IfSome (D.told disk.new) (λ s. IsTorn (drop at (area_bytes area s.seen))) }
+    ensures no_frame { IsErrOf result FrameFault.Torn → first_payload (drop at read.new.items) ≡ None }
 {
     if let Err(Down) = load(disk, area, read, at + 1) {
         return Err(FrameFault::Down);

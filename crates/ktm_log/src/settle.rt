@@ -1,7 +1,7 @@
 // A write and a sync.
-ghost use Rattle.std.specs.Prelude.{◌≡◌, ◌+◌, ◌<◌, ◌≤◌, length, OnOk, OnErr, is_err, false};
+ghost use Rattle.std.specs.Prelude.{◌≡◌, ◌+◌, ◌<◌, ◌≤◌, length, OnOk, OnErr, is_err, false, IfSome};
 ghost use Rattle.ktm_base.specs.declared.limits.TheConstants.{MOST_PENDING};
-ghost use Rattle.ktm_base.specs.Told.{IfTold, Goes};
+ghost use Rattle.ktm_base.specs.Told.{Goes};
 ghost use Rattle.ktm_base.specs.Disk.{DeviceCalls};
 ghost use Rattle.ktm_log.specs.Settle.{Settled, Tore};
 
@@ -9,7 +9,7 @@ use ktm_base::{Disk, Down};
 
 // Writes bytes and makes them safe.
 pub(crate) fn settle<D: Disk>(disk: &mut D, at: u64, bytes: &[u8]) -> Result<(), Down>
-    requires within { IfTold (D.told disk.old) (λ s. at + length bytes.now ≤ length s.seen) }
+    requires within { IfSome (D.told disk.old) (λ s. at + length bytes.now ≤ length s.seen) }
     requires room { (D.status disk.old).pending < MOST_PENDING }
     ensures ok { OnOk result (Goes (Settled at bytes.now) (D.told disk.old) (D.told disk.new)) }
     ensures err { OnErr result (Goes (Tore at (length bytes.now)) (D.told disk.old) (D.told disk.new)) }

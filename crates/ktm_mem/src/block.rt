@@ -1,6 +1,6 @@
 // A block device in memory.
-ghost use Rattle.std.specs.Prelude.{◌≡◌, ◌≤◌, ◌+◌, ◌||◌, ℕ, List, Some, true, false, [], ◌∷◌, length, IfOk, OnOk, OnErr, is_err, nat_lt, vec_capacity, slice_range, max};
-ghost use Rattle.ktm_base.specs.Told.{IfTold, Goes};
+ghost use Rattle.std.specs.Prelude.{◌≡◌, ◌≤◌, ◌+◌, ◌||◌, ℕ, List, Some, true, false, [], ◌∷◌, length, IfOk, OnOk, OnErr, is_err, nat_lt, vec_capacity, slice_range, max, IfSome};
+ghost use Rattle.ktm_base.specs.Told.{Goes};
 ghost use Rattle.ktm_base.specs.Bytes.{written, SameOutside, GrewTo, GrewTowards};
 ghost use Rattle.ktm_base.specs.Stream.{Faults};
 ghost use Rattle.ktm_mem.specs.Schedule.{fails_next};

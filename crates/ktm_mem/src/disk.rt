@@ -1,7 +1,7 @@
 // A disk in memory.
-ghost use Rattle.std.specs.Prelude.{◌≡◌, ◌≤◌, ◌<◌, ◌+◌, ◌||◌, ℕ, List, Some, None, [], ◌∷◌, length, IfOk, OnOk, OnErr, IsTrue, is_err, is_ok, nat_lt, vec_capacity, slice_range, max, false, if◌then◌else◌};
+ghost use Rattle.std.specs.Prelude.{◌≡◌, ◌≤◌, ◌<◌, ◌+◌, ◌||◌, ℕ, List, Some, None, [], ◌∷◌, length, IfOk, OnOk, OnErr, IsTrue, is_err, is_ok, nat_lt, vec_capacity, slice_range, max, false, if◌then◌else◌, IfSome};
 ghost use Rattle.ktm_base.specs.declared.limits.TheConstants.{MOST_PENDING};
-ghost use Rattle.ktm_base.specs.Told.{IfTold, Goes};
+ghost use Rattle.ktm_base.specs.Told.{Goes};
 ghost use Rattle.ktm_base.specs.Disk.{DiskState, DiskStatus, Wrote, WriteRefused, Synced, Grew, GrowthRefused, DeviceCall};
 ghost use Rattle.ktm_mem.specs.Schedule.{fails_next};
 

@@ -6,7 +6,7 @@ use std::alloc::Global;
 use std::marker::Model;
 
 /// Numbers of calls, counted from 1.
-#[derive(Debug, Drop)]
+#[derive(Drop)]
 pub struct Calls {
     numbers: Vec<u64>,
 }
@@ -43,7 +43,7 @@ impl Calls {
 }
 
 /// The calls that fail, and how many there were so far. The count stands still at its type's end.
-#[derive(Debug, Drop)]
+#[derive(Drop)]
 pub struct Schedule {
     pub fails: Calls,
     pub calls: u64,

@@ -8,7 +8,7 @@ use crate::schedule::Schedule;
 use ktm_base::Down;
 
 /// Whether the power is off, how often it went, and at which calls it goes.
-#[derive(Debug, Drop)]
+#[derive(Drop)]
 pub struct Supply {
     pub schedule: Schedule,
     pub is_down: bool,

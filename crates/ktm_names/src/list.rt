@@ -6,14 +6,14 @@ use std::alloc::Global;
 use std::marker::Model;
 
 /// Where a text begins and ends in the bytes of its list.
-#[derive(Clone, Copy, Debug)]
+#[derive(Clone, Copy)]
 struct Place {
     start: usize,
     end: usize,
 }
 
 /// The bytes of the texts, one after the other, and the place of each.
-#[derive(Debug, Drop)]
+#[derive(Drop)]
 pub struct PlacedTexts {
     bytes: Vec<u8>,
     places: Vec<Place>,

@@ -11,7 +11,7 @@ use std::alloc::Global;
 use std::marker::Model;
 
 /// A path: the names from the root on, which has none.
-#[derive(Debug, Drop)]
+#[derive(Drop)]
 pub struct Path {
     names: PlacedTexts,
 }

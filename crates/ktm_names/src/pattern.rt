@@ -12,7 +12,7 @@ use std::marker::Model;
 
 /// A pattern: the directory in which it seeks, and its last part, in which a star stands for any characters and a
 /// question mark for one.
-#[derive(Debug, Drop)]
+#[derive(Drop)]
 pub struct Pattern {
     directory: Path,
     last: Text,

@@ -1,7 +1,6 @@
 -- Lemmas on a handle that is gone.
 use Rattle.std.proofs.Common.{◌≡◌, ℕ, ◌+◌, ◌-◌, ◌^◌, Bool, true, false, not, min, List, [], ◌∷◌, map, Option, Some, None, refl, sym, ap, ◌∙◌, inl, inr, arith}
 use Rattle.std.specs.Prelude.{OnSome}
-use Rattle.std.specs.Option.{option_map}
 use Rattle.std.proofs.lemmas.Bool.{cases_Bool}
 use Rattle.std.proofs.lemmas.Option.{same_Some}
 use Rattle.ktm_base.specs.declared.id.Label.{Label}
@@ -9,14 +8,13 @@ use Rattle.ktm_base.specs.declared.id.Pid.{Pid}
 use Rattle.ktm_world.specs.HandleCalls.{is_handle, without_handle}
 use Rattle.ktm_links.specs.declared.list.Key.{Key}
 use Rattle.ktm_links.specs.Items.{Item, same_key, value_at, without}
-use Rattle.ktm_links.specs.Mapped.{NamedItem, at, key_under}
+use Rattle.ktm_links.specs.Mapped.{NamedItem, key_under}
+use Rattle.ktm_links.specs.Indexed.{values_of, AreNamed, IsIndex}
+use Rattle.ktm_links.proofs.Indexes.{named_at}
 use Rattle.ktm_links.proofs.Keys.{on_some, same_key-true, same_key-self}
 use Rattle.ktm_object.specs.declared.entry.Entry.{Entry}
 use Rattle.ktm_object.specs.Table.{handle_of, entry_at, without_entry}
 use Rattle.ktm_object.specs.Names.{label_bytes, label_name}
-use Rattle.ktm_object.specs.Indexed.{entries_of, AreNamed, IsIndex}
-use Rattle.ktm_links.proofs.Comparing.{cases_name}
-use Rattle.ktm_object.proofs.Indexes.{named_at, key_under-same}
 use Rattle.ktm_object.proofs.Labels.{is_handle-from, is_handle-to}
 
 -- of each item, is it that of the key exactly where it is the handle of the process with the label
@@ -46,7 +44,7 @@ tells items named process label key index under (x ∷ xs) all = (
 )
 
 kept_all : (process : Pid) (label : Label) (key : Key) (xs : List (Item Entry)) → TellsKey process label key xs → value_at xs key ≡ None
-    → entries_of xs ≡ without_entry (entries_of xs) process label
+    → values_of xs ≡ without_entry (values_of xs) process label
 kept_all process label key [] told none = refl
 kept_all process label key (x ∷ xs) told none =
     elim (cases_Bool (same_key x.key key)) [
@@ -57,7 +55,7 @@ kept_all process label key (x ∷ xs) told none =
     ]
 
 kept_others : (process : Pid) (label : Label) (key : Key) (xs : List (Item Entry)) → TellsKey process label key xs → value_at (without xs key) key ≡ None
-    → entries_of (without xs key) ≡ without_entry (entries_of xs) process label
+    → values_of (without xs key) ≡ without_entry (values_of xs) process label
 kept_others process label key [] told none = refl
 kept_others process label key (x ∷ xs) told none =
     elim (cases_Bool (same_key x.key key)) [
@@ -70,11 +68,11 @@ kept_others process label key (x ∷ xs) told none =
     ]
 
 -- without the item of its key the entries are without the handle
-pub entries_of-without : (items new : List (Item Entry)) (named : List (NamedItem Key)) (process : Pid) (label : Label) (key : Key) → IsIndex label_name items named
+pub values_of-without : (items new : List (Item Entry)) (named : List (NamedItem Key)) (process : Pid) (label : Label) (key : Key) → IsIndex label_name items named
     → key_under named (label_bytes process label) ≡ Some key → new ≡ without items key → value_at new key ≡ None
-    → entries_of new ≡ without_entry (entries_of items) process label
-entries_of-without items new named process label key index under is gone =
-    ap entries_of is
+    → values_of new ≡ without_entry (values_of items) process label
+values_of-without items new named process label key index under is gone =
+    ap values_of is
     ∙ kept_others process label key items (tells items named process label key index under items index.all) (ap (λ xs. value_at xs key) (sym is) ∙ gone)
 
 pub handles-without : (es : List Entry) (process : Pid) (label : Label) → map handle_of (without_entry es process label) ≡ without_handle (map handle_of es) process label
@@ -93,55 +91,6 @@ without_entry-absent (e ∷ es) process label none =
       | inl here ↦ absurd (let some = rw here at none in cc)
       | inr differs ↦ rw differs (ap (λ l. e ∷ l) (without_entry-absent es process label (rw differs at none)))
     ]
-
--- ---- one less
-AreNamed-without : (name : Entry → List ℕ) (named : List (NamedItem Key)) (xs : List (Item Entry)) (key : Key) → AreNamed name named xs → AreNamed name named (without xs key)
-AreNamed-without name named [] key all = tt
-AreNamed-without name named (x ∷ xs) key all =
-    elim (cases_Bool (same_key x.key key)) [
-      | inl same ↦ rw same all.1
-      | inr other ↦ rw other ((all.0, AreNamed-without name named xs key all.1))
-    ]
-
-AreNamed-kept : (name : Entry → List ℕ) (named less : List (NamedItem Key)) (xs : List (Item Entry)) (key : Key) (q : List ℕ) → AreNamed name named xs
-    → value_at xs key ≡ None → key_under named q ≡ Some key → ((p : List ℕ) → (p ≡ q → ⊥) → key_under less p ≡ key_under named p) → AreNamed name less xs
-AreNamed-kept name named less [] key q all none under others = tt
-AreNamed-kept name named less (x ∷ xs) key q all none under others =
-    elim (cases_Bool (same_key x.key key)) [
-      | inl same ↦ absurd (let some = rw same at none in cc)
-      | inr other ↦ (
-        others (name x.value)
-            (λ is. absurd (let same = same_key-self x.key key (same_Some x.key key (sym all.0 ∙ ap (key_under named) is ∙ under)) in cc))
-            ∙ all.0,
-        AreNamed-kept name named less xs key q all.1 (rw other at none) under others,
-      )
-    ]
-
--- an entry that goes with its name
-pub IsIndex-without : (name : Entry → List ℕ) (items new : List (Item Entry)) (named less : List (NamedItem Key)) (key : Key) (e : Entry) (q : List ℕ)
-    → IsIndex name items named → q ≡ name e → value_at items key ≡ Some e
-    → new ≡ without items key → value_at new key ≡ None → ((k : Key) → (k ≡ key → ⊥) → value_at new k ≡ value_at items k)
-    → at less q ≡ None → ((p : List ℕ) → (p ≡ q → ⊥) → at less p ≡ at named p)
-    → IsIndex name new less
-IsIndex-without name items new named less key e q index is there items_are gone kept at_q at_others =
-    let under : key_under named q ≡ Some key = ap (key_under named) is ∙ named_at name named items key e index.all there in
-    let others : (p : List ℕ) → (p ≡ q → ⊥) → key_under less p ≡ key_under named p = λ p differs. key_under-same named less p (at_others p differs) in
-    record {
-      all =
-          rw items_are
-          (AreNamed-kept name named less (without items key) key q (AreNamed-without name named items key index.all)
-          (ap (λ xs. value_at xs key) (sym items_are) ∙ gone) under others);
-      only = λ p k found. elim (cases_name p q) [
-        | inl same ↦
-            absurd (let none : key_under less p ≡ None = ap (λ o. option_map (λ (e : Key × Key). e.1) o) (ap (at less) same ∙ at_q) in cc)
-        | inr differs ↦
-            let at = index.only p k (sym (others p differs) ∙ found) in (
-              at.0,
-              kept k (λ same. differs (sym at.2 ∙ ap name (same_Some at.0 e (sym at.1 ∙ ap (value_at items) same ∙ there)) ∙ sym is)) ∙ at.1,
-              at.2,
-            )
-      ];
-    }
 
 -- the entry that a label finds has its name
 pub label_name-found : (items : List (Item Entry)) (named : List (NamedItem Key)) (process : Pid) (label : Label) (key : Key) (e : Entry) → IsIndex label_name items named

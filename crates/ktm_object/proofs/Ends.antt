@@ -7,6 +7,7 @@ use Rattle.ktm_world.specs.Transactions.{is_of}
 use Rattle.ktm_links.specs.declared.list.Key.{Key}
 use Rattle.ktm_links.specs.Items.{Item, same_key, value_at, with_value}
 use Rattle.ktm_links.specs.Mapped.{NamedItem, Begins, IsNotBelow, key_under}
+use Rattle.ktm_links.specs.Indexed.{values_of, AreDistinct, AreNamed, IsIndex, IsFirstUnder, IsNoneUnder}
 use Rattle.ktm_links.proofs.Keys.{same_key-true, same_key-self, value_at-with_other, cases_key}
 use Rattle.ktm_links.proofs.Names.{begins_between, begins_not_below}
 use Rattle.ktm_object.specs.declared.entry.Entry.{Entry}
@@ -14,7 +15,6 @@ use Rattle.ktm_object.specs.declared.name.Owner.{Owner}
 use Rattle.ktm_object.specs.Table.{handle_of, ended, ended_group}
 use Rattle.ktm_object.specs.Names.{label_name, group_name, group_owner, owner_bytes}
 use Rattle.ktm_object.specs.Ending.{AreAllEnded, AreEnded, after, group_bytes, name_in}
-use Rattle.ktm_object.specs.Indexed.{entries_of, AreDistinct, AreNamed, IsIndex, IsFirstUnder, IsNoneUnder}
 use Rattle.ktm_links.proofs.Comparing.{above_next, not_below_upto}
 use Rattle.ktm_object.proofs.Owners.{owner_begins}
 
@@ -37,7 +37,7 @@ name_in-is group e of_group = ap (λ o. owner_bytes o (label_name e)) (group_to 
 
 -- ---- nothing more to end
 pub all_from_none : (named : List (NamedItem Key)) (group : Id) (from : List ℕ) (xs : List (Item Entry)) → AreNamed group_name named xs
-    → IsNoneUnder (λ q. IsNotBelow q from) named → AreEnded group from (entries_of xs) → AreAllEnded group (entries_of xs)
+    → IsNoneUnder (λ q. IsNotBelow q from) named → AreEnded group from (values_of xs) → AreAllEnded group (values_of xs)
 all_from_none named group from [] all none before = tt
 all_from_none named group from (x ∷ xs) all none before = (
   λ of_group. elim (before.0 of_group) [
@@ -49,7 +49,7 @@ all_from_none named group from (x ∷ xs) all none before = (
 
 pub all_from_other : (named : List (NamedItem Key)) (group : Id) (from : List ℕ) (key : Key) (e : Entry) → (f : IsFirstUnder (λ q. IsNotBelow q from) named key)
     → group_name e ≡ f.name → is_of group e.group ≡ false → Begins (group_bytes group) from → (xs : List (Item Entry)) → AreNamed group_name named xs
-    → AreEnded group from (entries_of xs) → AreAllEnded group (entries_of xs)
+    → AreEnded group from (values_of xs) → AreAllEnded group (values_of xs)
 all_from_other named group from key e f name other begins [] all before = tt
 all_from_other named group from key e f name other begins (x ∷ xs) all before = (
   λ of_group. elim (before.0 of_group) [
@@ -114,14 +114,14 @@ abbrev pub dead : Entry → Entry
 dead e = record e { is_dead = true }
 
 pub ended-with : (xs : List (Item Entry)) (group : Id) (key : Key) (e : Entry) → value_at xs key ≡ Some e → is_of group e.group ≡ true
-    → ended_group (entries_of (with_value xs key (dead e))) group ≡ ended_group (entries_of xs) group
+    → ended_group (values_of (with_value xs key (dead e))) group ≡ ended_group (values_of xs) group
 ended-with [] group key e there of_group = absurd (cc)
 ended-with (x ∷ xs) group key e there of_group =
     elim (cases_Bool (same_key x.key key)) [
       | inl here ↦
           let value : x.value ≡ e = same_Some x.value e (rw here at there) in
           let head : ended group (dead e) ≡ ended group x.value = rw (value, of_group) refl in
-          rw here (ap (λ y. y ∷ ended_group (entries_of xs) group) head)
+          rw here (ap (λ y. y ∷ ended_group (values_of xs) group) head)
       | inr other ↦ rw other (ap (λ es. ended group x.value ∷ es) (ended-with xs group key e (rw other at there) of_group))
     ]
 
@@ -144,7 +144,7 @@ one_after named group from key e f name x under other before of_group =
 
 others_after : (named : List (NamedItem Key)) (group : Id) (from : List ℕ) (key : Key) (e : Entry) → (f : IsFirstUnder (λ q. IsNotBelow q from) named key)
     → f.name ≡ name_in group e.handle → (xs : List (Item Entry)) → AreNamed group_name named xs → value_at xs key ≡ None
-    → AreEnded group from (entries_of xs) → AreEnded group (after group e.handle) (entries_of xs)
+    → AreEnded group from (values_of xs) → AreEnded group (after group e.handle) (values_of xs)
 others_after named group from key e f name [] all none before = tt
 others_after named group from key e f name (x ∷ xs) all none before =
     elim (cases_Bool (same_key x.key key)) [
@@ -157,7 +157,7 @@ others_after named group from key e f name (x ∷ xs) all none before =
 
 pub ended_after : (named : List (NamedItem Key)) (group : Id) (from : List ℕ) (key : Key) (e : Entry) → (f : IsFirstUnder (λ q. IsNotBelow q from) named key)
     → f.name ≡ name_in group e.handle → (xs : List (Item Entry)) → AreNamed group_name named xs → AreDistinct xs
-    → AreEnded group from (entries_of xs) → AreEnded group (after group e.handle) (entries_of (with_value xs key (dead e)))
+    → AreEnded group from (values_of xs) → AreEnded group (after group e.handle) (values_of (with_value xs key (dead e)))
 ended_after named group from key e f name [] all distinct before = tt
 ended_after named group from key e f name (x ∷ xs) all distinct before =
     elim (cases_Bool (same_key x.key key)) [

@@ -10,13 +10,13 @@ use Rattle.ktm_world.specs.HandleCalls.{is_handle, is_of_process, labels_of, wit
 use Rattle.ktm_links.specs.declared.list.Key.{Key}
 use Rattle.ktm_links.specs.Items.{Item, same_key, value_at, without}
 use Rattle.ktm_links.specs.Mapped.{NamedItem, Begins, IsNotBelow, key_under}
+use Rattle.ktm_links.specs.Indexed.{values_of, AreDistinct, AreNamed, IsIndex, IsFirstUnder, IsNoneUnder}
+use Rattle.ktm_links.proofs.Indexes.{value_at-gone}
 use Rattle.ktm_links.proofs.Keys.{same_key-true}
 use Rattle.ktm_object.specs.declared.entry.Entry.{Entry}
 use Rattle.ktm_object.specs.Table.{handle_of}
 use Rattle.ktm_object.specs.Names.{label_bytes, label_name}
-use Rattle.ktm_object.specs.Indexed.{entries_of, AreDistinct, AreNamed, IsIndex, IsFirstUnder, IsNoneUnder}
-use Rattle.ktm_object.proofs.Closing.{TellsKey, tells, entries_of-without, handles-without}
-use Rattle.ktm_object.proofs.Indexes.{value_at-gone}
+use Rattle.ktm_object.proofs.Closing.{TellsKey, tells, values_of-without, handles-without}
 use Rattle.ktm_object.proofs.Labels.{entry_at-index, object_at-entry}
 use Rattle.ktm_object.proofs.NameOrder.{label_order}
 
@@ -82,7 +82,7 @@ apart process l e differs of_process least =
     ]
 
 labels_below : (process : Pid) (l : Label) (key : Key) (xs : List (Item Entry)) → TellsKey process l key xs → IsLeast process l xs → value_at xs key ≡ None
-    → IsLabelBelow l (labels_of (map handle_of (entries_of xs)) process)
+    → IsLabelBelow l (labels_of (map handle_of (values_of xs)) process)
 labels_below process l key [] told least none = tt
 labels_below process l key (x ∷ xs) told least none =
     elim (cases_Bool (same_key x.key key)) [
@@ -92,7 +92,7 @@ labels_below process l key (x ∷ xs) told least none =
           elim (cases_Bool (is_of_process process x.value.handle)) [
             | inl of_process ↦
                 rw of_process
-                (with_label-above l x.value.handle.label (labels_of (map handle_of (entries_of xs)) process)
+                (with_label-above l x.value.handle.label (labels_of (map handle_of (values_of xs)) process)
                 (apart process l x.value (told.0 ∙ other) of_process (least.0 of_process)) rest)
             | inr others ↦ rw others rest
           ]
@@ -101,7 +101,7 @@ labels_below process l key (x ∷ xs) told least none =
 -- the least label comes first, and the others after it
 labels_least : (process : Pid) (l : Label) (key : Key) (xs : List (Item Entry)) → TellsKey process l key xs → IsLeast process l xs → AreDistinct xs
     → is_some (value_at xs key) ≡ true
-    → labels_of (map handle_of (entries_of xs)) process ≡ l ∷ labels_of (map handle_of (entries_of (without xs key))) process
+    → labels_of (map handle_of (values_of xs)) process ≡ l ∷ labels_of (map handle_of (values_of (without xs key))) process
 labels_least process l key [] told least distinct some = absurd (cc)
 labels_least process l key (x ∷ xs) told least distinct some =
     elim (cases_Bool (same_key x.key key)) [
@@ -111,7 +111,7 @@ labels_least process l key (x ∷ xs) told least distinct some =
           let label_is : x.value.handle.label ≡ l = ap P (eqb-true x.value.handle.label.0 l.0 parts.1) in
           let none : value_at xs key ≡ None = ap (value_at xs) (sym (same_key-true x.key key same)) ∙ distinct.0 in
           rw (same, parts.0, label_is)
-          (with_label-least l (labels_of (map handle_of (entries_of xs)) process) (labels_below process l key xs told.1 least.1 none))
+          (with_label-least l (labels_of (map handle_of (values_of xs)) process) (labels_below process l key xs told.1 least.1 none))
       | inr other ↦
           let rest = labels_least process l key xs told.1 least.1 distinct.1 (rw other at some) in
           elim (cases_Bool (is_of_process process x.value.handle)) [
@@ -129,7 +129,7 @@ pub record IsExit (es : List Entry) (process : Pid) (e : Entry) : Type 0 where
   pub labels : labels_of (map handle_of es) process ≡ e.handle.label ∷ labels_of (without_handle (map handle_of es) process e.handle.label) process
 
 pub exit : (items : List (Item Entry)) (named : List (NamedItem Key)) (process : Pid) (key : Key) (e : Entry) → IsIndex label_name items named → AreDistinct items
-    → IsFirstUnder (Begins (process.0 ∷ [])) named key → Some e ≡ value_at items key → IsExit (entries_of items) process e
+    → IsFirstUnder (Begins (process.0 ∷ [])) named key → Some e ≡ value_at items key → IsExit (values_of items) process e
 exit items named process key e index distinct f there =
     let at = index.only f.name key f.there in
     let entry : at.0 ≡ e = same_Some at.0 e (sym at.1 ∙ sym there) in
@@ -138,23 +138,23 @@ exit items named process key e index distinct f there =
     let name_is : f.name ≡ label_bytes process e.handle.label = sym name ∙ ap (λ p. label_bytes p e.handle.label) (process_from process e begins) in
     let under : key_under named (label_bytes process e.handle.label) ≡ Some key = ap (key_under named) (sym name_is) ∙ f.there in
     let kept =
-    entries_of-without items (without items key) named process e.handle.label key index under refl (value_at-gone items key distinct) in
+    values_of-without items (without items key) named process e.handle.label key index under refl (value_at-gone items key distinct) in
     let least =
     labels_least process e.handle.label key items (tells items named process e.handle.label key index under items index.all)
     (least_from named process e.handle.label key f name_is items index.all) distinct (rw (← there) refl) in
     record {
       object =
           ap (λ o. option_map (λ (e : Entry). e.handle.object) o) (there ∙ entry_at-index items named process e.handle.label key index (sym under))
-          ∙ object_at-entry (entries_of items) process e.handle.label;
+          ∙ object_at-entry (values_of items) process e.handle.label;
       labels =
           least
           ∙ ap (λ hs. e.handle.label ∷ labels_of hs process)
-          (ap (map handle_of) kept ∙ handles-without (entries_of items) process e.handle.label);
+          (ap (map handle_of) kept ∙ handles-without (values_of items) process e.handle.label);
     }
 
 -- a process with no name has no label
 pub no_labels : (named : List (NamedItem Key)) (process : Pid) (xs : List (Item Entry)) → IsNoneUnder (Begins (process.0 ∷ [])) named → AreNamed label_name named xs
-    → labels_of (map handle_of (entries_of xs)) process ≡ []
+    → labels_of (map handle_of (values_of xs)) process ≡ []
 no_labels named process [] none all = refl
 no_labels named process (x ∷ xs) none all =
     elim (cases_Bool (is_of_process process x.value.handle)) [

@@ -10,12 +10,12 @@ use Rattle.ktm_world.specs.HandleCalls.{is_handle}
 use Rattle.ktm_links.specs.declared.list.Key.{Key}
 use Rattle.ktm_links.specs.Items.{Item, same_key, value_at}
 use Rattle.ktm_links.specs.Mapped.{NamedItem, key_under}
+use Rattle.ktm_links.specs.Indexed.{values_of, AreNamed, IsIndex}
 use Rattle.ktm_links.proofs.Keys.{same_key-self}
 use Rattle.ktm_object.specs.declared.entry.Entry.{Entry}
 use Rattle.ktm_object.specs.Table.{handle_of, entry_at}
 use Rattle.ktm_object.specs.declared.name.Owner.{Owner}
 use Rattle.ktm_object.specs.Names.{label_bytes, label_name, owner_bytes}
-use Rattle.ktm_object.specs.Indexed.{entries_of, AreNamed, IsIndex}
 
 number_from : (a b : ℕ) → a / 256 ≡ b / 256 → a % 256 ≡ b % 256 → a ≡ b
 number_from a b high low = omega arith
@@ -38,7 +38,7 @@ is_handle-to process label e same =
 
 pub entry_at-found : (items : List (Item Entry)) (named : List (NamedItem Key)) (process : Pid) (label : Label) (key : Key) (e : Entry)
     → AreNamed label_name named items → key_under named (label_bytes process label) ≡ Some key → value_at items key ≡ Some e
-    → label_name e ≡ label_bytes process label → entry_at (entries_of items) process label ≡ Some e
+    → label_name e ≡ label_bytes process label → entry_at (values_of items) process label ≡ Some e
 entry_at-found [] named process label key e all under is name = absurd (cc)
 entry_at-found (x ∷ xs) named process label key e all under is name =
     elim (cases_Bool (is_handle process label x.value.handle)) [
@@ -56,7 +56,7 @@ entry_at-found (x ∷ xs) named process label key e all under is name =
     ]
 
 absent_in : (items : List (Item Entry)) (named : List (NamedItem Key)) (process : Pid) (label : Label)
-    → AreNamed label_name named items → key_under named (label_bytes process label) ≡ None → entry_at (entries_of items) process label ≡ None
+    → AreNamed label_name named items → key_under named (label_bytes process label) ≡ None → entry_at (values_of items) process label ≡ None
 absent_in [] named process label all none = refl
 absent_in (x ∷ xs) named process label all none =
     elim (cases_Bool (is_handle process label x.value.handle)) [
@@ -76,13 +76,13 @@ object_at-entry (e ∷ es) process label =
 
 -- what the map of labels finds is what the entries have under the label
 pub entry_at-index : (items : List (Item Entry)) (named : List (NamedItem Key)) (process : Pid) (label : Label) (key : Key)
-    → IsIndex label_name items named → Some key ≡ key_under named (label_bytes process label) → value_at items key ≡ entry_at (entries_of items) process label
+    → IsIndex label_name items named → Some key ≡ key_under named (label_bytes process label) → value_at items key ≡ entry_at (values_of items) process label
 entry_at-index items named process label key index under =
     let at = index.only (label_bytes process label) key (sym under) in
     at.1 ∙ sym (entry_at-found items named process label key at.0 index.all (sym under) at.1 at.2)
 
 pub entry_at-absent : (items : List (Item Entry)) (named : List (NamedItem Key)) (process : Pid) (label : Label)
-    → IsIndex label_name items named → None ≡ key_under named (label_bytes process label) → None ≡ entry_at (entries_of items) process label
+    → IsIndex label_name items named → None ≡ key_under named (label_bytes process label) → None ≡ entry_at (values_of items) process label
 entry_at-absent items named process label index none = sym (absent_in items named process label index.all (sym none))
 
 -- a name by owner ends with that by label

@@ -11,11 +11,11 @@ use Rattle.ktm_world.specs.Transactions.{same_id}
 use Rattle.ktm_links.specs.declared.list.Key.{Key}
 use Rattle.ktm_links.specs.Items.{Item, same_key, value_at}
 use Rattle.ktm_links.specs.Mapped.{NamedItem, Begins}
+use Rattle.ktm_links.specs.Indexed.{values_of, AreNamed, IsIndex, IsFirstUnder, IsNoneUnder}
 use Rattle.ktm_object.specs.declared.entry.Entry.{Entry}
 use Rattle.ktm_object.specs.declared.name.Owner.{Owner}
 use Rattle.ktm_object.specs.Table.{handle_of}
 use Rattle.ktm_object.specs.Names.{label_name, object_name, object_owner, owner_bytes}
-use Rattle.ktm_object.specs.Indexed.{entries_of, AreNamed, IsIndex, IsFirstUnder, IsNoneUnder}
 use Rattle.ktm_links.proofs.Numbers.{number_from}
 
 -- ---- names by owner
@@ -95,7 +95,7 @@ or_true true b is = refl
 or_true false b is = is
 
 has_handle-found : (items : List (Item Entry)) (key : Key) (e : Entry) (object : Object) → value_at items key ≡ Some e → same_object e.handle.object object ≡ true
-    → has_handle (map handle_of (entries_of items)) object ≡ true
+    → has_handle (map handle_of (values_of items)) object ≡ true
 has_handle-found [] key e object there same = absurd (cc)
 has_handle-found (x ∷ xs) key e object there same =
     elim (cases_Bool (same_key x.key key)) [
@@ -104,12 +104,12 @@ has_handle-found (x ∷ xs) key e object there same =
           let x_same : same_object x.value.handle.object object ≡ true = ap (λ (e : Entry). same_object e.handle.object object) value ∙ same in
           rw x_same refl
       | inr differs ↦
-          or_true (same_object x.value.handle.object object) (has_handle (map handle_of (entries_of xs)) object)
+          or_true (same_object x.value.handle.object object) (has_handle (map handle_of (values_of xs)) object)
           (has_handle-found xs key e object (rw differs at there) same)
     ]
 
 has_handle-none : (items : List (Item Entry)) (named : List (NamedItem Key)) (object : Object) → AreNamed object_name named items
-    → IsNoneUnder (Begins (owner_bytes (object_owner object) [])) named → has_handle (map handle_of (entries_of items)) object ≡ false
+    → IsNoneUnder (Begins (owner_bytes (object_owner object) [])) named → has_handle (map handle_of (values_of items)) object ≡ false
 has_handle-none [] named object all none = refl
 has_handle-none (x ∷ xs) named object all none =
     elim (cases_Bool (same_object x.value.handle.object object)) [
@@ -123,7 +123,7 @@ has_handle-none (x ∷ xs) named object all none =
 -- a name that begins with the object is there exactly where a handle names it
 pub has_handle-told : (items : List (Item Entry)) (named : List (NamedItem Key)) (object : Object) (owner : Owner) (other : Option Key) → IsIndex object_name items named
     → owner ≡ object_owner object → IfSome other (λ key. IsFirstUnder (Begins (owner_bytes owner [])) named key)
-    → IfNone other (IsNoneUnder (Begins (owner_bytes owner [])) named) → is_some other ≡ has_handle (map handle_of (entries_of items)) object
+    → IfNone other (IsNoneUnder (Begins (owner_bytes owner [])) named) → is_some other ≡ has_handle (map handle_of (values_of items)) object
 has_handle-told items named object owner None index is first none =
     sym (has_handle-none items named object index.all (let P : Owner → Type 0 = λ o. IsNoneUnder (Begins (owner_bytes o [])) named in subst P is none))
 has_handle-told items named object owner (Some key) index is first none =

@@ -3,7 +3,7 @@ use ktm_base::{Id, Label};
 use ktm_types::{Handle, Object};
 
 /// A handle, its group, and whether that has ended.
-#[derive(Clone, Copy, Debug, PartialEq, Eq)]
+#[derive(Clone, Copy)]
 pub struct Entry {
     pub handle: Handle,
     pub group: Option<Id>,
@@ -11,7 +11,7 @@ pub struct Entry {
 }
 
 /// A handle that is gone: what it named, and whether no other handle names that.
-#[derive(Clone, Copy, Debug, PartialEq, Eq)]
+#[derive(Clone, Copy)]
 pub struct Closed {
     pub label: Label,
     pub object: Object,

@@ -5,9 +5,8 @@ ghost use Rattle.ktm_world.specs.Handles.{no_handle_left, object_at};
 ghost use Rattle.ktm_world.specs.HandleCalls.{labels_of, without_handle};
 ghost use Rattle.ktm_world.specs.Labels.{with_handle};
 ghost use Rattle.ktm_world.specs.Transactions.{is_of};
-ghost use Rattle.ktm_links.specs.Mapped.{Begins, IsNotBelow, key_under};
+ghost use Rattle.ktm_links.specs.Mapped.{Begins, IsNotBelow};
 ghost use Rattle.ktm_object.specs.Ending.{after, group_bytes, name_in, AreAllEnded, AreEnded, IsInRange};
-ghost use Rattle.ktm_object.specs.Indexed.{IsFirstUnder, IsNoneUnder};
 ghost use Rattle.ktm_object.specs.Table.{bound, closed_of, ended_group, entry_at, first_label, handles_of, is_dead_at, with_duplicate, without_entry};
 
 use crate::entry::{Closed, Entry};
@@ -15,7 +14,7 @@ use crate::name::{
     LabelName, OwnerName, after, group_owner, label_bytes, object_owner, owner_bytes, owner_name,
 };
 use ktm_base::{Id, Label, MOST_HANDLES, NoMemory, Pid};
-use ktm_links::{Chains, Key, List, Name};
+use ktm_links::{Chains, Key, List, first_from, first_under, key_under};
 use ktm_types::{Handle, Object};
 use std::alloc::Global;
 use std::marker::Model;
@@ -36,47 +35,16 @@ impl Model for Handles {
 
     ghost Value = { HandleTable };
 
-    ghost use Rattle.ktm_object.specs.Indexed.{entries_of, IsIndexed};
+    ghost use Rattle.ktm_links.specs.Indexed.{values_of};
+    ghost use Rattle.ktm_object.specs.Indexed.{IsIndexed};
 
     ghost view = { λ h. record {
-      entries = entries_of h.entries.items;
+      entries = values_of h.entries.items;
       ever = h.entries.next;
       spare = min h.entries.spare (min h.by_label.spare (min h.by_object.spare h.by_group.spare));
     } };
 
     ghost invariant = { λ h. IsIndexed h.entries h.by_label h.by_object h.by_group };
-}
-
-// The key that the map has under the name.
-fn key_under<K: Name>(map: &Chains<K, Key>, name: &[u8]) -> Option<Key>
-    ensures { result ≡ key_under map.now.entries name.now }
-{
-    match map.find(name) {
-        Some(key) => map.get(key).copied(),
-        None => None,
-    }
-}
-
-// The key under the first of the names that begin with these bytes.
-fn first_under<K: Name>(map: &Chains<K, Key>, prefix: &[u8]) -> Option<Key>
-    ensures first { IfSome result (λ key. IsFirstUnder (Begins prefix.now) map.now.entries key) }
-    ensures none { IfNone result (IsNoneUnder (Begins prefix.now) map.now.entries) }
-{
-    match map.first_with(prefix) {
-        Some(own) => map.get(own).copied(),
-        None => None,
-    }
-}
-
-// The key under the first of the names that are not below this one.
-fn first_from<K: Name>(map: &Chains<K, Key>, name: &[u8]) -> Option<Key>
-    ensures first { IfSome result (λ key. IsFirstUnder (λ q. IsNotBelow q name.now) map.now.entries key) }
-    ensures none { IfNone result (IsNoneUnder (λ q. IsNotBelow q name.now) map.now.entries) }
-{
-    match map.first_from(name) {
-        Some(own) => map.get(own).copied(),
-        None => None,
-    }
 }
 
 // Is the entry of the group.
@@ -296,7 +264,7 @@ impl Handles {
         self.close(process, label)
     }
 
-    /// Tells each handle of the group, and no other, that the group has ended. They stay bound. One that is bound to the
+    /// IsSomeAnd each handle of the group, and no other, that the group has ended. They stay bound. One that is bound to the
     /// group later is not told.
     pub fn end_group(&mut self, group: Id)
         ensures entries { self.new.entries ≡ ended_group self.old.entries group }
@@ -310,7 +278,7 @@ impl Handles {
         }
     }
 
-    // Tells the first handle of the group whose name is not below this one, if there is one, that the group has ended.
+    // IsSomeAnd the first handle of the group whose name is not below this one, if there is one, that the group has ended.
     fn end_next(&mut self, group: Id, from: &[u8]) -> Option<Handle>
         requires begins { Begins (group_bytes group) from.now }
         requires before { AreEnded group from.now self.old.entries }

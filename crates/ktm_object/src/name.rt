@@ -13,7 +13,7 @@ pub(crate) type LabelName = [u8; 3];
 pub(crate) type OwnerName = [u8; 12];
 
 /// What handles stand together by: an object, or a group.
-#[derive(Clone, Copy, Debug, PartialEq, Eq)]
+#[derive(Clone, Copy)]
 pub(crate) struct Owner {
     pub(crate) kind: u8,
     pub(crate) boot: u32,

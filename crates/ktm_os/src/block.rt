@@ -1,8 +1,8 @@
 // A block device over a file.
-ghost use Rattle.std.specs.Prelude.{◌≡◌, ◌≤◌, ◌+◌, true, false, [], ◌∷◌, length, slice_range, IfOk, OnOk, OnErr};
+ghost use Rattle.std.specs.Prelude.{◌≡◌, ◌≤◌, ◌+◌, true, false, [], ◌∷◌, length, slice_range, IfOk, OnOk, OnErr, IfSome};
 ghost use Rattle.ktm_base.specs.Bytes.{written, SameOutside, GrewTo, GrewTowards};
 ghost use Rattle.ktm_base.specs.Stream.{Faults};
-ghost use Rattle.ktm_base.specs.Told.{IfTold, Goes};
+ghost use Rattle.ktm_base.specs.Told.{Goes};
 ghost use Rattle.ktm_os.specs.Count.{counted, IsOneMore};
 ghost use Rattle.ktm_os.specs.File.{to_change};
 
@@ -72,7 +72,7 @@ impl<F: ImageFile> Block for FileBlock<F> {
     ghost waits = { λ b. b.image.waits };
 
     fn len(&mut self) -> Result<u64, Failed>
-        ensures value { IfOk result (λ n. IfTold (F.contents self.old.image.file) (λ bytes. n ≡ length bytes)) }
+        ensures value { IfOk result (λ n. IfSome (F.contents self.old.image.file) (λ bytes. n ≡ length bytes)) }
         ensures same { F.contents self.new.image.file ≡ F.contents self.old.image.file }
         ensures waits { self.new.image.waits ≡ self.old.image.waits }
         ensures faults { Faults self.old.faults self.new.faults result }
@@ -84,27 +84,27 @@ impl<F: ImageFile> Block for FileBlock<F> {
     }
 
     fn read_at(&mut self, at: u64, buf: &mut [u8]) -> Result<(), Failed>
-        requires { IfTold (F.contents self.old.image.file) (λ bytes. at + length buf.old ≤ length bytes) }
-        ensures value { OnOk result (IfTold (F.contents self.old.image.file) (λ bytes. buf.new ≡ slice_range bytes at (at + length buf.old))) }
+        requires { IfSome (F.contents self.old.image.file) (λ bytes. at + length buf.old ≤ length bytes) }
+        ensures value { OnOk result (IfSome (F.contents self.old.image.file) (λ bytes. buf.new ≡ slice_range bytes at (at + length buf.old))) }
         ensures same { F.contents self.new.image.file ≡ F.contents self.old.image.file }
         ensures waits { self.new.image.waits ≡ self.old.image.waits }
         ensures faults { Faults self.old.faults self.new.faults result }
         ensures counts { self.new.faults ≡ counted result self.old.faults }
         ensures answered { OnOk result (F.failures self.new.image.file ≡ F.failures self.old.image.file) }
-        ensures failed { OnErr result (IfTold (F.contents self.old.image.file) (λ _. Goes IsOneMore (F.failures self.old.image.file) (F.failures self.new.image.file))) }
+        ensures failed { OnErr result (IfSome (F.contents self.old.image.file) (λ _. Goes IsOneMore (F.failures self.old.image.file) (F.failures self.new.image.file))) }
     {
         count_failure(self.image.read_at(at, buf), &mut self.faults)
     }
 
     fn write_at(&mut self, at: u64, bytes: &[u8]) -> Result<(), Failed>
-        requires { IfTold (F.contents self.old.image.file) (λ old. at + length bytes.now ≤ length old) }
+        requires { IfSome (F.contents self.old.image.file) (λ old. at + length bytes.now ≤ length old) }
         ensures ok { OnOk result (Goes (λ old new. new ≡ written old at bytes.now) (F.contents self.old.image.file) (F.contents self.new.image.file)) }
         ensures err { OnErr result (Goes (SameOutside ((at, length bytes.now) ∷ [])) (F.contents self.old.image.file) (F.contents self.new.image.file)) }
         ensures waits { self.new.image.waits ≡ true }
         ensures faults { Faults self.old.faults self.new.faults result }
         ensures counts { self.new.faults ≡ counted result self.old.faults }
         ensures answered { OnOk result (F.failures self.new.image.file ≡ F.failures self.old.image.file) }
-        ensures failed { OnErr result (IfTold (F.contents self.old.image.file) (λ _. Goes IsOneMore (F.failures self.old.image.file) (F.failures self.new.image.file))) }
+        ensures failed { OnErr result (IfSome (F.contents self.old.image.file) (λ _. Goes IsOneMore (F.failures self.old.image.file) (F.failures self.new.image.file))) }
     {
         count_failure(self.image.write_at(at, bytes), &mut self.faults)
     }

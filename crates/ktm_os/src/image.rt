@@ -1,7 +1,7 @@
 // What is known of the file of a block.
-ghost use Rattle.std.specs.Prelude.{◌≡◌, ◌≤◌, ◌+◌, true, false, [], ◌∷◌, length, slice_range, IfOk, OnOk, OnErr, IsSome};
+ghost use Rattle.std.specs.Prelude.{◌≡◌, ◌≤◌, ◌+◌, true, false, [], ◌∷◌, length, slice_range, IfOk, OnOk, OnErr, IsSome, IfSome};
 ghost use Rattle.ktm_base.specs.Bytes.{written, SameOutside, GrewTo, GrewTowards};
-ghost use Rattle.ktm_base.specs.Told.{IfTold, Goes};
+ghost use Rattle.ktm_base.specs.Told.{Goes};
 ghost use Rattle.ktm_os.specs.Count.{IsOneMore};
 ghost use Rattle.ktm_os.specs.ImageFile.{IsLengthOf};
 
@@ -38,7 +38,7 @@ impl<F: ImageFile> Image<F> {
 
     /// Its length, for which the file is called once.
     pub fn len(&mut self) -> io::Result<u64>
-        ensures value { IfOk result (λ n. IfTold (F.contents self.old.file) (λ bytes. n ≡ length bytes)) }
+        ensures value { IfOk result (λ n. IfSome (F.contents self.old.file) (λ bytes. n ≡ length bytes)) }
         ensures once { IsSome self.old.length → self.new ≡ self.old }
         ensures known { OnOk result (IsSome self.new.length) }
         ensures same { F.contents self.new.file ≡ F.contents self.old.file }
@@ -58,12 +58,12 @@ impl<F: ImageFile> Image<F> {
     // A range that passes the end is refused.
     fn reach(&mut self, at: u64, len: usize) -> io::Result<()>
         ensures known { OnOk result (IsSome self.new.length) }
-        ensures within { OnOk result (IfTold (F.contents self.old.file) (λ bytes. at + len ≤ length bytes)) }
+        ensures within { OnOk result (IfSome (F.contents self.old.file) (λ bytes. at + len ≤ length bytes)) }
         ensures same { F.contents self.new.file ≡ F.contents self.old.file }
         ensures waits { self.new.waits ≡ self.old.waits }
         ensures name { self.new.is_name_synced ≡ self.old.is_name_synced }
         ensures answered { OnOk result (F.failures self.new.file ≡ F.failures self.old.file) }
-        ensures failed { OnErr result (IfTold (F.contents self.old.file) (λ bytes. at + len ≤ length bytes
+        ensures failed { OnErr result (IfSome (F.contents self.old.file) (λ bytes. at + len ≤ length bytes
             → Goes IsOneMore (F.failures self.old.file) (F.failures self.new.file))) }
     {
         let length = self.len()?;
@@ -74,28 +74,28 @@ impl<F: ImageFile> Image<F> {
     }
 
     pub fn read_at(&mut self, at: u64, buf: &mut [u8]) -> io::Result<()>
-        requires { IfTold (F.contents self.old.file) (λ bytes. at + length buf.old ≤ length bytes) }
-        ensures value { OnOk result (IfTold (F.contents self.old.file) (λ bytes. buf.new ≡ slice_range bytes at (at + length buf.old))) }
+        requires { IfSome (F.contents self.old.file) (λ bytes. at + length buf.old ≤ length bytes) }
+        ensures value { OnOk result (IfSome (F.contents self.old.file) (λ bytes. buf.new ≡ slice_range bytes at (at + length buf.old))) }
         ensures same { F.contents self.new.file ≡ F.contents self.old.file }
         ensures waits { self.new.waits ≡ self.old.waits }
         ensures name { self.new.is_name_synced ≡ self.old.is_name_synced }
         ensures known { OnOk result (IsSome self.new.length) }
         ensures answered { OnOk result (F.failures self.new.file ≡ F.failures self.old.file) }
-        ensures failed { OnErr result (IfTold (F.contents self.old.file) (λ _. Goes IsOneMore (F.failures self.old.file) (F.failures self.new.file))) }
+        ensures failed { OnErr result (IfSome (F.contents self.old.file) (λ _. Goes IsOneMore (F.failures self.old.file) (F.failures self.new.file))) }
     {
         self.reach(at, buf.len())?;
         self.file.read(at, buf)
     }
 
     pub fn write_at(&mut self, at: u64, bytes: &[u8]) -> io::Result<()>
-        requires { IfTold (F.contents self.old.file) (λ old. at + length bytes.now ≤ length old) }
+        requires { IfSome (F.contents self.old.file) (λ old. at + length bytes.now ≤ length old) }
         ensures ok { OnOk result (Goes (λ old new. new ≡ written old at bytes.now) (F.contents self.old.file) (F.contents self.new.file)) }
         ensures err { OnErr result (Goes (SameOutside ((at, length bytes.now) ∷ [])) (F.contents self.old.file) (F.contents self.new.file)) }
         ensures waits { self.new.waits ≡ true }
         ensures name { self.new.is_name_synced ≡ self.old.is_name_synced }
         ensures known { OnOk result (IsSome self.new.length) }
         ensures answered { OnOk result (F.failures self.new.file ≡ F.failures self.old.file) }
-        ensures failed { OnErr result (IfTold (F.contents self.old.file) (λ _. Goes IsOneMore (F.failures self.old.file) (F.failures self.new.file))) }
+        ensures failed { OnErr result (IfSome (F.contents self.old.file) (λ _. Goes IsOneMore (F.failures self.old.file) (F.failures self.new.file))) }
     {
         self.waits = true;
         self.reach(at, bytes.len())?;

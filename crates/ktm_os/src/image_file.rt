@@ -1,6 +1,6 @@
 // The file of a block.
-ghost use Rattle.std.specs.Prelude.{◌≡◌, ℕ, ◌+◌, ◌≤◌, Bool, true, Option, List, [], ◌∷◌, length, slice_range, IfOk, OnOk, OnErr};
-ghost use Rattle.ktm_base.specs.Told.{IfTold, Goes};
+ghost use Rattle.std.specs.Prelude.{◌≡◌, ℕ, ◌+◌, ◌≤◌, Bool, true, Option, List, [], ◌∷◌, length, slice_range, IfOk, OnOk, OnErr, IfSome};
+ghost use Rattle.ktm_base.specs.Told.{Goes};
 ghost use Rattle.ktm_base.specs.Bytes.{written, SameOutside, GrewTo, GrewTowards};
 ghost use Rattle.ktm_os.specs.Count.{IsOneMore};
 
@@ -21,7 +21,7 @@ pub trait ImageFile {
     ghost is_name_synced: { Self → Bool };
 
     fn len(&mut self) -> io::Result<u64>
-        ensures value { IfOk result (λ n. IfTold (contents self.old) (λ bytes. n ≡ length bytes)) }
+        ensures value { IfOk result (λ n. IfSome (contents self.old) (λ bytes. n ≡ length bytes)) }
         ensures same { contents self.new ≡ contents self.old }
         ensures synced { is_synced self.new ≡ is_synced self.old }
         ensures name { is_name_synced self.new ≡ is_name_synced self.old }
@@ -30,8 +30,8 @@ pub trait ImageFile {
 
     /// Fills the buffer.
     fn read(&mut self, at: u64, buf: &mut [u8]) -> io::Result<()>
-        requires { IfTold (contents self.old) (λ bytes. at + length buf.old ≤ length bytes) }
-        ensures value { OnOk result (IfTold (contents self.old) (λ bytes. buf.new ≡ slice_range bytes at (at + length buf.old))) }
+        requires { IfSome (contents self.old) (λ bytes. at + length buf.old ≤ length bytes) }
+        ensures value { OnOk result (IfSome (contents self.old) (λ bytes. buf.new ≡ slice_range bytes at (at + length buf.old))) }
         ensures same { contents self.new ≡ contents self.old }
         ensures synced { is_synced self.new ≡ is_synced self.old }
         ensures name { is_name_synced self.new ≡ is_name_synced self.old }
@@ -40,7 +40,7 @@ pub trait ImageFile {
 
     /// Writes over what is there. After a failure the range may hold anything.
     fn write(&mut self, at: u64, bytes: &[u8]) -> io::Result<()>
-        requires { IfTold (contents self.old) (λ old. at + length bytes.now ≤ length old) }
+        requires { IfSome (contents self.old) (λ old. at + length bytes.now ≤ length old) }
         ensures ok { OnOk result (Goes (λ old new. new ≡ written old at bytes.now) (contents self.old) (contents self.new)) }
         ensures err { OnErr result (Goes (SameOutside ((at, length bytes.now) ∷ [])) (contents self.old) (contents self.new)) }
         ensures name { is_name_synced self.new ≡ is_name_synced self.old }
@@ -49,7 +49,7 @@ pub trait ImageFile {
 
     /// Makes it this long, which is no shorter than it was. After a failure it may have any length between.
     fn grow(&mut self, len: u64) -> io::Result<()>
-        requires { IfTold (contents self.old) (λ bytes. length bytes ≤ len) }
+        requires { IfSome (contents self.old) (λ bytes. length bytes ≤ len) }
         ensures ok { OnOk result (Goes (GrewTo len) (contents self.old) (contents self.new)) }
         ensures err { OnErr result (Goes (GrewTowards len) (contents self.old) (contents self.new)) }
         ensures name { is_name_synced self.new ≡ is_name_synced self.old }

@@ -3,3 +3,4 @@ pub mod Kinds
 pub mod States
 pub mod Spelling
 pub mod Reading
+pub mod WorkedReplies

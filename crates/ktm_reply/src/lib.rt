@@ -4,6 +4,7 @@
 
 mod fault;
 mod information;
+mod laws;
 mod notification;
 mod read;
 mod refusal;
@@ -12,5 +13,6 @@ mod word;
 mod write;
 
 pub use fault::ReplyFault;
+pub use laws::law_of_worked_replies;
 pub use read::{law_of_round_trip, read_reply};
 pub use write::write_reply;

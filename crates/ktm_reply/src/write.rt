@@ -45,54 +45,62 @@ fn put_notification(
     Ok(())
 }
 
-/// The line that a reply is, without a newline.
-pub fn write_reply(alloc: Global, reply: &Reply) -> Result<Bytes, NoMemory>
-    ensures { IfOk result (λ line. line ≡ reply_spelling reply.now) }
+// Puts the line that a reply is, without a newline.
+fn put_reply(out: &mut Vec<u8>, reply: &Reply) -> Result<(), NoMemory>
+    ensures { OnOk result (out.new.items ≡ out.old.items ++ reply_spelling reply.now) }
 {
-    let mut line = Vec::new(alloc);
     match reply {
-        Reply::Refused(refusal) => line.extend_from_slice(refusal_name(*refusal))?,
-        Reply::Done => line.extend_from_slice(b"ok")?,
+        Reply::Refused(refusal) => out.extend_from_slice(refusal_name(*refusal))?,
+        Reply::Done => out.extend_from_slice(b"ok")?,
         Reply::Guid(guid) => {
-            line.extend_from_slice(b"ok ")?;
-            put_guid(&mut line, guid)?;
+            out.extend_from_slice(b"ok ")?;
+            put_guid(out, guid)?;
         }
-        Reply::Committed => line.extend_from_slice(b"ok committed")?,
-        Reply::Pending => line.extend_from_slice(b"ok pending")?,
+        Reply::Committed => out.extend_from_slice(b"ok committed")?,
+        Reply::Pending => out.extend_from_slice(b"ok pending")?,
         Reply::Information {
             transaction,
             state,
             outcome,
         } => {
-            line.extend_from_slice(b"ok ")?;
-            put_information(&mut line, transaction, *state, *outcome)?;
+            out.extend_from_slice(b"ok ")?;
+            put_information(out, transaction, *state, *outcome)?;
         }
         Reply::Notification { kind, enlistment } => {
-            line.extend_from_slice(b"ok ")?;
-            put_notification(&mut line, *kind, enlistment)?;
+            out.extend_from_slice(b"ok ")?;
+            put_notification(out, *kind, enlistment)?;
         }
         Reply::Contents(bytes) => {
-            line.extend_from_slice(b"ok ")?;
-            put_hex_or_dash(&mut line, bytes.as_slice())?;
+            out.extend_from_slice(b"ok ")?;
+            put_hex_or_dash(out, bytes.as_slice())?;
         }
         Reply::Size(size) => {
-            line.extend_from_slice(b"ok ")?;
-            put_number(&mut line, *size)?;
+            out.extend_from_slice(b"ok ")?;
+            put_number(out, *size)?;
         }
         Reply::Names(texts) | Reply::Keys(texts) => {
-            line.extend_from_slice(b"ok")?;
-            put_texts(&mut line, texts.as_slice())?;
+            out.extend_from_slice(b"ok")?;
+            put_texts(out, texts.as_slice())?;
         }
         Reply::Restarted { events, in_doubt } => {
-            line.extend_from_slice(b"restarted events=")?;
-            put_number(&mut line, *events)?;
-            line.extend_from_slice(b" indoubt=")?;
-            put_number(&mut line, u64::from(*in_doubt))?;
+            out.extend_from_slice(b"restarted events=")?;
+            put_number(out, *events)?;
+            out.extend_from_slice(b" indoubt=")?;
+            put_number(out, u64::from(*in_doubt))?;
         }
         Reply::BadImage(offset) => {
-            line.extend_from_slice(b"BAD_IMAGE ")?;
-            put_number(&mut line, *offset)?;
+            out.extend_from_slice(b"BAD_IMAGE ")?;
+            put_number(out, *offset)?;
         }
     }
+    Ok(())
+}
+
+/// The line that a reply is, without a newline.
+pub fn write_reply(alloc: Global, reply: &Reply) -> Result<Bytes, NoMemory>
+    ensures { IfOk result (λ line. line ≡ reply_spelling reply.now) }
+{
+    let mut line = Vec::new(alloc);
+    put_reply(&mut line, reply)?;
     Ok(Bytes::new(line))
 }

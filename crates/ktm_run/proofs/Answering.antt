@@ -1,4 +1,5 @@
 -- What the answers to lines come to, of the machine and of the counts.
+use Rattle.std.specs.Prelude.{IsSomeAnd}
 use Rattle.std.proofs.Common.{◌≡◌, ◌⊎◌, inl, inr, ℕ, ◌+◌, ◌*◌, ◌≤◌, Bool, true, false, List, [], ◌∷◌, ◌++◌, Option, Some, Result, Ok, Err, IfOk, OnErr, refl, sym, ◌∙◌, ap, subst, arith}
 use Rattle.std.proofs.lemmas.List.{append-nil}
 use Rattle.ktm_base.specs.declared.limits.TheConstants.{MOST_UNITS}
@@ -10,7 +11,7 @@ use Rattle.ktm_base.specs.declared.refusal.Refusal.TheVariants.{MachineDown}
 use Rattle.ktm_base.specs.Count.{Rose}
 use Rattle.ktm_base.specs.Disk.{DiskState, DiskStatus, DeviceCalls}
 use Rattle.ktm_base.specs.Power.{after_off, planned, Restored, NotRestored}
-use Rattle.ktm_base.specs.Told.{Tells, Goes}
+use Rattle.ktm_base.specs.Told.{Goes}
 use Rattle.ktm_kernel.specs.Stands.{KernelState, StandsBy, KernelAt, FoundAt, DoesLine, LeavesStates, PowerLaw}
 use Rattle.ktm_kernel.proofs.Left.{left_law}
 use Rattle.ktm_kernel.proofs.StartAgain.{found_law}
@@ -114,7 +115,7 @@ ticked k n before now a b ms reply does cause same = λ w at.
 pub not_executed : (k n : KernelState) (before now : Option DiskState) (a b : DiskStatus) (line : List ℕ) → now ≡ before → b ≡ a → (w : World) → KernelAt k before w
     → Unanswered w (record { machine = k; disk = before; status = a }) (record { machine = n; disk = now; status = b }) line
 not_executed k n before now a b line told same w at = record {
-  leaves = subst (λ (o : Option DiskState). Tells o (LeavesStates w)) (sym told) (left_law k before w at);
+  leaves = subst (λ (o : Option DiskState). IsSomeAnd o (LeavesStates w)) (sym told) (left_law k before w at);
   counts = inl (quiet w k n before now a b same);
 }
 
@@ -221,7 +222,7 @@ module _ (law : PowerLaw) (k n : KernelState) (before mid now : Option DiskState
   pub not_started : now ≡ mid → (line : List ℕ) (w : World) → Means line (Some (Restart pick)) → KernelAt k before w
       → Unanswered w (record { machine = k; disk = before; status = a }) (record { machine = n; disk = now; status = b }) line
   not_started same line w means at = record {
-    leaves = subst (λ (o : Option DiskState). Tells o (LeavesStates w)) (sym same) (found_law k mid w (found_at law k before mid off goes w at));
+    leaves = subst (λ (o : Option DiskState). IsSomeAnd o (LeavesStates w)) (sym same) (found_law k mid w (found_at law k before mid off goes w at));
     counts = inr (pick, means, off_of k before w off at, starts_counted w 0 at (RoseBy-none m.downs b.downs calls.later));
   }
 

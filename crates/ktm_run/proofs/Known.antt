@@ -1,10 +1,10 @@
 -- Bytes that are known piece by piece, and counts that never fall.
+use Rattle.std.specs.Prelude.{IfSome}
 use Rattle.std.proofs.Common.{◌≡◌, ℕ, ◌+◌, ◌-◌, ◌<◌, ◌≤◌, List, [], ◌++◌, length, take, drop, Option, None, Some, refl, sym, ◌∙◌, ap, subst, append_assoc, arith, length-append}
 use Rattle.std.proofs.lemmas.List.{append-nil, take_rest}
 use Rattle.std.proofs.Math.Seq.{take-add}
 use Rattle.std.specs.Io.KnownBytes.{Appends, Consumes, Keeps}
 use Rattle.ktm_base.specs.Count.{Rose}
-use Rattle.ktm_base.specs.Told.{IfTold}
 
 pub Appends-none : (o : Option (List ℕ)) → Appends o o []
 Appends-none None = tt
@@ -57,7 +57,7 @@ Consumes-end a b c xs ys n h k none =
     subst (λ (l : List ℕ). Consumes a c l) (append-nil xs) (Consumes-trans a b c xs [] h (subst (λ m. Consumes b c (take m ys)) none k))
 
 -- what was read is as long as what was told
-pub Consumes-long : (a b : Option (List ℕ)) (xs : List ℕ) (n : ℕ) → Consumes a b xs → n < length xs → IfTold a (λ l. n < length l)
+pub Consumes-long : (a b : Option (List ℕ)) (xs : List ℕ) (n : ℕ) → Consumes a b xs → n < length xs → IfSome a (λ l. n < length l)
 Consumes-long None b xs n h long = tt
 Consumes-long (Some a) None xs n h long = absurd h
 Consumes-long (Some a) (Some b) xs n h long = rw h (simp length-append (omega arith))

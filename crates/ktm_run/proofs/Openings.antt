@@ -1,11 +1,12 @@
 -- What a run begins from, on a disk that was prepared.
+use Rattle.std.specs.Prelude.{IfSome, IsSomeAnd}
 use Rattle.std.proofs.Common.{◌≡◌, ◌⊎◌, inl, inr, ℕ, ◌+◌, ◌-◌, ◌*◌, ◌<◌, ◌≤◌, Bool, true, false, List, [], ◌∷◌, ◌++◌, length, Option, Some, None, refl, sym, ◌∙◌, ap, ap₂, subst, arith}
 use Rattle.std.proofs.lemmas.List.{append-nil}
 use Rattle.ktm_base.specs.declared.limits.TheConstants.{MOST_UNITS, NEW_UNITS}
 use Rattle.ktm_base.specs.Disk.{DiskState, DiskStatus, DeviceCalls, MayLeave, IsSafe}
-use Rattle.ktm_base.specs.Told.{IfTold, Tells, Goes}
+use Rattle.ktm_base.specs.Told.{Goes}
 use Rattle.ktm_base.proofs.Images.{safe_law}
-use Rattle.ktm_base.proofs.ToldSteps.{Tells-map, Tells-step}
+use Rattle.ktm_base.proofs.ToldSteps.{IsSomeAnd-map, IsSomeAnd-step}
 use Rattle.ktm_journal.specs.Bad.{IsBadAt}
 use Rattle.ktm_journal.specs.Image.{HoldsLog, IsHeaded, StandsFor, left_after}
 use Rattle.ktm_journal.proofs.OneImage.{not_bad}
@@ -67,16 +68,16 @@ prepared_base base room old new (safe, begins) prepared = elim prepared [
   | inr (some, same) ↦ subst (λ (s : DiskState). IsBase base room s) (sym same) (old_base base room old safe (begins_there base room old.seen some begins))
 ]
 
-pub tells_base : (base : Durable) (room : ℕ) (old new : Option DiskState) → Tells old (Begins base room) → Goes Prepared old new → Tells new (IsBase base room)
-tells_base base room old new tells goes = Tells-step old new (Begins base room) (IsBase base room) tells goes (prepared_base base room)
+pub tells_base : (base : Durable) (room : ℕ) (old new : Option DiskState) → IsSomeAnd old (Begins base room) → Goes Prepared old new → IsSomeAnd new (IsBase base room)
+tells_base base room old new tells goes = IsSomeAnd-step old new (Begins base room) (IsBase base room) tells goes (prepared_base base room)
 
 all_left : (n : ℕ) → n - log_size [] ≡ n
 all_left n = omega arith
 
 module _ (base : Durable) (room : ℕ) where
   -- the machine that started stands for the world that was opened
-  pub stands_opened : (told new : Option DiskState) (kernel : KernelState) (events in_doubt : ℕ) → Tells told (IsBase base room)
-      → ((units image : ℕ) (before log : List Group) → Tells told (HoldsBoth units image before log) → Started units image before log kernel events in_doubt new)
+  pub stands_opened : (told new : Option DiskState) (kernel : KernelState) (events in_doubt : ℕ) → IsSomeAnd told (IsBase base room)
+      → ((units image : ℕ) (before log : List Group) → IsSomeAnd told (HoldsBoth units image before log) → Started units image before log kernel events in_doubt new)
       → KernelAt kernel new (opened base room []) × (is_full room (own_group base) ≡ false)
   stands_opened None new kernel events in_doubt is starts = absurd is
   stands_opened (Some s) new kernel events in_doubt is starts =
@@ -87,8 +88,8 @@ module _ (base : Durable) (room : ℕ) where
             (subst (λ (d : Durable). is_full (left_after base.units is.before - log_size []) (own_group d) ≡ false) (sym is.comes_to) start.room),
       )
 
-  pub no_room : (told : Option DiskState) → Tells told (IsBase base room)
-      → ((units image : ℕ) (before log : List Group) → Tells told (HoldsBoth units image before log) → is_full_for_own units image before log ≡ true)
+  pub no_room : (told : Option DiskState) → IsSomeAnd told (IsBase base room)
+      → ((units image : ℕ) (before log : List Group) → IsSomeAnd told (HoldsBoth units image before log) → is_full_for_own units image before log ≡ true)
       → is_full room (own_group base) ≡ true
   no_room None is full = absurd is
   no_room (Some s) is full =
@@ -96,12 +97,12 @@ module _ (base : Durable) (room : ℕ) where
       (subst (λ (d : Durable). is_full (left_after base.units is.before - log_size []) (own_group d) ≡ true) (sym is.comes_to) (full base.units base.image is.before [] is.holds))
 
   -- what is left where nothing was written may begin the same run
-  pub left_begins : (told : Option DiskState) → Tells told (IsBase base room) → Tells told (λ s. (image : List ℕ) → MayLeave s image → BeginsAs base room image)
-  left_begins told tells = Tells-map told (IsBase base room) _ tells (λ s is image left.
+  pub left_begins : (told : Option DiskState) → IsSomeAnd told (IsBase base room) → IsSomeAnd told (λ s. (image : List ℕ) → MayLeave s image → BeginsAs base room image)
+  left_begins told tells = IsSomeAnd-map told (IsBase base room) _ tells (λ s is image left.
       subst (λ (l : List ℕ). BeginsAs base room l) (sym ((safe_law s image is.holds.0).0 left)) (begins_as base room s.seen (begins_with base room s is)))
 
-  pub safe_begins : (told : Option DiskState) → Tells told (Begins base room) → Tells told (λ s. (image : List ℕ) → MayLeave s image → BeginsAs base room image)
-  safe_begins told tells = Tells-map told (Begins base room) _ tells (λ s begins image left.
+  pub safe_begins : (told : Option DiskState) → IsSomeAnd told (Begins base room) → IsSomeAnd told (λ s. (image : List ℕ) → MayLeave s image → BeginsAs base room image)
+  safe_begins told tells = IsSomeAnd-map told (Begins base room) _ tells (λ s begins image left.
       subst (λ (l : List ℕ). BeginsAs base room l) (sym ((safe_law s image begins.0).0 left)) begins.1)
 
   few_calls : (old new : DiskState) (a b c : DiskStatus) (x y : Bool) → Begins base room old → Prepared old new → DeviceCalls (8 * MOST_UNITS + 65) a b x → DeviceCalls (8 * MOST_UNITS + 68) b c y
@@ -119,8 +120,8 @@ module _ (base : Durable) (room : ℕ) where
         omega arith
   ]
 
-  pub opening_counts : (old new : Option DiskState) (a b c : DiskStatus) (x y : Bool) → Tells old (Begins base room) → Goes Prepared old new → DeviceCalls (8 * MOST_UNITS + 65) a b x → DeviceCalls (8 * MOST_UNITS + 68) b c y
-      → (Tells old (λ s. 0 < length s.seen) → b.calls ≤ a.calls + 1) → ((units image : ℕ) → Tells new (λ s. IsHeaded units image s.seen) → c.calls ≤ b.calls + (8 * units + 68))
+  pub opening_counts : (old new : Option DiskState) (a b c : DiskStatus) (x y : Bool) → IsSomeAnd old (Begins base room) → Goes Prepared old new → DeviceCalls (8 * MOST_UNITS + 65) a b x → DeviceCalls (8 * MOST_UNITS + 68) b c y
+      → (IsSomeAnd old (λ s. 0 < length s.seen) → b.calls ≤ a.calls + 1) → ((units image : ℕ) → IsSomeAnd new (λ s. IsHeaded units image s.seen) → c.calls ≤ b.calls + (8 * units + 68))
       → RunCounts base.units a c 0 [] 0
   opening_counts None new a b c x y tells goes first second one few = absurd tells
   opening_counts (Some old) None a b c x y tells goes first second one few = absurd goes
@@ -131,14 +132,14 @@ module _ (base : Durable) (room : ℕ) where
   }
 
   -- what begins a run is bad nowhere
-  pub begins_good : (told : Option DiskState) (offset : ℕ) → Tells told (Begins base room) → IfTold told (λ s. (0 < length s.seen) × IsBadAt s.seen offset) → ⊥
+  pub begins_good : (told : Option DiskState) (offset : ℕ) → IsSomeAnd told (Begins base room) → IfSome told (λ s. (0 < length s.seen) × IsBadAt s.seen offset) → ⊥
   begins_good None offset tells bad = absurd tells
   begins_good (Some s) offset tells bad =
       let begins = begins_there base room s.seen bad.0 tells.1 in
       not_bad base s.seen offset (record { log = begins.log; holds = begins.holds; comes_to = begins.comes_to }) bad.1
 
 -- an image that could be opened begins a run
-pub opens_begin : (old new : Option DiskState) → Goes Prepared old new → IfTold new (λ s. (state : Durable) × StandsFor state s.seen) → IfTold old (λ s. (base : Durable) × (room : ℕ) × BeginsAs base room s.seen)
+pub opens_begin : (old new : Option DiskState) → Goes Prepared old new → IfSome new (λ s. (state : Durable) × StandsFor state s.seen) → IfSome old (λ s. (base : Durable) × (room : ℕ) × BeginsAs base room s.seen)
 opens_begin None new goes found = tt
 opens_begin (Some old) None goes found = absurd goes
 opens_begin (Some old) (Some new) goes (state, stands) = elim goes [
@@ -152,7 +153,7 @@ opens_begin (Some old) (Some new) goes (state, stands) = elim goes [
 ]
 
 -- a new image is bad nowhere, so a bad one was there
-pub bad_was_there : (old new : Option DiskState) (offset : ℕ) → Goes Prepared old new → IfTold new (λ s. IsBadAt s.seen offset) → IfTold old (λ s. (0 < length s.seen) × IsBadAt s.seen offset)
+pub bad_was_there : (old new : Option DiskState) (offset : ℕ) → Goes Prepared old new → IfSome new (λ s. IsBadAt s.seen offset) → IfSome old (λ s. (0 < length s.seen) × IsBadAt s.seen offset)
 bad_was_there None new offset goes bad = tt
 bad_was_there (Some old) None offset goes bad = absurd goes
 bad_was_there (Some old) (Some new) offset goes bad = elim goes [
@@ -161,7 +162,7 @@ bad_was_there (Some old) (Some new) offset goes bad = elim goes [
 ]
 
 -- of a disk that was prepared a bad image is as it was
-pub bad_kept : (old new : Option DiskState) (offset : ℕ) → Goes Prepared old new → IfTold new (λ s. IsBadAt s.seen offset) → new ≡ old
+pub bad_kept : (old new : Option DiskState) (offset : ℕ) → Goes Prepared old new → IfSome new (λ s. IsBadAt s.seen offset) → new ≡ old
 bad_kept None None offset goes bad = refl
 bad_kept None (Some new) offset goes bad = absurd goes
 bad_kept (Some old) None offset goes bad = absurd goes
@@ -171,8 +172,8 @@ bad_kept (Some old) (Some new) offset goes bad = elim goes [
 ]
 
 -- a new image has room for the group of a restart, so a full one was there
-pub full_kept : (old new : Option DiskState) → Goes Prepared old new → ((units image : ℕ) (before log : List Group) → Tells new (HoldsBoth units image before log) → is_full_for_own units image before log ≡ true)
-    → (new ≡ old) × IfTold old (λ s. 0 < length s.seen)
+pub full_kept : (old new : Option DiskState) → Goes Prepared old new → ((units image : ℕ) (before log : List Group) → IsSomeAnd new (HoldsBoth units image before log) → is_full_for_own units image before log ≡ true)
+    → (new ≡ old) × IfSome old (λ s. 0 < length s.seen)
 full_kept None None goes full = (refl, tt)
 full_kept None (Some new) goes full = absurd goes
 full_kept (Some old) None goes full = absurd goes
@@ -189,8 +190,8 @@ any_bytes (byte ∷ bytes) = inr (omega arith)
 
 module _ (base : Durable) (room : ℕ) where
   -- in the preparation
-  pub cut_before : (old new : Option DiskState) → Tells old (Begins base room) → Goes (λ old new. (old.seen ≡ []) ⊎ (new ≡ old)) old new
-      → Tells old (λ s. s.seen ≡ []) ⊎ Tells new (LeavesOpening base room)
+  pub cut_before : (old new : Option DiskState) → IsSomeAnd old (Begins base room) → Goes (λ old new. (old.seen ≡ []) ⊎ (new ≡ old)) old new
+      → IsSomeAnd old (λ s. s.seen ≡ []) ⊎ IsSomeAnd new (LeavesOpening base room)
   cut_before None new tells goes = absurd tells
   cut_before (Some old) None tells goes = absurd goes
   cut_before (Some old) (Some new) tells goes = elim goes [
@@ -218,11 +219,11 @@ module _ (base : Durable) (room : ℕ) where
       }
 
   -- in the restart
-  pub cut_within : (told new : Option DiskState) → Tells told (IsBase base room)
-      → ((units image : ℕ) (before log : List Group) → Tells told (HoldsBoth units image before log) → Tells new (LeavesOwnOrNot units image before log))
-      → Tells new (LeavesOpening base room)
+  pub cut_within : (told new : Option DiskState) → IsSomeAnd told (IsBase base room)
+      → ((units image : ℕ) (before log : List Group) → IsSomeAnd told (HoldsBoth units image before log) → IsSomeAnd new (LeavesOwnOrNot units image before log))
+      → IsSomeAnd new (LeavesOpening base room)
   cut_within None new is cut = absurd is
-  cut_within (Some s) new is cut = Tells-map new _ (LeavesOpening base room) (cut base.units base.image is.before [] is.holds) (λ t leaves image left. elim (leaves image left) [
+  cut_within (Some s) new is cut = IsSomeAnd-map new _ (LeavesOpening base room) (cut base.units base.image is.before [] is.holds) (λ t leaves image left. elim (leaves image left) [
     | inl holds ↦ inl (record { log = is.before; holds = subst (λ (l : List Group). HoldsLog base.units base.image l image) (append-nil is.before) holds; comes_to = is.comes_to; room_is = is.room_is })
     | inr holds ↦ inr (recorded is.before image is.comes_to is.room_is
         (subst (λ (d : Durable). HoldsLog base.units base.image (is.before ++ own_group d ∷ []) image) (sym is.comes_to) holds))

@@ -1,4 +1,5 @@
 -- Runs of lines go one after another, and end early at one line.
+use Rattle.std.specs.Prelude.{IfSome}
 use Rattle.std.proofs.Common.{◌≡◌, ℕ, ◌+◌, ◌*◌, ◌≤◌, true, false, cond, List, [], ◌∷◌, ◌++◌, length, Option, refl, sym, ◌∙◌, ap, subst, arith, append_assoc, length-append}
 use Rattle.std.proofs.lemmas.List.{append-nil}
 use Rattle.std.proofs.lemmas.List.Elements.{filter-append}
@@ -7,7 +8,6 @@ use Rattle.std.specs.Io.KnownBytes.{Appends}
 use Rattle.std.specs.List.{filter}
 use Rattle.ktm_base.specs.declared.power.PowerCall.{PowerCall}
 use Rattle.ktm_base.specs.Disk.{HasLengths}
-use Rattle.ktm_base.specs.Told.{IfTold}
 use Rattle.ktm_kernel.specs.Stands.{KernelAt}
 use Rattle.ktm_run.proofs.Known.{Appends-none, Appends-trans}
 use Rattle.ktm_run.proofs.Counting.{Counts-none, Counts-then, keeps_base, Transcript-append, plans-append, falls-append}
@@ -91,7 +91,7 @@ Progress-line a b line meant reply has means answers wrote = λ w stands.
 
 -- ---- a run that ends early
 
-pub Stops-line : (a b : Now) (line : List ℕ) → IfTold a.scene.disk HasLengths → ((w : World) → KernelAt a.scene.machine a.scene.disk w → Broke w a b line) → Stops a b (line ∷ [])
+pub Stops-line : (a b : Now) (line : List ℕ) → IfSome a.scene.disk HasLengths → ((w : World) → KernelAt a.scene.machine a.scene.disk w → Broke w a b line) → Stops a b (line ∷ [])
 unfolding Progress-none
 Stops-line a b line lengths broke = λ w stands. record { before = []; line = line; behind = []; split = refl; at = a; lengths = lengths; ran = Progress-none a w stands; broke = broke w stands }
 

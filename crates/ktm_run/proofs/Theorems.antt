@@ -1,4 +1,5 @@
 -- From the lines that were answered to what a run comes to.
+use Rattle.std.specs.Prelude.{IfSome, IsSomeAnd}
 use Rattle.std.proofs.Common.{◌≡◌, ◌⊎◌, inl, inr, ℕ, ◌+◌, ◌*◌, ◌<◌, ◌≤◌, false, List, [], ◌∷◌, ◌++◌, length, take, Option, Some, None, refl, ◌∙◌, ap, arith, add-mul}
 use Rattle.std.proofs.lemmas.List.{append-nil}
 use Rattle.std.specs.Io.KnownBytes.{Consumes, IsAtEnd}
@@ -7,7 +8,6 @@ use Rattle.ktm_base.specs.declared.power.PowerCall.{PowerCall}
 use Rattle.ktm_base.specs.declared.power.PowerCall.TheVariants.{Power}
 use Rattle.ktm_base.specs.Count.{Rose}
 use Rattle.ktm_base.specs.Disk.{DiskState, DiskStatus, HasLengths}
-use Rattle.ktm_base.specs.Told.{IfTold, Tells}
 use Rattle.ktm_base.proofs.Images.{seen_law}
 use Rattle.ktm_kernel.specs.Stands.{KernelState, KernelAt, LeavesStates}
 use Rattle.ktm_kernel.proofs.Left.{left_law}
@@ -36,7 +36,7 @@ all_counts base room old first last n plan fell opening counts = record {
 }
 
 -- what is read is one of the images that may be left
-holds_of : (told : Option DiskState) (w : World) → IfTold told HasLengths → Tells told (LeavesStates w) → Tells told (HoldsStates w)
+holds_of : (told : Option DiskState) (w : World) → IfSome told HasLengths → IsSomeAnd told (LeavesStates w) → IsSomeAnd told (HoldsStates w)
 holds_of None w lengths leaves = absurd leaves
 holds_of (Some s) w lengths leaves = record { seen = leaves s.seen (seen_law s lengths); left = leaves }
 
@@ -45,7 +45,7 @@ moment_at now = record { taken = now.taken; disk = now.scene.disk; status = now.
 
 -- ---- a line at which a run ended
 
-module _ (w : World) (at new : Now) (line : List ℕ) (lengths : IfTold new.scene.disk HasLengths) where
+module _ (w : World) (at new : Now) (line : List ℕ) (lengths : IfSome new.scene.disk HasLengths) where
   line_counts : (n : ℕ) (plan : List PowerCall) (fell : ℕ) → Counts w at.scene new.scene n plan fell → LineCounts w.base.units at.scene.status new.scene.status n plan fell
   line_counts n plan fell counts = record { rose = counts.rose; plan_is = counts.plan_is; few = counts.few }
 
@@ -76,7 +76,7 @@ module _ (w : World) (at new : Now) (line : List ℕ) (lengths : IfTold new.scen
 
 -- ---- the run
 
-module _ (base : Durable) (room : ℕ) (old new : Outside) (first : Scene) (machine : KernelState) (lengths : IfTold new.disk HasLengths) where
+module _ (base : Durable) (room : ℕ) (old new : Outside) (first : Scene) (machine : KernelState) (lengths : IfSome new.disk HasLengths) where
   abbrev begun : Now
   begun = record { scene = first; taken = old.taken }
 
@@ -84,7 +84,7 @@ module _ (base : Durable) (room : ℕ) (old new : Outside) (first : Scene) (mach
   ended = record { scene = record { machine = machine; disk = new.disk; status = new.status }; taken = new.taken }
 
   module _ (stands : KernelAt first.machine first.disk (opened base room [])) (fits : is_full room (own_group base) ≡ false) (opening : RunCounts base.units old.status first.status 0 [] 0) (law : RunIsLawful base room) where
-    abbrev replied : (at : Now) (lines : List (List ℕ)) → IfTold at.scene.disk HasLengths → Ran (opened base room []) begun at lines → Replied base room (moment_of old) (moment_at at) lines
+    abbrev replied : (at : Now) (lines : List (List ℕ)) → IfSome at.scene.disk HasLengths → Ran (opened base room []) begun at lines → Replied base room (moment_of old) (moment_at at) lines
     replied at lines long ran = record {
       meant = ran.meant;
       steps = ran.steps;
@@ -142,15 +142,15 @@ module _ (base : Durable) (room : ℕ) (old new : Outside) (first : Scene) (mach
     run_ended LogFull done part behind broke usage image down full = absurd (full refl)
     run_ended DiskFault done part behind broke usage image down full = absurd (down refl)
 
-no_longer : (left : Option (List ℕ)) (most : ℕ) → Tells left (λ bytes. length bytes ≤ most) → IfTold left (λ bytes. most < length bytes) → ⊥
+no_longer : (left : Option (List ℕ)) (most : ℕ) → IsSomeAnd left (λ bytes. length bytes ≤ most) → IfSome left (λ bytes. most < length bytes) → ⊥
 no_longer None most tells long = absurd tells
 no_longer (Some bytes) most tells long = omega (arith, tells, long)
 
 -- where neither the source nor the sink fails and the script is not too long
 pub run_complete : (base : Durable) (room : ℕ) (mid old new : Outside) (Opened : Type 0) (source_before source_now sink_before sink_now : ℕ) (result : Status)
     → EndedEarly result base room mid new → Ends result Opened old new
-    → (result ≡ SourceFault → Rose source_before source_now) → (result ≡ SinkFault → Rose sink_before sink_now) → (result ≡ ScriptTooLong → IfTold old.left (λ bytes. MOST_SCRIPT_BYTES < length bytes))
-    → ¬ Rose source_before source_now → ¬ Rose sink_before sink_now → Tells old.left (λ bytes. length bytes ≤ MOST_SCRIPT_BYTES)
+    → (result ≡ SourceFault → Rose source_before source_now) → (result ≡ SinkFault → Rose sink_before sink_now) → (result ≡ ScriptTooLong → IfSome old.left (λ bytes. MOST_SCRIPT_BYTES < length bytes))
+    → ¬ Rose source_before source_now → ¬ Rose sink_before sink_now → IsSomeAnd old.left (λ bytes. length bytes ≤ MOST_SCRIPT_BYTES)
     → (result ≡ Done) ⊎ (result ≡ NoMemory) ⊎ (result ≡ LogFull) ⊎ ((result ≡ DiskFault) × FoundDown old new)
 run_complete base room mid old new Opened a b c d Done early ends source sink long reads writes short = inl refl
 run_complete base room mid old new Opened a b c d NoMemory early ends source sink long reads writes short = inr (inl refl)

@@ -1,9 +1,9 @@
 -- What each early end of the program leaves, over every disk.
-use Rattle.std.specs.Prelude.{◌≡◌, ◌⊎◌, ℕ, ◌<◌, List, length, Option, IsTrue}
+use Rattle.std.specs.Prelude.{◌≡◌, ◌⊎◌, ℕ, ◌<◌, List, length, Option, IsTrue, IfSome}
 use Rattle.std.specs.Io.KnownBytes.{Appends, Keeps}
 use Rattle.ktm_base.specs.Count.{Rose}
 use Rattle.ktm_base.specs.Disk.{DiskState, DiskStatus}
-use Rattle.ktm_base.specs.Told.{IfTold, Goes}
+use Rattle.ktm_base.specs.Told.{Goes}
 use Rattle.ktm_journal.specs.Bad.{IsBadAt}
 use Rattle.ktm_run.specs.Form.{usage_line, bad_image_line}
 use Rattle.ktm_run.specs.Opening.{Prepared}
@@ -46,14 +46,14 @@ WentDown before now = IsTrue before.is_down ⊎ Rose before.downs now.downs
 pub record FoundBad (offset : ℕ) (old new : Outside) : Type 0 where
   pub not_run : NotRun old new
   pub same : new.disk ≡ old.disk
-  pub bad : IfTold old.disk (λ s. (0 < length s.seen) × IsBadAt s.seen offset)
+  pub bad : IfSome old.disk (λ s. (0 < length s.seen) × IsBadAt s.seen offset)
 
 -- the log has no room for the opening, and the disk tells what it told; a disk without a byte always has the room
 pub record FoundFull (old new : Outside) : Type 0 where
   pub not_run : NotRun old new
   pub not_written : Keeps old.taken new.taken
   pub same : new.disk ≡ old.disk
-  pub there : IfTold old.disk (λ s. 0 < length s.seen)
+  pub there : IfSome old.disk (λ s. 0 < length s.seen)
 
 -- the disk was down in the opening, or went down in it
 pub record FoundDown (old new : Outside) : Type 0 where

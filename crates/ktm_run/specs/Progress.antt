@@ -1,11 +1,10 @@
 -- What lines made of the machine, its disk and the sink.
-use Rattle.std.specs.Prelude.{◌≡◌, ◌⊎◌, ℕ, ◌+◌, ◌*◌, ◌≤◌, false, List, [], ◌∷◌, ◌++◌, length, Option, Some}
+use Rattle.std.specs.Prelude.{◌≡◌, ◌⊎◌, ℕ, ◌+◌, ◌*◌, ◌≤◌, false, List, [], ◌∷◌, ◌++◌, length, Option, Some, IfSome, IsSomeAnd}
 use Rattle.std.specs.List.{filter}
 use Rattle.std.specs.Io.KnownBytes.{Appends}
 use Rattle.ktm_base.specs.declared.power.PowerCall.{PowerCall}
 use Rattle.ktm_base.specs.declared.power.PowerCall.TheVariants.{Power}
 use Rattle.ktm_base.specs.Disk.{DiskState, DiskStatus, HasLengths}
-use Rattle.ktm_base.specs.Told.{IfTold, Tells}
 use Rattle.ktm_kernel.specs.Stands.{KernelState, KernelAt, LeavesStates}
 use Rattle.ktm_run.specs.Plan.{plan_of, plans, falls_of, falls, RoseBy, most_calls}
 use Rattle.ktm_run.specs.Script.{has_reply, Means, MeanAll, AppendsPart, reply_line, written_replies}
@@ -51,7 +50,7 @@ Answers old new line reply = (w : World) → KernelAt old.machine old.disk w →
 
 -- a line was not executed, or it was a restart that found no memory: what may be left is of the same world
 pub record Unanswered (w : World) (old new : Scene) (line : List ℕ) : Type 0 where
-  pub leaves : Tells new.disk (LeavesStates w)
+  pub leaves : IsSomeAnd new.disk (LeavesStates w)
   pub counts : Counts w old new 1 [] 0 ⊎ ((pick : ℕ) × Means line (Some (Restart pick)) × (is_up w.power ≡ false) × Counts w old new 1 (Power pick ∷ []) 0)
 
 -- the lines came by a transcript to a world for which the machine then stands, and their replies were written
@@ -77,7 +76,7 @@ pub record HalfWritten (w : World) (old new : Now) (line : List ℕ) : Type 0 wh
   pub reply : Reply
   pub did : Did w old.scene new.scene meant reply
   pub wrote : AppendsPart old.taken new.taken (reply_line reply)
-  pub leaves : Tells new.scene.disk (LeavesStates did.world)
+  pub leaves : IsSomeAnd new.scene.disk (LeavesStates did.world)
 
 -- a line at which a run ended early
 abbrev pub Broke : World → Now → Now → List ℕ → Type 0
@@ -91,7 +90,7 @@ pub record Stopped (w : World) (old new : Now) (lines : List (List ℕ)) : Type 
   pub split : lines ≡ before ++ line ∷ behind
   pub at : Now
   -- what the disk reads there is as long as an image that may be left
-  pub lengths : IfTold at.scene.disk HasLengths
+  pub lengths : IfSome at.scene.disk HasLengths
   pub ran : Ran w old at before
   pub broke : Broke ran.world at new line
 

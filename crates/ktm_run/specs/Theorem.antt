@@ -1,12 +1,11 @@
 -- What a run of a script comes to, and what stands where one ended early.
-use Rattle.std.specs.Prelude.{◌≡◌, ◌⊎◌, ℕ, ◌+◌, ◌-◌, ◌*◌, ◌≤◌, true, false, List, [], ◌∷◌, ◌++◌, length, take, Option, Some, Contains}
+use Rattle.std.specs.Prelude.{◌≡◌, ◌⊎◌, ℕ, ◌+◌, ◌-◌, ◌*◌, ◌≤◌, true, false, List, [], ◌∷◌, ◌++◌, length, take, Option, Some, Contains, IsSomeAnd}
 use Rattle.std.specs.List.{filter}
 use Rattle.std.specs.Io.KnownBytes.{Appends, Consumes, IsAtEnd, Keeps}
 use Rattle.ktm_base.specs.declared.limits.TheConstants.{NEW_UNITS, MOST_SCRIPT_BYTES}
 use Rattle.ktm_base.specs.declared.power.PowerCall.{PowerCall}
 use Rattle.ktm_base.specs.declared.power.PowerCall.TheVariants.{Power}
 use Rattle.ktm_base.specs.Disk.{DiskState, DiskStatus, MayLeave, IsSafe}
-use Rattle.ktm_base.specs.Told.{Tells}
 use Rattle.ktm_journal.specs.Image.{HoldsLog, StandsFor, left_after}
 use Rattle.ktm_kernel.specs.Stands.{LeavesStates}
 use Rattle.ktm_world.specs.Durable.{Durable, empty_state, stand}
@@ -96,7 +95,7 @@ pub record Replied (base : Durable) (room : ℕ) (old new : Moment) (lines : Lis
   -- the lines, and there were so few device calls
   pub counts : RunCounts base.units old.status new.status (length meant) (plans meant replies) (falls meant steps replies)
   -- the disk holds the state of a possible log of the world
-  pub holds : Tells new.disk (HoldsStates world)
+  pub holds : IsSomeAnd new.disk (HoldsStates world)
 
 -- the run of a whole script
 pub record RunTheorem (base : Durable) (room : ℕ) (old new : Outside) : Type 0 where
@@ -121,7 +120,7 @@ pub record EndedBetween (base : Durable) (room : ℕ) (old new : Outside) (scrip
 -- the same world
 pub record Unanswered (w : World) (old new : Moment) (line : List ℕ) : Type 0 where
   pub wrote : Appends old.taken new.taken []
-  pub holds : Tells new.disk (HoldsStates w)
+  pub holds : IsSomeAnd new.disk (HoldsStates w)
   pub counts : LineCounts w.base.units old.status new.status 1 [] 0
       ⊎ ((pick : ℕ) × Means line (Some (Restart pick)) × (is_up w.power ≡ false) × LineCounts w.base.units old.status new.status 1 (Power pick ∷ []) 0)
 
@@ -135,7 +134,7 @@ pub record HalfWritten (w : World) (old new : Moment) (line : List ℕ) : Type 0
   pub does : Does w meant step reply world
   pub wrote : AppendsPart old.taken new.taken (reply_line reply)
   pub counts : LineCounts w.base.units old.status new.status 1 (plan_of meant reply) (falls_of meant step reply)
-  pub holds : Tells new.disk (HoldsStates world)
+  pub holds : IsSomeAnd new.disk (HoldsStates world)
 
 -- the script so far: its first lines were answered, and at the next one the run ended
 pub record EndedWithin (base : Durable) (room : ℕ) (old new : Outside) : Type 0 where
@@ -157,7 +156,7 @@ pub record NotOpened (base : Durable) (room : ℕ) (old new : Outside) : Type 0 
   pub not_read : Keeps old.left new.left
   pub not_written : Keeps old.taken new.taken
   pub plan_is : new.status.plan ≡ old.status.plan
-  pub image : Tells new.disk (λ s. (image : List ℕ) → MayLeave s image → BeginsAs base room image)
+  pub image : IsSomeAnd new.disk (λ s. (image : List ℕ) → MayLeave s image → BeginsAs base room image)
 
 -- each image that a loss of power may leave stands for the state that the run began with, with the same room, or for that with the
 -- group of the opening recorded
@@ -167,7 +166,7 @@ LeavesOpening base room s = (image : List ℕ) → MayLeave s image
 
 -- the disk went down in the opening: where it had no byte, it may hold a new image that is not whole
 abbrev pub CutOpening : Durable → ℕ → Outside → Outside → Type 0
-CutOpening base room old new = Tells old.disk (λ s. s.seen ≡ []) ⊎ Tells new.disk (LeavesOpening base room)
+CutOpening base room old new = IsSomeAnd old.disk (λ s. s.seen ≡ []) ⊎ IsSomeAnd new.disk (LeavesOpening base room)
 
 -- what stands after a run that ended early
 abbrev pub EndedEarly : Status → Durable → ℕ → Outside → Outside → Type 0

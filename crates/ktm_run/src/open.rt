@@ -1,11 +1,11 @@
 // The machine of an image.
-ghost use Rattle.std.specs.Prelude.{◌≡◌, ◌⊎◌, ◌+◌, ◌*◌, ◌<◌, ◌≤◌, [], ℕ, List, length, false, true, is_err, IfOk, OnOk, OnErr, IsErrOf};
+ghost use Rattle.std.specs.Prelude.{◌≡◌, ◌⊎◌, ◌+◌, ◌*◌, ◌<◌, ◌≤◌, [], ℕ, List, length, false, true, is_err, IfOk, OnOk, OnErr, IsErrOf, IfSome, IsSomeAnd};
 ghost use Rattle.ktm_base.specs.declared.limits.TheConstants.{MOST_UNITS};
 ghost use Rattle.ktm_base.specs.Disk.{DeviceCalls, MayLeave};
-ghost use Rattle.ktm_base.specs.Told.{IfTold, Tells, Goes};
+ghost use Rattle.ktm_base.specs.Told.{Goes};
 ghost use Rattle.ktm_journal.specs.Bad.{IsBadAt};
 ghost use Rattle.ktm_kernel.specs.Stands.{KernelAt, IsReady};
-ghost use Rattle.ktm_run.specs.Opening.{Prepared, IfBadImage, IfOpened};
+ghost use Rattle.ktm_run.specs.Opening.{Prepared};
 ghost use Rattle.ktm_run.specs.Theorem.{Begins, BeginsAs, LeavesOpening, RunCounts};
 ghost use Rattle.ktm_run.specs.Early.{WentDown};
 ghost use Rattle.ktm_world.specs.Durable.{Durable};
@@ -29,7 +29,7 @@ fn prepare<D: Disk>(disk: &mut D) -> Result<(), Down>
     ensures pending { OnOk result ((D.status disk.new).pending ≡ 0) }
     ensures up { OnOk result ((D.status disk.new).is_down ≡ false) }
     ensures calls { DeviceCalls (8 * MOST_UNITS + 65) (D.status disk.old) (D.status disk.new) (is_err result) }
-    ensures few { Tells (D.told disk.old) (λ s. 0 < length s.seen) → (D.status disk.new).calls ≤ (D.status disk.old).calls + 1 }
+    ensures few { IsSomeAnd (D.told disk.old) (λ s. 0 < length s.seen) → (D.status disk.new).calls ≤ (D.status disk.old).calls + 1 }
 {
     let Ok(len) = disk.len() else {
         return Err(Down);
@@ -45,20 +45,21 @@ fn prepare<D: Disk>(disk: &mut D) -> Result<(), Down>
 /// Starts the machine of the image. A disk without a byte becomes a new one.
 pub fn open_kernel<D: Disk>(alloc: Global, disk: &mut D) -> Result<Kernel, OpenFault>
     requires { (D.status disk.old).pending ≡ 0 }
-    ensures stands { IfOk result (λ kernel. (base : Durable) (room : ℕ) → Tells (D.told disk.old) (Begins base room)
+    ensures stands { IfOk result (λ kernel. (base : Durable) (room : ℕ) → IsSomeAnd (D.told disk.old) (Begins base room)
         → KernelAt kernel (D.told disk.new) (opened base room []) × (is_full room (own_group base) ≡ false)) }
-    ensures counts { OnOk result ((base : Durable) (room : ℕ) → Tells (D.told disk.old) (Begins base room) → RunCounts base.units (D.status disk.old) (D.status disk.new) 0 [] 0) }
+    ensures counts { OnOk result ((base : Durable) (room : ℕ) → IsSomeAnd (D.told disk.old) (Begins base room) → RunCounts base.units (D.status disk.old) (D.status disk.new) 0 [] 0) }
     ensures ready { IfOk result (λ kernel. IsReady kernel (D.told disk.new) (D.status disk.new)) }
-    ensures full { IsErrOf result OpenFault.Full → (base : Durable) (room : ℕ) → Tells (D.told disk.old) (Begins base room) → is_full room (own_group base) ≡ true }
-    ensures opens { IfOpened result (IfTold (D.told disk.old) (λ s. (base : Durable) × (room : ℕ) × BeginsAs base room s.seen)) }
-    ensures bad { IfBadImage result (λ offset. (D.told disk.new ≡ D.told disk.old) × IfTold (D.told disk.old) (λ s. (0 < length s.seen) × IsBadAt s.seen offset)) }
-    ensures found_full { IsErrOf result OpenFault.Full → (D.told disk.new ≡ D.told disk.old) × IfTold (D.told disk.old) (λ s. 0 < length s.seen) }
+    ensures full { IsErrOf result OpenFault.Full → (base : Durable) (room : ℕ) → IsSomeAnd (D.told disk.old) (Begins base room) → is_full room (own_group base) ≡ true }
+    ensures opens { OnOk result (IfSome (D.told disk.old) (λ s. (base : Durable) × (room : ℕ) × BeginsAs base room s.seen)) }
+    ensures opens_full { IsErrOf result OpenFault.Full → IfSome (D.told disk.old) (λ s. (base : Durable) × (room : ℕ) × BeginsAs base room s.seen) }
+    ensures bad { (offset : ℕ) → IsErrOf result (OpenFault.BadImage offset) → (D.told disk.new ≡ D.told disk.old) × IfSome (D.told disk.old) (λ s. (0 < length s.seen) × IsBadAt s.seen offset) }
+    ensures found_full { IsErrOf result OpenFault.Full → (D.told disk.new ≡ D.told disk.old) × IfSome (D.told disk.old) (λ s. 0 < length s.seen) }
     ensures down { IsErrOf result OpenFault.Down → WentDown (D.status disk.old) (D.status disk.new) }
-    ensures cut { IsErrOf result OpenFault.Down → (base : Durable) (room : ℕ) → Tells (D.told disk.old) (Begins base room)
-        → Tells (D.told disk.old) (λ s. s.seen ≡ []) ⊎ Tells (D.told disk.new) (LeavesOpening base room) }
+    ensures cut { IsErrOf result OpenFault.Down → (base : Durable) (room : ℕ) → IsSomeAnd (D.told disk.old) (Begins base room)
+        → IsSomeAnd (D.told disk.old) (λ s. s.seen ≡ []) ⊎ IsSomeAnd (D.told disk.new) (LeavesOpening base room) }
     ensures not_recorded { IsErrOf result OpenFault.NoMemory → Goes Prepared (D.told disk.old) (D.told disk.new) }
-    ensures no_memory { IsErrOf result OpenFault.NoMemory → (base : Durable) (room : ℕ) → Tells (D.told disk.old) (Begins base room)
-        → Tells (D.told disk.new) (λ s. (image : List ℕ) → MayLeave s image → BeginsAs base room image) }
+    ensures no_memory { IsErrOf result OpenFault.NoMemory → (base : Durable) (room : ℕ) → IsSomeAnd (D.told disk.old) (Begins base room)
+        → IsSomeAnd (D.told disk.new) (λ s. (image : List ℕ) → MayLeave s image → BeginsAs base room image) }
     ensures plan { (D.status disk.new).plan ≡ (D.status disk.old).plan }
     ensures downs { (D.status disk.old).downs ≤ (D.status disk.new).downs }
 {

@@ -1,9 +1,8 @@
 // The program.
-ghost use Rattle.std.specs.Prelude.{◌≡◌, ◌⊎◌, ◌<◌, ◌≤◌, ℕ, length, map, true, false};
+ghost use Rattle.std.specs.Prelude.{◌≡◌, ◌⊎◌, ◌<◌, ◌≤◌, ℕ, length, map, true, false, IfSome, IsSomeAnd};
 ghost use Rattle.std.specs.String.{string_bytes};
 ghost use Rattle.ktm_base.specs.declared.limits.TheConstants.{MOST_SCRIPT_BYTES};
 ghost use Rattle.ktm_base.specs.Count.{Rose};
-ghost use Rattle.ktm_base.specs.Told.{IfTold, Tells};
 ghost use Rattle.ktm_run.specs.Early.{Ends, FoundDown, NoRun, outside};
 ghost use Rattle.ktm_run.specs.Form.{is_run};
 ghost use Rattle.ktm_run.specs.Theorem.{Begins, BeginsAs, EndedEarly};
@@ -31,7 +30,7 @@ pub fn ktm<S: Source, K: Sink, D: PowerDisk>(
 ) -> Status
     requires { (D.status disk.old).pending ≡ 0 }
     // the transcript theorem, and what stands where a run ended early
-    ensures run { is_run (map string_bytes words.now) ≡ true → (base : Durable) (room : ℕ) → Tells (D.told disk.old) (Begins base room)
+    ensures run { is_run (map string_bytes words.now) ≡ true → (base : Durable) (room : ℕ) → IsSomeAnd (D.told disk.old) (Begins base room)
         → EndedEarly result base room (outside (S.left source.old) (K.taken sink.old) (D.told disk.old) (D.status disk.old)) (outside (S.left source.new) (K.taken sink.new) (D.told disk.new) (D.status disk.new)) }
     ensures form { (is_run (map string_bytes words.now) ≡ true) ⊎ (result ≡ Status.Usage) ⊎ (result ≡ Status.SinkFault) }
     ensures usage { result ≡ Status.Usage → is_run (map string_bytes words.now) ≡ false }
@@ -39,15 +38,15 @@ pub fn ktm<S: Source, K: Sink, D: PowerDisk>(
     ensures no_run { is_run (map string_bytes words.now) ≡ false → NoRun result
         (outside (S.left source.old) (K.taken sink.old) (D.told disk.old) (D.status disk.old)) (outside (S.left source.new) (K.taken sink.new) (D.told disk.new) (D.status disk.new)) }
     // what each end of a run leaves, over every disk
-    ensures ends { is_run (map string_bytes words.now) ≡ true → Ends result (IfTold (D.told disk.old) (λ s. (base : Durable) × (room : ℕ) × BeginsAs base room s.seen))
+    ensures ends { is_run (map string_bytes words.now) ≡ true → Ends result (IfSome (D.told disk.old) (λ s. (base : Durable) × (room : ℕ) × BeginsAs base room s.seen))
         (outside (S.left source.old) (K.taken sink.old) (D.told disk.old) (D.status disk.old)) (outside (S.left source.new) (K.taken sink.new) (D.told disk.new) (D.status disk.new)) }
     ensures source { result ≡ Status.SourceFault → Rose (S.faults source.old) (S.faults source.new) }
     ensures sink { result ≡ Status.SinkFault → Rose (K.faults sink.old) (K.faults sink.new) }
-    ensures too_long { result ≡ Status.ScriptTooLong → IfTold (S.left source.old) (λ bytes. MOST_SCRIPT_BYTES < length bytes) }
+    ensures too_long { result ≡ Status.ScriptTooLong → IfSome (S.left source.old) (λ bytes. MOST_SCRIPT_BYTES < length bytes) }
     // where neither the source nor the sink fails and the script is not too long, a run ends early only for want of memory, for a
     // full log, or where the disk was down in the opening or went down in it
-    ensures complete { is_run (map string_bytes words.now) ≡ true → (base : Durable) (room : ℕ) → Tells (D.told disk.old) (Begins base room)
-        → ¬ Rose (S.faults source.old) (S.faults source.new) → ¬ Rose (K.faults sink.old) (K.faults sink.new) → Tells (S.left source.old) (λ bytes. length bytes ≤ MOST_SCRIPT_BYTES)
+    ensures complete { is_run (map string_bytes words.now) ≡ true → (base : Durable) (room : ℕ) → IsSomeAnd (D.told disk.old) (Begins base room)
+        → ¬ Rose (S.faults source.old) (S.faults source.new) → ¬ Rose (K.faults sink.old) (K.faults sink.new) → IsSomeAnd (S.left source.old) (λ bytes. length bytes ≤ MOST_SCRIPT_BYTES)
         → (result ≡ Status.Done) ⊎ (result ≡ Status.NoMemory) ⊎ (result ≡ Status.LogFull)
         ⊎ ((result ≡ Status.DiskFault) × FoundDown (outside (S.left source.old) (K.taken sink.old) (D.told disk.old) (D.status disk.old)) (outside (S.left source.new) (K.taken sink.new) (D.told disk.new) (D.status disk.new))) }
 {

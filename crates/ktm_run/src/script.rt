@@ -1,9 +1,8 @@
 // The loop over a script.
-ghost use Rattle.std.specs.Prelude.{◌≡◌, ◌⊎◌, ◌+◌, ◌<◌, ◌≤◌, ℕ, List, [], length, take, IfOk, OnOk, OnErr, IsErrOf, vec_capacity};
+ghost use Rattle.std.specs.Prelude.{◌≡◌, ◌⊎◌, ◌+◌, ◌<◌, ◌≤◌, ℕ, List, [], length, take, IfOk, OnOk, OnErr, IsErrOf, vec_capacity, IfSome};
 ghost use Rattle.std.specs.Io.KnownBytes.{Consumes, IsAtEnd, Keeps};
 ghost use Rattle.ktm_base.specs.Count.{Rose};
 ghost use Rattle.ktm_base.specs.Stream.{Faults};
-ghost use Rattle.ktm_base.specs.Told.{IfTold};
 ghost use Rattle.ktm_kernel.specs.Stands.{IsReady};
 ghost use Rattle.ktm_run.specs.Progress.{Progress, Stops, point};
 ghost use Rattle.ktm_run.specs.Script.{cut_lines, kept_of, last_line, lines_from};
@@ -16,7 +15,7 @@ use ktm_kernel::Kernel;
 use std::alloc::Global;
 
 /// How many bytes are read at a time.
-const PIECE: usize = 4096;
+pub const PIECE: usize = 4096;
 
 // Reads at most so many bytes into the front of the buffer.
 fn read_some<S: Source>(source: &mut S, buffer: &mut [u8], most: u64) -> Result<usize, Failed>
@@ -64,8 +63,9 @@ fn finish<K: Sink, D: PowerDisk>(
     Ok(())
 }
 
-// Answers the lines of the script, which is read through the buffer.
-fn run_pieces<S: Source, K: Sink, D: PowerDisk>(
+/// Answers the lines of the script, which is read through the buffer, with room for the part of a line that is behind the last
+/// newline.
+pub fn run_script<S: Source, K: Sink, D: PowerDisk>(
     alloc: Global,
     kernel: &mut Kernel,
     source: &mut S,
@@ -95,7 +95,7 @@ fn run_pieces<S: Source, K: Sink, D: PowerDisk>(
         (cut_lines script) }
     ensures source { result ≡ Status.SourceFault → Rose (S.faults source.old) (S.faults source.new) }
     ensures sink { result ≡ Status.SinkFault → Rose (K.faults sink.old) (K.faults sink.new) }
-    ensures too_long { result ≡ Status.ScriptTooLong → IfTold (S.left source.old) (λ bytes. MOST_SCRIPT_BYTES < length bytes) }
+    ensures too_long { result ≡ Status.ScriptTooLong → IfSome (S.left source.old) (λ bytes. MOST_SCRIPT_BYTES < length bytes) }
     ensures not_usage { result ≡ Status.Usage → ⊥ }
     ensures not_image { result ≡ Status.BadImage → ⊥ }
     ensures not_disk { result ≡ Status.DiskFault → ⊥ }
@@ -124,42 +124,4 @@ fn run_pieces<S: Source, K: Sink, D: PowerDisk>(
         }
         left -= count as u64;
     }
-}
-
-/// Answers the lines of the script, with room for the part of a line that is behind the last newline.
-pub fn run_script<S: Source, K: Sink, D: PowerDisk>(
-    alloc: Global,
-    kernel: &mut Kernel,
-    source: &mut S,
-    sink: &mut K,
-    disk: &mut D,
-    kept: &mut Vec<u8>,
-) -> Status
-    requires ready { IsReady kernel.old (D.told disk.old) (D.status disk.old) }
-    requires kept { (kept.old.items ≡ []) × (140001 ≤ vec_capacity kept.old) }
-    ensures done { result ≡ Status.Done → (script : List ℕ) × Consumes (S.left source.old) (S.left source.new) script × IsAtEnd (S.left source.new) × (length script ≤ MOST_SCRIPT_BYTES) × Progress
-        (point kernel.old (D.told disk.old) (D.status disk.old) (K.taken sink.old))
-        (point kernel.new (D.told disk.new) (D.status disk.new) (K.taken sink.new))
-        (cut_lines script) }
-    ensures between { result ≡ Status.SourceFault → (script : List ℕ) × Consumes (S.left source.old) (S.left source.new) script × (length script ≤ MOST_SCRIPT_BYTES) × Progress
-        (point kernel.old (D.told disk.old) (D.status disk.old) (K.taken sink.old))
-        (point kernel.new (D.told disk.new) (D.status disk.new) (K.taken sink.new))
-        (lines_from [] script) }
-    ensures behind { result ≡ Status.ScriptTooLong → (script : List ℕ) × Consumes (S.left source.old) (S.left source.new) script × (length script ≡ MOST_SCRIPT_BYTES + 1) × Progress
-        (point kernel.old (D.told disk.old) (D.status disk.old) (K.taken sink.old))
-        (point kernel.new (D.told disk.new) (D.status disk.new) (K.taken sink.new))
-        (lines_from [] (take MOST_SCRIPT_BYTES script)) }
-    ensures within { (result ≡ Status.SinkFault) ⊎ (result ≡ Status.NoMemory) → (script : List ℕ) × Consumes (S.left source.old) (S.left source.new) script × (length script ≤ MOST_SCRIPT_BYTES) × Stops
-        (point kernel.old (D.told disk.old) (D.status disk.old) (K.taken sink.old))
-        (point kernel.new (D.told disk.new) (D.status disk.new) (K.taken sink.new))
-        (cut_lines script) }
-    ensures source { result ≡ Status.SourceFault → Rose (S.faults source.old) (S.faults source.new) }
-    ensures sink { result ≡ Status.SinkFault → Rose (K.faults sink.old) (K.faults sink.new) }
-    ensures too_long { result ≡ Status.ScriptTooLong → IfTold (S.left source.old) (λ bytes. MOST_SCRIPT_BYTES < length bytes) }
-    ensures not_usage { result ≡ Status.Usage → ⊥ }
-    ensures not_image { result ≡ Status.BadImage → ⊥ }
-    ensures not_disk { result ≡ Status.DiskFault → ⊥ }
-    ensures not_full { result ≡ Status.LogFull → ⊥ }
-{
-    run_pieces(alloc, kernel, source, sink, disk, &mut [0; PIECE], kept)
 }

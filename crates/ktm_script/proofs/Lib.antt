@@ -1,7 +1,6 @@
 pub mod Readers
 pub mod WordLemmas
 pub mod FormLemmas
-pub mod LabelLemmas
 pub mod PartLemmas
 pub mod CommandLemmas
 pub mod LineLemmas

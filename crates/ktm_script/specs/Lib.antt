@@ -1,4 +1,4 @@
 pub mod Reading
 pub mod Spelling
 pub mod Lengths
-pub mod Labels
+pub mod WorkedLines

@@ -35,9 +35,7 @@ pub fn one_text(alloc: Global, arguments: &[u8]) -> Result<Text, LineFault>
     ensures { Gives result (whole text_at arguments.now) }
 {
     let (text, rest) = read_text(alloc, arguments)?;
-    let Some(()) = end(rest) else {
-        return Err(BadLine);
-    };
+    end(rest).ok_or(BadLine)?;
     Ok(text)
 }
 
@@ -45,64 +43,40 @@ pub fn text_and_label(alloc: Global, arguments: &[u8]) -> Result<(Text, Label), 
     ensures { Gives result (whole (text_at & label_at) arguments.now) }
 {
     let (text, rest) = read_text(alloc, arguments)?;
-    let Some((label, rest)) = read_label(rest) else {
-        return Err(BadLine);
-    };
-    let Some(()) = end(rest) else {
-        return Err(BadLine);
-    };
+    let (label, rest) = read_label(rest).ok_or(BadLine)?;
+    end(rest).ok_or(BadLine)?;
     Ok((text, label))
 }
 
-pub fn create_transaction(arguments: &[u8]) -> Result<Command, LineFault>
-    ensures { Gives result (arguments_at form.CreateTransaction arguments.now) }
+pub fn create_transaction(arguments: &[u8]) -> Option<Command>
+    ensures { result ≡ arguments_at form.CreateTransaction arguments.now }
 {
-    let Some((label, rest)) = read_label(arguments) else {
-        return Err(BadLine);
-    };
-    let Some((timeout, rest)) = read_count(u64::from(u32::MAX), rest) else {
-        return Err(BadLine);
-    };
-    let Some(()) = end(rest) else {
-        return Err(BadLine);
-    };
-    Ok(Command::CreateTransaction {
+    let (label, rest) = read_label(arguments)?;
+    let (timeout, rest) = read_count(u64::from(u32::MAX), rest)?;
+    end(rest)?;
+    Some(Command::CreateTransaction {
         label,
         timeout: timeout as u32,
     })
 }
 
-pub fn create_resource_manager(arguments: &[u8]) -> Result<Command, LineFault>
-    ensures { Gives result (arguments_at form.CreateResourceManager arguments.now) }
+pub fn create_resource_manager(arguments: &[u8]) -> Option<Command>
+    ensures { result ≡ arguments_at form.CreateResourceManager arguments.now }
 {
-    let Some((label, rest)) = read_label(arguments) else {
-        return Err(BadLine);
-    };
-    let Some((durability, rest)) = read_durability(rest) else {
-        return Err(BadLine);
-    };
-    let Some(()) = end(rest) else {
-        return Err(BadLine);
-    };
-    Ok(Command::CreateResourceManager { label, durability })
+    let (label, rest) = read_label(arguments)?;
+    let (durability, rest) = read_durability(rest)?;
+    end(rest)?;
+    Some(Command::CreateResourceManager { label, durability })
 }
 
-pub fn create_enlistment(arguments: &[u8]) -> Result<Command, LineFault>
-    ensures { Gives result (arguments_at form.CreateEnlistment arguments.now) }
+pub fn create_enlistment(arguments: &[u8]) -> Option<Command>
+    ensures { result ≡ arguments_at form.CreateEnlistment arguments.now }
 {
-    let Some((label, rest)) = read_label(arguments) else {
-        return Err(BadLine);
-    };
-    let Some((manager, rest)) = read_label(rest) else {
-        return Err(BadLine);
-    };
-    let Some((transaction, kind, rest)) = read_kind_in_transaction(rest) else {
-        return Err(BadLine);
-    };
-    let Some(()) = end(rest) else {
-        return Err(BadLine);
-    };
-    Ok(Command::CreateEnlistment {
+    let (label, rest) = read_label(arguments)?;
+    let (manager, rest) = read_label(rest)?;
+    let (transaction, kind, rest) = read_kind_in_transaction(rest)?;
+    end(rest)?;
+    Some(Command::CreateEnlistment {
         label,
         manager,
         transaction,
@@ -110,16 +84,12 @@ pub fn create_enlistment(arguments: &[u8]) -> Result<Command, LineFault>
     })
 }
 
-pub fn open_enlistment(arguments: &[u8]) -> Result<Command, LineFault>
-    ensures { Gives result (arguments_at form.OpenEnlistment arguments.now) }
+pub fn open_enlistment(arguments: &[u8]) -> Option<Command>
+    ensures { result ≡ arguments_at form.OpenEnlistment arguments.now }
 {
-    let Some((label, rest)) = read_label(arguments) else {
-        return Err(BadLine);
-    };
-    let Some((manager, guid)) = label_and_guid(rest) else {
-        return Err(BadLine);
-    };
-    Ok(Command::OpenEnlistment {
+    let (label, rest) = read_label(arguments)?;
+    let (manager, guid) = label_and_guid(rest)?;
+    Some(Command::OpenEnlistment {
         label,
         manager,
         guid,
@@ -129,13 +99,9 @@ pub fn open_enlistment(arguments: &[u8]) -> Result<Command, LineFault>
 pub fn set_recovery_information(alloc: Global, arguments: &[u8]) -> Result<Command, LineFault>
     ensures { Gives result (arguments_at form.SetEnlistmentRecoveryInformation arguments.now) }
 {
-    let Some((enlistment, rest)) = read_label(arguments) else {
-        return Err(BadLine);
-    };
+    let (enlistment, rest) = read_label(arguments).ok_or(BadLine)?;
     let (information, rest) = read_bytes(alloc, rest)?;
-    let Some(()) = end(rest) else {
-        return Err(BadLine);
-    };
+    end(rest).ok_or(BadLine)?;
     Ok(Command::SetEnlistmentRecoveryInformation {
         enlistment,
         information,
@@ -145,16 +111,10 @@ pub fn set_recovery_information(alloc: Global, arguments: &[u8]) -> Result<Comma
 pub fn create_file(alloc: Global, arguments: &[u8]) -> Result<Command, LineFault>
     ensures { Gives result (arguments_at form.CreateFile arguments.now) }
 {
-    let Some((label, rest)) = read_label(arguments) else {
-        return Err(BadLine);
-    };
+    let (label, rest) = read_label(arguments).ok_or(BadLine)?;
     let (path, rest) = read_text(alloc, rest)?;
-    let Some((access, share, disposition, rest)) = read_modes(rest) else {
-        return Err(BadLine);
-    };
-    let Some(()) = end(rest) else {
-        return Err(BadLine);
-    };
+    let (access, share, disposition, rest) = read_modes(rest).ok_or(BadLine)?;
+    end(rest).ok_or(BadLine)?;
     Ok(Command::CreateFile {
         label,
         path,
@@ -167,16 +127,10 @@ pub fn create_file(alloc: Global, arguments: &[u8]) -> Result<Command, LineFault
 pub fn create_file_transacted(alloc: Global, arguments: &[u8]) -> Result<Command, LineFault>
     ensures { Gives result (arguments_at form.CreateFileTransacted arguments.now) }
 {
-    let Some((label, rest)) = read_label(arguments) else {
-        return Err(BadLine);
-    };
+    let (label, rest) = read_label(arguments).ok_or(BadLine)?;
     let (path, rest) = read_text(alloc, rest)?;
-    let Some((access, share, disposition, rest)) = read_modes(rest) else {
-        return Err(BadLine);
-    };
-    let Some(transaction) = one_label(rest) else {
-        return Err(BadLine);
-    };
+    let (access, share, disposition, rest) = read_modes(rest).ok_or(BadLine)?;
+    let transaction = one_label(rest).ok_or(BadLine)?;
     Ok(Command::CreateFileTransacted {
         label,
         path,
@@ -187,22 +141,14 @@ pub fn create_file_transacted(alloc: Global, arguments: &[u8]) -> Result<Command
     })
 }
 
-pub fn read_file(arguments: &[u8]) -> Result<Command, LineFault>
-    ensures { Gives result (arguments_at form.ReadFile arguments.now) }
+pub fn read_file(arguments: &[u8]) -> Option<Command>
+    ensures { result ≡ arguments_at form.ReadFile arguments.now }
 {
-    let Some((file, rest)) = read_label(arguments) else {
-        return Err(BadLine);
-    };
-    let Some((offset, rest)) = read_size(rest) else {
-        return Err(BadLine);
-    };
-    let Some((length, rest)) = read_size(rest) else {
-        return Err(BadLine);
-    };
-    let Some(()) = end(rest) else {
-        return Err(BadLine);
-    };
-    Ok(Command::ReadFile {
+    let (file, rest) = read_label(arguments)?;
+    let (offset, rest) = read_size(rest)?;
+    let (length, rest) = read_size(rest)?;
+    end(rest)?;
+    Some(Command::ReadFile {
         file,
         offset,
         length,
@@ -212,16 +158,10 @@ pub fn read_file(arguments: &[u8]) -> Result<Command, LineFault>
 pub fn write_file(alloc: Global, arguments: &[u8]) -> Result<Command, LineFault>
     ensures { Gives result (arguments_at form.WriteFile arguments.now) }
 {
-    let Some((file, rest)) = read_label(arguments) else {
-        return Err(BadLine);
-    };
-    let Some((offset, rest)) = read_size(rest) else {
-        return Err(BadLine);
-    };
+    let (file, rest) = read_label(arguments).ok_or(BadLine)?;
+    let (offset, rest) = read_size(rest).ok_or(BadLine)?;
     let (bytes, rest) = read_bytes(alloc, rest)?;
-    let Some(()) = end(rest) else {
-        return Err(BadLine);
-    };
+    end(rest).ok_or(BadLine)?;
     Ok(Command::WriteFile {
         file,
         offset,
@@ -229,19 +169,13 @@ pub fn write_file(alloc: Global, arguments: &[u8]) -> Result<Command, LineFault>
     })
 }
 
-pub fn set_end_of_file(arguments: &[u8]) -> Result<Command, LineFault>
-    ensures { Gives result (arguments_at form.SetEndOfFile arguments.now) }
+pub fn set_end_of_file(arguments: &[u8]) -> Option<Command>
+    ensures { result ≡ arguments_at form.SetEndOfFile arguments.now }
 {
-    let Some((file, rest)) = read_label(arguments) else {
-        return Err(BadLine);
-    };
-    let Some((size, rest)) = read_size(rest) else {
-        return Err(BadLine);
-    };
-    let Some(()) = end(rest) else {
-        return Err(BadLine);
-    };
-    Ok(Command::SetEndOfFile { file, size })
+    let (file, rest) = read_label(arguments)?;
+    let (size, rest) = read_size(rest)?;
+    end(rest)?;
+    Some(Command::SetEndOfFile { file, size })
 }
 
 pub fn move_file(alloc: Global, arguments: &[u8]) -> Result<Command, LineFault>
@@ -267,14 +201,10 @@ pub fn move_file_transacted(alloc: Global, arguments: &[u8]) -> Result<Command, 
 pub fn kv_set(alloc: Global, arguments: &[u8]) -> Result<Command, LineFault>
     ensures { Gives result (arguments_at form.KvSet arguments.now) }
 {
-    let Some((transaction, rest)) = read_label(arguments) else {
-        return Err(BadLine);
-    };
+    let (transaction, rest) = read_label(arguments).ok_or(BadLine)?;
     let (key, rest) = read_text(alloc, rest)?;
     let (value, rest) = read_bytes(alloc, rest)?;
-    let Some(()) = end(rest) else {
-        return Err(BadLine);
-    };
+    end(rest).ok_or(BadLine)?;
     Ok(Command::KvSet {
         transaction,
         key,
@@ -285,9 +215,7 @@ pub fn kv_set(alloc: Global, arguments: &[u8]) -> Result<Command, LineFault>
 pub fn kv_unset(alloc: Global, arguments: &[u8]) -> Result<Command, LineFault>
     ensures { Gives result (arguments_at form.KvUnset arguments.now) }
 {
-    let Some((transaction, rest)) = read_label(arguments) else {
-        return Err(BadLine);
-    };
+    let (transaction, rest) = read_label(arguments).ok_or(BadLine)?;
     let key = one_text(alloc, rest)?;
     Ok(Command::KvUnset { transaction, key })
 }
@@ -295,41 +223,26 @@ pub fn kv_unset(alloc: Global, arguments: &[u8]) -> Result<Command, LineFault>
 pub fn kv_get(alloc: Global, arguments: &[u8]) -> Result<Command, LineFault>
     ensures { Gives result (arguments_at form.KvGet arguments.now) }
 {
-    let Some((view, rest)) = read_view(arguments) else {
-        return Err(BadLine);
-    };
+    let (view, rest) = read_view(arguments).ok_or(BadLine)?;
     let key = one_text(alloc, rest)?;
     Ok(Command::KvGet { view, key })
 }
 
-pub fn kv_list(arguments: &[u8]) -> Result<Command, LineFault>
-    ensures { Gives result (arguments_at form.KvList arguments.now) }
+pub fn kv_list(arguments: &[u8]) -> Option<Command>
+    ensures { result ≡ arguments_at form.KvList arguments.now }
 {
-    let Some((view, rest)) = read_view(arguments) else {
-        return Err(BadLine);
-    };
-    let Some(()) = end(rest) else {
-        return Err(BadLine);
-    };
-    Ok(Command::KvList { view })
+    let (view, rest) = read_view(arguments)?;
+    end(rest)?;
+    Some(Command::KvList { view })
 }
 
-pub fn duplicate_handle(arguments: &[u8]) -> Result<Command, LineFault>
-    ensures { Gives result (arguments_at form.DuplicateHandle arguments.now) }
+pub fn duplicate_handle(arguments: &[u8]) -> Option<Command>
+    ensures { result ≡ arguments_at form.DuplicateHandle arguments.now }
 {
-    let Some((label, rest)) = read_label(arguments) else {
-        return Err(BadLine);
-    };
-    let Some(rest) = strip_word(rest, b" ") else {
-        return Err(BadLine);
-    };
-    let Some((process, rest)) = read_process(rest) else {
-        return Err(BadLine);
-    };
-    let Some(source) = one_label(rest) else {
-        return Err(BadLine);
-    };
-    Ok(Command::DuplicateHandle {
+    let (label, rest) = read_label(arguments)?;
+    let (process, rest) = read_process(strip_word(rest, b" ")?)?;
+    let source = one_label(rest)?;
+    Some(Command::DuplicateHandle {
         label,
         process,
         source,

@@ -6,6 +6,7 @@ mod arguments;
 mod command;
 mod fault;
 mod form;
+mod laws;
 mod line;
 mod parts;
 mod put;
@@ -13,5 +14,6 @@ mod word;
 mod write;
 
 pub use fault::LineFault;
+pub use laws::law_of_worked_lines;
 pub use line::{law_of_one_meaning, read_line};
 pub use write::{law_of_round_trip, write_line};

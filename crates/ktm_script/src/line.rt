@@ -27,9 +27,7 @@ fn last_count(most: u64, text: &[u8]) -> Option<u64>
 fn process_line(alloc: Global, text: &[u8]) -> Result<Line, LineFault>
     ensures { Gives result (process_line_at text.now) }
 {
-    let Some((process, rest)) = read_process(text) else {
-        return Err(BadLine);
-    };
+    let (process, rest) = read_process(text).ok_or(BadLine)?;
     Ok(Line::Process(process, command(alloc, rest)?))
 }
 
@@ -39,25 +37,15 @@ fn line_of_any_length(alloc: Global, text: &[u8]) -> Result<Line, LineFault>
     ensures { Gives result (line_at text.now) }
 {
     if let Some(rest) = strip_word(text, b"tick") {
-        match last_count(u64::from(u32::MAX), rest) {
-            Some(milliseconds) => Ok(Line::Tick(milliseconds as u32)),
-            None => Err(BadLine),
-        }
+        let milliseconds = last_count(u64::from(u32::MAX), rest).ok_or(BadLine)?;
+        Ok(Line::Tick(milliseconds as u32))
     } else if let Some(rest) = strip_word(text, b"cut") {
-        match last_count(u64::MAX, rest) {
-            Some(calls) => Ok(Line::Cut(calls)),
-            None => Err(BadLine),
-        }
+        Ok(Line::Cut(last_count(u64::MAX, rest).ok_or(BadLine)?))
     } else if let Some(rest) = strip_word(text, b"crash") {
-        match end(rest) {
-            Some(()) => Ok(Line::Crash),
-            None => Err(BadLine),
-        }
+        end(rest).ok_or(BadLine)?;
+        Ok(Line::Crash)
     } else if let Some(rest) = strip_word(text, b"restart") {
-        match last_count(u64::MAX, rest) {
-            Some(seed) => Ok(Line::Restart(seed)),
-            None => Err(BadLine),
-        }
+        Ok(Line::Restart(last_count(u64::MAX, rest).ok_or(BadLine)?))
     } else {
         process_line(alloc, text)
     }

@@ -173,12 +173,8 @@ pub fn read_modes(text: &[u8]) -> Option<(Access, ShareMode, Disposition, &[u8])
 pub fn read_text(alloc: Global, text: &[u8]) -> Result<(Text, &[u8]), LineFault>
     ensures { GivesPart result (text_at text.now) }
 {
-    let Some(text) = strip_word(text, b" ") else {
-        return Err(BadLine);
-    };
-    let Some((text, rest)) = read_quoted(text) else {
-        return Err(BadLine);
-    };
+    let text = strip_word(text, b" ").ok_or(BadLine)?;
+    let (text, rest) = read_quoted(text).ok_or(BadLine)?;
     Ok((Text::new(text.to_vec(alloc)?), rest))
 }
 
@@ -187,8 +183,6 @@ pub fn read_bytes(alloc: Global, text: &[u8]) -> Result<(Bytes, &[u8]), LineFaul
     ensures { GivesPart result (bytes_at text.now) }
 {
     let (digits, rest) = split_word(strip_word(text, b" ").ok_or(BadLine)?);
-    let Some(bytes) = read_hex_or_dash(alloc, digits)? else {
-        return Err(BadLine);
-    };
+    let bytes = read_hex_or_dash(alloc, digits)?.ok_or(BadLine)?;
     Ok((bytes, rest))
 }

@@ -269,30 +269,37 @@ fn put_command(out: &mut Vec<u8>, command: &Command) -> Result<(), NoMemory>
     )
 }
 
+// Puts the spelling of the line, without a newline.
+fn put_line(out: &mut Vec<u8>, line: &Line) -> Result<(), NoMemory>
+    ensures { OnOk result (out.new.items ≡ out.old.items ++ spelling line.now) }
+{
+    match line {
+        Line::Tick(milliseconds) => {
+            out.extend_from_slice(b"tick")?;
+            put_count(out, u64::from(*milliseconds))
+        }
+        Line::Cut(calls) => {
+            out.extend_from_slice(b"cut")?;
+            put_count(out, *calls)
+        }
+        Line::Crash => Ok(out.extend_from_slice(b"crash")?),
+        Line::Restart(seed) => {
+            out.extend_from_slice(b"restart")?;
+            put_count(out, *seed)
+        }
+        Line::Process(process, command) => {
+            put_process(out, *process)?;
+            put_command(out, command)
+        }
+    }
+}
+
 /// The spelling of the line, without a newline.
 pub fn write_line(alloc: Global, line: &Line) -> Result<Bytes, NoMemory>
     ensures { IfOk result (λ bytes. bytes ≡ spelling line.now) }
 {
     let mut bytes = Vec::new(alloc);
-    match line {
-        Line::Tick(milliseconds) => {
-            bytes.extend_from_slice(b"tick")?;
-            put_count(&mut bytes, u64::from(*milliseconds))?;
-        }
-        Line::Cut(calls) => {
-            bytes.extend_from_slice(b"cut")?;
-            put_count(&mut bytes, *calls)?;
-        }
-        Line::Crash => bytes.extend_from_slice(b"crash")?,
-        Line::Restart(seed) => {
-            bytes.extend_from_slice(b"restart")?;
-            put_count(&mut bytes, *seed)?;
-        }
-        Line::Process(process, command) => {
-            put_process(&mut bytes, *process)?;
-            put_command(&mut bytes, command)?;
-        }
-    }
+    put_line(&mut bytes, line)?;
     Ok(Bytes::new(bytes))
 }
 

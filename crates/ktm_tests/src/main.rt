@@ -1,22 +1,32 @@
-//! Runs tables of scripts on images in memory, and says of each whether it holds. A word names a table, which is a file, and
-//! behind the dot its kind:
+//! Tries tables, and says of each whether it holds. A word names a table, which is a file, and behind the dot its kind. Some
+//! are of scripts, which run on images in memory:
 //!
 //! - `ktm`: a script by itself on a new image, whose replies stand in the file of that name that ends in `out`.
 //! - `rows`: runs one after another on one image, which has 16 units at first; and `blank`, where it has no byte at first.
 //! - `cuts`: a script whose last line records something, and what is seen where the power goes in that line.
 //! - `bytes`: the bytes of an image that a script leaves.
 //! - `images`: what is read of an image that a script leaves, where some of its bytes are changed.
-//! - `picks`: what a loss of power leaves of a disk, by the number that it picks by.
 //! - `faults`: a script that is run with the first, the second, and so on to the last call of a device failing.
 //!
 //! A row is `LINE => REPLY`, or a line without a reply. A table has parts, with an empty line between them.
+//!
+//! The others are of what one crate is asked and answers:
+//!
+//! - `lines`, `replies`: a text, and whether it is a line of a script, or a reply; what is read is also written again.
+//! - `events`, `groups`: bytes, as digits, and the event or the group that they are.
+//! - `picks`: the number of a pick, and what a loss of power leaves of a disk by it.
+//! - `calls`: the number of the first call of a file that fails, and the calls that a block makes over it.
 #![tactic(auto)]
 
+mod answers;
 mod cuts;
+mod events;
 mod faults;
+mod files;
 mod images;
 mod picks;
 mod run;
+mod texts;
 mod transcript;
 
 use crate::run::{NO_FAIL, blank, first_difference, follow, run, small_image};
@@ -61,9 +71,8 @@ fn found(alloc: Global, kind: &str, table: &str) -> Result<Option<String>, NoMem
         "cuts" => cuts::found(alloc, table),
         "bytes" => images::bytes_found(alloc, table),
         "images" => images::found(alloc, table),
-        "picks" => picks::found(alloc, table),
         "faults" => faults::found(alloc, table),
-        _ => Ok(Some(String::from_str(alloc, "a table of no kind")?)),
+        kind => answers::found(alloc, kind, table),
     }
 }
 

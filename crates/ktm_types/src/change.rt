@@ -2,7 +2,7 @@
 use ktm_base::{Bytes, Items, PageList, Text};
 
 /// What a node of the tree is.
-#[derive(Clone, Copy, Debug, PartialEq, Eq)]
+#[derive(Clone, Copy, Debug)]
 pub enum NodeKind {
     File,
     Directory,

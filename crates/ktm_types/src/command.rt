@@ -4,7 +4,7 @@ use ktm_base::{Bytes, Label, Pid, Text};
 use uuid::Uuid;
 
 /// A line of a script that is in its grammar.
-#[derive(Debug, Drop)]
+#[derive(Drop)]
 pub enum Line {
     /// So many milliseconds pass.
     Tick(u32),
@@ -20,7 +20,7 @@ pub enum Line {
 }
 
 /// A call of a process. A label names a handle of that process; the field `label` is one that the call binds.
-#[derive(Debug, Drop)]
+#[derive(Drop)]
 pub enum Command {
     /// Makes a transaction. The timeout is in milliseconds; 0 and 4,294,967,295 mean none.
     CreateTransaction {
@@ -40,7 +40,7 @@ pub enum Command {
     RollbackTransaction {
         transaction: Label,
     },
-    /// Tells a transaction's GUID, state and outcome.
+    /// IsSomeAnd a transaction's GUID, state and outcome.
     GetTransactionInformation {
         transaction: Label,
     },
@@ -162,7 +162,7 @@ pub enum Command {
         file: Label,
         size: u64,
     },
-    /// Tells how many bytes a file has.
+    /// IsSomeAnd how many bytes a file has.
     GetFileSizeEx {
         file: Label,
     },
@@ -252,7 +252,7 @@ pub enum Command {
 }
 
 /// Through what a process looks at files or keys: what was last committed, or a transaction, by the label of its handle.
-#[derive(Clone, Copy, Debug, PartialEq, Eq)]
+#[derive(Clone, Copy)]
 pub enum View {
     Plain,
     Transaction(Label),

@@ -6,7 +6,7 @@ use crate::Command;
 use ktm_base::Label;
 
 /// A call on the way to the end of a transaction, with the label that it names.
-#[derive(Clone, Copy, Debug)]
+#[derive(Clone, Copy)]
 pub enum Completion {
     CommitTransaction(Label),
     RollbackTransaction(Label),

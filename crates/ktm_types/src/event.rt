@@ -28,7 +28,7 @@ pub enum Part {
 }
 
 /// Which participant of a decided transaction is done.
-#[derive(Clone, Copy, Debug, PartialEq, Eq)]
+#[derive(Clone, Copy, Debug)]
 pub enum DonePart {
     Enlistment(Id),
     Files,

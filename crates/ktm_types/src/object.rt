@@ -2,7 +2,7 @@
 use ktm_base::{Id, Label, Pid};
 
 /// What a handle names.
-#[derive(Clone, Copy, Debug, PartialEq, Eq)]
+#[derive(Clone, Copy)]
 pub enum Object {
     Transaction(Id),
     Manager(Id),
@@ -12,7 +12,7 @@ pub enum Object {
 }
 
 /// A label of a process that is bound to an object.
-#[derive(Clone, Copy, Debug, PartialEq, Eq)]
+#[derive(Clone, Copy)]
 pub struct Handle {
     pub process: Pid,
     pub label: Label,
@@ -20,7 +20,7 @@ pub struct Handle {
 }
 
 /// How far a transaction is on its way to its end.
-#[derive(Clone, Copy, Debug, PartialEq, Eq)]
+#[derive(Clone, Copy)]
 pub enum Phase {
     /// It takes changes.
     Active,
@@ -47,7 +47,7 @@ pub enum Phase {
 }
 
 /// What became of a transaction, as GetTransactionInformation tells it.
-#[derive(Clone, Copy, Debug, PartialEq, Eq)]
+#[derive(Clone, Copy)]
 pub enum TransactionOutcome {
     Undetermined,
     Committed,
@@ -55,7 +55,7 @@ pub enum TransactionOutcome {
 }
 
 /// A transaction of this boot, or one that the restart brought back.
-#[derive(Clone, Copy, Debug, PartialEq, Eq)]
+#[derive(Clone, Copy)]
 pub struct Transaction {
     pub id: Id,
     /// In milliseconds; 0 and 4,294,967,295 mean none.

@@ -1,7 +1,7 @@
 // What the calls of a process choose among.
 
 /// What an open file may be used for.
-#[derive(Clone, Copy, Debug, PartialEq, Eq)]
+#[derive(Clone, Copy)]
 pub enum Access {
     Read,
     Write,
@@ -9,7 +9,7 @@ pub enum Access {
 }
 
 /// What other open files of the same group may be used for, while a file is open.
-#[derive(Clone, Copy, Debug, PartialEq, Eq)]
+#[derive(Clone, Copy)]
 pub enum ShareMode {
     Nothing,
     Read,
@@ -18,7 +18,7 @@ pub enum ShareMode {
 }
 
 /// What opening a file makes of a name that is there, and of one that is not.
-#[derive(Clone, Copy, Debug, PartialEq, Eq)]
+#[derive(Clone, Copy)]
 pub enum Disposition {
     /// Makes a file; the name is to be free.
     CreateNew,
@@ -33,14 +33,14 @@ pub enum Disposition {
 }
 
 /// Whether a resource manager outlives the boot in which it was made.
-#[derive(Clone, Copy, Debug, PartialEq, Eq)]
+#[derive(Clone, Copy)]
 pub enum Durability {
     Volatile,
     Durable,
 }
 
 /// What an enlistment asks for, or that it is the one that drives its transaction from outside.
-#[derive(Clone, Copy, Debug, PartialEq, Eq)]
+#[derive(Clone, Copy)]
 pub enum EnlistmentKind {
     /// PREPARE alone.
     Plain,

@@ -4,7 +4,7 @@ use crate::Part;
 use ktm_base::{Bytes, Id, Text};
 
 /// A file or a directory. The root is not among them: it is a directory with the number 1.
-#[derive(Debug, Drop)]
+#[derive(Drop)]
 pub struct Node {
     /// At least 2; no later node has the same.
     pub number: u64,
@@ -16,7 +16,7 @@ pub struct Node {
 }
 
 /// How far a recorded transaction is.
-#[derive(Clone, Copy, Debug, PartialEq, Eq)]
+#[derive(Clone, Copy)]
 pub enum Stage {
     /// Some of its parts are ready.
     Ready,
@@ -36,7 +36,7 @@ pub struct Superior {
 }
 
 /// What a participant of a transaction recorded, and whether it is done.
-#[derive(Debug, Drop)]
+#[derive(Drop)]
 pub struct RecordedPart {
     pub is_done: bool,
     pub part: Part,

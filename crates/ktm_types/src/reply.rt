@@ -4,7 +4,7 @@ use ktm_base::{Bytes, Notify, Refusal, TextList};
 use uuid::Uuid;
 
 /// How a transaction stands, beside its outcome.
-#[derive(Clone, Copy, Debug, PartialEq, Eq)]
+#[derive(Clone, Copy)]
 pub enum TransactionState {
     Normal,
     /// After a restart it waits for its superior.
@@ -14,7 +14,7 @@ pub enum TransactionState {
 }
 
 /// The answer to a line.
-#[derive(PartialEq, Debug, Drop)]
+#[derive(Drop)]
 pub enum Reply {
     Refused(Refusal),
     /// It is done, and there is nothing to tell.

@@ -5,7 +5,7 @@ use ktm_types::{Entry, Node, RecordedPart, Stage, Superior};
 use std::marker::Model;
 
 /// A transaction that is not over.
-#[derive(Debug, Drop)]
+#[derive(Drop)]
 pub struct Recorded {
     pub id: Id,
     pub stage: Stage,
@@ -22,7 +22,7 @@ impl Model for Recorded {
 }
 
 /// The durable state: what the events of an image's log stand for.
-#[derive(Debug, Drop)]
+#[derive(Drop)]
 pub struct Durable {
     /// How many units of 4,096 bytes the image has.
     pub units: u32,

@@ -2,14 +2,14 @@
 use ktm_types::{Access, ShareMode};
 
 /// A name in a directory; names are compared without case.
-#[derive(Clone, Copy, Debug)]
+#[derive(Clone, Copy)]
 pub struct Place<'a> {
     pub directory: u64,
     pub name: &'a [u8],
 }
 
 /// What a call does to files and names, by which others may refuse it.
-#[derive(Clone, Copy, Debug)]
+#[derive(Clone, Copy)]
 pub enum Act<'a> {
     /// Opens a file for this access, with this share mode, and empties it or not.
     Open {

@@ -4,7 +4,7 @@ use ktm_types::{Access, Disposition, ShareMode};
 use std::marker::Model;
 
 /// An open file; a plain one has no transaction.
-#[derive(Clone, Copy, Debug)]
+#[derive(Clone, Copy)]
 pub struct OpenFile {
     /// It counts from 1 in each boot, and is never used again in that boot.
     pub number: u32,
@@ -32,7 +32,7 @@ impl Model for Room {
 }
 
 /// A call on files, plain or in a transaction. A call on an open file is one of the transaction in which that is open.
-#[derive(Debug, Drop)]
+#[derive(Drop)]
 pub enum FileCall {
     /// Makes or opens a file, as the disposition says.
     Create {
@@ -58,7 +58,7 @@ pub enum FileCall {
         file: OpenFile,
         size: u64,
     },
-    /// Tells how many bytes a file has.
+    /// IsSomeAnd how many bytes a file has.
     Size {
         file: OpenFile,
     },

@@ -126,7 +126,7 @@ pub(crate) fn set_end<V: Volume>(
     within_disk(volume, file.transaction, cut(alloc, file, size), room)
 }
 
-/// Tells how many bytes a file has.
+/// IsSomeAnd how many bytes a file has.
 #[tactic(auto, unfolding(ktm_world::specs::FileCalls::get_size))]
 pub(crate) fn size<V: Volume>(volume: &V, file: OpenFile) -> Plan
     ensures { (room : FileRoom) (who : _) → result ≡ file_outcome (V.files volume.now) room who (Size file) }

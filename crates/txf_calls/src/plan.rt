@@ -16,7 +16,7 @@ use ktm_types::{Change, Reply};
 use std::marker::Model;
 
 /// What a call comes to: its reply, and what of the files it changes.
-#[derive(Debug, Drop)]
+#[derive(Drop)]
 pub struct Plan {
     pub reply: Reply,
     /// A change, which a plain call commits, and a transaction keeps.

@@ -13,7 +13,8 @@ use Rattle.txf_opens.specs.Names.{number_name, use_name}
 use Rattle.txf_opens.specs.OpensState.{open_of}
 use Rattle.txf_opens.proofs.Bytes.{use_name-tells}
 use Rattle.ktm_links.proofs.Comparing.{cases_name}
-use Rattle.txf_opens.proofs.Found.{cases_option, one_key}
+use Rattle.txf_opens.proofs.Found.{one_key}
+use Rattle.ktm_links.proofs.Indexes.{option_cases}
 use Rattle.ktm_links.proofs.Keys.{cases_key}
 
 -- ---- one more
@@ -62,7 +63,7 @@ pub free_name : (has : OpenFile → Bool) (name : OpenFile → List ℕ) (items 
     → ((a b : OpenFile) → name a ≡ name b → a.number ≡ b.number) → ((key : Key) (file : Kept) → value_at items key ≡ Some file → file.number ≤ last)
     → last < o.number → q ≡ name o → key_under named q ≡ None
 free_name has name items named o last q index tells below above is =
-    elim (cases_option (key_under named q)) [
+    elim (option_cases (key_under named q)) [
       | inl none ↦ none
       | inr some ↦
           let at = index.only q some.0 some.1 in

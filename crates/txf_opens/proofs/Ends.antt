@@ -10,8 +10,9 @@ use Rattle.ktm_world.specs.Transactions.{is_of}
 use Rattle.ktm_links.specs.declared.list.Key.{Key}
 use Rattle.ktm_links.specs.Items.{Item, value_at}
 use Rattle.ktm_links.specs.Mapped.{NamedItem, Begins}
+use Rattle.ktm_links.specs.Indexed.{AreDistinct, IsFirstUnder, IsNoneUnder}
 use Rattle.txf_opens.specs.declared.file.OpenFile.{OpenFile as Kept}
-use Rattle.txf_opens.specs.Indexed.{is_any, opens_of, AreDistinct, IsFirstUnder, IsIndex, IsNoneUnder, IsNumberOf}
+use Rattle.txf_opens.specs.Indexed.{is_any, opens_of, IsIndex, IsNumberOf}
 use Rattle.txf_opens.specs.Names.{group_bytes, group_name, number_name}
 use Rattle.txf_opens.specs.OpensState.{is_not_of, is_other_number, open_of}
 use Rattle.txf_opens.proofs.Adding.{one_number}

@@ -1,5 +1,5 @@
 -- Lemmas on maps from names to the keys of open files.
-use Rattle.std.proofs.Common.{◌≡◌, ℕ, ◌==◌, ◌⊎◌, Bool, true, false, List, [], Option, Some, None, refl, sym, ap, ◌∙◌, inl, inr}
+use Rattle.std.proofs.Common.{◌≡◌, ℕ, ◌==◌, Bool, true, false, List, [], Some, None, refl, sym, ap, ◌∙◌}
 use Rattle.std.specs.Bool.{MatchBool}
 use Rattle.std.specs.List.{find, list_any}
 use Rattle.std.specs.Option.{option_map}
@@ -8,19 +8,15 @@ use Rattle.std.proofs.lemmas.Option.{same_Some}
 use Rattle.ktm_world.specs.Files.{OpenFile}
 use Rattle.ktm_links.specs.declared.list.Key.{Key}
 use Rattle.ktm_links.specs.Items.{Item, value_at}
-use Rattle.ktm_links.specs.Mapped.{NamedItem, at, key_at, Begins, key_under}
-use Rattle.ktm_links.proofs.Entries.{key_at-at}
+use Rattle.ktm_links.specs.Mapped.{NamedItem, Begins, key_under}
+use Rattle.ktm_links.specs.Indexed.{AreDistinct, IsNoneUnder}
 use Rattle.txf_opens.specs.declared.file.OpenFile.{OpenFile as Kept}
-use Rattle.txf_opens.specs.Indexed.{is_any, opens_of, AreDistinct, HasUnder, IsIndex, IsNoneUnder}
+use Rattle.txf_opens.specs.Indexed.{is_any, opens_of, HasUnder, IsIndex}
 use Rattle.txf_opens.specs.OpensState.{open_of}
 use Rattle.ktm_links.specs.Numbers.{number_bytes}
 use Rattle.txf_opens.specs.Names.{number_name}
 use Rattle.txf_opens.proofs.Bytes.{number_tells}
 use Rattle.txf_opens.proofs.Listed.{any_from, find-none, find-there, none_passes, IsOnly}
-
-pub cases_option : (o : Option Key) → (o ≡ None) ⊎ ((key : Key) × (o ≡ Some key))
-cases_option None = inl refl
-cases_option (Some key) = inr (key, refl)
 
 -- the open file that a name finds
 pub record IsFound (has : OpenFile → Bool) (name : OpenFile → List ℕ) (q : List ℕ) (file : Kept) : Type 0 where
@@ -55,14 +51,6 @@ module _ (has : OpenFile → Bool) (name : OpenFile → List ℕ) (items : List 
       let under = index.all key e there (is_so (open_of e) so) in
       let none = told (name (open_of e)) (begins (open_of e) so) in
       absurd (cc)))
-
--- a name that no key is under is free
-pub key_at-free : (named : List (NamedItem Key)) (q : List ℕ) → key_under named q ≡ None → key_at named q ≡ None
-key_at-free named q none = key_at-at named q ∙ by_cases (at named q) none
-  where
-    by_cases : (o : Option (Key × Key)) → option_map (λ (e : Key × Key). e.1) o ≡ None → option_map (λ (e : Key × Key). e.0) o ≡ None
-    by_cases None none = refl
-    by_cases (Some e) none = absurd (cc)
 
 -- ---- by number
 module _ (items : List (Item Kept)) (named : List (NamedItem Key)) (number : ℕ) (index : IsIndex is_any number_name items named) (distinct : AreDistinct items) where

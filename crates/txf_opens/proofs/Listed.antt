@@ -6,35 +6,11 @@ use Rattle.std.proofs.lemmas.Option.{same_Some}
 use Rattle.ktm_world.specs.Files.{OpenFile}
 use Rattle.ktm_links.specs.declared.list.Key.{Key}
 use Rattle.ktm_links.specs.Items.{Item, item, same_key, value_at, without}
-use Rattle.ktm_links.proofs.Keys.{same_key-true, same_key-self, value_at-others, value_at-push_other}
+use Rattle.ktm_links.specs.Indexed.{AreDistinct}
+use Rattle.ktm_links.proofs.Keys.{same_key-true, same_key-self}
 use Rattle.txf_opens.specs.declared.file.OpenFile.{OpenFile as Kept}
-use Rattle.txf_opens.specs.Indexed.{AreDistinct, opens_of}
+use Rattle.txf_opens.specs.Indexed.{opens_of}
 use Rattle.txf_opens.specs.OpensState.{open_of}
-
--- ---- distinct keys
-pub AreDistinct-push : (xs : List (Item Kept)) (key : Key) (e : Kept) → AreDistinct xs → value_at xs key ≡ None → AreDistinct (xs ++ item key e ∷ [])
-AreDistinct-push [] key e distinct none = (refl, tt)
-AreDistinct-push (x ∷ xs) key e distinct none =
-    elim (cases_Bool (same_key x.key key)) [
-      | inl same ↦ absurd (let some = rw same at none in cc)
-      | inr differs ↦ (
-        value_at-push_other xs (item key e) x.key (λ same. absurd (let is = same_key-self x.key key same in cc)) ∙ distinct.0,
-        AreDistinct-push xs key e distinct.1 (rw differs at none),
-      )
-    ]
-
-pub AreDistinct-without : (xs : List (Item Kept)) (key : Key) → AreDistinct xs → AreDistinct (without xs key)
-AreDistinct-without [] key distinct = tt
-AreDistinct-without (x ∷ xs) key distinct =
-    elim (cases_Bool (same_key x.key key)) [
-      | inl same ↦ rw same distinct.1
-      | inr differs ↦
-          rw differs
-          ((
-            value_at-others xs key x.key (λ same. absurd (let is = same_key-self x.key key (sym same) in cc)) ∙ distinct.0,
-            AreDistinct-without xs key distinct.1,
-          ))
-    ]
 
 -- the first one is there under its key
 pub value_at-here : (x : Item Kept) (xs : List (Item Kept)) → value_at (x ∷ xs) x.key ≡ Some x.value

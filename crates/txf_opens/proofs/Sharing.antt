@@ -14,8 +14,9 @@ use Rattle.ktm_world.specs.Transactions.{is_of}
 use Rattle.ktm_links.specs.declared.list.Key.{Key}
 use Rattle.ktm_links.specs.Items.{Item}
 use Rattle.ktm_links.specs.Mapped.{NamedItem, Begins}
+use Rattle.ktm_links.specs.Indexed.{AreDistinct, IsNoneUnder}
 use Rattle.txf_opens.specs.declared.file.OpenFile.{OpenFile as Kept}
-use Rattle.txf_opens.specs.Indexed.{opens_of, AreDistinct, HasUnder, IsIndex, IsNoneUnder}
+use Rattle.txf_opens.specs.Indexed.{opens_of, HasUnder, IsIndex}
 use Rattle.ktm_links.specs.Numbers.{long_bytes}
 use Rattle.txf_opens.specs.Names.{group_bytes, use_name}
 use Rattle.txf_opens.proofs.Bytes.{begins_transacted, begins_use, is_of-group, same_group-true, transacted_begins, use_begins}

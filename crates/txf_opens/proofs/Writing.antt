@@ -12,9 +12,10 @@ use Rattle.ktm_world.specs.Files.{OpenFile}
 use Rattle.ktm_links.specs.declared.list.Key.{Key}
 use Rattle.ktm_links.specs.Items.{Item, value_at}
 use Rattle.ktm_links.specs.Mapped.{NamedItem, Begins, IsNotBelow}
+use Rattle.ktm_links.specs.Indexed.{AreDistinct, IsFirstUnder}
 use Rattle.ktm_links.proofs.Names.{begins_between, begins_not_below}
 use Rattle.txf_opens.specs.declared.file.OpenFile.{OpenFile as Kept}
-use Rattle.txf_opens.specs.Indexed.{is_writer, opens_of, AreDistinct, IsFirstUnder, IsIndex}
+use Rattle.txf_opens.specs.Indexed.{is_writer, opens_of, IsIndex}
 use Rattle.ktm_links.specs.Numbers.{number_bytes, long_bytes}
 use Rattle.txf_opens.specs.Names.{group_bytes, number_name, past, use_name}
 use Rattle.txf_opens.specs.OpensState.{is_other_writer, open_of}

@@ -1,5 +1,5 @@
 -- How the maps from names stand to the open files. No public clause cites this module.
-use Rattle.std.specs.Prelude.{◌≡◌, ℕ, ◌<◌, ◌≤◌, ◌^◌, ◌==◌, ◌&&◌, not, Bool, true, false, List, [], ◌∷◌, Some, None, is_some, map, min}
+use Rattle.std.specs.Prelude.{◌≡◌, ℕ, ◌<◌, ◌≤◌, ◌^◌, ◌==◌, ◌&&◌, not, Bool, true, false, List, Some, None, map, min}
 use Rattle.std.specs.List.{list_any}
 use Rattle.ktm_base.specs.declared.id.Id.{Id}
 use Rattle.ktm_world.specs.Conflicts.{lets_read, lets_write, reads, writes}
@@ -7,7 +7,8 @@ use Rattle.ktm_world.specs.Files.{OpenFile}
 use Rattle.ktm_world.specs.Transactions.{is_of}
 use Rattle.ktm_links.specs.declared.list.Key.{Key}
 use Rattle.ktm_links.specs.Items.{Item, value_at}
-use Rattle.ktm_links.specs.Mapped.{NamedItem, IsNotBelow, key_under}
+use Rattle.ktm_links.specs.Mapped.{NamedItem, key_under}
+use Rattle.ktm_links.specs.Indexed.{AreDistinct, IsFirstUnder}
 use Rattle.txf_opens.specs.declared.file.OpenFile.{OpenFile as Kept}
 use Rattle.txf_opens.specs.declared.uses.Uses.{Uses}
 use Rattle.txf_opens.specs.Names.{number_name, group_name, use_name}
@@ -20,17 +21,6 @@ open_in item = open_of item.value
 -- the open files alone
 abbrev pub opens_of : List (Item Kept) → List OpenFile
 opens_of items = map open_in items
-
--- the key is under the first of the names of which this is so
-pub record IsFirstUnder (P : List ℕ → Type 0) (named : List (NamedItem Key)) (key : Key) : Type 0 where
-  pub name : List ℕ
-  pub there : key_under named name ≡ Some key
-  pub so : P name
-  pub first : (q : List ℕ) → P q → is_some (key_under named q) ≡ true → IsNotBelow q name
-
--- no key is under a name of which this is so
-abbrev pub IsNoneUnder : (List ℕ → Type 0) → List (NamedItem Key) → Type 0
-IsNoneUnder P named = (q : List ℕ) → P q → key_under named q ≡ None
 
 -- a key is under a name of which this is so
 abbrev pub HasUnder : (List ℕ → Type 0) → List (NamedItem Key) → Type 0
@@ -117,11 +107,6 @@ pub record TakesUse (name : List ℕ) (old new : Uses) : Type 0 where
   pub writers : Takes name old.writers.entries new.writers.entries
   pub deny_read : Takes name old.deny_read.entries new.deny_read.entries
   pub deny_write : Takes name old.deny_write.entries new.deny_write.entries
-
--- no two open files have one key
-abbrev pub AreDistinct : List (Item Kept) → Type 0
-AreDistinct [] = Unit {0}
-AreDistinct (x ∷ xs) = (value_at xs x.key ≡ None) × AreDistinct xs
 
 -- the maps stand for the open files, whose numbers are not above the last one
 pub record IsIndexed (items : List (Item Kept)) (numbers groups : List (NamedItem Key)) (uses : Uses) (last : ℕ) : Type 0 where

@@ -6,7 +6,7 @@ use ktm_base::Id;
 use ktm_types::{Access, ShareMode};
 
 /// An open file; a plain one has no transaction.
-#[derive(Clone, Copy, Debug)]
+#[derive(Clone, Copy)]
 pub struct OpenFile {
     /// It counts from 1 in each boot, and is never used again in that boot.
     pub number: u32,

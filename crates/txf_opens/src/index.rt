@@ -1,42 +1,11 @@
 // Maps from names to the keys of open files.
-ghost use Rattle.std.specs.Prelude.{◌≡◌, ℕ, List, ◌<◌, ◌≤◌, ◌+◌, None, IfNone, IfSome, true};
+ghost use Rattle.std.specs.Prelude.{◌≡◌, ◌<◌, ◌≤◌, ◌+◌, None};
 ghost use Rattle.std.specs.Bool.{MatchBool};
-ghost use Rattle.ktm_links.specs.Mapped.{Begins, IsNotBelow, key_under};
-ghost use Rattle.txf_opens.specs.Indexed.{Adds, HasUnder, IsFirstUnder, IsNoneUnder, Takes};
+ghost use Rattle.ktm_links.specs.Indexed.{IsNoneUnder};
+ghost use Rattle.ktm_links.specs.Mapped.{Begins, key_under};
+ghost use Rattle.txf_opens.specs.Indexed.{Adds, HasUnder, Takes};
 
-use ktm_links::{Chains, Key, Name};
-
-/// The key that the map has under the name.
-pub(crate) fn key_under<K: Name>(map: &Chains<K, Key>, name: &[u8]) -> Option<Key>
-    ensures { result ≡ key_under map.now.entries name.now }
-{
-    match map.find(name) {
-        Some(key) => map.get(key).copied(),
-        None => None,
-    }
-}
-
-/// The key under the first of the names that begin with these bytes.
-pub(crate) fn first_under<K: Name>(map: &Chains<K, Key>, prefix: &[u8]) -> Option<Key>
-    ensures first { IfSome result (λ key. IsFirstUnder (Begins prefix.now) map.now.entries key) }
-    ensures none { IfNone result (IsNoneUnder (Begins prefix.now) map.now.entries) }
-{
-    match map.first_with(prefix) {
-        Some(own) => map.get(own).copied(),
-        None => None,
-    }
-}
-
-/// The key under the first of the names that are not below this one.
-pub(crate) fn first_from<K: Name>(map: &Chains<K, Key>, name: &[u8]) -> Option<Key>
-    ensures first { IfSome result (λ key. IsFirstUnder (λ q. IsNotBelow q name.now) map.now.entries key) }
-    ensures none { IfNone result (IsNoneUnder (λ q. IsNotBelow q name.now) map.now.entries) }
-{
-    match map.first_from(name) {
-        Some(own) => map.get(own).copied(),
-        None => None,
-    }
-}
+use ktm_links::{Chains, Key, Name, first_under};
 
 /// Does a name begin with these bytes.
 pub(crate) fn has_under<K: Name>(map: &Chains<K, Key>, prefix: &[u8]) -> bool

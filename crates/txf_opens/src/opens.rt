@@ -9,13 +9,13 @@ ghost use Rattle.txf_opens.specs.Indexed.{IsNumberOf};
 ghost use Rattle.txf_opens.specs.OpensState.{is_not_of, is_other_number, is_other_writer, open_of, opened};
 
 use crate::file::{OpenFile, asks_write, is_same_group, lets_read, lets_write, reads};
-use crate::index::{add, first_under, has_under, key_under, take};
+use crate::index::{add, has_under, take};
 use crate::name::{
     GroupName, NumberName, group_bytes, group_name, past, transacted_bytes, use_bytes, use_name,
 };
 use crate::uses::{Uses, first_writer_from, first_writer_under};
 use ktm_base::{Id, NoMemory};
-use ktm_links::{Chains, Key, List, number_bytes};
+use ktm_links::{Chains, Key, List, first_under, key_under, number_bytes};
 use ktm_types::{Access, ShareMode};
 use std::alloc::Global;
 use std::marker::Model;

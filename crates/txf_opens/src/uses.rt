@@ -8,10 +8,10 @@ ghost use Rattle.txf_opens.specs.OpensState.{open_of};
 ghost use Rattle.txf_opens.specs.Writers.{IsFirstWriter, IsNoWriter};
 
 use crate::file::{OpenFile, lets_read, lets_write, reads, writes};
-use crate::index::{add, first_from, first_under, take};
+use crate::index::{add, take};
 use crate::name::{UseName, use_name};
 use ktm_base::NoMemory;
-use ktm_links::{Chains, Key, List};
+use ktm_links::{Chains, Key, List, first_from, first_under};
 use std::alloc::Global;
 
 /// The keys of the open files by node and group: of those that read, that write, that do not let others read, and that do

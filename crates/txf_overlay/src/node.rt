@@ -12,7 +12,7 @@ use ktm_types::{Change, NodeKind};
 use txf_tree::{ChildName, NumberName, child_name, number_bytes};
 
 /// What became of a node that the transaction made, moved or dropped.
-#[derive(Clone, Copy, Debug)]
+#[derive(Clone, Copy)]
 pub(crate) struct NodeSeen {
     /// The place of the last change of it.
     pub(crate) last: usize,

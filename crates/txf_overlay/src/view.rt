@@ -25,7 +25,7 @@ use txf_tree::{Tree, child_name};
 const ROOT: u64 = 1;
 
 /// A node as a transaction sees it.
-#[derive(Clone, Copy, Debug, PartialEq, Eq)]
+#[derive(Clone, Copy)]
 pub struct Seen {
     /// The number of the directory that it is in.
     pub parent: u64,

@@ -11,7 +11,7 @@ use ktm_names::Path;
 const ROOT: u64 = 1;
 
 /// Where a path leads.
-#[derive(Clone, Copy, Debug)]
+#[derive(Clone, Copy)]
 pub enum Whereabouts<'a> {
     /// A directory on the way is missing, or is a file.
     NoWay,

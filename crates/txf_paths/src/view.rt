@@ -5,7 +5,7 @@ ghost use Rattle.ktm_world.specs.Tree.{Tree, child_of};
 ghost use Rattle.txf_paths.specs.Leads.{seen_of};
 
 /// A node as a caller sees it.
-#[derive(Clone, Copy, Debug, PartialEq, Eq)]
+#[derive(Clone, Copy)]
 pub struct Seen {
     pub number: u64,
     /// The number of the directory that it is in.

@@ -44,20 +44,20 @@ module _ (who : Option Id) where
     so : f id ≡ true
 
   -- the test is whether there is one
-  record Tells (b : Bool) (f : Id → Bool) : Type 0 where
+  record IsSomeAnd (b : Bool) (f : Id → Bool) : Type 0 where
     to : b ≡ true → SomeOther f
     from : SomeOther f → b ≡ true
 
-  tells_one : (a b : Bool) (f : Id → Bool) → Tells a f → Tells b f → a ≡ b
+  tells_one : (a b : Bool) (f : Id → Bool) → IsSomeAnd a f → IsSomeAnd b f → a ≡ b
   tells_one a b f left right = both_ways a b (λ so. right.from (left.to so)) (λ so. left.from (right.to so))
 
-  tells_same : (b : Bool) (f g : Id → Bool) → ((id : Id) → f id ≡ g id) → Tells b f → Tells b g
+  tells_same : (b : Bool) (f g : Id → Bool) → ((id : Id) → f id ≡ g id) → IsSomeAnd b f → IsSomeAnd b g
   tells_same b f g same tells = record {
     to = λ so. let s = tells.to so in record { id = s.id; other = s.other; so = sym (same s.id) ∙ s.so };
     from = λ s. tells.from (record { id = s.id; other = s.other; so = same s.id ∙ s.so });
   }
 
-  tells_or : (a b : Bool) (f g : Id → Bool) → Tells a f → Tells b g → Tells (a || b) (λ id. f id || g id)
+  tells_or : (a b : Bool) (f g : Id → Bool) → IsSomeAnd a f → IsSomeAnd b g → IsSomeAnd (a || b) (λ id. f id || g id)
   tells_or a b f g left right = record {
     to = λ so. elim (or_cases a b so) [
       | inl first ↦ let s = left.to first in record { id = s.id; other = s.other; so = or_left (f s.id) (g s.id) s.so }
@@ -69,16 +69,16 @@ module _ (who : Option Id) where
     ];
   }
 
-  tells_and : (c b : Bool) (f : Id → Bool) → Tells b f → Tells (c && b) (λ id. c && f id)
+  tells_and : (c b : Bool) (f : Id → Bool) → IsSomeAnd b f → IsSomeAnd (c && b) (λ id. c && f id)
   tells_and true b f tells = tells
   tells_and false b f tells = record { to = λ so. absurd (cc); from = λ s. let so = s.so in absurd (cc) }
 
-  tells_any : {X : Type 0} (F : X → Bool) (f : X → Id → Bool) → ((x : X) → Tells (F x) (f x)) → (xs : List X) → Tells (list_any F xs) (λ id. list_any (λ x. f x id) xs)
+  tells_any : {X : Type 0} (F : X → Bool) (f : X → Id → Bool) → ((x : X) → IsSomeAnd (F x) (f x)) → (xs : List X) → IsSomeAnd (list_any F xs) (λ id. list_any (λ x. f x id) xs)
   tells_any F f each [] = record { to = λ so. absurd (cc); from = λ s. let so = s.so in absurd (cc) }
   tells_any F f each (x ∷ xs) = tells_or (F x) (list_any F xs) (f x) (λ id. list_any (λ x. f x id) xs) (each x) (tells_any F f each xs)
 
   -- of things that transactions hold
-  tells_held : {X : Type 0} (t : X → Id) (p : X → Bool) (xs : List X) → Tells (list_any (λ x. p x && not (is_of (t x) who)) xs) (λ id. list_any (λ x. same_id (t x) id && p x) xs)
+  tells_held : {X : Type 0} (t : X → Id) (p : X → Bool) (xs : List X) → IsSomeAnd (list_any (λ x. p x && not (is_of (t x) who)) xs) (λ id. list_any (λ x. same_id (t x) id && p x) xs)
   tells_held t p xs = record {
     to = λ any.
         let some = some_of (λ x. p x && not (is_of (t x) who)) xs any in
@@ -95,22 +95,22 @@ module _ (who : Option Id) where
         (and_from (p some.one) (not (is_of (t some.one) who)) parts.1 (ap not (ap (λ i. is_of i who) (same_ids (t some.one) s.id parts.0) ∙ s.other)));
   }
 
-  tells_number : (held : List NumberHeld) (n : ℕ) → Tells (is_number_held who held n) (λ id. is_in (numbers_of held id) n)
+  tells_number : (held : List NumberHeld) (n : ℕ) → IsSomeAnd (is_number_held who held n) (λ id. is_in (numbers_of held id) n)
   tells_number held n =
       tells_same (is_number_held who held n) (λ id. list_any (λ h. same_id h.transaction id && h.number == n) held) (λ id. is_in (numbers_of held id) n)
       (λ id. sym (numbers-any held id n)) (tells_held (λ (h : NumberHeld). h.transaction) (λ h. h.number == n) held)
 
-  tells_place : (held : List PlaceHeld) (p : Place) → Tells (is_place_held who held p) (λ id. is_place_in (names_of held id) p)
+  tells_place : (held : List PlaceHeld) (p : Place) → IsSomeAnd (is_place_held who held p) (λ id. is_place_in (names_of held id) p)
   tells_place held p =
       tells_same (is_place_held who held p) (λ id. list_any (λ h. same_id h.transaction id && same_place p h.place) held) (λ id. is_place_in (names_of held id) p)
       (λ id. sym (names-any held id p)) (tells_held (λ (h : PlaceHeld). h.transaction) (λ h. same_place p h.place) held)
 
-  tells_among : (ids : List Id) → Tells (is_other_among who ids) (λ id. list_any (λ i. same_id i id) ids)
+  tells_among : (ids : List Id) → IsSomeAnd (is_other_among who ids) (λ id. list_any (λ i. same_id i id) ids)
   tells_among ids =
       tells_same (is_other_among who ids) (λ id. list_any (λ i. same_id i id && true) ids) (λ id. list_any (λ i. same_id i id) ids)
       (λ id. any_same (λ i. same_id i id && true) (λ i. same_id i id) (λ i. and-true (same_id i id)) ids) (tells_held (λ i. i) (λ i. true) ids)
 
-  tells_writer : (opens : List OpenFile) (n : ℕ) → Tells (list_any (is_other_writer who n) opens) (λ id. is_in (written_by opens id) n)
+  tells_writer : (opens : List OpenFile) (n : ℕ) → IsSomeAnd (list_any (is_other_writer who n) opens) (λ id. is_in (written_by opens id) n)
   tells_writer opens n = record {
     to = λ any.
         let some = some_of (is_other_writer who n) opens any in
@@ -141,14 +141,14 @@ module _ (who : Option Id) where
 
   -- ---- what a call meets
   module _ (state : ReserveState) (opens : List OpenFile) where
-    tells_node : (n : ℕ) → Tells (is_node_met state opens who n) (λ id. is_in (holds_with state opens id).nodes n)
+    tells_node : (n : ℕ) → IsSomeAnd (is_node_met state opens who n) (λ id. is_in (holds_with state opens id).nodes n)
     tells_node n =
         tells_same (is_node_met state opens who n) (λ id. is_in (numbers_of state.nodes id) n || is_in (written_by opens id) n) (λ id. is_in (holds_with state opens id).nodes n)
         (λ id. sym (list_any-append (λ m. m == n) (numbers_of state.nodes id) (written_by opens id)))
         (tells_or (is_number_held who state.nodes n) (list_any (is_other_writer who n) opens) (λ id. is_in (numbers_of state.nodes id) n) (λ id. is_in (written_by opens id) n)
         (tells_number state.nodes n) (tells_writer opens n))
 
-    tells_meets : (act : Act) → Tells (meets_by state opens who act) (λ id. meets (holds_with state opens id) act)
+    tells_meets : (act : Act) → IsSomeAnd (meets_by state opens who act) (λ id. meets (holds_with state opens id) act)
     unfolding meets
     tells_meets act =
         let nodes = tells_any (is_node_met state opens who) (λ n id. is_in (holds_with state opens id).nodes n) tells_node (nodes_changed act) in
@@ -159,7 +159,7 @@ module _ (who : Option Id) where
         tells_or _ _ _ _ (tells_or _ _ _ _ (tells_or _ _ _ _ (tells_or _ _ _ _ nodes places) entered) used) moved
 
   -- a list that has each of them tells too
-  tells_list : (f : Id → Bool) (ids : List Id) → ((id : Id) → f id ≡ true → list_any (λ i. same_id i id) ids ≡ true) → Tells (list_any (λ id. not (is_of id who) && f id) ids) f
+  tells_list : (f : Id → Bool) (ids : List Id) → ((id : Id) → f id ≡ true → list_any (λ i. same_id i id) ids ≡ true) → IsSomeAnd (list_any (λ id. not (is_of id who) && f id) ids) f
   tells_list f ids among = record {
     to = λ any.
         let some = some_of (λ id. not (is_of id who) && f id) ids any in

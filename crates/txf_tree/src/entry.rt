@@ -6,7 +6,7 @@ use std::alloc::Global;
 use std::marker::Model;
 
 /// A node: its content, if it is a file, and its name are lent.
-#[derive(Clone, Copy, Debug)]
+#[derive(Clone, Copy)]
 pub struct NodeRef<'a> {
     pub number: u64,
     /// The number of the directory that it is in.
@@ -17,14 +17,14 @@ pub struct NodeRef<'a> {
 }
 
 /// What a directory has under a name.
-#[derive(Clone, Copy, Debug)]
+#[derive(Clone, Copy)]
 pub struct Entry<'a> {
     pub name: &'a [u8],
     pub is_directory: bool,
 }
 
 /// The entries of a directory, by rising folded name.
-#[derive(Debug, Drop)]
+#[derive(Drop)]
 pub struct Entries<'a> {
     items: Vec<Entry<'a>>,
 }

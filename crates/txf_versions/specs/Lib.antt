@@ -1,4 +1,3 @@
-pub mod Indexed
 pub mod Names
 pub mod Parts
 pub mod VersionsState

@@ -1,15 +1,13 @@
 // The first opens, found by transaction and by version.
 ghost use Rattle.std.specs.Prelude.{◌≡◌, ◌<◌, ◌≤◌, ◌+◌, ◌++◌, ◌∷◌, [], find, length, min, None, Some, true, false, IfNone, IfSome, IsOk, OnOk, OnSome};
 ghost use Rattle.std.specs.List.{list_any};
-ghost use Rattle.ktm_links.specs.Mapped.{Begins, key_under};
-ghost use Rattle.txf_versions.specs.Indexed.{IsFirstUnder, IsNoneUnder};
 ghost use Rattle.txf_versions.specs.Parts.{IsTaken};
 ghost use Rattle.txf_versions.specs.VersionsState.{is_open_of, is_own, is_pinned};
 
 use crate::name::{HolderName, OpenName, holder_name, open_name, transaction_bytes, version_name};
 use crate::opened::Opened;
 use ktm_base::{Id, NoMemory};
-use ktm_links::{Chains, Key, List, Name};
+use ktm_links::{Chains, Key, List, first_under, key_under};
 use std::alloc::Global;
 use std::marker::Model;
 
@@ -28,7 +26,7 @@ impl Model for Opens {
 
     ghost Value = { OpensState };
 
-    ghost use Rattle.txf_versions.specs.Indexed.{values_of, IsIndex};
+    ghost use Rattle.ktm_links.specs.Indexed.{values_of, IsIndex};
     ghost use Rattle.txf_versions.specs.Names.{holder_name, own_name};
 
     ghost view = { λ o. record {
@@ -40,27 +38,6 @@ impl Model for Opens {
       by_transaction : IsIndex own_name o.list.items o.by_transaction.entries;
       by_version : IsIndex holder_name o.list.items o.by_version.entries;
     } };
-}
-
-// The key that the map has under the name.
-fn key_under<K: Name>(map: &Chains<K, Key>, name: &[u8]) -> Option<Key>
-    ensures { result ≡ key_under map.now.entries name.now }
-{
-    match map.find(name) {
-        Some(key) => map.get(key).copied(),
-        None => None,
-    }
-}
-
-// The key under the first of the names that begin with these bytes.
-fn first_under<K: Name>(map: &Chains<K, Key>, prefix: &[u8]) -> Option<Key>
-    ensures first { IfSome result (λ key. IsFirstUnder (Begins prefix.now) map.now.entries key) }
-    ensures none { IfNone result (IsNoneUnder (Begins prefix.now) map.now.entries) }
-{
-    match map.first_with(prefix) {
-        Some(own) => map.get(own).copied(),
-        None => None,
-    }
 }
 
 impl Opens {

@@ -1,8 +1,8 @@
+use Rattle.std.proofs.Common.{◌≡◌, Err, refl, sym, ◌∙◌, ap}
 use Rattle.ktm_base.specs.Disk.{DiskState}
-use Rattle.ktm_base.proofs.ToldSteps.{IfTold-map}
+use Rattle.ktm_base.proofs.ToldSteps.{IfSome-map}
 use Rattle.ktm_log.specs.Log.{BeginsWith, IsLog, IsBadLog, area_bytes, payloads_in}
-use Rattle.ktm_journal.specs.Load.{IsFirstBad}
-use Rattle.ktm_journal.proofs.Known.{IfBad-map}
+use Rattle.ktm_journal.specs.declared.fault.LoadFault.TheVariants.{Bad}
 use Rattle.ktm_journal.proofs.LogLoads.{stands_told, bad_payload_told, torn_told, journal_told}
 use Rattle.ktm_journal.proofs.Spelled.{spelled_told}
 use Rattle.ktm_journal.proofs.journal.replay_log.Goals as goal
@@ -24,24 +24,25 @@ returns-in-Ok-replay-clause-spelled g c =
     spelled_told c.args.header.units c.args.header.image c.log_area.result c.log_area.ensures c.scan.new.buffer.items (rw c.as_slice.ensures.value at c.in-Ok-replay.ensures.read) (g.D.Disk.told c.args.disk.now) c.in-Ok.ensures.log
 
 pub returns-in-Err-clause-bad : goal.returns-in-Err-clause-bad
-returns-in-Err-clause-bad g c =
+returns-in-Err-clause-bad g c offset is =
     let area = c.log_area.result in
     let ps = payloads_in c.scan.new.buffer.items in
-    IfBad-map {P = IsFirstBad c.args.header.units c.args.header.image (payloads_in c.as_slice.result.now)} c.in-Err.fault c.in-Err.ensures.bad
-    (λ offset bad. bad_payload_told c.args.header.units c.args.header.image area c.log_area.ensures _ c.requires.formatted ps offset (rw c.as_slice.ensures.value at bad)
-    (IfTold-map _ (λ (s : DiskState). IsLog ps (area_bytes area s.seen)) (λ (s : DiskState). BeginsWith ps (area_bytes area s.seen)) c.in-Ok.ensures.log (λ s log. log.frames)))
+    let same : c.in-Err.fault ≡ Bad offset = cc in
+    bad_payload_told c.args.header.units c.args.header.image area c.log_area.ensures _ c.requires.formatted ps offset (rw c.as_slice.ensures.value at c.in-Err.ensures.bad offset (ap Err same))
+    (IfSome-map _ (λ (s : DiskState). IsLog ps (area_bytes area s.seen)) (λ (s : DiskState). BeginsWith ps (area_bytes area s.seen)) c.in-Ok.ensures.log (λ s log. log.frames))
 
 pub returns-in-Err-replay-clause-bad : goal.returns-in-Err-replay-clause-bad
-returns-in-Err-replay-clause-bad g c =
+returns-in-Err-replay-clause-bad g c offset is =
     let area = c.log_area.result in
     let ps = payloads_in c.scan.new.buffer.items in
-    let torn = rw c.in-Err-Bad.field-0-is at c.in-Err-Bad.ensures.bad in
-    IfBad-map {P = IsFirstBad c.args.header.units c.args.header.image (payloads_in c.as_slice-in-Err-Bad.result.now)} c.in-Err-replay.fault c.in-Err-replay.ensures.bad
-    (λ offset bad. bad_payload_told c.args.header.units c.args.header.image area c.log_area.ensures _ c.requires.formatted ps offset (rw c.as_slice-in-Err-Bad.ensures.value at bad)
-    (IfTold-map _ (λ (s : DiskState). IsBadLog ps (area_bytes area s.seen)) (λ (s : DiskState). BeginsWith ps (area_bytes area s.seen)) torn.1 (λ s log. log.frames)))
+    let torn = (rw c.in-Err-Bad.field-0-is at c.in-Err-Bad.ensures.bad) _ refl in
+    let same : c.in-Err-replay.fault ≡ Bad offset = cc in
+    bad_payload_told c.args.header.units c.args.header.image area c.log_area.ensures _ c.requires.formatted ps offset (rw c.as_slice-in-Err-Bad.ensures.value at c.in-Err-replay.ensures.bad offset (ap Err same))
+    (IfSome-map _ (λ (s : DiskState). IsBadLog ps (area_bytes area s.seen)) (λ (s : DiskState). BeginsWith ps (area_bytes area s.seen)) torn.1 (λ s log. log.frames))
 
 pub returns-in_default-clause-bad : goal.returns-in_default-clause-bad
-returns-in_default-clause-bad g c =
-    let bad = rw c.in-Err-Bad.field-0-is at c.in-Err-Bad.ensures.bad in
-    torn_told c.args.header.units c.args.header.image c.log_area.result c.log_area.ensures _ c.requires.formatted (payloads_in c.scan.new.buffer.items) c.replay-in-Err-Bad.new.state c.in-Err-Bad.offset
-    (rw c.as_slice-in-Err-Bad.ensures.value at c.in_default.ensures.good) bad.0 bad.1
+returns-in_default-clause-bad g c offset is =
+    let bad = (rw c.in-Err-Bad.field-0-is at c.in-Err-Bad.ensures.bad) _ refl in
+    let same : c.in-Err-Bad.offset ≡ offset = cc in
+    torn_told c.args.header.units c.args.header.image c.log_area.result c.log_area.ensures _ c.requires.formatted (payloads_in c.scan.new.buffer.items) c.replay-in-Err-Bad.new.state offset
+    (rw c.as_slice-in-Err-Bad.ensures.value at c.in_default.ensures.good) (sym same ∙ bad.0) bad.1

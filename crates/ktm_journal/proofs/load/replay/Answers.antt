@@ -1,6 +1,7 @@
-use Rattle.std.proofs.Common.{◌≡◌, Ok, Some, drop, ap, sym, ◌∙◌, arith, rules}
+use Rattle.std.proofs.Common.{◌≡◌, ◌+◌, Ok, Some, drop, ap, sym, subst, ◌∙◌, arith, rules}
 use Rattle.std.proofs.lemmas.List.{take_rest}
-use Rattle.ktm_log.specs.Log.{first_payload}
+use Rattle.ktm_journal.specs.Load.{IsFirstBad}
+use Rattle.ktm_log.specs.Log.{first_payload, payloads_in}
 use Rattle.ktm_journal.proofs.Folds.{folded_none, folded_more, folded_all, first_bad}
 use Rattle.ktm_journal.proofs.GoodLogs.{bytes_fit, comes_to_good}
 use Rattle.ktm_journal.proofs.load.replay.Goals as goal
@@ -17,12 +18,15 @@ loop-payload-preserved c =
     (rw rest at c.in-Some.ensures.fits) (c.in-Ok-true.ensures.good (ap Ok c.in-Ok-true.field-0-test))
 
 pub returns-in-Ok-false-clause-bad : goal.returns-in-Ok-false-clause-bad
-returns-in-Ok-false-clause-bad c =
+returns-in-Ok-false-clause-bad c offset is =
     let at = c.loop-payload.at in
     let rest = take_rest c.args.bytes.now at in
     let next : first_payload (drop at c.args.bytes.now) ≡ Some c.in-Some.payload.now = ap first_payload (sym rest) ∙ c.in-Some.ensures.is in
+    let here : c.log_area.result.at + at ≡ offset = cc in
+    let bad : IsFirstBad c.args.header.units c.args.header.image (payloads_in c.args.bytes.now) (c.log_area.result.at + at) =
     rw c.log_area.ensures
-    (first_bad c.args.header.units c.args.header.image c.args.bytes.now at c.loop-payload.state c.loop-payload.invariant c.in-Some.payload.now next (c.in-Ok-false.ensures.bad (ap Ok c.in-Ok-false.field-0-test)))
+    (first_bad c.args.header.units c.args.header.image c.args.bytes.now at c.loop-payload.state c.loop-payload.invariant c.in-Some.payload.now next (c.in-Ok-false.ensures.bad (ap Ok c.in-Ok-false.field-0-test))) in
+    subst (λ n. IsFirstBad c.args.header.units c.args.header.image (payloads_in c.args.bytes.now) n) here bad
 
 pub returns-clause-good : goal.returns-clause-good
 returns-clause-good c =

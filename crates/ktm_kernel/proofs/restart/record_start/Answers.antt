@@ -24,14 +24,13 @@ returns-in-Ok-clause-adds g c = λ log at.
     c.in-Ok.ensures.ok log _ (own_held c.push.new.self c.args.state.now _ c.requires.built (ap (λ n. n + 1) c.boots.ensures) (c.push.ensures.adds [] c.events_in-events.ensures.empty)) at
 
 pub returns-in-Err-Down-clause-down : goal.returns-in-Err-Down-clause-down
-returns-in-Err-Down-clause-down g c = λ log at.
-    let left = rw c.in-Err-Down.field-0-is at c.in-Err-Down.ensures.down in
-    left log _ (own_held c.push.new.self c.args.state.now _ c.requires.built (ap (λ n. n + 1) c.boots.ensures) (c.push.ensures.adds [] c.events_in-events.ensures.empty)) at
+returns-in-Err-Down-clause-down g c = λ failed log at.
+    c.in-Err-Down.ensures.down (ap Err c.in-Err-Down.field-0-is) log _ (own_held c.push.new.self c.args.state.now _ c.requires.built (ap (λ n. n + 1) c.boots.ensures) (c.push.ensures.adds [] c.events_in-events.ensures.empty)) at
 
 pub returns-in-Err-Down-clause-calls : goal.returns-in-Err-Down-clause-calls
 returns-in-Err-Down-clause-calls g c = rw c.in-Err-Down.field-0-is at c.in-Err-Down.ensures.calls
 
 pub returns-in-Err-Full-clause-full : goal.returns-in-Err-Full-clause-full
-returns-in-Err-Full-clause-full g c =
+returns-in-Err-Full-clause-full g c = λ failed.
     let own = own_held c.push.new.self c.args.state.now _ c.requires.built (ap (λ n. n + 1) c.boots.ensures) (c.push.ensures.adds [] c.events_in-events.ensures.empty) in
     (c.in-Err-Full.ensures.full (own_group c.args.state.now) own).0 (ap Err c.in-Err-Full.field-0-is)

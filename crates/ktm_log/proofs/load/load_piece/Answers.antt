@@ -1,7 +1,7 @@
 use Rattle.std.proofs.Common.{◌≡◌, ◌+◌, ◌-◌, length, take, drop, ◌∙◌, arith, length-append, length-take, length-drop}
 use Rattle.ktm_base.specs.Disk.{DiskState}
 use Rattle.ktm_log.specs.Load.{IsRead}
-use Rattle.ktm_log.proofs.Steps.{IfTold-both}
+use Rattle.ktm_log.proofs.Steps.{IfSome-both}
 use Rattle.ktm_log.proofs.Loading.{filled, grown_front, read_on}
 use Rattle.ktm_log.proofs.load.load_piece.Goals as goal
 
@@ -19,6 +19,6 @@ returns-clause-holds g c =
       inside = omega (arith, length-append old c.read_at.new.buf, c.min-piece.ensures);
       whole = λ more. omega (arith, length-append old c.read_at.new.buf, c.min-piece.ensures, c.requires.holds.whole);
       up = λ some. c.in_default.ensures.call.down;
-      bytes = IfTold-both (λ (s : DiskState). IsRead c.args.area old s.seen) _ _ _ c.requires.holds.bytes c.in_default.ensures.value
+      bytes = IfSome-both (λ (s : DiskState). IsRead c.args.area old s.seen) _ _ _ c.requires.holds.bytes c.in_default.ensures.value
           (λ s read is. read_on c.args.area old c.read_at.new.buf s.seen from n _ read is (omega arith) at full (omega (arith, c.min-piece.ensures)));
     })

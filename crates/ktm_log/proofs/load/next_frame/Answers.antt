@@ -5,7 +5,7 @@ use Rattle.ktm_log.proofs.Loading.{loads_then, finds_torn, finds_frame}
 use Rattle.ktm_log.proofs.load.next_frame.Goals as goal
 
 pub returns-then-area-at-clause-torn : goal.returns-then-area-at-clause-torn
-returns-then-area-at-clause-torn g c =
+returns-then-area-at-clause-torn g c torn =
     let at = c.args.at in
     let first = c.load.new.read.items in
     let second = c.load-2.new.read.items in

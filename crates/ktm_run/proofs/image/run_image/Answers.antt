@@ -21,20 +21,20 @@ returns-in_default-clause-ends g c = inl (record {
 
 pub returns-in-Err-clause-run : goal.returns-in-Err-clause-run
 returns-in-Err-clause-run g c = λ base room tells.
-    absurd (begins_good base room (g.D.Disk.told c.args.disk.now) c.in-Err-BadImage.offset tells (rw c.in-Err-BadImage.field-0-is at c.in-Err-BadImage.ensures.bad).1)
+    absurd (begins_good base room (g.D.Disk.told c.args.disk.now) c.in-Err-BadImage.offset tells ((rw c.in-Err-BadImage.field-0-is at c.in-Err-BadImage.ensures.bad) _ refl).1)
 
 pub returns-in-Err-clause-ends : goal.returns-in-Err-clause-ends
 returns-in-Err-clause-ends g c =
-    let (same, bad) = rw c.in-Err-BadImage.field-0-is at c.in-Err-BadImage.ensures.bad in
+    let (same, bad) = (rw c.in-Err-BadImage.field-0-is at c.in-Err-BadImage.ensures.bad) _ refl in
     inr (inl (c.in-Err-BadImage.offset, record { not_run = record { not_read = refl; plan_is = c.open_kernel.ensures.plan }; same = same; bad = bad }, rw c.in-Err-BadImage.field-0-is at c.in-Err.ensures.err))
 
 pub returns-in-Err-BadImage-clause-run : goal.returns-in-Err-BadImage-clause-run
 returns-in-Err-BadImage-clause-run g c = λ base room tells.
-    begins_good base room (g.D.Disk.told c.args.disk.now) c.in-Err-BadImage.offset tells (rw c.in-Err-BadImage.field-0-is at c.in-Err-BadImage.ensures.bad).1
+    begins_good base room (g.D.Disk.told c.args.disk.now) c.in-Err-BadImage.offset tells ((rw c.in-Err-BadImage.field-0-is at c.in-Err-BadImage.ensures.bad) _ refl).1
 
 pub returns-in-Err-BadImage-clause-ends : goal.returns-in-Err-BadImage-clause-ends
 returns-in-Err-BadImage-clause-ends g c =
-    let (same, bad) = rw c.in-Err-BadImage.field-0-is at c.in-Err-BadImage.ensures.bad in
+    let (same, bad) = (rw c.in-Err-BadImage.field-0-is at c.in-Err-BadImage.ensures.bad) _ refl in
     (c.in-Err-BadImage.offset, record { not_run = record { not_read = refl; plan_is = c.open_kernel.ensures.plan }; same = same; bad = bad }, rw c.in-Err-BadImage.field-0-is at c.in_default-write_bad_image.ensures.ok)
 
 pub returns-in-Err-Down-clause-run : goal.returns-in-Err-Down-clause-run
@@ -56,7 +56,7 @@ returns-in-Err-Full-clause-ends g c =
         same = same;
         there = there;
       },
-      rw c.in-Err-Full.field-0-is at c.in-Err-Full.ensures.opens,
+      (rw c.in-Err-Full.field-0-is at c.in-Err-Full.ensures.opens_full) refl,
     )
 
 pub returns-in-Err-NoMemory-clause-ends : goal.returns-in-Err-NoMemory-clause-ends

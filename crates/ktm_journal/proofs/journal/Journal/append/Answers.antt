@@ -1,6 +1,5 @@
 use Rattle.std.proofs.Common.{Err, arith}
 use Rattle.ktm_journal.specs.Image.{JournalState}
-use Rattle.ktm_journal.proofs.Known.{IfAppendDown-map}
 use Rattle.ktm_journal.proofs.Images.{full_law, stays_formatted, group_added, group_or_not}
 use Rattle.ktm_journal.proofs.journal.Journal.append.Goals as goal
 
@@ -12,10 +11,9 @@ returns-in-Err-clause-full g c = rw (← c.self.view_is) (λ group held.
 pub returns-in-Err-clause-down : goal.returns-in-Err-clause-down
 returns-in-Err-clause-down g c = rw (← c.self.view_is) (
     let j : JournalState = record { units = c.self.inside.units; image = c.self.inside.image; log = c.self.inside.log; events = c.self.inside.events } in
-    IfAppendDown-map {T = Unit {0}} (Err c.in-Err.fault) c.in-Err.ensures.down
-    (λ leaves log group held at.
+    λ failed log group held at.
     group_or_not j log group c.args.events.now.payload (c.body.ensures.group group held (omega (arith, held.counted))) _ _ at
-    (λ ps rests. leaves ps c.args.events.now.payload c.body.ensures.body rests)))
+    (λ ps rests. c.in-Err.ensures.down failed ps c.args.events.now.payload c.body.ensures.body rests))
 
 pub returns-clause-end : goal.returns-clause-end
 returns-clause-end g c = rw (← c.self.view_is) (λ group held. omega (arith, c.in_default.ensures.end, c.body.ensures.size group held))

@@ -47,4 +47,4 @@ returns-in-Err-Down-clause-ends g c =
     (calls.down ∙ or_right _ true refl) c.self.view_is
     (cut c.self.inside.journal (held c.self.inside.memory) _ c.in-Some.field-0.reply c.in-Some.field-0.settlement c.decide.new.events c.decide.new.self (rw c.in-Some.is at c.in_ok-decided.ensures.ok)
     c.record.new.journal c.fall-in-Err-Down.new.self (g.D.Disk.told c.args.disk.now) (g.D.Disk.told c.record.new.disk)
-    c.in-Err-Down.ensures.refused (ap held c.fall-in-Err-Down.ensures) c.in-Err-Down.ensures.some (rw c.in-Err-Down.field-0-is at c.in-Err-Down.ensures.cut))
+    c.in-Err-Down.ensures.refused (ap held c.fall-in-Err-Down.ensures) c.in-Err-Down.ensures.some ((rw c.in-Err-Down.field-0-is at c.in-Err-Down.ensures.cut) refl))

@@ -1,21 +1,22 @@
-use Rattle.std.proofs.Common.{◌≡◌, ℕ, List, true, false, ◌+◌, ◌-◌, ◌*◌, refl, ap, subst, sym, ◌∙◌, arith}
+use Rattle.std.specs.Prelude.{IfSome, IsSomeAnd}
+use Rattle.std.proofs.Common.{Err, ◌≡◌, ℕ, List, true, false, ◌+◌, ◌-◌, ◌*◌, refl, ap, subst, sym, ◌∙◌, arith}
 use Rattle.ktm_base.specs.declared.limits.TheConstants.{MOST_UNITS}
 use Rattle.ktm_base.proofs.Images.{calls_law}
-use Rattle.ktm_base.specs.Told.{IfTold, Tells}
-use Rattle.ktm_base.proofs.ToldSteps.{IfTold-map}
+use Rattle.ktm_base.proofs.ToldSteps.{IfSome-map}
 use Rattle.ktm_journal.specs.Bad.{IsBadAt}
 use Rattle.ktm_journal.specs.Image.{IsFormatted, JournalAt, LeavesGroupOrNot, StandsFor}
 use Rattle.ktm_world.specs.Durable.{Durable}
 use Rattle.ktm_world.specs.Logs.{Group}
 use Rattle.ktm_world.specs.Outcome.{is_full}
 use Rattle.ktm_world.specs.World.{own_group}
+use Rattle.ktm_kernel.specs.declared.restart.RestartFault.TheVariants.{Down, Bad, Full}
 use Rattle.ktm_kernel.specs.Restarts.{HoldsBoth, LeavesOwnOrNot, is_full_for_own}
 use Rattle.ktm_log.specs.declared.area.Area.{Area}
-use Rattle.ktm_kernel.proofs.Restarts.{found, next_applies, unwritten_leaves, journal_at, found_grammatical, is_full as full_is, started, cut_off, fresh_ready, down_on, full_on, loaded_on, not_bad_on, unwritten_on}
+use Rattle.ktm_kernel.proofs.Restarts.{found, next_applies, unwritten_leaves, journal_at, found_grammatical, is_full as full_is, started, cut_off, fresh_ready}
 use Rattle.ktm_kernel.proofs.kernel.Kernel.restart.Goals as goal
 
 pub returns-in-Err-Down-clause-down : goal.returns-in-Err-Down-clause-down
-returns-in-Err-Down-clause-down g c = λ units image before log holds. rw c.in-Err-Down.ensures.same (unwritten_leaves units image before log _ holds)
+returns-in-Err-Down-clause-down g c = λ failed units image before log holds. rw c.in-Err-Down.ensures.same (unwritten_leaves units image before log _ holds)
 
 pub record_start-requires-clause-boots : goal.record_start-requires-clause-boots
 record_start-requires-clause-boots g c = omega (arith, c.in-Ok.ensures.events.boots, c.in-Ok.ensures.events.events, c.in-Ok.ensures.inside, ap (λ (a : Area). a.len) c.in-Ok.ensures.area, c.in-Ok.ensures.units.2)
@@ -42,10 +43,10 @@ returns-in-Ok-record_start-clause-ready g c =
     fresh_ready c.law_of_fresh.ensures c.started.result.kernel c.in-Ok.loaded.state c.in-Ok.loaded.journal.log (c.record_start.new.journal.log.area.len - c.record_start.new.journal.log.end) (g.D.Disk.told c.record_start.new.disk) (g.D.Disk.status c.record_start.new.disk)
     c.started.ensures.now c.in-Ok.ensures.built c.in-Ok.ensures.good c.in-Ok.ensures.events c.in-Ok.ensures.inside c.in-Ok.ensures.area c.in-Ok.ensures.units.2
     (omega (arith, ap (λ (a : Area). a.len) c.in-Ok-record_start.ensures.area)) c.in-Ok-record_start.ensures.up c.in-Ok-record_start.ensures.settled
-    (subst (λ j. IfTold (g.D.Disk.told c.record_start.new.disk) (λ s. IsFormatted j.units j.image s.seen)) (sym c.started.ensures.journal) c.in-Ok-record_start.ensures.formatted)
+    (subst (λ j. IfSome (g.D.Disk.told c.record_start.new.disk) (λ s. IsFormatted j.units j.image s.seen)) (sym c.started.ensures.journal) c.in-Ok-record_start.ensures.formatted)
 
 pub returns-in-Ok-record_start-clause-found : goal.returns-in-Ok-record_start-clause-found
-returns-in-Ok-record_start-clause-found g c = IfTold-map (g.D.Disk.told c.args.disk.now) _ _ c.in-Ok.ensures.stands (λ s stands. (c.in-Ok.loaded.state, stands))
+returns-in-Ok-record_start-clause-found g c = IfSome-map (g.D.Disk.told c.args.disk.now) _ _ c.in-Ok.ensures.stands (λ s stands. (c.in-Ok.loaded.state, stands))
 
 pub returns-in-Ok-record_start-clause-calls : goal.returns-in-Ok-record_start-clause-calls
 returns-in-Ok-record_start-clause-calls g c = calls_law _ _ _ (8 * MOST_UNITS + 64) 4 false c.in-Ok.ensures.calls c.in-Ok-record_start.ensures.calls
@@ -54,33 +55,33 @@ pub returns-in-Ok-record_start-clause-few : goal.returns-in-Ok-record_start-clau
 returns-in-Ok-record_start-clause-few g c = λ units image headed. omega (arith, c.in-Ok.ensures.few units image headed, c.in-Ok-record_start.ensures.calls.few)
 
 pub returns-in-Err-clause-down : goal.returns-in-Err-clause-down
-returns-in-Err-clause-down g c = down_on c.in-Err.fault
-    ((log : List Group) → Tells (g.D.Disk.told c.load.new.disk) (JournalAt c.in-Ok.loaded.journal log) → Tells (g.D.Disk.told c.record_start.new.disk) (LeavesGroupOrNot c.in-Ok.loaded.journal log (own_group c.in-Ok.loaded.state)))
-    ((units image : ℕ) (before log : List Group) → Tells (g.D.Disk.told c.args.disk.now) (HoldsBoth units image before log) → Tells (g.D.Disk.told c.record_start.new.disk) (LeavesOwnOrNot units image before log)) (λ left units image before log holds.
+returns-in-Err-clause-down g c = λ failed units image before log holds.
+    let down : c.in-Err.fault ≡ Down = cc in
     let is = found units image before log c.in-Ok.loaded.state (g.D.Disk.told c.args.disk.now) c.in-Ok.ensures.stands holds in
     let at = journal_at units image before log c.in-Ok.loaded.state is c.in-Ok.loaded.journal (g.D.Disk.told c.args.disk.now) (g.D.Disk.told c.load.new.disk) c.in-Ok.ensures.journal holds in
     cut_off units image before log c.in-Ok.loaded.state is (next_applies c.in-Ok.loaded.state c.in-Ok.loaded.journal.log c.in-Ok.ensures.built c.in-Ok.ensures.good c.in-Ok.ensures.events c.in-Ok.ensures.inside c.in-Ok.ensures.area c.in-Ok.ensures.units.2) c.in-Ok.loaded.journal c.record_start.new.journal c.in-Ok.ensures.units.0 c.in-Ok.ensures.image
-    (g.D.Disk.told c.load.new.disk) (g.D.Disk.told c.record_start.new.disk) at left) c.in-Err.ensures.down
+    (g.D.Disk.told c.load.new.disk) (g.D.Disk.told c.record_start.new.disk) at (c.in-Err.ensures.down (ap Err down))
 
 pub returns-in-Err-clause-full : goal.returns-in-Err-clause-full
-returns-in-Err-clause-full g c = full_on c.in-Err.fault
-    (is_full (c.in-Ok.loaded.journal.log.area.len - c.in-Ok.loaded.journal.log.end) (own_group c.in-Ok.loaded.state) ≡ true)
-    ((units image : ℕ) (before log : List Group) → Tells (g.D.Disk.told c.args.disk.now) (HoldsBoth units image before log) → is_full_for_own units image before log ≡ true) (λ full units image before log holds.
+returns-in-Err-clause-full g c = λ failed units image before log holds.
+    let full : c.in-Err.fault ≡ Full = cc in
     let is = found units image before log c.in-Ok.loaded.state (g.D.Disk.told c.args.disk.now) c.in-Ok.ensures.stands holds in
     let at = journal_at units image before log c.in-Ok.loaded.state is c.in-Ok.loaded.journal (g.D.Disk.told c.args.disk.now) (g.D.Disk.told c.load.new.disk) c.in-Ok.ensures.journal holds in
-    sym (full_is units image before log c.in-Ok.loaded.state is c.in-Ok.loaded.journal (g.D.Disk.told c.load.new.disk) c.in-Ok.ensures.units.0 at) ∙ full) c.in-Err.ensures.full
+    sym (full_is units image before log c.in-Ok.loaded.state is c.in-Ok.loaded.journal (g.D.Disk.told c.load.new.disk) c.in-Ok.ensures.units.0 at) ∙ c.in-Err.ensures.full (ap Err full)
 
-pub returns-in-Err-clause-found : goal.returns-in-Err-clause-found
-returns-in-Err-clause-found g c = loaded_on c.in-Err.fault (IfTold (g.D.Disk.told c.args.disk.now) (λ s. (state : Durable) × StandsFor state s.seen)) (IfTold-map (g.D.Disk.told c.args.disk.now) _ _ c.in-Ok.ensures.stands (λ s stands. (c.in-Ok.loaded.state, stands)))
+pub returns-in-Err-clause-found_full : goal.returns-in-Err-clause-found_full
+returns-in-Err-clause-found_full g c = λ failed. IfSome-map (g.D.Disk.told c.args.disk.now) _ _ c.in-Ok.ensures.stands (λ s stands. (c.in-Ok.loaded.state, stands))
 
 pub returns-in-Err-clause-bad : goal.returns-in-Err-clause-bad
-returns-in-Err-clause-bad g c = not_bad_on c.in-Err.fault (λ offset. IfTold (g.D.Disk.told c.args.disk.now) (λ s. IsBadAt s.seen offset)) c.in-Err.ensures.good
+returns-in-Err-clause-bad g c = λ offset failed.
+    let bad : c.in-Err.fault ≡ Bad offset = cc in
+    absurd (c.in-Err.ensures.good offset (ap Err bad))
 
 pub returns-in-Err-clause-unwritten : goal.returns-in-Err-clause-unwritten
-returns-in-Err-clause-unwritten g c = unwritten_on c.in-Err.fault (g.D.Disk.told c.record_start.new.disk ≡ g.D.Disk.told c.load.new.disk) (g.D.Disk.told c.record_start.new.disk ≡ g.D.Disk.told c.args.disk.now) (λ same. same ∙ c.in-Ok.ensures.same) c.in-Err.ensures.same
+returns-in-Err-clause-unwritten g c = λ other. c.in-Err.ensures.same other ∙ c.in-Ok.ensures.same
 
 pub returns-in-Err-clause-pending : goal.returns-in-Err-clause-pending
-returns-in-Err-clause-pending g c = unwritten_on c.in-Err.fault ((g.D.Disk.status c.record_start.new.disk).pending ≡ (g.D.Disk.status c.load.new.disk).pending) ((g.D.Disk.status c.record_start.new.disk).pending ≡ (g.D.Disk.status c.args.disk.now).pending) (λ waits. waits ∙ c.in-Ok.ensures.pending) c.in-Err.ensures.waits
+returns-in-Err-clause-pending g c = λ other. c.in-Err.ensures.waits other ∙ c.in-Ok.ensures.pending
 
 pub returns-in-Err-clause-calls : goal.returns-in-Err-clause-calls
 returns-in-Err-clause-calls g c = calls_law _ _ _ (8 * MOST_UNITS + 64) 4 _ c.in-Ok.ensures.calls c.in-Err.ensures.calls

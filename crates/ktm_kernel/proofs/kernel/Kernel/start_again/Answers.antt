@@ -1,4 +1,4 @@
-use Rattle.std.proofs.Common.{Some, ap, subst, sym, ◌∙◌}
+use Rattle.std.proofs.Common.{Some, refl, ap, subst, sym, ◌∙◌}
 use Rattle.ktm_types.specs.declared.command.Line.TheVariants.{Restart}
 use Rattle.ktm_types.specs.declared.reply.Reply.TheVariants.{Restarted}
 use Rattle.ktm_kernel.specs.Memory.{MemoryState, held, now_of}
@@ -21,8 +21,8 @@ returns-after-fault-clause-few g c = found_few c.args.self.now (g.D.Disk.told c.
 
 pub returns-after-fault-clause-does : goal.returns-after-fault-clause-does
 returns-after-fault-clause-does g c = elim c.match-fault.branch [
-  | in-Down w ↦ rw (w.result-is, c.self.view_is) (interrupted_line c.law_of_standing.ensures c.args.self.now (g.D.Disk.told c.args.disk.now) (g.D.Disk.told c.restart.new.disk) (rw w.in-Down.is at c.in-Err.ensures.down))
-  | in-Bad w ↦ rw w.result-is (λ pick world at. absurd (found_is_good c.args.self.now (g.D.Disk.told c.args.disk.now) w.in-Bad.offset (rw w.in-Bad.is at c.in-Err.ensures.bad) world at))
-  | in-Full w ↦ rw (w.result-is, c.self.view_is) (full_line c.law_of_standing.ensures c.args.self.now (g.D.Disk.told c.args.disk.now) (g.D.Disk.told c.restart.new.disk) (rw w.in-Full.is at c.in-Err.ensures.unwritten) (rw w.in-Full.is at c.in-Err.ensures.full))
+  | in-Down w ↦ rw (w.result-is, c.self.view_is) (interrupted_line c.law_of_standing.ensures c.args.self.now (g.D.Disk.told c.args.disk.now) (g.D.Disk.told c.restart.new.disk) ((rw w.in-Down.is at c.in-Err.ensures.down) refl))
+  | in-Bad w ↦ rw w.result-is (λ pick world at. absurd (found_is_good c.args.self.now (g.D.Disk.told c.args.disk.now) w.in-Bad.offset ((rw w.in-Bad.is at c.in-Err.ensures.bad) _ refl) world at))
+  | in-Full w ↦ rw (w.result-is, c.self.view_is) (full_line c.law_of_standing.ensures c.args.self.now (g.D.Disk.told c.args.disk.now) (g.D.Disk.told c.restart.new.disk) ((rw w.in-Full.is at c.in-Err.ensures.unwritten) (λ is. cc)) ((rw w.in-Full.is at c.in-Err.ensures.full) refl))
   | in-NoMemory w ↦ rw w.result-is tt
 ]

@@ -3,25 +3,25 @@ use Rattle.ktm_base.specs.Disk.{DiskState}
 use Rattle.ktm_log.specs.Log.{Rests}
 use Rattle.ktm_log.proofs.Appends.{length-body, stage_tore, stage_done, gate_tore, gate_done, both_elsewhere}
 use Rattle.ktm_base.proofs.ToldSteps.{Goes-map}
-use Rattle.ktm_log.proofs.Steps.{Goes-two, Tells-two, IfTold-from_tells}
+use Rattle.ktm_log.proofs.Steps.{Goes-two, IsSomeAnd-two, IfSome-from_tells}
 use Rattle.ktm_log.proofs.log.Log.append.Goals as goal
 
 pub returns-in-Err-clause-down : goal.returns-in-Err-clause-down
-returns-in-Err-clause-down g c = rw (← c.self.view_is) (λ ps p body rests.
+returns-in-Err-clause-down g c = rw (← c.self.view_is) (λ failed ps p body rests.
     let area = c.self.inside.area in
     let end = c.self.inside.end in
     let spare = rw (← c.self.view_is) at c.spare.ensures in
     let room : end + length p + 6 ≤ area.len = omega (arith, spare, length-body p c.args.body.now body) in
-    Goes-map _ _ (Rests area ps end) (IfTold-from_tells (Rests area ps end) _ rests) c.in-Err.ensures.err
+    Goes-map _ _ (Rests area ps end) (IfSome-from_tells (Rests area ps end) _ rests) c.in-Err.ensures.err
     (λ a b stood tore. stage_tore area ps p end room _ _ a b (omega arith) body.is stood tore))
 
 pub returns-in-Err-settle-clause-down : goal.returns-in-Err-settle-clause-down
-returns-in-Err-settle-clause-down g c = rw (← c.self.view_is) (λ ps p body rests.
+returns-in-Err-settle-clause-down g c = rw (← c.self.view_is) (λ failed ps p body rests.
     let area = c.self.inside.area in
     let end = c.self.inside.end in
     let spare = rw (← c.self.view_is) at c.spare.ensures in
     let room : end + length p + 6 ≤ area.len = omega (arith, spare, length-body p c.args.body.now body) in
-    Goes-two (Rests area ps end) _ _ _ (IfTold-from_tells (Rests area ps end) _ rests) c.in_default.ensures.ok c.in-Err-settle.ensures.err
+    Goes-two (Rests area ps end) _ _ _ (IfSome-from_tells (Rests area ps end) _ rests) c.in_default.ensures.ok c.in-Err-settle.ensures.err
     (λ a b d stood settled tore. gate_tore area ps p end room _ a.seen b d (omega arith) body.small
     (stage_done area ps p end room _ _ a b (omega arith) body.is stood settled) tore))
 
@@ -32,7 +32,7 @@ returns-clause-ok g c = rw (← c.self.view_is) (λ ps p body rests.
     let long = length-body p c.args.body.now body in
     let spare = rw (← c.self.view_is) at c.spare.ensures in
     let room : end + length p + 6 ≤ area.len = omega (arith, spare) in
-    Tells-two (Rests area ps end) (Rests area (ps ++ p ∷ []) (end + length c.args.body.now)) _ _ _ rests c.in_default.ensures.ok c.in_default-settle.ensures.ok
+    IsSomeAnd-two (Rests area ps end) (Rests area (ps ++ p ∷ []) (end + length c.args.body.now)) _ _ _ rests c.in_default.ensures.ok c.in_default-settle.ensures.ok
     (λ a b d stood staged opened. rw long (gate_done area ps p end room _ a.seen b d (omega arith) body.small
     (stage_done area ps p end room _ _ a b (omega arith) body.is stood staged) opened)))
 

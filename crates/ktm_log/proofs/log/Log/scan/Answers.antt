@@ -1,4 +1,4 @@
-use Rattle.std.proofs.Common.{◌+◌, ◌∙◌, ap, refl, arith}
+use Rattle.std.proofs.Common.{◌≡◌, ◌+◌, ◌∙◌, ap, refl, sym, arith}
 use Rattle.ktm_log.proofs.Loading.{loads_then, one_more, end_found, log_found, bad_found, rests_found}
 use Rattle.ktm_log.proofs.Payloads.{none_closed}
 use Rattle.ktm_log.proofs.log.Log.scan.Goals as goal
@@ -37,17 +37,18 @@ returns-in-Ok-None-clause-stands g c =
     (log_found c.args.area _ _ _ frames on closed _ _ same c.in-Ok-None.ensures.holds.bytes)
 
 pub returns-in-Err-Torn-clause-bad : goal.returns-in-Err-Torn-clause-bad
-returns-in-Err-Torn-clause-bad g c =
-    let none = rw c.in-Err-Torn.field-0-is at c.in-Err-Torn.ensures.no_frame in
-    let torn = rw c.in-Err-Torn.field-0-is at c.in-Err-Torn.ensures.torn in
+returns-in-Err-Torn-clause-bad g c offset is =
+    let here : c.args.area.at + c.loop-size.end ≡ offset = cc in
+    let none = (rw c.in-Err-Torn.field-0-is at c.in-Err-Torn.ensures.no_frame) refl in
+    let torn = (rw c.in-Err-Torn.field-0-is at c.in-Err-Torn.ensures.torn) refl in
     let on = (rw c.in-Err-Torn.field-0-is at c.in-Err-Torn.ensures.front) refl in
     let frames = c.loop-size.invariant.frames in (
-      ap (λ n. c.args.area.at + n) (end_found c.args.area _ _ _ frames on none),
+      sym here ∙ ap (λ n. c.args.area.at + n) (end_found c.args.area _ _ _ frames on none),
       bad_found c.args.area _ _ _ frames on none _ _ (c.next_frame.ensures.same ∙ c.loop-size.invariant.same) (rw c.loop-size.invariant.same at c.loop-size.invariant.holds.bytes) torn,
     )
 
 pub returns-in-Err-Torn-clause-inside_bad : goal.returns-in-Err-Torn-clause-inside_bad
-returns-in-Err-Torn-clause-inside_bad g c =
-    let none = rw c.in-Err-Torn.field-0-is at c.in-Err-Torn.ensures.no_frame in
+returns-in-Err-Torn-clause-inside_bad g c offset is =
+    let none = (rw c.in-Err-Torn.field-0-is at c.in-Err-Torn.ensures.no_frame) refl in
     let on = (rw c.in-Err-Torn.field-0-is at c.in-Err-Torn.ensures.front) refl in
     omega (arith, end_found c.args.area _ _ _ c.loop-size.invariant.frames on none)

@@ -4,9 +4,9 @@ use Rattle.ktm_world.specs.HandleCalls.{has_handle, without_handle}
 use Rattle.ktm_object.specs.declared.entry.Entry.{Entry}
 use Rattle.ktm_object.specs.Table.{HandleTable, closing, entry_at, handle_of, without_entry}
 use Rattle.ktm_links.specs.Mapped.{key_under}
+use Rattle.ktm_links.proofs.Indexes.{AreDistinct-without, IsIndex-without}
 use Rattle.ktm_object.specs.Names.{label_bytes, label_name, object_name, object_owner, owner_bytes, group_name, group_owner}
-use Rattle.ktm_object.proofs.Closing.{IsIndex-without, entries_of-without, handles-without, label_name-found, name_taken, not_flip, spare_back, spare_rises, without_entry-absent}
-use Rattle.ktm_object.proofs.Indexes.{AreDistinct-without}
+use Rattle.ktm_object.proofs.Closing.{values_of-without, handles-without, label_name-found, name_taken, not_flip, spare_back, spare_rises, without_entry-absent}
 use Rattle.ktm_object.proofs.Labels.{entry_at-absent, entry_at-index, object_at-entry}
 use Rattle.ktm_object.proofs.Owners.{has_handle-told}
 use Rattle.ktm_object.proofs.handles.Handles.close.Goals as goal
@@ -61,7 +61,7 @@ invariant_of-self c =
 
 pub returns-clause-entries : goal.returns-clause-entries
 returns-clause-entries c =
-    entries_of-without _ _ _ c.args.process c.args.label c.in-Some.key c.self.invariant.by_label (sym (rw c.label_bytes-bytes.ensures at c.in-Some.ensures))
+    values_of-without _ _ _ c.args.process c.args.label c.in-Some.key c.self.invariant.by_label (sym (rw c.label_bytes-bytes.ensures at c.in-Some.ensures))
     c.in-Some-unlink.ensures.items c.in-Some-unlink.ensures.gone.gone
     ∙ ap (λ (t : HandleTable). without_entry t.entries c.args.process c.args.label) c.self.view_is
 

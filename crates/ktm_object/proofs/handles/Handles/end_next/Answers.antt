@@ -3,7 +3,7 @@ use Rattle.ktm_world.specs.Transactions.{is_of}
 use Rattle.ktm_links.specs.Items.{value_at}
 use Rattle.ktm_object.specs.Table.{HandleTable, ended_group}
 use Rattle.ktm_object.specs.Ending.{name_in}
-use Rattle.ktm_object.specs.Indexed.{entries_of}
+use Rattle.ktm_links.specs.Indexed.{values_of}
 use Rattle.ktm_object.specs.Names.{label_name, object_name, group_name}
 use Rattle.ktm_object.proofs.Ends.{AreDistinct-with, IsIndex-with, all_from_none, all_from_other, dead, ended-with, ended_after, name-found, name_in-is, rises}
 use Rattle.ktm_object.proofs.handles.Handles.end_next.Goals as goal
@@ -46,7 +46,7 @@ pub returns-clause-entries : goal.returns-clause-entries
 returns-clause-entries c =
     let there : Some c.in-Some-copied.entry ≡ value_at c.self.inside.entries.items c.in-Some.key = c.in-Some-copied.ensures ∙ c.get.ensures in
     let of_group : is_of c.args.group c.in-Some-copied.entry.group ≡ true = sym c.is_of.ensures ∙ c.if-not-is_of.false in
-    ap (λ xs. ended_group (entries_of xs) c.args.group) c.in_default-replace.ensures.items
+    ap (λ xs. ended_group (values_of xs) c.args.group) c.in_default-replace.ensures.items
     ∙ ended-with c.self.inside.entries.items c.args.group c.in-Some.key c.in-Some-copied.entry (sym there) of_group
     ∙ ap (λ (t : HandleTable). ended_group t.entries c.args.group) c.self.view_is
 

@@ -1,6 +1,7 @@
 use Rattle.std.proofs.Common.{◌≡◌, ◌==◌, [], Some, None, filter, sym, ap, ◌∙◌}
 use Rattle.std.proofs.lemmas.Bool.{eq-eqb}
 use Rattle.ktm_links.specs.Items.{value_at}
+use Rattle.ktm_links.proofs.Indexes.{AreDistinct-without}
 use Rattle.txf_opens.specs.Indexed.{is_any, opens_of}
 use Rattle.ktm_links.specs.Numbers.{number_bytes, long_bytes}
 use Rattle.txf_opens.specs.Names.{group_bytes, group_name, number_name}
@@ -8,7 +9,7 @@ use Rattle.txf_opens.specs.OpensState.{is_other_number, OpensState}
 use Rattle.txf_opens.proofs.Adding.{one_number, was_there, AreUses-take, IsIndex-take, IsLess}
 use Rattle.txf_opens.proofs.Bytes.{group_name-tells, number_name-tells}
 use Rattle.txf_opens.proofs.Found.{none_with_number, number-found, only_number}
-use Rattle.txf_opens.proofs.Listed.{filter-none, filter-without, AreDistinct-without}
+use Rattle.txf_opens.proofs.Listed.{filter-none, filter-without}
 use Rattle.txf_opens.proofs.opens.Opens.close.Goals as goal
 
 pub returns-in_default-clause-opens : goal.returns-in_default-clause-opens

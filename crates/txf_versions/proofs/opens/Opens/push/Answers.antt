@@ -1,6 +1,7 @@
+use Rattle.ktm_links.proofs.Indexes.{IsIndex-push}
 use Rattle.txf_versions.specs.Names.{holder_name, open_name, own_name}
 use Rattle.txf_versions.specs.VersionsState.{is_open_of}
-use Rattle.txf_versions.proofs.Indexes.{key_free, IsIndex-push}
+use Rattle.txf_versions.proofs.Indexes.{free, key_free}
 use Rattle.txf_versions.proofs.NamesTold.{holder_from, open_from}
 use Rattle.txf_versions.proofs.opens.Opens.push.Goals as goal
 
@@ -20,11 +21,13 @@ invariant_of-self c =
     let more = c.push_spare-key.ensures in
     record {
       by_transaction =
-          IsIndex-push own_name _ _ _ _ _ _ c.args.opened _ (is_open_of c.args.opened.transaction c.args.opened.file) c.self.invariant.by_transaction
-          c.open_name.ensures (open_from c.args.opened.transaction c.args.opened.file) first more.items more.absent more.named more.others
-          c.insert.ensures.under c.insert.ensures.other_names;
+          IsIndex-push own_name _ _ _ _ _ _ c.args.opened _ c.self.invariant.by_transaction c.open_name.ensures
+          (free _ _ own_name (open_name c.args.opened.transaction c.args.opened.file) _ (is_open_of c.args.opened.transaction c.args.opened.file)
+          (open_from c.args.opened.transaction c.args.opened.file) c.open_name.ensures c.self.invariant.by_transaction first)
+          more.items more.absent more.named more.others c.insert.ensures.under c.insert.ensures.other_names;
       by_version =
-          IsIndex-push holder_name _ _ _ _ _ _ c.args.opened _ (is_open_of c.args.opened.transaction c.args.opened.file) c.self.invariant.by_version
-          c.holder_name.ensures (holder_from c.args.opened) first more.items more.absent more.named more.others
-          c.insert-2.ensures.under c.insert-2.ensures.other_names;
+          IsIndex-push holder_name _ _ _ _ _ _ c.args.opened _ c.self.invariant.by_version c.holder_name.ensures
+          (free _ _ holder_name (holder_name c.args.opened) _ (is_open_of c.args.opened.transaction c.args.opened.file) (holder_from c.args.opened)
+          c.holder_name.ensures c.self.invariant.by_version first)
+          more.items more.absent more.named more.others c.insert-2.ensures.under c.insert-2.ensures.other_names;
     }

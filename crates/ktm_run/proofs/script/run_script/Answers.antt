@@ -4,7 +4,7 @@ use Rattle.ktm_run.proofs.Known.{Consumes-none, Consumes-trans, Consumes-end, Co
 use Rattle.ktm_run.proofs.Lines.{lines_from-append, part_from-append, take_front}
 use Rattle.ktm_run.proofs.Runs.{Progress-none, Progress-then, Progress-as, Stops-after, Stops-within, Stops-as}
 use Rattle.ktm_run.specs.Script.{lines_from, part_from, last_line, kept_of}
-use Rattle.ktm_run.proofs.script.run_pieces.Goals as goal
+use Rattle.ktm_run.proofs.script.run_script.Goals as goal
 
 pub pieces-init : goal.pieces-init
 pieces-init g c = record {

@@ -12,7 +12,8 @@ fn bytes_of(alloc: Global, digits: &str) -> Result<Vec<u8>, NoMemory> {
     }
 }
 
-pub(crate) fn event_of(alloc: Global, digits: &str) -> Result<String, NoMemory> {
+/// The event that these bytes are, in digits.
+pub fn event_of(alloc: Global, digits: &str) -> Result<String, NoMemory> {
     let bytes = bytes_of(alloc, digits)?;
     let (event, end) = match read_event(alloc, &bytes, 0) {
         Ok(read) => read,
@@ -25,7 +26,8 @@ pub(crate) fn event_of(alloc: Global, digits: &str) -> Result<String, NoMemory> 
     Ok(format!(in alloc; "{event:?}")?)
 }
 
-pub(crate) fn group_of(alloc: Global, digits: &str) -> Result<String, NoMemory> {
+/// The events of the group that these bytes are, in digits.
+pub fn group_of(alloc: Global, digits: &str) -> Result<String, NoMemory> {
     let bytes = bytes_of(alloc, digits)?;
     let events = match read_group(alloc, &bytes) {
         Ok(events) => events,

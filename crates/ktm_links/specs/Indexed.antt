@@ -1,4 +1,5 @@
--- How a map from names stands to the values of a list. No public clause cites this module.
+-- How a map from names to keys stands to the values of a list. Of this module public clauses cite IsFirstUnder and
+-- IsNoneUnder alone.
 use Rattle.std.specs.Prelude.{◌≡◌, ℕ, true, List, [], ◌∷◌, Some, None, is_some, map}
 use Rattle.ktm_links.specs.declared.list.Key.{Key}
 use Rattle.ktm_links.specs.Items.{Item, value_at}
@@ -33,3 +34,8 @@ module _ {T : Type 0} where
   pub record IsIndex (name : T → List ℕ) (items : List (Item T)) (named : List (NamedItem Key)) : Type 0 where
     pub all : AreNamed name named items
     pub only : (q : List ℕ) (key : Key) → key_under named q ≡ Some key → (v : T) × (value_at items key ≡ Some v) × (name v ≡ q)
+
+  -- no two values have one key
+  abbrev pub AreDistinct : List (Item T) → Type 0
+  AreDistinct [] = Unit {0}
+  AreDistinct (x ∷ xs) = (value_at xs x.key ≡ None) × AreDistinct xs

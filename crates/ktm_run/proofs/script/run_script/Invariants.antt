@@ -4,7 +4,7 @@ use Rattle.ktm_base.specs.declared.limits.TheConstants.{MOST_SCRIPT_BYTES}
 use Rattle.ktm_kernel.specs.Stands.{IsReady}
 use Rattle.ktm_run.specs.Progress.{Progress, point}
 use Rattle.ktm_run.specs.Script.{kept_of, lines_from, part_from}
-use Rattle.ktm_run.proofs.script.run_pieces.Given as goal
+use Rattle.ktm_run.proofs.script.run_script.Given as goal
 
 abbrev pub invariant-pieces : goal.invariant-pieces
 invariant-pieces g l = record {

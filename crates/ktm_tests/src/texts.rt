@@ -1,0 +1,34 @@
+// Lines of scripts and replies, as texts.
+use ktm_base::{Bytes, NoMemory};
+use ktm_reply::{ReplyFault, read_reply, write_reply};
+use ktm_script::{LineFault, read_line, write_line};
+use std::alloc::Global;
+
+// What is read of the text was written so.
+fn told(written: &Bytes, text: &str) -> &'static str {
+    if written.as_slice() == text.as_bytes() {
+        "read"
+    } else {
+        "written in another way"
+    }
+}
+
+/// Whether a text is a line of a script, which is then written as it was read.
+pub fn line_of(alloc: Global, text: &str) -> Result<String, NoMemory> {
+    let answer = match read_line(alloc, text.as_bytes()) {
+        Ok(line) => told(&write_line(alloc, &line)?, text),
+        Err(LineFault::BadLine) => "BAD_LINE",
+        Err(LineFault::NoMemory) => return Err(NoMemory),
+    };
+    Ok(String::from_str(alloc, answer)?)
+}
+
+/// Whether a text is a reply, which is then written as it was read.
+pub fn reply_of(alloc: Global, text: &str) -> Result<String, NoMemory> {
+    let answer = match read_reply(alloc, text.as_bytes()) {
+        Ok(reply) => told(&write_reply(alloc, &reply)?, text),
+        Err(ReplyFault::NotAReply) => "NOT_A_REPLY",
+        Err(ReplyFault::NoMemory) => return Err(NoMemory),
+    };
+    Ok(String::from_str(alloc, answer)?)
+}
