@@ -5,7 +5,7 @@ use Rattle.ktm_event.specs.Spelling.{IsSpellableEvent}
 use Rattle.ktm_forms.specs.Commits.{commit_events}
 use Rattle.ktm_types.specs.declared.object.Transaction.{Transaction}
 use Rattle.ktm_laws.specs.Reservations.{files_committed}
-use Rattle.ktm_world.specs.Changes.{apply_all}
+use Rattle.ktm_world.specs.Changes.{changes_apply}
 use Rattle.ktm_world.specs.Conflicts.{writes}
 use Rattle.ktm_world.specs.Decide.{events_of}
 use Rattle.ktm_world.specs.FileOutcome.{FileOutcome, files_after}
@@ -33,7 +33,7 @@ MayMake x (Some id) o = IsPlanOf x.files id o
 
 -- what a transaction changed and set can be committed and recorded
 pub record MayCommitNow (x : Present) (t : Transaction) : Type 0 where
-  pub applies : apply_all x.files.tree (changes_of x t) ≡ true
+  pub applies : changes_apply x.files.tree (changes_of x t) ≡ true
   pub left : LeavesOthers x.files t.id
   pub unopened : AreUnopened x.files t.id
   pub counted : CanBeCounted (files_committed x.files t.id)

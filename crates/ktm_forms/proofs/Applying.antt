@@ -10,7 +10,7 @@ use Rattle.ktm_types.specs.declared.event.DonePart.{DonePart}
 use Rattle.ktm_types.specs.declared.event.Event.{Event}
 use Rattle.ktm_types.specs.declared.event.Event.TheVariants.{Boot, Plain, Ready, Single, Decide, Done}
 use Rattle.ktm_types.specs.declared.event.Part.TheVariants.{Changes, Settings}
-use Rattle.ktm_world.specs.Changes.{changes_bytes, changed, changed_all, apply_all}
+use Rattle.ktm_world.specs.Changes.{changes_bytes, changed, changed_all, changes_apply}
 use Rattle.ktm_world.specs.Durable.{Durable, after_event, are_recorded_changes, event_applies, events_apply, fact_applies, fact_of, is_new_in, is_within_limits}
 use Rattle.ktm_world.specs.Keys.{Store, OwnSettings, are_good_settings, stored_all}
 use Rattle.ktm_world.specs.Tree.{Tree}
@@ -53,20 +53,20 @@ pub applies_boot : (s : Durable) (boot : ℕ) → IsBuiltState s
 applies_boot s boot built = one-is s (Boot boot) built refl
 
 pub applies_plain : (s : Durable) (change : Change) → IsBuiltState s → events_apply s (Plain change ∷ []) ≡
-    (apply_all s.tree (change ∷ []) && list_all (is_new_in s.tree) (change ∷ []) && within s.units (changed s.tree change) s.keys && nat_lt (s.events + 1) (2 ^ 63))
+    (changes_apply s.tree (change ∷ []) && list_all (is_new_in s.tree) (change ∷ []) && within s.units (changed s.tree change) s.keys && nat_lt (s.events + 1) (2 ^ 63))
 applies_plain s change built =
     one-is s (Plain change) built refl
     ∙ ap (λ b. b && within s.units (changed s.tree change) s.keys && nat_lt (s.events + 1) (2 ^ 63))
-    (on_built (λ s. fact_applies s (Plain change) ≡ (apply_all s.tree (change ∷ []) && list_all (is_new_in s.tree) (change ∷ []))) (λ units image events boots next tree keys. refl) s built)
+    (on_built (λ s. fact_applies s (Plain change) ≡ (changes_apply s.tree (change ∷ []) && list_all (is_new_in s.tree) (change ∷ []))) (λ units image events boots next tree keys. refl) s built)
 
 pub applies_changes : (s : Durable) (transaction : Id) (cs : List Change) → IsBuiltState s → events_apply s (Single transaction (Changes cs) ∷ []) ≡
-    (transaction.boot == s.boots && are_recorded_changes cs && apply_all s.tree cs && list_all (is_new_in s.tree) cs && within s.units (changed_all s.tree cs) s.keys
+    (transaction.boot == s.boots && are_recorded_changes cs && changes_apply s.tree cs && list_all (is_new_in s.tree) cs && within s.units (changed_all s.tree cs) s.keys
     && nat_lt (s.events + 1) (2 ^ 63))
 applies_changes s transaction cs built =
     one-is s (Single transaction (Changes cs)) built refl
     ∙ ap (λ b. b && within s.units (changed_all s.tree cs) s.keys && nat_lt (s.events + 1) (2 ^ 63)) (on_built
-    (λ s. fact_applies s (Single transaction (Changes cs)) ≡ (transaction.boot == s.boots && are_recorded_changes cs && apply_all s.tree cs && list_all (is_new_in s.tree) cs))
-    (λ units image events boots next tree keys. flat (transaction.boot == boots) (are_recorded_changes cs) (apply_all tree cs) (list_all (is_new_in tree) cs)) s built)
+    (λ s. fact_applies s (Single transaction (Changes cs)) ≡ (transaction.boot == s.boots && are_recorded_changes cs && changes_apply s.tree cs && list_all (is_new_in s.tree) cs))
+    (λ units image events boots next tree keys. flat (transaction.boot == boots) (are_recorded_changes cs) (changes_apply tree cs) (list_all (is_new_in tree) cs)) s built)
   where
     flat : (a b c d : Bool) → (a && true && true && (b && (c && d))) ≡ (a && b && c && d)
     flat false b c d = refl
@@ -148,7 +148,7 @@ module _ (units image events boots next : ℕ) (tree : Tree) (keys : Store) (id 
   limits-last : is_within_limits (once_keys s cs ss) ≡ within units (changed_all tree cs) (stored_all keys ss)
   limits-last = limits-built units image (events + 1 + 1 + 1 + 1 + 1) boots _ (changed_all tree cs) (stored_all keys ss)
 
-  fact-first : fact_applies s (Ready id (Changes cs)) ≡ (id.boot == boots && true && (are_recorded_changes cs && (apply_all tree cs && list_all (is_new_in tree) cs)))
+  fact-first : fact_applies s (Ready id (Changes cs)) ≡ (id.boot == boots && true && (are_recorded_changes cs && (changes_apply tree cs && list_all (is_new_in tree) cs)))
   fact-first = refl
 
   fact-second : fact_applies (once_changes s id cs) (Ready id (Settings ss)) ≡ (id.boot == boots && true && (are_good_settings ss && true))
@@ -180,10 +180,10 @@ module _ (units image events boots next : ℕ) (tree : Tree) (keys : Store) (id 
       (step (once_settings s id cs ss) (once_decided s id cs ss) (Decide id) behind_third _ _ _ (then_decided units image events boots next tree keys id cs ss) fact-third limits-third
       (step (once_decided s id cs ss) (once_files s id cs ss) (Done id DonePart.Files) (Done id DonePart.Keys ∷ []) _ _ _ (then_files units image events boots next tree keys id cs ss) fact-fourth limits-fourth
       (step (once_files s id cs ss) (once_keys s cs ss) (Done id DonePart.Keys) [] _ _ _ (then_keys units image events boots next tree keys id cs ss) fact-last limits-last refl))))
-      ∙ joined (id.boot == boots) (are_recorded_changes cs) (apply_all tree cs) (list_all (is_new_in tree) cs) (are_good_settings ss) (within_waiting units tree keys cs []) (within_waiting units tree keys cs ss)
+      ∙ joined (id.boot == boots) (are_recorded_changes cs) (changes_apply tree cs) (list_all (is_new_in tree) cs) (are_good_settings ss) (within_waiting units tree keys cs []) (within_waiting units tree keys cs ss)
       (within units (changed_all tree cs) (stored_all keys ss)) (few (events + 1)) (few (events + 1 + 1)) (few (events + 1 + 1 + 1)) (few (events + 1 + 1 + 1 + 1)) (few (events + 1 + 1 + 1 + 1 + 1))
       (waits-less units tree keys cs ss) (earlier _ (omega arith)) (earlier _ (omega arith)) (earlier _ (omega arith)) (earlier _ (omega arith))
-      ∙ ap (λ n. id.boot == boots && are_recorded_changes cs && are_good_settings ss && apply_all tree cs && list_all (is_new_in tree) cs
+      ∙ ap (λ n. id.boot == boots && are_recorded_changes cs && are_good_settings ss && changes_apply tree cs && list_all (is_new_in tree) cs
       && within_waiting units tree keys cs ss && within units (changed_all tree cs) (stored_all keys ss) && few n) (omega arith)
     where
       few : ℕ → Bool

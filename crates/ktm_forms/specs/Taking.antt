@@ -3,7 +3,7 @@ use Rattle.std.specs.Prelude.{ℕ, ◌+◌, ◌^◌, ◌==◌, ◌&&◌, not, Bo
 use Rattle.std.specs.List.{list_all}
 use Rattle.ktm_base.specs.declared.id.Id.{Id}
 use Rattle.ktm_types.specs.declared.change.Change.{Change}
-use Rattle.ktm_world.specs.Changes.{changed_all, apply_all, changes_bytes, nodes_made}
+use Rattle.ktm_world.specs.Changes.{changed_all, changes_apply, changes_bytes, nodes_made}
 use Rattle.ktm_world.specs.Committed.{written_files}
 use Rattle.ktm_world.specs.Durable.{Durable, are_recorded_changes, is_new_in}
 use Rattle.ktm_world.specs.Keys.{Store, OwnSettings, are_good_settings, stored_all}
@@ -27,5 +27,5 @@ within_waiting units tree keys cs ss =
 -- 2^63 events
 abbrev pub both_apply : Durable → Id → List Change → OwnSettings → Bool
 both_apply s id cs ss =
-    id.boot == s.boots && are_recorded_changes cs && are_good_settings ss && apply_all s.tree cs && list_all (is_new_in s.tree) cs
+    id.boot == s.boots && are_recorded_changes cs && are_good_settings ss && changes_apply s.tree cs && list_all (is_new_in s.tree) cs
     && within_waiting s.units s.tree s.keys cs ss && within s.units (changed_all s.tree cs) (stored_all s.keys ss) && nat_lt (s.events + 5) (2 ^ 63)

@@ -13,7 +13,7 @@ use Rattle.ktm_forms.specs.Commits.{both_events}
 use Rattle.ktm_forms.specs.Taking.{within}
 use Rattle.ktm_forms.proofs.Applying.{applies_boot, applies_both, applies_changes, applies_settings}
 use Rattle.ktm_forms.proofs.BuiltStates.{one_id}
-use Rattle.ktm_world.specs.Changes.{apply_all, changed_all, changes_bytes, nodes_made}
+use Rattle.ktm_world.specs.Changes.{changes_apply, changed_all, changes_bytes, nodes_made}
 use Rattle.ktm_world.specs.Durable.{Durable, are_recorded_changes, events_apply, is_new_in}
 use Rattle.ktm_world.specs.Keys.{OwnSettings, are_good_settings, stored_all}
 use Rattle.ktm_world.specs.Logs.{Group}
@@ -32,10 +32,10 @@ settings_apply s transaction ss built now good left =
     applies_settings s transaction ss built ∙ rw (eq-eqb transaction.boot s.boots now, good, left) (and-true (within s.units s.tree (stored_all s.keys ss)))
 
 -- recorded changes of the present boot apply by what the files say
-pub changes_apply : (s : Durable) (transaction : Id) (cs : List Change) → IsBuiltState s → transaction.boot ≡ s.boots → are_recorded_changes cs ≡ true
+pub recorded_changes_apply : (s : Durable) (transaction : Id) (cs : List Change) → IsBuiltState s → transaction.boot ≡ s.boots → are_recorded_changes cs ≡ true
     → events_apply s (Single transaction (Changes cs) ∷ []) ≡
-    (apply_all s.tree cs && list_all (is_new_in s.tree) cs && within s.units (changed_all s.tree cs) s.keys && nat_lt (s.events + 1) (2 ^ 63))
-changes_apply s transaction cs built now recorded = applies_changes s transaction cs built ∙ rw (eq-eqb transaction.boot s.boots now, recorded) refl
+    (changes_apply s.tree cs && list_all (is_new_in s.tree) cs && within s.units (changed_all s.tree cs) s.keys && nat_lt (s.events + 1) (2 ^ 63))
+recorded_changes_apply s transaction cs built now recorded = applies_changes s transaction cs built ∙ rw (eq-eqb transaction.boot s.boots now, recorded) refl
 
 -- of a built group that begins with two parts, nothing is left to say
 pub two_parts : (a b : Id) (cs : List Change) (ss : OwnSettings) (rest : Group) → is_built_group (Ready a (Changes cs) ∷ Ready b (Settings ss) ∷ rest) ≡ true
@@ -63,7 +63,7 @@ may_commit s cs ss = nat_lt (s.events + 5) (2 ^ 63) && are_good_settings ss && m
 
 -- do the files take the changes, and is there room while they wait
 abbrev take : Durable → List Change → Bool
-take s cs = apply_all s.tree cs && list_all (is_new_in s.tree) cs && has_units_for s cs
+take s cs = changes_apply s.tree cs && list_all (is_new_in s.tree) cs && has_units_for s cs
 
 module _ (s : Durable) (id : Id) (cs : List Change) (ss : OwnSettings) (built : IsBuiltState s) where
   abbrev left : Bool
@@ -73,7 +73,7 @@ module _ (s : Durable) (id : Id) (cs : List Change) (ss : OwnSettings) (built : 
   by_tests =
       applies_both s id cs ss built
       ∙ in_order (id.boot == s.boots) (nat_lt (s.events + 5) (2 ^ 63)) (nat_le (1 + length s.tree + nodes_made cs) s.units) (nat_le (length s.keys + count_by (λ setting. is_some setting.value) ss) s.units)
-      (nat_le (count_by (λ change. not (changes_bytes change)) cs + count_by (λ setting. is_none setting.value) ss) s.units) (are_recorded_changes cs) (are_good_settings ss) (apply_all s.tree cs)
+      (nat_le (count_by (λ change. not (changes_bytes change)) cs + count_by (λ setting. is_none setting.value) ss) s.units) (are_recorded_changes cs) (are_good_settings ss) (changes_apply s.tree cs)
       (list_all (is_new_in s.tree) cs) (has_units_for s cs) left
 
   pub other_boot : (id.boot ≡ s.boots → ⊥) → false ≡ events_apply s (both_events id cs ss)

@@ -10,7 +10,7 @@ use Rattle.ktm_types.specs.declared.change.Change.{Change}
 use Rattle.ktm_types.specs.declared.change.Change.TheVariants.{Make, Put, Cut, Move, Drop}
 use Rattle.ktm_types.specs.declared.recorded.Node.{Node}
 use Rattle.ktm_forms.specs.Taking.{within}
-use Rattle.ktm_world.specs.Changes.{applies, apply_all, bytes_in, changed}
+use Rattle.ktm_world.specs.Changes.{applies, changes_apply, bytes_in, changed}
 use Rattle.ktm_world.specs.Durable.{is_new_in}
 use Rattle.ktm_world.specs.Keys.{Store}
 use Rattle.ktm_world.specs.Tree.{Tree, bytes_or_none, content_of, cut_to, node_at, put_over, units_of}
@@ -82,7 +82,7 @@ long_after units tree (Move node parent name) does_apply passes = absurd (cc)
 long_after units tree (Drop node) does_apply passes = absurd (cc)
 
 pub past_units : (units : ℕ) (tree : Tree) (keys : Store) (c : Change) (few : Bool) → passes_units units c ≡ true
-    → (apply_all tree (c ∷ []) && list_all (is_new_in tree) (c ∷ []) && within units (changed tree c) keys && few) ≡ false
+    → (changes_apply tree (c ∷ []) && list_all (is_new_in tree) (c ∷ []) && within units (changed tree c) keys && few) ≡ false
 past_units units tree keys c few passes = elim (cases_Bool (applies tree c)) [
   | inl does_apply ↦
       let more = long_after units tree c does_apply passes in

@@ -6,7 +6,7 @@ ghost use Rattle.ktm_types.specs.declared.event.Part.TheVariants.{Changes, Setti
 ghost use Rattle.ktm_forms.specs.Built.{is_built_group};
 ghost use Rattle.ktm_forms.specs.Commits.{both_events};
 ghost use Rattle.ktm_forms.specs.Taking.{within};
-ghost use Rattle.ktm_world.specs.Changes.{apply_all, changed_all};
+ghost use Rattle.ktm_world.specs.Changes.{changes_apply, changed_all};
 ghost use Rattle.ktm_world.specs.Durable.{Durable, after_events, are_recorded_changes, empty_state, events_apply, is_new_in, is_sole, next_after_all};
 ghost use Rattle.ktm_world.specs.Keys.{are_good_settings, stored_all};
 ghost use Rattle.ktm_world.specs.Tree.{bytes_of, bytes_or_none, units_of};
@@ -177,7 +177,7 @@ impl Durable {
 
     // Changes the files by one event.
     fn change(&mut self, changes: Vec<Change>) -> Result<bool, NoMemory>
-        ensures applies { IfOk result (λ applied. applied ≡ (apply_all self.old.tree changes.items && list_all (is_new_in self.old.tree) changes.items
+        ensures applies { IfOk result (λ applied. applied ≡ (changes_apply self.old.tree changes.items && list_all (is_new_in self.old.tree) changes.items
             && within self.old.units (changed_all self.old.tree changes.items) self.old.keys && nat_lt (self.old.events + 1) (2 ^ 63))) }
         ensures after { result ≡ Ok true → self.new ≡ record self.old {
           events = self.old.events + 1;
@@ -287,7 +287,7 @@ impl Durable {
 
     // Commits changes that wait in these units.
     fn commit_files(&mut self, changes: Vec<Change>) -> Result<bool, NoMemory>
-        ensures applies { IfOk result (λ applied. applied ≡ (apply_all self.old.tree changes.items && list_all (is_new_in self.old.tree) changes.items
+        ensures applies { IfOk result (λ applied. applied ≡ (changes_apply self.old.tree changes.items && list_all (is_new_in self.old.tree) changes.items
             && has_units_for self.old changes.items)) }
         ensures after { result ≡ Ok true → self.new ≡ record self.old {
           tree = changed_all self.old.tree changes.items;

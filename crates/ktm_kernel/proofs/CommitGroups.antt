@@ -14,7 +14,7 @@ use Rattle.ktm_types.specs.declared.event.Event.{Event}
 use Rattle.ktm_types.specs.declared.event.Event.TheVariants.{Single}
 use Rattle.ktm_types.specs.declared.event.Part.TheVariants.{Changes, Settings}
 use Rattle.ktm_types.specs.declared.object.Transaction.{Transaction}
-use Rattle.ktm_world.specs.Changes.{apply_all, has_changes}
+use Rattle.ktm_world.specs.Changes.{changes_apply, has_changes}
 use Rattle.ktm_world.specs.Files.{FilesNow, own_changes}
 use Rattle.ktm_world.specs.Keys.{KeysNow, OwnSettings, own_settings}
 use Rattle.ktm_world.specs.Outcome.{Outcome, is_full}
@@ -86,7 +86,7 @@ pub can_commit : (x : Present) (m : MemoryState) (t : Transaction) → files_of 
 can_commit x m t same may ready room = record {
   keys = room;
   files = ready;
-  applies = subst (λ (f : FilesNow). apply_all f.tree (own_changes f.table.own t.id) ≡ true) (sym same) may.applies;
+  applies = subst (λ (f : FilesNow). changes_apply f.tree (own_changes f.table.own t.id) ≡ true) (sym same) may.applies;
   left = subst (λ (f : FilesNow). LeavesOthers f t.id) (sym same) may.left;
   unopened = subst (λ (f : FilesNow). AreUnopened f t.id) (sym same) may.unopened;
   counted = subst (λ (f : FilesNow). CanBeCounted (files_committed f t.id)) (sym same) may.counted;

@@ -17,7 +17,7 @@ use Rattle.ktm_types.specs.declared.object.Transaction.{Transaction}
 use Rattle.ktm_forms.specs.Built.{built_state}
 use Rattle.ktm_world.specs.Durable.{is_before}
 use Rattle.ktm_laws.specs.Reservations.{files_committed}
-use Rattle.ktm_world.specs.Changes.{apply_all}
+use Rattle.ktm_world.specs.Changes.{changes_apply}
 use Rattle.ktm_world.specs.FileOutcome.{FileOutcome, files_after}
 use Rattle.ktm_world.specs.Files.{FilesNow, OpenFile, own_changes}
 use Rattle.ktm_world.specs.Handles.{object_at}
@@ -84,7 +84,7 @@ pub record CanMakePlain (files : FilesNow) (o : FileOutcome) : Type 0 where
 pub record CanCommit (m : MemoryState) (t : Transaction) : Type 0 where
   pub keys : length (own_settings m.keys.keys.own t.id) ≤ m.keys.room
   pub files : MayCommit m.files t.id
-  pub applies : apply_all (files_of m.files).tree (own_changes (files_of m.files).table.own t.id) ≡ true
+  pub applies : changes_apply (files_of m.files).tree (own_changes (files_of m.files).table.own t.id) ≡ true
   pub left : LeavesOthers (files_of m.files) t.id
   pub unopened : AreUnopened (files_of m.files) t.id
   pub counted : CanBeCounted (files_committed (files_of m.files) t.id)

@@ -7,7 +7,7 @@ use Rattle.std.specs.List.{list_any}
 use Rattle.ktm_types.specs.declared.change.Change.{Change}
 use Rattle.ktm_types.specs.declared.change.Change.TheVariants.{Make, Put, Cut, Move, Drop}
 use Rattle.ktm_types.specs.declared.recorded.Node.{Node}
-use Rattle.ktm_world.specs.Changes.{changed, changed_all, applies, apply_all, node_of, is_drop, is_whole, is_empty_list, is_free, is_node_number}
+use Rattle.ktm_world.specs.Changes.{changed, changed_all, applies, changes_apply, node_of, is_drop, is_whole, is_empty_list, is_free, is_node_number}
 use Rattle.ktm_world.specs.Paths.{is_name}
 use Rattle.ktm_base.specs.Names.{IsName, folded}
 use Rattle.std.specs.Bool.{⊤}
@@ -264,8 +264,8 @@ parents-after tree c good is =
 -- ---- a node that no change is of
 
 -- it stays as it is
-pub node-elsewhere : (cs : List Change) (tree : Tree) (number : ℕ) → apply_all tree cs ≡ true → (IsIn number (map node_of cs) → ⊥) → node_at (changed_all tree cs) number ≡ node_at tree number
+pub node-elsewhere : (cs : List Change) (tree : Tree) (number : ℕ) → changes_apply tree cs ≡ true → (IsIn number (map node_of cs) → ⊥) → node_at (changed_all tree cs) number ≡ node_at tree number
 node-elsewhere [] tree number all other = refl
 node-elsewhere (c ∷ cs) tree number all other =
-    let parts = and_parts (applies tree c) (apply_all (changed tree c) cs) all in
+    let parts = and_parts (applies tree c) (changes_apply (changed tree c) cs) all in
     node-elsewhere cs (changed tree c) number parts.1 (λ there. other (inr there)) ∙ node_at-elsewhere tree c (Fits-from tree c (Applies-from tree c parts.0)) number (λ e. other (inl e))

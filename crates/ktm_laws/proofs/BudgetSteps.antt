@@ -4,7 +4,7 @@ use Rattle.std.proofs.lemmas.Bool.{not-true}
 use Rattle.ktm_base.specs.declared.id.Id.{Id}
 use Rattle.ktm_types.specs.declared.change.Change.{Change}
 use Rattle.ktm_types.specs.declared.object.Transaction.{Transaction}
-use Rattle.ktm_world.specs.Changes.{apply_all, changed_all, changes_bytes, nodes_made}
+use Rattle.ktm_world.specs.Changes.{changes_apply, changed_all, changes_bytes, nodes_made}
 use Rattle.ktm_world.specs.Files.{OwnChanges, bytes_seen, committed_files, own_changes}
 use Rattle.ktm_world.specs.Keys.{Own, Store, own_settings, stored_all, without_own}
 use Rattle.ktm_world.specs.Lawful.{undecided}
@@ -52,13 +52,13 @@ module _ (lists : ListsLaw) (x : Present) (sound : IsSoundFiles x) (t : Transact
   tree_then = changed_all x.files.tree (own_changes x.files.table.own t.id)
 
   -- what another transaction owns still applies
-  applies-then : (o : OwnChanges) → IsIn o x.files.table.own → same_id o.transaction t.id ≡ false → apply_all tree_then o.changes ≡ true
+  applies-then : (o : OwnChanges) → IsIn o x.files.table.own → same_id o.transaction t.id ≡ false → changes_apply tree_then o.changes ≡ true
   applies-then o has other =
       let u = undecided-entry x.transactions.items o.transaction (list_all-at (λ (p : OwnChanges). is_undecided_in x.transactions.items p.transaction) x.files.table.own sound.own_undecided o has) in
       let differs : same_id t.id u.0.id ≡ false = subst (λ i. same_id t.id i ≡ false) (sym u.2) (same_id-sym o.transaction t.id other) in
       let left = (reservations_law lists).0 x t u.0 sound there u.1 differs in
       let changes = left.own ∙ ap (own_changes x.files.table.own) u.2 ∙ (own-now x sound o has).0 in
-      subst (λ ds. apply_all tree_then ds ≡ true) changes (subst (λ k. apply_all k (own_changes (own_without x.files.table.own t.id) u.0.id) ≡ true) (tree-of cs (committed_files x.files [])) left.applies)
+      subst (λ ds. changes_apply tree_then ds ≡ true) changes (subst (λ k. changes_apply k (own_changes (own_without x.files.table.own t.id) u.0.id) ≡ true) (tree-of cs (committed_files x.files [])) left.applies)
 
   units-then : tree_units tree_then + sum_by (λ (o : OwnChanges). committed_units tree_then o.changes) (own_without x.files.table.own t.id)
       ≤ tree_units tree + sum_by (λ (o : OwnChanges). committed_units tree o.changes) x.files.table.own
@@ -72,7 +72,7 @@ module _ (lists : ListsLaw) (x : Present) (sound : IsSoundFiles x) (t : Transact
       let kept = IsIn-filter (λ (o : OwnChanges). not (same_id o.transaction t.id)) x.files.table.own o has in
       let now = own-now x sound o kept.0 in
       units-committed tree_then o.changes (bytes_seen x.files (Some o.transaction)) now.1 (applies-then o kept.0 (not-true _ kept.1))
-      ∙ sym (units-committed tree o.changes (bytes_seen x.files (Some o.transaction)) now.1 (list_all-at (λ (o : OwnChanges). apply_all x.files.tree o.changes) x.files.table.own sound.own_apply o kept.0))) in
+      ∙ sym (units-committed tree o.changes (bytes_seen x.files (Some o.transaction)) now.1 (list_all-at (λ (o : OwnChanges). changes_apply x.files.tree o.changes) x.files.table.own sound.own_apply o kept.0))) in
       let all = sum-without (committed_units tree) refl x.files.table.own t.id in
       omega arith
 

@@ -9,7 +9,7 @@ use Rattle.ktm_types.specs.declared.change.Change.TheVariants.{Make, Put, Cut, M
 use Rattle.ktm_types.specs.declared.change.Contents.TheVariants.{Whole}
 use Rattle.ktm_types.specs.declared.change.NodeKind.TheVariants.{File, Directory}
 use Rattle.ktm_types.specs.declared.recorded.Node.{Node}
-use Rattle.ktm_world.specs.Changes.{changed, changed_all, applies, apply_all, bytes_in, changes_bytes, is_drop, is_make, new_content, node_of, nodes_made}
+use Rattle.ktm_world.specs.Changes.{changed, changed_all, applies, changes_apply, bytes_in, changes_bytes, is_drop, is_make, new_content, node_of, nodes_made}
 use Rattle.ktm_world.specs.Committed.{Committed, Version, version_of, versions_after, with_change, final_bytes, written_files, changes_to_commit}
 use Rattle.ktm_world.specs.Files.{FirstOpen}
 use Rattle.ktm_world.specs.FileUses.{same_version}
@@ -259,11 +259,11 @@ abbrev pub gains : Tree → List Change → ℕ
 gains tree [] = 0
 gains tree (c ∷ cs) = gain tree c + gains (changed tree c) cs
 
-pub units-all : (cs : List Change) (c : Committed) (os : List FirstOpen) → apply_all c.tree cs ≡ true → Rests c.tree c.versions os → ((change : Change) → IsIn change cs → Fresh change os)
+pub units-all : (cs : List Change) (c : Committed) (os : List FirstOpen) → changes_apply c.tree cs ≡ true → Rests c.tree c.versions os → ((change : Change) → IsIn change cs → Fresh change os)
     → all_units (fold with_change c cs).tree (fold with_change c cs).versions os ≤ all_units c.tree c.versions os + gains c.tree cs
 units-all [] c os all rests fresh = omega arith
 units-all (change ∷ cs) c os all rests fresh =
-    let parts = and_parts (applies c.tree change) (apply_all (changed c.tree change) cs) all in
+    let parts = and_parts (applies c.tree change) (changes_apply (changed c.tree change) cs) all in
     let first = units-after c.tree c.versions change os (suits-applies c.tree change parts.0) rests (fresh change (inl refl)) in
     let rest = units-all cs (with_change c change) os parts.1 (record {
       rises = Rises-changed c.tree change (Fits-from c.tree change (Applies-from c.tree change parts.0)) rests.rises;

@@ -6,7 +6,7 @@ use Rattle.ktm_base.specs.declared.id.Id.{Id}
 use Rattle.ktm_types.specs.declared.change.Change.{Change}
 use Rattle.ktm_types.specs.declared.change.Change.TheVariants.{Make, Put, Cut, Move, Drop}
 use Rattle.ktm_types.specs.declared.recorded.Node.{Node}
-use Rattle.ktm_world.specs.Changes.{changed, changed_all, applies, apply_all, node_of, is_make, next_after}
+use Rattle.ktm_world.specs.Changes.{changed, changed_all, applies, changes_apply, node_of, is_make, next_after}
 use Rattle.ktm_world.specs.Durable.{Durable, Recorded, is_ready, is_manager, is_new_in, has_part, changes_of, next_after_all, is_within_limits}
 use Rattle.ktm_keyed.specs.Keyed.{is_rising}
 use Rattle.ktm_world.specs.Keys.{Store}
@@ -66,10 +66,10 @@ next_after-to tree (Cut node size pages) next is low = low
 next_after-to tree (Move node parent name) next is low = low
 next_after-to tree (Drop node) next is low = low
 
-pub next-to : (tree : Tree) (cs : List Change) (next : ℕ) → apply_all tree cs ≡ true → next ≤ 2 ^ 63 → next_after_all next cs ≤ 2 ^ 63
+pub next-to : (tree : Tree) (cs : List Change) (next : ℕ) → changes_apply tree cs ≡ true → next ≤ 2 ^ 63 → next_after_all next cs ≤ 2 ^ 63
 next-to tree [] next all low = low
 next-to tree (c ∷ cs) next all low =
-    let parts = and_parts (applies tree c) (apply_all (changed tree c) cs) all in next-to (changed tree c) cs (next_after next c) parts.1 (next_after-to tree c next parts.0 low)
+    let parts = and_parts (applies tree c) (changes_apply (changed tree c) cs) all in next-to (changed tree c) cs (next_after next c) parts.1 (next_after-to tree c next parts.0 low)
 
 -- is the number of a node below the next one
 abbrev is_below : ℕ → Node → Bool
@@ -157,7 +157,7 @@ is_drawn-later s s' id later drawn =
     let parts = and_parts (is_of_object id) (nat_le id.boot s.boots) drawn in and_from _ _ parts.0 (le-leb _ _ (omega (arith, leb-true _ _ parts.1)))
 
 pub Core-carried : (s s' : Durable) (t : Recorded) → s.boots ≤ s'.boots → ((m : Id) → is_manager s m ≡ true → is_manager s' m ≡ true) → s.next_node ≤ s'.next_node
-    → apply_all s'.tree (changes_of t) ≡ true → list_all (is_new_in s'.tree) (changes_of t) ≡ true → Core s t → Core s' t
+    → changes_apply s'.tree (changes_of t) ≡ true → list_all (is_new_in s'.tree) (changes_of t) ≡ true → Core s t → Core s' t
 Core-carried s s' t later managers more applies new core = record {
   drawn = is_drawn-later s s' t.id later core.drawn;
   enlistments = λ e there. let is = core.enlistments e there in record {
@@ -179,7 +179,7 @@ Core-carried s s' t later managers more applies new core = record {
 }
 
 pub Fitting-carried : (s s' : Durable) (t : Recorded) → s.boots ≡ s'.boots → ((m : Id) → is_manager s m ≡ true → is_manager s' m ≡ true) → s.next_node ≤ s'.next_node
-    → apply_all s'.tree (changes_of t) ≡ true → list_all (is_new_in s'.tree) (changes_of t) ≡ true → Fitting s t → Fitting s' t
+    → changes_apply s'.tree (changes_of t) ≡ true → list_all (is_new_in s'.tree) (changes_of t) ≡ true → Fitting s t → Fitting s' t
 Fitting-carried s s' t boots managers more applies new fits = record {
   core = Core-carried s s' t (omega (arith, boots)) managers more applies new fits.core;
   ready = subst (λ b. (not (is_ready t.stage) || (t.id.boot == b && has_part t && is_none t.superior)) ≡ true) boots fits.ready;

@@ -5,7 +5,7 @@ use Rattle.ktm_types.specs.declared.change.Change.{Change}
 use Rattle.ktm_types.specs.declared.change.Change.TheVariants.{Put, Cut}
 use Rattle.ktm_types.specs.declared.change.Contents.TheVariants.{Whole}
 use Rattle.ktm_types.specs.declared.recorded.Node.{Node}
-use Rattle.ktm_world.specs.Changes.{changed, changed_all, applies, apply_all, node_of}
+use Rattle.ktm_world.specs.Changes.{changed, changed_all, applies, changes_apply, node_of}
 use Rattle.ktm_world.specs.Committed.{changes_to_commit, final_bytes, written_files}
 use Rattle.ktm_world.specs.Tree.{Tree, bytes_of, bytes_or_none, content_of, node_at, put_over, units_of}
 use Rattle.ktm_laws.specs.FinalChanges.{names_of}
@@ -13,7 +13,7 @@ use Rattle.ktm_laws.specs.Footprint.{IsIn}
 use Rattle.ktm_laws.proofs.Applying.{Applies-from, Fits-from, node-elsewhere}
 use Rattle.ktm_laws.proofs.CommittedUnits.{cut-empty}
 use Rattle.ktm_world.proofs.Lookups.{map_node, node_at-there}
-use Rattle.ktm_laws.proofs.NormalForms.{RisingNumbers, apply_all-second, changed_all-append, ends_of, put-none, rising-written}
+use Rattle.ktm_laws.proofs.NormalForms.{RisingNumbers, changes_apply-second, changed_all-append, ends_of, put-none, rising-written}
 use Rattle.ktm_laws.proofs.Sums.{sum-same}
 
 -- the bytes at the end are of their files
@@ -39,19 +39,19 @@ put-there tree f bs is none =
     go None file none = absurd (true≢false (sym file))
     go (Some n) file none = put-none (bytes_or_none n.content) bs none
 
-ends-bytes-at : (by : ℕ → List ℕ) (files : List ℕ) (tree : Tree) → RisingNumbers files → apply_all tree (ends_of by files) ≡ true → (f : ℕ) → IsIn f files → bytes_of (changed_all tree (ends_of by files)) f ≡ by f
+ends-bytes-at : (by : ℕ → List ℕ) (files : List ℕ) (tree : Tree) → RisingNumbers files → changes_apply tree (ends_of by files) ≡ true → (f : ℕ) → IsIn f files → bytes_of (changed_all tree (ends_of by files)) f ≡ by f
 ends-bytes-at by [] tree rises all f there = absurd there
 ends-bytes-at by (g ∷ gs) tree rises all f there = go (λ t rest has. ends-bytes-at by gs t rises.1 rest f has) (by g) refl all
   where
     -- the others leave its bytes
-    left : (t : Tree) → apply_all t (ends_of by gs) ≡ true → bytes_of (changed_all t (ends_of by gs)) g ≡ bytes_of t g
+    left : (t : Tree) → changes_apply t (ends_of by gs) ≡ true → bytes_of (changed_all t (ends_of by gs)) g ≡ bytes_of t g
     left t rest = ap (λ n. bytes_or_none (content_of n)) (node-elsewhere (ends_of by gs) t g rest (λ has. omega (arith, rises.0 g (ends-node by gs g has))))
 
-    here : (t : Tree) → apply_all t (ends_of by gs) ≡ true → bytes_of t g ≡ by g → g ≡ f → bytes_of (changed_all t (ends_of by gs)) f ≡ by f
+    here : (t : Tree) → changes_apply t (ends_of by gs) ≡ true → bytes_of t g ≡ by g → g ≡ f → bytes_of (changed_all t (ends_of by gs)) f ≡ by f
     here t rest is e = subst (λ k. bytes_of (changed_all t (ends_of by gs)) k ≡ by k) e (left t rest ∙ is)
 
-    go : ((t : Tree) → apply_all t (ends_of by gs) ≡ true → IsIn f gs → bytes_of (changed_all t (ends_of by gs)) f ≡ by f) → (bs : List ℕ) → by g ≡ bs
-        → apply_all tree (final_bytes g bs ++ ends_of by gs) ≡ true → bytes_of (changed_all tree (final_bytes g bs ++ ends_of by gs)) f ≡ by f
+    go : ((t : Tree) → changes_apply t (ends_of by gs) ≡ true → IsIn f gs → bytes_of (changed_all t (ends_of by gs)) f ≡ by f) → (bs : List ℕ) → by g ≡ bs
+        → changes_apply tree (final_bytes g bs ++ ends_of by gs) ≡ true → bytes_of (changed_all tree (final_bytes g bs ++ ends_of by gs)) f ≡ by f
     go later [] is all =
         let parts = and_parts (applies tree (Cut g 0 [])) _ all in
         let t = changed tree (Cut g 0 []) in
@@ -65,17 +65,17 @@ ends-bytes-at by (g ∷ gs) tree rises all f there = go (λ t rest has. ends-byt
         elim there [ inl e ↦ here u parts'.1 (put-there t g (b ∷ bs) parts'.0 (cut-empty tree g) ∙ sym is) e | inr has ↦ later u parts'.1 has ]
 
 -- each file that is left has the bytes that it was given
-pub bytes-committed : (tree : Tree) (cs : List Change) (by : ℕ → List ℕ) → changes_to_commit cs by ≡ cs → apply_all tree cs ≡ true → (f : ℕ) → IsIn f (written_files cs) → bytes_of (changed_all tree cs) f ≡ by f
+pub bytes-committed : (tree : Tree) (cs : List Change) (by : ℕ → List ℕ) → changes_to_commit cs by ≡ cs → changes_apply tree cs ≡ true → (f : ℕ) → IsIn f (written_files cs) → bytes_of (changed_all tree cs) f ≡ by f
 bytes-committed tree cs by final all f there =
     let names = names_of cs in
     let ends = ends_of by (written_files cs) in
-    let all' : apply_all tree (names ++ ends) ≡ true = subst (λ ds. apply_all tree ds ≡ true) (sym final) all in
+    let all' : changes_apply tree (names ++ ends) ≡ true = subst (λ ds. changes_apply tree ds ≡ true) (sym final) all in
     ap (λ ds. bytes_of (changed_all tree ds) f) (sym final) ∙ ap (λ t. bytes_of t f) (changed_all-append tree names ends)
-    ∙ ends-bytes-at by (written_files cs) (changed_all tree names) (rising-written cs [] tt) (apply_all-second tree names ends all') f there
+    ∙ ends-bytes-at by (written_files cs) (changed_all tree names) (rising-written cs [] tt) (changes_apply-second tree names ends all') f there
 
 -- the units of the files that changes leave
 abbrev pub committed_units : Tree → List Change → ℕ
 committed_units tree cs = sum_by (λ file. units_of (bytes_of (changed_all tree cs) file)) (written_files cs)
 
-pub units-committed : (tree : Tree) (cs : List Change) (by : ℕ → List ℕ) → changes_to_commit cs by ≡ cs → apply_all tree cs ≡ true → committed_units tree cs ≡ sum_by (λ f. units_of (by f)) (written_files cs)
+pub units-committed : (tree : Tree) (cs : List Change) (by : ℕ → List ℕ) → changes_to_commit cs by ≡ cs → changes_apply tree cs ≡ true → committed_units tree cs ≡ sum_by (λ f. units_of (by f)) (written_files cs)
 units-committed tree cs by final all = sum-same _ _ (written_files cs) (λ f there. ap units_of (bytes-committed tree cs by final all f there))

@@ -5,7 +5,7 @@ use Rattle.std.specs.List.{list_all, flat_map}
 use Rattle.ktm_base.specs.declared.limits.TheConstants.{MOST_INFORMATION_BYTES}
 use Rattle.ktm_base.specs.declared.id.Id.{Id}
 use Rattle.ktm_types.specs.declared.recorded.Superior.{Superior}
-use Rattle.ktm_world.specs.Changes.{apply_all}
+use Rattle.ktm_world.specs.Changes.{changes_apply}
 use Rattle.ktm_world.specs.Durable.{Durable, Recorded, is_decided, is_manager, is_new_in, is_before, changes_of, settings_of, enlistments_of, holds_in, is_within_limits, waiting}
 use Rattle.ktm_keyed.specs.Keyed.{is_rising}
 use Rattle.ktm_world.specs.Lawful.{are_apart, set_both}
@@ -39,7 +39,7 @@ pub record Core (s : Durable) (t : Recorded) : Type 0 where
   pub decided : is_decided_well t ≡ true
   pub done : list_all (is_done_well t) t.parts ≡ true
   pub changes : are_kept_changes t ≡ true
-  pub apply : apply_all s.tree (changes_of t) ≡ true
+  pub apply : changes_apply s.tree (changes_of t) ≡ true
   pub made : list_all (is_made_below s.next_node) (changes_of t) ≡ true
   pub new : list_all (is_new_in s.tree) (changes_of t) ≡ true
   pub puts : list_all puts_some (changes_of t) ≡ true
@@ -103,7 +103,7 @@ good-from s table rest = record {
   decided = list_all-from is_decided_well s.transactions (λ t there. (table.fit t there).core.decided);
   done = list_all-from (λ t. list_all (is_done_well t) t.parts) s.transactions (λ t there. (table.fit t there).core.done);
   changes = list_all-from are_kept_changes s.transactions (λ t there. (table.fit t there).core.changes);
-  apply = list_all-from (λ t. apply_all s.tree (changes_of t)) s.transactions (λ t there. (table.fit t there).core.apply);
+  apply = list_all-from (λ t. changes_apply s.tree (changes_of t)) s.transactions (λ t there. (table.fit t there).core.apply);
   made = list_all-from (λ t. list_all (is_made_below s.next_node) (changes_of t)) s.transactions (λ t there. (table.fit t there).core.made);
   new = list_all-from (λ t. list_all (is_new_in s.tree) (changes_of t)) s.transactions (λ t there. (table.fit t there).core.new);
   puts = list_all-from (λ t. list_all puts_some (changes_of t)) s.transactions (λ t there. (table.fit t there).core.puts);
@@ -152,7 +152,7 @@ table-of s good = record {
       decided = list_all-at is_decided_well s.transactions good.decided t there;
       done = list_all-at (λ t. list_all (is_done_well t) t.parts) s.transactions good.done t there;
       changes = list_all-at are_kept_changes s.transactions good.changes t there;
-      apply = list_all-at (λ t. apply_all s.tree (changes_of t)) s.transactions good.apply t there;
+      apply = list_all-at (λ t. changes_apply s.tree (changes_of t)) s.transactions good.apply t there;
       made = list_all-at (λ t. list_all (is_made_below s.next_node) (changes_of t)) s.transactions good.made t there;
       new = list_all-at (λ t. list_all (is_new_in s.tree) (changes_of t)) s.transactions good.new t there;
       puts = list_all-at (λ t. list_all puts_some (changes_of t)) s.transactions good.puts t there;

@@ -6,7 +6,7 @@ use Rattle.ktm_base.specs.Names.{IsName, folded}
 use Rattle.ktm_types.specs.declared.change.Change.{Change}
 use Rattle.ktm_types.specs.declared.change.Change.TheVariants.{Make, Put, Cut, Move, Drop}
 use Rattle.ktm_types.specs.declared.recorded.Node.{Node}
-use Rattle.ktm_world.specs.Changes.{changed, changed_all, applies, apply_all, node_of, is_drop}
+use Rattle.ktm_world.specs.Changes.{changed, changed_all, applies, changes_apply, node_of, is_drop}
 use Rattle.ktm_world.specs.Paths.{is_name}
 use Rattle.ktm_world.specs.Tree.{Tree, IsWellFormed, root, node_at, is_there, is_directory, same_name, parent_of, content_of}
 use Rattle.ktm_laws.specs.Formed.{FormedLaw}
@@ -179,6 +179,6 @@ module _ (read_name : (name : List ℕ) → is_name name ≡ true → IsName nam
       one : (tree : Tree) (c : Change) → IsWellFormed tree → applies tree c ≡ true → IsWellFormed (changed tree c)
       one tree c formed is = IsWellFormed-from (changed tree c) (Good-after tree c (Good-from tree formed) (Applies-from tree c is))
 
-      all : (tree : Tree) (cs : List Change) → IsWellFormed tree → apply_all tree cs ≡ true → IsWellFormed (changed_all tree cs)
+      all : (tree : Tree) (cs : List Change) → IsWellFormed tree → changes_apply tree cs ≡ true → IsWellFormed (changed_all tree cs)
       all tree [] formed is = formed
-      all tree (c ∷ cs) formed is = let parts = and_parts (applies tree c) (apply_all (changed tree c) cs) is in all (changed tree c) cs (one tree c formed parts.0) parts.1
+      all tree (c ∷ cs) formed is = let parts = and_parts (applies tree c) (changes_apply (changed tree c) cs) is in all (changed tree c) cs (one tree c formed parts.0) parts.1

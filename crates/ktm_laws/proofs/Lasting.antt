@@ -6,7 +6,7 @@ use Rattle.std.proofs.lemmas.List.Sums.{fold-append}
 use Rattle.std.specs.List.{list_any, list_all}
 use Rattle.ktm_types.specs.declared.change.Change.{Change}
 use Rattle.ktm_types.specs.declared.change.Change.TheVariants.{Make, Put, Cut, Move, Drop}
-use Rattle.ktm_world.specs.Changes.{applies, apply_all, changed, changes_bytes, is_drop, is_make, node_of}
+use Rattle.ktm_world.specs.Changes.{applies, changes_apply, changed, changes_bytes, is_drop, is_make, node_of}
 use Rattle.ktm_world.specs.Committed.{Committed, Version, version_of, versions_after, raised_version, with_change, with_work, committed_with}
 use Rattle.ktm_world.specs.Files.{FirstOpen, first_open, is_last_version}
 use Rattle.ktm_world.specs.Lawful.{ends_version}
@@ -56,7 +56,7 @@ shows-now : (c : Committed) (o : FirstOpen) → o.version ≡ version_of c.versi
 shows-now c o version bytes = record { was = λ file. omega (arith, version); bytes = λ file last. bytes }
 
 -- a file that is not there is there after no changes that do not make it
-file-before : (cs : List Change) (c : Committed) (o : FirstOpen) → apply_all c.tree cs ≡ true → FitVersions c.tree c.versions → ((change : Change) → IsIn change cs → is_make change ≡ true → node_of change ≡ o.file → ⊥)
+file-before : (cs : List Change) (c : Committed) (o : FirstOpen) → changes_apply c.tree cs ≡ true → FitVersions c.tree c.versions → ((change : Change) → IsIn change cs → is_make change ≡ true → node_of change ≡ o.file → ⊥)
     → is_file (fold with_change c cs).tree o.file ≡ true → is_file c.tree o.file ≡ true
 file-before cs c o all fit fresh after' = elim (cases_Bool (is_file c.tree o.file)) [
   | inl file ↦ file
@@ -67,23 +67,23 @@ file-before cs c o all fit fresh after' = elim (cases_Bool (is_file c.tree o.fil
 ]
 
 -- where it is the last one after changes, none of them has ended it
-no-end : (cs : List Change) (c : Committed) (o : FirstOpen) → apply_all c.tree cs ≡ true → FitVersions c.tree c.versions → ((change : Change) → IsIn change cs → is_make change ≡ true → node_of change ≡ o.file → ⊥)
+no-end : (cs : List Change) (c : Committed) (o : FirstOpen) → changes_apply c.tree cs ≡ true → FitVersions c.tree c.versions → ((change : Change) → IsIn change cs → is_make change ≡ true → node_of change ≡ o.file → ⊥)
     → Shows c.tree c.versions o → is_file (fold with_change c cs).tree o.file ≡ true → o.version ≡ version_of (fold with_change c cs).versions o.file → list_any (ends o.file) cs ≡ false
 no-end [] c o all fit fresh shows file last = refl
 no-end (d ∷ ds) c o all fit fresh shows file last =
-    let parts = and_parts (applies c.tree d) (apply_all (changed c.tree d) ds) all in
+    let parts = and_parts (applies c.tree d) (changes_apply (changed c.tree d) ds) all in
     let fit' = fit-after c.tree c.versions d parts.0 fit in
     let rest = no-end ds (with_change c d) o parts.1 fit' (λ e there. fresh e (inr there)) (shows-after c.tree c.versions d o parts.0 fit.rise (fresh d (inl refl)) shows) file last in
     let there = file-before ds (with_change c d) o parts.1 fit' (λ e there. fresh e (inr there)) file in
     or_from _ _ (here d refl parts.0 there parts.1 fit') rest
   where
-    later : apply_all (changed c.tree d) ds ≡ true → FitVersions (changed c.tree d) (versions_after c.versions d) → version_of (versions_after c.versions d) o.file ≤ version_of (fold with_change (with_change c d) ds).versions o.file
+    later : changes_apply (changed c.tree d) ds ≡ true → FitVersions (changed c.tree d) (versions_after c.versions d) → version_of (versions_after c.versions d) o.file ≤ version_of (fold with_change (with_change c d) ds).versions o.file
     later all' fit' =
         let past : FirstOpen = record o { version = version_of (versions_after c.versions d) o.file; bytes = bytes_of (changed c.tree d) o.file } in
         (shows-all ds (with_change c d) past all' fit' (λ change there. fresh change (inr there)) (shows-now (with_change c d) past refl refl)).was file
 
     -- bytes that are put or cut make one version more
-    raised : is_file c.tree o.file ≡ true → versions_after c.versions d ≡ raised_version c.versions o.file → apply_all (changed c.tree d) ds ≡ true → FitVersions (changed c.tree d) (versions_after c.versions d) → ⊥
+    raised : is_file c.tree o.file ≡ true → versions_after c.versions d ≡ raised_version c.versions o.file → changes_apply (changed c.tree d) ds ≡ true → FitVersions (changed c.tree d) (versions_after c.versions d) → ⊥
     raised before more all' fit' =
         let now = version_of-raised c.versions o.file fit.rise in
         let then = later all' fit' in
@@ -91,7 +91,7 @@ no-end (d ∷ ds) c o all fit fresh shows file last =
         let up = ap (λ vs. version_of vs o.file) more in
         omega (arith, now, then, last, was, up)
 
-    at : (e : Change) → d ≡ e → applies c.tree e ≡ true → is_file (changed c.tree e) o.file ≡ true → apply_all (changed c.tree d) ds ≡ true → FitVersions (changed c.tree d) (versions_after c.versions d) → node_of e ≡ o.file → ends o.file e ≡ false
+    at : (e : Change) → d ≡ e → applies c.tree e ≡ true → is_file (changed c.tree e) o.file ≡ true → changes_apply (changed c.tree d) ds ≡ true → FitVersions (changed c.tree d) (versions_after c.versions d) → node_of e ≡ o.file → ends o.file e ≡ false
     at (Make node parent kind name) is does there all' fit' same = and_right (node == o.file) _ refl
     at (Move node parent name) is does there all' fit' same = and_right (node == o.file) _ refl
     at (Put node offset contents) is does there all' fit' same = absurd (raised (subst (λ k. is_file c.tree k ≡ true) same (Applies-from c.tree (Put node offset contents) does).0)
@@ -101,7 +101,7 @@ no-end (d ∷ ds) c o all fit fresh shows file last =
     at (Drop node) is does there all' fit' same = absurd (true≢false (sym there ∙ subst (λ k. is_file (changed c.tree (Drop node)) k ≡ false) same
         (ap (λ n. is_some (content_of n)) (node_at-there c.tree (Drop node) (Fits-from c.tree (Drop node) (Applies-from c.tree (Drop node) does))))))
 
-    here : (e : Change) → d ≡ e → applies c.tree e ≡ true → is_file (changed c.tree e) o.file ≡ true → apply_all (changed c.tree d) ds ≡ true → FitVersions (changed c.tree d) (versions_after c.versions d) → ends o.file e ≡ false
+    here : (e : Change) → d ≡ e → applies c.tree e ≡ true → is_file (changed c.tree e) o.file ≡ true → changes_apply (changed c.tree d) ds ≡ true → FitVersions (changed c.tree d) (versions_after c.versions d) → ends o.file e ≡ false
     here e is does there all' fit' = elim (cases_Bool (node_of e == o.file)) [ inr other ↦ rw other refl | inl same ↦ at e is does there all' fit' (eqb-true _ _ same) ]
 
 -- ---- worlds

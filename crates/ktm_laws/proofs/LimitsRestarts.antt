@@ -12,7 +12,7 @@ use Rattle.ktm_types.specs.declared.event.Part.TheVariants.{Enlistment as Enlist
 use Rattle.ktm_types.specs.declared.recorded.RecordedPart.{RecordedPart}
 use Rattle.ktm_types.specs.declared.recorded.Stage.{Stage}
 use Rattle.ktm_types.specs.declared.recorded.Superior.{Superior}
-use Rattle.ktm_world.specs.Changes.{apply_all, changes_bytes, nodes_made}
+use Rattle.ktm_world.specs.Changes.{changes_apply, changes_bytes, nodes_made}
 use Rattle.ktm_world.specs.Durable.{Durable, Recorded, changes_of, settings_of, enlistments_in, enlistments_of, is_before, is_decided, is_held, stand, superior_ids, units_waiting, waiting}
 use Rattle.ktm_world.specs.Enlistments.{Enlistment, is_live_enlistment}
 use Rattle.ktm_world.specs.Files.{OwnChanges, bytes_seen}
@@ -120,7 +120,7 @@ module _ (base : Durable) (room : ℕ) (log : List Group) (good : IsGoodState (s
       let same = sum-same (own_units x.files) (λ (o : OwnChanges). committed_units s.tree o.changes) x.files.table.own (λ o there.
       let now = own-now x sound o there in
       own_units-final x.files o (bytes_seen x.files (Some o.transaction)) now.0 now.1
-      ∙ sym (units-committed s.tree o.changes (bytes_seen x.files (Some o.transaction)) now.1 (list_all-at (λ (o : OwnChanges). apply_all s.tree o.changes) x.files.table.own sound.own_apply o there))) in
+      ∙ sym (units-committed s.tree o.changes (bytes_seen x.files (Some o.transaction)) now.1 (list_all-at (λ (o : OwnChanges). changes_apply s.tree o.changes) x.files.table.own sound.own_apply o there))) in
       let less = some-back (λ (o : OwnChanges). committed_units s.tree o.changes) has_own_changes changed_by s in
       omega arith
 

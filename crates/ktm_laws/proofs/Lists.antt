@@ -3,7 +3,7 @@ use Rattle.std.proofs.Common.{◌≡◌, ℕ, ◌==◌, true, false, List, [], �
 use Rattle.std.proofs.lemmas.Bool.{ne_eqb, and_parts, and_from, true≢false, false_from_ne_true}
 use Rattle.std.specs.List.{list_any}
 use Rattle.ktm_types.specs.declared.change.Change.{Change}
-use Rattle.ktm_world.specs.Changes.{changed, changed_all, applies, apply_all, node_of}
+use Rattle.ktm_world.specs.Changes.{changed, changed_all, applies, changes_apply, node_of}
 use Rattle.ktm_world.specs.Holds.{Place, each_change, same_place, places_of, meet_in, dropped_directory, moved_directory}
 use Rattle.ktm_world.specs.Tree.{Tree, IsWellFormed}
 use Rattle.ktm_laws.specs.Diamond.{AreApart, Follows, DiamondLaw}
@@ -88,7 +88,7 @@ module _ (diamond : DiamondLaw) (formed : (tree : Tree) (c : Change) → IsWellF
     places : places_of (changed_all tree cs) b ≡ places_of tree b
     dropped : dropped_directory (changed_all tree cs) b ≡ dropped_directory tree b
     moved : moved_directory (changed_all tree cs) b ≡ moved_directory tree b
-    all : apply_all (changed tree b) cs ≡ true
+    all : changes_apply (changed tree b) cs ≡ true
     foot_all : footprint (changed tree b) cs ≡ footprint tree cs
     same : changed_all (changed tree b) cs ≡ changed (changed_all tree cs) b
 
@@ -104,10 +104,10 @@ module _ (diamond : DiamondLaw) (formed : (tree : Tree) (c : Change) → IsWellF
     moved = moved i ++ (rest i).moved;
   }
 
-  push : (cs : List Change) (tree : Tree) (b : Change) → IsWellFormed tree → applies tree b ≡ true → apply_all tree cs ≡ true → AreFootprintsApart (footprint tree (b ∷ [])) (footprint tree cs) → Pushed tree b cs
+  push : (cs : List Change) (tree : Tree) (b : Change) → IsWellFormed tree → applies tree b ≡ true → changes_apply tree cs ≡ true → AreFootprintsApart (footprint tree (b ∷ [])) (footprint tree cs) → Pushed tree b cs
   push [] tree b good is is_all apart = record { applies = is; places = refl; dropped = refl; moved = refl; all = refl; foot_all = refl; same = refl }
   push (c ∷ cs) tree b good is is_all apart =
-      let parts = and_parts (applies tree c) (apply_all (changed tree c) cs) is_all in
+      let parts = and_parts (applies tree c) (changes_apply (changed tree c) cs) is_all in
       let square = diamond tree b c good is parts.0 (AreApart-from tree b c (AreFootprintsApart-head (footprint tree (b ∷ [])) tree c cs apart)) in
       let foot_b = footprint-one tree c b square.1 in
       let ih = push cs (changed tree c) b (formed tree c good parts.0) square.1.applies parts.1
@@ -117,23 +117,23 @@ module _ (diamond : DiamondLaw) (formed : (tree : Tree) (c : Change) → IsWellF
         places = ih.places ∙ square.1.places;
         dropped = ih.dropped ∙ square.1.dropped;
         moved = ih.moved ∙ square.1.moved;
-        all = and_from _ _ square.0.applies (subst (λ t. apply_all t cs ≡ true) (sym square.2) ih.all);
+        all = and_from _ _ square.0.applies (subst (λ t. changes_apply t cs ≡ true) (sym square.2) ih.all);
         foot_all = footprint-cons tree (changed tree b) c cs square.0.places square.0.dropped square.0.moved (ap (λ t. footprint t cs) square.2 ∙ ih.foot_all);
         same = ap (λ t. changed_all t cs) square.2 ∙ ih.same;
       }
 
-  pub stays : (bs : List Change) (tree : Tree) (cs : List Change) → IsWellFormed tree → apply_all tree bs ≡ true → apply_all tree cs ≡ true → AreFootprintsApart (footprint tree bs) (footprint tree cs)
+  pub stays : (bs : List Change) (tree : Tree) (cs : List Change) → IsWellFormed tree → changes_apply tree bs ≡ true → changes_apply tree cs ≡ true → AreFootprintsApart (footprint tree bs) (footprint tree cs)
       → Stays tree bs cs × Stays tree cs bs × (changed_all (changed_all tree bs) cs ≡ changed_all (changed_all tree cs) bs)
   stays [] tree cs good is is' apart = (record { applies = is'; footprint = refl }, record { applies = refl; footprint = refl }, refl)
   stays (b ∷ bs) tree cs good is is' apart =
-      let parts = and_parts (applies tree b) (apply_all (changed tree b) bs) is in
+      let parts = and_parts (applies tree b) (changes_apply (changed tree b) bs) is in
       let flipped = AreFootprintsApart-sym (footprint tree (b ∷ bs)) (footprint tree cs) apart in
       let pushed = push cs tree b good parts.0 is' (AreFootprintsApart-sym (footprint tree cs) (footprint tree (b ∷ [])) (AreFootprintsApart-head (footprint tree cs) tree b bs flipped)) in
       let ih = stays bs (changed tree b) cs (formed tree b good parts.0) parts.1 pushed.all
       (subst (λ f. AreFootprintsApart (footprint (changed tree b) bs) f) (sym pushed.foot_all) (AreFootprintsApart-sym (footprint tree cs) (footprint (changed tree b) bs) (AreFootprintsApart-tail (footprint tree cs) tree b bs flipped))) in (
         record { applies = ih.0.applies; footprint = ih.0.footprint ∙ pushed.foot_all },
         record {
-          applies = and_from _ _ pushed.applies (subst (λ t. apply_all t bs ≡ true) pushed.same ih.1.applies);
+          applies = and_from _ _ pushed.applies (subst (λ t. changes_apply t bs ≡ true) pushed.same ih.1.applies);
           footprint = footprint-cons tree (changed_all tree cs) b bs pushed.places pushed.dropped pushed.moved (ap (λ t. footprint t bs) (sym pushed.same) ∙ ih.1.footprint);
         },
         ih.2 ∙ ap (λ t. changed_all t bs) pushed.same,

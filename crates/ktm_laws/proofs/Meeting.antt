@@ -5,7 +5,7 @@ use Rattle.std.specs.List.{list_any}
 use Rattle.ktm_types.specs.declared.change.Change.{Change}
 use Rattle.ktm_types.specs.declared.change.Change.TheVariants.{Make, Put, Cut, Move, Drop}
 use Rattle.ktm_types.specs.declared.recorded.Node.{Node}
-use Rattle.ktm_world.specs.Changes.{changed, applies, apply_all, node_of, is_make, has_made}
+use Rattle.ktm_world.specs.Changes.{changed, applies, changes_apply, node_of, is_make, has_made}
 use Rattle.ktm_world.specs.Durable.{act_of_node, acts_of, acts_of_all}
 use Rattle.ktm_world.specs.Holds.{Place, Holds, holds_by, place, place_of, places_of, each_change, dropped_directory, moved_directory, directories_of, is_in, meet_in, is_place_in, same_place, Act, opens, deletes, moves_file, makes, drops_directory, moves_directory, nodes_changed, places_changed, directory_dropped, is_move_of_directory, changes_held, enters_dropped, drops_used, moves_too, meets}
 use Rattle.ktm_world.specs.Lawful.{are_apart}
@@ -111,10 +111,10 @@ shown tree (Drop node) is =
 
 -- what each change of a list shows, an act of the list shows
 in_acts : {X : Type 0} (f : Tree → Change → List X) (P : X → Act → Type 0) → ((tree : Tree) (c : Change) → Applies tree c → (x : X) → IsIn x (f tree c) → (a : Act) × IsIn a (acts_of tree c) × P x a)
-    → (tree : Tree) (cs : List Change) → apply_all tree cs ≡ true → (x : X) → IsIn x (each_change f tree cs) → (a : Act) × IsIn a (acts_of_all tree cs) × P x a
+    → (tree : Tree) (cs : List Change) → changes_apply tree cs ≡ true → (x : X) → IsIn x (each_change f tree cs) → (a : Act) × IsIn a (acts_of_all tree cs) × P x a
 in_acts f P each tree [] all x there = absurd there
 in_acts f P each tree (c ∷ cs) all x there =
-    let parts = and_parts (applies tree c) (apply_all (changed tree c) cs) all in
+    let parts = and_parts (applies tree c) (changes_apply (changed tree c) cs) all in
     elim (IsIn-cases x (f tree c) (each_change f (changed tree c) cs) there) [
       | inl here ↦ let act = each tree c (Applies-from tree c parts.0) x here in (act.0, IsIn-left act.0 (acts_of tree c) _ act.1, act.2)
       | inr later ↦ let act = in_acts f P each (changed tree c) cs parts.1 x later in (act.0, IsIn-right act.0 (acts_of tree c) _ act.1, act.2)
@@ -148,10 +148,10 @@ there-one tree (Cut node size pages) make is e = subst (λ b. is_some (node_at t
 there-one tree (Move node parent name) make is e = subst (λ b. is_some (node_at tree node) ≡ not b) e (ap is_some (there-from tree (Move node parent name) is refl).1)
 there-one tree (Drop node) make is e = subst (λ b. is_some (node_at tree node) ≡ not b) e (ap is_some (there-from tree (Drop node) is refl).1)
 
-there-before : (make : Bool) (tree : Tree) (cs : List Change) (n : ℕ) → apply_all tree cs ≡ true → AllMake make n cs → IsIn n (map node_of cs) → is_some (node_at tree n) ≡ not make
+there-before : (make : Bool) (tree : Tree) (cs : List Change) (n : ℕ) → changes_apply tree cs ≡ true → AllMake make n cs → IsIn n (map node_of cs) → is_some (node_at tree n) ≡ not make
 there-before make tree [] n all only there = absurd there
 there-before make tree (c ∷ cs) n all only there =
-    let parts = and_parts (applies tree c) (apply_all (changed tree c) cs) all in
+    let parts = and_parts (applies tree c) (changes_apply (changed tree c) cs) all in
     let is = Applies-from tree c parts.0 in
     elim (cases_eq (node_of c) n) [
       | inl at ↦ subst (λ m. is_some (node_at tree m) ≡ not make) at (there-one tree c make is (only c (inl refl) at))
@@ -205,10 +205,10 @@ misses-nothing tree c h is misses new = record {
     missed a there = Misses-from h a (no_test (meets h) a (acts_of tree c) misses there)
 
 -- the nodes of changes are there before them, or they make them
-pub found-or-made : (cs : List Change) (tree : Tree) → apply_all tree cs ≡ true → (n : ℕ) → IsIn n (map node_of cs) → (is_some (node_at tree n) ≡ true) ⊎ ((c : Change) × IsIn c cs × (is_make c ≡ true) × (node_of c ≡ n))
+pub found-or-made : (cs : List Change) (tree : Tree) → changes_apply tree cs ≡ true → (n : ℕ) → IsIn n (map node_of cs) → (is_some (node_at tree n) ≡ true) ⊎ ((c : Change) × IsIn c cs × (is_make c ≡ true) × (node_of c ≡ n))
 found-or-made [] tree all n there = absurd there
 found-or-made (c ∷ cs) tree all n there =
-    let parts = and_parts (applies tree c) (apply_all (changed tree c) cs) all in
+    let parts = and_parts (applies tree c) (changes_apply (changed tree c) cs) all in
     let is = Applies-from tree c parts.0 in
     elim (cases_eq (node_of c) n) [
       | inl at ↦ elim (cases_Bool (is_make c)) [
@@ -221,7 +221,7 @@ found-or-made (c ∷ cs) tree all n there =
       ]
     ]
 
-module _ (tree : Tree) (ds cs : List Change) (writes : List ℕ) (all : apply_all tree ds ≡ true) (all' : apply_all tree cs ≡ true)
+module _ (tree : Tree) (ds cs : List Change) (writes : List ℕ) (all : changes_apply tree ds ≡ true) (all' : changes_apply tree cs ≡ true)
     (misses : list_any (meets (holds_by tree ds writes)) (acts_of_all tree cs) ≡ false)
     (makes_apart : list_any (λ (c : Change). is_make c && has_made ds (node_of c)) cs ≡ false) where
   act_misses : (a : Act) → IsIn a (acts_of_all tree cs) → Misses (holds_by tree ds writes) a
@@ -348,10 +348,10 @@ record HoldingAll (tree : Tree) (cs : List Change) (a : Act) : Type 0 where
   dropped : (n : ℕ) → IsIn n (directory_dropped a) → IsIn n (each_change dropped_directory tree cs)
   moved : is_move_of_directory a ≡ true → (n : ℕ) × IsIn n (each_change moved_directory tree cs)
 
-holding-all : (cs : List Change) (tree : Tree) → apply_all tree cs ≡ true → (a : Act) → IsIn a (acts_of_all tree cs) → HoldingAll tree cs a
+holding-all : (cs : List Change) (tree : Tree) → changes_apply tree cs ≡ true → (a : Act) → IsIn a (acts_of_all tree cs) → HoldingAll tree cs a
 holding-all [] tree all a there = absurd there
 holding-all (c ∷ cs) tree all a there =
-    let parts = and_parts (applies tree c) (apply_all (changed tree c) cs) all in
+    let parts = and_parts (applies tree c) (changes_apply (changed tree c) cs) all in
     elim (IsIn-cases a (acts_of tree c) (acts_of_all (changed tree c) cs) there) [
       | inl here ↦ let h = holding tree c (Applies-from tree c parts.0) a here in record {
         nodes = λ n is. inl (h.nodes n is);
@@ -368,7 +368,7 @@ holding-all (c ∷ cs) tree all a there =
     ]
 
 -- changes that are apart from others meet nothing that those hold
-pub apart-missed : (tree : Tree) (bs cs : List Change) → apply_all tree cs ≡ true → AreFootprintsApart (footprint tree cs) (footprint tree bs) → list_any (meets (holds_by tree bs [])) (acts_of_all tree cs) ≡ false
+pub apart-missed : (tree : Tree) (bs cs : List Change) → changes_apply tree cs ≡ true → AreFootprintsApart (footprint tree cs) (footprint tree bs) → list_any (meets (holds_by tree bs [])) (acts_of_all tree cs) ≡ false
 unfolding meets
 apart-missed tree bs cs all apart = none-from (meets (holds_by tree bs [])) (acts_of_all tree cs) (λ a there. let h = holding-all cs tree all a there in
     or_from _ _ (or_from _ _ (or_from _ _ (or_from _ _

@@ -4,7 +4,7 @@ use Rattle.std.proofs.lemmas.Bool.{cases_Bool, eqb-true, eqb-false, and_parts, t
 use Rattle.ktm_types.specs.declared.change.Change.{Change}
 use Rattle.ktm_types.specs.declared.change.Change.TheVariants.{Make, Put, Cut, Move, Drop}
 use Rattle.ktm_types.specs.declared.recorded.Node.{Node}
-use Rattle.ktm_world.specs.Changes.{changed, changed_all, applies, apply_all, is_make, node_of}
+use Rattle.ktm_world.specs.Changes.{changed, changed_all, applies, changes_apply, is_make, node_of}
 use Rattle.ktm_world.specs.Tree.{Tree, root, node_at, content_of, is_file, is_directory, is_there}
 use Rattle.ktm_laws.specs.Footprint.{IsIn}
 use Rattle.ktm_laws.proofs.Applying.{Applies-from, Fits-from}
@@ -81,14 +81,14 @@ module _ (tree : Tree) (c : Change) (is : applies tree c ≡ true) (n : ℕ) (ot
   there-was after = was (is_there_at n) (λ at. subst (λ m. is_there_at m (remade c (node_at tree (node_of c))) ≡ true → is_there_at m (node_at tree (node_of c)) ≡ true) at (kept-there tree c is (not-made at)).there) after
 
 -- the same of changes in order
-pub files-were : (cs : List Change) (tree : Tree) → apply_all tree cs ≡ true → (n : ℕ) → ((c : Change) → IsIn c cs → MakesNot c n) → is_file (changed_all tree cs) n ≡ true → is_file tree n ≡ true
+pub files-were : (cs : List Change) (tree : Tree) → changes_apply tree cs ≡ true → (n : ℕ) → ((c : Change) → IsIn c cs → MakesNot c n) → is_file (changed_all tree cs) n ≡ true → is_file tree n ≡ true
 files-were [] tree all n others after = after
 files-were (c ∷ cs) tree all n others after =
-    let parts = and_parts (applies tree c) (apply_all (changed tree c) cs) all in
+    let parts = and_parts (applies tree c) (changes_apply (changed tree c) cs) all in
     file-was tree c parts.0 n (others c (inl refl)) (files-were cs (changed tree c) parts.1 n (λ d there. others d (inr there)) after)
 
-pub directories-were : (cs : List Change) (tree : Tree) → apply_all tree cs ≡ true → (n : ℕ) → ((c : Change) → IsIn c cs → MakesNot c n) → is_directory (changed_all tree cs) n ≡ true → is_directory tree n ≡ true
+pub directories-were : (cs : List Change) (tree : Tree) → changes_apply tree cs ≡ true → (n : ℕ) → ((c : Change) → IsIn c cs → MakesNot c n) → is_directory (changed_all tree cs) n ≡ true → is_directory tree n ≡ true
 directories-were [] tree all n others after = after
 directories-were (c ∷ cs) tree all n others after =
-    let parts = and_parts (applies tree c) (apply_all (changed tree c) cs) all in
+    let parts = and_parts (applies tree c) (changes_apply (changed tree c) cs) all in
     directory-was tree c parts.0 n (others c (inl refl)) (directories-were cs (changed tree c) parts.1 n (λ d there. others d (inr there)) after)

@@ -10,7 +10,7 @@ use Rattle.ktm_types.specs.declared.change.Change.{Change}
 use Rattle.ktm_types.specs.declared.change.Change.TheVariants.{Make, Put, Cut, Move, Drop}
 use Rattle.ktm_types.specs.declared.change.Contents.TheVariants.{Whole}
 use Rattle.ktm_types.specs.declared.change.NodeKind.TheVariants.{File, Directory}
-use Rattle.ktm_world.specs.Changes.{changed, changed_all, applies, apply_all, changes_bytes, is_make_of_file, is_drop, node_of}
+use Rattle.ktm_world.specs.Changes.{changed, changed_all, applies, changes_apply, changes_bytes, is_make_of_file, is_drop, node_of}
 use Rattle.ktm_world.specs.Committed.{with_number, without_number, written_after, written_files, final_bytes, changes_to_commit}
 use Rattle.ktm_world.specs.Files.{bytes_after}
 use Rattle.ktm_world.specs.Holds.{each_change, places_of, dropped_directory, moved_directory}
@@ -19,7 +19,7 @@ use Rattle.ktm_laws.specs.FinalChanges.{names_of, IsFinal, FinalChangesLaw}
 use Rattle.ktm_laws.specs.Footprint.{IsIn}
 use Rattle.ktm_laws.proofs.Applying.{Applies-from, applies-from, Fits-from}
 use Rattle.ktm_laws.proofs.Elements.{IsIn-filter, IsIn-kept}
-use Rattle.ktm_laws.proofs.Passing.{IsIn-with_number, apply_all-first, to_commit-same}
+use Rattle.ktm_laws.proofs.Passing.{IsIn-with_number, changes_apply-first, to_commit-same}
 use Rattle.ktm_laws.proofs.Versions.{is_file-kept}
 use Rattle.ktm_world.proofs.Lookups.{node_at-elsewhere, node_at-there}
 
@@ -55,14 +55,14 @@ each_change-append f tree (a ∷ as') bs = ap (λ xs. f tree a ++ xs) (each_chan
     append_assoc [] ys zs = refl
     append_assoc (x ∷ xs) ys zs = ap (λ ws. x ∷ ws) (append_assoc xs ys zs)
 
-pub apply_all-append : (tree : Tree) (as' bs : List Change) → apply_all tree as' ≡ true → apply_all (changed_all tree as') bs ≡ true → apply_all tree (as' ++ bs) ≡ true
-apply_all-append tree [] bs first second = second
-apply_all-append tree (a ∷ as') bs first second =
-    let parts = and_parts (applies tree a) (apply_all (changed tree a) as') first in and_from _ _ parts.0 (apply_all-append (changed tree a) as' bs parts.1 second)
+pub changes_apply-append : (tree : Tree) (as' bs : List Change) → changes_apply tree as' ≡ true → changes_apply (changed_all tree as') bs ≡ true → changes_apply tree (as' ++ bs) ≡ true
+changes_apply-append tree [] bs first second = second
+changes_apply-append tree (a ∷ as') bs first second =
+    let parts = and_parts (applies tree a) (changes_apply (changed tree a) as') first in and_from _ _ parts.0 (changes_apply-append (changed tree a) as' bs parts.1 second)
 
-pub apply_all-second : (tree : Tree) (as' bs : List Change) → apply_all tree (as' ++ bs) ≡ true → apply_all (changed_all tree as') bs ≡ true
-apply_all-second tree [] bs all = all
-apply_all-second tree (a ∷ as') bs all = apply_all-second (changed tree a) as' bs (and_parts (applies tree a) (apply_all (changed tree a) (as' ++ bs)) all).1
+pub changes_apply-second : (tree : Tree) (as' bs : List Change) → changes_apply tree (as' ++ bs) ≡ true → changes_apply (changed_all tree as') bs ≡ true
+changes_apply-second tree [] bs all = all
+changes_apply-second tree (a ∷ as') bs all = changes_apply-second (changed tree a) as' bs (and_parts (applies tree a) (changes_apply (changed tree a) (as' ++ bs)) all).1
 
 -- ---- changes of bytes
 
@@ -365,11 +365,11 @@ file-before tree c is bytes file m after = elim (cases_Bool (node_of c == m)) [
 ]
 
 -- the files that are given bytes at the end are files
-ends-files : (by : ℕ → List ℕ) (files : List ℕ) (tree : Tree) → apply_all tree (ends_of by files) ≡ true → (f : ℕ) → IsIn f files → is_file tree f ≡ true
+ends-files : (by : ℕ → List ℕ) (files : List ℕ) (tree : Tree) → changes_apply tree (ends_of by files) ≡ true → (f : ℕ) → IsIn f files → is_file tree f ≡ true
 ends-files by [] tree all f there = absurd there
 ends-files by (g ∷ gs) tree all f there = go (λ t rest later. ends-files by gs t rest f later) (by g) all
   where
-    go : ((t : Tree) → apply_all t (ends_of by gs) ≡ true → IsIn f gs → is_file t f ≡ true) → (bs : List ℕ) → apply_all tree (final_bytes g bs ++ ends_of by gs) ≡ true → is_file tree f ≡ true
+    go : ((t : Tree) → changes_apply t (ends_of by gs) ≡ true → IsIn f gs → is_file t f ≡ true) → (bs : List ℕ) → changes_apply tree (final_bytes g bs ++ ends_of by gs) ≡ true → is_file tree f ≡ true
     go rest [] all =
         let parts = and_parts (applies tree (Cut g 0 [])) _ all in
         let file = (Applies-from tree (Cut g 0 []) parts.0).0 in
@@ -386,7 +386,7 @@ ends-files by (g ∷ gs) tree all f there = go (λ t rest later. ends-files by g
         ]
 
 -- and where they are files, the bytes at the end apply
-ends-apply : (by : ℕ → List ℕ) (files : List ℕ) (tree : Tree) → ((f : ℕ) → IsIn f files → is_file tree f ≡ true) → apply_all tree (ends_of by files) ≡ true
+ends-apply : (by : ℕ → List ℕ) (files : List ℕ) (tree : Tree) → ((f : ℕ) → IsIn f files → is_file tree f ≡ true) → changes_apply tree (ends_of by files) ≡ true
 ends-apply by [] tree are = refl
 ends-apply by (g ∷ gs) tree are = go (λ t still. ends-apply by gs t still) (by g)
   where
@@ -396,7 +396,7 @@ ends-apply by (g ∷ gs) tree are = go (λ t still. ends-apply by gs t still) (b
     cut-applies : applies tree (Cut g 0 []) ≡ true
     cut-applies = applies-from tree (Cut g 0 []) (are g (inl refl), refl)
 
-    go : ((t : Tree) → ((f : ℕ) → IsIn f gs → is_file t f ≡ true) → apply_all t (ends_of by gs) ≡ true) → (bs : List ℕ) → apply_all tree (final_bytes g bs ++ ends_of by gs) ≡ true
+    go : ((t : Tree) → ((f : ℕ) → IsIn f gs → is_file t f ≡ true) → changes_apply t (ends_of by gs) ≡ true) → (bs : List ℕ) → changes_apply tree (final_bytes g bs ++ ends_of by gs) ≡ true
     go rest [] = and_from _ _ cut-applies (rest (changed tree (Cut g 0 [])) (λ f there. is_file-kept tree (Cut g 0 []) cut-applies refl f (are f (inr there))))
     go rest (b ∷ bs) =
         let t = changed tree (Cut g 0 []) in
@@ -429,24 +429,24 @@ written-there seen files (Drop node) is are f there =
     ap (λ n. is_some (content_of n)) (node_at-elsewhere seen (Drop node) (Fits-from seen (Drop node) (Applies-from seen (Drop node) is)) f (λ e. eqb-false f node (not-true _ kept.1) (sym e))) ∙ are f kept.0
 
 -- a change that applies to the names applies alone, where it makes, moves or drops one
-names-one : (seen : Tree) (c : Change) → applies seen c ≡ true → apply_all seen (names_of (c ∷ [])) ≡ true
+names-one : (seen : Tree) (c : Change) → applies seen c ≡ true → changes_apply seen (names_of (c ∷ [])) ≡ true
 names-one seen c is = go (names_only c)
   where
-    go : (b : Bool) → apply_all seen (cond b (c ∷ []) []) ≡ true
+    go : (b : Bool) → changes_apply seen (cond b (c ∷ []) []) ≡ true
     go true = and_from _ _ is refl
     go false = refl
 
-pub final-applies : (tree : Tree) (ms : List Change) (c : Change) (by by' : ℕ → List ℕ) → changes_to_commit ms by ≡ ms → apply_all tree ms ≡ true → applies (changed_all tree (names_of ms)) c ≡ true
-    → apply_all tree (changes_to_commit (ms ++ c ∷ []) by') ≡ true
+pub final-applies : (tree : Tree) (ms : List Change) (c : Change) (by by' : ℕ → List ℕ) → changes_to_commit ms by ≡ ms → changes_apply tree ms ≡ true → applies (changed_all tree (names_of ms)) c ≡ true
+    → changes_apply tree (changes_to_commit (ms ++ c ∷ []) by') ≡ true
 final-applies tree ms c by by' final all is =
-    let parts : apply_all tree (names_of ms ++ ends_of by (written_files ms)) ≡ true = subst (λ ds. apply_all tree ds ≡ true) (sym final) all in
+    let parts : changes_apply tree (names_of ms ++ ends_of by (written_files ms)) ≡ true = subst (λ ds. changes_apply tree ds ≡ true) (sym final) all in
     let seen = changed_all tree (names_of ms) in
-    let are : (f : ℕ) → IsIn f (written_files ms) → is_file seen f ≡ true = ends-files by (written_files ms) seen (apply_all-second tree (names_of ms) (ends_of by (written_files ms)) parts) in
+    let are : (f : ℕ) → IsIn f (written_files ms) → is_file seen f ≡ true = ends-files by (written_files ms) seen (changes_apply-second tree (names_of ms) (ends_of by (written_files ms)) parts) in
     let names : names_of (ms ++ c ∷ []) ≡ names_of ms ++ names_of (c ∷ []) = filter-append names_only ms (c ∷ []) in
-    let names-apply : apply_all tree (names_of (ms ++ c ∷ [])) ≡ true = subst (λ ds. apply_all tree ds ≡ true) (sym names)
-    (apply_all-append tree (names_of ms) (names_of (c ∷ [])) (apply_all-first tree (names_of ms) (ends_of by (written_files ms)) parts) (names-one seen c is)) in
+    let names-apply : changes_apply tree (names_of (ms ++ c ∷ [])) ≡ true = subst (λ ds. changes_apply tree ds ≡ true) (sym names)
+    (changes_apply-append tree (names_of ms) (names_of (c ∷ [])) (changes_apply-first tree (names_of ms) (ends_of by (written_files ms)) parts) (names-one seen c is)) in
     let after : changed_all tree (names_of (ms ++ c ∷ [])) ≡ changed_all seen (names_of (c ∷ [])) = ap (changed_all tree) names ∙ changed_all-append tree (names_of ms) (names_of (c ∷ [])) in
-    apply_all-append tree (names_of (ms ++ c ∷ [])) (ends_of by' (written_files (ms ++ c ∷ []))) names-apply
+    changes_apply-append tree (names_of (ms ++ c ∷ [])) (ends_of by' (written_files (ms ++ c ∷ []))) names-apply
     (ends-apply by' (written_files (ms ++ c ∷ [])) (changed_all tree (names_of (ms ++ c ∷ []))) (λ f there.
     subst (λ t. is_file t f ≡ true) (sym after) (written-there seen (written_files ms) c is are f (subst (IsIn f) (fold-append written_after [] ms (c ∷ [])) there))))
 

@@ -12,7 +12,7 @@ use Rattle.ktm_types.specs.declared.change.Change.{Change}
 use Rattle.ktm_types.specs.declared.change.Change.TheVariants.{Make, Put, Cut, Move, Drop}
 use Rattle.ktm_types.specs.declared.change.Contents.TheVariants.{Whole}
 use Rattle.ktm_types.specs.declared.recorded.Node.{Node}
-use Rattle.ktm_world.specs.Changes.{applies, apply_all, changed, changed_all, changes_bytes}
+use Rattle.ktm_world.specs.Changes.{applies, changes_apply, changed, changed_all, changes_bytes}
 use Rattle.ktm_world.specs.Committed.{changes_to_commit, final_bytes, written_files}
 use Rattle.ktm_world.specs.FileUses.{file_changes_waiting, nodes_used, own_units, units_used}
 use Rattle.ktm_world.specs.Files.{OwnChanges, bytes_seen, own_changes}
@@ -32,7 +32,7 @@ use Rattle.ktm_laws.proofs.Limits.{length-filter-less}
 use Rattle.ktm_laws.proofs.Lists.{IsIn-cases}
 use Rattle.ktm_world.proofs.Lookups.{map_node, node_at-with_changed, node_at-without_node}
 use Rattle.ktm_laws.proofs.NoMore.{Fits, fits-within}
-use Rattle.ktm_laws.proofs.NormalForms.{RisingNumbers, apply_all-second, ends_of, rising-written}
+use Rattle.ktm_laws.proofs.NormalForms.{RisingNumbers, changes_apply-second, ends_of, rising-written}
 use Rattle.ktm_laws.proofs.OwnRecords.{Owned}
 use Rattle.ktm_laws.proofs.OwnSettings.{own_settings-found, own_settings-good}
 use Rattle.ktm_laws.proofs.OwnTexts.{HasTextKey, texts-own_settings}
@@ -122,7 +122,7 @@ bytes-there tree (Move node parent name) m bytes = absurd (true≢false (sym byt
 bytes-there tree (Drop node) m bytes = absurd (true≢false (sym bytes))
 
 -- the files whose bytes are given at the end are there before
-ends-there : (by : ℕ → List ℕ) (files : List ℕ) (tree : Tree) → apply_all tree (ends_of by files) ≡ true → (n : ℕ) → IsIn n files → is_some (node_at tree n) ≡ true
+ends-there : (by : ℕ → List ℕ) (files : List ℕ) (tree : Tree) → changes_apply tree (ends_of by files) ≡ true → (n : ℕ) → IsIn n files → is_some (node_at tree n) ≡ true
 ends-there by [] tree all n there = absurd there
 ends-there by (f ∷ fs) tree all n there = go (λ t is later. ends-there by fs t is n later) (by f) all there
   where
@@ -132,15 +132,15 @@ ends-there by (f ∷ fs) tree all n there = go (λ t is later. ends-there by fs 
     cut : Change
     cut = Cut f 0 []
 
-    go : ((t : Tree) → apply_all t (ends_of by fs) ≡ true → IsIn n fs → is_some (node_at t n) ≡ true) → (bs : List ℕ) → apply_all tree (final_bytes f bs ++ ends_of by fs) ≡ true → IsIn n (f ∷ fs) → is_some (node_at tree n) ≡ true
-    go rest [] all' (inl e) = first (and_parts (applies tree cut) (apply_all (changed tree cut) (ends_of by fs)) all').0 e
-    go rest [] all' (inr later) = sym (bytes-there tree cut n refl) ∙ rest (changed tree cut) (and_parts (applies tree cut) (apply_all (changed tree cut) (ends_of by fs)) all').1 later
-    go rest (b ∷ bs) all' (inl e) = first (and_parts (applies tree cut) (apply_all (changed tree cut) (Put f 0 (Whole (b ∷ bs)) ∷ ends_of by fs)) all').0 e
+    go : ((t : Tree) → changes_apply t (ends_of by fs) ≡ true → IsIn n fs → is_some (node_at t n) ≡ true) → (bs : List ℕ) → changes_apply tree (final_bytes f bs ++ ends_of by fs) ≡ true → IsIn n (f ∷ fs) → is_some (node_at tree n) ≡ true
+    go rest [] all' (inl e) = first (and_parts (applies tree cut) (changes_apply (changed tree cut) (ends_of by fs)) all').0 e
+    go rest [] all' (inr later) = sym (bytes-there tree cut n refl) ∙ rest (changed tree cut) (and_parts (applies tree cut) (changes_apply (changed tree cut) (ends_of by fs)) all').1 later
+    go rest (b ∷ bs) all' (inl e) = first (and_parts (applies tree cut) (changes_apply (changed tree cut) (Put f 0 (Whole (b ∷ bs)) ∷ ends_of by fs)) all').0 e
     go rest (b ∷ bs) all' (inr later) =
         let put = Put f 0 (Whole (b ∷ bs)) in
-        let behind = (and_parts (applies tree cut) (apply_all (changed tree cut) (put ∷ ends_of by fs)) all').1 in
+        let behind = (and_parts (applies tree cut) (changes_apply (changed tree cut) (put ∷ ends_of by fs)) all').1 in
         sym (bytes-there tree cut n refl) ∙ sym (bytes-there (changed tree cut) put n refl)
-        ∙ rest (changed (changed tree cut) put) (and_parts (applies (changed tree cut) put) (apply_all (changed (changed tree cut) put) (ends_of by fs)) behind).1 later
+        ∙ rest (changed (changed tree cut) put) (and_parts (applies (changed tree cut) put) (changes_apply (changed (changed tree cut) put) (ends_of by fs)) behind).1 later
 
 -- ---- how many changes
 
@@ -172,13 +172,13 @@ length-ends by (f ∷ fs) = let rest = length-ends by fs in let both = length-ap
     at-most-two (b ∷ bs) = omega arith
 
 -- changes in their last form are a few times as many as the names that they change, and the nodes that there are
-length-final : (tree : Tree) (cs : List Change) (by : ℕ → List ℕ) → changes_to_commit cs by ≡ cs → apply_all tree cs ≡ true → length cs ≤ length (names_of cs) + 2 * (length tree + length (names_of cs))
+length-final : (tree : Tree) (cs : List Change) (by : ℕ → List ℕ) → changes_to_commit cs by ≡ cs → changes_apply tree cs ≡ true → length cs ≤ length (names_of cs) + 2 * (length tree + length (names_of cs))
 length-final tree cs by final applied =
     let names = names_of cs in
     let files = written_files cs in
     let here = changed_all tree names in
-    let all : apply_all tree (names ++ ends_of by files) ≡ true = subst (λ ds. apply_all tree ds ≡ true) (sym final) applied in
-    let many = as-many files here (rising-written cs [] tt) (ends-there by files here (apply_all-second tree names (ends_of by files) all)) in
+    let all : changes_apply tree (names ++ ends_of by files) ≡ true = subst (λ ds. changes_apply tree ds ≡ true) (sym final) applied in
+    let many = as-many files here (rising-written cs [] tt) (ends-there by files here (changes_apply-second tree names (ends_of by files) all)) in
     let nodes = length-changed_all names tree in
     let ends = length-ends by files in
     let both = length-append names (ends_of by files) in
@@ -189,7 +189,7 @@ few-changes : (x : Present) → IsKept x → Fits x → (o : OwnChanges) → IsI
 unfolding changes_waiting file_changes_waiting nodes_used
 few-changes x kept within o there =
     let most = length-final x.files.tree o.changes (bytes_seen x.files (Some o.transaction)) (All-in (λ (o : OwnChanges). changes_to_commit o.changes (bytes_seen x.files (Some o.transaction)) ≡ o.changes) x.files.table.own kept.sound.files.own_final o there)
-    (list_all-at (λ (o : OwnChanges). apply_all x.files.tree o.changes) x.files.table.own kept.sound.files.own_apply o there) in
+    (list_all-at (λ (o : OwnChanges). changes_apply x.files.tree o.changes) x.files.table.own kept.sound.files.own_apply o there) in
     let names : length (names_of o.changes) ≡ count_by (λ change. not (changes_bytes change)) o.changes = length-filter (λ change. not (changes_bytes change)) o.changes in
     let waiting = sum-one (λ (o : OwnChanges). count_by (λ change. not (changes_bytes change)) o.changes) x.files.table.own o there in
     let nodes = within.nodes in
@@ -215,10 +215,10 @@ spelled-name tree (Cut node size pages) is names = absurd (true≢false (sym nam
 spelled-name tree (Move node parent name) is names = short-name name (Applies-from tree (Move node parent name) is).4
 spelled-name tree (Drop node) is names = tt
 
-spelled-names : (cs : List Change) (tree : Tree) → apply_all tree cs ≡ true → (c : Change) → IsIn c cs → not (changes_bytes c) ≡ true → IsSpellableChange c
+spelled-names : (cs : List Change) (tree : Tree) → changes_apply tree cs ≡ true → (c : Change) → IsIn c cs → not (changes_bytes c) ≡ true → IsSpellableChange c
 spelled-names [] tree all c there names = absurd there
-spelled-names (d ∷ ds) tree all c (inl e) names = subst IsSpellableChange e (spelled-name tree d (and_parts (applies tree d) (apply_all (changed tree d) ds) all).0 (subst (λ b. not (changes_bytes b) ≡ true) (sym e) names))
-spelled-names (d ∷ ds) tree all c (inr there) names = spelled-names ds (changed tree d) (and_parts (applies tree d) (apply_all (changed tree d) ds) all).1 c there names
+spelled-names (d ∷ ds) tree all c (inl e) names = subst IsSpellableChange e (spelled-name tree d (and_parts (applies tree d) (changes_apply (changed tree d) ds) all).0 (subst (λ b. not (changes_bytes b) ≡ true) (sym e) names))
+spelled-names (d ∷ ds) tree all c (inr there) names = spelled-names ds (changed tree d) (and_parts (applies tree d) (changes_apply (changed tree d) ds) all).1 c there names
 
 spelled-end : (f : ℕ) (bs : List ℕ) → length bs < 2 ^ 32 → (c : Change) → IsIn c (final_bytes f bs) → IsSpellableChange c
 spelled-end f [] few c (inl e) = subst IsSpellableChange e refl
@@ -255,7 +255,7 @@ spelled-own x kept units o there =
       each = All-by IsSpellableChange o.changes (λ c is. elim (IsIn-cases c (names_of o.changes) (ends_of by (written_files o.changes)) (subst (IsIn c) (sym final) is)) [
         | inl name ↦
             let kept_name = IsIn-filter (λ change. not (changes_bytes change)) o.changes c name in
-            spelled-names o.changes x.files.tree (list_all-at (λ (o : OwnChanges). apply_all x.files.tree o.changes) x.files.table.own kept.sound.files.own_apply o there) c kept_name.0 kept_name.1
+            spelled-names o.changes x.files.tree (list_all-at (λ (o : OwnChanges). changes_apply x.files.tree o.changes) x.files.table.own kept.sound.files.own_apply o there) c kept_name.0 kept_name.1
         | inr end ↦
             let of = IsIn-unflat (λ file. final_bytes file (by file)) (written_files o.changes) c end in
             spelled-end of.0 (by of.0) (given-bytes x within units o there of.0 of.1) c of.2

@@ -11,7 +11,7 @@ use Rattle.ktm_types.specs.declared.change.Change.TheVariants.{Make, Put, Cut, M
 use Rattle.ktm_types.specs.declared.change.NodeKind.TheVariants.{File, Directory}
 use Rattle.ktm_types.specs.declared.recorded.Node.{Node}
 use Rattle.ktm_types.specs.declared.object.Transaction.{Transaction}
-use Rattle.ktm_world.specs.Changes.{changed, changed_all, applies, apply_all, changes_bytes, is_drop, is_make, next_after, node_of, has_changes, has_made}
+use Rattle.ktm_world.specs.Changes.{changed, changed_all, applies, changes_apply, changes_bytes, is_drop, is_make, next_after, node_of, has_changes, has_made}
 use Rattle.ktm_world.specs.Committed.{with_number, changes_to_commit, written_files, written_after, final_bytes}
 use Rattle.ktm_world.specs.Conflicts.{holds_now, written_by, writes}
 use Rattle.ktm_world.specs.Files.{FirstOpen, OpenFile, OwnChanges, own_changes, with_own_changes, first_open_of, is_last_version, tree_of, tree_seen, first_bytes, bytes_seen, bytes_with}
@@ -658,9 +658,9 @@ module _ (x : Present) (id : Id) (c : Change) (sound : IsSoundFiles x) (owns : O
         (form.again (bytes_seen z.files (Some id)) (λ f there. ap (λ ds. bytes_with z.files id ds f) own-itself ∙ form.gives (first_bytes z.files id new f) f there))
         (λ o there differ. ap (λ ds. changes_to_commit o.changes (λ f. bytes_with x.files o.transaction ds f)) (own-other o.transaction differ)
         ∙ All-in (λ (p : OwnChanges). changes_to_commit p.changes (bytes_seen x.files (Some p.transaction)) ≡ p.changes) x.files.table.own sound.own_final o there));
-    own_apply = list_all-from _ z.files.table.own (each (λ o. apply_all x.files.tree o.changes ≡ true)
+    own_apply = list_all-from _ z.files.table.own (each (λ o. changes_apply x.files.tree o.changes ≡ true)
         (final-applies x.files.tree ms c (bytes_seen x.files (Some id)) by (own-final x sound id) (own-apply x sound id) owns.applies)
-        (λ o there differ. list_all-at (λ (p : OwnChanges). apply_all x.files.tree p.changes) x.files.table.own sound.own_apply o there));
+        (λ o there differ. list_all-at (λ (p : OwnChanges). changes_apply x.files.tree p.changes) x.files.table.own sound.own_apply o there));
     own_opened = list_all-from _ z.files.table.own (each (λ o. list_all (is_change_of_opened z o.transaction) o.changes ≡ true) opened-mine (λ o there differ. list_all-from (is_change_of_opened z o.transaction) o.changes (λ d has.
         ap (λ ds. not (changes_bytes d) || not (o.transaction.boot == x.recorded.boots) || (has_made ds (node_of d) || is_some (first_open_of x.files.first_opens o.transaction (node_of d)))) (own-other o.transaction differ)
         ∙ list_all-at (is_change_of_opened x o.transaction) o.changes (list_all-at (λ (p : OwnChanges). list_all (is_change_of_opened x p.transaction) p.changes) x.files.table.own sound.own_opened o there) d has)));

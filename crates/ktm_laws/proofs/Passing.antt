@@ -10,7 +10,7 @@ use Rattle.ktm_types.specs.declared.change.Change.TheVariants.{Make, Put, Cut, M
 use Rattle.ktm_types.specs.declared.recorded.Node.{Node}
 use Rattle.ktm_types.specs.declared.object.Object.{Object}
 use Rattle.ktm_types.specs.declared.object.Transaction.{Transaction}
-use Rattle.ktm_world.specs.Changes.{changed, changed_all, applies, apply_all, changes_bytes, is_make, is_make_of_file, is_drop, node_of, has_changes, has_made}
+use Rattle.ktm_world.specs.Changes.{changed, changed_all, applies, changes_apply, changes_bytes, is_make, is_make_of_file, is_drop, node_of, has_changes, has_made}
 use Rattle.ktm_world.specs.Committed.{Version, version_of, with_change, changes_to_commit, written_files, written_after, with_number, without_number, final_bytes}
 use Rattle.ktm_world.specs.Conflicts.{holds_now, written_by, writes}
 use Rattle.ktm_world.specs.Durable.{next_after_all}
@@ -129,23 +129,23 @@ to_commit-same cs by by' same =
 
 -- ---- what a transaction sees of a node depends on that node alone
 
-pub apply_all-first : (tree : Tree) (as' bs : List Change) → apply_all tree (as' ++ bs) ≡ true → apply_all tree as' ≡ true
-apply_all-first tree [] bs all = refl
-apply_all-first tree (c ∷ cs) bs all =
-    let parts = and_parts (applies tree c) (apply_all (changed tree c) (cs ++ bs)) all in and_from _ _ parts.0 (apply_all-first (changed tree c) cs bs parts.1)
+pub changes_apply-first : (tree : Tree) (as' bs : List Change) → changes_apply tree (as' ++ bs) ≡ true → changes_apply tree as' ≡ true
+changes_apply-first tree [] bs all = refl
+changes_apply-first tree (c ∷ cs) bs all =
+    let parts = and_parts (applies tree c) (changes_apply (changed tree c) (cs ++ bs)) all in and_from _ _ parts.0 (changes_apply-first (changed tree c) cs bs parts.1)
 
-pub node_at-changed_all : (ds : List Change) (tree tree' : Tree) (n : ℕ) → apply_all tree ds ≡ true → apply_all tree' ds ≡ true → node_at tree' n ≡ node_at tree n → node_at (changed_all tree' ds) n ≡ node_at (changed_all tree ds) n
+pub node_at-changed_all : (ds : List Change) (tree tree' : Tree) (n : ℕ) → changes_apply tree ds ≡ true → changes_apply tree' ds ≡ true → node_at tree' n ≡ node_at tree n → node_at (changed_all tree' ds) n ≡ node_at (changed_all tree ds) n
 node_at-changed_all [] tree tree' n all all' same = same
 node_at-changed_all (d ∷ ds) tree tree' n all all' same =
-    let parts = and_parts (applies tree d) (apply_all (changed tree d) ds) all in
-    let parts' = and_parts (applies tree' d) (apply_all (changed tree' d) ds) all' in
+    let parts = and_parts (applies tree d) (changes_apply (changed tree d) ds) all in
+    let parts' = and_parts (applies tree' d) (changes_apply (changed tree' d) ds) all' in
     node_at-changed_all ds (changed tree d) (changed tree' d) n parts.1 parts'.1
     (node_at-changed tree' d (Fits-from tree' d (Applies-from tree' d parts'.0)) n ∙ ap (λ o. cond (node_of d == n) (remade d o) o) same ∙ sym (node_at-changed tree d (Fits-from tree d (Applies-from tree d parts.0)) n))
 
 -- names that were changed apply before the bytes do
-pub names-apply : (tree : Tree) (cs : List Change) (by : ℕ → List ℕ) → changes_to_commit cs by ≡ cs → apply_all tree cs ≡ true → apply_all tree (filter (λ change. not (changes_bytes change)) cs) ≡ true
+pub names-apply : (tree : Tree) (cs : List Change) (by : ℕ → List ℕ) → changes_to_commit cs by ≡ cs → changes_apply tree cs ≡ true → changes_apply tree (filter (λ change. not (changes_bytes change)) cs) ≡ true
 names-apply tree cs by final all =
-    apply_all-first tree (filter (λ change. not (changes_bytes change)) cs) (flat_map (λ file. final_bytes file (by file)) (written_files cs)) (subst (λ ds. apply_all tree ds ≡ true) (sym final) all)
+    changes_apply-first tree (filter (λ change. not (changes_bytes change)) cs) (flat_map (λ file. final_bytes file (by file)) (written_files cs)) (subst (λ ds. changes_apply tree ds ≡ true) (sym final) all)
 
 -- what each transaction changed is in the form in which it is committed
 pub own-final : (x : Present) → IsSoundFiles x → (id : Id) → changes_to_commit (own_changes x.files.table.own id) (bytes_seen x.files (Some id)) ≡ own_changes x.files.table.own id
@@ -229,7 +229,7 @@ passed files cs keep next = record {
 
 -- changes that hold nothing that the undecided transactions hold that are kept, nor a file that a plain handle may write
 pub record Spares (x : Present) (cs : List Change) (keep : Option Id → Bool) (last : ℕ) : Type 0 where
-  pub all : apply_all x.files.tree cs ≡ true
+  pub all : changes_apply x.files.tree cs ≡ true
   pub apart : (v : Transaction) → IsIn v (others_undecided x.transactions.items None) → keep (Some v.id) ≡ true → AreFootprintsApart (footprint x.files.tree cs) (footprint x.files.tree (own_changes x.files.table.own v.id))
   pub clear : (v : Transaction) → IsIn v (others_undecided x.transactions.items None) → keep (Some v.id) ≡ true → (n : ℕ) → is_drawn_node x.files n ≡ true → IsIn n (map node_of cs) → is_in (holds_now x.files v.id).nodes n ≡ true → ⊥
   pub fresh : (o : FirstOpen) → IsIn o x.files.first_opens → keep (Some o.transaction) ≡ true → (c : Change) → IsIn c cs → is_make c ≡ true → node_of c ≡ o.file → ⊥
@@ -405,7 +405,7 @@ module _ (lists : ListsLaw) (formed : FormedLaw) (x y : Present) (cs : List Chan
   seen-same id kept n drawn held =
       let mine = own_changes x.files.table.own id in
       let names = filter (λ change. not (changes_bytes change)) mine in
-      let applies' : apply_all z.files.tree mine ≡ true = subst (λ ds. apply_all z.files.tree ds ≡ true) (own-left id kept.0) (left id kept).applies in
+      let applies' : changes_apply z.files.tree mine ≡ true = subst (λ ds. changes_apply z.files.tree ds ≡ true) (own-left id kept.0) (left id kept).applies in
       ap (λ ds. node_at (changed_all z.files.tree (filter (λ change. not (changes_bytes change)) ds)) n) (own-left id kept.0)
       ∙ node_at-changed_all names x.files.tree z.files.tree n
       (names-apply x.files.tree mine (bytes_seen x.files (Some id)) (own-final x sound id) (own-apply x sound id))
@@ -444,8 +444,8 @@ module _ (lists : ListsLaw) (formed : FormedLaw) (x y : Present) (cs : List Chan
   no-directory id kept n drawn others_undecided was =
       let mine = own_changes x.files.table.own id in
       let names = filter (λ change. not (changes_bytes change)) mine in
-      let applies : apply_all x.files.tree names ≡ true = names-apply x.files.tree mine (bytes_seen x.files (Some id)) (own-final x sound id) (own-apply x sound id) in
-      let applies' : apply_all z.files.tree names ≡ true = names-apply z.files.tree mine (bytes_seen x.files (Some id)) (own-final x sound id) (subst (λ ds. apply_all z.files.tree ds ≡ true) (own-left id kept.0) (left id kept).applies) in
+      let applies : changes_apply x.files.tree names ≡ true = names-apply x.files.tree mine (bytes_seen x.files (Some id)) (own-final x sound id) (own-apply x sound id) in
+      let applies' : changes_apply z.files.tree names ≡ true = names-apply z.files.tree mine (bytes_seen x.files (Some id)) (own-final x sound id) (subst (λ ds. changes_apply z.files.tree ds ≡ true) (own-left id kept.0) (left id kept).applies) in
       elim (cases_Bool (is_in (map node_of mine) n)) [
         | inl held ↦ ap (λ o. not (is_directory_at n o)) (seen-same id kept n drawn (held-by id n held)) ∙ was
         | inr free ↦
@@ -517,7 +517,7 @@ module _ (lists : ListsLaw) (formed : FormedLaw) (x y : Present) (cs : List Chan
     own_final = final;
     own_apply = list_all-from _ z.files.table.own (λ o there.
         let kept = own-kept o there in
-        subst (λ ds. apply_all z.files.tree ds ≡ true) (own-left o.transaction kept.1.0 ∙ changes-of o kept.0) (left o.transaction kept.1).applies);
+        subst (λ ds. changes_apply z.files.tree ds ≡ true) (own-left o.transaction kept.1.0 ∙ changes-of o kept.0) (left o.transaction kept.1).applies);
     own_opened = list_all-from _ z.files.table.own opened;
     own_puts = list_all-left (λ o. list_all puts_some o.changes) (λ o. keep (Some o.transaction)) x.files.table.own sound.own_puts;
     own_drawn = list_all-from _ z.files.table.own (λ o there. list_all-from (is_drawn_node z.files) (numbers_made o.changes) (λ n made.

@@ -11,8 +11,8 @@ use Rattle.ktm_types.specs.declared.event.Event.{Event}
 use Rattle.ktm_types.specs.declared.event.Part.{Part}
 use Rattle.ktm_types.specs.declared.event.Part.TheVariants.{Changes, Settings}
 use Rattle.ktm_types.specs.declared.recorded.RecordedPart.{RecordedPart}
-use Rattle.ktm_world.specs.Changes.{apply_all, is_make, node_of, has_made}
-use Rattle.ktm_world.specs.Durable.{Durable, Recorded, acts_of_all, after_event, are_recorded_changes, changes_apply, changes_of, enlistments_in, enlistments_of, has_changes_part, has_part, has_settings_part, holds_in, is_before, is_decided, is_manager, is_new_enlistment, is_new_in, is_part_of, is_ready, may_get_ready, others_waiting, part_applies, recorded_at, recorded_or_new, settings_apply, settings_of, superior_ids, with_recorded}
+use Rattle.ktm_world.specs.Changes.{changes_apply, is_make, node_of, has_made}
+use Rattle.ktm_world.specs.Durable.{Durable, Recorded, acts_of_all, after_event, are_recorded_changes, recorded_changes_apply, changes_of, enlistments_in, enlistments_of, has_changes_part, has_part, has_settings_part, holds_in, is_before, is_decided, is_manager, is_new_enlistment, is_new_in, is_part_of, is_ready, may_get_ready, others_waiting, part_applies, recorded_at, recorded_or_new, settings_apply, settings_of, superior_ids, with_recorded}
 use Rattle.ktm_world.specs.Holds.{meets}
 use Rattle.ktm_keyed.specs.Keyed.{value_at}
 use Rattle.ktm_world.specs.Keys.{OwnSettings, are_good_settings}
@@ -102,9 +102,9 @@ module _ (s : Durable) (id : Id) (part : Part) where
       has : has_changes_part r ≡ has_changes_part (recorded_or_new s'.transactions id)
       has = sym (ap has_changes_part pushed-known ∙ is_among-push (is_part_of DonePart.Files) r.parts (record { is_done = false; part = part }) ∙ or_right-none (has_changes_part r) _ other)
 
-      applies : changes_apply s (Some id) cs ≡ changes_apply s' (Some id) cs
+      applies : recorded_changes_apply s (Some id) cs ≡ recorded_changes_apply s' (Some id) cs
       applies i = list_all (λ t. not (list_any (meets (holds_in s t)) (acts_of_all s.tree cs)) && not (list_any (λ change. is_make change && has_made (changes_of t) (node_of change)) cs)) (sym others-same i)
-          && apply_all s.tree cs && list_all (is_new_in s.tree) cs
+          && changes_apply s.tree cs && list_all (is_new_in s.tree) cs
 
   pub pushed-settings : (ss : OwnSettings) → is_part_of DonePart.Keys part ≡ false → part_applies s id (Settings ss) ≡ part_applies s' id (Settings ss)
   pushed-settings ss other = λ i. not (has i) && are_good_settings ss && applies i

@@ -13,7 +13,7 @@ use Rattle.ktm_types.specs.declared.object.Phase.TheVariants.{Ended}
 use Rattle.ktm_types.specs.declared.object.Transaction.{Transaction}
 use Rattle.ktm_types.specs.declared.recorded.RecordedPart.{RecordedPart}
 use Rattle.ktm_types.specs.declared.recorded.Stage.{Stage}
-use Rattle.ktm_world.specs.Changes.{apply_all}
+use Rattle.ktm_world.specs.Changes.{changes_apply}
 use Rattle.ktm_world.specs.Durable.{Recorded, changes_of, settings_of, enlistments_in, enlistments_of, is_ready, superior_ids}
 use Rattle.ktm_world.specs.Enlistments.{Enlistment, is_durable_at, is_live_enlistment, is_live_in, is_superior, superior_of, takes_part}
 use Rattle.ktm_world.specs.Files.{OwnChanges, bytes_seen, own_changes}
@@ -193,7 +193,7 @@ budget-now x sound fits =
     let own = sum-same (own_units x.files) (λ (o : OwnChanges). committed_units x.files.tree o.changes) x.files.table.own (λ o there.
     let now = own-now x sound o there in
     own_units-final x.files o (bytes_seen x.files (Some o.transaction)) now.0 now.1
-    ∙ sym (units-committed x.files.tree o.changes (bytes_seen x.files (Some o.transaction)) now.1 (list_all-at (λ (o : OwnChanges). apply_all x.files.tree o.changes) x.files.table.own sound.own_apply o there))) in
+    ∙ sym (units-committed x.files.tree o.changes (bytes_seen x.files (Some o.transaction)) now.1 (list_all-at (λ (o : OwnChanges). changes_apply x.files.tree o.changes) x.files.table.own sound.own_apply o there))) in
     record {
       units = (let a = fits.units in omega arith);
       nodes = (let a = fits.nodes in omega arith);

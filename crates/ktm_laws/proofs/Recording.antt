@@ -13,8 +13,8 @@ use Rattle.ktm_types.specs.declared.event.DonePart.{DonePart}
 use Rattle.ktm_types.specs.declared.event.Event.TheVariants.{Ready}
 use Rattle.ktm_types.specs.declared.event.Part.{Part}
 use Rattle.ktm_types.specs.declared.event.Part.TheVariants.{Enlistment, Changes, Settings}
-use Rattle.ktm_world.specs.Changes.{apply_all, has_changes}
-use Rattle.ktm_world.specs.Durable.{Durable, Recorded, is_ready, is_decided, is_manager, is_part_of, is_new_in, is_new_enlistment, changes_in, settings_in, enlistments_in, changes_of, settings_of, enlistments_of, superior_ids, has_changes_part, has_settings_part, has_part, are_recorded_changes, changes_apply, settings_apply, part_applies, may_get_ready, recorded_or_new, with_recorded, next_after_all, fact_of, after_event, is_within_limits}
+use Rattle.ktm_world.specs.Changes.{changes_apply, has_changes}
+use Rattle.ktm_world.specs.Durable.{Durable, Recorded, is_ready, is_decided, is_manager, is_part_of, is_new_in, is_new_enlistment, changes_in, settings_in, enlistments_in, changes_of, settings_of, enlistments_of, superior_ids, has_changes_part, has_settings_part, has_part, are_recorded_changes, recorded_changes_apply, settings_apply, part_applies, may_get_ready, recorded_or_new, with_recorded, next_after_all, fact_of, after_event, is_within_limits}
 use Rattle.ktm_world.specs.Keys.{OwnSettings, are_good_settings}
 use Rattle.ktm_world.specs.Lawful.{set_both}
 use Rattle.ktm_world.specs.Transactions.{same_id}
@@ -28,7 +28,7 @@ use Rattle.ktm_laws.proofs.Parts.{gathered, is_among, gathered-push, gathered-pu
 use Rattle.ktm_laws.proofs.Tables.{same_id-sym, fresh, recorded_or_new-cases, KnownOrNew, Table-with}
 use Rattle.ktm_laws.proofs.Fitting.{differ, IsEnlisted, Core, Fitting, Beside, Beside-sym, Rest, TableOf, good-from, table-of, rest-of}
 use Rattle.ktm_laws.proofs.Committing.{next-rises, next-made, next-to, below-more, limits-counted, with_all, Rest-with, Fitting-carried, Beside-carried}
-use Rattle.ktm_laws.proofs.Waiting.{no_changes_part, no_settings_part, in_others, changes_apply-all, changes_apply-new, changes_apply-apart, settings_apply-apart, apart-from-none}
+use Rattle.ktm_laws.proofs.Waiting.{no_changes_part, no_settings_part, in_others, recorded_changes_apply-all, recorded_changes_apply-new, recorded_changes_apply-apart, settings_apply-apart, apart-from-none}
 use Rattle.ktm_laws.proofs.Steps.{Keeps, is_drawn-now}
 
 -- ---- a transaction that gets ready
@@ -145,14 +145,14 @@ record Adds (s : Durable) (id : Id) (t : Recorded) (part : Part) : Type 0 where
   new : (a : Id) → IsIn a (enlistments_in part) → (u : Recorded) → IsIn u s.transactions → (b : Id) → IsIn b (enlistments_of u) → same_id b a ≡ false
   parts : has_one_part_each (pushed t part) ≡ true
   changes : are_kept_changes (pushed t part) ≡ true
-  apply : apply_all s.tree (changes_of (pushed t part)) ≡ true
+  apply : changes_apply s.tree (changes_of (pushed t part)) ≡ true
   made : list_all (is_made_below (next_after_all s.next_node (changes_in part))) (changes_of (pushed t part)) ≡ true
   unmade : list_all (is_new_in s.tree) (changes_of (pushed t part)) ≡ true
   puts : list_all puts_some (changes_of (pushed t part)) ≡ true
   settings : are_kept_settings (pushed t part) ≡ true
   files : (u : Recorded) → IsIn u s.transactions → (u.id ≡ id → ⊥) → is_decided u.stage ≡ false → AreFootprintsApart (footprint s.tree (changes_of (pushed t part))) (footprint s.tree (changes_of u))
   keys : (u : Recorded) → IsIn u s.transactions → (u.id ≡ id → ⊥) → is_decided u.stage ≡ false → set_both (settings_of (pushed t part)) (settings_of u) ≡ false
-  all : apply_all s.tree (changes_in part) ≡ true
+  all : changes_apply s.tree (changes_in part) ≡ true
 
 enlistments-pushed : (t : Recorded) (part : Part) → enlistments_of (pushed t part) ≡ enlistments_of t ++ enlistments_in part
 enlistments-pushed t part =
@@ -274,7 +274,7 @@ module _ (s : Durable) (id : Id) (t : Recorded) (start : Begun s id t) where
     new = λ a there u in_ts b has. elim there [ inl is ↦ subst (λ (x : Id). same_id b x ≡ false) is (new-enlistment s e.enlistment e.manager e.information is_new u in_ts b has) | inr none ↦ absurd none ];
     parts = and_from _ _ (count_among-same (is_part_of DonePart.Files) t.parts _ refl counts.0) (count_among-same (is_part_of DonePart.Keys) t.parts _ refl counts.1);
     changes = old_changes part refl refl;
-    apply = subst (λ cs. apply_all s.tree cs ≡ true) (same_changes part refl) start.core.apply;
+    apply = subst (λ cs. changes_apply s.tree cs ≡ true) (same_changes part refl) start.core.apply;
     made = subst (λ cs. list_all (is_made_below s.next_node) cs ≡ true) (same_changes part refl) start.core.made;
     unmade = subst (λ cs. list_all (is_new_in s.tree) cs ≡ true) (same_changes part refl) start.core.new;
     puts = subst (λ cs. list_all puts_some cs ≡ true) (same_changes part refl) start.core.puts;
@@ -284,23 +284,23 @@ module _ (s : Durable) (id : Id) (t : Recorded) (start : Begun s id t) where
     all = refl;
   }
 
-  adds-changes : (cs : List Change) → list_all puts_some cs ≡ true → has_changes_part t ≡ false → are_recorded_changes cs ≡ true → changes_apply s (Some id) cs ≡ true
-      → ((u : Recorded) → IsIn u s.transactions → apply_all s.tree (changes_of u) ≡ true) → Adds s id t (Changes cs)
+  adds-changes : (cs : List Change) → list_all puts_some cs ≡ true → has_changes_part t ≡ false → are_recorded_changes cs ≡ true → recorded_changes_apply s (Some id) cs ≡ true
+      → ((u : Recorded) → IsIn u s.transactions → changes_apply s.tree (changes_of u) ≡ true) → Adds s id t (Changes cs)
   adds-changes cs some first recorded applies others_apply = let part = Changes cs in record {
     enlisted = λ e none. absurd none;
     differ = refl;
     new = λ a none. absurd none;
     parts = and_from _ _ (count_among-first (is_part_of DonePart.Files) t.parts _ refl first) (count_among-same (is_part_of DonePart.Keys) t.parts _ refl counts.1);
     changes = and_from _ _ (or_left _ _ (not_from_false _ waiting)) (or_right _ _ (subst (λ xs. are_recorded_changes xs ≡ true) (sym are) recorded));
-    apply = subst (λ xs. apply_all s.tree xs ≡ true) (sym are) (changes_apply-all s (Some id) cs applies);
+    apply = subst (λ xs. changes_apply s.tree xs ≡ true) (sym are) (recorded_changes_apply-all s (Some id) cs applies);
     made = subst (λ xs. list_all (is_made_below (next_after_all s.next_node cs)) xs ≡ true) (sym are) (next-made cs s.next_node);
-    unmade = subst (λ xs. list_all (is_new_in s.tree) xs ≡ true) (sym are) (changes_apply-new s (Some id) cs applies);
+    unmade = subst (λ xs. list_all (is_new_in s.tree) xs ≡ true) (sym are) (recorded_changes_apply-new s (Some id) cs applies);
     puts = subst (λ xs. list_all puts_some xs ≡ true) (sym are) some;
     settings = old_settings part refl refl;
     files = λ u there other waits. subst (λ xs. AreFootprintsApart (footprint s.tree xs) (footprint s.tree (changes_of u))) (sym are)
-        (changes_apply-apart s (Some id) cs applies u (in_others s id u there waits other) (others_apply u there));
+        (recorded_changes_apply-apart s (Some id) cs applies u (in_others s id u there waits other) (others_apply u there));
     keys = old_keys part refl;
-    all = changes_apply-all s (Some id) cs applies;
+    all = recorded_changes_apply-all s (Some id) cs applies;
   }
     where
       are : changes_of (pushed t (Changes cs)) ≡ cs
@@ -313,7 +313,7 @@ module _ (s : Durable) (id : Id) (t : Recorded) (start : Begun s id t) where
     new = λ a none. absurd none;
     parts = and_from _ _ (count_among-same (is_part_of DonePart.Files) t.parts _ refl counts.0) (count_among-first (is_part_of DonePart.Keys) t.parts _ refl first);
     changes = old_changes part refl refl;
-    apply = subst (λ cs. apply_all s.tree cs ≡ true) (same_changes part refl) start.core.apply;
+    apply = subst (λ cs. changes_apply s.tree cs ≡ true) (same_changes part refl) start.core.apply;
     made = subst (λ cs. list_all (is_made_below s.next_node) cs ≡ true) (same_changes part refl) start.core.made;
     unmade = subst (λ cs. list_all (is_new_in s.tree) cs ≡ true) (same_changes part refl) start.core.new;
     puts = subst (λ cs. list_all puts_some cs ≡ true) (same_changes part refl) start.core.puts;
@@ -346,7 +346,7 @@ ready-keeps s transaction part good spelled applies limits few = go part (and_pa
         add (Enlistment enlistment manager information) (adds-enlistment s transaction t start (record { enlistment = enlistment; manager = manager; information = information })
         (and_parts (is_of_object enlistment) (list_all is_of_object (manager ∷ [])) (and_parts (is_of_object transaction) (list_all is_of_object (enlistment ∷ manager ∷ [])) counted).1).0 fits) limits
     go (Changes cs) counted some fits limits =
-        let parts = and_parts (not (has_changes_part t) && are_recorded_changes cs) (changes_apply s (Some transaction) cs) fits in
+        let parts = and_parts (not (has_changes_part t) && are_recorded_changes cs) (recorded_changes_apply s (Some transaction) cs) fits in
         let first = and_parts (not (has_changes_part t)) (are_recorded_changes cs) parts.0 in
         add (Changes cs) (adds-changes s transaction t start cs some (not-true _ first.0) first.1 parts.1 (λ u there. ((table-of s good).fit u there).core.apply)) limits
     go (Settings ss) counted some fits limits =

@@ -8,8 +8,8 @@ use Rattle.ktm_types.specs.declared.change.Change.{Change}
 use Rattle.ktm_types.specs.declared.change.Change.TheVariants.{Make, Put, Cut, Move, Drop}
 use Rattle.ktm_types.specs.declared.object.Transaction.{Transaction}
 use Rattle.ktm_types.specs.declared.recorded.Stage.{Stage}
-use Rattle.ktm_world.specs.Changes.{applies, apply_all, is_make, node_of, has_made, has_changes}
-use Rattle.ktm_world.specs.Durable.{Recorded, acts_of_all, are_recorded_changes, changes_apply, changes_of, is_decided, is_new_in, others_waiting, settings_apply, settings_of}
+use Rattle.ktm_world.specs.Changes.{applies, changes_apply, is_make, node_of, has_made, has_changes}
+use Rattle.ktm_world.specs.Durable.{Recorded, acts_of_all, are_recorded_changes, recorded_changes_apply, changes_of, is_decided, is_new_in, others_waiting, settings_apply, settings_of}
 use Rattle.ktm_world.specs.Files.{OwnChanges, own_changes, bytes_seen}
 use Rattle.ktm_world.specs.Holds.{holds_by, meets}
 use Rattle.ktm_world.specs.Keys.{Own, OwnSettings, are_good_settings, own_settings}
@@ -72,7 +72,7 @@ recalled x agrees r there =
 -- ---- files
 
 -- what is asked of changes beside those of another one that waits
-spares-waiting : (tree : Tree) (bs cs : List Change) → apply_all tree cs ≡ true → AreFootprintsApart (footprint tree cs) (footprint tree bs)
+spares-waiting : (tree : Tree) (bs cs : List Change) → changes_apply tree cs ≡ true → AreFootprintsApart (footprint tree cs) (footprint tree bs)
     → (not (list_any (meets (holds_by tree bs [])) (acts_of_all tree cs)) && not (list_any (λ change. is_make change && has_made bs (node_of change)) cs)) ≡ true
 spares-waiting tree bs cs all apart = and_from _ _ (not_from_false _ (apart-missed tree bs cs all apart))
     (not_from_false _ (none-from (λ change. is_make change && has_made bs (node_of change)) cs (λ c there. false_from_ne_true _ (λ both.
@@ -81,12 +81,12 @@ spares-waiting tree bs cs all apart = and_from _ _ (not_from_false _ (apart-miss
     apart.nodes (node_of c) (IsIn-map node_of c cs there) (subst (λ n. IsIn n (map node_of bs)) at (IsIn-map node_of made.0 bs made.1))))))
 
 -- changes apply to what was recorded, where they are apart from what others own
-applies-recorded : (x : Present) → Agrees x → (who : Option Id) (cs : List Change) → apply_all x.files.tree cs ≡ true → list_all (is_new_in x.files.tree) cs ≡ true
-    → ((r : Recorded) → IsIn r (others_waiting x.recorded who) → AreFootprintsApart (footprint x.files.tree cs) (footprint x.files.tree (changes_of r))) → changes_apply x.recorded who cs ≡ true
+applies-recorded : (x : Present) → Agrees x → (who : Option Id) (cs : List Change) → changes_apply x.files.tree cs ≡ true → list_all (is_new_in x.files.tree) cs ≡ true
+    → ((r : Recorded) → IsIn r (others_waiting x.recorded who) → AreFootprintsApart (footprint x.files.tree cs) (footprint x.files.tree (changes_of r))) → recorded_changes_apply x.recorded who cs ≡ true
 applies-recorded x agrees who cs all new apart = and_from _ _ (and_from _ _ (list_all-from _ (others_waiting x.recorded who) (λ r there.
     subst (λ tree. (not (list_any (meets (holds_by tree (changes_of r) [])) (acts_of_all tree cs)) && not (list_any (λ change. is_make change && has_made (changes_of r) (node_of change)) cs)) ≡ true) (sym agrees.tree)
     (spares-waiting x.files.tree (changes_of r) cs all (apart r there))))
-    (subst (λ tree. apply_all tree cs ≡ true) (sym agrees.tree) all)) (subst (λ tree. list_all (is_new_in tree) cs ≡ true) (sym agrees.tree) new)
+    (subst (λ tree. changes_apply tree cs ≡ true) (sym agrees.tree) all)) (subst (λ tree. list_all (is_new_in tree) cs ≡ true) (sym agrees.tree) new)
 
 -- what was recorded of a transaction is apart from what is apart from all that undecided ones own
 apart-recorded : (x : Present) → IsSoundFiles x → Agrees x → (cs : List Change) (r : Recorded) → IsIn r x.recorded.transactions
@@ -114,7 +114,7 @@ one-new tree (Move node parent name) is = refl
 one-new tree (Drop node) is = refl
 
 changes-recorded : (x : Present) (t : Transaction) → IsSoundFiles x → Agrees x → IsIn t (undecided x) → has_changes (own_changes x.files.table.own t.id) ≡ true
-    → (are_recorded_changes (own_changes x.files.table.own t.id) ≡ true) × (changes_apply x.recorded (Some t.id) (own_changes x.files.table.own t.id) ≡ true)
+    → (are_recorded_changes (own_changes x.files.table.own t.id) ≡ true) × (recorded_changes_apply x.recorded (Some t.id) (own_changes x.files.table.own t.id) ≡ true)
 changes-recorded x t sound agrees there some =
     let mine = own_changes x.files.table.own t.id in (
       recorded-form mine (bytes_seen x.files (Some t.id)) (own-final x sound t.id) some,
@@ -131,7 +131,7 @@ changes-recorded x t sound agrees there some =
           list_all-at (λ (p : OwnChanges). list_all (λ n. is_none (node_at x.files.tree n)) (numbers_made p.changes)) x.files.table.own sound.own_new o in_own)) (node_of c) (made-number (own_changes x.files.table.own t.id) c has make))
     ]
 
-plain-recorded : (x : Present) (change : Change) → IsSoundFiles x → Agrees x → Lands x change → changes_apply x.recorded None (change ∷ []) ≡ true
+plain-recorded : (x : Present) (change : Change) → IsSoundFiles x → Agrees x → Lands x change → recorded_changes_apply x.recorded None (change ∷ []) ≡ true
 plain-recorded x change sound agrees lands = applies-recorded x agrees None (change ∷ []) (and_from _ _ lands.applies refl) (and_from _ _ (one-new x.files.tree change lands.applies) refl) (λ r waits.
     apart-recorded x sound agrees (change ∷ []) r (IsIn-filter (λ r. not (is_decided r.stage)) x.recorded.transactions r waits).0 (λ v there at. lands.apart v there))
 

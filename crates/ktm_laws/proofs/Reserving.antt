@@ -9,7 +9,7 @@ use Rattle.ktm_base.specs.declared.id.Id.{Id}
 use Rattle.ktm_types.specs.declared.change.Change.{Change}
 use Rattle.ktm_types.specs.declared.change.Change.TheVariants.{Make, Put, Cut, Move, Drop}
 use Rattle.ktm_types.specs.declared.object.Transaction.{Transaction}
-use Rattle.ktm_world.specs.Changes.{changed_all, applies, apply_all, changes_bytes, is_make, node_of, has_made}
+use Rattle.ktm_world.specs.Changes.{changed_all, applies, changes_apply, changes_bytes, is_make, node_of, has_made}
 use Rattle.ktm_world.specs.Committed.{Committed, with_change}
 use Rattle.ktm_world.specs.Conflicts.{changes_outdated, touches_plain_writer, overwrites_opened, conflicts, meets_other, holds_now, written_by, users, writes}
 use Rattle.ktm_world.specs.Durable.{acts_of}
@@ -104,9 +104,9 @@ tree-of (change ∷ cs) c = tree-of cs (with_change c change)
 
 -- ---- what each two undecided transactions hold
 
-pub own-apply : (x : Present) → IsSoundFiles x → (id : Id) → apply_all x.files.tree (own_changes x.files.table.own id) ≡ true
-own-apply x sound id = own_changes-by (λ cs. apply_all x.files.tree cs ≡ true) x.files.table.own id refl (λ o there is.
-    list_all-at (λ (o : OwnChanges). apply_all x.files.tree o.changes) x.files.table.own sound.own_apply o there)
+pub own-apply : (x : Present) → IsSoundFiles x → (id : Id) → changes_apply x.files.tree (own_changes x.files.table.own id) ≡ true
+own-apply x sound id = own_changes-by (λ cs. changes_apply x.files.tree cs ≡ true) x.files.table.own id refl (λ o there is.
+    list_all-at (λ (o : OwnChanges). changes_apply x.files.tree o.changes) x.files.table.own sound.own_apply o there)
 
 -- an undecided transaction is one of the others
 pub in_others : (x : Present) (t u : Transaction) → IsIn u (undecided x) → same_id u.id t.id ≡ false → IsIn u (others_undecided x.transactions.items (Some t.id))
@@ -218,13 +218,13 @@ write-apart x sound change o u there' bytes there plain may_write node =
 
 module _ (lists : ListsLaw) where
   -- changes that are apart from those of a transaction leave it what it has
-  pub left-by : (files after : FilesNow) (cs : List Change) (id : Id) → IsWellFormed files.tree → apply_all files.tree cs ≡ true → apply_all files.tree (own_changes files.table.own id) ≡ true
+  pub left-by : (files after : FilesNow) (cs : List Change) (id : Id) → IsWellFormed files.tree → changes_apply files.tree cs ≡ true → changes_apply files.tree (own_changes files.table.own id) ≡ true
       → AreFootprintsApart (footprint files.tree cs) (footprint files.tree (own_changes files.table.own id))
       → after.tree ≡ changed_all files.tree cs → own_changes after.table.own id ≡ own_changes files.table.own id
       → ((file : ℕ) → first_open_of after.first_opens id file ≡ first_open_of files.first_opens id file) → written_by after.table.opens id ≡ written_by files.table.opens id → IsLeft files after id
   left-by files after cs id formed all all' apart tree own first written = record {
     own = own;
-    applies = subst (λ t. apply_all t (own_changes after.table.own id) ≡ true) (sym tree) (subst (λ ds. apply_all (changed_all files.tree cs) ds ≡ true) (sym own) square.applies);
+    applies = subst (λ t. changes_apply t (own_changes after.table.own id) ≡ true) (sym tree) (subst (λ ds. changes_apply (changed_all files.tree cs) ds ≡ true) (sym own) square.applies);
     holds = ap (λ ds. holds_by after.tree ds (written_by after.table.opens id)) own ∙ ap (λ ws. holds_by after.tree mine ws) written
         ∙ ap (λ t. holds_by t mine (written_by files.table.opens id)) tree ∙ ap (λ f. held f (written_by files.table.opens id)) square.footprint;
     bytes = λ file is. ap (λ ds. bytes_after (first_bytes after id ds file) file ds) own ∙ ap (λ bs. bytes_after bs file mine) (starts file is);

@@ -8,7 +8,7 @@ use Rattle.ktm_types.specs.declared.change.Change.TheVariants.{Make, Put, Cut, M
 use Rattle.ktm_types.specs.declared.recorded.Node.{Node}
 use Rattle.ktm_types.specs.declared.recorded.Stage.{Stage}
 use Rattle.ktm_types.specs.declared.object.Transaction.{Transaction}
-use Rattle.ktm_world.specs.Changes.{applies, apply_all, changes_bytes, is_make, node_of, has_changes}
+use Rattle.ktm_world.specs.Changes.{applies, changes_apply, changes_bytes, is_make, node_of, has_changes}
 use Rattle.ktm_world.specs.Committed.{changes_to_commit}
 use Rattle.ktm_world.specs.Conflicts.{holds_now}
 use Rattle.ktm_world.specs.Durable.{Durable, Recorded, changes_of, settings_of, has_changes_part, has_settings_part, is_decided, is_held, are_recorded_changes, stand, is_new_in}
@@ -243,7 +243,7 @@ module _ (base : Durable) (room : ℕ) (log : List Group) (good : IsGoodState (s
         (ap (λ cs. changes_to_commit (changes_of k.t) (λ file. bytes_with x.files (k.t).id cs file)) (own-back k.t k.there k.held)
         ∙ restored s.tree (changes_of k.t) (first_bytes x.files (k.t).id (changes_of k.t)) (core k.t k.there).apply (core k.t k.there).puts
         (recorded-changes k.t k.there k.held (subst (λ (p : OwnChanges). has_own_changes p ≡ true) (sym k.is) k.some))));
-    own_apply = each changed_by has_own_changes (λ o. apply_all s.tree o.changes) (λ t there held some. (core t there).apply);
+    own_apply = each changed_by has_own_changes (λ o. changes_apply s.tree o.changes) (λ t there held some. (core t there).apply);
     own_opened = each changed_by has_own_changes (λ o. list_all (is_change_of_opened x o.transaction) o.changes) (λ t there held some. list_all-from (is_change_of_opened x t.id) (changes_of t) (λ c has.
         or_left _ _ (or_right (not (changes_bytes c)) _ (earlier t there))));
     own_puts = each changed_by has_own_changes (λ o. list_all puts_some o.changes) (λ t there held some. (core t there).puts);

@@ -7,7 +7,7 @@ use Rattle.std.specs.Prelude.{nat_le}
 use Rattle.ktm_types.specs.declared.change.Change.{Change}
 use Rattle.ktm_types.specs.declared.change.Change.TheVariants.{Make, Put, Cut, Move, Drop}
 use Rattle.ktm_types.specs.declared.change.Contents.TheVariants.{Whole, Paged}
-use Rattle.ktm_world.specs.Changes.{changed, applies, apply_all, changes_bytes, is_whole, is_empty_list, node_of, has_changes}
+use Rattle.ktm_world.specs.Changes.{changed, applies, changes_apply, changes_bytes, is_whole, is_empty_list, node_of, has_changes}
 use Rattle.ktm_world.specs.Committed.{written_after, written_files, final_bytes, changes_to_commit}
 use Rattle.ktm_world.specs.Durable.{are_final_bytes, ends_in_bytes, gives_bytes, made_files, are_recorded_changes}
 use Rattle.ktm_world.specs.Files.{bytes_after}
@@ -23,9 +23,9 @@ use Rattle.ktm_laws.proofs.NormalForms.{first-cut, names-within, ends_of, ends-b
 use Rattle.ktm_laws.proofs.Passing.{flat_map-same, to_commit-same}
 
 -- a change that applies somewhere in a list applied to the tree that it found
-pub applied-in : (cs : List Change) (tree : Tree) → apply_all tree cs ≡ true → (c : Change) → IsIn c cs → (t : Tree) × (applies t c ≡ true)
+pub applied-in : (cs : List Change) (tree : Tree) → changes_apply tree cs ≡ true → (c : Change) → IsIn c cs → (t : Tree) × (applies t c ≡ true)
 applied-in [] tree all c there = absurd there
-applied-in (d ∷ ds) tree all c there = let parts = and_parts (applies tree d) (apply_all (changed tree d) ds) all in elim there [
+applied-in (d ∷ ds) tree all c there = let parts = and_parts (applies tree d) (changes_apply (changed tree d) ds) all in elim there [
   | inl e ↦ (tree, subst (λ k. applies tree k ≡ true) e parts.0)
   | inr later ↦ applied-in ds (changed tree d) parts.1 c later
 ]
@@ -170,7 +170,7 @@ final-form cs spelled recorded = (by, ap (λ fs. names_of cs ++ ends_of by fs) f
         (λ n there. ends-add by files (made_files cs) n (inr there))
 
 -- recorded changes that apply stay as they are, with the bytes that they make of any others
-pub restored : (tree : Tree) (cs : List Change) (before : ℕ → List ℕ) → apply_all tree cs ≡ true → list_all puts_some cs ≡ true → are_recorded_changes cs ≡ true
+pub restored : (tree : Tree) (cs : List Change) (before : ℕ → List ℕ) → changes_apply tree cs ≡ true → list_all puts_some cs ≡ true → are_recorded_changes cs ≡ true
     → changes_to_commit cs (λ file. bytes_after (before file) file cs) ≡ cs
 restored tree cs before all some recorded =
     let spelled = list_all-from is_spelled cs (λ c there. let at = applied-in cs tree all c there in spelled-one at.0 c at.1 (list_all-at puts_some cs some c there)) in

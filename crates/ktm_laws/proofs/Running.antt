@@ -12,7 +12,7 @@ use Rattle.ktm_types.specs.declared.command.Line.TheVariants.{Tick, Cut, Crash, 
 use Rattle.ktm_types.specs.declared.event.Event.{Event}
 use Rattle.ktm_types.specs.declared.reply.Reply.{Reply}
 use Rattle.ktm_types.specs.Sizes.{frame_size, log_size}
-use Rattle.ktm_world.specs.Changes.{apply_all}
+use Rattle.ktm_world.specs.Changes.{changes_apply}
 use Rattle.ktm_world.specs.Committed.{Committed, Work, with_work, committed_with}
 use Rattle.ktm_world.specs.Conflicts.{holds_now}
 use Rattle.ktm_world.specs.Decide.{decide}
@@ -78,8 +78,8 @@ groups-count (event ∷ events) =
 works_apply-append : (c : Committed) (ws vs : List Work) → works_apply c (ws ++ vs) ≡ (works_apply c ws && works_apply (committed_with c ws) vs)
 works_apply-append c [] vs = refl
 works_apply-append c (w ∷ ws) vs =
-    ap (λ b. apply_all c.tree w.changes && b) (works_apply-append (with_work c w) ws vs)
-    ∙ sym (and_assoc (apply_all c.tree w.changes) (works_apply (with_work c w) ws) (works_apply (committed_with (with_work c w) ws) vs))
+    ap (λ b. changes_apply c.tree w.changes && b) (works_apply-append (with_work c w) ws vs)
+    ∙ sym (and_assoc (changes_apply c.tree w.changes) (works_apply (with_work c w) ws) (works_apply (committed_with (with_work c w) ws) vs))
 
 grammatical-both : (events : List Event) → list_all names_objects events ≡ true → list_all puts_all events ≡ true → list_all is_grammatical events ≡ true
 grammatical-both events named puts = list_all-from is_grammatical events (λ event there. and_from _ _ (list_all-at names_objects events named event there) (list_all-at puts_all events puts event there))
@@ -134,7 +134,7 @@ module _ (step : StepLaw) (openings : FirstOpensLaw) (lists : ListsLaw) (formed 
         possible = left-extend (is_good_log w.base w.room) w o run.kept (good-log-from w.base w.room (w.log ++ as_groups o.events) grammatical applies) run.possible;
       }
     where
-      written : (o.works ≡ []) ⊎ ((v : Work) × (o.works ≡ v ∷ []) × (apply_all (committed w).tree v.changes ≡ true) × MakesNone (present w) v.changes) → works_apply (committed w) o.works ≡ true
+      written : (o.works ≡ []) ⊎ ((v : Work) × (o.works ≡ v ∷ []) × (changes_apply (committed w).tree v.changes ≡ true) × MakesNone (present w) v.changes) → works_apply (committed w) o.works ≡ true
       written (inl none) = ap (works_apply (committed w)) none
       written (inr (v, one, all, makes)) = ap (works_apply (committed w)) one ∙ and_from _ _ all refl
 
@@ -350,7 +350,7 @@ module _ (step : StepLaw) (openings : FirstOpensLaw) (lists : ListsLaw) (formed 
     pub lawful-of : (w : World) → IsRunning w → IsLawful w
     lawful-of w run = record {
       works = (run.formed, run.works);
-      own = All-by (λ (o : OwnChanges). apply_all (committed w).tree o.changes ≡ true) w.table.own (list_all-at (λ (o : OwnChanges). apply_all (committed w).tree o.changes) w.table.own run.now.sound.files.own_apply);
+      own = All-by (λ (o : OwnChanges). changes_apply (committed w).tree o.changes ≡ true) w.table.own (list_all-at (λ (o : OwnChanges). changes_apply (committed w).tree o.changes) w.table.own run.now.sound.files.own_apply);
       apart = apart-of (present w) run.now.sound;
       fixed = All-by (λ (o : OpenedAfter). is_fixed_last w o ≡ true) w.first_opens (fixed-of w run);
       writers = All-by (λ (o : OpenFile). is_alone (present w) o ≡ true) w.table.opens (list_all-at (is_alone (present w)) w.table.opens run.now.sound.files.writers);

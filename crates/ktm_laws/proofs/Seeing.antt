@@ -7,7 +7,7 @@ use Rattle.ktm_base.specs.declared.id.Id.{Id}
 use Rattle.ktm_types.specs.declared.change.Change.{Change}
 use Rattle.ktm_types.specs.declared.recorded.Node.{Node}
 use Rattle.ktm_types.specs.declared.object.Transaction.{Transaction}
-use Rattle.ktm_world.specs.Changes.{applies, apply_all, changes_bytes, is_make, node_of, has_made}
+use Rattle.ktm_world.specs.Changes.{applies, changes_apply, changes_bytes, is_make, node_of, has_made}
 use Rattle.ktm_world.specs.Conflicts.{conflicts, changes_outdated, holds_now, is_outdated, meets_other, overwrites_opened, touches_plain_writer, users, written_by, writes}
 use Rattle.ktm_world.specs.Durable.{acts_of}
 use Rattle.ktm_world.specs.Files.{FilesNow, FirstOpen, OpenFile, OwnChanges, own_changes, first_open_of, is_last_version, tree_seen, bytes_seen}
@@ -125,7 +125,7 @@ module _ (formed : FormedLaw) (x : Present) (sound : IsSoundFiles x) (id : Id) w
   abbrev mine : List Change
   mine = own_changes x.files.table.own id
 
-  names-mine : apply_all x.files.tree (names_of mine) ≡ true
+  names-mine : changes_apply x.files.tree (names_of mine) ≡ true
   names-mine = names-apply x.files.tree mine (bytes_seen x.files (Some id)) (own-final x sound id) (own-apply x sound id)
 
   pub seen-formed : IsWellFormed seen

@@ -14,7 +14,7 @@ use Rattle.ktm_types.specs.declared.event.Event.{Event}
 use Rattle.ktm_types.specs.declared.event.Event.TheVariants.{Boot, MadeRm, Plain, Ready, Single, Held, Decide, Undo, Done}
 use Rattle.ktm_types.specs.declared.event.Part.{Part}
 use Rattle.ktm_types.specs.declared.event.Part.TheVariants.{Enlistment, Changes, Settings}
-use Rattle.ktm_world.specs.Changes.{applies, apply_all, is_empty_list}
+use Rattle.ktm_world.specs.Changes.{applies, changes_apply, is_empty_list}
 use Rattle.ktm_world.specs.Decide.{decide}
 use Rattle.ktm_world.specs.Durable.{Durable, Recorded, after_event, fact_applies, has_undone, is_decided, is_new_enlistment, is_new_in, is_sole, is_within_limits, may_get_ready, part_applies, recorded_at}
 use Rattle.ktm_world.specs.Present.{Present}
@@ -97,7 +97,7 @@ spelled-event s (Plain change) is named own = spelled-plain s.tree change (appli
     applied : fact_applies s (Plain change) ≡ true → applies s.tree change ≡ true
     applied facts =
         let tests = (and_parts _ (list_all (is_new_in s.tree) (change ∷ [])) facts).0 in
-        (and_parts (applies s.tree change) true (and_parts _ (apply_all s.tree (change ∷ [])) tests).1).0
+        (and_parts (applies s.tree change) true (and_parts _ (changes_apply s.tree (change ∷ [])) tests).1).0
 spelled-event s (Ready transaction part) is named own =
     let first = spelled-first transaction (ids_in part) named in
     (first.0, spelled-part s transaction part (and_parts (may_get_ready s transaction) (part_applies s transaction part) is).1 first.1 own)

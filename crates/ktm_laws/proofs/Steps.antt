@@ -8,8 +8,8 @@ use Rattle.ktm_types.specs.declared.event.Event.{Event}
 use Rattle.ktm_types.specs.declared.event.Event.TheVariants.{Boot, MadeRm, Plain, Single, Undo}
 use Rattle.ktm_types.specs.declared.event.Part.{Part}
 use Rattle.ktm_types.specs.declared.event.Part.TheVariants.{Enlistment, Changes, Settings}
-use Rattle.ktm_world.specs.Changes.{changed_all, apply_all}
-use Rattle.ktm_world.specs.Durable.{Durable, Recorded, is_ready, is_decided, is_before, is_manager, is_sole, with_manager, without_recorded, recorded_at, recorded_or_new, has_changes_part, has_settings_part, are_recorded_changes, changes_of, changes_apply, settings_apply, part_applies, next_after_all, fact_of, after_event, fact_applies, is_within_limits}
+use Rattle.ktm_world.specs.Changes.{changed_all, changes_apply}
+use Rattle.ktm_world.specs.Durable.{Durable, Recorded, is_ready, is_decided, is_before, is_manager, is_sole, with_manager, without_recorded, recorded_at, recorded_or_new, has_changes_part, has_settings_part, are_recorded_changes, changes_of, recorded_changes_apply, settings_apply, part_applies, next_after_all, fact_of, after_event, fact_applies, is_within_limits}
 use Rattle.ktm_world.specs.Keys.{OwnSettings, stored_all, is_good_setting, are_good_settings}
 use Rattle.ktm_world.specs.Transactions.{same_id}
 use Rattle.ktm_laws.specs.Footprint.{IsIn, footprint, AreFootprintsApart, ListsLaw}
@@ -22,7 +22,7 @@ use Rattle.ktm_laws.proofs.Settings.{stored_all-rises, stored_all-good}
 use Rattle.ktm_laws.proofs.Tables.{is_before-then, is_before-turned, recorded_at-there, Table-filter, Table-map}
 use Rattle.ktm_laws.proofs.Fitting.{Fitting, Beside, Rest, TableOf, good-from, table-of, rest-of}
 use Rattle.ktm_laws.proofs.Committing.{next-rises, next-to, below-changed_all, limits-counted, with_all, Rest-with, Rest-transactions, is_drawn-later, Core-carried, Fitting-carried, Beside-carried}
-use Rattle.ktm_laws.proofs.Waiting.{in_others-plain, in_others, settings-good, changes_apply-all, changes_apply-apart, apart-from-none, SparesWaiting, waiting-apply, waiting-new, waiting-holds}
+use Rattle.ktm_laws.proofs.Waiting.{in_others-plain, in_others, settings-good, recorded_changes_apply-all, recorded_changes_apply-apart, apart-from-none, SparesWaiting, waiting-apply, waiting-new, waiting-holds}
 
 -- a good state stays good by the event, where it applies
 abbrev pub Keeps : Durable → Event → Type 0
@@ -163,7 +163,7 @@ Beside-committed s s' t u holds holds' sides = record {
 
 module _ (lists : ListsLaw) (formed : FormedLaw) where
   -- the rest of a state in which changes and settings were committed
-  pub Rest-committed : (s : Durable) (cs : List Change) (ss : OwnSettings) (ts : List Recorded) → Rest s → apply_all s.tree cs ≡ true → list_all is_good_setting ss ≡ true
+  pub Rest-committed : (s : Durable) (cs : List Change) (ss : OwnSettings) (ts : List Recorded) → Rest s → changes_apply s.tree cs ≡ true → list_all is_good_setting ss ≡ true
       → is_within_limits (with_all s (changed_all s.tree cs) (stored_all s.keys ss) (next_after_all s.next_node cs) ts (s.events + 1)) ≡ true → s.events + 1 < 2 ^ 63
       → Rest (with_all s (changed_all s.tree cs) (stored_all s.keys ss) (next_after_all s.next_node cs) ts (s.events + 1))
   Rest-committed s cs ss ts rest all good limits few =
@@ -171,7 +171,7 @@ module _ (lists : ListsLaw) (formed : FormedLaw) where
       (formed.1 s.tree cs rest.files all) (below-changed_all cs s.next_node s.tree rest.nodes_below) (next-rises cs s.next_node) (next-to s.tree cs s.next_node all rest.next_to)
       (stored_all-rises s.keys ss rest.keys_rise) (stored_all-good s.keys ss good rest.keys_good)
 
-  commit-keeps : (s : Durable) (cs : List Change) (ss : OwnSettings) → IsGoodState s → apply_all s.tree cs ≡ true → ((u : Recorded) → IsIn u s.transactions → SparesWaiting s cs u)
+  commit-keeps : (s : Durable) (cs : List Change) (ss : OwnSettings) → IsGoodState s → changes_apply s.tree cs ≡ true → ((u : Recorded) → IsIn u s.transactions → SparesWaiting s cs u)
       → list_all is_good_setting ss ≡ true
       → is_within_limits (with_all s (changed_all s.tree cs) (stored_all s.keys ss) (next_after_all s.next_node cs) s.transactions (s.events + 1)) ≡ true → s.events + 1 < 2 ^ 63
       → IsGoodState (with_all s (changed_all s.tree cs) (stored_all s.keys ss) (next_after_all s.next_node cs) s.transactions (s.events + 1))
@@ -189,8 +189,8 @@ module _ (lists : ListsLaw) (formed : FormedLaw) where
 
   pub plain-keeps : (s : Durable) (change : Change) → Keeps s (Plain change)
   plain-keeps s change good spelled applies limits few =
-      commit-keeps s (change ∷ []) [] good (changes_apply-all s None (change ∷ []) applies)
-      (λ u there waiting. changes_apply-apart s None (change ∷ []) applies u (in_others-plain s u there waiting) ((table-of s good).fit u there).core.apply)
+      commit-keeps s (change ∷ []) [] good (recorded_changes_apply-all s None (change ∷ []) applies)
+      (λ u there waiting. recorded_changes_apply-apart s None (change ∷ []) applies u (in_others-plain s u there waiting) ((table-of s good).fit u there).core.apply)
       refl (limits-counted (fact_of s (Plain change)) (s.events + 1) limits) few
 
   pub single-keeps : (s : Durable) (transaction : Id) (part : Part) → Keeps s (Single transaction part)
@@ -208,9 +208,9 @@ module _ (lists : ListsLaw) (formed : FormedLaw) where
       go : (part : Part) → is_sole part ≡ true → part_applies s transaction part ≡ true → is_within_limits (fact_of s (Single transaction part)) ≡ true → IsGoodState (after_event s (Single transaction part))
       go (Enlistment enlistment manager information) sole part_applies limits = absurd (true≢false (sym sole))
       go (Changes cs) sole part_applies limits =
-          let apply = (and_parts (not (has_changes_part (recorded_or_new s.transactions transaction)) && are_recorded_changes cs) (changes_apply s (Some transaction) cs) part_applies).1 in
-          commit-keeps s cs [] good (changes_apply-all s (Some transaction) cs apply)
-          (λ u there waiting. changes_apply-apart s (Some transaction) cs apply u (in_others s transaction u there waiting (other u there)) ((table-of s good).fit u there).core.apply)
+          let apply = (and_parts (not (has_changes_part (recorded_or_new s.transactions transaction)) && are_recorded_changes cs) (recorded_changes_apply s (Some transaction) cs) part_applies).1 in
+          commit-keeps s cs [] good (recorded_changes_apply-all s (Some transaction) cs apply)
+          (λ u there waiting. recorded_changes_apply-apart s (Some transaction) cs apply u (in_others s transaction u there waiting (other u there)) ((table-of s good).fit u there).core.apply)
           refl (limits-counted (fact_of s (Single transaction (Changes cs))) (s.events + 1) limits) few
       go (Settings ss) sole part_applies limits =
           let fits = and_parts (not (has_settings_part (recorded_or_new s.transactions transaction)) && are_good_settings ss) (settings_apply s (Some transaction) ss) part_applies in

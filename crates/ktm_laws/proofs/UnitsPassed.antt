@@ -3,7 +3,7 @@ use Rattle.std.proofs.Common.{◌≡◌, ℕ, ◌+◌, ◌≤◌, ◌&&◌, ◌|
 use Rattle.std.proofs.lemmas.Bool.{and_parts, and_from, eq-eqb, leb-true, or_cases, not-true, true≢false}
 use Rattle.ktm_base.specs.declared.id.Id.{Id}
 use Rattle.ktm_types.specs.declared.change.Change.{Change}
-use Rattle.ktm_world.specs.Changes.{apply_all, changes_bytes, is_make, node_of, nodes_made}
+use Rattle.ktm_world.specs.Changes.{changes_apply, changes_bytes, is_make, node_of, nodes_made}
 use Rattle.ktm_world.specs.Committed.{Version, version_of, written_files, changes_to_commit}
 use Rattle.ktm_world.specs.Files.{FilesNow, FirstOpen, OwnChanges, own_changes, is_last_version, bytes_seen, bytes_after, first_bytes, committed_files}
 use Rattle.ktm_world.specs.FileUses.{own_units, units_used, nodes_used, file_changes_waiting}
@@ -93,7 +93,7 @@ files-then f g h a b = record {
   nodes = omega (arith, a.nodes, b.nodes);
 }
 
-module _ (x : Present) (sound : IsSoundFiles x) (fixed : AreFixed x.files.first_opens) (cs : List Change) (keep : Option Id → Bool) (next : ℕ) (all : apply_all x.files.tree cs ≡ true)
+module _ (x : Present) (sound : IsSoundFiles x) (fixed : AreFixed x.files.first_opens) (cs : List Change) (keep : Option Id → Bool) (next : ℕ) (all : changes_apply x.files.tree cs ≡ true)
     (fresh : (o : FirstOpen) → IsIn o x.files.first_opens → keep (Some o.transaction) ≡ true → (c : Change) → IsIn c cs → is_make c ≡ true → node_of c ≡ o.file → ⊥) where
   abbrev z : FilesNow
   z = passed x.files cs keep next

@@ -6,7 +6,7 @@ use Rattle.std.specs.Prelude.{nat_lt}
 use Rattle.ktm_types.specs.declared.change.Change.{Change}
 use Rattle.ktm_types.specs.declared.change.Change.TheVariants.{Make, Put, Cut, Move, Drop}
 use Rattle.ktm_types.specs.declared.recorded.Node.{Node}
-use Rattle.ktm_world.specs.Changes.{changed, applies, apply_all, is_drop, is_make, node_of}
+use Rattle.ktm_world.specs.Changes.{changed, applies, changes_apply, is_drop, is_make, node_of}
 use Rattle.ktm_world.specs.Committed.{Committed, Version, version_of, raised_version, without_version, versions_after, with_change}
 use Rattle.ktm_world.specs.Files.{FirstOpen}
 use Rattle.ktm_world.specs.Tree.{Tree, bytes_of, bytes_or_none, content_of, is_file, node_at}
@@ -160,10 +160,10 @@ fit-after tree vs (Drop node) is fit = record {
       (ap (λ n. is_some (content_of n)) (node_at-elsewhere tree (Drop node) (Fits-from tree (Drop node) (Applies-from tree (Drop node) is)) v.file (λ e. eqb-false v.file node (not-true _ kept.1) (sym e))) ∙ old.0, old.1);
 }
 
-pub fit-all : (cs : List Change) (c : Committed) → apply_all c.tree cs ≡ true → FitVersions c.tree c.versions → FitVersions (fold with_change c cs).tree (fold with_change c cs).versions
+pub fit-all : (cs : List Change) (c : Committed) → changes_apply c.tree cs ≡ true → FitVersions c.tree c.versions → FitVersions (fold with_change c cs).tree (fold with_change c cs).versions
 fit-all [] c all fit = fit
 fit-all (change ∷ cs) c all fit =
-    let parts = and_parts (applies c.tree change) (apply_all (changed c.tree change) cs) all in
+    let parts = and_parts (applies c.tree change) (changes_apply (changed c.tree change) cs) all in
     fit-all cs (with_change c change) parts.1 (fit-after c.tree c.versions change parts.0 fit)
 
 -- ---- what a first open shows
@@ -224,11 +224,11 @@ shows-after tree vs c o is rises fresh shows = elim (cases_Bool (node_of c == o.
         let gone : is_file (changed tree (Drop node)) o.file ≡ false = subst (λ k. is_file (changed tree (Drop node)) k ≡ false) e (ap (λ n. is_some (content_of n)) (node_at-there tree (Drop node) (Fits-from tree (Drop node) (Applies-from tree (Drop node) is)))) in
         record { was = λ file. absurd (true≢false (sym file ∙ gone)); bytes = λ file last. absurd (true≢false (sym file ∙ gone)) }
 
-pub shows-all : (cs : List Change) (c : Committed) (o : FirstOpen) → apply_all c.tree cs ≡ true → FitVersions c.tree c.versions → ((change : Change) → IsIn change cs → is_make change ≡ true → node_of change ≡ o.file → ⊥)
+pub shows-all : (cs : List Change) (c : Committed) (o : FirstOpen) → changes_apply c.tree cs ≡ true → FitVersions c.tree c.versions → ((change : Change) → IsIn change cs → is_make change ≡ true → node_of change ≡ o.file → ⊥)
     → Shows c.tree c.versions o → Shows (fold with_change c cs).tree (fold with_change c cs).versions o
 shows-all [] c o all fit fresh shows = shows
 shows-all (change ∷ cs) c o all fit fresh shows =
-    let parts = and_parts (applies c.tree change) (apply_all (changed c.tree change) cs) all in
+    let parts = and_parts (applies c.tree change) (changes_apply (changed c.tree change) cs) all in
     shows-all cs (with_change c change) o parts.1 (fit-after c.tree c.versions change parts.0 fit) (λ d there. fresh d (inr there)) (shows-after c.tree c.versions change o parts.0 fit.rise (fresh change (inl refl)) shows)
 
 -- what no change is of has its version still

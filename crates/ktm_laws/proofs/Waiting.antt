@@ -7,8 +7,8 @@ use Rattle.ktm_types.specs.declared.change.Change.{Change}
 use Rattle.ktm_types.specs.declared.event.DonePart.{DonePart}
 use Rattle.ktm_types.specs.declared.event.Part.{Part}
 use Rattle.ktm_types.specs.declared.event.Part.TheVariants.{Enlistment, Changes, Settings}
-use Rattle.ktm_world.specs.Changes.{changed_all, apply_all, node_of, is_make, has_changes, has_made}
-use Rattle.ktm_world.specs.Durable.{Durable, Recorded, is_decided, is_part_of, changes_in, settings_in, changes_of, settings_of, has_changes_part, has_settings_part, is_new_in, holds_in, acts_of_all, others_waiting, changes_apply, settings_apply}
+use Rattle.ktm_world.specs.Changes.{changed_all, changes_apply, node_of, is_make, has_changes, has_made}
+use Rattle.ktm_world.specs.Durable.{Durable, Recorded, is_decided, is_part_of, changes_in, settings_in, changes_of, settings_of, has_changes_part, has_settings_part, is_new_in, holds_in, acts_of_all, others_waiting, recorded_changes_apply, settings_apply}
 use Rattle.ktm_world.specs.Holds.{meets}
 use Rattle.ktm_keyed.specs.Keyed.{is_rising}
 use Rattle.ktm_world.specs.Keys.{OwnSettings, is_good_setting, are_good_settings}
@@ -88,18 +88,18 @@ in_others s id u there waiting other =
     IsIn-kept (λ t. not (is_decided t.stage) && not (same_id t.id id)) s.transactions u there
     (and_from _ _ (not_from_false _ waiting) (not_from_false _ (false_from_ne_true _ (λ same. other (same_id-equal u.id id same)))))
 
-pub changes_apply-all : (s : Durable) (who : Option Id) (cs : List Change) → changes_apply s who cs ≡ true → apply_all s.tree cs ≡ true
-changes_apply-all s who cs apply = (and_parts (list_all _ (others_waiting s who)) (apply_all s.tree cs) (and_parts _ (list_all (is_new_in s.tree) cs) apply).0).1
+pub recorded_changes_apply-all : (s : Durable) (who : Option Id) (cs : List Change) → recorded_changes_apply s who cs ≡ true → changes_apply s.tree cs ≡ true
+recorded_changes_apply-all s who cs apply = (and_parts (list_all _ (others_waiting s who)) (changes_apply s.tree cs) (and_parts _ (list_all (is_new_in s.tree) cs) apply).0).1
 
 -- and the nodes that they make are new
-pub changes_apply-new : (s : Durable) (who : Option Id) (cs : List Change) → changes_apply s who cs ≡ true → list_all (is_new_in s.tree) cs ≡ true
-changes_apply-new s who cs apply = (and_parts _ (list_all (is_new_in s.tree) cs) apply).1
+pub recorded_changes_apply-new : (s : Durable) (who : Option Id) (cs : List Change) → recorded_changes_apply s who cs ≡ true → list_all (is_new_in s.tree) cs ≡ true
+recorded_changes_apply-new s who cs apply = (and_parts _ (list_all (is_new_in s.tree) cs) apply).1
 
 -- changes that apply are apart from those of others that wait
-pub changes_apply-apart : (s : Durable) (who : Option Id) (cs : List Change) → changes_apply s who cs ≡ true → (u : Recorded) → IsIn u (others_waiting s who) → apply_all s.tree (changes_of u) ≡ true
+pub recorded_changes_apply-apart : (s : Durable) (who : Option Id) (cs : List Change) → recorded_changes_apply s who cs ≡ true → (u : Recorded) → IsIn u (others_waiting s who) → changes_apply s.tree (changes_of u) ≡ true
     → AreFootprintsApart (footprint s.tree cs) (footprint s.tree (changes_of u))
-changes_apply-apart s who cs apply u there all =
-    let parts = and_parts (list_all (λ t. not (list_any (meets (holds_in s t)) (acts_of_all s.tree cs)) && not (list_any (λ change. is_make change && has_made (changes_of t) (node_of change)) cs)) (others_waiting s who)) (apply_all s.tree cs) (and_parts _ (list_all (is_new_in s.tree) cs) apply).0 in
+recorded_changes_apply-apart s who cs apply u there all =
+    let parts = and_parts (list_all (λ t. not (list_any (meets (holds_in s t)) (acts_of_all s.tree cs)) && not (list_any (λ change. is_make change && has_made (changes_of t) (node_of change)) cs)) (others_waiting s who)) (changes_apply s.tree cs) (and_parts _ (list_all (is_new_in s.tree) cs) apply).0 in
     let both = and_parts (not (list_any (meets (holds_in s u)) (acts_of_all s.tree cs))) (not (list_any (λ change. is_make change && has_made (changes_of u) (node_of change)) cs)) (list_all-at _ (others_waiting s who) parts.0 u there) in
     AreFootprintsApart-sym (footprint s.tree (changes_of u)) (footprint s.tree cs)
     (meeting_law s.tree (changes_of u) cs [] all parts.1 (not-true _ both.0) (not-true _ both.1))
@@ -122,8 +122,8 @@ apart-from-none tree cs = record {
 abbrev pub SparesWaiting : Durable → List Change → Recorded → Type 0
 SparesWaiting s cs u = is_decided u.stage ≡ false → AreFootprintsApart (footprint s.tree cs) (footprint s.tree (changes_of u))
 
-module _ (lists : ListsLaw) (s : Durable) (formed : IsWellFormed s.tree) (cs : List Change) (all : apply_all s.tree cs ≡ true) where
-  pub waiting-apply : (u : Recorded) → are_kept_changes u ≡ true → apply_all s.tree (changes_of u) ≡ true → SparesWaiting s cs u → apply_all (changed_all s.tree cs) (changes_of u) ≡ true
+module _ (lists : ListsLaw) (s : Durable) (formed : IsWellFormed s.tree) (cs : List Change) (all : changes_apply s.tree cs ≡ true) where
+  pub waiting-apply : (u : Recorded) → are_kept_changes u ≡ true → changes_apply s.tree (changes_of u) ≡ true → SparesWaiting s cs u → changes_apply (changed_all s.tree cs) (changes_of u) ≡ true
   waiting-apply u kept applies spares = elim (cases_Bool (is_decided u.stage)) [
     | inl decided ↦ rw (no_changes-left u kept decided) refl
     | inr waiting ↦ (lists s.tree cs (changes_of u) formed all applies (spares waiting)).0.applies
@@ -137,6 +137,6 @@ module _ (lists : ListsLaw) (s : Durable) (formed : IsWellFormed s.tree) (cs : L
         ap (λ o. not (is_make c) || is_none o) (node-elsewhere cs s.tree (node_of c) all (λ here. (spares waiting).nodes (node_of c) here (IsIn-map node_of c (changes_of u) there))) ∙ list_all-at (is_new_in s.tree) (changes_of u) new c there)
   ]
 
-  pub waiting-holds : (u : Recorded) → apply_all s.tree (changes_of u) ≡ true → SparesWaiting s cs u → is_decided u.stage ≡ false
+  pub waiting-holds : (u : Recorded) → changes_apply s.tree (changes_of u) ≡ true → SparesWaiting s cs u → is_decided u.stage ≡ false
       → footprint (changed_all s.tree cs) (changes_of u) ≡ footprint s.tree (changes_of u)
   waiting-holds u applies spares waiting = (lists s.tree cs (changes_of u) formed all applies (spares waiting)).0.footprint

@@ -31,7 +31,7 @@ use Rattle.ktm_types.specs.declared.options.EnlistmentKind.{EnlistmentKind}
 use Rattle.ktm_types.specs.declared.options.ShareMode.{ShareMode}
 use Rattle.ktm_types.specs.declared.reply.Reply.{Reply}
 use Rattle.ktm_types.specs.declared.reply.Reply.TheVariants.{Refused, Done}
-use Rattle.ktm_world.specs.Changes.{applies, apply_all, is_make, node_of, changes_bytes}
+use Rattle.ktm_world.specs.Changes.{applies, changes_apply, is_make, node_of, changes_bytes}
 use Rattle.ktm_world.specs.Committed.{Work}
 use Rattle.ktm_world.specs.Conflicts.{writes}
 use Rattle.ktm_world.specs.Decide.{decide, caller, transacted, command_tests, command_effect, refusal_of, with_room, of_files, opening, on_file, on_file_tests, own_tests, bound_file}
@@ -77,7 +77,7 @@ pub record MakesNone (x : Present) (cs : List Change) : Type 0 where
 
 -- at most one work is committed, which applies
 pub record IsWritten (x : Present) (o : Outcome) : Type 0 where
-  pub works : (o.works ≡ []) ⊎ ((w : Work) × (o.works ≡ w ∷ []) × (apply_all x.files.tree w.changes ≡ true) × MakesNone x w.changes)
+  pub works : (o.works ≡ []) ⊎ ((w : Work) × (o.works ≡ w ∷ []) × (changes_apply x.files.tree w.changes ≡ true) × MakesNone x w.changes)
   pub openings : (o.openings ≡ []) ⊎ (o.works ≡ [])
   pub puts : list_all puts_all o.events ≡ true
 
@@ -357,13 +357,13 @@ module _ (lists : ListsLaw) (formed : FormedLaw) (x : Present) (course : IsSound
   written-course o (inr by) = subst (λ p. IsWritten x p) (sym by.is) (if_cases (λ o. IsWritten x o) (is_undecided by.course.transaction) _ _
       (λ undecided. record { works = works; openings = inl refl; puts = puts }) (λ decided. record { works = works; openings = inl refl; puts = puts }))
     where
-      works : (by.course.works ≡ []) ⊎ ((w : Work) × (by.course.works ≡ w ∷ []) × (apply_all x.files.tree w.changes ≡ true) × MakesNone x w.changes)
+      works : (by.course.works ≡ []) ⊎ ((w : Work) × (by.course.works ≡ w ∷ []) × (changes_apply x.files.tree w.changes ≡ true) × MakesNone x w.changes)
       works = elim by.own.works [
         | inl none ↦ inl none
         | inr (w, one, changes, settings) ↦ inr (
           w,
           one,
-          subst (λ cs. apply_all x.files.tree cs ≡ true) (sym changes) (own-apply x sound by.transaction.id),
+          subst (λ cs. changes_apply x.files.tree cs ≡ true) (sym changes) (own-apply x sound by.transaction.id),
           subst (λ cs. MakesNone x cs) (sym changes) (own-makes by.transaction.id),
         )
       ]

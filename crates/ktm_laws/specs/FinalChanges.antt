@@ -1,7 +1,7 @@
 -- What a transaction's changes are in the form in which they are committed.
 use Rattle.std.specs.Prelude.{◌≡◌, ℕ, not, true, List, [], ◌∷◌, ◌++◌, filter}
 use Rattle.ktm_types.specs.declared.change.Change.{Change}
-use Rattle.ktm_world.specs.Changes.{changed_all, applies, apply_all, changes_bytes}
+use Rattle.ktm_world.specs.Changes.{changed_all, applies, changes_apply, changes_bytes}
 use Rattle.ktm_world.specs.Committed.{changes_to_commit, written_files}
 use Rattle.ktm_world.specs.Files.{bytes_after}
 use Rattle.ktm_world.specs.Holds.{each_change, places_of, dropped_directory, moved_directory}
@@ -25,5 +25,5 @@ pub record IsFinal (changes : List Change) (bytes : ℕ → List ℕ) : Type 0 w
 -- this form is final, and one change more, which applies to the names that a transaction sees, makes changes of that form that apply
 abbrev pub FinalChangesLaw : Type 0
 FinalChangesLaw = ((changes : List Change) (bytes : ℕ → List ℕ) → IsFinal changes bytes)
-    × ((tree : Tree) (changes : List Change) (change : Change) (bytes bytes' : ℕ → List ℕ) → changes_to_commit changes bytes ≡ changes → apply_all tree changes ≡ true
-    → applies (changed_all tree (names_of changes)) change ≡ true → apply_all tree (changes_to_commit (changes ++ change ∷ []) bytes') ≡ true)
+    × ((tree : Tree) (changes : List Change) (change : Change) (bytes bytes' : ℕ → List ℕ) → changes_to_commit changes bytes ≡ changes → changes_apply tree changes ≡ true
+    → applies (changed_all tree (names_of changes)) change ≡ true → changes_apply tree (changes_to_commit (changes ++ change ∷ []) bytes') ≡ true)

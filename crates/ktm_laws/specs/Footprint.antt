@@ -2,7 +2,7 @@
 use Rattle.std.specs.Prelude.{◌≡◌, ◌⊎◌, ℕ, ◌&&◌, true, false, List, [], ◌∷◌, map}
 use Rattle.std.specs.List.{list_any}
 use Rattle.ktm_types.specs.declared.change.Change.{Change}
-use Rattle.ktm_world.specs.Changes.{changed_all, apply_all, is_make, node_of, has_made}
+use Rattle.ktm_world.specs.Changes.{changed_all, changes_apply, is_make, node_of, has_made}
 use Rattle.ktm_world.specs.Durable.{acts_of_all}
 use Rattle.ktm_world.specs.Holds.{Place, each_change, holds_by, meets, same_place, places_of, dropped_directory, moved_directory}
 use Rattle.ktm_world.specs.Tree.{Tree, IsWellFormed}
@@ -38,17 +38,17 @@ pub record AreFootprintsApart (a b : Footprint) : Type 0 where
 
 -- after the first changes the second ones apply, and hold what they held without them
 pub record Stays (tree : Tree) (bs cs : List Change) : Type 0 where
-  pub applies : apply_all (changed_all tree bs) cs ≡ true
+  pub applies : changes_apply (changed_all tree bs) cs ≡ true
   pub footprint : footprint (changed_all tree bs) cs ≡ footprint tree cs
 
 -- two lists of changes that apply to a well-formed tree, and whose footprints are apart, apply in both orders, hold what they held, and make the same tree
 abbrev pub ListsLaw : Type 0
-ListsLaw = (tree : Tree) (bs cs : List Change) → IsWellFormed tree → apply_all tree bs ≡ true → apply_all tree cs ≡ true
+ListsLaw = (tree : Tree) (bs cs : List Change) → IsWellFormed tree → changes_apply tree bs ≡ true → changes_apply tree cs ≡ true
     → AreFootprintsApart (footprint tree bs) (footprint tree cs)
     → Stays tree bs cs × Stays tree cs bs × (changed_all (changed_all tree bs) cs ≡ changed_all (changed_all tree cs) bs)
 
 -- changes that meet no hold of others on the same tree, and make no node that those make, are apart from them, whatever files those have open for writing
 abbrev pub MeetingLaw : Type 0
-MeetingLaw = (tree : Tree) (bs cs : List Change) (writes : List ℕ) → apply_all tree bs ≡ true → apply_all tree cs ≡ true
+MeetingLaw = (tree : Tree) (bs cs : List Change) (writes : List ℕ) → changes_apply tree bs ≡ true → changes_apply tree cs ≡ true
     → list_any (meets (holds_by tree bs writes)) (acts_of_all tree cs) ≡ false → list_any (λ c. is_make c && has_made bs (node_of c)) cs ≡ false
     → AreFootprintsApart (footprint tree bs) (footprint tree cs)

@@ -11,7 +11,7 @@ use Rattle.ktm_types.specs.declared.event.DonePart.{DonePart}
 use Rattle.ktm_keyed.specs.declared.keyed.Keyed.{Keyed}
 use Rattle.ktm_types.specs.declared.event.Part.{Part}
 use Rattle.ktm_types.specs.declared.event.Part.TheVariants.{Enlistment}
-use Rattle.ktm_world.specs.Changes.{apply_all, bytes_in, is_empty_list, is_make, node_of, has_changes}
+use Rattle.ktm_world.specs.Changes.{changes_apply, bytes_in, is_empty_list, is_make, node_of, has_changes}
 use Rattle.ktm_world.specs.Durable.{Durable, Recorded, is_ready, is_held, is_decided, changes_of, settings_of, enlistments_of, is_before, holds_in, is_part_of, is_sole, is_manager, is_new_in, are_recorded_changes, has_changes_part, has_settings_part, has_part, waiting, is_within_limits}
 use Rattle.ktm_keyed.specs.Keyed.{is_rising}
 use Rattle.ktm_world.specs.Keys.{are_good_settings, is_bad_key, is_bad_value}
@@ -136,7 +136,7 @@ pub record IsGoodState (s : Durable) : Type 0 where
   -- changes that wait have the form in which they are recorded, and a decided transaction has none
   pub changes : list_all are_kept_changes s.transactions ≡ true
   -- changes that wait apply to the committed files
-  pub apply : list_all (λ t. apply_all s.tree (changes_of t)) s.transactions ≡ true
+  pub apply : list_all (λ t. changes_apply s.tree (changes_of t)) s.transactions ≡ true
   -- the nodes that they make are below the next number
   pub made : list_all (λ t. list_all (is_made_below s.next_node) (changes_of t)) s.transactions ≡ true
   -- and the tree has none of them

@@ -3,7 +3,7 @@ use Rattle.std.specs.Prelude.{◌≡◌, ℕ, ◌||◌, not, true, false, [], �
 use Rattle.ktm_base.specs.declared.id.Id.{Id}
 use Rattle.ktm_types.specs.declared.change.Change.{Change}
 use Rattle.ktm_types.specs.declared.object.Transaction.{Transaction}
-use Rattle.ktm_world.specs.Changes.{applies, apply_all, changes_bytes, is_make, node_of}
+use Rattle.ktm_world.specs.Changes.{applies, changes_apply, changes_bytes, is_make, node_of}
 use Rattle.ktm_world.specs.Committed.{committed_with}
 use Rattle.ktm_world.specs.Conflicts.{conflicts, holds_now, writes}
 use Rattle.ktm_world.specs.Durable.{acts_of}
@@ -25,7 +25,7 @@ files_committed files id =
 -- a transaction's changes still apply, it holds what it held, and it sees the bytes that it saw of the files that it made, changed or first opened
 pub record IsLeft (files after : FilesNow) (id : Id) : Type 0 where
   pub own : own_changes after.table.own id ≡ own_changes files.table.own id
-  pub applies : apply_all after.tree (own_changes after.table.own id) ≡ true
+  pub applies : changes_apply after.tree (own_changes after.table.own id) ≡ true
   pub holds : holds_now after id ≡ holds_now files id
   pub bytes : (file : ℕ) → (made_or_opened files id file || is_in (map node_of (own_changes files.table.own id)) file) ≡ true → bytes_seen after (Some id) file ≡ bytes_seen files (Some id) file
 

@@ -6,7 +6,7 @@ use Rattle.ktm_types.specs.declared.change.Change.{Change}
 use Rattle.ktm_types.specs.declared.recorded.Node.{Node}
 use Rattle.ktm_types.specs.declared.object.Object.{Object}
 use Rattle.ktm_types.specs.declared.object.Transaction.{Transaction}
-use Rattle.ktm_world.specs.Changes.{apply_all, changes_bytes, is_drop, is_make, node_of, has_changes, has_made}
+use Rattle.ktm_world.specs.Changes.{changes_apply, changes_bytes, is_drop, is_make, node_of, has_changes, has_made}
 use Rattle.ktm_world.specs.Committed.{Version, version_of, changes_to_commit}
 use Rattle.ktm_world.specs.Conflicts.{holds_now, writes}
 use Rattle.ktm_world.specs.Files.{FilesNow, FirstOpen, OpenFile, OwnChanges, own_changes, first_open_of, is_last_version, tree_of, tree_seen, bytes_seen}
@@ -157,7 +157,7 @@ pub record IsSoundFiles (x : Present) : Type 0 where
   -- they are in the form in which they are committed
   pub own_final : All (λ o. changes_to_commit o.changes (bytes_seen x.files (Some o.transaction)) ≡ o.changes) x.files.table.own
   -- they apply to the committed files
-  pub own_apply : list_all (λ o. apply_all x.files.tree o.changes) x.files.table.own ≡ true
+  pub own_apply : list_all (λ o. changes_apply x.files.tree o.changes) x.files.table.own ≡ true
   -- they put and cut bytes of files that the transaction made or first opened
   pub own_opened : list_all (λ o. list_all (is_change_of_opened x o.transaction) o.changes) x.files.table.own ≡ true
   -- the contents that they put are not empty

@@ -60,9 +60,9 @@ applies tree (Move node parent name) =
 applies tree (Drop node) = not (node == root) && is_there tree node && not (has_entries tree node)
 
 -- do changes apply in order
-abbrev pub apply_all : Tree → List Change → Bool
-apply_all tree [] = true
-apply_all tree (change ∷ changes) = applies tree change && apply_all (changed tree change) changes
+abbrev pub changes_apply : Tree → List Change → Bool
+changes_apply tree [] = true
+changes_apply tree (change ∷ changes) = applies tree change && changes_apply (changed tree change) changes
 
 -- the node that a change makes or changes
 abbrev pub node_of : Change → ℕ

@@ -77,107 +77,127 @@ abbrev pub on_file : Present → Option OpenFile → (OpenFile → FileOutcome) 
 on_file x None call = only_reply x Done
 on_file x (Some o) call = of_files x o.transaction (call o)
 
+-- each call: its tests on a machine that is up, in their order, and what it does where none of them fails
+abbrev pub call_of : Present → Pid → Command → List (Bool × Refusal) × Outcome
+call_of x process (CreateTransaction label timeout) = (create_transaction_tests x process label, create_transaction x process label timeout)
+call_of x process (OpenTransaction label guid) = (open_transaction_tests x process label guid, open_transaction x process label guid)
+call_of x process (CommitTransaction label) = (transaction_tests (transaction_named x process label), commit_transaction x (transaction_named x process label))
+call_of x process (RollbackTransaction label) = (rollback_transaction_tests (transaction_named x process label), rollback_transaction x (transaction_named x process label))
+call_of x process (GetTransactionInformation label) = (
+  invalid_handle (transaction_named x process label) ∷ [],
+  get_transaction_information x (transaction_named x process label),
+)
+call_of x process (CreateResourceManager label durability) = (create_resource_manager_tests x process label, create_resource_manager x process label durability)
+call_of x process (OpenResourceManager label guid) = (open_resource_manager_tests x process label guid, open_resource_manager x process label guid)
+call_of x process (RecoverResourceManager label) = (invalid_handle (manager_named x process label) ∷ [], recover_resource_manager x (manager_named x process label))
+call_of x process (GetNotificationResourceManager label) = (get_notification_tests (manager_named x process label), get_notification x (manager_named x process label))
+call_of x process (CreateEnlistment label manager transaction kind) = (
+  create_enlistment_tests x process label (manager_named x process manager) (transaction_named x process transaction) kind,
+  create_enlistment x process label (manager_named x process manager) (transaction_named x process transaction) kind,
+)
+call_of x process (OpenEnlistment label manager guid) = (
+  open_enlistment_tests x process label (manager_named x process manager) guid,
+  open_enlistment x process label (manager_named x process manager) guid,
+)
+call_of x process (RecoverEnlistment label) = (enlistment_tests (enlistment_named x process label) (may_recover x), recover_enlistment x (enlistment_named x process label))
+call_of x process (PrePrepareComplete label) = (
+  enlistment_tests (enlistment_named x process label) owes_pre_prepare,
+  pre_prepare_complete x (enlistment_named x process label),
+)
+call_of x process (PrepareComplete label) = (enlistment_tests (enlistment_named x process label) owes_prepare, prepare_complete x (enlistment_named x process label))
+call_of x process (ReadOnlyEnlistment label) = (enlistment_tests (enlistment_named x process label) (may_vote x), read_only_enlistment x (enlistment_named x process label))
+call_of x process (CommitComplete label) = (enlistment_tests (enlistment_named x process label) owes_commit, commit_complete x (enlistment_named x process label))
+call_of x process (RollbackComplete label) = (enlistment_tests (enlistment_named x process label) owes_rollback, rollback_complete x (enlistment_named x process label))
+call_of x process (SinglePhaseReject label) = (
+  enlistment_tests (enlistment_named x process label) (may_reject_one_phase x),
+  single_phase_reject x (enlistment_named x process label),
+)
+call_of x process (RollbackEnlistment label) = (
+  enlistment_tests (enlistment_named x process label) (may_roll_back_by x),
+  rollback_enlistment x (enlistment_named x process label),
+)
+call_of x process (PrePrepareEnlistment label) = (
+  superior_tests x (enlistment_named x process label) before_pre_prepare,
+  pre_prepare_enlistment x (enlistment_named x process label),
+)
+call_of x process (PrepareEnlistment label) = (superior_tests x (enlistment_named x process label) before_prepare, prepare_enlistment x (enlistment_named x process label))
+call_of x process (CommitEnlistment label) = (superior_tests x (enlistment_named x process label) waits_for_superior, commit_enlistment x (enlistment_named x process label))
+call_of x process (SetEnlistmentRecoveryInformation label information) = (
+  set_information_tests x (enlistment_named x process label) information,
+  set_information x (enlistment_named x process label) information,
+)
+call_of x process (GetEnlistmentRecoveryInformation label) = (
+  enlistment_tests (enlistment_named x process label) (is_live_enlistment x.transactions.items),
+  get_information x (enlistment_named x process label),
+)
+call_of x process (CreateFile label path access share disposition) = (
+  bound_test x process label ∷ create_file_tests x.files (file_room x) None path access share disposition,
+  opening x process label None (create_file x.files None path access share disposition),
+)
+call_of x process (CreateFileTransacted label path access share disposition transaction) = (
+  transacted x process transaction (bound_test x process label ∷ create_file_tests x.files (file_room x) (caller x process transaction) path access share disposition),
+  opening x process label (caller x process transaction) (create_file x.files (caller x process transaction) path access share disposition),
+)
+call_of x process (ReadFile file offset many) = (
+  on_file_tests x process file (λ o. read_file_tests o many),
+  on_file x (file_named x process file) (λ o. read_file x.files o offset many),
+)
+call_of x process (WriteFile file offset bytes) = (
+  on_file_tests x process file (λ o. write_file_tests x.files (file_room x) o offset bytes),
+  on_file x (file_named x process file) (λ o. write_file o offset bytes),
+)
+call_of x process (SetEndOfFile file size) = (
+  on_file_tests x process file (λ o. set_end_tests x.files (file_room x) o size),
+  on_file x (file_named x process file) (λ o. set_end o size),
+)
+call_of x process (GetFileSizeEx file) = (file_tests x process file, on_file x (file_named x process file) (λ o. get_size x.files o))
+call_of x process (FlushFileBuffers file) = (on_file_tests x process file (λ o. write_access_test o ∷ []), on_file x (file_named x process file) (λ o. flush_file))
+call_of x process (DeleteFile path) = (delete_file_tests x.files (file_room x) None path, of_files x None (delete_file x.files None path))
+call_of x process (CreateDirectory path) = (create_directory_tests x.files (file_room x) None path, of_files x None (create_directory x.files None path))
+call_of x process (RemoveDirectory path) = (remove_directory_tests x.files (file_room x) None path, of_files x None (remove_directory x.files None path))
+call_of x process (MoveFile source target) = (move_file_tests x.files (file_room x) None source target, of_files x None (move_file x.files None source target))
+call_of x process (DeleteFileTransacted path transaction) = (
+  transacted x process transaction (delete_file_tests x.files (file_room x) (caller x process transaction) path),
+  in_transaction x process transaction (λ who. delete_file x.files who path),
+)
+call_of x process (CreateDirectoryTransacted path transaction) = (
+  transacted x process transaction (create_directory_tests x.files (file_room x) (caller x process transaction) path),
+  in_transaction x process transaction (λ who. create_directory x.files who path),
+)
+call_of x process (RemoveDirectoryTransacted path transaction) = (
+  transacted x process transaction (remove_directory_tests x.files (file_room x) (caller x process transaction) path),
+  in_transaction x process transaction (λ who. remove_directory x.files who path),
+)
+call_of x process (MoveFileTransacted source target transaction) = (
+  transacted x process transaction (move_file_tests x.files (file_room x) (caller x process transaction) source target),
+  in_transaction x process transaction (λ who. move_file x.files who source target),
+)
+call_of x process (FindFiles searched) = (find_files_tests x.files None searched, of_files x None (find_files x.files None searched))
+call_of x process (FindFilesTransacted searched transaction) = (
+  transacted x process transaction (find_files_tests x.files (caller x process transaction) searched),
+  in_transaction x process transaction (λ who. find_files x.files who searched),
+)
+call_of x process (KvSet transaction key value) = (
+  transacted x process transaction (kv_set_tests x.keys (key_room x) (caller x process transaction) key value),
+  of_keys x (kv_set x.keys (caller x process transaction) key value),
+)
+call_of x process (KvUnset transaction key) = (
+  transacted x process transaction (kv_unset_tests x.keys (key_room x) (caller x process transaction) key),
+  of_keys x (kv_unset x.keys (caller x process transaction) key),
+)
+call_of x process (KvGet view key) = (view_tests x process view ++ kv_get_tests x.keys (viewer x process view) key, of_keys x (kv_get x.keys (viewer x process view) key))
+call_of x process (KvList view) = (view_tests x process view, of_keys x (kv_list x.keys (viewer x process view)))
+call_of x process (CloseHandle label) = (close_handle_tests x process label, close_handle x process label)
+call_of x process (DuplicateHandle label from source) = (duplicate_handle_tests x process label from source, duplicate_handle x process label from source)
+call_of x process Exit = ([], exit x process)
+
 -- the tests of a command on a machine that is up
 abbrev pub command_tests : Present → Pid → Command → List (Bool × Refusal)
-command_tests x process (CreateTransaction label timeout) = create_transaction_tests x process label
-command_tests x process (OpenTransaction label guid) = open_transaction_tests x process label guid
-command_tests x process (CommitTransaction label) = transaction_tests (transaction_named x process label)
-command_tests x process (RollbackTransaction label) = rollback_transaction_tests (transaction_named x process label)
-command_tests x process (GetTransactionInformation label) = invalid_handle (transaction_named x process label) ∷ []
-command_tests x process (CreateResourceManager label durability) = create_resource_manager_tests x process label
-command_tests x process (OpenResourceManager label guid) = open_resource_manager_tests x process label guid
-command_tests x process (RecoverResourceManager label) = invalid_handle (manager_named x process label) ∷ []
-command_tests x process (GetNotificationResourceManager label) = get_notification_tests (manager_named x process label)
-command_tests x process (CreateEnlistment label manager transaction kind) = create_enlistment_tests x process label (manager_named x process manager) (transaction_named x process transaction) kind
-command_tests x process (OpenEnlistment label manager guid) = open_enlistment_tests x process label (manager_named x process manager) guid
-command_tests x process (RecoverEnlistment label) = enlistment_tests (enlistment_named x process label) (may_recover x)
-command_tests x process (PrePrepareComplete label) = enlistment_tests (enlistment_named x process label) owes_pre_prepare
-command_tests x process (PrepareComplete label) = enlistment_tests (enlistment_named x process label) owes_prepare
-command_tests x process (ReadOnlyEnlistment label) = enlistment_tests (enlistment_named x process label) (may_vote x)
-command_tests x process (CommitComplete label) = enlistment_tests (enlistment_named x process label) owes_commit
-command_tests x process (RollbackComplete label) = enlistment_tests (enlistment_named x process label) owes_rollback
-command_tests x process (SinglePhaseReject label) = enlistment_tests (enlistment_named x process label) (may_reject_one_phase x)
-command_tests x process (RollbackEnlistment label) = enlistment_tests (enlistment_named x process label) (may_roll_back_by x)
-command_tests x process (PrePrepareEnlistment label) = superior_tests x (enlistment_named x process label) before_pre_prepare
-command_tests x process (PrepareEnlistment label) = superior_tests x (enlistment_named x process label) before_prepare
-command_tests x process (CommitEnlistment label) = superior_tests x (enlistment_named x process label) waits_for_superior
-command_tests x process (SetEnlistmentRecoveryInformation label information) = set_information_tests x (enlistment_named x process label) information
-command_tests x process (GetEnlistmentRecoveryInformation label) = enlistment_tests (enlistment_named x process label) (is_live_enlistment x.transactions.items)
-command_tests x process (CreateFile label path access share disposition) = bound_test x process label ∷ create_file_tests x.files (file_room x) None path access share disposition
-command_tests x process (CreateFileTransacted label path access share disposition transaction) = transacted x process transaction (bound_test x process label ∷ create_file_tests x.files (file_room x) (caller x process transaction) path access share disposition)
-command_tests x process (ReadFile file offset many) = on_file_tests x process file (λ o. read_file_tests o many)
-command_tests x process (WriteFile file offset bytes) = on_file_tests x process file (λ o. write_file_tests x.files (file_room x) o offset bytes)
-command_tests x process (SetEndOfFile file size) = on_file_tests x process file (λ o. set_end_tests x.files (file_room x) o size)
-command_tests x process (GetFileSizeEx file) = file_tests x process file
-command_tests x process (FlushFileBuffers file) = on_file_tests x process file (λ o. write_access_test o ∷ [])
-command_tests x process (DeleteFile path) = delete_file_tests x.files (file_room x) None path
-command_tests x process (CreateDirectory path) = create_directory_tests x.files (file_room x) None path
-command_tests x process (RemoveDirectory path) = remove_directory_tests x.files (file_room x) None path
-command_tests x process (MoveFile source target) = move_file_tests x.files (file_room x) None source target
-command_tests x process (DeleteFileTransacted path transaction) = transacted x process transaction (delete_file_tests x.files (file_room x) (caller x process transaction) path)
-command_tests x process (CreateDirectoryTransacted path transaction) = transacted x process transaction (create_directory_tests x.files (file_room x) (caller x process transaction) path)
-command_tests x process (RemoveDirectoryTransacted path transaction) = transacted x process transaction (remove_directory_tests x.files (file_room x) (caller x process transaction) path)
-command_tests x process (MoveFileTransacted source target transaction) = transacted x process transaction (move_file_tests x.files (file_room x) (caller x process transaction) source target)
-command_tests x process (FindFiles searched) = find_files_tests x.files None searched
-command_tests x process (FindFilesTransacted searched transaction) = transacted x process transaction (find_files_tests x.files (caller x process transaction) searched)
-command_tests x process (KvSet transaction key value) = transacted x process transaction (kv_set_tests x.keys (key_room x) (caller x process transaction) key value)
-command_tests x process (KvUnset transaction key) = transacted x process transaction (kv_unset_tests x.keys (key_room x) (caller x process transaction) key)
-command_tests x process (KvGet view key) = view_tests x process view ++ kv_get_tests x.keys (viewer x process view) key
-command_tests x process (KvList view) = view_tests x process view
-command_tests x process (CloseHandle label) = close_handle_tests x process label
-command_tests x process (DuplicateHandle label from source) = duplicate_handle_tests x process label from source
-command_tests x process Exit = []
+command_tests x process command = (call_of x process command).0
 
 -- what a command does that is not refused
 abbrev pub command_effect : Present → Pid → Command → Outcome
-command_effect x process (CreateTransaction label timeout) = create_transaction x process label timeout
-command_effect x process (OpenTransaction label guid) = open_transaction x process label guid
-command_effect x process (CommitTransaction label) = commit_transaction x (transaction_named x process label)
-command_effect x process (RollbackTransaction label) = rollback_transaction x (transaction_named x process label)
-command_effect x process (GetTransactionInformation label) = get_transaction_information x (transaction_named x process label)
-command_effect x process (CreateResourceManager label durability) = create_resource_manager x process label durability
-command_effect x process (OpenResourceManager label guid) = open_resource_manager x process label guid
-command_effect x process (RecoverResourceManager label) = recover_resource_manager x (manager_named x process label)
-command_effect x process (GetNotificationResourceManager label) = get_notification x (manager_named x process label)
-command_effect x process (CreateEnlistment label manager transaction kind) = create_enlistment x process label (manager_named x process manager) (transaction_named x process transaction) kind
-command_effect x process (OpenEnlistment label manager guid) = open_enlistment x process label (manager_named x process manager) guid
-command_effect x process (RecoverEnlistment label) = recover_enlistment x (enlistment_named x process label)
-command_effect x process (PrePrepareComplete label) = pre_prepare_complete x (enlistment_named x process label)
-command_effect x process (PrepareComplete label) = prepare_complete x (enlistment_named x process label)
-command_effect x process (ReadOnlyEnlistment label) = read_only_enlistment x (enlistment_named x process label)
-command_effect x process (CommitComplete label) = commit_complete x (enlistment_named x process label)
-command_effect x process (RollbackComplete label) = rollback_complete x (enlistment_named x process label)
-command_effect x process (SinglePhaseReject label) = single_phase_reject x (enlistment_named x process label)
-command_effect x process (RollbackEnlistment label) = rollback_enlistment x (enlistment_named x process label)
-command_effect x process (PrePrepareEnlistment label) = pre_prepare_enlistment x (enlistment_named x process label)
-command_effect x process (PrepareEnlistment label) = prepare_enlistment x (enlistment_named x process label)
-command_effect x process (CommitEnlistment label) = commit_enlistment x (enlistment_named x process label)
-command_effect x process (SetEnlistmentRecoveryInformation label information) = set_information x (enlistment_named x process label) information
-command_effect x process (GetEnlistmentRecoveryInformation label) = get_information x (enlistment_named x process label)
-command_effect x process (CreateFile label path access share disposition) = opening x process label None (create_file x.files None path access share disposition)
-command_effect x process (CreateFileTransacted label path access share disposition transaction) = opening x process label (caller x process transaction) (create_file x.files (caller x process transaction) path access share disposition)
-command_effect x process (ReadFile file offset many) = on_file x (file_named x process file) (λ o. read_file x.files o offset many)
-command_effect x process (WriteFile file offset bytes) = on_file x (file_named x process file) (λ o. write_file o offset bytes)
-command_effect x process (SetEndOfFile file size) = on_file x (file_named x process file) (λ o. set_end o size)
-command_effect x process (GetFileSizeEx file) = on_file x (file_named x process file) (λ o. get_size x.files o)
-command_effect x process (FlushFileBuffers file) = on_file x (file_named x process file) (λ o. flush_file)
-command_effect x process (DeleteFile path) = of_files x None (delete_file x.files None path)
-command_effect x process (CreateDirectory path) = of_files x None (create_directory x.files None path)
-command_effect x process (RemoveDirectory path) = of_files x None (remove_directory x.files None path)
-command_effect x process (MoveFile source target) = of_files x None (move_file x.files None source target)
-command_effect x process (DeleteFileTransacted path transaction) = in_transaction x process transaction (λ who. delete_file x.files who path)
-command_effect x process (CreateDirectoryTransacted path transaction) = in_transaction x process transaction (λ who. create_directory x.files who path)
-command_effect x process (RemoveDirectoryTransacted path transaction) = in_transaction x process transaction (λ who. remove_directory x.files who path)
-command_effect x process (MoveFileTransacted source target transaction) = in_transaction x process transaction (λ who. move_file x.files who source target)
-command_effect x process (FindFiles searched) = of_files x None (find_files x.files None searched)
-command_effect x process (FindFilesTransacted searched transaction) = in_transaction x process transaction (λ who. find_files x.files who searched)
-command_effect x process (KvSet transaction key value) = of_keys x (kv_set x.keys (caller x process transaction) key value)
-command_effect x process (KvUnset transaction key) = of_keys x (kv_unset x.keys (caller x process transaction) key)
-command_effect x process (KvGet view key) = of_keys x (kv_get x.keys (viewer x process view) key)
-command_effect x process (KvList view) = of_keys x (kv_list x.keys (viewer x process view))
-command_effect x process (CloseHandle label) = close_handle x process label
-command_effect x process (DuplicateHandle label from source) = duplicate_handle x process label from source
-command_effect x process Exit = exit x process
+command_effect x process command = (call_of x process command).1
 
 -- the refusal of a command, if it has one beside that of a full log
 abbrev pub refusal_of : Present → Pid → Command → Option Refusal

@@ -17,7 +17,7 @@ use Rattle.ktm_types.specs.declared.event.Part.TheVariants.{Enlistment, Changes,
 use Rattle.ktm_world.specs.Keys.{are_good_settings, Store, OwnSettings, stored_all}
 use Rattle.ktm_keyed.specs.Keyed.{value_at}
 use Rattle.ktm_world.specs.Transactions.{same_id}
-use Rattle.ktm_world.specs.Changes.{changed, changed_all, apply_all, node_of, changes_bytes, is_make, next_after, nodes_made, has_made, has_changes}
+use Rattle.ktm_world.specs.Changes.{changed, changed_all, changes_apply, node_of, changes_bytes, is_make, next_after, nodes_made, has_made, has_changes}
 use Rattle.ktm_world.specs.Committed.{written_files}
 use Rattle.ktm_world.specs.Holds.{Holds, holds_by, Act, place, opens, deletes, moves_file, makes, drops_directory, moves_directory, meets}
 use Rattle.ktm_world.specs.Tree.{Tree, node_at, bytes_or_none, bytes_of, units_of}
@@ -251,10 +251,10 @@ abbrev pub is_new_in : Tree → Change → Bool
 is_new_in tree change = not (is_make change) || is_none (node_at tree (node_of change))
 
 -- changes that apply, meet no hold of another transaction, and make no node that is in the tree or is made in another one's waiting work
-abbrev pub changes_apply : Durable → Option Id → List Change → Bool
-changes_apply s who changes =
+abbrev pub recorded_changes_apply : Durable → Option Id → List Change → Bool
+recorded_changes_apply s who changes =
     list_all (λ t. not (list_any (meets (holds_in s t)) (acts_of_all s.tree changes)) && not (list_any (λ change. is_make change && has_made (changes_of t) (node_of change)) changes)) (others_waiting s who)
-    && apply_all s.tree changes && list_all (is_new_in s.tree) changes
+    && changes_apply s.tree changes && list_all (is_new_in s.tree) changes
 
 -- settings that meet no hold of another transaction
 abbrev pub settings_apply : Durable → Option Id → OwnSettings → Bool
@@ -312,7 +312,7 @@ has_settings_part t = list_any (λ p. is_part_of DonePart.Keys p.part) t.parts
 -- recorded, apply, and meet no hold of another transaction
 abbrev pub part_applies : Durable → Id → Part → Bool
 part_applies s id (Enlistment enlistment manager information) = is_new_enlistment s enlistment manager information
-part_applies s id (Changes changes) = not (has_changes_part (recorded_or_new s.transactions id)) && are_recorded_changes changes && changes_apply s (Some id) changes
+part_applies s id (Changes changes) = not (has_changes_part (recorded_or_new s.transactions id)) && are_recorded_changes changes && recorded_changes_apply s (Some id) changes
 part_applies s id (Settings settings) = not (has_settings_part (recorded_or_new s.transactions id)) && are_good_settings settings && settings_apply s (Some id) settings
 
 -- the part of a transaction that has this one alone: no enlistment's
@@ -340,7 +340,7 @@ has_undone done t = is_decided t.stage && list_any (λ p. is_part_of done p.part
 abbrev pub fact_applies : Durable → Event → Bool
 fact_applies s (Boot boot) = boot == s.boots + 1 && nat_lt boot (2 ^ 32 - 1)
 fact_applies s (MadeRm manager) = manager.boot == s.boots && not (is_manager s manager)
-fact_applies s (Plain change) = changes_apply s None (change ∷ [])
+fact_applies s (Plain change) = recorded_changes_apply s None (change ∷ [])
 fact_applies s (Ready transaction part) = may_get_ready s transaction && part_applies s transaction part
 fact_applies s (Single transaction part) =
     transaction.boot == s.boots && is_none (recorded_at s.transactions transaction) && is_sole part && part_applies s transaction part

@@ -11,7 +11,7 @@ use Rattle.ktm_types.specs.declared.options.EnlistmentKind.{EnlistmentKind}
 use Rattle.ktm_keyed.specs.Keyed.{value_at}
 use Rattle.ktm_world.specs.Keys.{OwnSettings, own_settings}
 use Rattle.ktm_world.specs.Logs.{is_up}
-use Rattle.ktm_world.specs.Changes.{apply_all, node_of, changes_bytes, is_drop}
+use Rattle.ktm_world.specs.Changes.{changes_apply, node_of, changes_bytes, is_drop}
 use Rattle.ktm_world.specs.Committed.{Committed, Work, with_work}
 use Rattle.ktm_world.specs.Conflicts.{holds_now, writes}
 use Rattle.ktm_world.specs.Durable.{Recorded, changes_of, settings_of, log_applies, stand, is_ready}
@@ -29,7 +29,7 @@ use Rattle.ktm_world.specs.World.{World, OpenedAfter, committed, present, enlist
 -- do works apply, one after another
 abbrev pub works_apply : Committed → List Work → Bool
 works_apply c [] = true
-works_apply c (work ∷ works) = apply_all c.tree work.changes && works_apply (with_work c work) works
+works_apply c (work ∷ works) = changes_apply c.tree work.changes && works_apply (with_work c work) works
 
 -- ---- nobody holds what another holds
 
@@ -194,7 +194,7 @@ pub record IsLawful (w : World) : Type 0 where
   -- what was committed at the restart is well formed, and the works apply in order
   pub works : IsWellFormed w.start.tree × (works_apply w.start w.works ≡ true)
   -- the changes of each undecided transaction apply in order to what is committed
-  pub own : All (λ o. apply_all (committed w).tree o.changes ≡ true) w.table.own
+  pub own : All (λ o. changes_apply (committed w).tree o.changes ≡ true) w.table.own
   -- no two undecided transactions hold the same
   pub apart : all_apart (present w) ≡ true
   -- a file that a transaction changed or may write has not changed since its first open there

@@ -1,7 +1,7 @@
 // The committed files while a log is read.
 ghost use Rattle.std.specs.Prelude.{◌≡◌, ◌&&◌, ◌≤◌, ◌^◌, [], true, length, sum_by, Ok, IfOk, OnOk};
 ghost use Rattle.std.specs.List.{list_all};
-ghost use Rattle.ktm_world.specs.Changes.{applies, apply_all, changed, changed_all, next_after};
+ghost use Rattle.ktm_world.specs.Changes.{applies, changes_apply, changed, changed_all, next_after};
 ghost use Rattle.ktm_world.specs.Durable.{is_new_in, next_after_all};
 ghost use Rattle.ktm_world.specs.Tree.{bytes_of, bytes_or_none, units_of};
 ghost use Rattle.txf_tree.specs.TreeState.{tree_of, versions_of};
@@ -114,7 +114,7 @@ impl DurableFiles {
     /// that is so. It fails for want of memory, and where the files have nearly 2^64 units. Where not all changes were made
     /// the files are of no use, since some of them may have been.
     pub fn commit(&mut self, changes: Vec<Change>) -> Result<bool, NoMemory>
-        ensures applies { IfOk result (λ all. all ≡ (apply_all self.old.tree changes.items && list_all (is_new_in self.old.tree) changes.items)) }
+        ensures applies { IfOk result (λ all. all ≡ (changes_apply self.old.tree changes.items && list_all (is_new_in self.old.tree) changes.items)) }
         ensures after { result ≡ Ok true → (self.new.tree ≡ changed_all self.old.tree changes.items) × (self.new.next_node ≡ next_after_all self.old.next_node changes.items) }
     {
         if !self.are_new(&changes) {

@@ -17,7 +17,7 @@ use Rattle.ktm_types.specs.declared.change.Change.{Change}
 use Rattle.ktm_types.specs.declared.change.Change.TheVariants.{Make, Put, Cut, Move, Drop}
 use Rattle.ktm_types.specs.declared.change.NodeKind.{NodeKind}
 use Rattle.ktm_types.specs.declared.recorded.Node.{Node}
-use Rattle.ktm_world.specs.Changes.{applies, apply_all, changed, changed_all, is_drop, is_make, node_of, nodes_made}
+use Rattle.ktm_world.specs.Changes.{applies, changes_apply, changed, changed_all, is_drop, is_make, node_of, nodes_made}
 use Rattle.ktm_world.specs.Holds.{each_change, place}
 use Rattle.ktm_world.specs.Paths.{is_name}
 use Rattle.ktm_world.specs.Tree.{Tree, IsWellFormed, node_at}
@@ -51,11 +51,11 @@ each_change-append f tree (c ∷ cs) ds =
     ap (λ xs. f tree c ++ xs) (each_change-append f (changed tree c) cs ds)
     ∙ sym (append_assoc (f tree c) (each_change f (changed tree c) cs) (each_change f (changed_all (changed tree c) cs) ds))
 
-apply_all-push : (tree : Tree) (cs : List Change) (c : Change) → apply_all tree cs ≡ true → applies (changed_all tree cs) c ≡ true → apply_all tree (cs ++ c ∷ []) ≡ true
-apply_all-push tree [] c all is = and_from (applies tree c) true is refl
-apply_all-push tree (d ∷ cs) c all is =
-    let parts = and_parts (applies tree d) (apply_all (changed tree d) cs) all in
-    and_from (applies tree d) (apply_all (changed tree d) (cs ++ c ∷ [])) parts.0 (apply_all-push (changed tree d) cs c parts.1 is)
+changes_apply-push : (tree : Tree) (cs : List Change) (c : Change) → changes_apply tree cs ≡ true → applies (changed_all tree cs) c ≡ true → changes_apply tree (cs ++ c ∷ []) ≡ true
+changes_apply-push tree [] c all is = and_from (applies tree c) true is refl
+changes_apply-push tree (d ∷ cs) c all is =
+    let parts = and_parts (applies tree d) (changes_apply (changed tree d) cs) all in
+    and_from (applies tree d) (changes_apply (changed tree d) (cs ++ c ∷ [])) parts.0 (changes_apply-push (changed tree d) cs c parts.1 is)
 
 -- ---- seats
 pub seat_at-under : (es : List (NamedItem (Option ℕ))) (name : List ℕ) → seat_at (seats_in es) name ≡ under es name
@@ -96,7 +96,7 @@ stands-after tree o o' c stands is formed names held =
     record {
       before = stands.before;
       after = rw after formed;
-      applies = rw names (apply_all-push tree o.names c stands.applies is);
+      applies = rw names (changes_apply-push tree o.names c stands.applies is);
       held = λ p.
           let seats : each_change seats_of tree o'.names ≡ each_change seats_of tree o.names ++ (seats_of (seen tree o) c ++ []) =
           ap (each_change seats_of tree) names ∙ each_change-append seats_of tree o.names (c ∷ []) in
@@ -146,12 +146,12 @@ short-after t c names is short m x found = elim (cases_eq (node_of c) m) [
 ]
 
 -- and so are the places that changes hold
-short-seats : (cs : List Change) (t : Tree) (p : List ℕ) (v : Option ℕ) → AreShort t → list_all is_of_names cs ≡ true → apply_all t cs ≡ true
+short-seats : (cs : List Change) (t : Tree) (p : List ℕ) (v : Option ℕ) → AreShort t → list_all is_of_names cs ≡ true → changes_apply t cs ≡ true
     → last_seat (each_change seats_of t cs) p ≡ Some v → length p ≤ 263
 short-seats [] t p v short names all seat = absurd (none-some v seat)
 short-seats (c ∷ cs) t p v short names all seat =
     let names' = and_parts (is_of_names c) (list_all is_of_names cs) names in
-    let all' = and_parts (applies t c) (apply_all (changed t c) cs) all in
+    let all' = and_parts (applies t c) (changes_apply (changed t c) cs) all in
     elim (or_some _ _ v (sym (last_seat-append (seats_of t c) (each_change seats_of (changed t c) cs) p) ∙ seat)) [
       | inl later ↦ short-seats cs (changed t c) p v (short-after t c names'.0 all'.0 short) names'.1 all'.1 later
       | inr earlier ↦
@@ -198,11 +198,11 @@ remade-there (Move node parent name) (Some x) kept there = refl
 remade-there (Drop node) o kept there = absurd (cc)
 
 -- a node that is not dropped stays there
-stays-there : (cs : List Change) (t : Tree) (node : ℕ) → apply_all t cs ≡ true → drop_it cs node ≡ false → is_some (node_at t node) ≡ true
+stays-there : (cs : List Change) (t : Tree) (node : ℕ) → changes_apply t cs ≡ true → drop_it cs node ≡ false → is_some (node_at t node) ≡ true
     → is_some (node_at (changed_all t cs) node) ≡ true
 stays-there [] t node all kept there = there
 stays-there (c ∷ cs) t node all kept there =
-    let parts = and_parts (applies t c) (apply_all (changed t c) cs) all in
+    let parts = and_parts (applies t c) (changes_apply (changed t c) cs) all in
     let both = or_parts (drops c node) (drop_it cs node) kept in
     stays-there cs (changed t c) node parts.1 both.1 (elim (cases_eq (node_of c) node) [
       | inl same ↦
@@ -215,10 +215,10 @@ stays-there (c ∷ cs) t node all kept there =
     ])
 
 -- a node that is not there is not among those that were made and not dropped
-pub times-absent : (cs : List Change) (t : Tree) (node : ℕ) → apply_all t cs ≡ true → node_at (changed_all t cs) node ≡ None → times_made cs node ≡ 0
+pub times-absent : (cs : List Change) (t : Tree) (node : ℕ) → changes_apply t cs ≡ true → node_at (changed_all t cs) node ≡ None → times_made cs node ≡ 0
 times-absent [] t node all none = refl
 times-absent (c ∷ cs) t node all none =
-    let parts = and_parts (applies t c) (apply_all (changed t c) cs) all in
+    let parts = and_parts (applies t c) (changes_apply (changed t c) cs) all in
     let rest = times-absent cs (changed t c) node parts.1 none in
     elim (cases_Bool (is_make c && node_of c == node && not (drop_it cs node))) [
       | inl is ↦

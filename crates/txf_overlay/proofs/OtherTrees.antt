@@ -5,7 +5,7 @@ use Rattle.std.proofs.lemmas.List.{take_at, drop_at}
 use Rattle.ktm_types.specs.declared.change.Change.{Change}
 use Rattle.ktm_types.specs.declared.change.Change.TheVariants.{Make, Put, Cut, Move, Drop}
 use Rattle.ktm_types.specs.declared.recorded.Node.{Node}
-use Rattle.ktm_world.specs.Changes.{applies, apply_all, changed}
+use Rattle.ktm_world.specs.Changes.{applies, changes_apply, changed}
 use Rattle.ktm_world.specs.Holds.{Place, place, each_change, place_of, places_of}
 use Rattle.ktm_world.specs.Tree.{Tree, node_at}
 use Rattle.txf_overlay.specs.Laws.{OtherTreeLaw}
@@ -58,12 +58,12 @@ seats-same t u (Move node parent name) is is' same =
     ap (λ ss. ss ++ seat p (Some node) ∷ []) (left-places (node_at u node) ∙ ap (map leaving) from ∙ sym (left-places (node_at t node)))
 seats-same t u (Drop node) is is' same = left-places (node_at u node) ∙ ap (map leaving) same ∙ sym (left-places (node_at t node))
 
-pub all-seats-same : (cs : List Change) (t u : Tree) → apply_all t cs ≡ true → apply_all u cs ≡ true → each_change places_of u cs ≡ each_change places_of t cs
+pub all-seats-same : (cs : List Change) (t u : Tree) → changes_apply t cs ≡ true → changes_apply u cs ≡ true → each_change places_of u cs ≡ each_change places_of t cs
     → each_change seats_of u cs ≡ each_change seats_of t cs
 all-seats-same [] t u all all' same = refl
 all-seats-same (c ∷ cs) t u all all' same =
-    let here = and_parts (applies t c) (apply_all (changed t c) cs) all in
-    let here' = and_parts (applies u c) (apply_all (changed u c) cs) all' in
+    let here = and_parts (applies t c) (changes_apply (changed t c) cs) all in
+    let here' = and_parts (applies u c) (changes_apply (changed u c) cs) all' in
     let t_many = held-many t c here.0 in
     let u_many = held-many u c here'.0 in
     let first : places_of u c ≡ places_of t c =

@@ -13,7 +13,7 @@ use Rattle.ktm_types.specs.declared.change.Change.{Change}
 use Rattle.ktm_types.specs.declared.change.Change.TheVariants.{Make, Put, Cut, Move, Drop}
 use Rattle.ktm_types.specs.declared.change.NodeKind.{NodeKind}
 use Rattle.ktm_types.specs.declared.recorded.Node.{Node}
-use Rattle.ktm_world.specs.Changes.{applies, apply_all, changed, changed_all, new_content, node_of}
+use Rattle.ktm_world.specs.Changes.{applies, changes_apply, changed, changed_all, new_content, node_of}
 use Rattle.ktm_world.specs.Holds.{Place, place, each_change}
 use Rattle.ktm_world.specs.Tree.{Tree, IsWellFormed, child_of, content_of, is_file, node_at, same_name}
 use Rattle.txf_overlay.specs.OverlayState.{is_of_names, Seat}
@@ -284,7 +284,7 @@ seated-then t t' t'' ss ts first second = record {
     split p last = sym (last_seat-append ss ts p) ∙ last
 
 -- changes of names tell by their seats where nodes stand then
-pub seated : (cs : List Change) (t : Tree) → list_all is_of_names cs ≡ true → apply_all t cs ≡ true → IsOneEach t → Seated t (changed_all t cs) (each_change seats_of t cs)
+pub seated : (cs : List Change) (t : Tree) → list_all is_of_names cs ≡ true → changes_apply t cs ≡ true → IsOneEach t → Seated t (changed_all t cs) (each_change seats_of t cs)
 seated [] t names all one = record {
   some = λ p n last. absurd (none-some (Some n) last);
   none = λ p last n at. none-some None last;
@@ -293,7 +293,7 @@ seated [] t names all one = record {
 }
 seated (c ∷ cs) t names all one =
     let names' = and_parts (is_of_names c) (list_all is_of_names cs) names in
-    let all' = and_parts (applies t c) (apply_all (changed t c) cs) all in
+    let all' = and_parts (applies t c) (changes_apply (changed t c) cs) all in
     let puts_c = puts t c names'.0 all'.0 in
     let first : Seated t (changed t c) (seats_of t c) =
     rw (seats-are t c names'.0 all'.0) (seated-one t (changed t c) (node_of c) (given c) puts_c one) in
@@ -371,19 +371,19 @@ not-of : (node : ℕ) (c : Change) → if_of node c ≡ None → node_of c ≡ n
 not-of node c none same = none-some c (sym none ∙ rw (eq-eqb (node_of c) node same) refl)
 
 -- a node that no change is of is as it was
-pub untouched : (cs : List Change) (t : Tree) (node : ℕ) → apply_all t cs ≡ true → last_of cs node ≡ None → node_at (changed_all t cs) node ≡ node_at t node
+pub untouched : (cs : List Change) (t : Tree) (node : ℕ) → changes_apply t cs ≡ true → last_of cs node ≡ None → node_at (changed_all t cs) node ≡ node_at t node
 untouched [] t node all none = refl
 untouched (c ∷ cs) t node all none =
-    let all' = and_parts (applies t c) (apply_all (changed t c) cs) all in
+    let all' = and_parts (applies t c) (changes_apply (changed t c) cs) all in
     let both = or_none (last_of cs node) (if_of node c) none in
     untouched cs (changed t c) node all'.1 both.0 ∙ node_at-elsewhere t c all'.0 node (not-of node c both.1)
 
-pub last-is : (cs : List Change) (t : Tree) (node : ℕ) (c : Change) → list_all is_of_names cs ≡ true → apply_all t cs ≡ true → last_of cs node ≡ Some c
+pub last-is : (cs : List Change) (t : Tree) (node : ℕ) (c : Change) → list_all is_of_names cs ≡ true → changes_apply t cs ≡ true → last_of cs node ≡ Some c
     → LastIs (changed_all t cs) node c
 last-is [] t node c names all last = absurd (none-some c last)
 last-is (d ∷ cs) t node c names all last =
     let names' = and_parts (is_of_names d) (list_all is_of_names cs) names in
-    let all' = and_parts (applies t d) (apply_all (changed t d) cs) all in
+    let all' = and_parts (applies t d) (changes_apply (changed t d) cs) all in
     elim (or_some (last_of cs node) (if_of node d) c last) [
       | inl later ↦ last-is cs (changed t d) node c names'.1 all'.1 later
       | inr earlier ↦
@@ -476,12 +476,12 @@ abbrev pub file_or : Option NodeKind → Bool → Bool
 file_or None was = was
 file_or (Some kind) was = is_some (new_content kind)
 
-gone-stays : (cs : List Change) (t : Tree) (node : ℕ) → list_all is_of_names cs ≡ true → apply_all t cs ≡ true → made_kind cs node ≡ None → node_at t node ≡ None
+gone-stays : (cs : List Change) (t : Tree) (node : ℕ) → list_all is_of_names cs ≡ true → changes_apply t cs ≡ true → made_kind cs node ≡ None → node_at t node ≡ None
     → node_at (changed_all t cs) node ≡ None
 gone-stays [] t node names all none gone = gone
 gone-stays (c ∷ cs) t node names all none gone =
     let names' = and_parts (is_of_names c) (list_all is_of_names cs) names in
-    let all' = and_parts (applies t c) (apply_all (changed t c) cs) all in
+    let all' = and_parts (applies t c) (changes_apply (changed t c) cs) all in
     let both = or_none (made_kind cs node) (kind_if node c) none in
     gone-stays cs (changed t c) node names'.1 all'.1 both.0 (elim (cases_eq (node_of c) node) [
       | inl same ↦ node_at-there t c all'.0 node same ∙ ap (remade c) gone ∙ still c same both.1
@@ -512,12 +512,12 @@ one-kind (Cut node size pages) t names is there = absurd (cc)
 one-kind (Move node parent name) t names is there = moved-kept t node parent name is
 one-kind (Drop node) t names is there = absurd (true≢false (sym there ∙ ap is_some (node_at-there t (Drop node) is node refl)))
 
-pub kind-is : (cs : List Change) (t : Tree) (node : ℕ) (x : Node) → list_all is_of_names cs ≡ true → apply_all t cs ≡ true → node_at (changed_all t cs) node ≡ Some x
+pub kind-is : (cs : List Change) (t : Tree) (node : ℕ) (x : Node) → list_all is_of_names cs ≡ true → changes_apply t cs ≡ true → node_at (changed_all t cs) node ≡ Some x
     → is_some x.content ≡ file_or (made_kind cs node) (is_file t node)
 kind-is [] t node x names all found = sym (ap (λ o. is_some (content_of o)) found)
 kind-is (c ∷ cs) t node x names all found =
     let names' = and_parts (is_of_names c) (list_all is_of_names cs) names in
-    let all' = and_parts (applies t c) (apply_all (changed t c) cs) all in
+    let all' = and_parts (applies t c) (changes_apply (changed t c) cs) all in
     kind-is cs (changed t c) node x names'.1 all'.1 found ∙ go names'.0 all'.0 (made_kind cs node) refl
     (λ none gone. none-some x (sym (gone-stays cs (changed t c) node names'.1 all'.1 none gone) ∙ found))
   where
@@ -553,12 +553,12 @@ sight-none (Some n) is = absurd (none-some n.parent is)
 -- ---- nodes at held places
 
 -- a node that stands at a held place was changed
-pub seated-touched : (cs : List Change) (t : Tree) (p : List ℕ) (m : ℕ) → list_all is_of_names cs ≡ true → apply_all t cs ≡ true
+pub seated-touched : (cs : List Change) (t : Tree) (p : List ℕ) (m : ℕ) → list_all is_of_names cs ≡ true → changes_apply t cs ≡ true
     → last_seat (each_change seats_of t cs) p ≡ Some (Some m) → last_of cs m ≡ None → ⊥
 seated-touched [] t p m names all last none = none-some (Some m) last
 seated-touched (c ∷ cs) t p m names all last none =
     let names' = and_parts (is_of_names c) (list_all is_of_names cs) names in
-    let all' = and_parts (applies t c) (apply_all (changed t c) cs) all in
+    let all' = and_parts (applies t c) (changes_apply (changed t c) cs) all in
     let both = or_none (last_of cs m) (if_of m c) none in
     elim (or_some _ _ (Some m) (sym (last_seat-append (seats_of t c) (each_change seats_of (changed t c) cs) p) ∙ last)) [
       | inl later ↦ seated-touched cs (changed t c) p m names'.1 all'.1 later both.0
@@ -581,7 +581,7 @@ pub record IsOwnNode (cs : List Change) (t' : Tree) (m : ℕ) : Type 0 where
   pub last : last_of cs m ≡ Some change
   pub name : given_name change ≡ Some node.name
 
-pub own-node : (cs : List Change) (t : Tree) (p : List ℕ) (m : ℕ) → list_all is_of_names cs ≡ true → apply_all t cs ≡ true → IsOneEach t
+pub own-node : (cs : List Change) (t : Tree) (p : List ℕ) (m : ℕ) → list_all is_of_names cs ≡ true → changes_apply t cs ≡ true → IsOneEach t
     → last_seat (each_change seats_of t cs) p ≡ Some (Some m) → IsOwnNode cs (changed_all t cs) m
 own-node cs t p m names all one seat = go (last_of cs m) refl
   where

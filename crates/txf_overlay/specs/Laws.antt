@@ -3,7 +3,7 @@ use Rattle.std.specs.Prelude.{◌≡◌, ℕ, true, List, [], ◌∷◌, ◌++�
 use Rattle.std.specs.List.{list_all}
 use Rattle.ktm_types.specs.declared.change.Change.{Change}
 use Rattle.ktm_types.specs.declared.change.Change.TheVariants.{Make, Put, Cut, Move, Drop}
-use Rattle.ktm_world.specs.Changes.{apply_all, bytes_in, is_make, node_of}
+use Rattle.ktm_world.specs.Changes.{changes_apply, bytes_in, is_make, node_of}
 use Rattle.ktm_world.specs.Committed.{changes_to_commit, written_files}
 use Rattle.ktm_world.specs.Files.{bytes_after}
 use Rattle.ktm_world.specs.Holds.{each_change, places_of}
@@ -14,7 +14,7 @@ use Rattle.txf_overlay.specs.Views.{StandsOver}
 
 -- where another tree takes the same changes, which hold the same places in it, they stand over it too
 abbrev pub OtherTreeLaw : Type 0
-OtherTreeLaw = (o : OverlayState) (tree other : Tree) → StandsOver tree o → IsWellFormed other → IsWellFormed (seen other o) → apply_all other o.names ≡ true
+OtherTreeLaw = (o : OverlayState) (tree other : Tree) → StandsOver tree o → IsWellFormed other → IsWellFormed (seen other o) → changes_apply other o.names ≡ true
     → each_change places_of other o.names ≡ each_change places_of tree o.names → StandsOver other o
 
 -- the number of a file that is written

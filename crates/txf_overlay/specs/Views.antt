@@ -3,7 +3,7 @@ use Rattle.std.specs.Prelude.{◌≡◌, ℕ, true, List, [], ◌∷◌, ◌++�
 use Rattle.ktm_types.specs.declared.change.Change.{Change}
 use Rattle.ktm_types.specs.declared.change.Change.TheVariants.{Make, Put, Cut, Move, Drop}
 use Rattle.ktm_types.specs.declared.recorded.Node.{Node}
-use Rattle.ktm_world.specs.Changes.{apply_all}
+use Rattle.ktm_world.specs.Changes.{changes_apply}
 use Rattle.ktm_world.specs.Holds.{Place, place, each_change}
 use Rattle.ktm_world.specs.Tree.{Tree, IsWellFormed, node_at}
 use Rattle.txf_overlay.specs.Names.{place_bytes}
@@ -49,5 +49,5 @@ seats_of tree (Drop node) = left_by (node_at tree node)
 pub record StandsOver (tree : Tree) (o : OverlayState) : Type 0 where
   pub before : IsWellFormed tree
   pub after : IsWellFormed (seen tree o)
-  pub applies : apply_all tree o.names ≡ true
+  pub applies : changes_apply tree o.names ≡ true
   pub held : (name : List ℕ) → seat_at o.held name ≡ last_seat (each_change seats_of tree o.names) name

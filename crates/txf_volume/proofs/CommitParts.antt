@@ -10,12 +10,12 @@ use Rattle.std.specs.List.{flat_map, list_all}
 use Rattle.ktm_laws.proofs.Applying.{Applies-from, Fits-from}
 use Rattle.ktm_laws.proofs.CommittedUnits.{cut-empty, suits-applies}
 use Rattle.ktm_world.proofs.Lookups.{Rises-changed, Rises-from as Rises-of, numbers_rise-from}
-use Rattle.ktm_laws.proofs.NormalForms.{apply_all-second}
-use Rattle.ktm_laws.proofs.Passing.{apply_all-first, All-by, All-in}
+use Rattle.ktm_laws.proofs.NormalForms.{changes_apply-second}
+use Rattle.ktm_laws.proofs.Passing.{changes_apply-first, All-by, All-in}
 use Rattle.ktm_types.specs.declared.change.Change.{Change}
 use Rattle.ktm_types.specs.declared.change.Change.TheVariants.{Make, Put, Cut, Move, Drop}
 use Rattle.ktm_types.specs.declared.change.Contents.TheVariants.{Whole}
-use Rattle.ktm_world.specs.Changes.{applies, apply_all, changed, changed_all, is_drop, is_make, node_of}
+use Rattle.ktm_world.specs.Changes.{applies, changes_apply, changed, changed_all, is_drop, is_make, node_of}
 use Rattle.ktm_world.specs.Committed.{Version, final_bytes, version_of, versions_after, without_version}
 use Rattle.ktm_world.specs.Files.{FirstOpen}
 use Rattle.ktm_world.specs.Tree.{Tree, bytes_of, bytes_or_none, content_of, is_file, node_at, numbers_rise, units_of}
@@ -57,9 +57,9 @@ fresh-all (d ∷ ds) tree older opens fresh c (inr there) = fresh-all ds tree ol
 rise-after : (tree : Tree) (c : Change) → applies tree c ≡ true → numbers_rise tree ≡ true → numbers_rise (changed tree c) ≡ true
 rise-after tree c is rise = numbers_rise-from (changed tree c) (Rises-changed tree c (Fits-from tree c (Applies-from tree c is)) (Rises-of tree rise))
 
-rise-all : (cs : List Change) (tree : Tree) → apply_all tree cs ≡ true → numbers_rise tree ≡ true → numbers_rise (changed_all tree cs) ≡ true
+rise-all : (cs : List Change) (tree : Tree) → changes_apply tree cs ≡ true → numbers_rise tree ≡ true → numbers_rise (changed_all tree cs) ≡ true
 rise-all [] tree is rise = rise
-rise-all (c ∷ cs) tree is rise = let parts = and_parts (applies tree c) (apply_all (changed tree c) cs) is in rise-all cs (changed tree c) parts.1 (rise-after tree c parts.0 rise)
+rise-all (c ∷ cs) tree is rise = let parts = and_parts (applies tree c) (changes_apply (changed tree c) cs) is in rise-all cs (changed tree c) parts.1 (rise-after tree c parts.0 rise)
 
 rests-of : (p : Parts) → AreRight p → Rests (tree_of p.tree) (versions_of p.tree) (firsts_of p)
 rests-of p right = record {
@@ -78,7 +78,7 @@ can-first p cs ds can = record {
       let all : units_older (changed_all (changed_all t cs) ds) (fold versions_after (fold versions_after vs cs) ds) (firsts_of p) < 2 ^ 64 =
       subst (λ v. units_older (changed_all (changed_all t cs) ds) v (firsts_of p) < 2 ^ 64) (fold-append versions_after vs cs ds)
       (subst (λ u. units_older u (fold versions_after vs (cs ++ ds)) (firsts_of p) < 2 ^ 64) (fold-append changed t cs ds) can.few) in
-      let rises = units-rise-all ds (changed_all t cs) (fold versions_after vs cs) (firsts_of p) (apply_all-second t cs ds can.applies) (λ d there. fresh d (in-right cs d there)) (rests-all cs t vs (firsts_of p) first (λ c there. fresh c (in-left cs ds c there)) (rests-of p can.right)) in
+      let rises = units-rise-all ds (changed_all t cs) (fold versions_after vs cs) (firsts_of p) (changes_apply-second t cs ds can.applies) (λ d there. fresh d (in-right cs d there)) (rests-all cs t vs (firsts_of p) first (λ c there. fresh c (in-left cs ds c there)) (rests-of p can.right)) in
       let here = older-of (changed_all t cs) (fold versions_after vs cs) (firsts_of p) in
       let then' = older-of (changed_all (changed_all t cs) ds) (fold versions_after (fold versions_after vs cs) ds) (firsts_of p) in
       omega arith;
@@ -90,8 +90,8 @@ can-first p cs ds can = record {
     vs : List Version
     vs = versions_of p.tree
 
-    first : apply_all (tree_of p.tree) cs ≡ true
-    first = apply_all-first (tree_of p.tree) cs ds can.applies
+    first : changes_apply (tree_of p.tree) cs ≡ true
+    first = changes_apply-first (tree_of p.tree) cs ds can.applies
 
     fresh : AllFresh (cs ++ ds) (firsts_of p)
     fresh = fresh-all (cs ++ ds) (tree_of p.tree) p.versions.older p.versions.opens can.fresh
@@ -109,7 +109,7 @@ can-first p cs ds can = record {
 can-rest : (p q : Parts) (cs ds : List Change) → CanMake p (cs ++ ds) → AreMade p q cs → CanMake q ds
 can-rest p q cs ds can made = record {
   right = made.right;
-  applies = subst (λ t. apply_all t ds ≡ true) (sym made.tree) (apply_all-second (tree_of p.tree) cs ds can.applies);
+  applies = subst (λ t. changes_apply t ds ≡ true) (sym made.tree) (changes_apply-second (tree_of p.tree) cs ds can.applies);
   fresh = subst (λ os. list_all (is_fresh os) ds ≡ true) (sym made.opens) (and_parts _ _ (sym (list_all-append (is_fresh p.versions.opens) cs ds) ∙ can.fresh)).1;
   few = subst (λ n. n < 2 ^ 64) (sym same) can.few;
 }
@@ -382,7 +382,7 @@ all-over : (n : ℕ) (P Q : Written → Type 0) (ws : List Written) → AreOver 
 all-over n P Q [] over step all = All-nil Q
 all-over n P Q (w ∷ ws) over step all = All-cons Q w ws (step w over.0 (All-head P w ws all)) (all-over n P Q ws over.1 step (All-tail P w ws all))
 
-units-final : (tree : Tree) (f : ℕ) (bs : List ℕ) → apply_all tree (final_bytes f bs) ≡ true → numbers_rise tree ≡ true → tree_units (changed_all tree (final_bytes f bs)) + units_of (bytes_of tree f) ≡ tree_units tree + units_of bs
+units-final : (tree : Tree) (f : ℕ) (bs : List ℕ) → changes_apply tree (final_bytes f bs) ≡ true → numbers_rise tree ≡ true → tree_units (changed_all tree (final_bytes f bs)) + units_of (bytes_of tree f) ≡ tree_units tree + units_of bs
 units-final tree f [] is rise =
     let cut = and_parts (applies tree (Cut f 0 [])) true is in
     let all = units-changed tree (Cut f 0 []) ((suits-applies tree (Cut f 0 []) cut.0).file) (Rises-from tree rise) in
@@ -400,7 +400,7 @@ units-final tree f (b ∷ bs) is rise =
     let new = ap units_of (put-none (bytes_of u f) (b ∷ bs) (cut-empty tree f)) in
     omega arith
 
-final-file : (tree : Tree) (f : ℕ) (bs : List ℕ) → apply_all tree (final_bytes f bs) ≡ true → is_file tree f ≡ true
+final-file : (tree : Tree) (f : ℕ) (bs : List ℕ) → changes_apply tree (final_bytes f bs) ≡ true → is_file tree f ≡ true
 final-file tree f [] is = (suits-applies tree (Cut f 0 []) (and_parts (applies tree (Cut f 0 [])) true is).0).file refl
 final-file tree f (b ∷ bs) is = (suits-applies tree (Cut f 0 []) (and_parts (applies tree (Cut f 0 [])) (applies (changed tree (Cut f 0 [])) (Put f 0 (Whole (b ∷ bs))) && true) is).0).file refl
 
@@ -478,10 +478,10 @@ versions-names (c ∷ cs) vs only m =
     let rest = versions-names cs (versions_after vs c) parts.1 m in
     omega arith
 
-units-names : (cs : List Change) (tree : Tree) → apply_all tree cs ≡ true → list_all is_of_names cs ≡ true → numbers_rise tree ≡ true → tree_units (changed_all tree cs) ≤ tree_units tree
+units-names : (cs : List Change) (tree : Tree) → changes_apply tree cs ≡ true → list_all is_of_names cs ≡ true → numbers_rise tree ≡ true → tree_units (changed_all tree cs) ≤ tree_units tree
 units-names [] tree is only rise = omega arith
 units-names (c ∷ cs) tree is only rise =
-    let applied = and_parts (applies tree c) (apply_all (changed tree c) cs) is in
+    let applied = and_parts (applies tree c) (changes_apply (changed tree c) cs) is in
     let parts = and_parts (is_of_names c) (list_all is_of_names cs) only in
     let first = units-name tree c applied.0 parts.0 rise in
     let rest = units-names cs (changed tree c) applied.1 parts.1 (rise-after tree c applied.0 rise) in

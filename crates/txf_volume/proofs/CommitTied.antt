@@ -6,7 +6,7 @@ use Rattle.std.proofs.lemmas.Option.{none-some}
 use Rattle.std.specs.List.{flat_map, list_all, list_any}
 use Rattle.std.specs.Option.{option_map}
 use Rattle.ktm_base.specs.declared.id.Id.{Id}
-use Rattle.ktm_laws.proofs.Passing.{apply_all-first, All-by, All-in, own_changes-of}
+use Rattle.ktm_laws.proofs.Passing.{changes_apply-first, All-by, All-in, own_changes-of}
 use Rattle.ktm_laws.proofs.Reserving.{tree-of}
 use Rattle.ktm_laws.proofs.Sums.{sum-filter-less}
 use Rattle.std.proofs.Math.Bool.{and-false, and-true}
@@ -14,7 +14,7 @@ use Rattle.ktm_laws.specs.Formed.{FormedLaw}
 use Rattle.ktm_laws.specs.Reservations.{files_committed, IsLeft}
 use Rattle.ktm_types.specs.declared.change.Change.{Change}
 use Rattle.ktm_types.specs.declared.change.Change.TheVariants.{Make, Put, Cut, Move, Drop}
-use Rattle.ktm_world.specs.Changes.{apply_all, changed, changed_all, changes_bytes, has_made, is_make, node_of}
+use Rattle.ktm_world.specs.Changes.{changes_apply, changed, changed_all, changes_bytes, has_made, is_make, node_of}
 use Rattle.ktm_world.specs.Committed.{Committed, versions_after, with_change}
 use Rattle.ktm_world.specs.Files.{FilesNow, FirstOpen, OwnChanges, own_changes}
 use Rattle.ktm_world.specs.FileUses.{units_used}
@@ -131,7 +131,7 @@ pub record Releases (r r' : ReserveState) (id : Id) : Type 0 where
 -- what may be required
 pub record IsCommittable (h : FilesHeld) (id : Id) : Type 0 where
   pub ready : MayCommit h id
-  pub applies : apply_all (tree_of h.tree) (own_changes (own_held h.overlays) id) ≡ true
+  pub applies : changes_apply (tree_of h.tree) (own_changes (own_held h.overlays) id) ≡ true
   pub left : LeavesOthers (files_of h) id
   pub unopened : AreUnopened (files_of h) id
   pub counted : CanBeCounted (files_committed (files_of h) id)
@@ -225,7 +225,7 @@ module _ (h : FilesHeld) (units : ℕ) (id : Id) (tied : AreTied h units) where
           record {
             can = record {
               right = right are;
-              applies = subst (λ ds. apply_all t ds ≡ true) own can.applies;
+              applies = subst (λ ds. changes_apply t ds ≡ true) own can.applies;
               fresh = fresh-own o there;
               few = subst (λ ds. units_older (changed_all t ds) (fold versions_after (versions_of h.tree) ds) (firsts_of (parts h.tree v units)) < 2 ^ 64) own (let low = used.1 in omega arith);
             };
@@ -294,8 +294,8 @@ module _ (h : FilesHeld) (units : ℕ) (id : Id) (tied : AreTied h units) where
           let left = left-of o there apart in
           let own = own-of o there in
           let finals = flat_map final_of o.overlay.written in
-          let all : apply_all (tree_of h'.tree) (own_of o.overlay) ≡ true = (λ j. apply_all (sym tree-after j) (sym (left.own ∙ own) j)) ∙ left.applies in
-          let names = apply_all-first (tree_of h'.tree) o.overlay.names finals all in
+          let all : changes_apply (tree_of h'.tree) (own_of o.overlay) ≡ true = (λ j. changes_apply (sym tree-after j) (sym (left.own ∙ own) j)) ∙ left.applies in
+          let names = changes_apply-first (tree_of h'.tree) o.overlay.names finals all in
           let bytes = finals-bytes o.overlay.written in
           let places : each_change places_of (tree_of h'.tree) o.overlay.names ≡ each_change places_of t o.overlay.names =
           sym (names-places o.overlay.names finals (tree_of h'.tree) bytes)

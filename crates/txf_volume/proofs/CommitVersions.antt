@@ -7,7 +7,7 @@ use Rattle.ktm_types.specs.declared.change.Change.{Change}
 use Rattle.ktm_types.specs.declared.change.Change.TheVariants.{Make, Put, Cut, Move, Drop}
 use Rattle.ktm_types.specs.declared.change.Contents.TheVariants.{Whole}
 use Rattle.ktm_types.specs.declared.recorded.Node.{Node}
-use Rattle.ktm_world.specs.Changes.{applies, apply_all, changed, changed_all, is_make, node_of}
+use Rattle.ktm_world.specs.Changes.{applies, changes_apply, changed, changed_all, is_make, node_of}
 use Rattle.ktm_world.specs.Committed.{Version, final_bytes, version_of, versions_after}
 use Rattle.ktm_world.specs.Files.{FirstOpen}
 use Rattle.ktm_world.specs.FileUses.{same_version}
@@ -135,17 +135,17 @@ module _ (tree : Tree) (vs : List Version) (c : Change) (os : List FirstOpen) (i
 abbrev pub AllFresh : List Change → List FirstOpen → Type 0
 AllFresh cs os = (c : Change) → IsIn c cs → Fresh c os
 
-pub rests-all : (cs : List Change) (tree : Tree) (vs : List Version) (os : List FirstOpen) → apply_all tree cs ≡ true → AllFresh cs os → Rests tree vs os → Rests (changed_all tree cs) (fold versions_after vs cs) os
+pub rests-all : (cs : List Change) (tree : Tree) (vs : List Version) (os : List FirstOpen) → changes_apply tree cs ≡ true → AllFresh cs os → Rests tree vs os → Rests (changed_all tree cs) (fold versions_after vs cs) os
 rests-all [] tree vs os is fresh rests = rests
 rests-all (c ∷ cs) tree vs os is fresh rests =
-    let parts = and_parts (applies tree c) (apply_all (changed tree c) cs) is in
+    let parts = and_parts (applies tree c) (changes_apply (changed tree c) cs) is in
     rests-all cs (changed tree c) (versions_after vs c) os parts.1 (λ d there. fresh d (inr there)) (rests-after tree vs c os parts.0 (fresh c (inl refl)) rests)
 
-pub units-rise-all : (cs : List Change) (tree : Tree) (vs : List Version) (os : List FirstOpen) → apply_all tree cs ≡ true → AllFresh cs os → Rests tree vs os
+pub units-rise-all : (cs : List Change) (tree : Tree) (vs : List Version) (os : List FirstOpen) → changes_apply tree cs ≡ true → AllFresh cs os → Rests tree vs os
     → older_units (is_older tree vs) os ≤ older_units (is_older (changed_all tree cs) (fold versions_after vs cs)) os
 units-rise-all [] tree vs os is fresh rests = omega arith
 units-rise-all (c ∷ cs) tree vs os is fresh rests =
-    let parts = and_parts (applies tree c) (apply_all (changed tree c) cs) is in
+    let parts = and_parts (applies tree c) (changes_apply (changed tree c) cs) is in
     let first = units-rise tree vs c os parts.0 (fresh c (inl refl)) rests in
     let rest = units-rise-all cs (changed tree c) (versions_after vs c) os parts.1 (λ d there. fresh d (inr there)) (rests-after tree vs c os parts.0 (fresh c (inl refl)) rests) in
     omega arith
@@ -160,7 +160,7 @@ pub version-final-other : (vs : List Version) (f m : ℕ) (bs : List ℕ) → (f
 version-final-other vs f m [] other = version-elsewhere vs (Cut f 0 []) m other
 version-final-other vs f m (b ∷ bs) other = version-elsewhere (versions_after vs (Cut f 0 [])) (Put f 0 (Whole (b ∷ bs))) m other ∙ version-elsewhere vs (Cut f 0 []) m other
 
-pub content-final-other : (tree : Tree) (f m : ℕ) (bs : List ℕ) → apply_all tree (final_bytes f bs) ≡ true → (f ≡ m → ⊥) → content_of (node_at (changed_all tree (final_bytes f bs)) m) ≡ content_of (node_at tree m)
+pub content-final-other : (tree : Tree) (f m : ℕ) (bs : List ℕ) → changes_apply tree (final_bytes f bs) ≡ true → (f ≡ m → ⊥) → content_of (node_at (changed_all tree (final_bytes f bs)) m) ≡ content_of (node_at tree m)
 content-final-other tree f m [] is other = content-elsewhere tree (Cut f 0 []) (and_parts (applies tree (Cut f 0 [])) true is).0 m other
 content-final-other tree f m (b ∷ bs) is other =
     let parts = and_parts (applies tree (Cut f 0 [])) (applies (changed tree (Cut f 0 [])) (Put f 0 (Whole (b ∷ bs))) && true) is in

@@ -10,7 +10,7 @@ use Rattle.ktm_types.specs.declared.change.Change.TheVariants.{Make, Put, Cut, M
 use Rattle.ktm_types.specs.declared.change.Contents.TheVariants.{Whole}
 use Rattle.ktm_laws.specs.Formed.{FormedLaw}
 use Rattle.ktm_laws.specs.Reservations.{IsLeft}
-use Rattle.ktm_world.specs.Changes.{applies, apply_all, changed, changed_all, changes_bytes, is_free, is_make, is_node_number, is_whole, is_empty_list, next_after, node_of}
+use Rattle.ktm_world.specs.Changes.{applies, changes_apply, changed, changed_all, changes_bytes, is_free, is_make, is_node_number, is_whole, is_empty_list, next_after, node_of}
 use Rattle.ktm_world.specs.Committed.{committed_with, final_bytes, versions_after}
 use Rattle.ktm_world.specs.FileOutcome.{FileOutcome, changing, files_after, next_node_after, with_open, works_of}
 use Rattle.ktm_world.specs.Files.{FilesNow, FirstOpen, OwnChanges, committed_files, files_with, own_changes}
@@ -57,9 +57,9 @@ front-places tree (c ∷ cs) ds none = ap (λ ps. places_of tree c ++ ps) (front
 own-places : (tree : Tree) (o : OverlayState) → each_change places_of tree (own_of o) ≡ each_change places_of tree o.names
 own-places tree o = front-places tree o.names (flat_map final_of o.written) (finals-places o.written (changed_all tree o.names))
 
-apply-front : (tree : Tree) (cs ds : List Change) → apply_all tree (cs ++ ds) ≡ true → apply_all tree cs ≡ true
+apply-front : (tree : Tree) (cs ds : List Change) → changes_apply tree (cs ++ ds) ≡ true → changes_apply tree cs ≡ true
 apply-front tree [] ds all = refl
-apply-front tree (c ∷ cs) ds all = let parts = and_parts (applies tree c) (apply_all (changed tree c) (cs ++ ds)) all in and_from _ _ parts.0 (apply-front (changed tree c) cs ds parts.1)
+apply-front tree (c ∷ cs) ds all = let parts = and_parts (applies tree c) (changes_apply (changed tree c) (cs ++ ds)) all in and_from _ _ parts.0 (apply-front (changed tree c) cs ds parts.1)
 
 over-then : FormedLaw → OtherTreeLaw → (tree : Tree) (c : Change) (o : OverlayState) → IsWellFormed (changed tree c) → IsOver tree o → IsLeftOver tree c o → IsOver (changed tree c) o
 over-then forms others tree c o formed over left =
@@ -141,7 +141,7 @@ module _ (h : FilesHeld) (units : ℕ) (tied : AreTied h units) (c : Change) (pl
           let then : own_changes (files_after (files_of h) None o).table.own own.transaction ≡ own_of own.overlay = its.own ∙ now in
           let made : (files_after (files_of h) None o).tree ≡ changed tree c = ap (λ (d : Option Change). (committed_with (committed_files (files_of h) []) (works_of None d)).tree) is in
           record {
-            apply = (λ i. apply_all (sym made i) (sym then i)) ∙ its.applies;
+            apply = (λ i. changes_apply (sym made i) (sym then i)) ∙ its.applies;
             holds = λ i. record {
               nodes = map node_of (own_of own.overlay) ++ [];
               places = ((λ j. each_change places_of (sym made j) (sym then j)) ∙ ap (λ (h : Holds). h.places) its.holds ∙ ap (each_change places_of tree) now) i;

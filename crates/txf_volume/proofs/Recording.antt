@@ -11,7 +11,7 @@ use Rattle.std.specs.Prelude.{nat_le, nat_lt}
 use Rattle.ktm_types.specs.declared.change.Change.{Change}
 use Rattle.ktm_types.specs.declared.change.Change.TheVariants.{Make, Put, Cut, Move, Drop}
 use Rattle.ktm_base.specs.declared.id.Id.{Id}
-use Rattle.ktm_world.specs.Changes.{applies, apply_all, changed, has_changes, is_make, next_after, node_of}
+use Rattle.ktm_world.specs.Changes.{applies, changes_apply, changed, has_changes, is_make, next_after, node_of}
 use Rattle.ktm_world.specs.Committed.{final_bytes}
 use Rattle.ktm_world.specs.Durable.{next_after_all}
 use Rattle.ktm_world.specs.Files.{own_changes}
@@ -144,10 +144,10 @@ module _ (ws : List Written) (rise : IsRising ws) (next : Option (Bor Written)) 
 -- ---- the number of the next node
 
 -- numbers that are made are below 2^63
-pub made-low : (tree : Tree) (cs : List Change) → apply_all tree cs ≡ true → All (λ (c : Change). is_make c ≡ true → node_of c < 2 ^ 63) cs
+pub made-low : (tree : Tree) (cs : List Change) → changes_apply tree cs ≡ true → All (λ (c : Change). is_make c ≡ true → node_of c < 2 ^ 63) cs
 made-low tree [] all = All-nil (λ (c : Change). is_make c ≡ true → node_of c < 2 ^ 63)
 made-low tree (c ∷ cs) all =
-    let parts = and_parts (applies tree c) (apply_all (changed tree c) cs) all in
+    let parts = and_parts (applies tree c) (changes_apply (changed tree c) cs) all in
     All-cons (λ (c : Change). is_make c ≡ true → node_of c < 2 ^ 63) c cs (low c parts.0) (made-low (changed tree c) cs parts.1)
   where
     low : (c : Change) → applies tree c ≡ true → is_make c ≡ true → node_of c < 2 ^ 63

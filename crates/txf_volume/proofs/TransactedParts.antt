@@ -13,7 +13,7 @@ use Rattle.ktm_base.specs.declared.id.Id.{Id}
 use Rattle.ktm_types.specs.declared.change.Change.{Change}
 use Rattle.ktm_types.specs.declared.change.Change.TheVariants.{Make, Put, Cut, Move, Drop}
 use Rattle.ktm_types.specs.declared.recorded.Node.{Node}
-use Rattle.ktm_world.specs.Changes.{apply_all, changed_all, has_made, node_of}
+use Rattle.ktm_world.specs.Changes.{changes_apply, changed_all, has_made, node_of}
 use Rattle.ktm_world.specs.Holds.{Place, dropped_directory, each_change, moved_directory, place, places_of}
 use Rattle.ktm_world.specs.Transactions.{same_id}
 use Rattle.ktm_world.specs.Tree.{Tree, IsWellFormed, node_at}
@@ -75,7 +75,7 @@ pub stands-same : (tree : Tree) (o o' : OverlayState) → o'.names ≡ o.names �
 stands-same tree o o' names held stands = record {
   before = stands.before;
   after = subst (λ ns. IsWellFormed (changed_all tree ns)) (sym names) stands.after;
-  applies = ap (apply_all tree) names ∙ stands.applies;
+  applies = ap (changes_apply tree) names ∙ stands.applies;
   held = λ name. ap (λ hs. seat_at hs name) held ∙ stands.held name ∙ ap (λ ns. last_seat (each_change seats_of tree ns) name) (sym names);
 }
 

@@ -2,7 +2,7 @@
 use Rattle.std.specs.Prelude.{◌≡◌, ℕ, ◌+◌, ◌-◌, ◌<◌, ◌≤◌, ◌^◌, ◌==◌, ◌&&◌, not, Bool, true, List, [], find, fold, length, map, sum_by, Some, All, if◌then◌else◌}
 use Rattle.std.specs.List.{flat_map, list_all, list_any}
 use Rattle.ktm_types.specs.declared.change.Change.{Change}
-use Rattle.ktm_world.specs.Changes.{apply_all, changed_all, is_make, node_of}
+use Rattle.ktm_world.specs.Changes.{changes_apply, changed_all, is_make, node_of}
 use Rattle.ktm_world.specs.Committed.{Version, version_of, versions_after}
 use Rattle.ktm_world.specs.Files.{FilesNow, FirstOpen}
 use Rattle.ktm_world.specs.FileUses.{older_versions}
@@ -54,7 +54,7 @@ is_fresh opens c = not (is_make c && list_any (λ o. o.file == node_of c) opens)
 -- the changes apply, make no file that was first opened, and leave older versions whose units can be counted
 pub record CanMake (p : Parts) (changes : List Change) : Type 0 where
   pub right : AreRight p
-  pub applies : apply_all (tree_of p.tree) changes ≡ true
+  pub applies : changes_apply (tree_of p.tree) changes ≡ true
   pub fresh : list_all (is_fresh p.versions.opens) changes ≡ true
   pub few : units_older (changed_all (tree_of p.tree) changes) (fold versions_after (versions_of p.tree) changes) (firsts_of p) < 2 ^ 64
 

@@ -3,7 +3,7 @@ use Rattle.std.specs.Prelude.{◌≡◌, ℕ, ◌+◌, ◌-◌, ◌<◌, ◌^◌
 use Rattle.std.specs.List.{list_any}
 use Rattle.ktm_laws.specs.Reservations.{IsLeft}
 use Rattle.ktm_types.specs.declared.change.Change.{Change}
-use Rattle.ktm_world.specs.Changes.{applies, apply_all, changed, changes_bytes, is_make, node_of}
+use Rattle.ktm_world.specs.Changes.{applies, changes_apply, changed, changes_bytes, is_make, node_of}
 use Rattle.ktm_world.specs.Committed.{version_of}
 use Rattle.ktm_world.specs.FileOutcome.{FileOutcome}
 use Rattle.ktm_world.specs.Files.{FilesNow, OpenFile, OwnChanges}
@@ -85,5 +85,5 @@ CanBeKept tree change versions =
 
 -- what a transaction changed applies behind the change too, and holds what it held
 pub record IsLeftOver (tree : Tree) (change : Change) (o : OverlayState) : Type 0 where
-  pub apply : apply_all (changed tree change) (own_of o) ≡ true
+  pub apply : changes_apply (changed tree change) (own_of o) ≡ true
   pub holds : holds_by (changed tree change) (own_of o) [] ≡ holds_by tree (own_of o) []

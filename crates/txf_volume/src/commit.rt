@@ -1,7 +1,7 @@
 // What a transaction changed is committed.
 ghost use Rattle.std.specs.Prelude.{◌≡◌, ◌+◌, ◌-◌, ◌<◌, ◌^◌, ◌∷◌, [], IfSome, IsOk, MatchOption, None, OnOk, true};
 ghost use Rattle.ktm_laws.specs.Reservations.{files_committed};
-ghost use Rattle.ktm_world.specs.Changes.{apply_all};
+ghost use Rattle.ktm_world.specs.Changes.{changes_apply};
 ghost use Rattle.ktm_world.specs.Files.{own_changes};
 ghost use Rattle.ktm_world.specs.Tree.{units_of};
 ghost use Rattle.txf_overlay.specs.OverlayState.{final_of, own_of};
@@ -120,7 +120,7 @@ impl Files {
     /// byte.
     pub fn commit(&mut self, transaction: Id)
         requires ready { MayCommit self.old transaction }
-        requires applies { apply_all (files_of self.old).tree (own_changes (files_of self.old).table.own transaction) ≡ true }
+        requires applies { changes_apply (files_of self.old).tree (own_changes (files_of self.old).table.own transaction) ≡ true }
         requires left { LeavesOthers (files_of self.old) transaction }
         requires unopened { AreUnopened (files_of self.old) transaction }
         requires counted { CanBeCounted (files_committed (files_of self.old) transaction) }
