@@ -104,6 +104,12 @@ counted_down true armed = armed
 counted_down false None = None
 counted_down false (Some n) = if n == 0 then None else Some (n - 1)
 
+-- at most so many device calls in a row that only read: what the disk tells is as it was, and so is what waits for a sync
+pub record OnlyReads (most : ℕ) (before after : Option DiskState) (old new : DiskStatus) (refused : Bool) : Type 0 where
+  pub same : after ≡ before
+  pub pending : new.pending ≡ old.pending
+  pub calls : DeviceCalls most old new refused
+
 -- what one device call does to the counts
 pub record DeviceCall (old new : DiskStatus) (refused : Bool) : Type 0 where
   pub counts : DeviceCalls 1 old new refused

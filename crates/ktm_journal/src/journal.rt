@@ -2,7 +2,7 @@
 ghost use Rattle.std.specs.Prelude.{◌^◌, ◌≡◌, ◌↔◌, ℕ, ◌+◌, ◌-◌, ◌*◌, ◌<◌, ◌≤◌, List, [], ◌∷◌, ◌++◌, length, IfOk, OnOk, OnErr, IfErr, IsTrue, IsErrOf, false, is_err, vec_capacity, IfSome, IsSomeAnd};
 ghost use Rattle.ktm_base.specs.declared.limits.TheConstants.{LEAST_UNITS, MOST_UNITS, MOST_PENDING};
 ghost use Rattle.ktm_base.specs.Told.{Goes};
-ghost use Rattle.ktm_base.specs.Disk.{DeviceCalls, IsSafe};
+ghost use Rattle.ktm_base.specs.Disk.{DeviceCalls, IsSafe, OnlyReads};
 ghost use Rattle.ktm_log.specs.Fault.{append_went_down};
 ghost use Rattle.ktm_forms.specs.Built.{IsBuiltState};
 ghost use Rattle.ktm_world.specs.Logs.{Group};
@@ -79,11 +79,9 @@ fn replay_log<D: Disk>(
         → IsSomeAnd (D.told disk.new) (JournalAt (record { units = header.units; image = header.image; log = end; events = events }) log)) }
     ensures spelled { OnOk result ((log : List Group) → IsSomeAnd (D.told disk.old) (λ s. HoldsLog header.units header.image log s.seen) → AreSpelled log) }
     ensures bad { (offset : ℕ) → IsErrOf result (LoadFault.Bad offset) → IfSome (D.told disk.old) (λ s. IsBadAt s.seen offset) }
-    ensures same { D.told disk.new ≡ D.told disk.old }
-    ensures pending { (D.status disk.new).pending ≡ (D.status disk.old).pending }
+    ensures reads { OnlyReads (2 * header.units + 16) (D.told disk.old) (D.told disk.new) (D.status disk.old) (D.status disk.new) (load_went_down result) }
     ensures up { OnOk result ((D.status disk.new).is_down ≡ false) }
     ensures up_bad { (offset : ℕ) → IsErrOf result (LoadFault.Bad offset) → (D.status disk.new).is_down ≡ false }
-    ensures calls { DeviceCalls (2 * header.units + 16) (D.status disk.old) (D.status disk.new) (load_went_down result) }
 {
     match Log::scan(disk, log_area(header.units), buffer) {
         Ok(log) => match replay(alloc, header, buffer.as_slice(), state) {
@@ -148,11 +146,9 @@ impl Journal {
             → IsSomeAnd (D.told disk.new) (JournalAt loaded.journal log)) }
         ensures spelled { IfOk result (λ loaded. (log : List Group) → IsSomeAnd (D.told disk.old) (λ s. HoldsLog loaded.state.units loaded.state.image log s.seen) → AreSpelled log) }
         ensures bad { (offset : ℕ) → IsErrOf result (LoadFault.Bad offset) → IfSome (D.told disk.old) (λ s. IsBadAt s.seen offset) }
-        ensures same { D.told disk.new ≡ D.told disk.old }
-        ensures pending { (D.status disk.new).pending ≡ (D.status disk.old).pending }
+        ensures reads { OnlyReads (8 * MOST_UNITS + 64) (D.told disk.old) (D.told disk.new) (D.status disk.old) (D.status disk.new) (load_went_down result) }
         ensures up { OnOk result ((D.status disk.new).is_down ≡ false) }
         ensures up_bad { (offset : ℕ) → IsErrOf result (LoadFault.Bad offset) → (D.status disk.new).is_down ≡ false }
-        ensures calls { DeviceCalls (8 * MOST_UNITS + 64) (D.status disk.old) (D.status disk.new) (load_went_down result) }
         ensures few { (units image : ℕ) → IsSomeAnd (D.told disk.old) (λ s. IsHeaded units image s.seen) → (D.status disk.new).calls ≤ (D.status disk.old).calls + (8 * units + 64) }
     {
         let header = match read_form(disk) {
@@ -189,11 +185,9 @@ impl Journal {
             → IsSomeAnd (D.told disk.new) (JournalAt loaded.journal log)) }
         ensures spelled { IfOk result (λ loaded. (log : List Group) → IsSomeAnd (D.told disk.old) (λ s. HoldsLog header.units header.image log s.seen) → AreSpelled log) }
         ensures bad { (offset : ℕ) → IsErrOf result (LoadFault.Bad offset) → IfSome (D.told disk.old) (λ s. IsBadAt s.seen offset) }
-        ensures same { D.told disk.new ≡ D.told disk.old }
-        ensures pending { (D.status disk.new).pending ≡ (D.status disk.old).pending }
+        ensures reads { OnlyReads (2 * header.units + 16) (D.told disk.old) (D.told disk.new) (D.status disk.old) (D.status disk.new) (load_went_down result) }
         ensures up { OnOk result ((D.status disk.new).is_down ≡ false) }
         ensures up_bad { (offset : ℕ) → IsErrOf result (LoadFault.Bad offset) → (D.status disk.new).is_down ≡ false }
-        ensures calls { DeviceCalls (2 * header.units + 16) (D.status disk.old) (D.status disk.new) (load_went_down result) }
     {
         let mut state = Durable::empty(alloc, header.units, header.image);
         match replay_log(alloc, disk, header, buffer, &mut state) {

@@ -1,7 +1,7 @@
 // Reading an image.
 ghost use Rattle.std.specs.Prelude.{IsErrOf, ◌≡◌, ◌↔◌, ◌&&◌, ℕ, ◌+◌, ◌^◌, ◌<◌, ◌≤◌, List, length, None, Ok, IfOk, IfSome, OnOk, IsTrue, is_err, false, true};
 ghost use Rattle.ktm_base.specs.Bytes.{AreBytes};
-ghost use Rattle.ktm_base.specs.Disk.{DeviceCalls};
+ghost use Rattle.ktm_base.specs.Disk.{OnlyReads};
 ghost use Rattle.ktm_log.specs.Log.{payloads_in};
 ghost use Rattle.ktm_world.specs.Durable.{Durable, after_events, empty_state, events_apply};
 ghost use Rattle.ktm_forms.specs.Built.{is_built_group};
@@ -66,10 +66,8 @@ fn front(bytes: &[u8; 18], selector: u8, len: u64) -> Option<Header>
 fn read_header<D: Disk>(disk: &mut D) -> Result<Option<Header>, Down>
     ensures told { IfOk result (λ found. IfSome (D.told disk.old) (λ s. BeginsAnImage found s.seen)) }
     ensures size { IfOk result (λ found. IfSome found (λ header. (LEAST_UNITS ≤ header.units) × (header.units ≤ MOST_UNITS))) }
-    ensures same { D.told disk.new ≡ D.told disk.old }
-    ensures pending { (D.status disk.new).pending ≡ (D.status disk.old).pending }
+    ensures reads { OnlyReads 3 (D.told disk.old) (D.told disk.new) (D.status disk.old) (D.status disk.new) (is_err result) }
     ensures up { OnOk result ((D.status disk.new).is_down ≡ false) }
-    ensures calls { DeviceCalls 3 (D.status disk.old) (D.status disk.new) (is_err result) }
 {
     let len = match disk.len() {
         Ok(len) => len,
@@ -93,10 +91,8 @@ fn read_header<D: Disk>(disk: &mut D) -> Result<Option<Header>, Down>
 fn read_snapshot<D: Disk>(disk: &mut D) -> Result<bool, Down>
     requires within { IfSome (D.told disk.old) (λ s. 4096 + 44 ≤ length s.seen) }
     ensures told { IfOk result (λ is. IfSome (D.told disk.old) (λ s. IsTrue is ↔ (snapshot_of s.seen ≡ empty_snapshot))) }
-    ensures same { D.told disk.new ≡ D.told disk.old }
-    ensures pending { (D.status disk.new).pending ≡ (D.status disk.old).pending }
+    ensures reads { OnlyReads 1 (D.told disk.old) (D.told disk.new) (D.status disk.old) (D.status disk.new) (is_err result) }
     ensures up { OnOk result ((D.status disk.new).is_down ≡ false) }
-    ensures calls { DeviceCalls 1 (D.status disk.old) (D.status disk.new) (is_err result) }
 {
     let mut snapshot = [0; 44];
     if let Err(Down) = disk.read_at(SNAPSHOT_AT, &mut snapshot) {
@@ -110,11 +106,9 @@ pub(crate) fn read_form<D: Disk>(disk: &mut D) -> Result<Header, LoadFault>
     ensures formatted { IfOk result (λ header. IfSome (D.told disk.old) (λ s. IsFormatted header.units header.image s.seen)) }
     ensures size { IfOk result (λ header. (LEAST_UNITS ≤ header.units) × (header.units ≤ MOST_UNITS)) }
     ensures bad { (offset : ℕ) → IsErrOf result (LoadFault.Bad offset) → IfSome (D.told disk.old) (λ s. IsBadAt s.seen offset) }
-    ensures same { D.told disk.new ≡ D.told disk.old }
-    ensures pending { (D.status disk.new).pending ≡ (D.status disk.old).pending }
+    ensures reads { OnlyReads 4 (D.told disk.old) (D.told disk.new) (D.status disk.old) (D.status disk.new) (load_went_down result) }
     ensures up { OnOk result ((D.status disk.new).is_down ≡ false) }
     ensures up_bad { (offset : ℕ) → IsErrOf result (LoadFault.Bad offset) → (D.status disk.new).is_down ≡ false }
-    ensures calls { DeviceCalls 4 (D.status disk.old) (D.status disk.new) (load_went_down result) }
 {
     let header = match read_header(disk) {
         Ok(Some(header)) => header,

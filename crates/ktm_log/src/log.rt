@@ -2,7 +2,7 @@
 ghost use Rattle.std.specs.Prelude.{◌≡◌, ◌↔◌, ℕ, ◌+◌, ◌/◌, ◌^◌, ◌<◌, ◌≤◌, List, [], ◌∷◌, ◌++◌, length, OnOk, IfOk, IfErr, vec_capacity, false, IsErrOf, IfSome, IsSomeAnd};
 ghost use Rattle.ktm_base.specs.declared.limits.TheConstants.{MOST_PENDING};
 ghost use Rattle.ktm_base.specs.Told.{Goes};
-ghost use Rattle.ktm_base.specs.Disk.{IsSafe, DeviceCalls};
+ghost use Rattle.ktm_base.specs.Disk.{IsSafe, DeviceCalls, OnlyReads};
 ghost use Rattle.ktm_log.specs.Fault.{scan_went_down, append_went_down};
 ghost use Rattle.ktm_log.specs.Log.{IsLog, IsBadLog, Rests, LeavesEither, SameElsewhere, area_bytes, end_of, payloads_in};
 ghost use Rattle.ktm_log.specs.Settle.{IsBodyOf};
@@ -52,11 +52,9 @@ impl Log {
         ensures room { OnOk result (area.len ≤ vec_capacity buffer.new) }
         ensures kept { vec_capacity buffer.old ≤ vec_capacity buffer.new }
         ensures memory { IsErrOf result LogFault.NoMemory → vec_capacity buffer.old < area.len }
-        ensures same { D.told disk.new ≡ D.told disk.old }
-        ensures pending { (D.status disk.new).pending ≡ (D.status disk.old).pending }
+        ensures reads { OnlyReads ((area.len + 4095) / 4096) (D.told disk.old) (D.told disk.new) (D.status disk.old) (D.status disk.new) (scan_went_down result) }
         ensures up { OnOk result ((D.status disk.new).is_down ≡ false) }
         ensures up_bad { (offset : ℕ) → IsErrOf result (LogFault.Bad offset) → (D.status disk.new).is_down ≡ false }
-        ensures calls { DeviceCalls ((area.len + 4095) / 4096) (D.status disk.old) (D.status disk.new) (scan_went_down result) }
     {
         buffer.clear();
         let Ok(()) = buffer.reserve(area.len as usize) else {

@@ -17,7 +17,7 @@ returns-in-Ok-replay-clause-stands g c =
 
 pub returns-in-Ok-replay-clause-journal : goal.returns-in-Ok-replay-clause-journal
 returns-in-Ok-replay-clause-journal g c events =
-    journal_told c.args.header.units c.args.header.image c.log_area.result c.log_area.ensures c.in-Ok.log events (payloads_in c.scan.new.buffer.items) _ _ c.in-Ok.ensures.area c.scan.ensures.same c.in-Ok.ensures.stands
+    journal_told c.args.header.units c.args.header.image c.log_area.result c.log_area.ensures c.in-Ok.log events (payloads_in c.scan.new.buffer.items) _ _ c.in-Ok.ensures.area c.scan.ensures.reads.same c.in-Ok.ensures.stands
 
 pub returns-in-Ok-replay-clause-spelled : goal.returns-in-Ok-replay-clause-spelled
 returns-in-Ok-replay-clause-spelled g c =

@@ -16,7 +16,7 @@ use Rattle.ktm_kernel.proofs.Restarts.{found, next_applies, unwritten_leaves, jo
 use Rattle.ktm_kernel.proofs.kernel.Kernel.restart.Goals as goal
 
 pub returns-in-Err-Down-clause-down : goal.returns-in-Err-Down-clause-down
-returns-in-Err-Down-clause-down g c = λ failed units image before log holds. rw c.in-Err-Down.ensures.same (unwritten_leaves units image before log _ holds)
+returns-in-Err-Down-clause-down g c = λ failed units image before log holds. rw c.in-Err-Down.ensures.reads.same (unwritten_leaves units image before log _ holds)
 
 pub record_start-requires-clause-boots : goal.record_start-requires-clause-boots
 record_start-requires-clause-boots g c = omega (arith, c.in-Ok.ensures.events.boots, c.in-Ok.ensures.events.events, c.in-Ok.ensures.inside, ap (λ (a : Area). a.len) c.in-Ok.ensures.area, c.in-Ok.ensures.units.2)
@@ -49,7 +49,7 @@ pub returns-in-Ok-record_start-clause-found : goal.returns-in-Ok-record_start-cl
 returns-in-Ok-record_start-clause-found g c = IfSome-map (g.D.Disk.told c.args.disk.now) _ _ c.in-Ok.ensures.stands (λ s stands. (c.in-Ok.loaded.state, stands))
 
 pub returns-in-Ok-record_start-clause-calls : goal.returns-in-Ok-record_start-clause-calls
-returns-in-Ok-record_start-clause-calls g c = calls_law _ _ _ (8 * MOST_UNITS + 64) 4 false c.in-Ok.ensures.calls c.in-Ok-record_start.ensures.calls
+returns-in-Ok-record_start-clause-calls g c = calls_law _ _ _ (8 * MOST_UNITS + 64) 4 false c.in-Ok.ensures.reads.calls c.in-Ok-record_start.ensures.calls
 
 pub returns-in-Ok-record_start-clause-few : goal.returns-in-Ok-record_start-clause-few
 returns-in-Ok-record_start-clause-few g c = λ units image headed. omega (arith, c.in-Ok.ensures.few units image headed, c.in-Ok-record_start.ensures.calls.few)
@@ -78,10 +78,10 @@ returns-in-Err-clause-bad g c = λ offset failed.
     absurd (c.in-Err.ensures.good offset (ap Err bad))
 
 pub returns-in-Err-clause-unwritten : goal.returns-in-Err-clause-unwritten
-returns-in-Err-clause-unwritten g c = λ other. c.in-Err.ensures.same other ∙ c.in-Ok.ensures.same
+returns-in-Err-clause-unwritten g c = λ other. c.in-Err.ensures.same other ∙ c.in-Ok.ensures.reads.same
 
 pub returns-in-Err-clause-pending : goal.returns-in-Err-clause-pending
-returns-in-Err-clause-pending g c = λ other. c.in-Err.ensures.waits other ∙ c.in-Ok.ensures.pending
+returns-in-Err-clause-pending g c = λ other. c.in-Err.ensures.waits other ∙ c.in-Ok.ensures.reads.pending
 
 pub returns-in-Err-clause-calls : goal.returns-in-Err-clause-calls
-returns-in-Err-clause-calls g c = calls_law _ _ _ (8 * MOST_UNITS + 64) 4 _ c.in-Ok.ensures.calls c.in-Err.ensures.calls
+returns-in-Err-clause-calls g c = calls_law _ _ _ (8 * MOST_UNITS + 64) 4 _ c.in-Ok.ensures.reads.calls c.in-Err.ensures.calls
