@@ -2,6 +2,7 @@ pub mod Steps
 pub mod HexLemmas
 pub mod NumberLemmas
 pub mod WordLemmas
+pub mod WordSplits
 pub mod QuotedLemmas
 pub mod GuidLemmas
 pub mod Adding

@@ -1,11 +1,11 @@
 -- A kind of notification is read from its name alone.
-use Rattle.std.proofs.Common.{◌≡◌, ◌≢◌, ℕ, List, [], ◌∷◌, ◌++◌, Some, None, codes, refl, ◌∙◌, ap, nat_eq, inl, inr, append_assoc}
-use Rattle.std.proofs.lemmas.Bool.{cases_Bool}
+use Rattle.std.proofs.Common.{◌≡◌, ◌≢◌, ℕ, List, ◌++◌, Some, None, codes, refl, ◌∙◌, ap}
 use Rattle.ktm_base.specs.declared.notify.Notify.{Notify}
 use Rattle.ktm_base.specs.declared.notify.Notify.TheVariants.{PrePrepare, Prepare, Commit, Rollback, PrePrepareComplete, PrepareComplete, CommitComplete, RollbackComplete, Recover, RecoverQuery, Indoubt, SinglePhaseCommit, CommitRequest, LastRecover}
+use Rattle.ktm_codec.specs.Word.{word_at, word_from}
 use Rattle.ktm_reply.specs.Kinds.{kind_name}
 use Rattle.ktm_reply.specs.declared.notification.TheConstants.{KINDS}
-use Rattle.ktm_reply.specs.Reading.{kind_named, word_at, word_from}
+use Rattle.ktm_reply.specs.Reading.{kind_named}
 use Rattle.ktm_reply.proofs.Found.{name_is}
 
 pub kind_is : (text : List ℕ) (kind : Notify) → kind_named text ≡ Some kind → (kind ≢ LastRecover) × (text ≡ kind_name kind)
@@ -30,15 +30,6 @@ kind_again Indoubt other = refl
 kind_again SinglePhaseCommit other = refl
 kind_again CommitRequest other = refl
 kind_again LastRecover other = absurd (other refl)
-
--- a word and what follows it are the text
-pub word_is : (front text : List ℕ) → (word_from front text).0 ++ (word_from front text).1 ≡ front ++ text
-unfolding word_from
-word_is front [] = refl
-word_is front (c ∷ cs) = elim (cases_Bool (nat_eq c 32)) [
-  | inl space ↦ rw space refl
-  | inr other ↦ rw other (word_is (front ++ c ∷ []) cs ∙ append_assoc front (c ∷ []) cs)
-]
 
 pub word_of_kind : (kind : Notify) (rest : List ℕ) → word_at (kind_name kind ++ (codes " " ++ rest)) ≡ (kind_name kind, codes " " ++ rest)
 unfolding word_from

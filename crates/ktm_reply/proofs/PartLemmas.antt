@@ -12,23 +12,24 @@ use Rattle.ktm_codec.specs.Guid.{guid_at, guid_spelling}
 use Rattle.ktm_codec.specs.Hex.{digit_value, hex_digit, hex_of, hex_or_dash, unhex_or_dash}
 use Rattle.ktm_codec.specs.Number.{last_number_at, number_at}
 use Rattle.ktm_codec.specs.Steps.{on_some}
-use Rattle.ktm_codec.specs.Word.{after_word}
+use Rattle.ktm_codec.specs.Word.{after_word, word_at}
 use Rattle.ktm_codec.proofs.GuidLemmas.{guid_is, guid_again}
 use Rattle.ktm_codec.proofs.HexLemmas.{unhex_or_dash_is, unhex_or_dash_again, option_map_some}
 use Rattle.ktm_codec.proofs.NumberLemmas.{last_number_is, last_number_again}
 use Rattle.ktm_codec.proofs.Steps.{bind_some, at_end_is, on_some_is}
 use Rattle.ktm_codec.proofs.WordLemmas.{after_word_is, after_word_again}
+use Rattle.ktm_codec.proofs.WordSplits.{word_is}
 use Rattle.ktm_types.specs.declared.object.TransactionOutcome.{TransactionOutcome}
 use Rattle.ktm_types.specs.declared.reply.Reply.{Reply}
 use Rattle.ktm_types.specs.declared.reply.Reply.TheVariants.{Guid, Information, Notification, Contents, Size}
 use Rattle.ktm_types.specs.declared.reply.TransactionState.{TransactionState}
 use Rattle.ktm_types.specs.Values.{IsGuid, IsSize}
 use Rattle.ktm_reply.specs.Kinds.{kind_name}
-use Rattle.ktm_reply.specs.Reading.{behind_guid_at, behind_kind_at, information_at, kind_named, outcome_named, part_at, size_at, state_named, word_at}
+use Rattle.ktm_reply.specs.Reading.{behind_guid_at, behind_kind_at, information_at, kind_named, outcome_named, part_at, size_at, state_named}
 use Rattle.ktm_reply.specs.Spelling.{IsReply, reply_spelling}
 use Rattle.ktm_reply.specs.States.{outcome_name, state_name}
 use Rattle.ktm_reply.proofs.Found.{nothing}
-use Rattle.ktm_reply.proofs.KindLemmas.{kind_is, kind_again, word_is, word_of_kind}
+use Rattle.ktm_reply.proofs.KindLemmas.{kind_is, kind_again, word_of_kind}
 use Rattle.ktm_reply.proofs.StateLemmas.{state_is, state_again, outcome_is, outcome_again, word_of_state}
 use Rattle.uuid.specs.Text.{digit_place, is_hyphen_place, lower, nibble, hex_digit as uuid_digit}
 use Rattle.uuid.proofs.TextLemmas.{by_index_length, by_index_at, nibble_small}
@@ -51,11 +52,11 @@ information_is guid text x valid e =
     bind_some _ (after_word (codes " ") (word_at rest).1) x g₂ (λ last f₃ g₃.
     bind_some _ (outcome_named last) x g₃ (λ outcome f₄ whole.
     let first = after_word_is (codes " ") text rest f₁ in
-    let word : (word_at rest).0 ++ (word_at rest).1 ≡ rest = word_is [] rest in
+    let word = word_is rest in
     let second = state_is (word_at rest).0 state f₂ in
     let third = after_word_is (codes " ") (word_at rest).1 last f₃ in
     let fourth = outcome_is last outcome f₄ in
-    let spelled : rest ≡ state_name state ++ (codes " " ++ outcome_name outcome) = sym word ∙ rw (second, third, fourth) refl in
+    let spelled : rest ≡ state_name state ++ (codes " " ++ outcome_name outcome) = word ∙ rw (second, third, fourth) refl in
     let all : codes "ok " ++ (guid_spelling guid ++ text) ≡ reply_spelling (Information guid state outcome) =
     rw (first, spelled) (sym (regroup₆ (codes "ok ") (guid_spelling guid) (codes " ") (state_name state) (codes " ") (outcome_name outcome))) in
     subst (Read (codes "ok " ++ (guid_spelling guid ++ text))) (same_Some _ x whole) (valid, all)))))
@@ -97,7 +98,7 @@ part_is text x e =
     let read = guid_is text guid.0 guid.1 f in
     rw read.2 (behind_guid_is guid.0 guid.1 x (guid_of guid.0 read.0 read.1) g)) (λ e₁.
     on_some_is (kind_named (word_at text).0) (λ kind. behind_kind_at kind (word_at text).1) _ x e₁ (λ kind f g.
-    let word : (word_at text).0 ++ (word_at text).1 ≡ text = word_is [] text in
+    let word = sym (word_is text) in
     let read = kind_is (word_at text).0 kind f in
     let whole : kind_name kind ++ (word_at text).1 ≡ text = rw read.1 at word in
     rw (← whole) (behind_kind_is kind (word_at text).1 x read.0 g)) (λ e₂.
@@ -192,7 +193,7 @@ kind_no_value LastRecover rest = (refl, refl, refl)
 pub no_kind : {X : Type 0} (read : List ℕ → Option X) (text : List ℕ) (x : X) → read text ≡ Some x → ((kind : Notify) (rest : List ℕ) → read (kind_name kind ++ rest) ≡ None)
     → kind_named (word_at text).0 ≡ None
 no_kind read text x e never = nothing (kind_named (word_at text).0) (λ kind f.
-    let word : (word_at text).0 ++ (word_at text).1 ≡ text = word_is [] text in
+    let word = sym (word_is text) in
     let whole : kind_name kind ++ (word_at text).1 ≡ text = rw (kind_is (word_at text).0 kind f).1 at word in
     let none : read text ≡ None = ap read (sym whole) ∙ never kind (word_at text).1 in
     cc)

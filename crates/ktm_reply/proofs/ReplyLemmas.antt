@@ -10,7 +10,7 @@ use Rattle.ktm_codec.specs.Guid.{guid_at, guid_spelling}
 use Rattle.ktm_codec.specs.Hex.{hex_or_dash, unhex_or_dash}
 use Rattle.ktm_codec.specs.Number.{last_number_at, number_at}
 use Rattle.ktm_codec.specs.Steps.{◌>>=◌}
-use Rattle.ktm_codec.specs.Word.{after_word}
+use Rattle.ktm_codec.specs.Word.{after_word, word_from}
 use Rattle.ktm_codec.proofs.HexLemmas.{option_map_some}
 use Rattle.ktm_codec.proofs.NumberLemmas.{number_is, number_again, last_number_is, last_number_again}
 use Rattle.ktm_codec.proofs.Steps.{bind_some, on_some_is}
@@ -21,7 +21,7 @@ use Rattle.ktm_types.specs.Values.{IsText}
 use Rattle.ktm_reply.specs.declared.fault.ReplyFault.{ReplyFault}
 use Rattle.ktm_reply.specs.declared.fault.ReplyFault.TheVariants.{NotAReply, NoMemory}
 use Rattle.ktm_reply.specs.Kinds.{kind_name}
-use Rattle.ktm_reply.specs.Reading.{Gives, bad_image_at, kind_named, part_at, plain_at, refusal_named, reply_at, restarted_at, size_at, texts_at, told_at, word_from}
+use Rattle.ktm_reply.specs.Reading.{Gives, bad_image_at, kind_named, part_at, plain_at, refusal_named, reply_at, restarted_at, size_at, texts_at, told_at}
 use Rattle.ktm_reply.specs.Refusals.{refusal_name}
 use Rattle.ktm_reply.specs.Spelling.{IsFirst, IsReply, place, reply_spelling, spaced}
 use Rattle.ktm_reply.specs.States.{outcome_name, state_name}

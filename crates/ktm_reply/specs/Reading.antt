@@ -9,7 +9,7 @@ use Rattle.ktm_codec.specs.Hex.{unhex_or_dash}
 use Rattle.ktm_codec.specs.Number.{number_at, last_number_at}
 use Rattle.ktm_codec.specs.Quoted.{is_text_byte, quoted_at, quotation_mark}
 use Rattle.ktm_codec.specs.Steps.{◌>>=◌, at_end, on_some}
-use Rattle.ktm_codec.specs.Word.{after_word}
+use Rattle.ktm_codec.specs.Word.{after_word, word_at}
 use Rattle.ktm_reply.specs.declared.information.TheConstants.{OUTCOMES, STATES}
 use Rattle.ktm_reply.specs.declared.notification.TheConstants.{KINDS}
 use Rattle.ktm_reply.specs.declared.refusal.TheConstants.{REFUSALS}
@@ -44,15 +44,6 @@ state_named text = find (λ state. bytes_eq (state_name state) text) STATES
 -- the outcome with this name
 unfoldable pub outcome_named : List ℕ → Option TransactionOutcome
 outcome_named text = find (λ outcome. bytes_eq (outcome_name outcome) text) OUTCOMES
-
--- the word so far with its characters up to a space, and what follows it
-unfoldable pub word_from : List ℕ → List ℕ → List ℕ × List ℕ
-word_from front [] = (front, [])
-word_from front (c ∷ cs) = if c == 32 then (front, c ∷ cs) else word_from (front ++ c ∷ []) cs
-
--- the word at the front, up to a space, and what follows it
-abbrev pub word_at : List ℕ → List ℕ × List ℕ
-word_at text = word_from [] text
 
 -- a text behind a space, and what follows it
 unfoldable pub spaced_at : List ℕ → Option (List ℕ × List ℕ)

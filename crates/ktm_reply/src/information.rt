@@ -3,8 +3,7 @@ ghost use Rattle.std.specs.Prelude.{◌≡◌};
 ghost use Rattle.ktm_reply.specs.Reading.{behind_guid_at, information_at, outcome_named, state_named};
 ghost use Rattle.ktm_reply.specs.States.{outcome_name, state_name};
 
-use crate::word::first_word;
-use ktm_codec::strip_word;
+use ktm_codec::{split_word, strip_word};
 use ktm_types::{Reply, TransactionOutcome, TransactionState};
 use uuid::Uuid;
 
@@ -66,7 +65,7 @@ fn outcome_named(text: &[u8]) -> Option<TransactionOutcome>
 fn information(transaction: Uuid, text: &[u8]) -> Option<Reply>
     ensures { result ≡ information_at transaction text.now }
 {
-    let (state, rest) = first_word(strip_word(text, b" ")?);
+    let (state, rest) = split_word(strip_word(text, b" ")?);
     let state = state_named(state)?;
     let outcome = outcome_named(strip_word(rest, b" ")?)?;
     Some(Reply::Information {

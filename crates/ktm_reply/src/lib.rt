@@ -9,7 +9,6 @@ mod notification;
 mod read;
 mod refusal;
 mod texts;
-mod word;
 mod write;
 
 pub use fault::ReplyFault;

@@ -8,10 +8,11 @@ use crate::information::behind_guid;
 use crate::notification::{behind_kind, kind_named};
 use crate::refusal::refusal_named;
 use crate::texts::read_texts;
-use crate::word::first_word;
 use crate::write::write_reply;
 use ktm_base::Notify;
-use ktm_codec::{read_guid, read_hex_or_dash, read_last_number, read_number, strip_word};
+use ktm_codec::{
+    read_guid, read_hex_or_dash, read_last_number, read_number, split_word, strip_word,
+};
 use ktm_types::Reply;
 use std::alloc::Global;
 
@@ -51,7 +52,7 @@ fn part(alloc: Global, text: &[u8]) -> Result<Reply, ReplyFault>
     if let Some((guid, rest)) = read_guid(text) {
         return behind_guid(guid, rest).ok_or(ReplyFault::NotAReply);
     }
-    let (word, rest) = first_word(text);
+    let (word, rest) = split_word(text);
     if let Some(kind) = kind_named(word) {
         return behind_kind(kind, rest).ok_or(ReplyFault::NotAReply);
     }

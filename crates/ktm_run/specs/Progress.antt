@@ -26,9 +26,13 @@ pub record Now : Type 0 where
   pub scene : Scene
   pub taken : Option (List ℕ)
 
+-- the scene with these parts
+abbrev pub scene_of : KernelState → Option DiskState → DiskStatus → Scene
+scene_of machine disk status = record { machine = machine; disk = disk; status = status }
+
 -- the scene with these parts, and what the sink took
 abbrev pub point : KernelState → Option DiskState → DiskStatus → Option (List ℕ) → Now
-point machine disk status taken = record { scene = record { machine = machine; disk = disk; status = status }; taken = taken }
+point machine disk status taken = record { scene = scene_of machine disk status; taken = taken }
 
 -- between two scenes of a world's run, so many lines were executed that had this plan and took the disk down so often
 pub record Counts (w : World) (old new : Scene) (lines : ℕ) (plan : List PowerCall) (fell : ℕ) : Type 0 where

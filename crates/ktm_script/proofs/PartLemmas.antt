@@ -12,11 +12,12 @@ use Rattle.ktm_codec.proofs.HexLemmas.{unhex_or_dash_is, unhex_or_dash_again}
 use Rattle.ktm_codec.proofs.NumberLemmas.{number_is, number_again}
 use Rattle.ktm_codec.proofs.QuotedLemmas.{quoted_is, quoted_again}
 use Rattle.ktm_codec.proofs.WordLemmas.{after_word_is, after_word_again}
+use Rattle.ktm_codec.proofs.WordSplits.{word_is}
 use Rattle.ktm_codec.specs.Guid.{guid_at, guid_spelling}
 use Rattle.ktm_codec.specs.Hex.{hex_digit, hex_of, hex_or_dash, unhex_or_dash}
 use Rattle.ktm_codec.specs.Number.{number_at, starts_with_digit}
 use Rattle.ktm_codec.specs.Quoted.{AreTextBytes, is_text_byte, quoted}
-use Rattle.ktm_codec.specs.Word.{after_word}
+use Rattle.ktm_codec.specs.Word.{after_word, word_at}
 use Rattle.ktm_types.specs.declared.command.View.{View}
 use Rattle.ktm_types.specs.declared.command.View.TheVariants.{Plain, Transaction}
 use Rattle.ktm_types.specs.declared.options.Access.{Access}
@@ -31,12 +32,12 @@ use Rattle.ktm_types.specs.declared.options.EnlistmentKind.{EnlistmentKind}
 use Rattle.ktm_types.specs.declared.options.EnlistmentKind.TheVariants as kind
 use Rattle.ktm_types.specs.Values.{IsTextByte, IsText, IsPid, IsLabel, IsView, IsGuid}
 use Rattle.ktm_codec.proofs.Steps.{bind_some, on_some_is}
-use Rattle.ktm_script.specs.Reading.{behind_space, named_at, process_at, label_at, view_at, size_at, text_at, word_from, bytes_at, access_at, share_at, disposition_at, durability_at, kind_at, kind_in_transaction_at, modes_at, by_word, accesses, shares, dispositions, durabilities, kinds, form_name, forms, form_at}
+use Rattle.ktm_script.specs.Reading.{behind_space, named_at, process_at, label_at, view_at, size_at, text_at, bytes_at, access_at, share_at, disposition_at, durability_at, kind_at, kind_in_transaction_at, modes_at, by_word, accesses, shares, dispositions, durabilities, kinds, form_name, forms, form_at}
 use Rattle.ktm_script.specs.Spelling.{space, ◌␣◌, process_spelling, label_spelling, view_spelling, access_spelling, share_spelling, disposition_spelling, durability_spelling, kind_spelling}
 use Rattle.ktm_script.specs.declared.form.Form.{Form}
 use Rattle.ktm_script.specs.declared.form.Form.TheVariants as form
 use Rattle.ktm_script.proofs.Readers.{Reads, ends_part, spaced, both}
-use Rattle.ktm_script.proofs.WordLemmas.{is_word, word_is, word_again, by_words}
+use Rattle.ktm_script.proofs.WordLemmas.{is_word, word_again, by_words}
 
 -- digits end where a part does
 no_digit : (rest : List ℕ) → ends_part rest ≡ true → starts_with_digit rest ≡ false
@@ -174,14 +175,14 @@ pub reads_bytes : Reads AreBytes (λ b. space ∷ hex_or_dash b) bytes_at
 unfolding bytes_at
 reads_bytes = record {
   found = λ text b rest e. bind_some _ (after_word (codes " ") text) (b, rest) e (λ behind f g.
-      bind_some _ (unhex_or_dash (word_from [] behind).0) (b, rest) g (λ read h k.
-      let same = some_pair_parts read b (word_from [] behind).1 rest k in
-      let hex = unhex_or_dash_is (word_from [] behind).0 read h in
+      bind_some _ (unhex_or_dash (word_at behind).0) (b, rest) g (λ read h k.
+      let same = some_pair_parts read b (word_at behind).1 rest k in
+      let hex = unhex_or_dash_is (word_at behind).0 read h in
       let P : List ℕ → Type 0 = λ x. AreBytes x × (text ≡ space ∷ hex_or_dash x ++ rest) in
       subst P same.0 (
         hex.0,
         after_word_is (codes " ") text behind f ∙ ap (λ (xs : List ℕ). space ∷ xs)
-            (word_is behind ∙ ap (λ (xs : List ℕ). xs ++ (word_from [] behind).1) hex.1 ∙ ap (λ (xs : List ℕ). hex_or_dash read ++ xs) same.1),
+            (word_is behind ∙ ap (λ (xs : List ℕ). xs ++ (word_at behind).1) hex.1 ∙ ap (λ (xs : List ℕ). hex_or_dash read ++ xs) same.1),
       )));
   every = λ b rest is ends. rw (after_word_again (codes " ") (hex_or_dash b ++ rest), word_again (hex_or_dash b) rest (hex_word b) ends, unhex_or_dash_again b is) refl;
 }

@@ -1,51 +1,21 @@
 -- What is read as a word is spelled so, and what is spelled so is read.
-use Rattle.std.proofs.Common.{◌≡◌, ◌<◌, ◌==◌, ℕ, zero, suc, Bool, true, false, cond, length, get_or, take, drop, arith, not, List, [], ◌∷◌, ◌++◌, Some, codes, bytes_eq, refl, sym, ◌∙◌, ap, inl, inr, append_assoc, nat_eq}
+use Rattle.std.proofs.Common.{◌≡◌, ℕ, Bool, true, not, List, [], ◌∷◌, ◌++◌, Some, codes, bytes_eq, refl, sym, ◌∙◌, ap, inl, inr, append_assoc, nat_eq}
 use Rattle.std.specs.List.{list_all}
 use Rattle.std.proofs.lemmas.Bool.{cases_Bool}
 use Rattle.std.proofs.lemmas.List.{append-nil}
 use Rattle.std.proofs.lemmas.Option.{same_Some, some_pair_parts}
 use Rattle.std.proofs.lemmas.Slice.Eq.{bytes_eq-Decides}
 use Rattle.ktm_codec.proofs.WordLemmas.{after_word_is, after_word_again}
-use Rattle.ktm_codec.specs.Word.{after_word}
+use Rattle.ktm_codec.proofs.WordSplits.{word_is}
+use Rattle.ktm_codec.specs.Word.{after_word, word_at, word_from}
 use Rattle.ktm_codec.proofs.Steps.{bind_some}
-use Rattle.ktm_script.specs.Reading.{word_from, by_word, one_of}
+use Rattle.ktm_script.specs.Reading.{by_word, one_of}
 use Rattle.ktm_script.specs.Spelling.{space}
 use Rattle.ktm_script.proofs.Readers.{Reads, ends_part}
-
--- a word ends at the first space
-pub word_ends : (front text : List ℕ) (end : ℕ) → end < length text → (get_or text end 0 == space) ≡ true → ((k : ℕ) → k < end → (get_or text k 0 == space) ≡ false)
-    → word_from front text ≡ (front ++ take end text, drop end text)
-unfolding word_from
-word_ends front [] end within ends others = absurd (omega (arith, within))
-word_ends front (c ∷ cs) zero within ends others =
-    ap (λ t. cond t (front, c ∷ cs) (word_from (front ++ c ∷ []) cs)) ends ∙ ap (λ (l : List ℕ). (l, c ∷ cs)) (sym (append-nil front))
-word_ends front (c ∷ cs) (suc end) within ends others =
-    let other = others 0 (omega arith) in
-    ap (λ t. cond t (front, c ∷ cs) (word_from (front ++ c ∷ []) cs)) other
-    ∙ word_ends (front ++ c ∷ []) cs end (omega (arith, within)) ends (λ k below. others (suc k) (omega (arith, below)))
-    ∙ ap (λ (l : List ℕ). (l, drop end cs)) (append_assoc front (c ∷ []) (take end cs))
-
--- without a space it is all of the text
-pub word_is_all : (front text : List ℕ) → ((k : ℕ) → k < length text → (get_or text k 0 == space) ≡ false) → word_from front text ≡ (front ++ text, [])
-unfolding word_from
-word_is_all front [] others = ap (λ (l : List ℕ). (l, [])) (sym (append-nil front))
-word_is_all front (c ∷ cs) others =
-    let other = others 0 (omega arith) in
-    ap (λ t. cond t (front, c ∷ cs) (word_from (front ++ c ∷ []) cs)) other
-    ∙ word_is_all (front ++ c ∷ []) cs (λ k below. others (suc k) (omega (arith, below)))
-    ∙ ap (λ (l : List ℕ). (l, [])) (append_assoc front (c ∷ []) cs)
 
 -- no space is in it
 abbrev pub is_word : List ℕ → Bool
 is_word word = list_all (λ c. not (nat_eq c space)) word
-
-word_from_is : (front text : List ℕ) → front ++ text ≡ (word_from front text).0 ++ (word_from front text).1
-unfolding word_from
-word_from_is front [] = refl
-word_from_is front (c ∷ cs) = elim (cases_Bool (nat_eq c space)) [
-  | inl ends ↦ rw ends refl
-  | inr more ↦ rw more (sym (append_assoc front (c ∷ []) cs) ∙ word_from_is (front ++ c ∷ []) cs)
-]
 
 word_from_again : (front word rest : List ℕ) → is_word word ≡ true → ends_part rest ≡ true → word_from front (word ++ rest) ≡ (front ++ word, rest)
 unfolding word_from
@@ -56,11 +26,7 @@ word_from_again front (c ∷ cs) rest h ends = elim (cases_Bool (nat_eq c space)
   | inr more ↦ rw more (word_from_again (front ++ c ∷ []) cs rest (rw more at h) ends ∙ ap (λ (xs : List ℕ). (xs, rest)) (append_assoc front (c ∷ []) cs))
 ]
 
--- what is before the first space, and what follows it
-pub word_is : (text : List ℕ) → text ≡ (word_from [] text).0 ++ (word_from [] text).1
-word_is text = word_from_is [] text
-
-pub word_again : (word rest : List ℕ) → is_word word ≡ true → ends_part rest ≡ true → word_from [] (word ++ rest) ≡ (word, rest)
+pub word_again : (word rest : List ℕ) → is_word word ≡ true → ends_part rest ≡ true → word_at (word ++ rest) ≡ (word, rest)
 word_again word rest h ends = word_from_again [] word rest h ends
 
 by_word_is : {X : Type 0} (spell : X → List ℕ) (values : List X) (word : List ℕ) (x : X) → by_word spell values word ≡ Some x → word ≡ spell x
@@ -77,12 +43,12 @@ pub by_words : {X : Type 0} (spell : X → List ℕ) (values : List X) → ((x :
 unfolding one_of
 by_words {X} spell values own = record {
   found = λ text x rest e. bind_some _ (after_word (codes " ") text) (x, rest) e (λ behind f g.
-      bind_some _ (by_word spell values (word_from [] behind).0) (x, rest) g (λ v h k.
-      let same = some_pair_parts v x (word_from [] behind).1 rest k in
-      let spelled : (word_from [] behind).0 ≡ spell x = by_word_is spell values (word_from [] behind).0 v h ∙ ap spell same.0 in (
+      bind_some _ (by_word spell values (word_at behind).0) (x, rest) g (λ v h k.
+      let same = some_pair_parts v x (word_at behind).1 rest k in
+      let spelled : (word_at behind).0 ≡ spell x = by_word_is spell values (word_at behind).0 v h ∙ ap spell same.0 in (
         tt,
         after_word_is (codes " ") text behind f ∙ ap (λ (xs : List ℕ). space ∷ xs)
-            (word_is behind ∙ ap (λ (xs : List ℕ). xs ++ (word_from [] behind).1) spelled ∙ ap (λ (xs : List ℕ). spell x ++ xs) same.1),
+            (word_is behind ∙ ap (λ (xs : List ℕ). xs ++ (word_at behind).1) spelled ∙ ap (λ (xs : List ℕ). spell x ++ xs) same.1),
       )));
   every = λ x rest is ends. rw (after_word_again (codes " ") (spell x ++ rest), word_again (spell x) rest (own x).0 ends, (own x).1) refl;
 }

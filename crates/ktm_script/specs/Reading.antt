@@ -1,5 +1,5 @@
 -- Reading from left to right. The laws in proofs/ say that it reads what `Spelling` spells; no public contract rests on this file alone.
-use Rattle.std.specs.Prelude.{◌≡◌, ℕ, ◌==◌, List, [], ◌∷◌, ◌++◌, codes, Option, Some, None, Result, Ok, Err, option_map, bytes_eq, if◌then◌else◌}
+use Rattle.std.specs.Prelude.{◌≡◌, ℕ, ◌==◌, List, [], ◌∷◌, codes, Option, Some, None, Result, Ok, Err, option_map, bytes_eq, if◌then◌else◌}
 use Rattle.std.specs.Borrow.{Bor}
 use Rattle.std.specs.List.{find}
 use Rattle.ktm_base.specs.declared.id.Label.{Label}
@@ -9,8 +9,8 @@ use Rattle.ktm_codec.specs.Hex.{unhex_or_dash}
 use Rattle.ktm_codec.specs.Number.{number_at}
 use Rattle.ktm_codec.specs.Quoted.{quoted_at}
 use Rattle.ktm_codec.specs.Steps.{◌>>=◌, at_end, on_some}
-use Rattle.ktm_codec.specs.Word.{after_word}
-use Rattle.ktm_script.specs.Spelling.{space, access_spelling, share_spelling, disposition_spelling, durability_spelling, kind_spelling}
+use Rattle.ktm_codec.specs.Word.{after_word, word_at}
+use Rattle.ktm_script.specs.Spelling.{access_spelling, share_spelling, disposition_spelling, durability_spelling, kind_spelling}
 use Rattle.ktm_script.specs.declared.fault.LineFault.{LineFault}
 use Rattle.ktm_script.specs.declared.fault.LineFault.TheVariants.{BadLine, NoMemory}
 use Rattle.ktm_script.specs.declared.form.Form.{Form}
@@ -99,11 +99,6 @@ size_at text = behind_space (number_at 0xFFFF_FFFF_FFFF_FFFF) text
 unfoldable pub text_at : List ℕ → Option (List ℕ × List ℕ)
 text_at text = behind_space quoted_at text
 
--- the word so far with its characters up to the first space, and what follows them
-unfoldable pub word_from : List ℕ → List ℕ → List ℕ × List ℕ
-word_from front [] = (front, [])
-word_from front (c ∷ cs) = if c == space then (front, c ∷ cs) else word_from (front ++ c ∷ []) cs
-
 -- the first of the values that has this word
 unfoldable pub by_word : {X : Type 0} → (X → List ℕ) → List X → List ℕ → Option X
 by_word spell values word = find (λ value. bytes_eq (spell value) word) values
@@ -112,15 +107,15 @@ by_word spell values word = find (λ value. bytes_eq (spell value) word) values
 unfoldable pub one_of : {X : Type 0} → (X → List ℕ) → List X → List ℕ → Option (X × List ℕ)
 one_of spell values text = do
   rest ← after_word (codes " ") text
-  value ← by_word spell values (word_from [] rest).0
-  Some (value, (word_from [] rest).1)
+  value ← by_word spell values (word_at rest).0
+  Some (value, (word_at rest).1)
 
 -- bytes behind a space, by the characters before the next one
 unfoldable pub bytes_at : List ℕ → Option (List ℕ × List ℕ)
 bytes_at text = do
   rest ← after_word (codes " ") text
-  bytes ← unhex_or_dash (word_from [] rest).0
-  Some (bytes, (word_from [] rest).1)
+  bytes ← unhex_or_dash (word_at rest).0
+  Some (bytes, (word_at rest).1)
 
 -- what a file may be used for
 abbrev pub accesses : List Access

@@ -3,8 +3,8 @@ ghost use Rattle.std.specs.Prelude.{◌≡◌, option_map};
 ghost use Rattle.ktm_script.specs.Reading.{by_word, form_at, form_name, forms};
 ghost use Rattle.ktm_script.specs.Lengths.{forms_of_length};
 
-use crate::word::{Word, by_word, split_word};
-use ktm_codec::strip_word;
+use crate::word::{Word, by_word};
+use ktm_codec::{split_word, strip_word};
 
 // What a command is without its values.
 #[derive(Clone, Copy)]

@@ -6,9 +6,9 @@ ghost use Rattle.ktm_codec.specs.Steps.{at_end};
 ghost use Rattle.ktm_script.specs.Reading.{GivesPart, access_at, behind_space, bytes_at, disposition_at, durability_at, kind_at, kind_in_transaction_at, label_at, modes_at, named_at, process_at, share_at, size_at, text_at, view_at, whole};
 
 use crate::LineFault::{self, BadLine};
-use crate::word::{one_of, split_word};
+use crate::word::one_of;
 use ktm_base::{Bytes, Label, MOST_PROCESS, Pid, Text};
-use ktm_codec::{read_guid, read_hex_or_dash, read_number, read_quoted, strip_word};
+use ktm_codec::{read_guid, read_hex_or_dash, read_number, read_quoted, split_word, strip_word};
 use ktm_types::{Access, Disposition, Durability, EnlistmentKind, ShareMode, View};
 use std::alloc::Global;
 use uuid::Uuid;

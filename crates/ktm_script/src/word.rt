@@ -1,12 +1,11 @@
 // Values that are spelled by one word of a few.
-ghost use Rattle.std.specs.Prelude.{◌≡◌, ◌++◌, ◌∷◌, [], ℕ, List, OnOk, option_map};
-ghost use Rattle.ktm_script.specs.Reading.{by_word, one_of, word_from};
+ghost use Rattle.std.specs.Prelude.{◌≡◌, ◌++◌, ◌∷◌, ℕ, List, OnOk, option_map};
+ghost use Rattle.ktm_script.specs.Reading.{by_word, one_of};
 ghost use Rattle.ktm_script.specs.Spelling.{access_spelling, disposition_spelling, durability_spelling, kind_spelling, share_spelling, space};
 
 use ktm_base::NoMemory;
-use ktm_codec::strip_word;
+use ktm_codec::{split_word, strip_word};
 use ktm_types::{Access, Disposition, Durability, EnlistmentKind, ShareMode};
-use memchr::memchr;
 
 /// A value that is spelled by a word.
 pub trait Word: Copy {
@@ -78,17 +77,6 @@ impl Word for EnlistmentKind {
             EnlistmentKind::Both => b"both",
             EnlistmentKind::Superior => b"superior",
         }
-    }
-}
-
-// The characters before the first space, and what follows them.
-pub fn split_word(text: &[u8]) -> (&[u8], &[u8])
-    ensures word { result.0.now ≡ (word_from [] text.now).0 }
-    ensures rest { result.1.now ≡ (word_from [] text.now).1 }
-{
-    match memchr(b' ', text) {
-        Some(end) => text.split_at(end),
-        None => (text, &[]),
     }
 }
 

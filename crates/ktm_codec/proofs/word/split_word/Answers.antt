@@ -1,7 +1,7 @@
 use Rattle.std.proofs.Common.{◌∙◌, [], ap, sym, arith}
 use Rattle.std.proofs.lemmas.Bool.{false_from_ne_true}
-use Rattle.ktm_script.proofs.WordLemmas.{word_ends, word_is_all}
-use Rattle.ktm_script.proofs.word.split_word.Goals as goal
+use Rattle.ktm_codec.proofs.WordSplits.{word_ends, word_is_all}
+use Rattle.ktm_codec.proofs.word.split_word.Goals as goal
 
 pub returns-in-Some-clause-word : goal.returns-in-Some-clause-word
 returns-in-Some-clause-word c =
