@@ -8,8 +8,8 @@ use std::alloc::Global;
 
 fn answer(alloc: Global, kind: &str, asked: &str) -> Result<String, NoMemory> {
     match kind {
-        "lines" => line_of(alloc, asked),
-        "replies" => reply_of(alloc, asked),
+        "lines" => Ok(String::from_str(alloc, line_of(alloc, asked)?)?),
+        "replies" => Ok(String::from_str(alloc, reply_of(alloc, asked)?)?),
         "events" => event_of(alloc, asked),
         "groups" => group_of(alloc, asked),
         "picks" => left_by(alloc, asked),

@@ -2,6 +2,7 @@
 use ktm_base::{Bytes, NoMemory};
 use ktm_reply::{ReplyFault, read_reply, write_reply};
 use ktm_script::{LineFault, read_line, write_line};
+use ktm_types::{Line, Reply};
 use std::alloc::Global;
 
 // What is read of the text was written so.
@@ -13,22 +14,28 @@ fn told(written: &Bytes, text: &str) -> &'static str {
     }
 }
 
+fn told_line(alloc: Global, line: &Line, text: &str) -> Result<&'static str, NoMemory> {
+    Ok(told(&write_line(alloc, line)?, text))
+}
+
+fn told_reply(alloc: Global, reply: &Reply, text: &str) -> Result<&'static str, NoMemory> {
+    Ok(told(&write_reply(alloc, reply)?, text))
+}
+
 /// Whether a text is a line of a script, which is then written as it was read.
-pub fn line_of(alloc: Global, text: &str) -> Result<String, NoMemory> {
-    let answer = match read_line(alloc, text.as_bytes()) {
-        Ok(line) => told(&write_line(alloc, &line)?, text),
-        Err(LineFault::BadLine) => "BAD_LINE",
-        Err(LineFault::NoMemory) => return Err(NoMemory),
-    };
-    Ok(String::from_str(alloc, answer)?)
+pub fn line_of(alloc: Global, text: &str) -> Result<&'static str, NoMemory> {
+    match read_line(alloc, text.as_bytes()) {
+        Ok(line) => told_line(alloc, &line, text),
+        Err(LineFault::BadLine) => Ok("BAD_LINE"),
+        Err(LineFault::NoMemory) => Err(NoMemory),
+    }
 }
 
 /// Whether a text is a reply, which is then written as it was read.
-pub fn reply_of(alloc: Global, text: &str) -> Result<String, NoMemory> {
-    let answer = match read_reply(alloc, text.as_bytes()) {
-        Ok(reply) => told(&write_reply(alloc, &reply)?, text),
-        Err(ReplyFault::NotAReply) => "NOT_A_REPLY",
-        Err(ReplyFault::NoMemory) => return Err(NoMemory),
-    };
-    Ok(String::from_str(alloc, answer)?)
+pub fn reply_of(alloc: Global, text: &str) -> Result<&'static str, NoMemory> {
+    match read_reply(alloc, text.as_bytes()) {
+        Ok(reply) => told_reply(alloc, &reply, text),
+        Err(ReplyFault::NotAReply) => Ok("NOT_A_REPLY"),
+        Err(ReplyFault::NoMemory) => Err(NoMemory),
+    }
 }
