@@ -264,7 +264,7 @@ impl Handles {
         self.close(process, label)
     }
 
-    /// IsSomeAnd each handle of the group, and no other, that the group has ended. They stay bound. One that is bound to the
+    /// Tells each handle of the group, and no other, that the group has ended. They stay bound. One that is bound to the
     /// group later is not told.
     pub fn end_group(&mut self, group: Id)
         ensures entries { self.new.entries ≡ ended_group self.old.entries group }
@@ -278,7 +278,7 @@ impl Handles {
         }
     }
 
-    // IsSomeAnd the first handle of the group whose name is not below this one, if there is one, that the group has ended.
+    // Tells the first handle of the group whose name is not below this one, if there is one, that the group has ended.
     fn end_next(&mut self, group: Id, from: &[u8]) -> Option<Handle>
         requires begins { Begins (group_bytes group) from.now }
         requires before { AreEnded group from.now self.old.entries }

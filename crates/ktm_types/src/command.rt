@@ -40,7 +40,7 @@ pub enum Command {
     RollbackTransaction {
         transaction: Label,
     },
-    /// IsSomeAnd a transaction's GUID, state and outcome.
+    /// Tells a transaction's GUID, state and outcome.
     GetTransactionInformation {
         transaction: Label,
     },
@@ -162,7 +162,7 @@ pub enum Command {
         file: Label,
         size: u64,
     },
-    /// IsSomeAnd how many bytes a file has.
+    /// Tells how many bytes a file has.
     GetFileSizeEx {
         file: Label,
     },
