@@ -1,5 +1,5 @@
 // Which lines the machine answers, and which groups of events its log has.
-ghost use Rattle.std.specs.Prelude.{◌≡◌};
+ghost use Rattle.std.specs.Prelude.{◌≡◌, [], ◌∷◌};
 ghost use Rattle.ktm_forms.specs.Built.{is_built, is_built_command, is_built_group};
 ghost use Rattle.ktm_world.specs.Durable.{is_sole};
 
@@ -52,32 +52,70 @@ fn is_sole(part: &Part) -> bool
     }
 }
 
+// Can this be the only event of a group.
+fn is_built_alone(event: &Event) -> bool
+    ensures { result ≡ is_built_group (event.now ∷ []) }
+{
+    match event {
+        Event::Boot { .. } | Event::Plain { .. } => true,
+        Event::Single { part, .. } => is_sole(part),
+        _ => false,
+    }
+}
+
+// Is it a group of five: the files and the keys of a transaction are ready, it is decided, and both are done.
+fn is_commit(
+    files: &Event,
+    keys: &Event,
+    decided: &Event,
+    files_done: &Event,
+    keys_done: &Event,
+) -> bool
+    ensures { result ≡ is_built_group (files.now ∷ keys.now ∷ decided.now ∷ files_done.now ∷ keys_done.now ∷ []) }
+{
+    let Event::Ready {
+        transaction: a,
+        part: Part::Changes(_),
+    } = files
+    else {
+        return false;
+    };
+    let Event::Ready {
+        transaction: b,
+        part: Part::Settings(_),
+    } = keys
+    else {
+        return false;
+    };
+    let Event::Decide { transaction: c } = decided else {
+        return false;
+    };
+    let Event::Done {
+        transaction: d,
+        done: DonePart::Files,
+    } = files_done
+    else {
+        return false;
+    };
+    let Event::Done {
+        transaction: e,
+        done: DonePart::Keys,
+    } = keys_done
+    else {
+        return false;
+    };
+    b == a && c == a && d == a && e == a
+}
+
 /// Can the machine have recorded this group. An image with another one is a bad image to it.
 pub fn is_built_group(events: &[Event]) -> bool
     ensures { result ≡ is_built_group events.now }
 {
     match events {
-        [Event::Boot { .. }] | [Event::Plain { .. }] => true,
-        [Event::Single { part, .. }] => is_sole(part),
-        [
-            Event::Ready {
-                transaction: a,
-                part: Part::Changes(_),
-            },
-            Event::Ready {
-                transaction: b,
-                part: Part::Settings(_),
-            },
-            Event::Decide { transaction: c },
-            Event::Done {
-                transaction: d,
-                done: DonePart::Files,
-            },
-            Event::Done {
-                transaction: e,
-                done: DonePart::Keys,
-            },
-        ] => b == a && c == a && d == a && e == a,
+        [only] => is_built_alone(only),
+        [files, keys, decided, files_done, keys_done] => {
+            is_commit(files, keys, decided, files_done, keys_done)
+        }
         _ => false,
     }
 }

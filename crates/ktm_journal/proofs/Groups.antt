@@ -6,6 +6,7 @@ use Rattle.std.specs.List.{list_all}
 use Rattle.ktm_base.specs.declared.id.Id.{Id}
 use Rattle.ktm_types.specs.declared.change.Change.{Change}
 use Rattle.ktm_types.specs.declared.event.DonePart.{DonePart}
+use Rattle.ktm_types.specs.declared.event.Event.{Event}
 use Rattle.ktm_types.specs.declared.event.Event.TheVariants.{Boot, Ready, Single, Decide, Done}
 use Rattle.ktm_types.specs.declared.event.Part.TheVariants.{Changes, Settings}
 use Rattle.ktm_forms.specs.Built.{is_built_group, IsBuiltState}
@@ -87,3 +88,17 @@ module _ (s : Durable) (id : Id) (cs : List Change) (ss : OwnSettings) (built : 
 
   pub both_apply : id.boot ≡ s.boots → may_commit s cs ss ≡ true → take s cs ≡ true → left ≡ events_apply s (both_events id cs ss)
   both_apply now recorded taken = sym (by_tests ∙ rw (eq-eqb id.boot s.boots now, recorded, taken) refl)
+
+-- of a built group of two events or more, what they are
+pub record Begins (files keys : Event) (rest : Group) : Type 0 where
+  pub transaction : Id
+  pub other : Id
+  pub changes : List Change
+  pub settings : OwnSettings
+  pub files_is : files ≡ Ready transaction (Changes changes)
+  pub keys_is : keys ≡ Ready other (Settings settings)
+  pub is : files ∷ keys ∷ rest ≡ both_events transaction changes settings
+
+pub begins : (files keys : Event) (rest : Group) → is_built_group (files ∷ keys ∷ rest) ≡ true → Begins files keys rest
+begins (Ready a (Changes cs)) (Ready b (Settings ss)) rest made = record { transaction = a; other = b; changes = cs; settings = ss; files_is = refl; keys_is = refl; is = two_parts a b cs ss rest made }
+begins _ _ _ made = absurd (false≢true made)

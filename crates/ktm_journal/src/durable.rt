@@ -1,14 +1,16 @@
 // The durable state in memory, and what groups of events make of it.
-ghost use Rattle.std.specs.Prelude.{◌≡◌, ◌&&◌, ◌+◌, ◌^◌, ◌≤◌, [], ◌∷◌, Ok, true, IfOk, OnOk, is_none, is_some, count_by, nat_lt, nat_le, sum_by};
+ghost use Rattle.std.specs.Prelude.{◌≡◌, ◌&&◌, ◌+◌, ◌^◌, ◌≤◌, List, [], ◌∷◌, Ok, true, IfOk, IsSomeAnd, is_none, is_some, count_by, nat_lt, nat_le, sum_by};
 ghost use Rattle.std.specs.List.{list_all};
-ghost use Rattle.ktm_types.specs.declared.event.Event.TheVariants.{Boot, Plain, Single};
+ghost use Rattle.ktm_base.specs.declared.id.Id.{Id};
+ghost use Rattle.ktm_types.specs.declared.change.Change.{Change};
+ghost use Rattle.ktm_types.specs.declared.event.Event.TheVariants.{Boot, Plain, Ready, Single};
 ghost use Rattle.ktm_types.specs.declared.event.Part.TheVariants.{Changes, Settings};
 ghost use Rattle.ktm_forms.specs.Built.{is_built_group};
 ghost use Rattle.ktm_forms.specs.Commits.{both_events};
 ghost use Rattle.ktm_forms.specs.Taking.{within};
 ghost use Rattle.ktm_world.specs.Changes.{changes_apply, changed_all};
 ghost use Rattle.ktm_world.specs.Durable.{Durable, after_events, are_recorded_changes, empty_state, events_apply, is_new_in, is_sole, next_after_all};
-ghost use Rattle.ktm_world.specs.Keys.{are_good_settings, stored_all};
+ghost use Rattle.ktm_world.specs.Keys.{OwnSettings, are_good_settings, stored_all};
 ghost use Rattle.ktm_world.specs.Tree.{bytes_of, bytes_or_none, units_of};
 ghost use Rattle.ktm_journal.specs.Waiting.{has_units_for, may_wait, passes_units};
 ghost use Rattle.txf_tree.specs.TreeState.{tree_of, versions_of};
@@ -84,6 +86,34 @@ fn count_unset(settings: &[Setting]) -> usize
     ensures { result ≡ count_by (λ setting. is_none setting.value) settings.now }
 {
     settings.len() - count_set(settings)
+}
+
+// The changes of a transaction whose files are ready.
+fn into_changes(event: Event) -> Option<(Id, Vec<Change>)>
+    ensures { (transaction : Id) (changes : List Change) → event ≡ Ready transaction (Changes changes)
+        → IsSomeAnd result (λ part. (part.0 ≡ transaction) × (part.1.items ≡ changes)) }
+{
+    match event {
+        Event::Ready {
+            transaction,
+            part: Part::Changes(changes),
+        } => Some((transaction, changes.into_vec())),
+        _ => None,
+    }
+}
+
+// The settings of a transaction whose keys are ready.
+fn into_settings(event: Event) -> Option<Vec<Setting>>
+    ensures { (transaction : Id) (settings : OwnSettings) → event ≡ Ready transaction (Settings settings)
+        → IsSomeAnd result (λ part. part.items ≡ settings) }
+{
+    match event {
+        Event::Ready {
+            part: Part::Settings(settings),
+            ..
+        } => Some(settings.into_vec()),
+        _ => None,
+    }
 }
 
 impl Durable {
@@ -216,13 +246,17 @@ impl Durable {
         self.change(changes)
     }
 
-    // Makes settings in the store.
-    fn set(&mut self, settings: Vec<Setting>) -> Result<(), NoMemory>
-        ensures { OnOk result (self.new ≡ record self.old { keys = stored_all self.old.keys settings.items }) }
+    // Makes settings in the store, counts the events that record them, and tells whether the image has room for what is then
+    // committed.
+    fn set(&mut self, settings: Vec<Setting>, events: u64) -> Result<bool, NoMemory>
+        requires { nat_lt (self.old.events + events) (2 ^ 63) ≡ true }
+        ensures applies { IfOk result (λ applied. applied ≡ within self.old.units self.old.tree (stored_all self.old.keys settings.items)) }
+        ensures after { result ≡ Ok true → self.new ≡ record self.old { events = self.old.events + events; keys = stored_all self.old.keys settings.items } }
     {
         self.keys.reserve(settings.len())?;
         make_all(&mut self.keys, settings);
-        Ok(())
+        self.events += events;
+        Ok(self.is_within())
     }
 
     // A transaction commits what it set, and nothing else.
@@ -236,9 +270,7 @@ impl Durable {
         {
             return Ok(false);
         }
-        self.set(settings)?;
-        self.events += 1;
-        Ok(self.is_within())
+        self.set(settings, 1)
     }
 
     // A transaction commits its one part.
@@ -318,9 +350,36 @@ impl Durable {
         {
             return Ok(false);
         }
-        self.set(settings)?;
-        self.events += 5;
-        Ok(self.is_within())
+        self.set(settings, 5)
+    }
+
+    // Applies an event that is a group by itself.
+    fn apply_alone(&mut self, event: Event) -> Result<bool, NoMemory>
+        ensures applies { IfOk result (λ applied. applied ≡ (is_built_group (event ∷ []) && events_apply self.old (event ∷ []))) }
+        ensures after { result ≡ Ok true → self.new ≡ after_events self.old (event ∷ []) }
+    {
+        match event {
+            Event::Boot { boot } => Ok(self.boot(boot)),
+            Event::Plain { change } => self.change_plainly(change),
+            Event::Single { transaction, part } => self.commit_part(transaction, part),
+            _ => Ok(false),
+        }
+    }
+
+    // Applies what is recorded of a transaction whose files and keys are ready.
+    fn apply_parts(&mut self, files: Event, keys: Event) -> Result<bool, NoMemory>
+        ensures applies { (transaction other : Id) (changes : List Change) (settings : OwnSettings) → files ≡ Ready transaction (Changes changes) → keys ≡ Ready other (Settings settings)
+            → IfOk result (λ applied. applied ≡ events_apply self.old (both_events transaction changes settings)) }
+        ensures after { (transaction other : Id) (changes : List Change) (settings : OwnSettings) → files ≡ Ready transaction (Changes changes) → keys ≡ Ready other (Settings settings)
+            → result ≡ Ok true → self.new ≡ after_events self.old (both_events transaction changes settings) }
+    {
+        let Some((transaction, changes)) = into_changes(files) else {
+            return Ok(false);
+        };
+        let Some(settings) = into_settings(keys) else {
+            return Ok(false);
+        };
+        self.commit_both(transaction, changes, settings)
     }
 
     /// Applies a group of events. It answers false where the group is not built or does not apply; the state is then of no use,
@@ -333,25 +392,12 @@ impl Durable {
             return Ok(false);
         }
         let mut events = events.into_iter();
+        let Some(first) = events.next() else {
+            return Ok(false);
+        };
         match events.next() {
-            Some(Event::Boot { boot }) => Ok(self.boot(boot)),
-            Some(Event::Plain { change }) => self.change_plainly(change),
-            Some(Event::Single { transaction, part }) => self.commit_part(transaction, part),
-            Some(
-                Event::Ready {
-                    transaction,
-                    part: Part::Changes(changes),
-                },
-            ) => match events.next() {
-                Some(
-                    Event::Ready {
-                        part: Part::Settings(settings),
-                        ..
-                    },
-                ) => self.commit_both(transaction, changes.into_vec(), settings.into_vec()),
-                _ => Ok(false),
-            },
-            _ => Ok(false),
+            None => self.apply_alone(first),
+            Some(second) => self.apply_parts(first, second),
         }
     }
 }
