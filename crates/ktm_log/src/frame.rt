@@ -1,15 +1,15 @@
 // Frames in bytes, which are read where they lie.
-ghost use Rattle.std.specs.Prelude.{◌≡◌, ◌+◌, ◌≤◌, length, IfSome, MatchOption, None, Some};
+ghost use Rattle.std.specs.Prelude.{◌≡◌, ◌+◌, ◌≤◌, drop, length, IfSome, MatchOption, None, Some};
 ghost use Rattle.ktm_log.specs.Log.{first_payload, size_at};
 
 use ktm_codec::u32_in;
 
-// The payload length behind the gate that the bytes begin with.
-pub(crate) fn payload_size(bytes: &[u8]) -> u32
-    requires { 5 ≤ length bytes.now }
-    ensures { result ≡ size_at bytes.now }
+// The payload length behind the gate at this place.
+pub(crate) fn payload_size(bytes: &[u8], at: usize) -> u32
+    requires { at + 5 ≤ length bytes.now }
+    ensures { result ≡ size_at (drop at bytes.now) }
 {
-    u32_in(bytes, 1)
+    u32_in(bytes, at + 1)
 }
 
 /// The payload of the frame that the bytes begin with, if they begin with one. The next frame is five bytes behind as many
@@ -21,7 +21,7 @@ pub fn first_payload(bytes: &[u8]) -> Option<&[u8]>
     if bytes.len() < 6 || bytes[0] != 1 {
         return None;
     }
-    let size = payload_size(bytes) as usize;
+    let size = payload_size(bytes, 0) as usize;
     if bytes.len() - 6 < size {
         return None;
     }

@@ -88,7 +88,7 @@ pub(crate) fn next_frame<D: Disk>(
     if let Err(Down) = load(disk, area, read, at + 5) {
         return Err(FrameFault::Down);
     }
-    let size = u64::from(payload_size(&read[at as usize..]));
+    let size = u64::from(payload_size(read, at as usize));
     if area.len - at < size + 6 {
         return Err(FrameFault::Torn);
     }

@@ -1,4 +1,5 @@
 use Rattle.std.proofs.Common.{◌∙◌, arith}
+use Rattle.std.proofs.lemmas.Grind.{common_steps}
 use Rattle.ktm_log.proofs.Loading.{loads_then}
 use Rattle.ktm_log.proofs.Payloads.{went_on_trans}
 use Rattle.ktm_log.proofs.load.load.Goals as goal
@@ -11,3 +12,6 @@ loop-area-preserved g c = record {
   holds = c.in_default.ensures.holds;
   loads = loads_then _ _ _ _ _ _ _ _ c.loop-area.invariant.loads c.in_default.ensures.loads;
 }
+
+pub loop-area-init : goal.loop-area-init
+loop-area-init g c = grind (arith, common_steps)

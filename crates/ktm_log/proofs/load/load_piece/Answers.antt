@@ -1,4 +1,5 @@
 use Rattle.std.proofs.Common.{◌≡◌, ◌+◌, ◌-◌, length, take, drop, ◌∙◌, arith, length-append, length-take, length-drop}
+use Rattle.std.proofs.lemmas.Grind.{common_steps}
 use Rattle.ktm_base.specs.Disk.{DiskState}
 use Rattle.ktm_log.specs.Load.{IsRead}
 use Rattle.ktm_log.proofs.Steps.{IfSome-both}
@@ -22,3 +23,18 @@ returns-clause-holds g c =
       bytes = IfSome-both (λ (s : DiskState). IsRead c.args.area old s.seen) _ _ _ c.requires.holds.bytes c.in_default.ensures.value
           (λ s read is. read_on c.args.area old c.read_at.new.buf s.seen from n _ read is (omega arith) at full (omega (arith, c.min-piece.ensures)));
     })
+
+pub returns-in-Err-clause-more : goal.returns-in-Err-clause-more
+returns-in-Err-clause-more g c = grind (arith, common_steps)
+
+pub returns-in-Err-clause-loads : goal.returns-in-Err-clause-loads
+returns-in-Err-clause-loads g c = grind (arith, common_steps)
+
+pub returns-clause-more : goal.returns-clause-more
+returns-clause-more g c = grind (arith, common_steps)
+
+pub returns-clause-front : goal.returns-clause-front
+returns-clause-front g c = grind (arith, common_steps)
+
+pub returns-clause-loads : goal.returns-clause-loads
+returns-clause-loads g c = grind (arith, common_steps)

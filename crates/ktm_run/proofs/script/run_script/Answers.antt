@@ -1,4 +1,5 @@
 use Rattle.std.proofs.Common.{◌≡◌, ℕ, List, [], ◌++◌, length, take, refl, sym, ◌∙◌, ap, arith, length-append, length-take}
+use Rattle.std.proofs.lemmas.Grind.{common_steps}
 use Rattle.ktm_base.specs.declared.limits.TheConstants.{MOST_SCRIPT_BYTES}
 use Rattle.ktm_run.proofs.Known.{Consumes-none, Consumes-trans, Consumes-end, Consumes-kept}
 use Rattle.ktm_run.proofs.Lines.{lines_from-append, part_from-append, take_front}
@@ -106,3 +107,6 @@ returns-then-left-eq0-clause-behind g c = λ same.
       omega (arith, length-append {A = ℕ}, length-take {A = ℕ}, long, c.in-Ok.ensures.within, c.in-Ok.ensures.count, c.max.ensures, c.if-left-eq0.true, c.if-count-eq0.false),
       Progress-as _ _ _ _ (ap (λ (l : List ℕ). lines_from [] l) (sym (take_front MOST_SCRIPT_BYTES script piece full))) went,
     )
+
+pub returns-then-left-eq0-clause-too_long : goal.returns-then-left-eq0-clause-too_long
+returns-then-left-eq0-clause-too_long g c = grind (arith, common_steps)

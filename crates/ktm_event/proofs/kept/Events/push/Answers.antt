@@ -1,4 +1,5 @@
 use Rattle.std.proofs.Common.{arith, vec_len}
+use Rattle.std.proofs.lemmas.Grind.{common_steps}
 use Rattle.ktm_event.proofs.KeptLemmas.{Grew, kept_more, holds_more}
 use Rattle.ktm_event.proofs.kept.Events.push.Goals as goal
 
@@ -22,3 +23,6 @@ pub returns-clause-adds : goal.returns-clause-adds
 returns-clause-adds c list held =
     let fits = rw (← c.self.view_is) at c.requires.fits in
     holds_more _ _ _ _ _ _ _ _ c.args.event.now c.self.invariant (grew c) (omega (arith, fits, c.self.invariant.within)) _ _ list (rw (← c.self.view_is) at held)
+
+pub overflow_add-self : goal.overflow_add-self
+overflow_add-self c = grind (arith, common_steps)

@@ -1,4 +1,5 @@
 use Rattle.std.proofs.Common.{arith, vec_len}
+use Rattle.std.proofs.lemmas.Grind.{common_steps}
 use Rattle.ktm_types.specs.declared.event.Event.{Event}
 use Rattle.ktm_event.specs.Work.{part_of, work_event}
 use Rattle.ktm_event.proofs.KeptLemmas.{Grew, kept_more, holds_more}
@@ -30,3 +31,6 @@ unfolding event
 returns-clause-adds c list held =
     let fits = rw (← c.self.view_is) at c.requires.fits in
     holds_more _ _ _ _ _ _ _ _ (event c) c.self.invariant (grew c) (omega (arith, fits, c.self.invariant.within)) _ _ list (rw (← c.self.view_is) at held)
+
+pub overflow_add-self : goal.overflow_add-self
+overflow_add-self c = grind (arith, common_steps)

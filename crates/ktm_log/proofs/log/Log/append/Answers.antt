@@ -1,4 +1,5 @@
 use Rattle.std.proofs.Common.{◌+◌, ◌≤◌, ◌∷◌, [], ◌++◌, length, arith}
+use Rattle.std.proofs.lemmas.Grind.{common_steps}
 use Rattle.ktm_base.specs.Disk.{DiskState}
 use Rattle.ktm_log.specs.Log.{Rests}
 use Rattle.ktm_log.proofs.Appends.{length-body, stage_tore, stage_done, gate_tore, gate_done, both_elsewhere}
@@ -44,3 +45,6 @@ returns-clause-elsewhere g c = rw (← c.self.view_is) (
     let room : end + length c.args.body.now + 1 ≤ area.len = omega (arith, spare) in
     Goes-two (λ (s : DiskState). area.at + area.len ≤ length s.seen) _ _ _ (rw (← c.self.view_is) at c.requires.within) c.in_default.ensures.ok c.in_default-settle.ensures.ok
     (λ a b d within staged opened. both_elsewhere area end _ _ _ a b d room (omega arith) (omega arith) within staged opened))
+
+pub settle-requires-2-clause-within : goal.settle-requires-2-clause-within
+settle-requires-2-clause-within g c = grind (arith, common_steps)
