@@ -1,10 +1,11 @@
 // The committed files while a log is read.
-ghost use Rattle.std.specs.Prelude.{◌≡◌, ◌&&◌, ◌≤◌, ◌^◌, [], true, length, sum_by, Ok, IfOk, OnOk};
+ghost use Rattle.std.specs.Prelude.{◌≡◌, ◌+◌, ◌&&◌, ◌<◌, ◌≤◌, ◌^◌, [], true, length, sum_by, Ok, IfOk, OnOk};
 ghost use Rattle.std.specs.List.{list_all};
 ghost use Rattle.ktm_world.specs.Changes.{applies, changes_apply, changed, changed_all, next_after};
 ghost use Rattle.ktm_world.specs.Durable.{is_new_in, next_after_all};
 ghost use Rattle.ktm_world.specs.Tree.{bytes_of, bytes_or_none, units_of};
-ghost use Rattle.txf_tree.specs.TreeState.{tree_of, versions_of};
+ghost use Rattle.txf_tree.specs.TreeState.{fits, tree_of, versions_of};
+ghost use Rattle.txf_durable.specs.State.{IsCounted};
 
 use ktm_base::{NoMemory, UNIT_BYTES};
 use ktm_types::Change;
@@ -56,6 +57,41 @@ fn units_in(bytes: &[u8]) -> u64
     ensures few { result ≤ 2 ^ 52 }
 {
     (bytes.len() as u64).div_ceil(UNIT_BYTES)
+}
+
+// Takes the memory that a change needs if it applies, where there are few enough units, and tells whether it applies.
+fn prepare(tree: &mut Tree, units: u64, change: &Change) -> Result<bool, NoMemory>
+    ensures applies { IfOk result (λ is. is ≡ applies (tree_of tree.old) change.now) }
+    ensures fits { result ≡ Ok true → fits tree.new change.now ≡ true }
+    ensures few { result ≡ Ok true → units + 2 ^ 52 < 2 ^ 64 }
+    ensures tree { tree_of tree.new ≡ tree_of tree.old }
+    ensures versions { versions_of tree.new ≡ versions_of tree.old }
+{
+    if !tree.applies(change) {
+        return Ok(false);
+    }
+    if units > MOST_COUNTED {
+        return Err(NoMemory);
+    }
+    tree.prepare(change)?;
+    Ok(true)
+}
+
+// Makes a change for which the memory is there, and tells how many units there are then.
+fn restore(tree: &mut Tree, units: u64, change: Change) -> u64
+    requires applies { applies (tree_of tree.old) change ≡ true }
+    requires fits { fits tree.old change ≡ true }
+    requires counted { IsCounted tree.old units }
+    requires few { units + 2 ^ 52 < 2 ^ 64 }
+    ensures tree { tree_of tree.new ≡ changed (tree_of tree.old) change }
+    ensures counted { IsCounted tree.new result }
+{
+    let node = node_of(&change);
+    tree.law_of_numbers();
+    let others = units - units_in(tree.content(node));
+    tree.restore(change);
+    tree.law_of_numbers();
+    others + units_in(tree.content(node))
 }
 
 impl DurableFiles {
@@ -121,10 +157,9 @@ impl DurableFiles {
             return Ok(false);
         }
         for change in changes {
-            if !self.tree.applies(&change) {
+            if !self.make(change)? {
                 return Ok(false);
             }
-            self.make(change)?;
         }
         Ok(true)
     }
@@ -161,22 +196,16 @@ impl DurableFiles {
         changes.iter().all(|change| self.is_new(change))
     }
 
-    // Makes a change, and counts what it adds to the units and takes from them.
-    fn make(&mut self, change: Change) -> Result<(), NoMemory>
-        requires { applies self.old.tree change ≡ true }
-        ensures { OnOk result ((self.new.tree ≡ changed self.old.tree change) × (self.new.next_node ≡ next_after self.old.next_node change)) }
+    // Makes a change if it applies, counts what it adds to the units and takes from them, and tells whether it applies.
+    fn make(&mut self, change: Change) -> Result<bool, NoMemory>
+        ensures applies { IfOk result (λ done. done ≡ applies self.old.tree change) }
+        ensures after { result ≡ Ok true → (self.new.tree ≡ changed self.old.tree change) × (self.new.next_node ≡ next_after self.old.next_node change) }
     {
-        self.tree.prepare(&change)?;
-        if self.units > MOST_COUNTED {
-            return Err(NoMemory);
+        let prepared = prepare(&mut self.tree, self.units, &change);
+        if let Ok(true) = prepared {
+            self.next_node = next_after(self.next_node, &change);
+            self.units = restore(&mut self.tree, self.units, change);
         }
-        let node = node_of(&change);
-        self.next_node = next_after(self.next_node, &change);
-        self.tree.law_of_numbers();
-        self.units -= units_in(self.tree.content(node));
-        self.tree.restore(change);
-        self.tree.law_of_numbers();
-        self.units += units_in(self.tree.content(node));
-        Ok(())
+        prepared
     }
 }
