@@ -1,16 +1,22 @@
 -- Worked rows of the replies: what some are, and how each is spelled.
-use Rattle.std.specs.Prelude.{◌≡◌, ℕ, List, [], ◌∷◌, Some, None, map, codes}
+use Rattle.std.specs.Prelude.{◌≡◌, ℕ, List, [], ◌∷◌, Some, None, true, map, codes, nat_lt}
+use Rattle.std.specs.List.{list_all}
 use Rattle.ktm_base.specs.declared.notify.Notify.TheVariants as kind
 use Rattle.ktm_base.specs.declared.refusal.Refusal.TheVariants as refusal
 use Rattle.ktm_types.specs.declared.reply.Reply.{Reply}
 use Rattle.ktm_types.specs.declared.reply.Reply.TheVariants.{Refused, Done, Guid, Committed, Pending, Information, Notification, Contents, Size, Names, Keys, Restarted, BadImage}
 use Rattle.ktm_types.specs.declared.reply.TransactionState.TheVariants as state
 use Rattle.ktm_types.specs.declared.object.TransactionOutcome.TheVariants as outcome
-use Rattle.ktm_reply.specs.Spelling.{reply_spelling}
+use Rattle.ktm_reply.specs.Spelling.{place, reply_spelling}
 
 -- each reply is spelled by the text beside it
 abbrev pub AreSpelledSo : List (Reply × List ℕ) → Type 0
 AreSpelledSo rows = map (λ row. reply_spelling row.0) rows ≡ map (λ row. row.1) rows
+
+-- both replies of each row are spelled alike, and the first is of an earlier form, so that it is read
+pub record AreReadFirst (rows : List (Reply × Reply)) : Type 0 where
+  pub alike : map (λ row. reply_spelling row.0) rows ≡ map (λ row. reply_spelling row.1) rows
+  pub earlier : list_all (λ row. nat_lt (place row.0) (place row.1)) rows ≡ true
 
 -- the bytes of the GUID 00000001-0002-00ab-0000-00000000cdef
 abbrev pub sample_guid : List ℕ
@@ -49,4 +55,13 @@ worked_replies =
     ∷ (Restarted 0 4294967295, codes "restarted events=0 indoubt=4294967295")
     ∷ (Restarted 18446744073709551615 0, codes "restarted events=18446744073709551615 indoubt=0")
     ∷ (BadImage 4096, codes "BAD_IMAGE 4096")
+    ∷ []
+
+-- replies of the forms of which two are spelled alike
+abbrev pub alike_replies : List (Reply × Reply)
+alike_replies =
+    (Done, Names [])
+    ∷ (Done, Keys [])
+    ∷ (Contents (18 ∷ []), Size 12)
+    ∷ (Names (codes "~" ∷ []), Keys (codes "~" ∷ []))
     ∷ []

@@ -7,12 +7,18 @@ use ktm_base::{NoMemory, Text, TextList};
 use ktm_codec::{put_quoted, read_quoted, strip_word};
 use std::alloc::Global;
 
+fn put_spaced(out: &mut Vec<u8>, text: &Text) -> Result<(), NoMemory>
+    ensures { OnOk result (out.new.items ≡ out.old.items ++ spaced text.now) }
+{
+    out.push(b' ')?;
+    put_quoted(out, text.as_slice())
+}
+
 pub fn put_texts(out: &mut Vec<u8>, texts: &[Text]) -> Result<(), NoMemory>
     ensures { OnOk result (out.new.items ≡ out.old.items ++ flat_map spaced texts.now) }
 {
     for text in texts {
-        out.push(b' ')?;
-        put_quoted(out, text.as_slice())?;
+        put_spaced(out, text)?;
     }
     Ok(())
 }

@@ -1,18 +1,48 @@
 // Replies as lines.
-ghost use Rattle.std.specs.Prelude.{◌≡◌, ◌++◌, IfOk, OnOk, codes};
+ghost use Rattle.std.specs.Prelude.{◌≡◌, ◌++◌, IfOk, OnOk, codes, decimal, flat_map};
 ghost use Rattle.ktm_codec.specs.Guid.{guid_spelling};
-ghost use Rattle.ktm_reply.specs.Spelling.{notification_spelling, reply_spelling};
+ghost use Rattle.ktm_codec.specs.Hex.{hex_or_dash};
+ghost use Rattle.ktm_reply.specs.Spelling.{notification_spelling, reply_spelling, spaced};
 ghost use Rattle.ktm_reply.specs.States.{outcome_name, state_name};
+ghost use Rattle.ktm_types.specs.declared.reply.Reply.TheVariants.{Restarted};
 
 use crate::information::{outcome_name, state_name};
 use crate::notification::kind_name;
 use crate::refusal::refusal_name;
 use crate::texts::put_texts;
-use ktm_base::{Bytes, NoMemory, Notify};
+use ktm_base::{Bytes, NoMemory, Notify, TextList};
 use ktm_codec::{put_guid, put_hex_or_dash, put_number};
 use ktm_types::{Reply, TransactionOutcome, TransactionState};
 use std::alloc::Global;
 use uuid::Uuid;
+
+fn put(out: &mut Vec<u8>, text: &[u8]) -> Result<(), NoMemory>
+    ensures { OnOk result (out.new.items ≡ out.old.items ++ text.now) }
+{
+    Ok(out.extend_from_slice(text)?)
+}
+
+fn put_with_number(out: &mut Vec<u8>, text: &[u8], number: u64) -> Result<(), NoMemory>
+    ensures { OnOk result (out.new.items ≡ out.old.items ++ text.now ++ decimal number) }
+{
+    put(out, text)?;
+    put_number(out, number)
+}
+
+fn put_ok_and_guid(out: &mut Vec<u8>, guid: &Uuid) -> Result<(), NoMemory>
+    ensures { OnOk result (out.new.items ≡ out.old.items ++ codes "ok " ++ guid_spelling guid.now) }
+{
+    put(out, b"ok ")?;
+    put_guid(out, guid)
+}
+
+// A name behind a space.
+fn put_name(out: &mut Vec<u8>, name: &[u8]) -> Result<(), NoMemory>
+    ensures { OnOk result (out.new.items ≡ out.old.items ++ codes " " ++ name.now) }
+{
+    put(out, b" ")?;
+    put(out, name)
+}
 
 fn put_information(
     out: &mut Vec<u8>,
@@ -20,14 +50,11 @@ fn put_information(
     state: TransactionState,
     outcome: TransactionOutcome,
 ) -> Result<(), NoMemory>
-    ensures { OnOk result (out.new.items ≡ out.old.items ++ guid_spelling transaction.now ++ codes " " ++ state_name state ++ codes " " ++ outcome_name outcome) }
+    ensures { OnOk result (out.new.items ≡ out.old.items ++ codes "ok " ++ guid_spelling transaction.now ++ codes " " ++ state_name state ++ codes " " ++ outcome_name outcome) }
 {
-    put_guid(out, transaction)?;
-    out.push(b' ')?;
-    out.extend_from_slice(state_name(state))?;
-    out.push(b' ')?;
-    out.extend_from_slice(outcome_name(outcome))?;
-    Ok(())
+    put_ok_and_guid(out, transaction)?;
+    put_name(out, state_name(state))?;
+    put_name(out, outcome_name(outcome))
 }
 
 fn put_notification(
@@ -35,14 +62,36 @@ fn put_notification(
     kind: Notify,
     enlistment: &Option<Uuid>,
 ) -> Result<(), NoMemory>
-    ensures { OnOk result (out.new.items ≡ out.old.items ++ notification_spelling kind enlistment.now) }
+    ensures { OnOk result (out.new.items ≡ out.old.items ++ codes "ok " ++ notification_spelling kind enlistment.now) }
 {
-    out.extend_from_slice(kind_name(kind))?;
-    if let Some(enlistment) = enlistment {
-        out.push(b' ')?;
-        put_guid(out, enlistment)?;
-    }
-    Ok(())
+    put(out, b"ok ")?;
+    put(out, kind_name(kind))?;
+    let Some(enlistment) = enlistment else {
+        return Ok(());
+    };
+    put(out, b" ")?;
+    put_guid(out, enlistment)
+}
+
+fn put_contents(out: &mut Vec<u8>, bytes: &Bytes) -> Result<(), NoMemory>
+    ensures { OnOk result (out.new.items ≡ out.old.items ++ codes "ok " ++ hex_or_dash bytes.now) }
+{
+    put(out, b"ok ")?;
+    put_hex_or_dash(out, bytes.as_slice())
+}
+
+fn put_list(out: &mut Vec<u8>, texts: &TextList) -> Result<(), NoMemory>
+    ensures { OnOk result (out.new.items ≡ out.old.items ++ codes "ok" ++ flat_map spaced texts.now) }
+{
+    put(out, b"ok")?;
+    put_texts(out, texts.as_slice())
+}
+
+fn put_restarted(out: &mut Vec<u8>, events: u64, in_doubt: u32) -> Result<(), NoMemory>
+    ensures { OnOk result (out.new.items ≡ out.old.items ++ reply_spelling (Restarted events in_doubt)) }
+{
+    put_with_number(out, b"restarted events=", events)?;
+    put_with_number(out, b" indoubt=", u64::from(in_doubt))
 }
 
 // Puts the line that a reply is, without a newline.
@@ -50,50 +99,23 @@ fn put_reply(out: &mut Vec<u8>, reply: &Reply) -> Result<(), NoMemory>
     ensures { OnOk result (out.new.items ≡ out.old.items ++ reply_spelling reply.now) }
 {
     match reply {
-        Reply::Refused(refusal) => out.extend_from_slice(refusal_name(*refusal))?,
-        Reply::Done => out.extend_from_slice(b"ok")?,
-        Reply::Guid(guid) => {
-            out.extend_from_slice(b"ok ")?;
-            put_guid(out, guid)?;
-        }
-        Reply::Committed => out.extend_from_slice(b"ok committed")?,
-        Reply::Pending => out.extend_from_slice(b"ok pending")?,
+        Reply::Refused(refusal) => put(out, refusal_name(*refusal)),
+        Reply::Done => put(out, b"ok"),
+        Reply::Guid(guid) => put_ok_and_guid(out, guid),
+        Reply::Committed => put(out, b"ok committed"),
+        Reply::Pending => put(out, b"ok pending"),
         Reply::Information {
             transaction,
             state,
             outcome,
-        } => {
-            out.extend_from_slice(b"ok ")?;
-            put_information(out, transaction, *state, *outcome)?;
-        }
-        Reply::Notification { kind, enlistment } => {
-            out.extend_from_slice(b"ok ")?;
-            put_notification(out, *kind, enlistment)?;
-        }
-        Reply::Contents(bytes) => {
-            out.extend_from_slice(b"ok ")?;
-            put_hex_or_dash(out, bytes.as_slice())?;
-        }
-        Reply::Size(size) => {
-            out.extend_from_slice(b"ok ")?;
-            put_number(out, *size)?;
-        }
-        Reply::Names(texts) | Reply::Keys(texts) => {
-            out.extend_from_slice(b"ok")?;
-            put_texts(out, texts.as_slice())?;
-        }
-        Reply::Restarted { events, in_doubt } => {
-            out.extend_from_slice(b"restarted events=")?;
-            put_number(out, *events)?;
-            out.extend_from_slice(b" indoubt=")?;
-            put_number(out, u64::from(*in_doubt))?;
-        }
-        Reply::BadImage(offset) => {
-            out.extend_from_slice(b"BAD_IMAGE ")?;
-            put_number(out, *offset)?;
-        }
+        } => put_information(out, transaction, *state, *outcome),
+        Reply::Notification { kind, enlistment } => put_notification(out, *kind, enlistment),
+        Reply::Contents(bytes) => put_contents(out, bytes),
+        Reply::Size(size) => put_with_number(out, b"ok ", *size),
+        Reply::Names(texts) | Reply::Keys(texts) => put_list(out, texts),
+        Reply::Restarted { events, in_doubt } => put_restarted(out, *events, *in_doubt),
+        Reply::BadImage(offset) => put_with_number(out, b"BAD_IMAGE ", *offset),
     }
-    Ok(())
 }
 
 /// The line that a reply is, without a newline.
