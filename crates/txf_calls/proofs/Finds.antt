@@ -1,5 +1,5 @@
 -- What FindFiles comes to.
-use Rattle.std.proofs.Common.{◌≡◌, ◌∙◌, List, ℕ, [], ◌∷◌, map, true, false, Option, Some, None, is_none, refl, sym, ap}
+use Rattle.std.proofs.Common.{◌≡◌, ◌∙◌, List, ℕ, [], ◌∷◌, map, Option, Some, None, is_none, if◌then◌else◌, refl, sym, ap}
 use Rattle.ktm_base.specs.declared.id.Id.{Id}
 use Rattle.ktm_base.specs.declared.refusal.Refusal.TheVariants.{FileNotFound, InvalidName, PathNotFound}
 use Rattle.ktm_types.specs.declared.recorded.Node.{Node}
@@ -24,17 +24,13 @@ find-there tree wanted = unless_refused
 abbrev find-among : List Node → FileOutcome
 find-among es = unless_refused (first_refusal ((is_no_entry es, FileNotFound) ∷ [])) (answering (Names (map listed es)))
 
-false≢true : false ≡ true → ⊥
-false≢true is = cc
+-- the names that are found, and none
+abbrev listing : List (List ℕ) → FileOutcome
+listing names = if is_no_name names then answering (Refused FileNotFound) else answering (Names names)
 
--- with no entry, and with some
-among-none : (es : List Node) → is_no_name (map listed es) ≡ true → find-among es ≡ answering (Refused FileNotFound)
-among-none [] is = refl
-among-none (e ∷ es) is = absurd (false≢true is)
-
-among-some : (es : List Node) → is_no_name (map listed es) ≡ false → find-among es ≡ answering (Names (map listed es))
-among-some [] is = absurd (false≢true (sym is))
-among-some (e ∷ es) is = refl
+among-is : (es : List Node) → find-among es ≡ listing (map listed es)
+among-is [] = refl
+among-is (e ∷ es) = refl
 
 module _ (files : FilesNow) (room : FileRoom) (who : Option Id) (text : List ℕ) where
   find-is : file_outcome files room who (Find text) ≡ find-there (tree_seen files who) (pattern_of text)
@@ -53,11 +49,6 @@ module _ (files : FilesNow) (room : FileRoom) (who : Option Id) (text : List ℕ
     pub find-no-directory : searched_directory (tree_seen files who) (Some s) ≡ None → file_outcome files room who (Find text) ≡ answering (Refused PathNotFound)
     find-no-directory none = find-in None none
 
-    pub find-none : (d : ℕ) (names : List (List ℕ)) → searched_directory (tree_seen files who) (Some s) ≡ Some d → names ≡ map listed (entries (tree_seen files who) (Some d) s.last)
-        → is_no_name names ≡ true → file_outcome files room who (Find text) ≡ answering (Refused FileNotFound)
-    find-none d names at are empty = find-in (Some d) at ∙ among-none (entries (tree_seen files who) (Some d) s.last) (sym (ap is_no_name are) ∙ empty)
-
-    pub find-some : (d : ℕ) (names : List (List ℕ)) → searched_directory (tree_seen files who) (Some s) ≡ Some d → names ≡ map listed (entries (tree_seen files who) (Some d) s.last)
-        → is_no_name names ≡ false → file_outcome files room who (Find text) ≡ answering (Names names)
-    find-some d names at are some =
-        find-in (Some d) at ∙ among-some (entries (tree_seen files who) (Some d) s.last) (sym (ap is_no_name are) ∙ some) ∙ ap (λ xs. answering (Names xs)) (sym are)
+    pub find-listed : (d : ℕ) (names : List (List ℕ)) → searched_directory (tree_seen files who) (Some s) ≡ Some d → names ≡ map listed (entries (tree_seen files who) (Some d) s.last)
+        → file_outcome files room who (Find text) ≡ (if is_no_name names then answering (Refused FileNotFound) else answering (Names names))
+    find-listed d names at are = find-in (Some d) at ∙ among-is (entries (tree_seen files who) (Some d) s.last) ∙ ap listing (sym are)

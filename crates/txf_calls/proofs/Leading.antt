@@ -15,10 +15,10 @@ use Rattle.ktm_world.specs.Laws.{PathLaw}
 use Rattle.ktm_world.specs.Paths.{path_of}
 use Rattle.ktm_world.specs.Tree.{Tree, child_of, has_number, is_there, node_at, root, same_name}
 use Rattle.txf_calls.specs.Found.{IsFound, has_file}
-use Rattle.txf_paths.specs.Leads.{Leads}
-use Rattle.txf_paths.specs.declared.along.Whereabouts.{Whereabouts}
-use Rattle.txf_paths.specs.declared.along.Whereabouts.TheVariants.{NoWay, Free, Root, Node as At}
-use Rattle.txf_paths.specs.declared.view.Seen.{Seen}
+use Rattle.txf_calls.specs.Leads.{Leads}
+use Rattle.txf_calls.specs.declared.along.Whereabouts.{Whereabouts}
+use Rattle.txf_calls.specs.declared.along.Whereabouts.TheVariants.{NoWay, Free, Root, Node as At}
+use Rattle.txf_calls.specs.declared.view.Seen.{Seen}
 
 -- ---- what is found in a list
 

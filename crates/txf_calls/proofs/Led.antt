@@ -3,9 +3,9 @@ use Rattle.std.proofs.Common.{◌≡◌, subst}
 use Rattle.ktm_base.specs.Names.{folded}
 use Rattle.ktm_types.specs.declared.recorded.Node.{Node}
 use Rattle.ktm_world.specs.FileCalls.{Whereabouts as There, no_path, no_way, free, at_root, at_node}
-use Rattle.txf_paths.specs.Leads.{Leads, seen_of}
-use Rattle.txf_paths.specs.declared.along.Whereabouts.{Whereabouts}
-use Rattle.txf_paths.specs.declared.along.Whereabouts.TheVariants.{NoWay, Free, Root, Node as At}
+use Rattle.txf_calls.specs.Leads.{Leads, seen_of}
+use Rattle.txf_calls.specs.declared.along.Whereabouts.{Whereabouts}
+use Rattle.txf_calls.specs.declared.along.Whereabouts.TheVariants.{NoWay, Free, Root, Node as At}
 
 module _ (P : There → Type 0) where
   at-no_way : (w : There) → Leads NoWay w → P no_way → P w

@@ -8,3 +8,4 @@ pub mod Numbered
 pub mod Paths
 pub mod Quotas
 pub mod Texts
+pub mod Ways

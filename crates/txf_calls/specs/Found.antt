@@ -3,9 +3,9 @@ use Rattle.std.specs.Prelude.{◌≡◌, ℕ, ◌≤◌, ◌==◌, ◌&&◌, ⊤
 use Rattle.std.specs.List.{list_any}
 use Rattle.ktm_base.specs.declared.limits.TheConstants.{MOST_NAME_BYTES}
 use Rattle.ktm_world.specs.Tree.{Tree, is_there}
-use Rattle.txf_paths.specs.declared.along.Whereabouts.{Whereabouts}
-use Rattle.txf_paths.specs.declared.along.Whereabouts.TheVariants.{NoWay, Free, Root, Node}
-use Rattle.txf_paths.specs.declared.view.Seen.{Seen}
+use Rattle.txf_calls.specs.declared.along.Whereabouts.{Whereabouts}
+use Rattle.txf_calls.specs.declared.along.Whereabouts.TheVariants.{NoWay, Free, Root, Node}
+use Rattle.txf_calls.specs.declared.view.Seen.{Seen}
 
 -- is one of the nodes a file with this number
 abbrev pub has_file : Tree → ℕ → Bool

@@ -58,7 +58,7 @@ pub enum FileCall {
         file: OpenFile,
         size: u64,
     },
-    /// IsSomeAnd how many bytes a file has.
+    /// Tells how many bytes a file has.
     Size {
         file: OpenFile,
     },

@@ -4,15 +4,16 @@ ghost use Rattle.ktm_world.specs.FileCalls.{find_path};
 ghost use Rattle.ktm_world.specs.Files.{tree_seen};
 ghost use Rattle.ktm_world.specs.Paths.{path_of};
 ghost use Rattle.txf_calls.specs.Found.{IsFound};
-ghost use Rattle.txf_paths.specs.Leads.{Leads};
+ghost use Rattle.txf_calls.specs.Leads.{Leads};
 ghost use Rattle.std.specs.Prelude.{ℕ, List, None, MatchOption, IfOk};
 
+use crate::along::{Whereabouts, find};
+use crate::view::{Seen, View};
 use crate::volume::Volume;
 use ktm_base::{Id, NoMemory, Text};
 use ktm_names::{Path, PathFault};
 use ktm_world::law_of_paths;
 use std::alloc::Global;
-use txf_paths::{Seen, View, Whereabouts, find};
 
 /// A caller of the files: a transaction, or none for a plain call.
 #[derive(Drop)]

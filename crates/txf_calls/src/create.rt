@@ -13,18 +13,19 @@ ghost use Rattle.txf_calls.specs.There.{create_there};
 ghost use Rattle.txf_calls.specs.Views.{open_of};
 ghost use Rattle.txf_calls.specs.declared.act.Act.TheVariants.{Make, Open};
 ghost use Rattle.txf_calls.specs.declared.call.FileCall.TheVariants.{Create};
-ghost use Rattle.txf_paths.specs.Leads.{Leads, seen_of};
+ghost use Rattle.txf_calls.specs.Leads.{Leads, seen_of};
 
 use crate::act::{Act, Place};
+use crate::along::Whereabouts;
 use crate::call::{OpenFile, Room};
 use crate::caller::{path_of, whereabouts};
 use crate::modes::{empties, wants_existing, wants_new, wants_write, writes};
-use crate::plan::{Plan, within_limits};
+use crate::plan::{Plan, making, within_limits};
+use crate::view::Seen;
 use crate::volume::Volume;
 use ktm_base::{Id, NoMemory, PageList, Refusal, Text};
 use ktm_types::{Access, Change, Disposition, NodeKind, Reply, ShareMode};
 use std::alloc::Global;
-use txf_paths::{Seen, Whereabouts};
 
 // What a file is opened for.
 #[derive(Clone, Copy)]
@@ -71,15 +72,9 @@ fn make_file<V: Volume>(
     let Some(opened) = next_open(volume, who, node, modes) else {
         return Ok(Plan::refused(Refusal::NotEnoughQuota));
     };
-    let name = Text::new(at.name.to_vec(alloc)?);
     let plan = Plan {
         reply: Reply::Done,
-        change: Some(Change::Make {
-            node,
-            parent: at.directory,
-            kind: NodeKind::File,
-            name,
-        }),
+        change: Some(making(alloc, node, NodeKind::File, at)?),
         first: None,
         opened: Some(opened),
     };

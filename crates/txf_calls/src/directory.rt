@@ -8,17 +8,17 @@ ghost use Rattle.txf_calls.specs.Fits.{IsOrderly};
 ghost use Rattle.txf_calls.specs.Found.{IsFound};
 ghost use Rattle.txf_calls.specs.There.{make_there};
 ghost use Rattle.txf_calls.specs.declared.call.FileCall.TheVariants.{MakeDirectory};
-ghost use Rattle.txf_paths.specs.Leads.{Leads};
+ghost use Rattle.txf_calls.specs.Leads.{Leads};
 
 use crate::act::{Act, Place};
+use crate::along::Whereabouts;
 use crate::call::Room;
 use crate::caller::{path_of, whereabouts};
-use crate::plan::{Plan, within_limits};
+use crate::plan::{Plan, making, within_limits};
 use crate::volume::Volume;
 use ktm_base::{Id, NoMemory, Refusal, Text};
-use ktm_types::{Change, NodeKind};
+use ktm_types::NodeKind;
 use std::alloc::Global;
-use txf_paths::Whereabouts;
 
 // A directory is made under a free name.
 fn make<V: Volume>(
@@ -35,13 +35,7 @@ fn make<V: Volume>(
     if let Some(refusal) = volume.check(who, Act::Make { at }) {
         return Ok(Plan::refused(refusal));
     }
-    let name = Text::new(at.name.to_vec(alloc)?);
-    let change = Change::Make {
-        node: volume.next_node(),
-        parent: at.directory,
-        kind: NodeKind::Directory,
-        name,
-    };
+    let change = making(alloc, volume.next_node(), NodeKind::Directory, at)?;
     Ok(within_limits(volume, who, Plan::changing(change), room))
 }
 

@@ -11,21 +11,31 @@ ghost use Rattle.txf_calls.specs.declared.call.FileCall.TheVariants.{Flush, Read
 
 use crate::call::{OpenFile, Room};
 use crate::modes::{reads, writes};
-use crate::plan::Plan;
+use crate::plan::{Plan, unless_refused};
 use crate::volume::Volume;
 use ktm_base::{Bytes, Id, MOST_AT_ONCE, NoMemory, PageList, Refusal};
 use ktm_types::{Change, Contents, Reply};
 use std::alloc::Global;
+
+// Why a plan that fills the disk is refused.
+fn disk_refusal<V: Volume>(volume: &V, who: Option<Id>, plan: &Plan, room: &Room) -> Option<Refusal>
+    requires { IsFit (V.files volume.now) who plan.now }
+    ensures { result ≡ first_refusal ((lacks_disk (V.files volume.now) room.now who plan.now, DiskFull) ∷ []) }
+{
+    if volume.lacks_disk(who, plan, room) {
+        Some(Refusal::DiskFull)
+    } else {
+        None
+    }
+}
 
 // The plan, where it does not fill the disk.
 fn within_disk<V: Volume>(volume: &V, who: Option<Id>, plan: Plan, room: &Room) -> Plan
     requires { IsFit (V.files volume.now) who plan }
     ensures { result ≡ unless_refused (first_refusal ((lacks_disk (V.files volume.now) room.now who plan, DiskFull) ∷ [])) plan }
 {
-    if volume.lacks_disk(who, &plan, room) {
-        return Plan::refused(Refusal::DiskFull);
-    }
-    plan
+    let refusal = disk_refusal(volume, who, &plan, room);
+    unless_refused(refusal, plan)
 }
 
 // Those from an offset on, at most so many.
@@ -126,7 +136,7 @@ pub(crate) fn set_end<V: Volume>(
     within_disk(volume, file.transaction, cut(alloc, file, size), room)
 }
 
-/// IsSomeAnd how many bytes a file has.
+/// Tells how many bytes a file has.
 #[tactic(auto, unfolding(ktm_world::specs::FileCalls::get_size))]
 pub(crate) fn size<V: Volume>(volume: &V, file: OpenFile) -> Plan
     ensures { (room : FileRoom) (who : _) → result ≡ file_outcome (V.files volume.now) room who (Size file) }

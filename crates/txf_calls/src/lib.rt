@@ -2,6 +2,7 @@
 #![tactic(auto)]
 
 mod act;
+mod along;
 mod call;
 mod caller;
 mod create;
@@ -13,10 +14,12 @@ mod moves;
 mod plan;
 mod remove;
 mod search;
+mod view;
 mod volume;
 
 pub use act::{Act, Place};
 pub use call::{FileCall, OpenFile, Room};
 pub use forms::decide;
 pub use plan::Plan;
+pub use view::Seen;
 pub use volume::Volume;

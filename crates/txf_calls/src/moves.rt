@@ -1,12 +1,12 @@
 // MoveFile, plain or in a transaction.
-ghost use Rattle.std.specs.Prelude.{◌≡◌, ◌≤◌, ◌∷◌, [], IfOk, length};
+ghost use Rattle.std.specs.Prelude.{◌≡◌, ℕ, ◌≤◌, List, ◌∷◌, [], IfOk, length};
 ghost use Rattle.ktm_base.specs.declared.limits.TheConstants.{MOST_NAME_BYTES};
 ghost use Rattle.ktm_base.specs.Names.{folded};
 ghost use Rattle.ktm_base.specs.declared.refusal.Refusal.TheVariants.{SharingViolation};
 ghost use Rattle.ktm_types.specs.declared.change.Change.TheVariants.{Move as Shift};
 ghost use Rattle.ktm_types.specs.declared.recorded.Node.{Node};
 ghost use Rattle.ktm_types.specs.declared.reply.Reply.TheVariants.{Refused};
-ghost use Rattle.ktm_world.specs.FileCalls.{Whereabouts as There, at_node, at_root, conflict_test, free, is_open_at, move_act};
+ghost use Rattle.ktm_world.specs.FileCalls.{Whereabouts as There, at_node, at_root, conflict_test, find_path, free, is_open_at, move_act};
 ghost use Rattle.ktm_world.specs.FileOutcome.{answering};
 ghost use Rattle.ktm_world.specs.Outcome.{first_refusal};
 ghost use Rattle.ktm_world.specs.Files.{tree_seen};
@@ -14,17 +14,18 @@ ghost use Rattle.txf_calls.specs.Calls.{file_outcome};
 ghost use Rattle.txf_calls.specs.Found.{IsFound, IsRoom};
 ghost use Rattle.txf_calls.specs.There.{move_there};
 ghost use Rattle.txf_calls.specs.declared.call.FileCall.TheVariants.{Move};
-ghost use Rattle.txf_paths.specs.Leads.{Leads, seen_of};
+ghost use Rattle.txf_calls.specs.Leads.{Leads, seen_of};
 
 use crate::act::{Act, Place};
+use crate::along::Whereabouts;
 use crate::call::Room;
 use crate::caller::{path_of, whereabouts};
 use crate::plan::{Plan, within_quota};
+use crate::view::Seen;
 use crate::volume::Volume;
 use ktm_base::{Id, NoMemory, Refusal, Text};
 use ktm_types::Change;
 use std::alloc::Global;
-use txf_paths::{Seen, Whereabouts};
 
 // Is the move refused for what others hold and have open.
 fn check<V: Volume>(
@@ -170,6 +171,25 @@ fn move_at<V: Volume>(
     }
 }
 
+// What MoveFile comes to where the first path leads.
+fn move_from<V: Volume>(
+    alloc: Global,
+    volume: &V,
+    who: Option<Id>,
+    from: Whereabouts,
+    target: &Text,
+    room: &Room,
+) -> Result<Plan, NoMemory>
+    requires { IsFound (tree_seen (V.files volume.now) who) from }
+    ensures { (source : List ℕ) → Leads from.entry (find_path (tree_seen (V.files volume.now) who) source) → IfOk result (λ plan. plan ≡ file_outcome (V.files volume.now) room.now who (Move source target.now)) }
+{
+    let Some(target) = path_of(alloc, target)? else {
+        return Ok(Plan::refused(Refusal::InvalidName));
+    };
+    let to = whereabouts(volume, who, &target);
+    move_at(alloc, volume, who, from, to, room)
+}
+
 /// Moves a file or a directory to a free name.
 pub(crate) fn move_file<V: Volume>(
     alloc: Global,
@@ -184,10 +204,6 @@ pub(crate) fn move_file<V: Volume>(
     let Some(source) = path_of(alloc, source)? else {
         return Ok(Plan::refused(Refusal::InvalidName));
     };
-    let Some(target) = path_of(alloc, target)? else {
-        return Ok(Plan::refused(Refusal::InvalidName));
-    };
     let from = whereabouts(volume, who, &source);
-    let to = whereabouts(volume, who, &target);
-    move_at(alloc, volume, who, from, to, room)
+    move_from(alloc, volume, who, from, target, room)
 }

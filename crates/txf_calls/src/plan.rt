@@ -1,5 +1,6 @@
 // What a call comes to.
-ghost use Rattle.std.specs.Prelude.{◌≡◌, Some, None};
+ghost use Rattle.std.specs.Prelude.{◌≡◌, IfOk, Some, None};
+ghost use Rattle.ktm_types.specs.declared.change.Change.TheVariants.{Make};
 ghost use Rattle.ktm_types.specs.declared.reply.Reply.TheVariants.{Done, Refused};
 ghost use Rattle.std.specs.Prelude.{◌∷◌, []};
 ghost use Rattle.ktm_base.specs.declared.refusal.Refusal.TheVariants.{NotEnoughQuota};
@@ -9,10 +10,12 @@ ghost use Rattle.ktm_world.specs.Outcome.{first_refusal};
 ghost use Rattle.txf_calls.specs.Calls.{unless_refused};
 ghost use Rattle.txf_calls.specs.Fits.{IsFit};
 
+use crate::act::Place;
 use crate::call::{OpenFile, Room};
 use crate::volume::Volume;
-use ktm_base::{Id, Refusal};
-use ktm_types::{Change, Reply};
+use ktm_base::{Id, NoMemory, Refusal, Text};
+use ktm_types::{Change, NodeKind, Reply};
+use std::alloc::Global;
 use std::marker::Model;
 
 /// What a call comes to: its reply, and what of the files it changes.
@@ -69,14 +72,77 @@ impl Plan {
     }
 }
 
+/// The change that makes a node.
+pub(crate) fn making(
+    alloc: Global,
+    node: u64,
+    kind: NodeKind,
+    at: Place,
+) -> Result<Change, NoMemory>
+    ensures { IfOk result (λ change. change ≡ Make node at.entry.directory kind at.entry.name.now) }
+{
+    match at.name.to_vec(alloc) {
+        Ok(name) => Ok(Change::Make {
+            node,
+            parent: at.directory,
+            kind,
+            name: Text::new(name),
+        }),
+        Err(_) => Err(NoMemory),
+    }
+}
+
+/// The plan, unless it is refused.
+pub(crate) fn unless_refused(refusal: Option<Refusal>, plan: Plan) -> Plan
+    ensures { result ≡ unless_refused refusal plan }
+{
+    match refusal {
+        Some(refusal) => Plan::refused(refusal),
+        None => plan,
+    }
+}
+
+// Why a plan that passes a quota is refused.
+fn quota_refusal<V: Volume>(
+    volume: &V,
+    who: Option<Id>,
+    plan: &Plan,
+    room: &Room,
+) -> Option<Refusal>
+    ensures { result ≡ first_refusal ((lacks_quota (V.files volume.now) room.now who plan.now, NotEnoughQuota) ∷ []) }
+{
+    if volume.lacks_quota(who, plan, room) {
+        Some(Refusal::NotEnoughQuota)
+    } else {
+        None
+    }
+}
+
+// Why a plan that passes a limit is refused.
+fn limit_refusal<V: Volume>(
+    volume: &V,
+    who: Option<Id>,
+    plan: &Plan,
+    room: &Room,
+) -> Option<Refusal>
+    requires { IsFit (V.files volume.now) who plan.now }
+    ensures { result ≡ first_refusal (limit_tests (V.files volume.now) room.now who plan.now) }
+{
+    if volume.lacks_quota(who, plan, room) {
+        return Some(Refusal::NotEnoughQuota);
+    }
+    if volume.lacks_disk(who, plan, room) {
+        return Some(Refusal::DiskFull);
+    }
+    None
+}
+
 /// The plan, where it passes no quota.
 pub(crate) fn within_quota<V: Volume>(volume: &V, who: Option<Id>, plan: Plan, room: &Room) -> Plan
     ensures { result ≡ unless_refused (first_refusal ((lacks_quota (V.files volume.now) room.now who plan, NotEnoughQuota) ∷ [])) plan }
 {
-    if volume.lacks_quota(who, &plan, room) {
-        return Plan::refused(Refusal::NotEnoughQuota);
-    }
-    plan
+    let refusal = quota_refusal(volume, who, &plan, room);
+    unless_refused(refusal, plan)
 }
 
 /// The plan, where it passes no limit.
@@ -84,11 +150,6 @@ pub(crate) fn within_limits<V: Volume>(volume: &V, who: Option<Id>, plan: Plan, 
     requires { IsFit (V.files volume.now) who plan }
     ensures { result ≡ unless_refused (first_refusal (limit_tests (V.files volume.now) room.now who plan)) plan }
 {
-    if volume.lacks_quota(who, &plan, room) {
-        return Plan::refused(Refusal::NotEnoughQuota);
-    }
-    if volume.lacks_disk(who, &plan, room) {
-        return Plan::refused(Refusal::DiskFull);
-    }
-    plan
+    let refusal = limit_refusal(volume, who, &plan, room);
+    unless_refused(refusal, plan)
 }

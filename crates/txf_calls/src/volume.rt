@@ -10,15 +10,15 @@ ghost use Rattle.ktm_world.specs.Outcome.{first_refusal};
 ghost use Rattle.ktm_world.specs.Tree.{child_of, has_entries, is_at_or_below, is_there};
 ghost use Rattle.txf_calls.specs.Fits.{IsFit};
 ghost use Rattle.txf_calls.specs.Views.{HasShortNames, act_of, is_against_sharing};
-ghost use Rattle.txf_paths.specs.Leads.{seen_of};
+ghost use Rattle.txf_calls.specs.Leads.{seen_of};
 
 use crate::act::Act;
 use crate::call::Room;
 use crate::plan::Plan;
+use crate::view::Seen;
 use ktm_base::{Id, NoMemory, Refusal, TextList};
 use ktm_names::Pattern;
 use std::alloc::Global;
-use txf_paths::Seen;
 
 /// The files, as the calls ask for them. A caller is a transaction, or none for a plain call; it sees the committed files
 /// with its own changes.

@@ -3,6 +3,7 @@ mod Changing
 mod Counting
 pub mod Digits
 mod Filling
+mod Filters
 mod InPlace
 pub mod Listing
 mod Naming

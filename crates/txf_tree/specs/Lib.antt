@@ -1,4 +1,5 @@
 pub mod Children
+pub mod Found
 pub mod Indexes
 pub mod Places
 pub mod TreeState

@@ -6,6 +6,7 @@ mod applies;
 mod bytes;
 mod change;
 mod entry;
+mod matching;
 mod name;
 mod nodes;
 mod stored;
@@ -13,5 +14,6 @@ mod tree;
 
 pub use change::{bytes_in, changes_bytes, is_drop, is_make, next_after, node_of};
 pub use entry::{Entries, Entry, NodeRef};
+pub use matching::matching_names;
 pub use name::{ChildName, NumberName, after_child, after_place, child_name, number_bytes};
 pub use tree::Tree;

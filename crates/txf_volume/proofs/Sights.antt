@@ -12,8 +12,8 @@ use Rattle.txf_overlay.specs.Laws.{IsOwn}
 use Rattle.txf_overlay.specs.OverlayState.{OverlayState}
 use Rattle.txf_overlay.specs.Sight.{sight_of}
 use Rattle.txf_overlay.specs.declared.view.Seen.{Seen as Sight}
-use Rattle.txf_paths.specs.Leads.{seen_of}
-use Rattle.txf_paths.specs.declared.view.Seen.{Seen}
+use Rattle.txf_calls.specs.Leads.{seen_of}
+use Rattle.txf_calls.specs.declared.view.Seen.{Seen}
 use Rattle.txf_tree.specs.TreeState.{tree_of}
 use Rattle.txf_volume.specs.Held.{FilesHeld, files_of, overlay_in}
 use Rattle.txf_volume.specs.Ties.{IsOver, seen_by}

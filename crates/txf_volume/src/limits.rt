@@ -16,7 +16,7 @@ use crate::own::{names_of, nodes_of, units_of};
 use ktm_base::{END_OF_NODES, Id, MOST_NUMBER};
 use ktm_types::Change;
 use txf_calls::{Plan, Room};
-use txf_tree::{changes_bytes, is_drop, is_make, node_of};
+use txf_tree::{Tree, changes_bytes, is_drop, is_make, node_of};
 
 // One where it is so.
 fn one_if(so: bool) -> u128
@@ -31,6 +31,23 @@ pub(crate) fn lacks_handles(plan: &Plan, room: &Room) -> bool
     ensures { result ≡ (is_some plan.now.opened && room.now.handles == 0) }
 {
     plan.opened.is_some() && room.handles == 0
+}
+
+// Does a change drop a committed node.
+fn drops_committed(tree: &Tree, change: &Change) -> bool
+    ensures { result ≡ (is_drop change.now && is_some (node_at (tree_of tree.now) (node_of change.now))) }
+{
+    is_drop(change) && tree.node(node_of(change)).is_some()
+}
+
+// Would a node number be beyond the last one, where this one is next.
+fn passes_nodes(next_node: u64, plan: &Plan) -> bool
+    ensures { result ≡ nat_lt END_OF_NODES (next_node_after next_node plan.now.change) }
+{
+    match &plan.change {
+        Some(Change::Make { node, .. }) => next_node > END_OF_NODES || *node >= END_OF_NODES,
+        _ => next_node > END_OF_NODES,
+    }
 }
 
 impl Files {
@@ -126,19 +143,12 @@ impl Files {
         }
     }
 
-    // Does a change drop a committed node.
-    fn drops_committed(&self, change: &Change) -> bool
-        ensures { result ≡ (is_drop change.now && is_some (node_at (tree_of self.now.tree) (node_of change.now))) }
-    {
-        is_drop(change) && self.tree.node(node_of(change)).is_some()
-    }
-
     // The nodes in use once a plain change is committed.
     fn nodes_with(&self, change: &Change) -> u128
         requires { Suits (tree_of self.now.tree) (files_of self.now).first_opens change.now }
         ensures { (o : FileOutcome) → o.change ≡ Some change.now → result ≡ nodes_used (files_after (files_of self.now) None o) }
     {
-        self.nodes_used() + one_if(is_make(change)) - one_if(self.drops_committed(change))
+        self.nodes_used() + one_if(is_make(change)) - one_if(drops_committed(&self.tree, change))
     }
 
     // The nodes in use once a transaction has made a change that drops none.
@@ -162,25 +172,13 @@ impl Files {
     }
 
     // The changes of names that wait once a call has settled.
-    fn waiting_after(&self, who: Option<Id>, plan: &Plan) -> u64
+    pub(crate) fn waiting_after(&self, who: Option<Id>, plan: &Plan) -> u64
         ensures { result ≡ file_changes_waiting (files_after (files_of self.now) who plan.now) }
     {
         let waiting = self.names_waiting();
         match (&plan.change, who) {
             (Some(change), Some(_)) if !changes_bytes(change) => waiting + 1,
             _ => waiting,
-        }
-    }
-
-    // Would a node number be beyond the last one.
-    fn passes_nodes(&self, plan: &Plan) -> bool
-        ensures { result ≡ nat_lt END_OF_NODES (next_node_after self.now.next_node plan.now.change) }
-    {
-        match &plan.change {
-            Some(Change::Make { node, .. }) => {
-                self.next_node > END_OF_NODES || *node >= END_OF_NODES
-            }
-            _ => self.next_node > END_OF_NODES,
         }
     }
 
@@ -194,17 +192,11 @@ impl Files {
         }
     }
 
-    // Would more changes wait than may.
-    pub(crate) fn lacks_changes(&self, who: Option<Id>, plan: &Plan, room: &Room) -> bool
-        ensures { result ≡ nat_lt room.now.changes (file_changes_waiting (files_after (files_of self.now) who plan.now)) }
-    {
-        self.waiting_after(who, plan) > room.changes as u64
-    }
-
     // Would the numbers of open files or nodes be beyond the last ones.
     pub(crate) fn passes_numbers(&self, plan: &Plan) -> bool
         ensures { (who : Option Id) → result ≡ (nat_lt MOST_NUMBER (files_after (files_of self.now) who plan.now).table.last_open || nat_lt END_OF_NODES (files_after (files_of self.now) who plan.now).table.next_node) }
     {
-        self.last_open_after(plan) as u64 > u64::from(MOST_NUMBER) || self.passes_nodes(plan)
+        self.last_open_after(plan) as u64 > u64::from(MOST_NUMBER)
+            || passes_nodes(self.next_node, plan)
     }
 }

@@ -6,7 +6,7 @@ ghost use Rattle.ktm_world.specs.Files.{first_open_of, own_changes, tree_seen};
 ghost use Rattle.ktm_world.specs.Tree.{child_of, node_at};
 ghost use Rattle.txf_overlay.specs.OverlayState.{seen};
 ghost use Rattle.txf_overlay.specs.Views.{StandsOver};
-ghost use Rattle.txf_paths.specs.Leads.{seen_of};
+ghost use Rattle.txf_calls.specs.Leads.{seen_of};
 ghost use Rattle.txf_tree.specs.Children.{entries_in};
 ghost use Rattle.txf_tree.specs.TreeState.{tree_of};
 ghost use Rattle.txf_volume.specs.Held.{files_of};
@@ -14,8 +14,8 @@ ghost use Rattle.txf_volume.specs.Ties.{seen_by, IsOver};
 
 use crate::files::Files;
 use ktm_base::{Id, NoMemory};
+use txf_calls::Seen;
 use txf_overlay::Overlay;
-use txf_paths::Seen;
 use txf_tree::Entries;
 
 impl Files {

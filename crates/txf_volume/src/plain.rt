@@ -1,10 +1,12 @@
 // What a plain call makes of the files, in two steps: it takes its memory, and once its change is recorded it is made.
-ghost use Rattle.std.specs.Prelude.{◌≡◌, ◌+◌, ◌-◌, ◌<◌, ◌^◌, ℕ, None, Some, All, IfOk, IsOk, true, if◌then◌else◌};
+ghost use Rattle.std.specs.Prelude.{◌≡◌, ◌+◌, ◌-◌, ◌<◌, ◌^◌, ℕ, None, Some, All, IfOk, IsOk, is_some, true, if◌then◌else◌};
+ghost use Rattle.std.specs.Option.{option_map};
 ghost use Rattle.ktm_world.specs.Changes.{applies, changed, changes_bytes, next_after, node_of};
 ghost use Rattle.ktm_world.specs.Committed.{version_of, versions_after};
 ghost use Rattle.ktm_world.specs.FileOutcome.{changing, files_after, with_open};
 ghost use Rattle.ktm_world.specs.Tree.{is_file, numbers_rise};
 ghost use Rattle.txf_calls.specs.Views.{open_of};
+ghost use Rattle.txf_calls.specs.declared.call.OpenFile.{OpenFile as Kept};
 ghost use Rattle.txf_tree.specs.TreeState.{fits, tree_of, versions_of};
 ghost use Rattle.txf_versions.specs.VersionsState.{is_pinned};
 ghost use Rattle.txf_volume.specs.Held.{files_of, tree_units};
@@ -17,6 +19,7 @@ use crate::files::{Files, end_version, law_of_older};
 use ktm_base::{Bytes, NoMemory};
 use ktm_laws::law_of_forms;
 use ktm_types::Change;
+use std::alloc::Global;
 use std::marker::Model;
 use txf_calls::{OpenFile, Plan};
 use txf_overlay::law_of_other_trees;
@@ -70,22 +73,29 @@ fn apply(tree: &mut Tree, versions: &mut Versions, change: Change, copy: Option<
     }
 }
 
-impl Files {
-    // A copy of the bytes that a change ends, where they have to be kept and are not handed out by it.
-    fn copy_for(&self, change: &Change) -> Result<Option<Bytes>, NoMemory>
-        ensures copy { IfOk result (λ copy. copy ≡ copied_for self.now.tree self.now.versions.opens change.now) }
-        ensures enough { copied_for self.now.tree self.now.versions.opens change.now ≡ None → IsOk result }
-    {
-        let file = node_of(change);
-        if !changes_bytes(change) || !self.versions.is_pinned(file, self.tree.version(file)) {
-            return Ok(None);
-        }
-        match self.tree.content(file).to_vec(self.alloc) {
-            Ok(bytes) => Ok(Some(Bytes::new(bytes))),
-            Err(_) => Err(NoMemory),
-        }
+// A copy of the bytes that a change ends, where they have to be kept and are not handed out by it.
+fn copy_for(
+    alloc: Global,
+    tree: &Tree,
+    versions: &Versions,
+    change: &Change,
+) -> Result<Ready, NoMemory>
+    ensures copy { IfOk result (λ copy. copy ≡ copied_for tree.now versions.now.opens change.now) }
+    ensures enough { copied_for tree.now versions.now.opens change.now ≡ None → IsOk result }
+{
+    let file = node_of(change);
+    if !changes_bytes(change) || !versions.is_pinned(file, tree.version(file)) {
+        return Ok(Ready { kept: None });
     }
+    match tree.content(file).to_vec(alloc) {
+        Ok(bytes) => Ok(Ready {
+            kept: Some(Bytes::new(bytes)),
+        }),
+        Err(_) => Err(NoMemory),
+    }
+}
 
+impl Files {
     /// Takes the memory that a plain call needs. The bytes of a file that it changes are copied where somebody first opened
     /// them, and else nothing is copied.
     pub fn prepare(&mut self, plan: &Plan) -> Result<Ready, NoMemory>
@@ -104,10 +114,7 @@ impl Files {
         if let Err(NoMemory) = self.tree.prepare(change) {
             return Err(NoMemory);
         }
-        match self.copy_for(change) {
-            Ok(kept) => Ok(Ready { kept }),
-            Err(NoMemory) => Err(NoMemory),
-        }
+        copy_for(self.alloc, &self.tree, &self.versions, change)
     }
 
     // Makes the change of a plain call.
@@ -128,14 +135,16 @@ impl Files {
         apply(&mut self.tree, &mut self.versions, change, copy);
     }
 
-    // Opens a file in a plain call.
-    fn open_plain(&mut self, file: OpenFile)
-        requires plain { IsPlainOpen (files_of self.old) (open_of file) }
-        requires spare { 0 < self.old.opens.spare }
-        ensures { files_of self.new ≡ record (files_of self.old) { table = with_open (files_of self.old).table (Some (open_of file)) } }
+    // Opens a file in a plain call, if there is one.
+    fn open_plain(&mut self, file: Option<OpenFile>)
+        requires plain { (o : Kept) → file ≡ Some o → IsPlainOpen (files_of self.old) (open_of o) }
+        requires spare { is_some file ≡ true → 0 < self.old.opens.spare }
+        ensures { files_of self.new ≡ record (files_of self.old) { table = with_open (files_of self.old).table (option_map open_of file) } }
     {
-        self.opens
-            .open(file.node, file.transaction, file.access, file.share);
+        if let Some(file) = file {
+            self.opens
+                .open(file.node, file.transaction, file.access, file.share);
+        }
     }
 
     /// Makes what a plain call comes to, once its change is recorded. It takes no memory.
@@ -152,8 +161,6 @@ impl Files {
         if let Some(change) = change {
             self.commit_plain(change, kept);
         }
-        if let Some(file) = opened {
-            self.open_plain(file);
-        }
+        self.open_plain(opened);
     }
 }

@@ -85,17 +85,19 @@ impl Files {
         Ok(())
     }
 
-    // The same, if there is a change.
+    // Takes the memory that a call needs, and then the same, if there is a change.
     fn own_if(&mut self, transaction: Id, change: Option<Change>) -> Result<(), NoMemory>
-        requires spare { 0 < self.old.reserve.spare }
         requires applies { (c : Made) → change ≡ Some c → applies (tree_seen (files_of self.old) (Some transaction)) c ≡ true }
         requires counted { CanBeCounted (changed_by (files_of self.old) transaction change) }
         ensures done { OnOk result (files_of self.new ≡ changed_by (files_of self.old) transaction change) }
         ensures same { OnErr result (files_of self.new ≡ files_of self.old) }
-        ensures opens { self.new.opens ≡ self.old.opens }
-        ensures versions { self.new.versions ≡ self.old.versions }
-        ensures enough { change ≡ None → IsOk result }
+        ensures opens { OnOk result (0 < self.new.opens.spare) }
+        ensures versions { OnOk result (0 < self.new.versions.spare) }
+        ensures enough { HasRoom self.old → change ≡ None → IsOk result }
     {
+        if let Err(NoMemory) = self.make_room() {
+            return Err(NoMemory);
+        }
         match change {
             Some(change) => self.own(transaction, change),
             None => Ok(()),
@@ -156,9 +158,6 @@ impl Files {
             ..
         } = plan;
         self.steady();
-        if let Err(NoMemory) = self.make_room() {
-            return Err(NoMemory);
-        }
         if let Err(NoMemory) = self.own_if(transaction, change) {
             return Err(NoMemory);
         }

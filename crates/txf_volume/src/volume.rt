@@ -7,10 +7,9 @@ use crate::limits::lacks_handles;
 use ktm_base::{Id, NoMemory, Refusal, TextList};
 use ktm_names::Pattern;
 use std::alloc::Global;
-use txf_calls::{Act, Plan, Room, Volume};
-use txf_find::find;
-use txf_paths::Seen;
+use txf_calls::{Act, Plan, Room, Seen, Volume};
 use txf_reserve::Act as Held;
+use txf_tree::matching_names;
 
 impl Volume for Files {
     ghost files = { files_of };
@@ -44,7 +43,7 @@ impl Volume for Files {
         pattern: &Pattern,
     ) -> Result<TextList, NoMemory> {
         let entries = self.entries(who, directory)?;
-        find(alloc, &entries, pattern)
+        matching_names(alloc, &entries, pattern)
     }
 
     fn bytes(&self, who: Option<Id>, file: u64) -> &[u8] {
@@ -128,7 +127,7 @@ impl Volume for Files {
 
     #[tactic(auto, unfolding(ktm_world::specs::FileOutcome::lacks_quota))]
     fn lacks_quota(&self, who: Option<Id>, plan: &Plan, room: &Room) -> bool {
-        self.lacks_changes(who, plan, room)
+        self.waiting_after(who, plan) > room.changes as u64
             || lacks_handles(plan, room)
             || self.passes_numbers(plan)
     }

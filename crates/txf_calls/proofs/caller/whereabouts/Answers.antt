@@ -1,6 +1,6 @@
 use Rattle.std.proofs.Common.{subst, sym}
 use Rattle.ktm_world.specs.Files.{tree_seen}
-use Rattle.txf_paths.specs.Leads.{Leads}
+use Rattle.txf_calls.specs.Leads.{Leads}
 use Rattle.txf_calls.proofs.Leading.{found-there}
 use Rattle.txf_calls.proofs.Texts.{find-path-is}
 use Rattle.txf_calls.proofs.caller.whereabouts.Goals as goal

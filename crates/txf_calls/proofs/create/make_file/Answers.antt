@@ -1,8 +1,12 @@
-use Rattle.std.proofs.Common.{◌∙◌, sym, refl}
+use Rattle.std.proofs.Common.{◌∙◌, sym, refl, arith}
+use Rattle.std.proofs.lemmas.Grind.{common_steps}
 use Rattle.ktm_world.specs.FileCalls.{create_at, free, new_open}
 use Rattle.txf_calls.specs.declared.act.Act.TheVariants.{Make}
 use Rattle.txf_calls.proofs.Quotas.{no-number-left, over-quota}
 use Rattle.txf_calls.proofs.create.make_file.Goals as goal
+
+pub check-requires : goal.check-requires
+check-requires g c = grind (arith, common_steps)
 
 pub returns-in_default-next_open : goal.returns-in_default-next_open
 returns-in_default-next_open g c =

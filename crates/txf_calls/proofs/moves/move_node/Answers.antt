@@ -1,4 +1,5 @@
-use Rattle.std.proofs.Common.{◌∙◌, [], ◌∷◌, sym, ap}
+use Rattle.std.proofs.Common.{◌∙◌, [], ◌∷◌, sym, ap, arith}
+use Rattle.std.proofs.lemmas.Grind.{common_steps}
 use Rattle.ktm_base.specs.declared.refusal.Refusal.TheVariants.{NotEnoughQuota}
 use Rattle.ktm_types.specs.declared.change.Change.TheVariants.{Move}
 use Rattle.ktm_world.specs.FileOutcome.{FileOutcome, changing, lacks_quota}
@@ -6,9 +7,12 @@ use Rattle.ktm_world.specs.Files.{tree_seen}
 use Rattle.ktm_world.specs.Outcome.{first_refusal}
 use Rattle.ktm_world.specs.Tree.{is_at_or_below}
 use Rattle.txf_calls.specs.Calls.{unless_refused}
-use Rattle.txf_paths.specs.declared.view.Seen.{Seen}
+use Rattle.txf_calls.specs.declared.view.Seen.{Seen}
 use Rattle.txf_calls.proofs.Moving.{moves-on}
 use Rattle.txf_calls.proofs.moves.move_node.Goals as goal
+
+pub returns-in-Some : goal.returns-in-Some
+returns-in-Some g c = grind (arith, common_steps)
 
 pub returns : goal.returns
 returns g c = λ other is named.

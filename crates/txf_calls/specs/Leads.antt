@@ -4,9 +4,9 @@ use Rattle.ktm_base.specs.Names.{folded}
 use Rattle.ktm_types.specs.declared.recorded.Node.{Node}
 use Rattle.ktm_world.specs.FileCalls.{Whereabouts as There, no_way, free, at_root, at_node, entered}
 use Rattle.ktm_world.specs.Tree.{Tree, child_of}
-use Rattle.txf_paths.specs.declared.along.Whereabouts.{Whereabouts}
-use Rattle.txf_paths.specs.declared.along.Whereabouts.TheVariants.{NoWay, Free, Root, Node as At}
-use Rattle.txf_paths.specs.declared.view.Seen.{Seen}
+use Rattle.txf_calls.specs.declared.along.Whereabouts.{Whereabouts}
+use Rattle.txf_calls.specs.declared.along.Whereabouts.TheVariants.{NoWay, Free, Root, Node as At}
+use Rattle.txf_calls.specs.declared.view.Seen.{Seen}
 
 -- what is told of a node
 abbrev pub seen_of : Node → Seen

@@ -1,9 +1,9 @@
 use Rattle.std.proofs.Common.{map, ap, ◌∙◌}
 use Rattle.std.proofs.lemmas.List.{take_all}
 use Rattle.txf_tree.specs.Children.{entry_seen}
-use Rattle.txf_find.specs.Found.{found}
-use Rattle.txf_find.proofs.Filters.{found-listed}
-use Rattle.txf_find.proofs.matching.find.Goals as goal
+use Rattle.txf_tree.specs.Found.{found}
+use Rattle.txf_tree.proofs.Filters.{found-listed}
+use Rattle.txf_tree.proofs.matching.matching_names.Goals as goal
 
 pub returns : goal.returns
 returns c = λ tree directory is.

@@ -6,9 +6,9 @@ use Rattle.ktm_base.specs.Names.{folded}
 use Rattle.ktm_types.specs.declared.recorded.Node.{Node}
 use Rattle.ktm_world.specs.FileCalls.{Whereabouts, no_way, directory_of, entered, reached, walk}
 use Rattle.ktm_world.specs.Tree.{Tree, child_of, root, same_name}
-use Rattle.txf_paths.specs.Leads.{Leads, seen_of, way}
-use Rattle.txf_paths.specs.declared.along.Whereabouts.TheVariants.{Free, Node as At}
-use Rattle.txf_paths.specs.declared.view.Seen.{Seen}
+use Rattle.txf_calls.specs.Leads.{Leads, seen_of, way}
+use Rattle.txf_calls.specs.declared.along.Whereabouts.TheVariants.{Free, Node as At}
+use Rattle.txf_calls.specs.declared.view.Seen.{Seen}
 
 -- an option that is none has no value
 none≢some : {A : Type 0} (a : A) → None ≡ Some a → ⊥

@@ -2,7 +2,7 @@
 ghost use Rattle.std.specs.Prelude.{◌≡◌};
 ghost use Rattle.std.specs.Option.{option_map};
 ghost use Rattle.ktm_world.specs.Tree.{Tree, child_of};
-ghost use Rattle.txf_paths.specs.Leads.{seen_of};
+ghost use Rattle.txf_calls.specs.Leads.{seen_of};
 
 /// A node as a caller sees it.
 #[derive(Clone, Copy)]

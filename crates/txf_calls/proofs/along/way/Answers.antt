@@ -1,7 +1,7 @@
 use Rattle.std.proofs.Common.{sym, ◌∙◌, ap, option_and_then, ◌+◌, drop, take}
-use Rattle.txf_paths.specs.Leads.{way}
-use Rattle.txf_paths.proofs.Ways.{way-step}
-use Rattle.txf_paths.proofs.along.way.Goals as goal
+use Rattle.txf_calls.specs.Leads.{way}
+use Rattle.txf_calls.proofs.Ways.{way-step}
+use Rattle.txf_calls.proofs.along.way.Goals as goal
 
 pub returns-in-None : goal.returns-in-None
 returns-in-None g c =

@@ -1,8 +1,8 @@
 use Rattle.std.proofs.Common.{sym, ◌∙◌, ap}
 use Rattle.ktm_world.specs.Tree.{root}
-use Rattle.txf_paths.specs.Leads.{way}
-use Rattle.txf_paths.proofs.Ways.{directory-at, names-all}
-use Rattle.txf_paths.proofs.along.directory_at.Goals as goal
+use Rattle.txf_calls.specs.Leads.{way}
+use Rattle.txf_calls.proofs.Ways.{directory-at, names-all}
+use Rattle.txf_calls.proofs.along.directory_at.Goals as goal
 
 pub returns : goal.returns
 returns g c =

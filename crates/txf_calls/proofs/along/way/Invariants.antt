@@ -1,7 +1,7 @@
 use Rattle.std.proofs.Common.{◌≡◌, drop, take}
 use Rattle.ktm_world.specs.Tree.{root}
-use Rattle.txf_paths.specs.Leads.{way}
-use Rattle.txf_paths.proofs.along.way.Given as goal
+use Rattle.txf_calls.specs.Leads.{way}
+use Rattle.txf_calls.proofs.along.way.Given as goal
 
 abbrev pub invariant-loop-i : goal.invariant-loop-i
 invariant-loop-i g l = record {

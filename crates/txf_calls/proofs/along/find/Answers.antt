@@ -1,9 +1,9 @@
 use Rattle.std.proofs.Common.{arith, subst, sym, ◌∙◌}
 use Rattle.ktm_world.specs.Tree.{root}
-use Rattle.txf_paths.specs.Leads.{Leads}
-use Rattle.txf_paths.specs.declared.along.Whereabouts.TheVariants.{NoWay}
-use Rattle.txf_paths.proofs.Ways.{leads-none, leads-node, leads-free}
-use Rattle.txf_paths.proofs.along.find.Goals as goal
+use Rattle.txf_calls.specs.Leads.{Leads}
+use Rattle.txf_calls.specs.declared.along.Whereabouts.TheVariants.{NoWay}
+use Rattle.txf_calls.proofs.Ways.{leads-none, leads-node, leads-free}
+use Rattle.txf_calls.proofs.along.find.Goals as goal
 
 pub returns-in_default : goal.returns-in_default
 returns-in_default g c =

@@ -2,13 +2,13 @@
 ghost use Rattle.std.specs.Prelude.{◌≡◌, ℕ, Some, IfOk, map};
 ghost use Rattle.ktm_world.specs.FileCalls.{listed, entries as matching};
 ghost use Rattle.ktm_world.specs.Tree.{Tree};
-ghost use Rattle.txf_find.specs.Found.{shown_text};
+ghost use Rattle.txf_tree.specs.Found.{shown_text};
 ghost use Rattle.txf_tree.specs.Children.{entries_in, entry_seen};
 
+use crate::{Entries, Entry};
 use ktm_base::{NoMemory, Text, TextList};
 use ktm_names::Pattern;
 use std::alloc::Global;
-use txf_tree::{Entries, Entry};
 
 // The name of an entry as it is listed, a directory's with a backslash behind it.
 fn text_of(alloc: Global, entry: &Entry<'_>) -> Result<Text, NoMemory>
@@ -24,7 +24,11 @@ fn text_of(alloc: Global, entry: &Entry<'_>) -> Result<Text, NoMemory>
 
 /// The names of the entries that the pattern matches, in their order, a directory's with a backslash behind it. No other
 /// name is copied.
-pub fn find(alloc: Global, entries: &Entries<'_>, pattern: &Pattern) -> Result<TextList, NoMemory>
+pub fn matching_names(
+    alloc: Global,
+    entries: &Entries<'_>,
+    pattern: &Pattern,
+) -> Result<TextList, NoMemory>
     ensures { IfOk result (λ texts. (tree : Tree) (directory : ℕ) → entries.now ≡ entries_in tree directory → texts ≡ map listed (matching tree (Some directory) pattern.now.last)) }
 {
     let entries = entries.as_slice();

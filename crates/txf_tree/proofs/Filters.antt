@@ -12,7 +12,7 @@ use Rattle.ktm_keyed.specs.Keyed.{comes_before}
 use Rattle.ktm_world.specs.FileCalls.{entries as matching, in_order, listed, with_entry}
 use Rattle.ktm_world.specs.Tree.{Tree}
 use Rattle.txf_tree.specs.Children.{children, entries_in, shown}
-use Rattle.txf_find.specs.Found.{found, shown_text}
+use Rattle.txf_tree.specs.Found.{found, shown_text}
 use Rattle.ktm_links.proofs.Comparing.{less_from}
 
 -- does the first name come before the second, both folded

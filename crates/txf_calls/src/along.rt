@@ -2,7 +2,7 @@
 ghost use Rattle.std.specs.Prelude.{◌≡◌, ◌<◌, ◌≤◌, Some, length, take, slice_get};
 ghost use Rattle.ktm_world.specs.FileCalls.{directory_of, entered, walk};
 ghost use Rattle.ktm_world.specs.Tree.{child_of, root};
-ghost use Rattle.txf_paths.specs.Leads.{Leads, way};
+ghost use Rattle.txf_calls.specs.Leads.{Leads, way};
 
 use crate::view::{Seen, View};
 use ktm_names::Path;
