@@ -3,7 +3,7 @@
 // A table has three parts: the script, whose last line records something; what is seen behind it; and what is seen after a
 // restart, where a line has two replies, one where the last line of the script was lost, and one where it was done. The first
 // of these lines is `events`, and its replies how many events are found.
-use crate::run::{NO_FAIL, Outcome, first_difference, follow, run, small_image};
+use crate::run::{Outcome, first_difference, follow, run_small, small_image};
 use crate::transcript::Transcript;
 use ktm_base::NoMemory;
 use ktm_run::Status;
@@ -31,35 +31,57 @@ fn add_seen(
     let (line, replies) = row.split_once(" => ").unwrap_or((row, ""));
     let (lost, done) = replies.split_once(" => ").unwrap_or((replies, ""));
     let reply = if is_done { done } else { lost };
-    if line != "events" {
-        return transcript.add(line, reply);
+    if line == "events" {
+        add_restart(alloc, transcript, pick, reply)
+    } else {
+        transcript.add(line, reply)
     }
-    transcript.add(
-        &format!(in alloc; "restart {pick}")?,
-        &format!(in alloc; "restarted events={reply} indoubt=0")?,
-    )
 }
 
-// The transcript where the last line of the script was done, or was lost.
-fn cut(
+// Adds a restart, after which so many events are found.
+fn add_restart(
     alloc: Global,
+    transcript: &mut Transcript,
+    pick: u64,
+    events: &str,
+) -> Result<(), NoMemory> {
+    let line = format!(in alloc; "restart {pick}")?;
+    let reply = format!(in alloc; "restarted events={events} indoubt=0")?;
+    transcript.add(&line, &reply)
+}
+
+// Adds the last line of the script with the cut in it, and what is seen after the restart.
+fn add_cut(
+    alloc: Global,
+    transcript: &mut Transcript,
     table: &Table<'_>,
     (calls, pick): (u64, u64),
     is_done: bool,
-) -> Result<Transcript, NoMemory> {
+) -> Result<(), NoMemory> {
     let (line, reply) = table.last.split_once(" => ").unwrap_or((table.last, ""));
     let (reply, crash) = if calls < 4 {
         ("MACHINE_DOWN", "MACHINE_DOWN")
     } else {
         (reply, "ok")
     };
-    let mut transcript = Transcript::of(alloc, table.front)?;
     transcript.add(&format!(in alloc; "cut {calls}")?, "ok")?;
     transcript.add_rows(alloc, &format!(in alloc; "{line} => {reply}")?)?;
     transcript.add("crash", crash)?;
     for row in table.restarted.lines() {
-        add_seen(alloc, &mut transcript, row, pick, is_done)?;
+        add_seen(alloc, transcript, row, pick, is_done)?;
     }
+    Ok(())
+}
+
+// The transcript where the last line of the script was done, or was lost.
+fn cut(
+    alloc: Global,
+    table: &Table<'_>,
+    at: (u64, u64),
+    is_done: bool,
+) -> Result<Transcript, NoMemory> {
+    let mut transcript = Transcript::of(alloc, table.front)?;
+    add_cut(alloc, &mut transcript, table, at, is_done)?;
     Ok(transcript)
 }
 
@@ -89,8 +111,15 @@ fn found_of_cut(
 ) -> Result<Option<String>, NoMemory> {
     let lost = cut(alloc, table, at, false)?;
     let done = cut(alloc, table, at, true)?;
-    let outcome = run(alloc, &lost.script, small_image(alloc)?, NO_FAIL)?;
+    let outcome = run_small(alloc, &lost.script)?;
     difference(alloc, &outcome, at.0, &lost.replies, &done.replies)
+}
+
+// What is not as it is wanted where the power stays.
+fn found_uncut(alloc: Global, script: &str, then: &str) -> Result<Option<String>, NoMemory> {
+    let whole = format!(in alloc; "{script}\n{then}")?;
+    let (_, what) = follow(alloc, &whole, small_image(alloc)?)?;
+    Ok(what)
 }
 
 /// What does not hold of the table.
@@ -103,9 +132,9 @@ pub fn found(alloc: Global, text: &str) -> Result<Option<String>, NoMemory> {
         last,
         restarted,
     };
-    let whole = format!(in alloc; "{script}\n{then}")?;
-    if let Err(what) = follow(alloc, &whole, small_image(alloc)?)? {
-        return Ok(Some(what));
+    let what = found_uncut(alloc, script, then)?;
+    if what.is_some() {
+        return Ok(what);
     }
     for &at in CUTS.iter() {
         let what = found_of_cut(alloc, &table, at)?;

@@ -13,19 +13,29 @@ fn bytes_of(alloc: Global, digits: &str) -> Result<Vec<u8>, NoMemory> {
     }
 }
 
-fn told_event(alloc: Global, event: &Event, is_whole: bool) -> Result<String, NoMemory> {
-    if !is_whole {
-        return Ok(String::from_str(alloc, "bytes behind it")?);
+fn told_event(
+    alloc: Global,
+    read: &Result<(Event, usize), EventFault>,
+    len: usize,
+) -> Result<String, NoMemory> {
+    match read {
+        Ok((event, end)) if *end == len => Ok(format!(in alloc; "{event:?}")?),
+        Ok(_) => Ok(String::from_str(alloc, "bytes behind it")?),
+        Err(EventFault::NotAnEvent) => Ok(String::from_str(alloc, "NOT_AN_EVENT")?),
+        Err(EventFault::NoMemory) => Err(NoMemory),
     }
-    Ok(format!(in alloc; "{event:?}")?)
 }
 
 /// The event that these bytes are, in digits.
 pub fn event_of(alloc: Global, digits: &str) -> Result<String, NoMemory> {
     let bytes = bytes_of(alloc, digits)?;
-    match read_event(alloc, &bytes, 0) {
-        Ok((event, end)) => told_event(alloc, &event, end == bytes.len()),
-        Err(EventFault::NotAnEvent) => Ok(String::from_str(alloc, "NOT_AN_EVENT")?),
+    told_event(alloc, &read_event(alloc, &bytes, 0), bytes.len())
+}
+
+fn told_group(alloc: Global, read: &Result<Vec<Event>, EventFault>) -> Result<String, NoMemory> {
+    match read {
+        Ok(events) => Ok(format!(in alloc; "{events:?}")?),
+        Err(EventFault::NotAnEvent) => Ok(String::from_str(alloc, "NOT_A_GROUP")?),
         Err(EventFault::NoMemory) => Err(NoMemory),
     }
 }
@@ -33,9 +43,5 @@ pub fn event_of(alloc: Global, digits: &str) -> Result<String, NoMemory> {
 /// The events of the group that these bytes are, in digits.
 pub fn group_of(alloc: Global, digits: &str) -> Result<String, NoMemory> {
     let bytes = bytes_of(alloc, digits)?;
-    match read_group(alloc, &bytes) {
-        Ok(events) => Ok(format!(in alloc; "{events:?}")?),
-        Err(EventFault::NotAnEvent) => Ok(String::from_str(alloc, "NOT_A_GROUP")?),
-        Err(EventFault::NoMemory) => Err(NoMemory),
-    }
+    told_group(alloc, &read_group(alloc, &bytes))
 }

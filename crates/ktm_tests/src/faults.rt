@@ -60,6 +60,35 @@ fn is_allowed(device: &str, outcome: &Outcome, usual: &[u8], is_touched: bool) -
     }
 }
 
+// What came of a run where a call of the device was to fail.
+enum Tried {
+    // All replies were given.
+    NotMade,
+    EndedWell,
+    EndedBadly,
+}
+
+fn try_call(
+    alloc: Global,
+    device: &str,
+    call: u64,
+    image: &[u8],
+    wanted: &Transcript,
+) -> Result<Tried, NoMemory> {
+    let fails = fails(device, call);
+    let block = block_of(alloc, image, fails.disk)?;
+    let outcome = run(alloc, &wanted.script, block, fails)?;
+    if outcome.status == Status::Done && outcome.sink.bytes() == wanted.replies.as_slice() {
+        return Ok(Tried::NotMade);
+    }
+    let is_touched = call == 1 && outcome.block.bytes() != image;
+    if is_allowed(device, &outcome, &wanted.replies, is_touched) {
+        Ok(Tried::EndedWell)
+    } else {
+        Ok(Tried::EndedBadly)
+    }
+}
+
 // The number of the first call of the device that a run on this image does not make, where each earlier one that failed ended
 // as it may.
 fn first_not_made(
@@ -69,15 +98,10 @@ fn first_not_made(
     wanted: &Transcript,
 ) -> Result<Option<u64>, NoMemory> {
     for call in 1..MANY {
-        let fails = fails(device, call);
-        let block = block_of(alloc, image, fails.disk)?;
-        let outcome = run(alloc, &wanted.script, block, fails)?;
-        if outcome.status == Status::Done && outcome.sink.bytes() == wanted.replies.as_slice() {
-            return Ok(Some(call));
-        }
-        let is_touched = call == 1 && outcome.block.bytes() != image;
-        if !is_allowed(device, &outcome, &wanted.replies, is_touched) {
-            return Ok(None);
+        match try_call(alloc, device, call, image, wanted)? {
+            Tried::NotMade => return Ok(Some(call)),
+            Tried::EndedBadly => return Ok(None),
+            Tried::EndedWell => {}
         }
     }
     Ok(None)
@@ -98,22 +122,33 @@ fn found_on(
     Ok(Some(format!(in alloc; "of the {device} the call {made}")?))
 }
 
-/// What does not hold of the table. Its first part is the script, and the second has comments and rows of devices. Each is
-/// tried on an image of 16 units, and on a block without a byte.
-pub fn found(alloc: Global, table: &str) -> Result<Option<String>, NoMemory> {
-    let (script, rows) = table.split_once("\n\n").unwrap_or((table, ""));
-    let wanted = Transcript::of(alloc, script)?;
-    let image = small_image(alloc)?;
+// What does not hold of these rows on this image.
+fn found_in(
+    alloc: Global,
+    rows: &str,
+    image: &[u8],
+    wanted: &Transcript,
+) -> Result<Option<String>, NoMemory> {
     for row in rows.lines() {
         if row.starts_with('#') {
             continue;
         }
-        if let Some(what) = found_on(alloc, row, image.bytes(), &wanted)? {
-            return Ok(Some(what));
-        }
-        if let Some(what) = found_on(alloc, row, &[], &wanted)? {
-            return Ok(Some(what));
+        let what = found_on(alloc, row, image, wanted)?;
+        if what.is_some() {
+            return Ok(what);
         }
     }
     Ok(None)
+}
+
+/// What does not hold of the table. Its first part is the script, and the second has comments and rows of devices. They are
+/// tried on an image of 16 units, and on a block without a byte.
+pub fn found(alloc: Global, table: &str) -> Result<Option<String>, NoMemory> {
+    let (script, rows) = table.split_once("\n\n").unwrap_or((table, ""));
+    let wanted = Transcript::of(alloc, script)?;
+    let what = found_in(alloc, rows, small_image(alloc)?.bytes(), &wanted)?;
+    if what.is_some() {
+        return Ok(what);
+    }
+    found_in(alloc, rows, &[], &wanted)
 }

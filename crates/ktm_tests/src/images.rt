@@ -5,14 +5,6 @@ use ktm_base::NoMemory;
 use ktm_run::Status;
 use std::alloc::Global;
 
-// The image that these rows leave, or what is not as it is wanted of their run.
-fn image_of(alloc: Global, rows: &str) -> Result<Result<Vec<u8>, String>, NoMemory> {
-    match follow(alloc, rows, small_image(alloc)?)? {
-        Ok(block) => Ok(Ok(block.bytes().to_vec(alloc)?)),
-        Err(what) => Ok(Err(what)),
-    }
-}
-
 /// So many bytes at a place, as digits.
 pub fn digits_at(alloc: Global, image: &[u8], at: usize, len: usize) -> Result<String, NoMemory> {
     let mut digits = String::new(alloc);
@@ -35,9 +27,10 @@ fn joined(alloc: Global, row: &str) -> Result<String, NoMemory> {
 /// and lines of bytes, in digits with blanks between them.
 pub fn bytes_found(alloc: Global, table: &str) -> Result<Option<String>, NoMemory> {
     let (script, rows) = table.split_once("\n\n").unwrap_or((table, ""));
-    match image_of(alloc, script)? {
-        Ok(image) => wrong_bytes(alloc, &image, rows),
-        Err(what) => Ok(Some(what)),
+    let (left, what) = follow(alloc, script, small_image(alloc)?)?;
+    match what {
+        None => wrong_bytes(alloc, left.bytes(), rows),
+        Some(what) => Ok(Some(what)),
     }
 }
 
@@ -83,9 +76,10 @@ fn put(image: &mut [u8], at: usize, byte: u8) {
 /// KvGet of "k" is answered then.
 pub fn found(alloc: Global, table: &str) -> Result<Option<String>, NoMemory> {
     let (script, rows) = table.split_once("\n\n").unwrap_or((table, ""));
-    match image_of(alloc, script)? {
-        Ok(image) => wrong_row(alloc, &image, rows),
-        Err(what) => Ok(Some(what)),
+    let (left, what) = follow(alloc, script, small_image(alloc)?)?;
+    match what {
+        None => wrong_row(alloc, left.bytes(), rows),
+        Some(what) => Ok(Some(what)),
     }
 }
 

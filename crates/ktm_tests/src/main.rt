@@ -89,10 +89,11 @@ fn wrong_reply(alloc: Global, script: &str, replies: &[u8]) -> Result<Option<Str
 fn runs(alloc: Global, table: &str, image: MemBlock) -> Result<Option<String>, NoMemory> {
     let mut image = image;
     for part in table.split("\n\n") {
-        match follow(alloc, part, image)? {
-            Ok(block) => image = block,
-            Err(what) => return Ok(Some(what)),
+        let (left, what) = follow(alloc, part, image)?;
+        if what.is_some() {
+            return Ok(what);
         }
+        image = left;
     }
     Ok(None)
 }

@@ -1,6 +1,8 @@
 // Whole runs in memory.
+ghost use Rattle.std.specs.Prelude.{◌≡◌};
+
 use crate::transcript::Transcript;
-use ktm_base::{Bytes, NoMemory};
+use ktm_base::{Bytes, NoMemory, PowerDisk, Sink};
 use ktm_cut::CutDisk;
 use ktm_journal::Journal;
 use ktm_mem::{Calls, MemBlock, MemSink, MemSource};
@@ -61,6 +63,39 @@ pub fn small_image(alloc: Global) -> Result<MemBlock, NoMemory> {
     Ok(disk.into_block())
 }
 
+fn source_of(alloc: Global, script: &[u8], fail: u64) -> Result<MemSource, NoMemory> {
+    let calls = calls(alloc, fail)?;
+    Ok(MemSource::new(Bytes::new(script.to_vec(alloc)?), calls))
+}
+
+fn sink_of(alloc: Global, fail: u64) -> Result<MemSink, NoMemory> {
+    MemSink::new(alloc, REPLIES, calls(alloc, fail)?)
+}
+
+// The words that the program is started with.
+fn started_with(alloc: Global) -> Result<Vec<String>, NoMemory> {
+    let mut words = Vec::new(alloc);
+    for word in ["run", "image", "script"] {
+        words.push(String::from_str(alloc, word)?)?;
+    }
+    Ok(words)
+}
+
+// Runs a script on a disk, where a call of the source fails.
+fn run_on<K: Sink, D: PowerDisk>(
+    alloc: Global,
+    script: &[u8],
+    fail: u64,
+    sink: &mut K,
+    disk: &mut D,
+) -> Result<Status, NoMemory>
+    requires { (D.status disk.old).pending ≡ 0 }
+{
+    let words = started_with(alloc)?;
+    let mut source = source_of(alloc, script, fail)?;
+    Ok(ktm(alloc, &words, &mut source, sink, disk))
+}
+
 /// Runs a script on a block, where a call of the source and one of the sink fail.
 pub fn run(
     alloc: Global,
@@ -68,15 +103,9 @@ pub fn run(
     block: MemBlock,
     fails: Fails,
 ) -> Result<Outcome, NoMemory> {
-    let mut words = Vec::new(alloc);
-    for word in ["run", "image", "script"] {
-        words.push(String::from_str(alloc, word)?)?;
-    }
-    let script = Bytes::new(script.to_vec(alloc)?);
-    let mut source = MemSource::new(script, calls(alloc, fails.source)?);
-    let mut sink = MemSink::new(alloc, REPLIES, calls(alloc, fails.sink)?)?;
     let mut disk = CutDisk::new(alloc, block)?;
-    let status = ktm(alloc, &words, &mut source, &mut sink, &mut disk);
+    let mut sink = sink_of(alloc, fails.sink)?;
+    let status = run_on(alloc, script, fails.source, &mut sink, &mut disk)?;
     Ok(Outcome {
         status,
         sink,
@@ -84,9 +113,18 @@ pub fn run(
     })
 }
 
+/// Runs a script on a new image of 16 units.
+pub fn run_small(alloc: Global, script: &[u8]) -> Result<Outcome, NoMemory> {
+    run(alloc, script, small_image(alloc)?, NO_FAIL)
+}
+
 /// The bytes as a text.
 pub fn text_of(bytes: &[u8]) -> &str {
     str::from_utf8(bytes).unwrap_or("no text")
+}
+
+fn told_reply(alloc: Global, place: usize, reply: &str, wanted: &str) -> Result<String, NoMemory> {
+    Ok(format!(in alloc; "reply {place} is {reply:.99}, not {wanted:.99}")?)
 }
 
 /// The first reply that is not the one that is wanted.
@@ -95,26 +133,36 @@ pub fn first_difference(alloc: Global, replies: &[u8], wanted: &[u8]) -> Result<
     for (place, wanted) in text_of(wanted).lines().enumerate() {
         let reply = replies.next().unwrap_or("none");
         if reply != wanted {
-            return Ok(format!(in alloc; "reply {place} is {reply:.99}, not {wanted:.99}")?);
+            return told_reply(alloc, place, reply, wanted);
         }
     }
     Ok(String::from_str(alloc, "more replies than are wanted")?)
 }
 
-/// Runs these rows on a block, and gives the block back, or what was not as it is wanted.
+// What is not as it is wanted of a run.
+fn difference(
+    alloc: Global,
+    outcome: &Outcome,
+    wanted: &Transcript,
+) -> Result<Option<String>, NoMemory> {
+    let status = outcome.status.exit_code();
+    if outcome.sink.bytes() != wanted.replies.as_slice() {
+        return Ok(Some(first_difference(alloc, outcome.sink.bytes(), &wanted.replies)?));
+    }
+    if status != wanted.status {
+        return Ok(Some(format!(in alloc; "the status is {status}")?));
+    }
+    Ok(None)
+}
+
+/// Runs these rows on a block, and gives the block that is left, and what was not as it is wanted.
 pub fn follow(
     alloc: Global,
     rows: &str,
     block: MemBlock,
-) -> Result<Result<MemBlock, String>, NoMemory> {
+) -> Result<(MemBlock, Option<String>), NoMemory> {
     let wanted = Transcript::of(alloc, rows)?;
     let outcome = run(alloc, &wanted.script, block, NO_FAIL)?;
-    let status = outcome.status.exit_code();
-    if outcome.sink.bytes() != wanted.replies.as_slice() {
-        return Ok(Err(first_difference(alloc, outcome.sink.bytes(), &wanted.replies)?));
-    }
-    if status != wanted.status {
-        return Ok(Err(format!(in alloc; "the status is {status}")?));
-    }
-    Ok(Ok(outcome.block))
+    let what = difference(alloc, &outcome, &wanted)?;
+    Ok((outcome.block, what))
 }

@@ -14,28 +14,36 @@ fn told(written: &Bytes, text: &str) -> &'static str {
     }
 }
 
-fn told_line(alloc: Global, line: &Line, text: &str) -> Result<&'static str, NoMemory> {
-    Ok(told(&write_line(alloc, line)?, text))
-}
-
-fn told_reply(alloc: Global, reply: &Reply, text: &str) -> Result<&'static str, NoMemory> {
-    Ok(told(&write_reply(alloc, reply)?, text))
-}
-
-/// Whether a text is a line of a script, which is then written as it was read.
-pub fn line_of(alloc: Global, text: &str) -> Result<&'static str, NoMemory> {
-    match read_line(alloc, text.as_bytes()) {
-        Ok(line) => told_line(alloc, &line, text),
+fn told_line(
+    alloc: Global,
+    read: &Result<Line, LineFault>,
+    text: &str,
+) -> Result<&'static str, NoMemory> {
+    match read {
+        Ok(line) => Ok(told(&write_line(alloc, line)?, text)),
         Err(LineFault::BadLine) => Ok("BAD_LINE"),
         Err(LineFault::NoMemory) => Err(NoMemory),
     }
 }
 
-/// Whether a text is a reply, which is then written as it was read.
-pub fn reply_of(alloc: Global, text: &str) -> Result<&'static str, NoMemory> {
-    match read_reply(alloc, text.as_bytes()) {
-        Ok(reply) => told_reply(alloc, &reply, text),
+fn told_reply(
+    alloc: Global,
+    read: &Result<Reply, ReplyFault>,
+    text: &str,
+) -> Result<&'static str, NoMemory> {
+    match read {
+        Ok(reply) => Ok(told(&write_reply(alloc, reply)?, text)),
         Err(ReplyFault::NotAReply) => Ok("NOT_A_REPLY"),
         Err(ReplyFault::NoMemory) => Err(NoMemory),
     }
+}
+
+/// Whether a text is a line of a script, which is then written as it was read.
+pub fn line_of(alloc: Global, text: &str) -> Result<&'static str, NoMemory> {
+    told_line(alloc, &read_line(alloc, text.as_bytes()), text)
+}
+
+/// Whether a text is a reply, which is then written as it was read.
+pub fn reply_of(alloc: Global, text: &str) -> Result<&'static str, NoMemory> {
+    told_reply(alloc, &read_reply(alloc, text.as_bytes()), text)
 }

@@ -24,12 +24,25 @@ pub fn number_before(text: &str) -> (u64, &str) {
 
 // The text with this number for each `$`, its twelve hexadecimal digits for each `&`, and N times X for `^N X` at its end.
 fn expanded(alloc: Global, text: &str, number: u64) -> Result<String, NoMemory> {
-    let (front, back) = text.split_once('^').unwrap_or((text, ""));
     let mut line = String::new(alloc);
+    let decimal = format!(in alloc; "{number}")?;
+    let hexadecimal = format!(in alloc; "{number:012x}")?;
+    put_expanded(&mut line, text, &decimal, &hexadecimal)?;
+    Ok(line)
+}
+
+// Puts the text with these digits in place of its signs.
+fn put_expanded(
+    line: &mut String,
+    text: &str,
+    decimal: &str,
+    hexadecimal: &str,
+) -> Result<(), NoMemory> {
+    let (front, back) = text.split_once('^').unwrap_or((text, ""));
     for letter in front.chars() {
         match letter {
-            '$' => line.push_str(&format!(in alloc; "{number}")?)?,
-            '&' => line.push_str(&format!(in alloc; "{number:012x}")?)?,
+            '$' => line.push_str(decimal)?,
+            '&' => line.push_str(hexadecimal)?,
             _ => line.push(letter)?,
         }
     }
@@ -37,7 +50,17 @@ fn expanded(alloc: Global, text: &str, number: u64) -> Result<String, NoMemory> 
     for _ in 0..count {
         line.push_str(repeated)?;
     }
-    Ok(line)
+    Ok(())
+}
+
+// Adds the text to the lines, expanded for the number.
+fn put_line_for(
+    alloc: Global,
+    lines: &mut Vec<u8>,
+    text: &str,
+    number: u64,
+) -> Result<(), NoMemory> {
+    put_line(lines, &expanded(alloc, text, number)?)
 }
 
 impl Transcript {
@@ -69,9 +92,9 @@ impl Transcript {
         for number in from..=to {
             for row in rows.split(" | ") {
                 let (line, reply) = row.split_once(" => ").unwrap_or((row, ""));
-                put_line(&mut self.script, &expanded(alloc, line, number)?)?;
+                put_line_for(alloc, &mut self.script, line, number)?;
                 if !reply.is_empty() {
-                    put_line(&mut self.replies, &expanded(alloc, reply, number)?)?;
+                    put_line_for(alloc, &mut self.replies, reply, number)?;
                 }
             }
         }
