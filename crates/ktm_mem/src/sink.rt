@@ -1,5 +1,5 @@
 // A sink in memory.
-ghost use Rattle.std.specs.Prelude.{◌≡◌, ◌≤◌, ◌+◌, ◌||◌, Some, [], length, IfOk, is_err, nat_lt, vec_capacity};
+ghost use Rattle.std.specs.Prelude.{◌≡◌, ◌≤◌, ◌+◌, ◌||◌, true, Some, [], length, IfOk, IsErr, is_err, nat_lt, vec_capacity};
 ghost use Rattle.ktm_base.specs.Stream.{Writes, Faults, TakesSome};
 ghost use Rattle.ktm_mem.specs.Schedule.{fails_next, after_call, faults_after};
 
@@ -51,11 +51,14 @@ impl Sink for MemSink {
 
     ghost faults = { λ s. s.faults };
 
+    ghost refuses = { λ s. fails_next (sink_schedule s) };
+
     fn write(&mut self, bytes: &[u8]) -> Result<usize, Failed>
         ensures count { IfOk result (λ n. n ≤ length bytes.now) }
         ensures writes { Writes (Some (taken_of self.old)) (Some (taken_of self.new)) result bytes.now }
         ensures some { TakesSome result bytes.now (self.old.faults) (self.new.faults) }
         ensures faults { Faults (self.old.faults) (self.new.faults) result }
+        ensures refused { fails_next (sink_schedule self.old) ≡ true → IsErr result }
         ensures counts { self.new.faults ≡ faults_after result self.old.faults }
         ensures schedule { sink_schedule self.new ≡ after_call (sink_schedule self.old) }
         ensures room { sink_room self.new ≡ sink_room self.old }

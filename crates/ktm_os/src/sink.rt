@@ -1,5 +1,5 @@
 // A sink over standard output.
-ghost use Rattle.std.specs.Prelude.{◌≡◌, ◌<◌, ◌≤◌, None, IfOk, length};
+ghost use Rattle.std.specs.Prelude.{◌≡◌, ◌<◌, ◌≤◌, false, None, IfOk, length};
 ghost use Rattle.ktm_base.specs.Stream.{Faults};
 ghost use Rattle.ktm_os.specs.Count.{counted};
 
@@ -35,6 +35,8 @@ impl<R: Print> Sink for StdSink<R> {
     ghost taken = { λ _. None };
 
     ghost faults = { λ s. s.faults };
+
+    ghost refuses = { λ _. false };
 
     fn write(&mut self, bytes: &[u8]) -> Result<usize, Failed>
         ensures count { IfOk result (λ n. n ≤ length bytes.now) }
