@@ -1,6 +1,6 @@
 -- An area that is read piece by piece.
 use Rattle.std.specs.Prelude.{IfSome, IsSomeAnd}
-use Rattle.std.proofs.Common.{◌≡◌, ℕ, ◌+◌, ◌-◌, ◌<◌, ◌≤◌, Bool, false, Option, None, Some, List, [], ◌∷◌, ◌++◌, length, get_or, take, drop, sym, ◌∙◌, ap, subst, arith, length-take, length-drop, length-append}
+use Rattle.std.proofs.Common.{◌≡◌, ℕ, ◌+◌, ◌-◌, ◌*◌, ◌/◌, ◌<◌, ◌≤◌, max, Bool, false, Option, None, Some, List, [], ◌∷◌, ◌++◌, length, get_or, take, drop, sym, ◌∙◌, ap, subst, arith, length-take, length-drop, length-append}
 use Rattle.std.proofs.lemmas.List.{take_at, take_all, drop_all, take-append-drop, take-take, drop-take, drop-drop, append-nil}
 use borrow.Rule.Slice.PartMut.{put_mid}
 use Rattle.ktm_base.specs.Disk.{DiskState, DiskStatus, DeviceCalls, IsSafe}
@@ -13,6 +13,15 @@ use Rattle.ktm_base.proofs.Images.{calls_law}
 use Rattle.ktm_base.proofs.ToldSteps.{IfSome-map}
 use Rattle.ktm_log.proofs.Payloads.{front_at, went_on_trans, size_went_on, begins_went_on, log_went_on, none_closed, payloads_are}
 use Rattle.ktm_log.proofs.Steps.{IfSome-both}
+
+-- where so many bytes are not there yet, one piece more goes no further than the piece in which they end
+pub piece_within : (first old new upto : ℕ) → 4096 * (old / 4096) ≡ old → old < upto → pieces old ≤ max (pieces first) (pieces upto) → pieces new ≤ pieces old + 1
+    → pieces new ≤ max (pieces first) (pieces upto)
+piece_within first old new upto whole short before one = omega arith
+
+-- a frame that was found goes no further than the gate behind it
+pub reached_further : (old new at size : ℕ) → pieces old ≤ pieces (at + 1) → pieces new ≤ max (pieces old) (pieces (at + size + 6)) → pieces new ≤ pieces (at + (size + 5) + 1)
+reached_further old new at size before now = omega arith
 
 -- a vector that was made longer, and then filled from its old end on
 pub filled : (old m buf rest : List ℕ) (from n len : ℕ) → take from m ≡ old → length m ≡ from + n → from ≡ length old → length buf ≡ n → len ≡ from + n → take len (put_mid from (length m - from) m buf ++ rest) ≡ old ++ buf

@@ -1,5 +1,5 @@
 -- What the answers of a scan and of an append say.
-use Rattle.std.specs.Prelude.{ℕ, Bool, true, false, Result, Ok, Err}
+use Rattle.std.specs.Prelude.{Bool, true, false, Result, Ok, Err}
 use Rattle.ktm_log.specs.declared.fault.LogFault.{LogFault}
 use Rattle.ktm_log.specs.declared.fault.LogFault.TheVariants.{Down as ScanDown, Bad, NoMemory}
 use Rattle.ktm_log.specs.declared.fault.FrameFault.{FrameFault}

@@ -1,12 +1,20 @@
 -- The part of an area that was read so far, and what it took to read it.
-use Rattle.std.specs.Prelude.{◌≡◌, ℕ, ◌+◌, ◌-◌, ◌*◌, ◌/◌, ◌<◌, ◌≤◌, Bool, false, Option, None, Some, List, length, take, drop, IfSome}
+use Rattle.std.specs.Prelude.{◌≡◌, ℕ, ◌+◌, ◌-◌, ◌*◌, ◌/◌, ◌<◌, ◌≤◌, Bool, false, Option, None, Some, Result, Ok, Err, List, length, take, drop, IfSome}
 use Rattle.ktm_base.specs.Disk.{DiskState, DiskStatus, DeviceCalls}
+use Rattle.ktm_log.specs.declared.fault.FrameFault.{FrameFault}
 use Rattle.ktm_log.specs.declared.area.Area.{Area}
 use Rattle.ktm_log.specs.Log.{area_bytes, BeginsWith, IsFrame, IsClosed, end_of}
 
 -- how many pieces of 4,096 bytes so many bytes are in, the last one shorter
 abbrev pub pieces : ℕ → ℕ
 pieces len = (len + 4095) / 4096
+
+-- up to where a search for a frame at this offset has to read: its gate; with a whole frame the gate that follows too; with a bad one no
+-- further than its length
+abbrev pub frame_reach : ℕ → Result (Option ℕ) FrameFault → ℕ
+frame_reach at (Ok None) = at + 1
+frame_reach at (Ok (Some size)) = at + size + 6
+frame_reach at (Err fault) = at + 5
 
 -- these are the first bytes of the area in an image
 pub record IsRead (area : Area) (read image : List ℕ) : Type 0 where

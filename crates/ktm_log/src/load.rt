@@ -1,8 +1,8 @@
 // Reading an area from its begin, in pieces.
-ghost use Rattle.std.specs.Prelude.{◌≡◌, ◌+◌, ◌^◌, ◌<◌, ◌≤◌, length, drop, None, OnOk, IfOk, is_err, vec_capacity, false, IsErrOf, IfSome};
+ghost use Rattle.std.specs.Prelude.{◌≡◌, ◌+◌, ◌^◌, ◌<◌, ◌≤◌, max, length, drop, None, OnOk, IfOk, is_err, vec_capacity, false, IsErrOf, IfSome};
 ghost use Rattle.ktm_log.specs.Fault.{frame_went_down};
 ghost use Rattle.ktm_log.specs.Log.{area_bytes, first_payload, IsTorn};
-ghost use Rattle.ktm_log.specs.Load.{Holds, Loads, WentOn, Finds};
+ghost use Rattle.ktm_log.specs.Load.{Holds, Loads, WentOn, Finds, frame_reach, pieces};
 
 use crate::Area;
 use crate::fault::FrameFault;
@@ -21,6 +21,7 @@ fn load_piece<D: Disk>(disk: &mut D, area: Area, read: &mut Vec<u8>) -> Result<(
     ensures same { D.told disk.new ≡ D.told disk.old }
     ensures room { vec_capacity read.old ≤ vec_capacity read.new }
     ensures more { length read.old.items < length read.new.items }
+    ensures few { pieces (length read.new.items) ≤ pieces (length read.old.items) + 1 }
     ensures front { OnOk result (WentOn read.old.items read.new.items) }
     ensures holds { OnOk result (Holds area (D.told disk.new) (D.status disk.new).is_down read.new.items) }
     ensures loads { Loads area (length read.old.items) (length read.new.items) (D.status disk.old) (D.status disk.new) (is_err result) }
@@ -34,7 +35,7 @@ fn load_piece<D: Disk>(disk: &mut D, area: Area, read: &mut Vec<u8>) -> Result<(
     Ok(())
 }
 
-// Reads on until so many bytes of the area are there.
+// Reads on until so many bytes of the area are there, and no piece more.
 fn load<D: Disk>(disk: &mut D, area: Area, read: &mut Vec<u8>, upto: u64) -> Result<(), Down>
     requires small { area.at + area.len < 2 ^ 63 }
     requires room { area.len ≤ vec_capacity read.old }
@@ -43,6 +44,7 @@ fn load<D: Disk>(disk: &mut D, area: Area, read: &mut Vec<u8>, upto: u64) -> Res
     ensures same { D.told disk.new ≡ D.told disk.old }
     ensures room { vec_capacity read.old ≤ vec_capacity read.new }
     ensures upto { OnOk result (upto ≤ length read.new.items) }
+    ensures few { pieces (length read.new.items) ≤ max (pieces (length read.old.items)) (pieces upto) }
     ensures front { OnOk result (WentOn read.old.items read.new.items) }
     ensures holds { OnOk result (Holds area (D.told disk.new) (D.status disk.new).is_down read.new.items) }
     ensures loads { Loads area (length read.old.items) (length read.new.items) (D.status disk.old) (D.status disk.new) (is_err result) }
@@ -71,6 +73,7 @@ pub(crate) fn next_frame<D: Disk>(
     ensures holds { OnOk result (Holds area (D.told disk.new) (D.status disk.new).is_down read.new.items) }
     ensures front { frame_went_down result ≡ false → WentOn read.old.items read.new.items }
     ensures loads { Loads area (length read.old.items) (length read.new.items) (D.status disk.old) (D.status disk.new) (frame_went_down result) }
+    ensures few { frame_went_down result ≡ false → pieces (length read.new.items) ≤ max (pieces (length read.old.items)) (pieces (frame_reach at result)) }
     ensures up { frame_went_down result ≡ false → (D.status disk.new).is_down ≡ false }
     ensures found { IfOk result (λ found. Finds area read.new.items at found) }
     ensures torn { IsErrOf result FrameFault.Torn → IfSome (D.told disk.new) (λ s. IsTorn (drop at (area_bytes area s.seen))) }

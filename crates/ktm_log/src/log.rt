@@ -1,10 +1,11 @@
 // The log of an area, and how it grows.
-ghost use Rattle.std.specs.Prelude.{◌≡◌, ◌↔◌, ℕ, ◌+◌, ◌/◌, ◌^◌, ◌<◌, ◌≤◌, List, [], ◌∷◌, ◌++◌, length, OnOk, IfOk, IfErr, vec_capacity, false, IsErrOf, IfSome, IsSomeAnd};
+ghost use Rattle.std.specs.Prelude.{◌≡◌, ◌↔◌, ℕ, ◌+◌, ◌-◌, ◌^◌, ◌<◌, ◌≤◌, List, [], ◌∷◌, ◌++◌, length, OnOk, IfOk, IfErr, vec_capacity, false, IsErrOf, IfSome, IsSomeAnd};
 ghost use Rattle.ktm_base.specs.declared.limits.TheConstants.{MOST_PENDING};
 ghost use Rattle.ktm_base.specs.Told.{Goes};
 ghost use Rattle.ktm_base.specs.Disk.{IsSafe, DeviceCalls, OnlyReads};
 ghost use Rattle.ktm_log.specs.Fault.{scan_went_down, append_went_down};
 ghost use Rattle.ktm_log.specs.Log.{IsLog, IsBadLog, Rests, LeavesEither, SameElsewhere, area_bytes, end_of, payloads_in};
+ghost use Rattle.ktm_log.specs.Load.{pieces};
 ghost use Rattle.ktm_log.specs.Settle.{IsBodyOf};
 ghost use Rattle.ktm_log.specs.declared.fault.LogFault.{LogFault};
 
@@ -52,7 +53,10 @@ impl Log {
         ensures room { OnOk result (area.len ≤ vec_capacity buffer.new) }
         ensures kept { vec_capacity buffer.old ≤ vec_capacity buffer.new }
         ensures memory { IsErrOf result LogFault.NoMemory → vec_capacity buffer.old < area.len }
-        ensures reads { OnlyReads ((area.len + 4095) / 4096) (D.told disk.old) (D.told disk.new) (D.status disk.old) (D.status disk.new) (scan_went_down result) }
+        ensures reads { OnlyReads (pieces area.len) (D.told disk.old) (D.told disk.new) (D.status disk.old) (D.status disk.new) (scan_went_down result) }
+        // no piece behind the closed gate is read, and none behind the length of a bad frame
+        ensures few { IfOk result (λ log. (D.status disk.new).calls ≤ (D.status disk.old).calls + pieces (log.end + 1)) }
+        ensures few_bad { (offset : ℕ) → IsErrOf result (LogFault.Bad offset) → (D.status disk.new).calls ≤ (D.status disk.old).calls + pieces (offset - area.at + 5) }
         ensures up { OnOk result ((D.status disk.new).is_down ≡ false) }
         ensures up_bad { (offset : ℕ) → IsErrOf result (LogFault.Bad offset) → (D.status disk.new).is_down ≡ false }
     {

@@ -1,5 +1,5 @@
-use Rattle.std.proofs.Common.{◌≡◌, ◌+◌, ◌∙◌, ap, refl, sym, arith}
-use Rattle.ktm_log.proofs.Loading.{loads_then, one_more, end_found, log_found, bad_found, rests_found}
+use Rattle.std.proofs.Common.{◌≡◌, ◌+◌, length, ◌∙◌, ap, refl, sym, arith}
+use Rattle.ktm_log.proofs.Loading.{loads_then, reached_further, one_more, end_found, log_found, bad_found, rests_found}
 use Rattle.ktm_log.proofs.Payloads.{none_closed}
 use Rattle.ktm_log.proofs.log.Log.scan.Goals as goal
 
@@ -13,6 +13,7 @@ loop-size-preserved g c =
       kept = omega (arith, c.next_frame.ensures.room);
       holds = c.in-Ok-Some.ensures.holds;
       loads = loads_then _ _ _ _ _ _ _ _ before.loads c.in-Ok-Some.ensures.loads;
+      few = reached_further (length c.loop-size.buffer.items) _ c.loop-size.end c.in-Ok-Some.size before.few ((rw c.in-Ok-Some.field-0-is at c.in-Ok-Some.ensures.few) refl);
       inside = omega (arith, found.0);
       frames = one_more c.args.area _ _ _ before.frames (c.in-Ok-Some.ensures.front refl) _ found.1;
     }

@@ -1,6 +1,6 @@
-use Rattle.std.proofs.Common.{◌≡◌, ◌-◌, ◌<◌, ◌≤◌, false, length}
+use Rattle.std.proofs.Common.{◌≡◌, ◌+◌, ◌-◌, ◌<◌, ◌≤◌, false, length}
 use Rattle.std.specs.Vec.{vec_capacity}
-use Rattle.ktm_log.specs.Load.{EndFrames, Holds, Loads}
+use Rattle.ktm_log.specs.Load.{EndFrames, Holds, Loads, pieces}
 use Rattle.ktm_log.proofs.log.Log.scan.Given as goal
 
 abbrev pub invariant-loop-size : goal.invariant-loop-size
@@ -10,6 +10,7 @@ invariant-loop-size g l = record {
   kept : vec_capacity l.fn.buffer ≤ vec_capacity l.buffer;
   holds : Holds l.area (g.D.Disk.told l.disk) (g.D.Disk.status l.disk).is_down l.buffer.items;
   loads : Loads l.area 0 (length l.buffer.items) (g.D.Disk.status l.initial.disk) (g.D.Disk.status l.disk) false;
+  few : pieces (length l.buffer.items) ≤ pieces (l.end + 1);
   inside : l.end < l.area.len;
   frames : EndFrames l.end l.buffer.items;
 }
