@@ -1,0 +1,97 @@
+// The steps by which a transaction goes on, which are data.
+use arrayvec::ArrayVec;
+use ktm_base::Notify;
+use ktm_types::{Phase, TransactionOutcome};
+
+/// Which enlistments of the transaction.
+#[derive(Clone, Copy)]
+pub enum Who {
+    /// Those that take part.
+    Parts,
+    /// Those of them that ask for PREPREPARE.
+    Asking,
+    /// Those of them that are prepared and recovered.
+    Prepared,
+    /// Those of them that are recovered.
+    Recovered,
+    /// Its superior.
+    Superior,
+    /// Its superior, unless it made the call.
+    OtherSuperior,
+    /// The one that answers.
+    Answering,
+}
+
+/// The notification that an enlistment owes an answer to.
+#[derive(Clone, Copy)]
+pub enum Owed {
+    PrePrepare,
+    Prepare,
+    /// COMMIT, or SINGLE_PHASE_COMMIT.
+    Commit,
+    Rollback,
+}
+
+/// What becomes of the one that answers. But for the last it owes nothing then.
+#[derive(Clone, Copy)]
+pub enum Answered {
+    PrePrepared,
+    Prepared,
+    ReadOnly,
+    Finished,
+    Recovered,
+}
+
+/// What is recorded, where there is something to record.
+#[derive(Clone, Copy)]
+pub enum Fact {
+    /// The files are prepared, where they take part.
+    ReadyFiles,
+    /// The keys are prepared, where they take part.
+    ReadyKeys,
+    /// The one that answers is prepared, where its resource manager is durable.
+    Ready,
+    /// The transaction waits for its superior, where it has one.
+    Held,
+    /// It commits, where the log has a Ready or a Held of it.
+    Decide,
+    /// It rolls back, where the log has one.
+    Undo,
+    /// The files are done, where they take part.
+    DoneFiles,
+    /// The keys are done, where they take part.
+    DoneKeys,
+    /// The one that answers is done, where its resource manager is durable.
+    Done,
+    /// The files alone commit.
+    SingleFiles,
+    /// The keys alone commit.
+    SingleKeys,
+}
+
+/// A step.
+#[derive(Clone, Copy, Default)]
+pub enum Step {
+    /// This is recorded.
+    Record(Fact),
+    /// The files and the keys commit, where they take part.
+    #[default]
+    Commit,
+    /// These are told this.
+    Tell(Who, Notify),
+    /// These are told this, and owe an answer.
+    Ask(Who, Notify, Owed),
+    /// The one that answers is changed.
+    Change(Answered),
+    /// The transaction is in this phase from now on.
+    Enter(Phase),
+    /// Its outcome is known from now on.
+    Decide(TransactionOutcome),
+    /// It has ended with this outcome, and its superior is told.
+    End(TransactionOutcome),
+    /// The same, where nobody is unfinished.
+    EndWhereFinished(TransactionOutcome),
+}
+
+/// The steps of one call, in order.
+pub type Steps = ArrayVec<Step, 12>;
