@@ -97,18 +97,16 @@ pre_prepare_completes s = Change Answered.PrePrepared ∷ (if s.owing == 1 then 
 abbrev pub prepare_completes : Seen → List Step
 prepare_completes s = Change Answered.Prepared ∷ Record Fact.Ready ∷ (if s.owing == 1 then all_readies s else [])
 
--- the last enlistment that owed an answer takes part no more
-abbrev pub goes_without : Seen → List Step
-goes_without s = elim s.phase as (λ _. List Step) [
-  | PrePreparing ↦ goes_after s
-  | Preparing ↦ all_readies s
-  | SinglePhase ↦ End Committed ∷ []
-  | _ ↦ []
-]
+-- the last enlistment that owed an answer in this phase takes part no more
+abbrev pub goes_without : Phase → Seen → List Step
+goes_without PrePreparing s = goes_after s
+goes_without Preparing s = all_readies s
+goes_without SinglePhase s = End Committed ∷ []
+goes_without _ s = []
 
 -- ReadOnlyEnlistment, of an enlistment that counted for this
 abbrev pub read_onlies : Seen → Share → List Step
-read_onlies s share = Change Answered.ReadOnly ∷ (if share.owes && (s.owing == 1) then goes_without (without share s) else [])
+read_onlies s share = Change Answered.ReadOnly ∷ (if share.owes && (s.owing == 1) then goes_without s.phase (without share s) else [])
 
 -- SinglePhaseReject
 abbrev pub rejects_one_phase : List Step

@@ -2,9 +2,13 @@
 //! that whoever holds the enlistments carries out.
 #![tactic(auto)]
 
+mod laws;
 mod phase;
 mod rows;
 mod step;
 
+pub use laws::{
+    law_of_events_ahead, law_of_fading, law_of_outcomes, law_of_rows, law_of_runs,
+};
 pub use phase::{PhaseInput, Seen, Share};
 pub use step::{Answered, Fact, Owed, Step, Steps, Who};

@@ -169,7 +169,7 @@ pub fn prepare_complete(s: &Seen, steps: &mut Steps)
 // The last enlistment that owed an answer takes part no more.
 fn go_without(s: &Seen, steps: &mut Steps)
     requires room { array_vec_len steps.old ≤ 2 }
-    ensures items { steps.new.items ≡ steps.old.items ++ goes_without s.now }
+    ensures items { steps.new.items ≡ steps.old.items ++ goes_without s.now.phase s.now }
 {
     match s.phase {
         Phase::PrePreparing => go_after(s, steps),

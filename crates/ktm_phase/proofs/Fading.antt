@@ -1,0 +1,85 @@
+-- No step makes an enlistment live again, and so no procedure does.
+use Rattle.std.specs.Prelude.{if◌then◌else◌}
+use Rattle.std.proofs.Common.{◌≡◌, Bool, true, false, List, [], ◌∷◌, map, Option, Some, None, refl, sym, ◌∙◌, ap, subst}
+use Rattle.std.proofs.lemmas.List.{map-id}
+use Rattle.std.proofs.lemmas.Simd.{map-map}
+use Rattle.std.specs.List.{list_any}
+use Rattle.ktm_types.specs.declared.object.TransactionOutcome.{TransactionOutcome}
+use Rattle.ktm_world.specs.Enlistments.{Enlistment, has_id, is_unfinished, with_enlistments}
+use Rattle.ktm_world.specs.Phases.{Course, ended, is_its_superior, owing, unchanged}
+use Rattle.ktm_phase.specs.declared.step.Answered.{Answered}
+use Rattle.ktm_phase.specs.declared.step.Answered.TheVariants.{PrePrepared, Prepared, ReadOnly, Finished, Recovered}
+use Rattle.ktm_phase.specs.declared.step.Step.{Step}
+use Rattle.ktm_phase.specs.Run.{answer_to, answered, carried, is_one_of, run}
+use Rattle.ktm_phase.specs.Runs.{Fades, FadingLaw, GoesOn, IsRun}
+use Rattle.ktm_phase.proofs.Table.{of_runs}
+
+-- ---- enlistments
+
+stays : (e : Enlistment) → GoesOn e e
+stays e = record { lasts = refl; read_only = λ is. is; prepared = λ is. is; finished = λ is. is; recovered = λ is. is }
+
+goes-answered : (answer : Answered) (e : Enlistment) → GoesOn e (answered answer e)
+goes-answered PrePrepared e = record { lasts = refl; read_only = λ is. is; prepared = λ is. is; finished = λ is. is; recovered = λ is. is }
+goes-answered Prepared e = record { lasts = refl; read_only = λ is. is; prepared = λ is. refl; finished = λ is. is; recovered = λ is. is }
+goes-answered ReadOnly e = record { lasts = refl; read_only = λ is. refl; prepared = λ is. is; finished = λ is. is; recovered = λ is. is }
+goes-answered Finished e = record { lasts = refl; read_only = λ is. is; prepared = λ is. is; finished = λ is. refl; recovered = λ is. is }
+goes-answered Recovered e = record { lasts = refl; read_only = λ is. is; prepared = λ is. is; finished = λ is. is; recovered = λ is. refl }
+
+goes-if : (b : Bool) (e f : Enlistment) → GoesOn e f → GoesOn e (if b then f else e)
+goes-if true e f goes = goes
+goes-if false e f goes = stays e
+
+-- ---- courses
+
+fades-same : (c d : Course) → d.enlistments ≡ c.enlistments → Fades c d
+fades-same c d same = record { change = λ e. e; is = same ∙ sym (map-id c.enlistments); each = stays }
+
+fades-then : (b c d : Course) → Fades b c → Fades c d → Fades b d
+fades-then b c d first second = record {
+  change = λ e. second.change (first.change e);
+  is = second.is ∙ ap (map second.change) first.is ∙ map-map second.change first.change b.enlistments;
+  each = λ e.
+      let before = first.each e in
+      let after = second.each (first.change e) in
+      record {
+        lasts = after.lasts ∙ before.lasts;
+        read_only = λ is. after.read_only (before.read_only is);
+        prepared = λ is. after.prepared (before.prepared is);
+        finished = λ is. after.finished (before.finished is);
+        recovered = λ is. after.recovered (before.recovered is);
+      };
+}
+
+-- those that pass a test are changed
+fades-with : (test : Enlistment → Bool) (f : Enlistment → Enlistment) (c d : Course) → d.enlistments ≡ with_enlistments test f c.enlistments → ((e : Enlistment) → GoesOn e (f e)) → Fades c d
+fades-with test f c d is each = record { change = λ e. if test e then f e else e; is = is; each = λ e. goes-if (test e) e (f e) (each e) }
+
+fades-either : (c d e : Course) (b : Bool) → Fades c d → Fades c e → Fades c (if b then d else e)
+fades-either c d e true first second = first
+fades-either c d e false first second = second
+
+fades-ended : (c : Course) (outcome : TransactionOutcome) → Fades c (ended c outcome)
+unfolding ended
+fades-ended c outcome = fades-with (is_its_superior c) unchanged c (ended c outcome) refl stays
+
+-- ---- steps
+
+fades-step : (by : Option Enlistment) (step : Step) (c : Course) → Fades c (carried by step c)
+fades-step by (Step.Tell who kind) c = fades-with (is_one_of by who c) unchanged c _ refl stays
+fades-step by (Step.Ask who kind owed) c = fades-with (is_one_of by who c) (owing (answer_to owed)) c _ refl (λ e. record { lasts = refl; read_only = λ is. is; prepared = λ is. is; finished = λ is. is; recovered = λ is. is })
+fades-step None (Step.Change answer) c = fades-same c c refl
+fades-step (Some e) (Step.Change answer) c = fades-with (has_id e.id) (answered answer) c _ refl (goes-answered answer)
+fades-step by (Step.End outcome) c = fades-ended c outcome
+fades-step by (Step.EndWhereFinished outcome) c = fades-either c c (ended c outcome) (list_any (is_unfinished c.transaction.id) c.enlistments) (fades-same c c refl) (fades-ended c outcome)
+fades-step by _ c = fades-same c _ refl
+
+fades-run : (by : Option Enlistment) (steps : List Step) (c : Course) → Fades c (run by steps c)
+fades-run by [] c = fades-same c c refl
+fades-run by (step ∷ steps) c = fades-then c _ _ (fades-step by step c) (fades-run by steps (carried by step c))
+
+fades-ran : (c d : Course) → IsRun c d → Fades c d
+fades-ran c d ran = subst (Fades c) ran.is (fades-run ran.by ran.steps c)
+
+pub fading_law : FadingLaw
+fading_law = record { steps = fades-run; procedures = of_runs Fades fades-ran }

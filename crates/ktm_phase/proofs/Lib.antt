@@ -1,0 +1,6 @@
+mod Counts
+mod Lasting
+mod Table
+mod Ahead
+mod Fading
+mod Outcomes

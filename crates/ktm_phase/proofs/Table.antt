@@ -1,0 +1,326 @@
+-- The steps of each row do what the procedure of the model does.
+use Rattle.std.specs.Prelude.{if◌then◌else◌}
+use Rattle.std.proofs.Common.{◌≡◌, ℕ, zero, suc, ◌==◌, ◌&&◌, ◌||◌, not, Bool, true, false, List, [], ◌∷◌, ◌++◌, filter, map, Option, Some, None, is_some, refl, sym, ◌∙◌, ap, append_assoc, append-nil, inl, inr}
+use Rattle.std.proofs.lemmas.Bool.{cases_Bool, true≢false}
+use Rattle.std.specs.List.{list_any}
+use Rattle.ktm_base.specs.declared.notify.Notify.{Notify}
+use Rattle.ktm_types.specs.declared.event.DonePart.{DonePart}
+use Rattle.ktm_types.specs.declared.event.Event.{Event}
+use Rattle.ktm_types.specs.declared.event.Part.{Part}
+use Rattle.ktm_types.specs.declared.object.Phase.{Phase}
+use Rattle.ktm_types.specs.declared.object.Phase.TheVariants.{PrePreparing, Preparing, SinglePhase, InDoubt, Held, Committing, Aborting}
+use Rattle.ktm_types.specs.declared.object.TransactionOutcome.TheVariants.{Committed}
+use Rattle.ktm_world.specs.Changes.{has_changes}
+use Rattle.ktm_world.specs.Enlistments.{Enlistment, allows_one_phase, asks_pre_prepare, commit, has_id, is_durable_at, is_superior, prepare, takes_part, tell, with_enlistments}
+use Rattle.ktm_world.specs.Phases.{Course, aborting, all_ready, changing_one, commit_answered, committing, decided, ended, ended_if_finished, enlistment_part, event_if, finished, has_settings, held_or_committing, in_phase, is_its_superior, is_single_phase, one_participant, owing, participants as participants_of, pre_prepare_answered, pre_prepared, prepare_alone, prepare_answered, preparing, read_only_answered, readied, ready_of_enlistment, recorded, recording, recovered, recovered_in, recovering, rollback_answered, single_phase_rejected, some_enlistment, someone_owes, superior, telling, to_commit, to_pre_prepare, to_prepare, unchanged, when_none_owes, without_its_answer, work_of}
+use Rattle.ktm_phase.specs.declared.phase.Seen.{Seen}
+use Rattle.ktm_phase.specs.declared.step.Answered.{Answered}
+use Rattle.ktm_phase.specs.declared.step.Fact.{Fact}
+use Rattle.ktm_phase.specs.declared.step.Step.{Step}
+use Rattle.ktm_phase.specs.declared.step.Step.TheVariants.{Record, Change}
+use Rattle.ktm_phase.specs.declared.step.Who.{Who}
+use Rattle.ktm_phase.specs.Laws.{IsPart, RowsLaw}
+use Rattle.ktm_phase.specs.Rows.{aborts, all_readies, commit_completes, commits, commits_one, goes_after, goes_without, holds_or_commits, participants, pre_prepare_completes, pre_prepares, prepare_completes, prepares, prepares_all, prepares_alone, read_onlies, recovers, recovers_superior, rejects_one_phase, requests, rollback_completes, tells_in, without}
+use Rattle.ktm_phase.specs.Run.{answered, counted, held_event, lasting_of, run, seen, share_of}
+use Rattle.ktm_phase.specs.Runs.{AreProcedures, IsRun}
+use Rattle.ktm_phase.proofs.Counts.{any-counted, owed-less, participants-counted, seen-left, seen-settled}
+use Rattle.ktm_phase.proofs.Lasting.{has_superior-kept, lasting-answered, superior-with}
+
+-- ---- lists of which one is chosen
+
+run-cases : (by : Option Enlistment) (b : Bool) (xs ys : List Step) (c d e : Course) → (b ≡ true → run by xs c ≡ d) → (b ≡ false → run by ys c ≡ e) → run by (if b then xs else ys) c ≡ (if b then d else e)
+run-cases by true xs ys c d e first second = first refl
+run-cases by false xs ys c d e first second = second refl
+
+run-if : (by : Option Enlistment) (b : Bool) (xs ys : List Step) (c d e : Course) → run by xs c ≡ d → run by ys c ≡ e → run by (if b then xs else ys) c ≡ (if b then d else e)
+run-if by b xs ys c d e first second = run-cases by b xs ys c d e (λ is. first) (λ is. second)
+
+-- the same, by a count and by whether there is any
+run-any : (by : Option Enlistment) (n : ℕ) (some : Bool) (xs ys : List Step) (c d e : Course) → some ≡ not (n == 0) → (some ≡ false → run by xs c ≡ e) → run by ys c ≡ d → run by (if n == 0 then xs else ys) c ≡ (if some then d else e)
+run-any by n some xs ys c d e is first second = flip (n == 0) is
+  where
+    flip : (b : Bool) → some ≡ not b → run by (if b then xs else ys) c ≡ (if some then d else e)
+    flip true not = first not ∙ sym (ap (λ b. if b then d else e) not)
+    flip false not = second ∙ sym (ap (λ b. if b then d else e) not)
+
+-- ---- nobody is told
+
+with-none : (test : Enlistment → Bool) (f : Enlistment → Enlistment) (es : List Enlistment) → list_any (λ e. test e && true) es ≡ false → (with_enlistments test f es ≡ es) × (filter test es ≡ [])
+with-none test f [] none = (refl, refl)
+with-none test f (e ∷ es) none = elim (cases_Bool (test e)) [
+  | inl is ↦ let all = rw is at none in absurd (true≢false all)
+  | inr other ↦ let rest = with-none test f es (let none' = rw other at none in none') in rw other (ap (λ fs. e ∷ fs) rest.0, rest.1)
+]
+
+module _ (by : Option Enlistment) where
+  -- ---- the end
+
+  pub commits-run : (c : Course) → run by commits c ≡ committing c
+  unfolding committing
+  commits-run c =
+      let id = c.transaction.id in
+      let a = event_if c.transaction.is_recorded (Event.Decide id) in
+      let b = event_if (has_changes c.changes) (Event.Done id DonePart.Files) in
+      let d = event_if (has_settings c.settings) (Event.Done id DonePart.Keys) in
+      ap (λ es. ended_if_finished (in_phase (decided (telling (record c { events = es; works = c.works ++ work_of c }) (λ e. takes_part id e && e.is_prepared && e.is_recovered) Notify.Commit (owing commit)) Committed) Committing) Committed)
+      (ap (λ es. es ++ d) (append_assoc c.events a b) ∙ append_assoc c.events (a ++ b) d)
+
+  pub aborts-run : (c : Course) → run by aborts c ≡ aborting c
+  unfolding aborting
+  aborts-run c = refl
+
+  -- ---- all are prepared
+
+  holds-at : (c : Course) (o : Option Enlistment) → superior c ≡ o
+      → run by (if is_some o then Record Fact.Held ∷ Step.Tell Who.Superior Notify.PrepareComplete ∷ Step.Enter Held ∷ [] else (if participants (seen c) == 0 then Step.End Committed ∷ [] else commits)) c ≡ held_or_committing c o
+  holds-at c (Some e) is = ap (λ o. in_phase (telling (record (recording c (held_event c.transaction.id (lasting_of o))) { transaction = record c.transaction { is_recorded = is_some (lasting_of o) || c.transaction.is_recorded } }) (is_its_superior c) Notify.PrepareComplete unchanged) Held) is
+  holds-at c None is = run-if by (participants (seen c) == 0) (Step.End Committed ∷ []) commits c (ended c Committed) (committing c) refl (commits-run c) ∙ ap (λ n. if n == 0 then ended c Committed else committing c) (participants-counted c)
+
+  pub all_readies-run : (c : Course) → run by (all_readies (seen c)) c ≡ all_ready c
+  unfolding all_ready
+  all_readies-run c =
+      let a = event_if (has_changes c.changes) (Event.Ready c.transaction.id (Part.Changes c.changes)) in
+      let b = event_if (has_settings c.settings) (Event.Ready c.transaction.id (Part.Settings c.settings)) in
+      ap (λ es. run by (holds_or_commits (seen c)) (record (readied c) { events = es })) (append_assoc c.events a b) ∙ holds-at (readied c) (superior c) refl
+
+  -- ---- preparing
+
+  all_ready-in : (c : Course) (phase : Phase) → all_ready (in_phase c phase) ≡ all_ready c
+  unfolding all_ready committing ended
+  all_ready-in c phase = held-in (superior c)
+    where
+      held-in : (o : Option Enlistment) → held_or_committing (readied (in_phase c phase)) o ≡ held_or_committing (readied c) o
+      held-in (Some e) = refl
+      held-in None = refl
+
+  pub prepares_all-run : (c : Course) → run by (prepares_all (seen c)) c ≡ preparing c
+  prepares_all-run c = run-any by (counted c (λ e. true)) (some_enlistment c (λ e. true)) _ _ c _ _ (any-counted _ c.enlistments) (λ none. all_readies-run c ∙ sym (ap all_ready (asks-nobody none) ∙ all_ready-in c Preparing)) refl
+    where
+      asks-nobody : some_enlistment c (λ e. true) ≡ false → in_phase (telling c (takes_part c.transaction.id) Notify.Prepare (owing prepare)) Preparing ≡ in_phase c Preparing
+      asks-nobody none =
+          let nobody = with-none (takes_part c.transaction.id) (owing prepare) c.enlistments none in
+          ap (λ es. in_phase (record c { sent = c.sent ++ map (tell Notify.Prepare) (filter (takes_part c.transaction.id) c.enlistments); enlistments = es }) Preparing) nobody.0
+          ∙ ap (λ es. in_phase (record c { sent = c.sent ++ map (tell Notify.Prepare) es }) Preparing) nobody.1
+          ∙ ap (λ xs. in_phase (record c { sent = xs }) Preparing) (append-nil c.sent)
+
+  commits_one-run : (c : Course) → run by (commits_one (seen c)) c ≡ one_participant c
+  commits_one-run c = run-if by (has_changes c.changes) _ _ c _ _ refl (run-if by (has_settings c.settings) _ _ c _ _ refl (run-any by (counted c allows_one_phase) (some_enlistment c allows_one_phase) _ _ c _ _ (any-counted _ c.enlistments) (λ none. prepares_all-run c) refl))
+
+  prepares_alone-run : (c : Course) (n : ℕ) → run by (prepares_alone (seen c) n) c ≡ prepare_alone c n
+  prepares_alone-run c zero = refl
+  prepares_alone-run c (suc zero) = commits_one-run c
+  prepares_alone-run c (suc (suc more)) = prepares_all-run c
+
+  pub prepares-run : (c : Course) → run by (prepares (seen c)) c ≡ to_prepare c
+  unfolding to_prepare
+  prepares-run c = run-if by (is_some (superior c)) _ _ c _ _ (prepares_all-run c) (prepares_alone-run c (participants (seen c)) ∙ ap (prepare_alone c) (participants-counted c))
+
+  -- ---- pre-preparing
+
+  pub goes_after-run : (c : Course) → run by (goes_after (seen c)) c ≡ pre_prepared c
+  unfolding pre_prepared
+  goes_after-run c = run-if by (is_some (superior c)) _ _ c _ _ refl (prepares-run c)
+
+  pub pre_prepares-run : (c : Course) → run by (pre_prepares (seen c)) c ≡ to_pre_prepare c
+  unfolding to_pre_prepare
+  pre_prepares-run c = run-any by (counted c asks_pre_prepare) (some_enlistment c asks_pre_prepare) _ _ c _ _ (any-counted _ c.enlistments) (λ none. goes_after-run c) refl
+
+  pub requests-run : (c : Course) → run by (requests (seen c)) c ≡ to_commit c
+  unfolding to_commit
+  requests-run c = run-if by (is_some (superior c)) _ _ c _ _ refl (pre_prepares-run c)
+
+-- ---- answers
+
+-- where this was the last one that owed an answer it goes on
+on-where_last : (by : Option Enlistment) (last : Bool) (steps : List Step) (c : Course) (next : Course → Course) → someone_owes c ≡ not last → run by steps c ≡ next c → run by (if last then steps else []) c ≡ when_none_owes c next
+on-where_last by true steps c next owes goes = goes ∙ sym (ap (λ b. if b then c else next c) owes)
+on-where_last by false steps c next owes goes = sym (ap (λ b. if b then c else next c) owes)
+
+goes_without-run : (by : Option Enlistment) (phase : Phase) (c : Course) → run by (goes_without phase (seen c)) c ≡ without_its_answer phase c
+goes_without-run by PrePreparing c = goes_after-run by c
+goes_without-run by Preparing c = all_readies-run by c
+goes_without-run by SinglePhase c = refl
+goes_without-run by _ c = refl
+
+ready-run : (c : Course) (e : Enlistment) → run (Some e) (Record Fact.Ready ∷ []) c ≡ ready_of_enlistment c e
+ready-run c e = at (is_durable_at c.managers e.manager)
+  where
+    at : (durable : Bool) → record (recording c (event_if durable (Event.Ready c.transaction.id (enlistment_part e)))) { transaction = record c.transaction { is_recorded = durable || c.transaction.is_recorded } }
+        ≡ (if durable then recorded (recording c (Event.Ready c.transaction.id (enlistment_part e) ∷ [])) else c)
+    at true = refl
+    at false = ap (λ es. record c { events = es }) (append-nil c.events)
+
+-- it goes on where nobody owes an answer then
+on-where_none_owes : (by : Option Enlistment) (steps : List Step) (c : Course) (next : Course → Course) → run by steps c ≡ next c → run by (if not (someone_owes c) then steps else []) c ≡ when_none_owes c next
+on-where_none_owes by steps c next goes = on-where_last by (not (someone_owes c)) steps c next (sym (not_not (someone_owes c))) goes
+  where
+    not_not : (b : Bool) → not (not b) ≡ b
+    not_not true = refl
+    not_not false = refl
+
+module _ (c : Course) (e : Enlistment) (is : IsPart c e) where
+  -- once it has answered so
+  next : Answered → Course
+  next answer = changing_one c e.id (answered answer)
+
+  superior-next : (answer : Answered) → is_some (superior (next answer)) ≡ is_some (superior c)
+  unfolding next
+  superior-next answer = has_superior-kept c (next answer) (superior-with (answered answer) (lasting-answered answer) (has_id e.id) c)
+
+  seen-next : (answer : Answered) → (answered answer e).is_read_only ≡ e.is_read_only → seen (next answer) ≡ record (seen c) { owing = (seen (next answer)).owing }
+  unfolding next
+  seen-next answer still = seen-settled c e is (answered answer) (lasting-answered answer e) still ∙ (λ i. record (seen c) { has_superior = superior-next answer i; owing = (seen (next answer)).owing })
+
+  seen-without : seen (next Answered.ReadOnly) ≡ without (share_of e) (seen c)
+  unfolding next
+  seen-without = seen-left c e is (answered Answered.ReadOnly) refl ∙ (λ i. record (without (share_of e) (seen c)) { has_superior = superior-next Answered.ReadOnly i })
+
+  pub pre_prepare_completes-run : is_some e.owes ≡ true → run (Some e) (pre_prepare_completes (seen c)) c ≡ pre_prepare_answered c e
+  unfolding pre_prepare_answered next
+  pre_prepare_completes-run owed =
+      let d = changing_one c e.id (answered Answered.PrePrepared) in
+      on-where_last (Some e) ((seen c).owing == 1) (goes_after (seen c)) d pre_prepared (owed-less c e is (answered Answered.PrePrepared) owed refl)
+      (ap (λ s. run (Some e) (goes_after s) d) (sym (seen-next Answered.PrePrepared refl)) ∙ goes_after-run (Some e) d)
+
+  pub prepare_completes-run : is_some e.owes ≡ true → run (Some e) (prepare_completes (seen c)) c ≡ prepare_answered c e
+  unfolding prepare_answered next
+  prepare_completes-run owed =
+      let changed = changing_one c e.id (answered Answered.Prepared) in
+      let d = run (Some e) (Record Fact.Ready ∷ []) changed in
+      on-where_last (Some e) ((seen c).owing == 1) (all_readies (seen c)) d all_ready (owed-less c e is (answered Answered.Prepared) owed refl)
+      (ap (λ s. run (Some e) (all_readies s) d) (sym (seen-next Answered.Prepared refl)) ∙ all_readies-run (Some e) d)
+      ∙ ap (λ d. when_none_owes d all_ready) (ready-run changed e)
+
+  pub read_onlies-run : run (Some e) (read_onlies (seen c) (share_of e)) c ≡ read_only_answered c e
+  unfolding read_only_answered next
+  read_onlies-run = where_owed (is_some e.owes) refl
+    where
+      left : Course
+      left = changing_one c e.id (answered Answered.ReadOnly)
+
+      steps : List Step
+      steps = goes_without c.transaction.phase (without (share_of e) (seen c))
+
+      where_owed : (o : Bool) → is_some e.owes ≡ o → run (Some e) (if o && ((seen c).owing == 1) then steps else []) left ≡ (if o then when_none_owes left (without_its_answer c.transaction.phase) else left)
+      where_owed true owed =
+          on-where_last (Some e) ((seen c).owing == 1) steps left (without_its_answer c.transaction.phase) (owed-less c e is (answered Answered.ReadOnly) owed refl)
+          (ap (λ s. run (Some e) (goes_without c.transaction.phase s) left) (sym seen-without) ∙ goes_without-run (Some e) c.transaction.phase left)
+      where_owed false owed = refl
+
+pub rejects_one_phase-run : (c : Course) (e : Enlistment) → run (Some e) rejects_one_phase c ≡ single_phase_rejected c e
+unfolding single_phase_rejected
+rejects_one_phase-run c e = refl
+
+pub commit_completes-run : (c : Course) (e : Enlistment) → run (Some e) (commit_completes c.transaction.phase) c ≡ commit_answered c e
+unfolding commit_answered
+commit_completes-run c e = run-if (Some e) (is_single_phase c.transaction.phase) _ _ (finished c e) _ _ refl refl
+
+pub rollback_completes-run : (c : Course) (e : Enlistment) → run (Some e) rollback_completes c ≡ rollback_answered c e
+unfolding rollback_answered
+rollback_completes-run c e = refl
+
+tells_in-run : (phase : Phase) (c : Course) (e : Enlistment) → run (Some e) (tells_in phase) c ≡ recovered_in phase c e
+tells_in-run InDoubt c e = refl
+tells_in-run Committing c e = refl
+tells_in-run Aborting c e = refl
+tells_in-run _ c e = refl
+
+pub recovers-run : (c : Course) (e : Enlistment) → is_superior e ≡ false → run (Some e) (recovers c.transaction.phase) c ≡ recovered c e
+unfolding recovered
+recovers-run c e other = rw other (tells_in-run c.transaction.phase (recovering c e) e)
+
+pub recovers_superior-run : (c : Course) (e : Enlistment) → is_superior e ≡ true → run (Some e) recovers_superior c ≡ recovered c e
+unfolding recovered
+recovers_superior-run c e is = rw is refl
+
+-- ---- the laws
+
+pub rows_law : RowsLaw
+rows_law = record {
+  commits = commits-run;
+  aborts = aborts-run;
+  all_readies = all_readies-run;
+  prepares = prepares-run;
+  goes_after = goes_after-run;
+  pre_prepares = pre_prepares-run;
+  requests = requests-run;
+  pre_prepare_completes = pre_prepare_completes-run;
+  prepare_completes = prepare_completes-run;
+  read_onlies = read_onlies-run;
+  rejects_one_phase = rejects_one_phase-run;
+  commit_completes = commit_completes-run;
+  rollback_completes = rollback_completes-run;
+  recovers = recovers-run;
+  recovers_superior = recovers_superior-run;
+}
+
+-- the steps of an answer, by who owes once it counts
+abbrev pub once : Course → Enlistment → List Step → (Seen → List Step) → List Step
+once c e first steps = let d = run (Some e) first c in first ++ (if not (someone_owes d) then steps (seen d) else [])
+
+pub pre_prepare_answered-run : (c : Course) (e : Enlistment) → run (Some e) (once c e (Change Answered.PrePrepared ∷ []) goes_after) c ≡ pre_prepare_answered c e
+unfolding pre_prepare_answered
+pre_prepare_answered-run c e = let d = changing_one c e.id (answered Answered.PrePrepared) in on-where_none_owes (Some e) (goes_after (seen d)) d pre_prepared (goes_after-run (Some e) d)
+
+pub prepare_answered-run : (c : Course) (e : Enlistment) → run (Some e) (once c e (Change Answered.Prepared ∷ Record Fact.Ready ∷ []) all_readies) c ≡ prepare_answered c e
+unfolding prepare_answered
+prepare_answered-run c e =
+    let changed = changing_one c e.id (answered Answered.Prepared) in
+    let d = run (Some e) (Record Fact.Ready ∷ []) changed in
+    on-where_none_owes (Some e) (all_readies (seen d)) d all_ready (all_readies-run (Some e) d) ∙ ap (λ d. when_none_owes d all_ready) (ready-run changed e)
+
+-- the steps of an enlistment that takes part no more
+abbrev pub leaving : Course → Enlistment → List Step
+leaving c e = let left = Change Answered.ReadOnly ∷ [] in if is_some e.owes then once c e left (goes_without c.transaction.phase) else left
+
+pub read_only_answered-run : (c : Course) (e : Enlistment) → run (Some e) (leaving c e) c ≡ read_only_answered c e
+unfolding read_only_answered
+read_only_answered-run c e =
+    let d = changing_one c e.id (answered Answered.ReadOnly) in
+    run-if (Some e) (is_some e.owes) _ _ c _ d
+    (on-where_none_owes (Some e) (goes_without c.transaction.phase (seen d)) d (without_its_answer c.transaction.phase) (goes_without-run (Some e) c.transaction.phase d)) refl
+
+-- the steps of an enlistment that recovers
+abbrev pub recovering_in : Phase → Bool → List Step
+recovering_in phase is_superior = if is_superior then recovers_superior else recovers phase
+
+pub recovered-run : (c : Course) (e : Enlistment) → run (Some e) (recovering_in c.transaction.phase (is_superior e)) c ≡ recovered c e
+unfolding recovered
+recovered-run c e = run-if (Some e) (is_superior e) recovers_superior (recovers c.transaction.phase) c _ _ refl (tells_in-run c.transaction.phase (recovering c e) e)
+
+unfoldable pub runs_law : AreProcedures IsRun
+runs_law = record {
+  committing = λ c. record { by = None; steps = commits; is = commits-run None c };
+  aborting = λ c. record { by = None; steps = aborts; is = aborts-run None c };
+  all_ready = λ c. record { by = None; steps = all_readies (seen c); is = all_readies-run None c };
+  to_prepare = λ c. record { by = None; steps = prepares (seen c); is = prepares-run None c };
+  pre_prepared = λ c. record { by = None; steps = goes_after (seen c); is = goes_after-run None c };
+  to_pre_prepare = λ c. record { by = None; steps = pre_prepares (seen c); is = pre_prepares-run None c };
+  to_commit = λ c. record { by = None; steps = requests (seen c); is = requests-run None c };
+  pre_prepare_answered = λ c e. record { by = Some e; steps = once c e (Change Answered.PrePrepared ∷ []) goes_after; is = pre_prepare_answered-run c e };
+  prepare_answered = λ c e. record { by = Some e; steps = once c e (Change Answered.Prepared ∷ Record Fact.Ready ∷ []) all_readies; is = prepare_answered-run c e };
+  read_only_answered = λ c e. record { by = Some e; steps = leaving c e; is = read_only_answered-run c e };
+  single_phase_rejected = λ c e. record { by = Some e; steps = rejects_one_phase; is = rejects_one_phase-run c e };
+  commit_answered = λ c e. record { by = Some e; steps = commit_completes c.transaction.phase; is = commit_completes-run c e };
+  rollback_answered = λ c e. record { by = Some e; steps = rollback_completes; is = rollback_completes-run c e };
+  recovered = λ c e. record { by = Some e; steps = recovering_in c.transaction.phase (is_superior e); is = recovered-run c e };
+}
+
+-- what holds of every run holds of every procedure
+pub of_runs : (R : Course → Course → Type 0) → ((c d : Course) → IsRun c d → R c d) → AreProcedures R
+of_runs R each = record {
+  committing = λ c. each c _ (runs_law.committing c);
+  aborting = λ c. each c _ (runs_law.aborting c);
+  all_ready = λ c. each c _ (runs_law.all_ready c);
+  to_prepare = λ c. each c _ (runs_law.to_prepare c);
+  pre_prepared = λ c. each c _ (runs_law.pre_prepared c);
+  to_pre_prepare = λ c. each c _ (runs_law.to_pre_prepare c);
+  to_commit = λ c. each c _ (runs_law.to_commit c);
+  pre_prepare_answered = λ c e. each c _ (runs_law.pre_prepare_answered c e);
+  prepare_answered = λ c e. each c _ (runs_law.prepare_answered c e);
+  read_only_answered = λ c e. each c _ (runs_law.read_only_answered c e);
+  single_phase_rejected = λ c e. each c _ (runs_law.single_phase_rejected c e);
+  commit_answered = λ c e. each c _ (runs_law.commit_answered c e);
+  rollback_answered = λ c e. each c _ (runs_law.rollback_answered c e);
+  recovered = λ c e. each c _ (runs_law.recovered c e);
+}

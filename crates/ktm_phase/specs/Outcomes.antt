@@ -1,0 +1,90 @@
+-- What a transaction on its way tells of its outcome is so, and an outcome that is known stays.
+use Rattle.std.specs.Prelude.{◌≡◌, ⊤, ◌⊎◌, Bool, true, false, List, [], ◌∷◌, All, Option, Some, None}
+use Rattle.ktm_base.specs.declared.notify.Notify.{Notify}
+use Rattle.ktm_types.specs.declared.object.Phase.{Phase}
+use Rattle.ktm_world.specs.Enlistments.{Enlistment, Sent, is_superior}
+use Rattle.ktm_world.specs.OneOutcome.{told_by, told_outcome}
+use Rattle.ktm_world.specs.Phases.{Course, aborting, all_ready, commit_answered, committing, end_notice, pre_prepare_answered, pre_prepared, prepare_answered, read_only_answered, recovered, rollback_answered, single_phase_rejected, to_commit, to_pre_prepare, to_prepare}
+use Rattle.ktm_phase.specs.declared.phase.PhaseInput.{PhaseInput}
+use Rattle.ktm_phase.specs.declared.phase.Seen.{Seen}
+use Rattle.ktm_phase.specs.declared.step.Step.{Step}
+use Rattle.ktm_phase.specs.Rows.{row}
+use Rattle.ktm_phase.specs.Run.{run}
+
+-- ---- what is known of an outcome: nothing, that it is a commit, or that it is none
+
+-- nothing is known, or this
+abbrev pub MayBe : Option Bool → Option Bool → Type 0
+MayBe known outcome = (known ≡ None) ⊎ (known ≡ outcome)
+
+-- the notification tells nothing of an outcome, or what is known
+abbrev pub TellsOnly : Option Bool → Notify → Type 0
+TellsOnly known kind = (told_by kind ≡ None) ⊎ (told_by kind ≡ known)
+
+-- where so much is known, the steps tell nothing else of the outcome, and decide nothing else
+abbrev pub AreTrue : Option Bool → List Step → Type 0
+AreTrue known [] = ⊤
+AreTrue known (Step.Tell who kind ∷ steps) = TellsOnly known kind × AreTrue known steps
+AreTrue known (Step.Ask who kind owed ∷ steps) = TellsOnly known kind × AreTrue known steps
+AreTrue known (Step.Decide outcome ∷ steps) = MayBe known (told_outcome outcome) × AreTrue (told_outcome outcome) steps
+AreTrue known (Step.End outcome ∷ steps) = MayBe known (told_outcome outcome) × TellsOnly (told_outcome outcome) (end_notice outcome) × AreTrue (told_outcome outcome) steps
+AreTrue known (Step.EndWhereFinished outcome ∷ steps) =
+    MayBe known (told_outcome outcome) × TellsOnly (told_outcome outcome) (end_notice outcome) × AreTrue known steps × AreTrue (told_outcome outcome) steps
+AreTrue known (_ ∷ steps) = AreTrue known steps
+
+-- ---- courses
+
+-- what is known of its outcome
+abbrev pub known : Course → Option Bool
+known c = told_outcome c.transaction.outcome
+
+-- what it has told of the outcome is so
+abbrev pub IsTrue : Course → Type 0
+IsTrue c = All (λ (s : Sent). TellsOnly (known c) s.note.kind) c.sent
+
+-- what it has told is so, and what was known before is known still
+pub record StaysTrue (before : Option Bool) (d : Course) : Type 0 where
+  pub tells : IsTrue d
+  pub stays : MayBe before (known d)
+
+-- ---- what may be known when something comes
+
+-- in the phases of an outcome this one is known
+abbrev pub IsKnownIn : Phase → Option Bool → Type 0
+IsKnownIn Phase.Committing known = known ≡ Some true
+IsKnownIn Phase.Aborting known = known ≡ Some false
+IsKnownIn _ known = ⊤
+
+-- what may be known in this phase when this comes: nothing, unless an enlistment has finished or recovers
+abbrev pub MayCome : Option Bool → Phase → PhaseInput → Type 0
+MayCome known phase PhaseInput.SinglePhaseReject = ⊤
+MayCome known phase PhaseInput.CommitComplete = MayBe known (Some true)
+MayCome known phase PhaseInput.RollbackComplete = MayBe known (Some false)
+MayCome known phase PhaseInput.Recover = IsKnownIn phase known
+MayCome known phase PhaseInput.RecoverSuperior = ⊤
+MayCome known phase _ = known ≡ None
+
+-- what was true before stays so
+abbrev pub KeepsTrue : Course → Course → Type 0
+KeepsTrue c d = IsTrue c → StaysTrue (known c) d
+
+-- what steps, rows and procedures tell is so, and none takes back what is known
+pub record OutcomeLaw : Type 0 where
+  pub steps : (by : Option Enlistment) (steps : List Step) (c : Course) → AreTrue (known c) steps → KeepsTrue c (run by steps c)
+  pub rows : (s : Seen) (input : PhaseInput) (known : Option Bool) → MayCome known s.phase input → AreTrue known (row s input)
+  -- procedures that begin while nothing is known
+  pub committing : (c : Course) → known c ≡ None → KeepsTrue c (committing c)
+  pub aborting : (c : Course) → known c ≡ None → KeepsTrue c (aborting c)
+  pub all_ready : (c : Course) → known c ≡ None → KeepsTrue c (all_ready c)
+  pub to_prepare : (c : Course) → known c ≡ None → KeepsTrue c (to_prepare c)
+  pub pre_prepared : (c : Course) → known c ≡ None → KeepsTrue c (pre_prepared c)
+  pub to_pre_prepare : (c : Course) → known c ≡ None → KeepsTrue c (to_pre_prepare c)
+  pub to_commit : (c : Course) → known c ≡ None → KeepsTrue c (to_commit c)
+  pub pre_prepare_answered : (c : Course) (e : Enlistment) → known c ≡ None → KeepsTrue c (pre_prepare_answered c e)
+  pub prepare_answered : (c : Course) (e : Enlistment) → known c ≡ None → KeepsTrue c (prepare_answered c e)
+  pub read_only_answered : (c : Course) (e : Enlistment) → known c ≡ None → KeepsTrue c (read_only_answered c e)
+  -- and the others
+  pub single_phase_rejected : (c : Course) (e : Enlistment) → KeepsTrue c (single_phase_rejected c e)
+  pub commit_answered : (c : Course) (e : Enlistment) → MayBe (known c) (Some true) → KeepsTrue c (commit_answered c e)
+  pub rollback_answered : (c : Course) (e : Enlistment) → MayBe (known c) (Some false) → KeepsTrue c (rollback_answered c e)
+  pub recovered : (c : Course) (e : Enlistment) → IsKnownIn c.transaction.phase (known c) → KeepsTrue c (recovered c e)
