@@ -65,6 +65,11 @@ answer_to Owed.Prepare = prepare
 answer_to Owed.Commit = commit
 answer_to Owed.Rollback = rollback
 
+-- the same, if one is owed
+abbrev pub answer_owed : Option Owed → Option Answer
+answer_owed None = None
+answer_owed (Some owed) = Some (answer_to owed)
+
 -- what becomes of an enlistment that has answered so
 abbrev pub answered : Answered → Enlistment → Enlistment
 answered PrePrepared e = record e { owes = None }

@@ -2,13 +2,17 @@
 //! that whoever holds the enlistments carries out.
 #![tactic(auto)]
 
+mod enlistment;
 mod laws;
 mod phase;
 mod rows;
 mod step;
+mod superior;
 
+pub use enlistment::{Enlistment, Vote};
 pub use laws::{
     law_of_events_ahead, law_of_fading, law_of_outcomes, law_of_rows, law_of_runs,
 };
 pub use phase::{PhaseInput, Seen, Share};
 pub use step::{Answered, Fact, Owed, Step, Steps, Who};
+pub use superior::SuperiorCall;

@@ -1,0 +1,87 @@
+-- Which calls of an enlistment its state and the phase of its transaction allow, and what comes to the transaction by them.
+use Rattle.std.specs.Prelude.{◌≡◌, ⊤, ◌&&◌, ◌||◌, not, Bool, true, false, List, [], ◌∷◌, Option, Some, None, Result, Ok, Err, if◌then◌else◌}
+use Rattle.ktm_base.specs.declared.id.Label.{Label}
+use Rattle.ktm_base.specs.declared.id.Pid.{Pid}
+use Rattle.ktm_base.specs.declared.refusal.Refusal.{Refusal}
+use Rattle.ktm_base.specs.declared.refusal.Refusal.TheVariants.{EnlistmentNotSuperior, TransactionRequestNotValid}
+use Rattle.ktm_types.specs.declared.command.Command.{Command}
+use Rattle.ktm_types.specs.declared.object.Phase.{Phase}
+use Rattle.ktm_types.specs.declared.object.Phase.TheVariants.{InDoubt}
+use Rattle.ktm_types.specs.declared.object.Transaction.{Transaction}
+use Rattle.ktm_types.specs.declared.reply.Reply.TheVariants.{Done}
+use Rattle.ktm_world.specs.Decide.{call_of}
+use Rattle.ktm_world.specs.Enlistments.{Enlistment, is_open_for_votes, is_superior, owes_commit, owes_pre_prepare, owes_prepare, owes_rollback}
+use Rattle.ktm_world.specs.Labels.{enlistment_named}
+use Rattle.ktm_world.specs.Outcome.{Outcome, first_refusal}
+use Rattle.ktm_world.specs.Phases.{Course, is_single_phase}
+use Rattle.ktm_world.specs.Present.{Present}
+use Rattle.ktm_world.specs.TransactionCalls.{arrived, before_pre_prepare, before_prepare, course_of, is_voting, lets_superior_roll_back, transaction_in, waits_for_superior}
+use Rattle.ktm_phase.specs.declared.enlistment.Vote.{Vote}
+use Rattle.ktm_phase.specs.declared.phase.PhaseInput.{PhaseInput}
+use Rattle.ktm_phase.specs.declared.step.Owed.{Owed}
+use Rattle.ktm_phase.specs.declared.superior.SuperiorCall.{SuperiorCall}
+use Rattle.ktm_phase.specs.Laws.{IsPart}
+use Rattle.ktm_phase.specs.Rows.{row}
+use Rattle.ktm_phase.specs.Run.{run, seen, share_of}
+
+-- ---- replies
+
+-- does it owe an answer to this
+abbrev pub owes : Owed → Enlistment → Bool
+owes Owed.PrePrepare e = owes_pre_prepare e
+owes Owed.Prepare e = owes_prepare e
+owes Owed.Commit e = owes_commit e
+owes Owed.Rollback e = owes_rollback e
+
+-- an ordinary enlistment that has not voted yet, in a phase in which it may
+abbrev pub may_vote : Phase → Enlistment → Bool
+may_vote phase e = not (is_superior e) && is_open_for_votes e && is_voting phase
+
+-- is the reply allowed in this phase
+abbrev pub allows : Phase → Enlistment → Vote → Bool
+allows phase e Vote.PrePrepareComplete = owes Owed.PrePrepare e
+allows phase e Vote.PrepareComplete = owes Owed.Prepare e
+allows phase e Vote.ReadOnly = may_vote phase e
+allows phase e Vote.SinglePhaseReject = is_single_phase phase && owes Owed.Commit e
+allows phase e Vote.CommitComplete = owes Owed.Commit e
+allows phase e Vote.RollbackComplete = owes Owed.Rollback e
+allows phase e Vote.Rollback = if is_superior e then lets_superior_roll_back phase else may_vote phase e
+
+-- what comes to the transaction by a reply
+abbrev pub input_of : Enlistment → Vote → PhaseInput
+input_of e Vote.PrePrepareComplete = PhaseInput.PrePrepareComplete
+input_of e Vote.PrepareComplete = PhaseInput.PrepareComplete
+input_of e Vote.ReadOnly = PhaseInput.ReadOnly (share_of e)
+input_of e Vote.SinglePhaseReject = PhaseInput.SinglePhaseReject
+input_of e Vote.CommitComplete = PhaseInput.CommitComplete
+input_of e Vote.RollbackComplete = PhaseInput.RollbackComplete
+input_of e Vote.Rollback = PhaseInput.Rollback
+
+-- what a reply comes to in this phase
+abbrev pub replied : Phase → Enlistment → Vote → Result PhaseInput Refusal
+replied phase e vote = if allows phase e vote then Ok (input_of e vote) else Err TransactionRequestNotValid
+
+-- what RecoverEnlistment comes to in this phase: it was brought back and is not recovered yet, a superior's transaction being in doubt
+abbrev pub recovered : Phase → Enlistment → Result PhaseInput Refusal
+recovered phase e =
+    if e.is_recovered then Err TransactionRequestNotValid else
+    (if is_superior e then elim phase as (λ _. Result PhaseInput Refusal) [ InDoubt ↦ Ok PhaseInput.RecoverSuperior | _ ↦ Err TransactionRequestNotValid ] else Ok PhaseInput.Recover)
+
+-- ---- calls of superiors
+
+-- does this phase let a superior make the call
+abbrev pub lets : Phase → SuperiorCall → Bool
+lets phase SuperiorCall.PrePrepare = before_pre_prepare phase
+lets phase SuperiorCall.Prepare = before_prepare phase
+lets phase SuperiorCall.Commit = waits_for_superior phase
+
+-- what comes to the transaction by a superior's call
+abbrev pub input_by : SuperiorCall → PhaseInput
+input_by SuperiorCall.PrePrepare = PhaseInput.PrePrepare
+input_by SuperiorCall.Prepare = PhaseInput.Prepare
+input_by SuperiorCall.Commit = PhaseInput.Commit
+
+-- what a superior's call comes to in this phase
+abbrev pub commanded : Phase → Enlistment → SuperiorCall → Result PhaseInput Refusal
+commanded phase e call =
+    if is_superior e then (if lets phase call then Ok (input_by call) else Err TransactionRequestNotValid) else Err EnlistmentNotSuperior

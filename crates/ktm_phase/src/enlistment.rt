@@ -1,0 +1,212 @@
+// An enlistment, and which replies its state and the phase of its transaction allow.
+ghost use Rattle.std.specs.Prelude.{◌≡◌};
+ghost use Rattle.ktm_world.specs.Enlistments.{is_superior};
+ghost use Rattle.ktm_world.specs.TransactionCalls.{is_voting, lets_superior_roll_back};
+ghost use Rattle.ktm_phase.specs.Replies.{allows, input_of, may_vote, owes, recovered, replied};
+ghost use Rattle.ktm_phase.specs.Run.{share_of};
+
+use crate::phase::{PhaseInput, Share};
+use crate::step::Owed;
+use ktm_base::{Bytes, Id, Refusal};
+use ktm_types::{EnlistmentKind, Phase};
+use std::marker::Model;
+
+/// What a resource manager has to do with a transaction.
+#[derive(Drop)]
+pub struct Enlistment {
+    pub id: Id,
+    pub manager: Id,
+    pub transaction: Id,
+    pub kind: EnlistmentKind,
+    /// What it owes an answer to, if it owes one.
+    pub owes: Option<Owed>,
+    /// It takes no part in the outcome.
+    pub is_read_only: bool,
+    /// It can commit and can roll back.
+    pub is_prepared: bool,
+    /// It has answered CommitComplete or RollbackComplete.
+    pub is_finished: bool,
+    /// False where a restart brought it back, until it recovers.
+    pub is_recovered: bool,
+    /// The recovery information.
+    pub information: Bytes,
+}
+
+impl Model for Enlistment {
+    ghost use Rattle.ktm_world.specs.Enlistments.{Enlistment};
+    ghost use Rattle.ktm_phase.specs.Run.{answer_owed};
+
+    ghost Value = { Enlistment };
+
+    ghost view = { λ e. record {
+      id = e.id;
+      manager = e.manager;
+      transaction = e.transaction;
+      kind = e.kind;
+      owes = answer_owed e.owes;
+      is_read_only = e.is_read_only;
+      is_prepared = e.is_prepared;
+      is_finished = e.is_finished;
+      is_recovered = e.is_recovered;
+      information = e.information;
+    } };
+}
+
+/// A reply of an enlistment.
+#[derive(Clone, Copy)]
+pub enum Vote {
+    /// It has pre-prepared.
+    PrePrepareComplete,
+    /// It can commit and can roll back.
+    PrepareComplete,
+    /// It takes no part in the outcome.
+    ReadOnly,
+    /// It wants two phases.
+    SinglePhaseReject,
+    /// It has committed.
+    CommitComplete,
+    /// It has rolled back.
+    RollbackComplete,
+    /// The transaction is to roll back; a superior may ask for that too.
+    Rollback,
+}
+
+// The phases in which an ordinary enlistment may still vote.
+fn is_voting(phase: Phase) -> bool
+    ensures { result ≡ is_voting phase }
+{
+    match phase {
+        Phase::Active
+        | Phase::Requested
+        | Phase::PrePreparing
+        | Phase::PrePrepared
+        | Phase::Preparing
+        | Phase::SinglePhase => true,
+        _ => false,
+    }
+}
+
+// The phases in which a superior may roll back.
+fn lets_superior_roll_back(phase: Phase) -> bool
+    ensures { result ≡ lets_superior_roll_back phase }
+{
+    match phase {
+        Phase::Active
+        | Phase::Requested
+        | Phase::PrePreparing
+        | Phase::PrePrepared
+        | Phase::Preparing
+        | Phase::Held
+        | Phase::InDoubt => true,
+        _ => false,
+    }
+}
+
+impl Enlistment {
+    /// What the reply comes to, where it is allowed in this phase of the transaction.
+    pub fn reply(&self, phase: Phase, vote: Vote) -> Result<PhaseInput, Refusal>
+        ensures { result ≡ replied phase self.now vote }
+    {
+        if self.allows(phase, vote) {
+            Ok(self.input(vote))
+        } else {
+            Err(Refusal::TransactionRequestNotValid)
+        }
+    }
+
+    /// What RecoverEnlistment comes to, where it is allowed in this phase of the transaction.
+    pub fn recover(&self, phase: Phase) -> Result<PhaseInput, Refusal>
+        ensures { result ≡ recovered phase self.now }
+    {
+        let is_in_doubt = match phase {
+            Phase::InDoubt => true,
+            _ => false,
+        };
+        match (self.is_recovered, self.is_superior(), is_in_doubt) {
+            (false, false, _) => Ok(PhaseInput::Recover),
+            (false, true, true) => Ok(PhaseInput::RecoverSuperior),
+            _ => Err(Refusal::TransactionRequestNotValid),
+        }
+    }
+
+    /// Whether it is the superior of its transaction.
+    pub fn is_superior(&self) -> bool
+        ensures { result ≡ is_superior self.now }
+    {
+        match self.kind {
+            EnlistmentKind::Superior => true,
+            _ => false,
+        }
+    }
+
+    // Is the reply allowed in this phase.
+    fn allows(&self, phase: Phase, vote: Vote) -> bool
+        ensures { result ≡ allows phase self.now vote }
+    {
+        match vote {
+            Vote::PrePrepareComplete => self.owes(Owed::PrePrepare),
+            Vote::PrepareComplete => self.owes(Owed::Prepare),
+            Vote::ReadOnly => self.may_vote(phase),
+            Vote::SinglePhaseReject => match phase {
+                Phase::SinglePhase => self.owes(Owed::Commit),
+                _ => false,
+            },
+            Vote::CommitComplete => self.owes(Owed::Commit),
+            Vote::RollbackComplete => self.owes(Owed::Rollback),
+            Vote::Rollback if self.is_superior() => lets_superior_roll_back(phase),
+            Vote::Rollback => self.may_vote(phase),
+        }
+    }
+
+    // Is it an ordinary enlistment that has not voted yet, in a phase in which it may.
+    fn may_vote(&self, phase: Phase) -> bool
+        ensures { result ≡ may_vote phase self.now }
+    {
+        !self.is_superior() && !self.is_read_only && !self.is_prepared && is_voting(phase)
+    }
+
+    // Does it owe this answer.
+    fn owes(&self, owed: Owed) -> bool
+        ensures { result ≡ owes owed self.now }
+    {
+        match (owed, self.owes) {
+            (Owed::PrePrepare, Some(Owed::PrePrepare)) => true,
+            (Owed::Prepare, Some(Owed::Prepare)) => true,
+            (Owed::Commit, Some(Owed::Commit)) => true,
+            (Owed::Rollback, Some(Owed::Rollback)) => true,
+            _ => false,
+        }
+    }
+
+    // What comes to the transaction by the reply.
+    fn input(&self, vote: Vote) -> PhaseInput
+        ensures { result ≡ input_of self.now vote }
+    {
+        match vote {
+            Vote::PrePrepareComplete => PhaseInput::PrePrepareComplete,
+            Vote::PrepareComplete => PhaseInput::PrepareComplete,
+            Vote::ReadOnly => PhaseInput::ReadOnly(self.share()),
+            Vote::SinglePhaseReject => PhaseInput::SinglePhaseReject,
+            Vote::CommitComplete => PhaseInput::CommitComplete,
+            Vote::RollbackComplete => PhaseInput::RollbackComplete,
+            Vote::Rollback => PhaseInput::Rollback,
+        }
+    }
+
+    // What it counts for, where it takes part.
+    fn share(&self) -> Share
+        ensures { result ≡ share_of self.now }
+    {
+        Share {
+            asks: match self.kind {
+                EnlistmentKind::PrePrepare | EnlistmentKind::Both => true,
+                _ => false,
+            },
+            allows_one_phase: match self.kind {
+                EnlistmentKind::SinglePhase | EnlistmentKind::Both => true,
+                _ => false,
+            },
+            owes: self.owes.is_some(),
+        }
+    }
+}
