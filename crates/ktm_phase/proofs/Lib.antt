@@ -4,3 +4,4 @@ mod Table
 mod Ahead
 mod Fading
 mod Outcomes
+mod Calls

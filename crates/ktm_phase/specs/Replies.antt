@@ -57,15 +57,25 @@ input_of e Vote.CommitComplete = PhaseInput.CommitComplete
 input_of e Vote.RollbackComplete = PhaseInput.RollbackComplete
 input_of e Vote.Rollback = PhaseInput.Rollback
 
+-- this comes where it is allowed
+abbrev pub if_allowed : Bool → PhaseInput → Result PhaseInput Refusal
+if_allowed is_allowed input = if is_allowed then Ok input else Err TransactionRequestNotValid
+
 -- what a reply comes to in this phase
 abbrev pub replied : Phase → Enlistment → Vote → Result PhaseInput Refusal
-replied phase e vote = if allows phase e vote then Ok (input_of e vote) else Err TransactionRequestNotValid
+replied phase e vote = if_allowed (allows phase e vote) (input_of e vote)
 
--- what RecoverEnlistment comes to in this phase: it was brought back and is not recovered yet, a superior's transaction being in doubt
+-- does a transaction in this phase wait for its superior after a restart
+abbrev pub is_in_doubt : Phase → Bool
+is_in_doubt phase = elim phase as (λ _. Bool) [ InDoubt ↦ true | _ ↦ false ]
+
+-- it was brought back and is not recovered yet, a superior's transaction being in doubt
+abbrev pub may_recover : Phase → Enlistment → Bool
+may_recover phase e = not e.is_recovered && (not (is_superior e) || is_in_doubt phase)
+
+-- what RecoverEnlistment comes to in this phase
 abbrev pub recovered : Phase → Enlistment → Result PhaseInput Refusal
-recovered phase e =
-    if e.is_recovered then Err TransactionRequestNotValid else
-    (if is_superior e then elim phase as (λ _. Result PhaseInput Refusal) [ InDoubt ↦ Ok PhaseInput.RecoverSuperior | _ ↦ Err TransactionRequestNotValid ] else Ok PhaseInput.Recover)
+recovered phase e = if_allowed (may_recover phase e) (if is_superior e then PhaseInput.RecoverSuperior else PhaseInput.Recover)
 
 -- ---- calls of superiors
 
@@ -84,4 +94,4 @@ input_by SuperiorCall.Commit = PhaseInput.Commit
 -- what a superior's call comes to in this phase
 abbrev pub commanded : Phase → Enlistment → SuperiorCall → Result PhaseInput Refusal
 commanded phase e call =
-    if is_superior e then (if lets phase call then Ok (input_by call) else Err TransactionRequestNotValid) else Err EnlistmentNotSuperior
+    if is_superior e then if_allowed (lets phase call) (input_by call) else Err EnlistmentNotSuperior

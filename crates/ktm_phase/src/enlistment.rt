@@ -2,7 +2,7 @@
 ghost use Rattle.std.specs.Prelude.{◌≡◌};
 ghost use Rattle.ktm_world.specs.Enlistments.{is_superior};
 ghost use Rattle.ktm_world.specs.TransactionCalls.{is_voting, lets_superior_roll_back};
-ghost use Rattle.ktm_phase.specs.Replies.{allows, input_of, may_vote, owes, recovered, replied};
+ghost use Rattle.ktm_phase.specs.Replies.{allows, if_allowed, input_of, is_in_doubt, may_vote, owes, recovered, replied};
 ghost use Rattle.ktm_phase.specs.Run.{share_of};
 
 use crate::phase::{PhaseInput, Share};
@@ -71,6 +71,27 @@ pub enum Vote {
     Rollback,
 }
 
+// This comes where it is allowed.
+pub(crate) fn if_allowed(is_allowed: bool, input: PhaseInput) -> Result<PhaseInput, Refusal>
+    ensures { result ≡ if_allowed is_allowed input }
+{
+    if is_allowed {
+        Ok(input)
+    } else {
+        Err(Refusal::TransactionRequestNotValid)
+    }
+}
+
+// Does a transaction in this phase wait for its superior after a restart.
+fn is_in_doubt(phase: Phase) -> bool
+    ensures { result ≡ is_in_doubt phase }
+{
+    match phase {
+        Phase::InDoubt => true,
+        _ => false,
+    }
+}
+
 // The phases in which an ordinary enlistment may still vote.
 fn is_voting(phase: Phase) -> bool
     ensures { result ≡ is_voting phase }
@@ -107,25 +128,19 @@ impl Enlistment {
     pub fn reply(&self, phase: Phase, vote: Vote) -> Result<PhaseInput, Refusal>
         ensures { result ≡ replied phase self.now vote }
     {
-        if self.allows(phase, vote) {
-            Ok(self.input(vote))
-        } else {
-            Err(Refusal::TransactionRequestNotValid)
-        }
+        if_allowed(self.allows(phase, vote), self.input(vote))
     }
 
     /// What RecoverEnlistment comes to, where it is allowed in this phase of the transaction.
     pub fn recover(&self, phase: Phase) -> Result<PhaseInput, Refusal>
         ensures { result ≡ recovered phase self.now }
     {
-        let is_in_doubt = match phase {
-            Phase::InDoubt => true,
-            _ => false,
-        };
-        match (self.is_recovered, self.is_superior(), is_in_doubt) {
-            (false, false, _) => Ok(PhaseInput::Recover),
-            (false, true, true) => Ok(PhaseInput::RecoverSuperior),
-            _ => Err(Refusal::TransactionRequestNotValid),
+        let is_superior = self.is_superior();
+        let is_allowed = !self.is_recovered && (!is_superior || is_in_doubt(phase));
+        if is_superior {
+            if_allowed(is_allowed, PhaseInput::RecoverSuperior)
+        } else {
+            if_allowed(is_allowed, PhaseInput::Recover)
         }
     }
 

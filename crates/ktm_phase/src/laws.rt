@@ -1,4 +1,5 @@
 // Laws of the phase table, each the contract of a function that does nothing.
+ghost use Rattle.ktm_phase.specs.Calls.{CallsLaw};
 ghost use Rattle.ktm_phase.specs.Laws.{EventsAheadLaw, RowsLaw};
 ghost use Rattle.ktm_phase.specs.Outcomes.{OutcomeLaw};
 ghost use Rattle.ktm_phase.specs.Runs.{AreProcedures, FadingLaw, IsRun};
@@ -26,4 +27,9 @@ pub fn law_of_fading()
 /// What is told of an outcome is so, and an outcome that is known stays.
 pub fn law_of_outcomes()
     ensures { OutcomeLaw }
+{}
+
+/// Each call on an enlistment is refused by the tests of replies, and else leads its transaction by a row.
+pub fn law_of_calls()
+    ensures { CallsLaw }
 {}

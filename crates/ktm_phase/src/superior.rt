@@ -2,7 +2,7 @@
 ghost use Rattle.std.specs.Prelude.{◌≡◌};
 ghost use Rattle.ktm_phase.specs.Replies.{commanded, lets, input_by};
 
-use crate::enlistment::Enlistment;
+use crate::enlistment::{Enlistment, if_allowed};
 use crate::phase::PhaseInput;
 use ktm_base::Refusal;
 use ktm_types::Phase;
@@ -23,12 +23,10 @@ impl SuperiorCall {
     pub fn step(self, e: &Enlistment, phase: Phase) -> Result<PhaseInput, Refusal>
         ensures { result ≡ commanded phase e.now self }
     {
-        if !e.is_superior() {
-            Err(Refusal::EnlistmentNotSuperior)
-        } else if self.is_let(phase) {
-            Ok(self.input())
+        if e.is_superior() {
+            if_allowed(self.is_let(phase), self.input())
         } else {
-            Err(Refusal::TransactionRequestNotValid)
+            Err(Refusal::EnlistmentNotSuperior)
         }
     }
 
