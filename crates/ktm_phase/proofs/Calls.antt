@@ -1,6 +1,6 @@
 -- The calls of the model come to their rows.
-use Rattle.std.specs.Prelude.{if◌then◌else◌, ⊤}
-use Rattle.std.proofs.Common.{◌≡◌, ◌&&◌, ◌||◌, not, Bool, true, false, List, [], ◌∷◌, Option, Some, None, is_some, Result, Ok, Err, refl, sym, ◌∙◌, ap, subst, inl, inr}
+use Rattle.std.specs.Prelude.{if◌then◌else◌}
+use Rattle.std.proofs.Common.{◌≡◌, ◌&&◌, ◌||◌, not, Bool, true, false, Option, Some, None, is_some, Result, Ok, Err, refl, sym, ◌∙◌, ap, subst}
 use Rattle.std.proofs.lemmas.Bool.{true≢false}
 use Rattle.ktm_base.specs.declared.id.Label.{Label}
 use Rattle.ktm_base.specs.declared.id.Pid.{Pid}
@@ -8,21 +8,19 @@ use Rattle.ktm_base.specs.declared.refusal.Refusal.{Refusal}
 use Rattle.ktm_base.specs.declared.refusal.Refusal.TheVariants.{EnlistmentNotSuperior, TransactionRequestNotValid}
 use Rattle.ktm_types.specs.declared.command.Command.{Command}
 use Rattle.ktm_types.specs.declared.object.Phase.{Phase}
-use Rattle.ktm_types.specs.declared.object.Phase.TheVariants.{InDoubt}
 use Rattle.ktm_types.specs.declared.object.Transaction.{Transaction}
 use Rattle.ktm_types.specs.declared.reply.Reply.TheVariants.{Done}
 use Rattle.ktm_world.specs.Decide.{call_of}
 use Rattle.ktm_world.specs.Enlistments.{Enlistment, Owed, is_open_for_votes, is_superior, owes_commit, owes_pre_prepare, owes_prepare, owes_rollback}
 use Rattle.ktm_world.specs.Labels.{enlistment_named, holds_of}
-use Rattle.ktm_world.specs.Outcome.{Outcome, first_refusal}
+use Rattle.ktm_world.specs.Outcome.{first_refusal}
 use Rattle.ktm_world.specs.Phases.{Course, aborting, commit_answered, committing, is_single_phase, pre_prepare_answered, prepare_answered, read_only_answered, recovered as recovered_by, rollback_answered, single_phase_rejected, to_pre_prepare, to_prepare}
 use Rattle.ktm_world.specs.Present.{Present}
-use Rattle.ktm_world.specs.TransactionCalls.{aborted_by, answering, arrived, before_pre_prepare, before_prepare, commit_complete, commit_enlistment, commit_of, commit_reply, course_of, enlistment_tests, goes_on, is_in_doubt, is_voting, lets_superior_roll_back, may_recover as may_recover_in, may_reject_one_phase, may_roll_back_by, may_vote as may_vote_in, phase_passes, pre_prepare_complete, pre_prepare_enlistment, prepare_complete, prepare_enlistment, read_only_enlistment, recover_enlistment, rollback_complete, rollback_enlistment, single_phase_reject, superior_tests, transaction_in, waits_for_superior}
+use Rattle.ktm_world.specs.TransactionCalls.{answering, arrived, before_pre_prepare, before_prepare, commit_complete, commit_enlistment, commit_reply, course_of, enlistment_tests, goes_on, is_in_doubt, is_voting, lets_superior_roll_back, may_recover as may_recover_in, may_reject_one_phase, may_roll_back_by, may_vote as may_vote_in, phase_passes, pre_prepare_complete, pre_prepare_enlistment, prepare_complete, prepare_enlistment, read_only_enlistment, recover_enlistment, rollback_complete, rollback_enlistment, single_phase_reject, superior_tests, waits_for_superior}
 use Rattle.ktm_phase.specs.declared.enlistment.Vote.{Vote}
 use Rattle.ktm_phase.specs.declared.phase.PhaseInput.{PhaseInput}
 use Rattle.ktm_phase.specs.declared.superior.SuperiorCall.{SuperiorCall}
 use Rattle.ktm_phase.specs.Calls.{CallsLaw, ComesTo, Counts, Names, course_by, led, refusal_in, reply_call, superior_call}
-use Rattle.ktm_phase.specs.Laws.{IsPart}
 use Rattle.ktm_phase.specs.Replies.{allows, commanded, if_allowed, input_of, may_recover, may_vote, recovered, replied}
 use Rattle.ktm_phase.proofs.Table.{rows_law}
 

@@ -1,21 +1,17 @@
 -- What counts of a course once an enlistment that takes part has answered.
 use Rattle.std.specs.Prelude.{if◌then◌else◌, cond}
-use Rattle.std.proofs.Common.{◌≡◌, ℕ, ◌+◌, ◌-◌, ◌==◌, ◌&&◌, ◌||◌, not, Bool, true, false, List, [], ◌∷◌, ◌++◌, map, filter, length, count_by, Option, Some, None, is_some, refl, sym, ◌∙◌, ap, arith, inl, inr}
+use Rattle.std.proofs.Common.{◌≡◌, ℕ, ◌+◌, ◌-◌, ◌==◌, ◌&&◌, ◌||◌, not, Bool, true, false, List, [], ◌∷◌, ◌++◌, length, count_by, None, is_some, refl, sym, ◌∙◌, ap, arith, inl, inr}
 use Rattle.std.proofs.lemmas.Bool.{and_from, cases_Bool, true≢false}
 use Rattle.std.proofs.lemmas.Bool.Decides.{nat_tests}
 use Rattle.std.proofs.lemmas.List.{map-append}
 use Rattle.std.proofs.lemmas.List.Sums.{length-filter, sum_by-append, sum_by-cons}
 use Rattle.std.specs.List.{list_any}
-use Rattle.ktm_base.specs.declared.id.Id.{Id}
 use Rattle.ktm_world.specs.Changes.{has_changes}
 use Rattle.ktm_world.specs.Enlistments.{Enlistment, allows_one_phase, asks_pre_prepare, has_id, is_ordinary, takes_part, with_enlistments}
 use Rattle.ktm_world.specs.Phases.{Course, changing_one, has_settings, one_if, participants as participants_of, someone_owes, superior, taking_part}
-use Rattle.ktm_world.specs.Transactions.{same_id}
-use Rattle.ktm_phase.specs.declared.step.Answered.{Answered}
-use Rattle.ktm_phase.specs.declared.step.Answered.TheVariants.{PrePrepared, Prepared, ReadOnly, Finished, Recovered}
 use Rattle.ktm_phase.specs.Laws.{IsPart}
 use Rattle.ktm_phase.specs.Rows.{participants, without}
-use Rattle.ktm_phase.specs.Run.{answered, counted, lasting, lasting_of, seen, share_of}
+use Rattle.ktm_phase.specs.Run.{counted, lasting, seen, share_of}
 
 -- ---- counts
 
@@ -109,8 +105,8 @@ module _ (c : Course) (e : Enlistment) (is : IsPart c e) (f : Enlistment → Enl
   pub owed-less : is_some e.owes ≡ true → (f e).owes ≡ None → someone_owes (changing_one c e.id f) ≡ not (counted c (λ e. is_some e.owes) == 1)
   owed-less owed settled =
       let now : counted (changing_one c e.id f) (λ e. is_some e.owes) ≡ 0 + others (λ e. is_some e.owes) =
-          count-after (λ e. is_some e.owes) ∙ ap (λ o. one_if (takes_part c.transaction.id (f e) && is_some o) + others (λ e. is_some e.owes)) settled
-          ∙ ap (λ b. one_if b + others (λ e. is_some e.owes)) (and-false (takes_part c.transaction.id (f e))) in
+      count-after (λ e. is_some e.owes) ∙ ap (λ o. one_if (takes_part c.transaction.id (f e) && is_some o) + others (λ e. is_some e.owes)) settled
+      ∙ ap (λ b. one_if b + others (λ e. is_some e.owes)) (and-false (takes_part c.transaction.id (f e))) in
       let before : counted c (λ e. is_some e.owes) ≡ 1 + others (λ e. is_some e.owes) = count-before (λ e. is_some e.owes) ∙ ap (λ b. one_if b + others (λ e. is_some e.owes)) owed in
       any-counted _ (changing_one c e.id f).enlistments ∙ ap (λ n. not (n == 0)) now ∙ one-more (others (λ e. is_some e.owes)) ∙ sym (ap (λ n. not (n == 1)) before)
 

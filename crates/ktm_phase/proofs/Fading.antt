@@ -10,8 +10,9 @@ use Rattle.ktm_world.specs.Phases.{Course, ended, is_its_superior, owing, unchan
 use Rattle.ktm_phase.specs.declared.step.Answered.{Answered}
 use Rattle.ktm_phase.specs.declared.step.Answered.TheVariants.{PrePrepared, Prepared, ReadOnly, Finished, Recovered}
 use Rattle.ktm_phase.specs.declared.step.Step.{Step}
-use Rattle.ktm_phase.specs.Run.{answer_to, answered, carried, is_one_of, run}
-use Rattle.ktm_phase.specs.Runs.{Fades, FadingLaw, GoesOn, IsRun}
+use Rattle.ktm_phase.specs.Run.{answer_to, answered, carried, is_meant, run}
+use Rattle.ktm_phase.specs.Fading.{Fades, FadingLaw, GoesOn}
+use Rattle.ktm_phase.specs.Procedures.{IsRun}
 use Rattle.ktm_phase.proofs.Table.{of_runs}
 
 -- ---- enlistments
@@ -66,8 +67,8 @@ fades-ended c outcome = fades-with (is_its_superior c) unchanged c (ended c outc
 -- ---- steps
 
 fades-step : (by : Option Enlistment) (step : Step) (c : Course) → Fades c (carried by step c)
-fades-step by (Step.Tell who kind) c = fades-with (is_one_of by who c) unchanged c _ refl stays
-fades-step by (Step.Ask who kind owed) c = fades-with (is_one_of by who c) (owing (answer_to owed)) c _ refl (λ e. record { lasts = refl; read_only = λ is. is; prepared = λ is. is; finished = λ is. is; recovered = λ is. is })
+fades-step by (Step.Tell who kind) c = fades-with (is_meant by who c) unchanged c _ refl stays
+fades-step by (Step.Ask who kind owed) c = fades-with (is_meant by who c) (owing (answer_to owed)) c _ refl (λ e. record { lasts = refl; read_only = λ is. is; prepared = λ is. is; finished = λ is. is; recovered = λ is. is })
 fades-step None (Step.Change answer) c = fades-same c c refl
 fades-step (Some e) (Step.Change answer) c = fades-with (has_id e.id) (answered answer) c _ refl (goes-answered answer)
 fades-step by (Step.End outcome) c = fades-ended c outcome

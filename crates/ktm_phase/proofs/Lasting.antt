@@ -4,11 +4,11 @@ use Rattle.std.proofs.Common.{◌≡◌, ◌&&◌, Bool, true, false, List, [], 
 use Rattle.std.proofs.lemmas.Bool.{cases_Bool}
 use Rattle.ktm_base.specs.declared.id.Id.{Id}
 use Rattle.ktm_world.specs.Enlistments.{Enlistment, is_superior, superior_of, with_enlistments}
-use Rattle.ktm_world.specs.Phases.{Course, changing_one, superior}
+use Rattle.ktm_world.specs.Phases.{Course, superior}
 use Rattle.ktm_world.specs.Transactions.{same_id}
 use Rattle.ktm_phase.specs.declared.step.Answered.{Answered}
 use Rattle.ktm_phase.specs.declared.step.Answered.TheVariants.{PrePrepared, Prepared, ReadOnly, Finished, Recovered}
-use Rattle.ktm_phase.specs.Run.{answered, entry, lasting, lasting_of}
+use Rattle.ktm_phase.specs.Run.{answered, basis, lasting, lasting_of}
 
 -- a change that keeps what lasts keeps the superior
 superior-kept : (id : Id) (f : Enlistment → Enlistment) → ((e : Enlistment) → lasting (f e) ≡ lasting e) → (es : List Enlistment) → lasting_of (superior_of (map f es) id) ≡ lasting_of (superior_of es id)
@@ -30,8 +30,8 @@ module _ (f : Enlistment → Enlistment) (same : (e : Enlistment) → lasting (f
   superior-with test c = superior-kept c.transaction.id (λ e. if test e then f e else e) (λ e. lasting-with (test e) e) c.enlistments
 
   -- and what is read when it is recorded
-  pub entry-with : (test : Enlistment → Bool) (c : Course) → entry (record c { enlistments = with_enlistments test f c.enlistments }) ≡ entry c
-  entry-with test c = ap (λ o. record (entry c) { superior = o }) (superior-with test c)
+  pub basis-with : (test : Enlistment → Bool) (c : Course) → basis (record c { enlistments = with_enlistments test f c.enlistments }) ≡ basis c
+  basis-with test c = ap (λ o. record (basis c) { superior = o }) (superior-with test c)
 
 is_some-lasting : (o : Option Enlistment) → is_some (lasting_of o) ≡ is_some o
 is_some-lasting None = refl

@@ -1,6 +1,6 @@
 -- What steps tell of an outcome is so, and a known outcome stays, where they pass the test on lists; and each row passes it.
 use Rattle.std.specs.Prelude.{if◌then◌else◌}
-use Rattle.std.proofs.Common.{◌≡◌, ◌==◌, not, Bool, true, false, ℕ, zero, suc, List, [], ◌∷◌, ◌++◌, All, filter, map, Option, Some, None, is_some, refl, sym, ◌∙◌, ap, subst, inl, inr, ◌⊎◌}
+use Rattle.std.proofs.Common.{◌≡◌, ◌==◌, not, Bool, true, false, ℕ, zero, suc, List, [], ◌∷◌, ◌++◌, All, filter, map, Option, Some, None, is_some, refl, sym, ◌∙◌, subst, inl, inr}
 use Rattle.std.proofs.lemmas.List.Elements.{All-append, All-map, All-weaker}
 use Rattle.std.specs.List.{list_any}
 use Rattle.ktm_base.specs.declared.notify.Notify.{Notify}
@@ -8,19 +8,18 @@ use Rattle.ktm_types.specs.declared.object.Phase.{Phase}
 use Rattle.ktm_types.specs.declared.object.Phase.TheVariants.{PrePreparing, Preparing, SinglePhase, Committing, Aborting, Ended}
 use Rattle.ktm_types.specs.declared.object.TransactionOutcome.{TransactionOutcome}
 use Rattle.ktm_world.specs.Enlistments.{Enlistment, Sent, is_superior, is_unfinished, tell}
-use Rattle.ktm_world.specs.OneOutcome.{told_by, told_outcome}
-use Rattle.ktm_world.specs.Phases.{Course, commit_answered, decided, end_notice, ended, in_phase, is_its_superior, is_single_phase, owing, recovered, rollback_answered, single_phase_rejected, someone_owes, telling, unchanged}
+use Rattle.ktm_world.specs.OneOutcome.{told_outcome}
+use Rattle.ktm_world.specs.Phases.{Course, decided, end_notice, ended, in_phase, is_its_superior, is_single_phase, owing, someone_owes, telling, unchanged}
 use Rattle.ktm_phase.specs.declared.phase.PhaseInput.{PhaseInput}
 use Rattle.ktm_phase.specs.declared.phase.Seen.{Seen}
-use Rattle.ktm_phase.specs.declared.phase.Share.{Share}
 use Rattle.ktm_phase.specs.declared.step.Answered.{Answered}
 use Rattle.ktm_phase.specs.declared.step.Fact.{Fact}
 use Rattle.ktm_phase.specs.declared.step.Step.{Step}
 use Rattle.ktm_phase.specs.declared.step.Step.TheVariants.{Record, Change}
-use Rattle.ktm_phase.specs.Outcomes.{AreTrue, IsKnownIn, IsTrue, KeepsTrue, MayBe, MayCome, OutcomeLaw, StaysTrue, TellsOnly, known}
-use Rattle.ktm_phase.specs.Rows.{aborts, all_readies, commit_completes, commits, commits_one, goes_after, goes_without, participants, pre_prepare_completes, pre_prepares, prepare_completes, prepares, prepares_all, prepares_alone, read_onlies, recovers, recovers_superior, rejects_one_phase, requests, rollback_completes, row, tells_in, without}
-use Rattle.ktm_phase.specs.Run.{answer_to, carried, is_one_of, run, seen}
-use Rattle.ktm_phase.specs.Runs.{IsRun}
+use Rattle.ktm_phase.specs.Outcomes.{AreTrue, IsKnownIn, KeepsTrue, MayBe, MayCome, OutcomeLaw, StaysTrue, TellsOnly, known}
+use Rattle.ktm_phase.specs.Rows.{aborts, all_readies, commit_completes, commits, commits_one, goes_after, goes_without, is_last, participants, pre_prepare_completes, pre_prepares, prepare_completes, prepares, prepares_all, prepares_alone, read_onlies, recovers, recovers_superior, requests, rollback_completes, row, tells_in, without}
+use Rattle.ktm_phase.specs.Run.{answer_to, carried, is_meant, run, seen}
+use Rattle.ktm_phase.specs.Procedures.{IsRun}
 use Rattle.ktm_phase.proofs.Table.{once, runs_law}
 
 through : (k j t : Option Bool) → MayBe k j → MayBe j t → MayBe k t
@@ -68,8 +67,8 @@ either P false d e first second = second
 
 pub stays-true : (by : Option Enlistment) (k : Option Bool) (steps : List Step) (c : Course) → known c ≡ k → Tells k c → AreTrue k steps → StaysTrue k (run by steps c)
 stays-true by k [] c is tells ok = record { tells = subst (λ j. Tells j c) (sym is) tells; stays = inr (sym is) }
-stays-true by k (Step.Tell who kind ∷ steps) c is tells ok = stays-true by k steps (carried by (Step.Tell who kind) c) is (tells-more k c (is_one_of by who c) kind unchanged ok.0 tells) ok.1
-stays-true by k (Step.Ask who kind owed ∷ steps) c is tells ok = stays-true by k steps (carried by (Step.Ask who kind owed) c) is (tells-more k c (is_one_of by who c) kind (owing (answer_to owed)) ok.0 tells) ok.1
+stays-true by k (Step.Tell who kind ∷ steps) c is tells ok = stays-true by k steps (carried by (Step.Tell who kind) c) is (tells-more k c (is_meant by who c) kind unchanged ok.0 tells) ok.1
+stays-true by k (Step.Ask who kind owed ∷ steps) c is tells ok = stays-true by k steps (carried by (Step.Ask who kind owed) c) is (tells-more k c (is_meant by who c) kind (owing (answer_to owed)) ok.0 tells) ok.1
 stays-true by k (Step.Decide outcome ∷ steps) c is tells ok =
     then-true k (told_outcome outcome) _ ok.0 (stays-true by (told_outcome outcome) steps (decided c outcome) refl (tells-wider k (told_outcome outcome) c ok.0 tells) ok.1)
 stays-true by k (Step.End outcome ∷ steps) c is tells ok =
@@ -148,8 +147,8 @@ at-none k steps is ok = subst (λ k. AreTrue k steps) (sym is) ok
 true-row : (s : Seen) (input : PhaseInput) (k : Option Bool) → MayCome k s.phase input → AreTrue k (row s input)
 true-row s PhaseInput.CommitTransaction k is = at-none k (requests s) is (true-requests s)
 true-row s PhaseInput.Rollback k is = at-none k aborts is true-aborts
-true-row s PhaseInput.PrePrepareComplete k is = at-none k (pre_prepare_completes s) is (true-where None (s.owing == 1) (goes_after s) (true-goes_after s))
-true-row s PhaseInput.PrepareComplete k is = at-none k (prepare_completes s) is (true-where None (s.owing == 1) (all_readies s) (true-all_readies s))
+true-row s PhaseInput.PrePrepareComplete k is = at-none k (pre_prepare_completes s) is (true-where None (is_last s) (goes_after s) (true-goes_after s))
+true-row s PhaseInput.PrepareComplete k is = at-none k (prepare_completes s) is (true-where None (is_last s) (all_readies s) (true-all_readies s))
 true-row s (PhaseInput.ReadOnly share) k is = at-none k (read_onlies s share) is (true-where None _ (goes_without s.phase (without share s)) (true-goes_without s.phase (without share s)))
 true-row s PhaseInput.SinglePhaseReject k is = (inl refl, tt)
 true-row s PhaseInput.CommitComplete k may = true-commit_completes k s.phase may

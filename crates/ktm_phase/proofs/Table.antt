@@ -12,7 +12,7 @@ use Rattle.ktm_types.specs.declared.object.Phase.TheVariants.{PrePreparing, Prep
 use Rattle.ktm_types.specs.declared.object.TransactionOutcome.TheVariants.{Committed}
 use Rattle.ktm_world.specs.Changes.{has_changes}
 use Rattle.ktm_world.specs.Enlistments.{Enlistment, allows_one_phase, asks_pre_prepare, commit, has_id, is_durable_at, is_superior, prepare, takes_part, tell, with_enlistments}
-use Rattle.ktm_world.specs.Phases.{Course, aborting, all_ready, changing_one, commit_answered, committing, decided, ended, ended_if_finished, enlistment_part, event_if, finished, has_settings, held_or_committing, in_phase, is_its_superior, is_single_phase, one_participant, owing, participants as participants_of, pre_prepare_answered, pre_prepared, prepare_alone, prepare_answered, preparing, read_only_answered, readied, ready_of_enlistment, recorded, recording, recovered, recovered_in, recovering, rollback_answered, single_phase_rejected, some_enlistment, someone_owes, superior, telling, to_commit, to_pre_prepare, to_prepare, unchanged, when_none_owes, without_its_answer, work_of}
+use Rattle.ktm_world.specs.Phases.{Course, aborting, all_ready, changing_one, commit_answered, committing, decided, ended, ended_if_finished, enlistment_part, event_if, finished, has_settings, held_or_committing, in_phase, is_its_superior, is_single_phase, one_participant, owing, pre_prepare_answered, pre_prepared, prepare_alone, prepare_answered, preparing, read_only_answered, readied, ready_of_enlistment, recorded, recording, recovered, recovered_in, recovering, rollback_answered, single_phase_rejected, some_enlistment, someone_owes, superior, telling, to_commit, to_pre_prepare, to_prepare, unchanged, when_none_owes, without_its_answer, work_of}
 use Rattle.ktm_phase.specs.declared.phase.Seen.{Seen}
 use Rattle.ktm_phase.specs.declared.step.Answered.{Answered}
 use Rattle.ktm_phase.specs.declared.step.Fact.{Fact}
@@ -20,9 +20,9 @@ use Rattle.ktm_phase.specs.declared.step.Step.{Step}
 use Rattle.ktm_phase.specs.declared.step.Step.TheVariants.{Record, Change}
 use Rattle.ktm_phase.specs.declared.step.Who.{Who}
 use Rattle.ktm_phase.specs.Laws.{IsPart, RowsLaw}
-use Rattle.ktm_phase.specs.Rows.{aborts, all_readies, commit_completes, commits, commits_one, goes_after, goes_without, holds_or_commits, participants, pre_prepare_completes, pre_prepares, prepare_completes, prepares, prepares_all, prepares_alone, read_onlies, recovers, recovers_superior, rejects_one_phase, requests, rollback_completes, tells_in, without}
+use Rattle.ktm_phase.specs.Rows.{aborts, all_readies, commit_completes, commits, commits_one, goes_after, goes_without, holds_or_commits, is_last, participants, pre_prepare_completes, pre_prepares, prepare_completes, prepares, prepares_all, prepares_alone, read_onlies, recovers, recovers_superior, rejects_one_phase, requests, rollback_completes, tells_in, without}
 use Rattle.ktm_phase.specs.Run.{answered, counted, held_event, lasting_of, run, seen, share_of}
-use Rattle.ktm_phase.specs.Runs.{AreProcedures, IsRun}
+use Rattle.ktm_phase.specs.Procedures.{AreProcedures, IsRun}
 use Rattle.ktm_phase.proofs.Counts.{any-counted, owed-less, participants-counted, seen-left, seen-settled}
 use Rattle.ktm_phase.proofs.Lasting.{has_superior-kept, lasting-answered, superior-with}
 
@@ -179,7 +179,7 @@ module _ (c : Course) (e : Enlistment) (is : IsPart c e) where
   unfolding pre_prepare_answered next
   pre_prepare_completes-run owed =
       let d = changing_one c e.id (answered Answered.PrePrepared) in
-      on-where_last (Some e) ((seen c).owing == 1) (goes_after (seen c)) d pre_prepared (owed-less c e is (answered Answered.PrePrepared) owed refl)
+      on-where_last (Some e) (is_last (seen c)) (goes_after (seen c)) d pre_prepared (owed-less c e is (answered Answered.PrePrepared) owed refl)
       (ap (λ s. run (Some e) (goes_after s) d) (sym (seen-next Answered.PrePrepared refl)) ∙ goes_after-run (Some e) d)
 
   pub prepare_completes-run : is_some e.owes ≡ true → run (Some e) (prepare_completes (seen c)) c ≡ prepare_answered c e
@@ -187,7 +187,7 @@ module _ (c : Course) (e : Enlistment) (is : IsPart c e) where
   prepare_completes-run owed =
       let changed = changing_one c e.id (answered Answered.Prepared) in
       let d = run (Some e) (Record Fact.Ready ∷ []) changed in
-      on-where_last (Some e) ((seen c).owing == 1) (all_readies (seen c)) d all_ready (owed-less c e is (answered Answered.Prepared) owed refl)
+      on-where_last (Some e) (is_last (seen c)) (all_readies (seen c)) d all_ready (owed-less c e is (answered Answered.Prepared) owed refl)
       (ap (λ s. run (Some e) (all_readies s) d) (sym (seen-next Answered.Prepared refl)) ∙ all_readies-run (Some e) d)
       ∙ ap (λ d. when_none_owes d all_ready) (ready-run changed e)
 
@@ -201,9 +201,9 @@ module _ (c : Course) (e : Enlistment) (is : IsPart c e) where
       steps : List Step
       steps = goes_without c.transaction.phase (without (share_of e) (seen c))
 
-      where_owed : (o : Bool) → is_some e.owes ≡ o → run (Some e) (if o && ((seen c).owing == 1) then steps else []) left ≡ (if o then when_none_owes left (without_its_answer c.transaction.phase) else left)
+      where_owed : (o : Bool) → is_some e.owes ≡ o → run (Some e) (if o && is_last (seen c) then steps else []) left ≡ (if o then when_none_owes left (without_its_answer c.transaction.phase) else left)
       where_owed true owed =
-          on-where_last (Some e) ((seen c).owing == 1) steps left (without_its_answer c.transaction.phase) (owed-less c e is (answered Answered.ReadOnly) owed refl)
+          on-where_last (Some e) (is_last (seen c)) steps left (without_its_answer c.transaction.phase) (owed-less c e is (answered Answered.ReadOnly) owed refl)
           (ap (λ s. run (Some e) (goes_without c.transaction.phase s) left) (sym seen-without) ∙ goes_without-run (Some e) c.transaction.phase left)
       where_owed false owed = refl
 

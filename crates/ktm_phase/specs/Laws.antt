@@ -1,13 +1,12 @@
 -- What is proved of the phase table: carried out, its rows are the procedures of the model, and what they record is known ahead.
-use Rattle.std.specs.Prelude.{◌≡◌, true, false, List, ◌∷◌, ◌++◌, Option, Some, None, is_some}
+use Rattle.std.specs.Prelude.{◌≡◌, true, false, List, ◌∷◌, ◌++◌, Option, Some, is_some}
 use Rattle.std.specs.List.{list_any}
-use Rattle.ktm_world.specs.Enlistments.{Enlistment, has_id, takes_part}
+use Rattle.ktm_world.specs.Enlistments.{Enlistment, has_id, is_superior, takes_part}
 use Rattle.ktm_world.specs.Phases.{Course, aborting, all_ready, commit_answered, committing, pre_prepare_answered, pre_prepared, prepare_answered, read_only_answered, recovered, rollback_answered, single_phase_rejected, to_commit, to_pre_prepare, to_prepare}
-use Rattle.ktm_world.specs.Enlistments.{is_superior}
 use Rattle.ktm_phase.specs.declared.phase.PhaseInput.{PhaseInput}
 use Rattle.ktm_phase.specs.declared.step.Step.{Step}
 use Rattle.ktm_phase.specs.Rows.{all_readies, goes_after, row}
-use Rattle.ktm_phase.specs.Run.{entry, events_ahead, run, seen, share_of}
+use Rattle.ktm_phase.specs.Run.{basis, events_ahead, run, seen, share_of}
 
 -- the enlistment takes part, and is the only one with its Id
 pub record IsPart (c : Course) (e : Enlistment) : Type 0 where
@@ -40,4 +39,4 @@ pub record RowsLaw : Type 0 where
 
 -- what steps record is known before anything is carried out
 abbrev pub EventsAheadLaw : Type 0
-EventsAheadLaw = (by : Option Enlistment) (steps : List Step) (c : Course) → (run by steps c).events ≡ c.events ++ events_ahead by steps (entry c)
+EventsAheadLaw = (by : Option Enlistment) (steps : List Step) (c : Course) → (run by steps c).events ≡ c.events ++ events_ahead by steps (basis c)

@@ -2,7 +2,7 @@
 use Rattle.std.specs.Prelude.{◌≡◌, ⊤, ◌⊎◌, Bool, true, false, List, [], ◌∷◌, All, Option, Some, None}
 use Rattle.ktm_base.specs.declared.notify.Notify.{Notify}
 use Rattle.ktm_types.specs.declared.object.Phase.{Phase}
-use Rattle.ktm_world.specs.Enlistments.{Enlistment, Sent, is_superior}
+use Rattle.ktm_world.specs.Enlistments.{Enlistment, Sent}
 use Rattle.ktm_world.specs.OneOutcome.{told_by, told_outcome}
 use Rattle.ktm_world.specs.Phases.{Course, aborting, all_ready, commit_answered, committing, end_notice, pre_prepare_answered, pre_prepared, prepare_answered, read_only_answered, recovered, rollback_answered, single_phase_rejected, to_commit, to_pre_prepare, to_prepare}
 use Rattle.ktm_phase.specs.declared.phase.PhaseInput.{PhaseInput}

@@ -1,28 +1,17 @@
 -- Which calls of an enlistment its state and the phase of its transaction allow, and what comes to the transaction by them.
-use Rattle.std.specs.Prelude.{◌≡◌, ⊤, ◌&&◌, ◌||◌, not, Bool, true, false, List, [], ◌∷◌, Option, Some, None, Result, Ok, Err, if◌then◌else◌}
-use Rattle.ktm_base.specs.declared.id.Label.{Label}
-use Rattle.ktm_base.specs.declared.id.Pid.{Pid}
+use Rattle.std.specs.Prelude.{◌&&◌, ◌||◌, not, Bool, true, false, Result, Ok, Err, if◌then◌else◌}
 use Rattle.ktm_base.specs.declared.refusal.Refusal.{Refusal}
 use Rattle.ktm_base.specs.declared.refusal.Refusal.TheVariants.{EnlistmentNotSuperior, TransactionRequestNotValid}
-use Rattle.ktm_types.specs.declared.command.Command.{Command}
 use Rattle.ktm_types.specs.declared.object.Phase.{Phase}
 use Rattle.ktm_types.specs.declared.object.Phase.TheVariants.{InDoubt}
-use Rattle.ktm_types.specs.declared.object.Transaction.{Transaction}
-use Rattle.ktm_types.specs.declared.reply.Reply.TheVariants.{Done}
-use Rattle.ktm_world.specs.Decide.{call_of}
 use Rattle.ktm_world.specs.Enlistments.{Enlistment, is_open_for_votes, is_superior, owes_commit, owes_pre_prepare, owes_prepare, owes_rollback}
-use Rattle.ktm_world.specs.Labels.{enlistment_named}
-use Rattle.ktm_world.specs.Outcome.{Outcome, first_refusal}
-use Rattle.ktm_world.specs.Phases.{Course, is_single_phase}
-use Rattle.ktm_world.specs.Present.{Present}
-use Rattle.ktm_world.specs.TransactionCalls.{arrived, before_pre_prepare, before_prepare, course_of, is_voting, lets_superior_roll_back, transaction_in, waits_for_superior}
+use Rattle.ktm_world.specs.Phases.{is_single_phase}
+use Rattle.ktm_world.specs.TransactionCalls.{before_pre_prepare, before_prepare, is_voting, lets_superior_roll_back, waits_for_superior}
 use Rattle.ktm_phase.specs.declared.enlistment.Vote.{Vote}
 use Rattle.ktm_phase.specs.declared.phase.PhaseInput.{PhaseInput}
 use Rattle.ktm_phase.specs.declared.step.Owed.{Owed}
 use Rattle.ktm_phase.specs.declared.superior.SuperiorCall.{SuperiorCall}
-use Rattle.ktm_phase.specs.Laws.{IsPart}
-use Rattle.ktm_phase.specs.Rows.{row}
-use Rattle.ktm_phase.specs.Run.{run, seen, share_of}
+use Rattle.ktm_phase.specs.Run.{share_of}
 
 -- ---- replies
 

@@ -1,5 +1,5 @@
 -- The phase table: by what steps a transaction goes on, by what counts of it and by what comes to it.
-use Rattle.std.specs.Prelude.{ℕ, zero, suc, ◌+◌, ◌-◌, ◌==◌, ◌&&◌, List, [], ◌∷◌, if◌then◌else◌}
+use Rattle.std.specs.Prelude.{ℕ, zero, suc, ◌+◌, ◌-◌, ◌==◌, ◌&&◌, Bool, List, [], ◌∷◌, if◌then◌else◌}
 use Rattle.ktm_base.specs.declared.notify.Notify.{Notify}
 use Rattle.ktm_types.specs.declared.object.Phase.{Phase}
 use Rattle.ktm_types.specs.declared.object.Phase.TheVariants.{PrePreparing, Preparing, SinglePhase, InDoubt, Committing, Aborting}
@@ -27,6 +27,10 @@ without share s = record s {
   in_one_phase = s.in_one_phase - one_if share.allows_one_phase;
   owing = s.owing - one_if share.owes;
 }
+
+-- does no other enlistment owe an answer, when one that does answers
+abbrev pub is_last : Seen → Bool
+is_last s = s.owing == 1
 
 -- ---- procedures
 
@@ -91,11 +95,11 @@ requests s = if s.has_superior then Tell Who.Superior Notify.CommitRequest ∷ E
 
 -- PrePrepareComplete: where no other is owed, AFTER
 abbrev pub pre_prepare_completes : Seen → List Step
-pre_prepare_completes s = Change Answered.PrePrepared ∷ (if s.owing == 1 then goes_after s else [])
+pre_prepare_completes s = Change Answered.PrePrepared ∷ (if is_last s then goes_after s else [])
 
 -- PrepareComplete: where no other is owed, ALLREADY
 abbrev pub prepare_completes : Seen → List Step
-prepare_completes s = Change Answered.Prepared ∷ Record Fact.Ready ∷ (if s.owing == 1 then all_readies s else [])
+prepare_completes s = Change Answered.Prepared ∷ Record Fact.Ready ∷ (if is_last s then all_readies s else [])
 
 -- the last enlistment that owed an answer in this phase takes part no more
 abbrev pub goes_without : Phase → Seen → List Step
@@ -106,7 +110,7 @@ goes_without _ s = []
 
 -- ReadOnlyEnlistment, of an enlistment that counted for this
 abbrev pub read_onlies : Seen → Share → List Step
-read_onlies s share = Change Answered.ReadOnly ∷ (if share.owes && (s.owing == 1) then goes_without s.phase (without share s) else [])
+read_onlies s share = Change Answered.ReadOnly ∷ (if share.owes && is_last s then goes_without s.phase (without share s) else [])
 
 -- SinglePhaseReject
 abbrev pub rejects_one_phase : List Step

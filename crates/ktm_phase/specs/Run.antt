@@ -6,9 +6,10 @@ use Rattle.ktm_types.specs.declared.event.DonePart.{DonePart}
 use Rattle.ktm_types.specs.declared.event.Event.{Event}
 use Rattle.ktm_types.specs.declared.event.Part.{Part}
 use Rattle.ktm_world.specs.Changes.{has_changes}
-use Rattle.ktm_world.specs.Enlistments.{Enlistment, Manager, Owed as Answer, pre_prepare, prepare, commit, rollback, allows_one_phase, asks_pre_prepare, is_durable_at, takes_part, has_id}
+use Rattle.ktm_world.specs.Enlistments.{Enlistment, Manager, Owed as Answer, pre_prepare, prepare, commit, rollback, allows_one_phase, asks_pre_prepare, is_durable_at, is_superior, takes_part, has_id}
+use Rattle.ktm_world.specs.Transactions.{same_id}
 use Rattle.ktm_world.specs.Keys.{OwnSettings}
-use Rattle.ktm_world.specs.Phases.{Course, in_phase, decided, recording, telling, owing, unchanged, superior, is_its_superior, is_caller, has_settings, event_if, work_of, ended, ended_if_finished, changing_one, enlistment_part}
+use Rattle.ktm_world.specs.Phases.{Course, in_phase, decided, recording, telling, owing, unchanged, superior, has_settings, event_if, work_of, ended, ended_if_finished, changing_one, enlistment_part}
 use Rattle.ktm_phase.specs.declared.phase.Seen.{Seen}
 use Rattle.ktm_phase.specs.declared.phase.Share.{Share}
 use Rattle.ktm_phase.specs.declared.step.Answered.{Answered}
@@ -43,20 +44,28 @@ share_of e = record { asks = asks_pre_prepare e; allows_one_phase = allows_one_p
 
 -- ---- enlistments
 
--- the one that answers, if the call is an answer
-abbrev pub is_answering : Option Enlistment → Enlistment → Bool
-is_answering None f = false
-is_answering (Some e) f = has_id e.id f
+-- is it the one with this Id, if there is one
+abbrev pub is_given : Option Id → Enlistment → Bool
+is_given given e = elim given as (λ _. Bool) [ Some id ↦ has_id id e | None ↦ false ]
 
--- is it one of those
-abbrev pub is_one_of : Option Enlistment → Who → Course → Enlistment → Bool
-is_one_of by Who.Parts c e = takes_part c.transaction.id e
-is_one_of by Who.Asking c e = takes_part c.transaction.id e && asks_pre_prepare e
-is_one_of by Who.Prepared c e = takes_part c.transaction.id e && e.is_prepared && e.is_recovered
-is_one_of by Who.Recovered c e = takes_part c.transaction.id e && e.is_recovered
-is_one_of by Who.Superior c e = is_its_superior c e
-is_one_of by Who.OtherSuperior c e = is_its_superior c e && not (is_caller c e)
-is_one_of by Who.Answering c e = is_answering by e
+-- is it one of those, of this transaction, with the superior that called and the enlistment that answers
+abbrev pub is_one_of : Id → Option Id → Option Id → Who → Enlistment → Bool
+is_one_of own caller answering Who.Parts e = takes_part own e
+is_one_of own caller answering Who.Asking e = takes_part own e && asks_pre_prepare e
+is_one_of own caller answering Who.Prepared e = takes_part own e && e.is_prepared && e.is_recovered
+is_one_of own caller answering Who.Recovered e = takes_part own e && e.is_recovered
+is_one_of own caller answering Who.Superior e = same_id e.transaction own && is_superior e
+is_one_of own caller answering Who.OtherSuperior e = same_id e.transaction own && is_superior e && not (is_given caller e)
+is_one_of own caller answering Who.Answering e = is_given answering e
+
+-- the Id of an enlistment, if there is one
+abbrev pub id_of : Option Enlistment → Option Id
+id_of None = None
+id_of (Some e) = Some e.id
+
+-- is it one of those on this course
+abbrev pub is_meant : Option Enlistment → Who → Course → Enlistment → Bool
+is_meant by who c e = is_one_of c.transaction.id c.caller (id_of by) who e
 
 -- the answer that is owed to a notification
 abbrev pub answer_to : Owed → Answer
@@ -90,7 +99,7 @@ lasting_of (Some e) = Some (lasting e)
 -- ---- what is recorded
 
 -- what is read of a course when it is recorded; steps change nothing of it but whether the log has a Ready or a Held
-pub record Entry : Type 0 where
+pub record Basis : Type 0 where
   pub id : Id
   pub is_recorded : Bool
   pub changes : List Change
@@ -98,9 +107,9 @@ pub record Entry : Type 0 where
   pub managers : List Manager
   pub superior : Option Enlistment
 
--- the entry of a course
-abbrev pub entry : Course → Entry
-entry c = record { id = c.transaction.id; is_recorded = c.transaction.is_recorded; changes = c.changes; settings = c.settings; managers = c.managers; superior = lasting_of (superior c) }
+-- the basis of what a course records
+abbrev pub basis : Course → Basis
+basis c = record { id = c.transaction.id; is_recorded = c.transaction.is_recorded; changes = c.changes; settings = c.settings; managers = c.managers; superior = lasting_of (superior c) }
 
 -- the event of the one that answers, where its resource manager is durable
 abbrev pub event_of_it : Option Enlistment → List Manager → (Enlistment → Event) → List Event
@@ -113,7 +122,7 @@ held_event id None = []
 held_event id (Some e) = Event.Held id e.id e.manager e.information ∷ []
 
 -- the events by which this is recorded
-abbrev pub events_of : Option Enlistment → Fact → Entry → List Event
+abbrev pub events_of : Option Enlistment → Fact → Basis → List Event
 events_of by Fact.ReadyFiles b = event_if (has_changes b.changes) (Event.Ready b.id (Part.Changes b.changes))
 events_of by Fact.ReadyKeys b = event_if (has_settings b.settings) (Event.Ready b.id (Part.Settings b.settings))
 events_of by Fact.Ready b = event_of_it by b.managers (λ e. Event.Ready b.id (enlistment_part e))
@@ -127,7 +136,7 @@ events_of by Fact.SingleFiles b = Event.Single b.id (Part.Changes b.changes) ∷
 events_of by Fact.SingleKeys b = Event.Single b.id (Part.Settings b.settings) ∷ []
 
 -- has the log a Ready or a Held once this is recorded
-abbrev pub is_recorded_by : Option Enlistment → Fact → Entry → Bool
+abbrev pub is_recorded_by : Option Enlistment → Fact → Basis → Bool
 is_recorded_by by Fact.ReadyFiles b = b.is_recorded || has_changes b.changes
 is_recorded_by by Fact.ReadyKeys b = b.is_recorded || has_settings b.settings
 is_recorded_by None Fact.Ready b = b.is_recorded
@@ -136,7 +145,7 @@ is_recorded_by by Fact.Held b = is_some b.superior || b.is_recorded
 is_recorded_by by _ b = b.is_recorded
 
 -- the events of steps, which are known before anything is carried out
-abbrev pub events_ahead : Option Enlistment → List Step → Entry → List Event
+abbrev pub events_ahead : Option Enlistment → List Step → Basis → List Event
 events_ahead by [] b = []
 events_ahead by (Step.Record fact ∷ steps) b = events_of by fact b ++ events_ahead by steps (record b { is_recorded = is_recorded_by by fact b })
 events_ahead by (_ ∷ steps) b = events_ahead by steps b
@@ -145,10 +154,10 @@ events_ahead by (_ ∷ steps) b = events_ahead by steps b
 
 -- what is so after a step
 abbrev pub carried : Option Enlistment → Step → Course → Course
-carried by (Step.Record fact) c = record (recording c (events_of by fact (entry c))) { transaction = record c.transaction { is_recorded = is_recorded_by by fact (entry c) } }
+carried by (Step.Record fact) c = record (recording c (events_of by fact (basis c))) { transaction = record c.transaction { is_recorded = is_recorded_by by fact (basis c) } }
 carried by Step.Commit c = record c { works = c.works ++ work_of c }
-carried by (Step.Tell who kind) c = telling c (is_one_of by who c) kind unchanged
-carried by (Step.Ask who kind owed) c = telling c (is_one_of by who c) kind (owing (answer_to owed))
+carried by (Step.Tell who kind) c = telling c (is_meant by who c) kind unchanged
+carried by (Step.Ask who kind owed) c = telling c (is_meant by who c) kind (owing (answer_to owed))
 carried None (Step.Change answer) c = c
 carried (Some e) (Step.Change answer) c = changing_one c e.id (answered answer)
 carried by (Step.Enter phase) c = in_phase c phase

@@ -1,12 +1,13 @@
 // An enlistment, and which replies its state and the phase of its transaction allow.
 ghost use Rattle.std.specs.Prelude.{◌≡◌};
-ghost use Rattle.ktm_world.specs.Enlistments.{is_superior};
+ghost use Rattle.ktm_world.specs.Enlistments.{asks_pre_prepare, is_superior};
+ghost use Rattle.ktm_world.specs.Phases.{owing};
 ghost use Rattle.ktm_world.specs.TransactionCalls.{is_voting, lets_superior_roll_back};
 ghost use Rattle.ktm_phase.specs.Replies.{allows, if_allowed, input_of, is_in_doubt, may_vote, owes, recovered, replied};
-ghost use Rattle.ktm_phase.specs.Run.{share_of};
+ghost use Rattle.ktm_phase.specs.Run.{answer_to, answered, is_given, is_one_of, share_of};
 
 use crate::phase::{PhaseInput, Share};
-use crate::step::Owed;
+use crate::step::{Answered, Owed, Who};
 use ktm_base::{Bytes, Id, Refusal};
 use ktm_types::{EnlistmentKind, Phase};
 use std::marker::Model;
@@ -154,6 +155,78 @@ impl Enlistment {
         }
     }
 
+    /// Whether it is one of these, of this transaction, with the superior that called and the enlistment that answers.
+    pub fn is_one_of(
+        &self,
+        who: Who,
+        transaction: Id,
+        caller: Option<Id>,
+        answering: Option<Id>,
+    ) -> bool
+        ensures { result ≡ is_one_of transaction caller answering who self.now }
+    {
+        let is_own = self.transaction == transaction;
+        let is_part = is_own && !self.is_superior() && !self.is_read_only;
+        match who {
+            Who::Parts => is_part,
+            Who::Asking => is_part && self.asks_pre_prepare(),
+            Who::Prepared => is_part && self.is_prepared && self.is_recovered,
+            Who::Recovered => is_part && self.is_recovered,
+            Who::Superior => is_own && self.is_superior(),
+            Who::OtherSuperior => is_own && self.is_superior() && !self.is_given(caller),
+            Who::Answering => self.is_given(answering),
+        }
+    }
+
+    /// It owes an answer to this from now on.
+    pub fn ask(&mut self, owed: Owed)
+        ensures { self.new ≡ owing (answer_to owed) self.old }
+    {
+        self.owes = Some(owed);
+    }
+
+    /// It has answered so.
+    pub fn answer(&mut self, answer: Answered)
+        ensures { self.new ≡ answered answer self.old }
+    {
+        match answer {
+            Answered::PrePrepared => self.owes = None,
+            Answered::Prepared => {
+                self.owes = None;
+                self.is_prepared = true;
+            }
+            Answered::ReadOnly => {
+                self.owes = None;
+                self.is_read_only = true;
+            }
+            Answered::Finished => {
+                self.owes = None;
+                self.is_finished = true;
+            }
+            Answered::Recovered => self.is_recovered = true,
+        }
+    }
+
+    // Is it the one with this Id, if there is one.
+    fn is_given(&self, id: Option<Id>) -> bool
+        ensures { result ≡ is_given id self.now }
+    {
+        match id {
+            None => false,
+            Some(id) => self.id == id,
+        }
+    }
+
+    // Does it ask for PREPREPARE.
+    fn asks_pre_prepare(&self) -> bool
+        ensures { result ≡ asks_pre_prepare self.now }
+    {
+        match self.kind {
+            EnlistmentKind::PrePrepare | EnlistmentKind::Both => true,
+            _ => false,
+        }
+    }
+
     // Is the reply allowed in this phase.
     fn allows(&self, phase: Phase, vote: Vote) -> bool
         ensures { result ≡ allows phase self.now vote }
@@ -213,10 +286,7 @@ impl Enlistment {
         ensures { result ≡ share_of self.now }
     {
         Share {
-            asks: match self.kind {
-                EnlistmentKind::PrePrepare | EnlistmentKind::Both => true,
-                _ => false,
-            },
+            asks: self.asks_pre_prepare(),
             allows_one_phase: match self.kind {
                 EnlistmentKind::SinglePhase | EnlistmentKind::Both => true,
                 _ => false,

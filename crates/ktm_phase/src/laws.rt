@@ -2,7 +2,8 @@
 ghost use Rattle.ktm_phase.specs.Calls.{CallsLaw};
 ghost use Rattle.ktm_phase.specs.Laws.{EventsAheadLaw, RowsLaw};
 ghost use Rattle.ktm_phase.specs.Outcomes.{OutcomeLaw};
-ghost use Rattle.ktm_phase.specs.Runs.{AreProcedures, FadingLaw, IsRun};
+ghost use Rattle.ktm_phase.specs.Fading.{FadingLaw};
+ghost use Rattle.ktm_phase.specs.Procedures.{AreProcedures, IsRun};
 
 /// Carried out, each row comes to what the procedure of the model comes to.
 pub fn law_of_rows()

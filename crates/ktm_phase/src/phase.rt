@@ -1,6 +1,6 @@
 // A transaction on its way to its end: what counts of it, what comes to it, and how it goes on.
 ghost use Rattle.std.specs.Prelude.{◌≡◌, ◌+◌, ◌&&◌};
-ghost use Rattle.ktm_phase.specs.Rows.{row, without, participants};
+ghost use Rattle.ktm_phase.specs.Rows.{is_last, participants, row, without};
 
 use crate::rows;
 use crate::step::Steps;
@@ -97,6 +97,13 @@ impl Seen {
         ensures { result ≡ participants self.now }
     {
         self.enlistments as u64 + self.has_files as u64 + self.has_keys as u64
+    }
+
+    // Does no other enlistment owe an answer, when one that does answers.
+    pub(crate) fn is_last(&self) -> bool
+        ensures { result ≡ is_last self.now }
+    {
+        self.owing == 1
     }
 
     // How it stands once an enlistment that counted for this takes part no more.

@@ -149,7 +149,7 @@ pub fn pre_prepare_complete(s: &Seen, steps: &mut Steps)
     ensures items { steps.new.items ≡ steps.old.items ++ pre_prepare_completes s.now }
 {
     steps.push(Step::Change(Answered::PrePrepared));
-    if s.owing == 1 {
+    if s.is_last() {
         go_after(s, steps);
     }
 }
@@ -161,7 +161,7 @@ pub fn prepare_complete(s: &Seen, steps: &mut Steps)
 {
     steps.push(Step::Change(Answered::Prepared));
     steps.push(Step::Record(Fact::Ready));
-    if s.owing == 1 {
+    if s.is_last() {
         all_ready(s, steps);
     }
 }
@@ -185,7 +185,7 @@ pub fn read_only(s: &Seen, share: Share, steps: &mut Steps)
     ensures items { steps.new.items ≡ steps.old.items ++ read_onlies s.now share }
 {
     steps.push(Step::Change(Answered::ReadOnly));
-    if share.owes && s.owing == 1 {
+    if share.owes && s.is_last() {
         go_without(&s.without(share), steps);
     }
 }

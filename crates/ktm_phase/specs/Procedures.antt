@@ -1,9 +1,9 @@
--- What holds of every procedure of the model, since each is a run of steps: no enlistment comes back to life.
-use Rattle.std.specs.Prelude.{◌≡◌, true, List, map, Option}
+-- The procedures of the model, each of which is a run of steps.
+use Rattle.std.specs.Prelude.{◌≡◌, List, Option}
 use Rattle.ktm_world.specs.Enlistments.{Enlistment}
 use Rattle.ktm_world.specs.Phases.{Course, aborting, all_ready, commit_answered, committing, pre_prepare_answered, pre_prepared, prepare_answered, read_only_answered, recovered, rollback_answered, single_phase_rejected, to_commit, to_pre_prepare, to_prepare}
 use Rattle.ktm_phase.specs.declared.step.Step.{Step}
-use Rattle.ktm_phase.specs.Run.{lasting, run}
+use Rattle.ktm_phase.specs.Run.{run}
 
 -- each procedure leads from a course to one that is so of it
 pub record AreProcedures (R : Course → Course → Type 0) : Type 0 where
@@ -27,22 +27,3 @@ pub record IsRun (c d : Course) : Type 0 where
   pub by : Option Enlistment
   pub steps : List Step
   pub is : run by steps c ≡ d
-
--- what lasts of an enlistment is as it was, and it is read-only, prepared, finished and recovered where it was
-pub record GoesOn (e f : Enlistment) : Type 0 where
-  pub lasts : lasting f ≡ lasting e
-  pub read_only : e.is_read_only ≡ true → f.is_read_only ≡ true
-  pub prepared : e.is_prepared ≡ true → f.is_prepared ≡ true
-  pub finished : e.is_finished ≡ true → f.is_finished ≡ true
-  pub recovered : e.is_recovered ≡ true → f.is_recovered ≡ true
-
--- each enlistment has gone on so, and none has come
-pub record Fades (c d : Course) : Type 0 where
-  pub change : Enlistment → Enlistment
-  pub is : d.enlistments ≡ map change c.enlistments
-  pub each : (e : Enlistment) → GoesOn e (change e)
-
--- so it is by steps, and by each procedure
-pub record FadingLaw : Type 0 where
-  pub steps : (by : Option Enlistment) (steps : List Step) (c : Course) → Fades c (run by steps c)
-  pub procedures : AreProcedures Fades
