@@ -16,12 +16,13 @@ use Rattle.ktm_world.specs.Labels.{enlistment_named, holds_of}
 use Rattle.ktm_world.specs.Outcome.{first_refusal}
 use Rattle.ktm_world.specs.Phases.{Course, aborting, commit_answered, committing, is_single_phase, pre_prepare_answered, prepare_answered, read_only_answered, recovered as recovered_by, rollback_answered, single_phase_rejected, to_pre_prepare, to_prepare}
 use Rattle.ktm_world.specs.Present.{Present}
-use Rattle.ktm_world.specs.TransactionCalls.{answering, arrived, before_pre_prepare, before_prepare, commit_complete, commit_enlistment, commit_reply, course_of, enlistment_tests, goes_on, is_in_doubt, is_voting, lets_superior_roll_back, may_recover as may_recover_in, may_reject_one_phase, may_roll_back_by, may_vote as may_vote_in, phase_passes, pre_prepare_complete, pre_prepare_enlistment, prepare_complete, prepare_enlistment, read_only_enlistment, recover_enlistment, rollback_complete, rollback_enlistment, single_phase_reject, superior_tests, waits_for_superior}
+use Rattle.ktm_world.specs.TransactionCalls.{answering, arrived, before_pre_prepare, before_prepare, commit_complete, commit_enlistment, commit_reply, course_of, enlistment_tests, goes_on, is_in_doubt, is_voting, lets_superior_roll_back, may_recover as may_recover_in, may_reject_one_phase, may_roll_back_by, may_set_information as may_set_information_now, may_vote as may_vote_in, phase_passes, pre_prepare_complete, pre_prepare_enlistment, prepare_complete, prepare_enlistment, read_only_enlistment, recover_enlistment, rollback_complete, rollback_enlistment, single_phase_reject, superior_tests, waits_for_superior}
+use Rattle.ktm_world.specs.Transactions.{is_undecided}
 use Rattle.ktm_phase.specs.declared.enlistment.Vote.{Vote}
 use Rattle.ktm_phase.specs.declared.phase.PhaseInput.{PhaseInput}
 use Rattle.ktm_phase.specs.declared.superior.SuperiorCall.{SuperiorCall}
 use Rattle.ktm_phase.specs.Calls.{CallsLaw, ComesTo, Counts, Names, course_by, led, refusal_in, reply_call, superior_call}
-use Rattle.ktm_phase.specs.Replies.{allows, commanded, if_allowed, input_of, may_recover, may_vote, recovered, replied}
+use Rattle.ktm_phase.specs.Replies.{allows, commanded, if_allowed, input_of, may_recover, may_set_information, may_vote, recovered, replied}
 use Rattle.ktm_phase.proofs.Table.{rows_law}
 
 -- ---- what is allowed, and what comes then
@@ -124,11 +125,15 @@ module _ (x : Present) (process : Pid) (label : Label) (e : Enlistment) (t : Tra
   recoveries = comes (may_recover_in x) (may_recover t.phase e) (if is_superior e then PhaseInput.RecoverSuperior else PhaseInput.Recover) recovered_by
       (ap (λ o. not e.is_recovered && (not (is_superior e) || holds_of is_in_doubt o)) names.transaction) (λ allowed. recovers (is_superior e) refl)
 
+  informed : may_set_information_now x e ≡ may_set_information t e
+  informed = λ i. holds_of is_undecided (names.transaction i) && (if is_superior e then passes (λ phase. not (waits_for_superior phase)) i else is_open_for_votes e)
+
 pub calls_law : CallsLaw
 calls_law = record {
   replies = λ x process label e t vote names. replies x process label e t names vote;
   superiors = λ x process label e t call names. superiors x process label e t names call;
   recoveries = λ x process label e t names. recoveries x process label e t names;
+  informed = λ x process label e t names. informed x process label e t names;
   commits = λ x t. ap (λ c. arrived x c (commit_reply c)) (sym (rows_law.requests None (course_of x t None)));
   rollbacks = λ x t. ap (λ c. arrived x c Done) (sym (rows_law.aborts None (course_of x t None)));
 }

@@ -12,12 +12,12 @@ use Rattle.ktm_world.specs.Labels.{enlistment_named}
 use Rattle.ktm_world.specs.Outcome.{Outcome, first_refusal}
 use Rattle.ktm_world.specs.Phases.{Course}
 use Rattle.ktm_world.specs.Present.{Present}
-use Rattle.ktm_world.specs.TransactionCalls.{aborted_by, arrived, commit_of, commit_reply, course_of, transaction_in}
+use Rattle.ktm_world.specs.TransactionCalls.{aborted_by, arrived, commit_of, commit_reply, course_of, may_set_information as may_set_information_now, transaction_in}
 use Rattle.ktm_phase.specs.declared.enlistment.Vote.{Vote}
 use Rattle.ktm_phase.specs.declared.phase.PhaseInput.{PhaseInput}
 use Rattle.ktm_phase.specs.declared.superior.SuperiorCall.{SuperiorCall}
 use Rattle.ktm_phase.specs.Laws.{IsPart}
-use Rattle.ktm_phase.specs.Replies.{commanded, recovered, replied}
+use Rattle.ktm_phase.specs.Replies.{commanded, may_set_information, recovered, replied}
 use Rattle.ktm_phase.specs.Rows.{row}
 use Rattle.ktm_phase.specs.Run.{run, seen}
 
@@ -67,7 +67,7 @@ pub record ComesTo (x : Present) (t : Transaction) (e : Enlistment) (tests : Lis
   pub refused : first_refusal tests ≡ refusal_in result
   pub leads : (input : PhaseInput) → result ≡ Ok input → effect ≡ arrived x (led (Some e) input (course_by x t e)) Done
 
--- each call on an enlistment comes to what is replied to it, and a transaction commits and rolls back by its row
+-- each call on an enlistment comes to what is answered to it, and a transaction commits and rolls back by its row
 pub record CallsLaw : Type 0 where
   pub replies : (x : Present) (process : Pid) (label : Label) (e : Enlistment) (t : Transaction) (vote : Vote) → Names x process label e t → Counts vote (course_by x t e) e
       → ComesTo x t e (call_of x process (reply_call vote label)).0 (call_of x process (reply_call vote label)).1 (replied t.phase e vote)
@@ -77,3 +77,4 @@ pub record CallsLaw : Type 0 where
       → ComesTo x t e (call_of x process (Command.RecoverEnlistment label)).0 (call_of x process (Command.RecoverEnlistment label)).1 (recovered t.phase e)
   pub commits : (x : Present) (t : Transaction) → (let c = led None PhaseInput.CommitTransaction (course_of x t None) in commit_of x (Some t) ≡ arrived x c (commit_reply c))
   pub rollbacks : (x : Present) (t : Transaction) → aborted_by x t None Done ≡ arrived x (led None PhaseInput.Rollback (course_of x t None)) Done
+  pub informed : (x : Present) (process : Pid) (label : Label) (e : Enlistment) (t : Transaction) → Names x process label e t → may_set_information_now x e ≡ may_set_information t e

@@ -55,7 +55,7 @@ IsKnownIn Phase.Committing known = known ≡ Some true
 IsKnownIn Phase.Aborting known = known ≡ Some false
 IsKnownIn _ known = ⊤
 
--- what may be known in this phase when this comes: nothing, unless an enlistment has finished or recovers
+-- what may be known in this phase when this comes: nothing where the outcome is still to be decided, and this outcome where an enlistment has finished or is told it
 abbrev pub MayCome : Option Bool → Phase → PhaseInput → Type 0
 MayCome known phase PhaseInput.SinglePhaseReject = ⊤
 MayCome known phase PhaseInput.CommitComplete = MayBe known (Some true)

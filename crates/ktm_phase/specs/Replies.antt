@@ -4,9 +4,11 @@ use Rattle.ktm_base.specs.declared.refusal.Refusal.{Refusal}
 use Rattle.ktm_base.specs.declared.refusal.Refusal.TheVariants.{EnlistmentNotSuperior, TransactionRequestNotValid}
 use Rattle.ktm_types.specs.declared.object.Phase.{Phase}
 use Rattle.ktm_types.specs.declared.object.Phase.TheVariants.{InDoubt}
+use Rattle.ktm_types.specs.declared.object.Transaction.{Transaction}
 use Rattle.ktm_world.specs.Enlistments.{Enlistment, is_open_for_votes, is_superior, owes_commit, owes_pre_prepare, owes_prepare, owes_rollback}
 use Rattle.ktm_world.specs.Phases.{is_single_phase}
 use Rattle.ktm_world.specs.TransactionCalls.{before_pre_prepare, before_prepare, is_voting, lets_superior_roll_back, waits_for_superior}
+use Rattle.ktm_world.specs.Transactions.{is_undecided}
 use Rattle.ktm_phase.specs.declared.enlistment.Vote.{Vote}
 use Rattle.ktm_phase.specs.declared.phase.PhaseInput.{PhaseInput}
 use Rattle.ktm_phase.specs.declared.step.Owed.{Owed}
@@ -84,3 +86,9 @@ input_by SuperiorCall.Commit = PhaseInput.Commit
 abbrev pub commanded : Phase → Enlistment → SuperiorCall → Result PhaseInput Refusal
 commanded phase e call =
     if is_superior e then if_allowed (lets phase call) (input_by call) else Err EnlistmentNotSuperior
+
+-- ---- recovery information
+
+-- may the recovery information be set: it is an ordinary enlistment that can still vote, or a superior whose transaction does not wait for it, and the outcome is not known
+abbrev pub may_set_information : Transaction → Enlistment → Bool
+may_set_information t e = is_undecided t && (if is_superior e then not (waits_for_superior t.phase) else is_open_for_votes e)

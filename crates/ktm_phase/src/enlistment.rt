@@ -1,15 +1,15 @@
 // An enlistment, and which replies its state and the phase of its transaction allow.
 ghost use Rattle.std.specs.Prelude.{◌≡◌};
-ghost use Rattle.ktm_world.specs.Enlistments.{asks_pre_prepare, is_superior};
+ghost use Rattle.ktm_world.specs.Enlistments.{asks_pre_prepare, is_live_in, is_superior};
 ghost use Rattle.ktm_world.specs.Phases.{owing};
-ghost use Rattle.ktm_world.specs.TransactionCalls.{is_voting, lets_superior_roll_back};
-ghost use Rattle.ktm_phase.specs.Replies.{allows, if_allowed, input_of, is_in_doubt, may_vote, owes, recovered, replied};
+ghost use Rattle.ktm_phase.specs.Replies.{allows, input_of, may_set_information, may_vote, owes, recovered, replied};
 ghost use Rattle.ktm_phase.specs.Run.{answer_to, answered, is_given, is_one_of, share_of};
 
 use crate::phase::{PhaseInput, Share};
+use crate::phases::{is_in_doubt, is_voting, lets_superior_roll_back, waits_for_superior};
 use crate::step::{Answered, Owed, Who};
 use ktm_base::{Bytes, Id, Refusal};
-use ktm_types::{EnlistmentKind, Phase};
+use ktm_types::{EnlistmentKind, Phase, Transaction, TransactionOutcome};
 use std::marker::Model;
 
 /// What a resource manager has to do with a transaction.
@@ -72,64 +72,12 @@ pub enum Vote {
     Rollback,
 }
 
-// This comes where it is allowed.
-pub(crate) fn if_allowed(is_allowed: bool, input: PhaseInput) -> Result<PhaseInput, Refusal>
-    ensures { result ≡ if_allowed is_allowed input }
-{
-    if is_allowed {
-        Ok(input)
-    } else {
-        Err(Refusal::TransactionRequestNotValid)
-    }
-}
-
-// Does a transaction in this phase wait for its superior after a restart.
-fn is_in_doubt(phase: Phase) -> bool
-    ensures { result ≡ is_in_doubt phase }
-{
-    match phase {
-        Phase::InDoubt => true,
-        _ => false,
-    }
-}
-
-// The phases in which an ordinary enlistment may still vote.
-fn is_voting(phase: Phase) -> bool
-    ensures { result ≡ is_voting phase }
-{
-    match phase {
-        Phase::Active
-        | Phase::Requested
-        | Phase::PrePreparing
-        | Phase::PrePrepared
-        | Phase::Preparing
-        | Phase::SinglePhase => true,
-        _ => false,
-    }
-}
-
-// The phases in which a superior may roll back.
-fn lets_superior_roll_back(phase: Phase) -> bool
-    ensures { result ≡ lets_superior_roll_back phase }
-{
-    match phase {
-        Phase::Active
-        | Phase::Requested
-        | Phase::PrePreparing
-        | Phase::PrePrepared
-        | Phase::Preparing
-        | Phase::Held
-        | Phase::InDoubt => true,
-        _ => false,
-    }
-}
-
 impl Enlistment {
     /// What the reply comes to, where it is allowed in this phase of the transaction.
     pub fn reply(&self, phase: Phase, vote: Vote) -> Result<PhaseInput, Refusal>
         ensures { result ≡ replied phase self.now vote }
     {
-        if_allowed(self.allows(phase, vote), self.input(vote))
+        self.input(vote).if_allowed(self.allows(phase, vote))
     }
 
     /// What RecoverEnlistment comes to, where it is allowed in this phase of the transaction.
@@ -139,10 +87,39 @@ impl Enlistment {
         let is_superior = self.is_superior();
         let is_allowed = !self.is_recovered && (!is_superior || is_in_doubt(phase));
         if is_superior {
-            if_allowed(is_allowed, PhaseInput::RecoverSuperior)
+            PhaseInput::RecoverSuperior.if_allowed(is_allowed)
         } else {
-            if_allowed(is_allowed, PhaseInput::Recover)
+            PhaseInput::Recover.if_allowed(is_allowed)
         }
+    }
+
+    /// Whether its recovery information may be set, in its transaction.
+    pub fn may_set_information(&self, t: &Transaction) -> bool
+        ensures { result ≡ may_set_information t.now self.now }
+    {
+        let is_undecided = match t.outcome {
+            TransactionOutcome::Undetermined => true,
+            _ => false,
+        };
+        if self.is_superior() {
+            is_undecided && !waits_for_superior(t.phase)
+        } else {
+            is_undecided && !self.is_read_only && !self.is_prepared
+        }
+    }
+
+    /// Whether it is live in the transaction: a superior until that has ended, another one until it is read-only or
+    /// finished too.
+    pub fn is_live(&self, t: &Transaction) -> bool
+        ensures { result ≡ is_live_in t.now self.now }
+    {
+        let has_ended = match t.phase {
+            Phase::Ended => true,
+            _ => false,
+        };
+        self.transaction == t.id
+            && !has_ended
+            && (self.is_superior() || !self.is_read_only && !self.is_finished)
     }
 
     /// Whether it is the superior of its transaction.

@@ -5,6 +5,7 @@
 mod enlistment;
 mod laws;
 mod phase;
+mod phases;
 mod rows;
 mod step;
 mod superior;

@@ -1,10 +1,12 @@
 // A transaction on its way to its end: what counts of it, what comes to it, and how it goes on.
 ghost use Rattle.std.specs.Prelude.{◌≡◌, ◌+◌, ◌&&◌};
+ghost use Rattle.ktm_phase.specs.Replies.{if_allowed};
 ghost use Rattle.ktm_phase.specs.Rows.{is_last, participants, row, without};
 
 use crate::rows;
 use crate::step::Steps;
 use arrayvec::ArrayVec;
+use ktm_base::Refusal;
 use ktm_types::Phase;
 
 /// What counts of a transaction when something comes to it: how it stands before that.
@@ -66,6 +68,19 @@ pub enum PhaseInput {
     Recover,
     /// Its superior recovers.
     RecoverSuperior,
+}
+
+impl PhaseInput {
+    // It comes where it is allowed.
+    pub(crate) fn if_allowed(self, is_allowed: bool) -> Result<PhaseInput, Refusal>
+        ensures { result ≡ if_allowed is_allowed self }
+    {
+        if is_allowed {
+            Ok(self)
+        } else {
+            Err(Refusal::TransactionRequestNotValid)
+        }
+    }
 }
 
 impl Seen {

@@ -69,7 +69,7 @@ pub enum Fact {
     SingleKeys,
 }
 
-/// A step.
+/// A step. The default means nothing: a list of steps fills its free places with it.
 #[derive(Clone, Copy, Default)]
 pub enum Step {
     /// This is recorded.

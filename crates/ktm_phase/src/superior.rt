@@ -2,8 +2,9 @@
 ghost use Rattle.std.specs.Prelude.{◌≡◌};
 ghost use Rattle.ktm_phase.specs.Replies.{commanded, lets, input_by};
 
-use crate::enlistment::{Enlistment, if_allowed};
+use crate::enlistment::Enlistment;
 use crate::phase::PhaseInput;
+use crate::phases::{before_pre_prepare, before_prepare, waits_for_superior};
 use ktm_base::Refusal;
 use ktm_types::Phase;
 
@@ -24,7 +25,7 @@ impl SuperiorCall {
         ensures { result ≡ commanded phase e.now self }
     {
         if e.is_superior() {
-            if_allowed(self.is_let(phase), self.input())
+            self.input().if_allowed(self.is_let(phase))
         } else {
             Err(Refusal::EnlistmentNotSuperior)
         }
@@ -34,11 +35,10 @@ impl SuperiorCall {
     fn is_let(self, phase: Phase) -> bool
         ensures { result ≡ lets phase self }
     {
-        match (self, phase) {
-            (SuperiorCall::PrePrepare, Phase::Active | Phase::Requested) => true,
-            (SuperiorCall::Prepare, Phase::Active | Phase::Requested | Phase::PrePrepared) => true,
-            (SuperiorCall::Commit, Phase::Held | Phase::InDoubt) => true,
-            _ => false,
+        match self {
+            SuperiorCall::PrePrepare => before_pre_prepare(phase),
+            SuperiorCall::Prepare => before_prepare(phase),
+            SuperiorCall::Commit => waits_for_superior(phase),
         }
     }
 
