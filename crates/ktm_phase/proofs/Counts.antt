@@ -42,7 +42,7 @@ and-true : (a : Bool) → (a && true) ≡ a
 and-true true = refl
 and-true false = refl
 
-pub parts-counted : (c : Course) → counted c (λ e. true) ≡ length (taking_part c)
+parts-counted : (c : Course) → counted c (λ e. true) ≡ length (taking_part c)
 parts-counted c = (λ i. count_by (λ e. and-true (takes_part c.transaction.id e) i) c.enlistments) ∙ sym (length-filter (takes_part c.transaction.id) c.enlistments)
 
 pub participants-counted : (c : Course) → participants (seen c) ≡ participants_of c

@@ -65,7 +65,7 @@ either : (P : Course → Type 0) (b : Bool) (d e : Course) → P d → P e → P
 either P true d e first second = first
 either P false d e first second = second
 
-pub stays-true : (by : Option Enlistment) (k : Option Bool) (steps : List Step) (c : Course) → known c ≡ k → Tells k c → AreTrue k steps → StaysTrue k (run by steps c)
+stays-true : (by : Option Enlistment) (k : Option Bool) (steps : List Step) (c : Course) → known c ≡ k → Tells k c → AreTrue k steps → StaysTrue k (run by steps c)
 stays-true by k [] c is tells ok = record { tells = subst (λ j. Tells j c) (sym is) tells; stays = inr (sym is) }
 stays-true by k (Step.Tell who kind ∷ steps) c is tells ok = stays-true by k steps (carried by (Step.Tell who kind) c) is (tells-more k c (is_meant by who c) kind unchanged ok.0 tells) ok.1
 stays-true by k (Step.Ask who kind owed ∷ steps) c is tells ok = stays-true by k steps (carried by (Step.Ask who kind owed) c) is (tells-more k c (is_meant by who c) kind (owing (answer_to owed)) ok.0 tells) ok.1

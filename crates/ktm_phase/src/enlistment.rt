@@ -5,8 +5,8 @@ ghost use Rattle.ktm_world.specs.Phases.{owing};
 ghost use Rattle.ktm_phase.specs.Replies.{allows, input_of, may_set_information, may_vote, owes, recovered, replied};
 ghost use Rattle.ktm_phase.specs.Run.{answer_to, answered, is_given, is_one_of, share_of};
 
+use crate::allowed::{is_in_doubt, is_voting, lets_superior_roll_back, waits_for_superior};
 use crate::phase::{PhaseInput, Share};
-use crate::phases::{is_in_doubt, is_voting, lets_superior_roll_back, waits_for_superior};
 use crate::step::{Answered, Owed, Who};
 use ktm_base::{Bytes, Id, Refusal};
 use ktm_types::{EnlistmentKind, Phase, Transaction, TransactionOutcome};

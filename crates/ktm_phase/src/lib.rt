@@ -2,10 +2,10 @@
 //! that whoever holds the enlistments carries out.
 #![tactic(auto)]
 
+mod allowed;
 mod enlistment;
 mod laws;
 mod phase;
-mod phases;
 mod rows;
 mod step;
 mod superior;

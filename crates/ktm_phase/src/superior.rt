@@ -2,9 +2,9 @@
 ghost use Rattle.std.specs.Prelude.{◌≡◌};
 ghost use Rattle.ktm_phase.specs.Replies.{commanded, lets, input_by};
 
+use crate::allowed::{before_pre_prepare, before_prepare, waits_for_superior};
 use crate::enlistment::Enlistment;
 use crate::phase::PhaseInput;
-use crate::phases::{before_pre_prepare, before_prepare, waits_for_superior};
 use ktm_base::Refusal;
 use ktm_types::Phase;
 
