@@ -1,5 +1,5 @@
 // The transactions of a boot.
-ghost use Rattle.std.specs.Prelude.{◌≡◌, ◌+◌, ◌-◌, ◌≤◌, ◌&&◌, MatchOption, OnOk, Some, false, [], count_by, filter, find, length, nat_le, option_and_then, slice_get};
+ghost use Rattle.std.specs.Prelude.{◌≡◌, ◌+◌, ◌-◌, ◌≤◌, ◌&&◌, IsOk, MatchOption, OnOk, Some, false, [], count_by, filter, find, length, nat_le, option_and_then, slice_get};
 ghost use Rattle.ktm_world.specs.Transactions.{transaction_at, change_at, is_live, same_id};
 ghost use Rattle.ktm_world.specs.TransactionCalls.{is_due, later, never_times_out, no_transaction_left};
 ghost use Rattle.ktm_tm.specs.TmState.{if_live, next_id, with_new, is_given, IsPlace, IsAbsent};
@@ -159,6 +159,7 @@ impl Tm {
         ensures boot { self.new.boot ≡ self.old.boot }
         ensures now { self.new.now ≡ self.old.now }
         ensures room { OnOk result (1 ≤ self.new.room) }
+        ensures enough { 1 ≤ self.old.room → IsOk result }
     {
         self.items.reserve(1)?;
         self.live.reserve(self.items.len() - self.live.len() + 1)?;

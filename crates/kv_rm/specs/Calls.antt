@@ -1,7 +1,8 @@
 -- What a call on the manager comes to.
-use Rattle.std.specs.Prelude.{Option, Some, None}
+use Rattle.std.specs.Prelude.{Bool, true, false, Option, Some, None}
 use Rattle.ktm_base.specs.declared.id.Id.{Id}
 use Rattle.ktm_base.specs.declared.refusal.Refusal.{Refusal}
+use Rattle.ktm_types.specs.declared.reply.Reply.{Reply}
 use Rattle.ktm_types.specs.declared.reply.Reply.TheVariants.{Refused}
 use Rattle.ktm_world.specs.KeyCalls.{KeyRoom, KeyOutcome, kv_set, kv_set_tests, kv_unset, kv_unset_tests, kv_get, kv_get_tests, kv_list}
 use Rattle.ktm_world.specs.Keys.{KeysNow}
@@ -20,3 +21,8 @@ key_outcome keys room who (Set key value) = unless_refused keys (first_refusal (
 key_outcome keys room who (Unset key) = unless_refused keys (first_refusal (kv_unset_tests keys room who key)) (kv_unset keys who key)
 key_outcome keys room who (Get key) = unless_refused keys (first_refusal (kv_get_tests keys who key)) (kv_get keys who key)
 key_outcome keys room who KvCall.List = kv_list keys who
+
+-- does the reply refuse the call
+abbrev pub is_refused : Reply → Bool
+is_refused (Refused refusal) = true
+is_refused _ = false

@@ -1,12 +1,12 @@
 // The manager.
-ghost use Rattle.std.specs.Prelude.{◌≡◌, ◌+◌, ◌^◌, ◌<◌, ◌≤◌, ℕ, List, [], Option, IfOk, OnOk, OnErr, IsOk, is_none, length, nat_lt};
+ghost use Rattle.std.specs.Prelude.{◌≡◌, ◌+◌, ◌^◌, ◌<◌, ◌≤◌, ℕ, List, [], Option, IfOk, OnOk, OnErr, IsOk, is_none, length, nat_lt, true};
 ghost use Rattle.std.specs.Option.{option_copied};
 ghost use Rattle.ktm_base.specs.declared.id.Id.{Id};
 ghost use Rattle.ktm_types.specs.declared.reply.Reply.TheVariants.{Done};
 ghost use Rattle.ktm_world.specs.KeyCalls.{KeyRoom, is_key_held, keys_with, with_setting};
 ghost use Rattle.ktm_world.specs.Keys.{changes_pending, Own, own_settings, without_own, value_seen, stored_all, store_seen, keys_of};
 ghost use Rattle.ktm_world.specs.Phases.{has_settings};
-ghost use Rattle.kv_rm.specs.Calls.{key_outcome};
+ghost use Rattle.kv_rm.specs.Calls.{is_refused, key_outcome};
 ghost use Rattle.kv_rm.specs.Count.{kind_of, AreCounts, AreFew};
 ghost use Rattle.kv_rm.specs.Place.{IsSeatOf};
 ghost use Rattle.kv_rm.specs.declared.call.KvCall.TheVariants.{Get, Set, Unset};
@@ -97,11 +97,13 @@ impl KvRm {
         }
     }
 
-    /// Makes a call for a transaction, or for none: it is refused, or answered. At want of memory nothing has changed.
+    /// Makes a call for a transaction, or for none: it is refused, or answered. At want of memory nothing has changed; a call
+    /// that is refused takes none.
     pub fn call(&mut self, who: Option<Id>, call: KvCall, room: Room) -> Result<Reply, NoMemory>
         ensures reply { IfOk result (λ reply. reply ≡ (key_outcome self.old.keys room who call).reply) }
         ensures keys { OnOk result (self.new.keys ≡ record self.old.keys { own = (key_outcome self.old.keys room who call).own }) }
         ensures no_memory { OnErr result (self.new.keys ≡ self.old.keys) }
+        ensures enough { is_refused (key_outcome self.old.keys room who call).reply ≡ true → IsOk result }
         ensures room { self.new.room ≡ self.old.room }
     {
         match call {
@@ -125,7 +127,8 @@ impl KvRm {
     }
 
     fn get(&self, who: Option<Id>, key: &Text) -> Result<Reply, NoMemory>
-        ensures { (room : KeyRoom) → IfOk result (λ reply. reply ≡ (key_outcome self.now.keys room who (Get key.now)).reply) }
+        ensures enough { (room : KeyRoom) → is_refused (key_outcome self.now.keys room who (Get key.now)).reply ≡ true → IsOk result }
+        ensures reply { (room : KeyRoom) → IfOk result (λ reply. reply ≡ (key_outcome self.now.keys room who (Get key.now)).reply) }
     {
         if is_bad_key(key) {
             return Ok(Reply::Refused(Refusal::InvalidParameter));
@@ -214,6 +217,7 @@ impl KvRm {
         ensures reply { (changes : ℕ) → IfOk result (λ reply. reply ≡ (key_outcome self.old.keys (record { keys = most; changes = changes }) who (Set key value)).reply) }
         ensures keys { (changes : ℕ) → OnOk result (self.new.keys ≡ record self.old.keys { own = (key_outcome self.old.keys (record { keys = most; changes = changes }) who (Set key value)).own }) }
         ensures no_memory { OnErr result (self.new.keys ≡ self.old.keys) }
+        ensures enough { (changes : ℕ) → is_refused (key_outcome self.old.keys (record { keys = most; changes = changes }) who (Set key value)).reply ≡ true → IsOk result }
         ensures room { self.new.room ≡ self.old.room }
     {
         if is_bad_key(&key) || is_bad_value(&value) {
@@ -233,6 +237,7 @@ impl KvRm {
         ensures reply { (keys : ℕ) → IfOk result (λ reply. reply ≡ (key_outcome self.old.keys (record { keys = keys; changes = most }) who (Unset key)).reply) }
         ensures keys { (keys : ℕ) → OnOk result (self.new.keys ≡ record self.old.keys { own = (key_outcome self.old.keys (record { keys = keys; changes = most }) who (Unset key)).own }) }
         ensures no_memory { OnErr result (self.new.keys ≡ self.old.keys) }
+        ensures enough { (keys : ℕ) → is_refused (key_outcome self.old.keys (record { keys = keys; changes = most }) who (Unset key)).reply ≡ true → IsOk result }
         ensures room { self.new.room ≡ self.old.room }
     {
         if is_bad_key(&key) {

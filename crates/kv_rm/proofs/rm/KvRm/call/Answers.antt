@@ -13,4 +13,13 @@ pub returns-in-Unset-clause-keys : goal.returns-in-Unset-clause-keys
 returns-in-Unset-clause-keys c = rw (← c.room.view_is, c.in-Unset.is) (c.unset.ensures.keys c.room.inside.keys)
 
 pub returns-in-Get-clause-reply : goal.returns-in-Get-clause-reply
-returns-in-Get-clause-reply c = rw c.in-Get.is (c.get.ensures c.args.room)
+returns-in-Get-clause-reply c = rw c.in-Get.is (c.get.ensures.reply c.args.room)
+
+pub returns-in-Set-clause-enough : goal.returns-in-Set-clause-enough
+returns-in-Set-clause-enough c = rw (← c.room.view_is, c.in-Set.is) (c.set.ensures.enough c.room.inside.changes)
+
+pub returns-in-Unset-clause-enough : goal.returns-in-Unset-clause-enough
+returns-in-Unset-clause-enough c = rw (← c.room.view_is, c.in-Unset.is) (c.unset.ensures.enough c.room.inside.keys)
+
+pub returns-in-Get-clause-enough : goal.returns-in-Get-clause-enough
+returns-in-Get-clause-enough c = rw c.in-Get.is (c.get.ensures.enough c.args.room)
