@@ -1,119 +1,30 @@
-// The durable state in memory, and what groups of events make of it.
-ghost use Rattle.std.specs.Prelude.{◌≡◌, ◌&&◌, ◌+◌, ◌^◌, ◌≤◌, List, [], ◌∷◌, Ok, true, IfOk, IsSomeAnd, is_none, is_some, count_by, nat_lt, nat_le, sum_by};
-ghost use Rattle.std.specs.List.{list_all};
-ghost use Rattle.ktm_base.specs.declared.id.Id.{Id};
-ghost use Rattle.ktm_types.specs.declared.change.Change.{Change};
-ghost use Rattle.ktm_types.specs.declared.event.Event.TheVariants.{Boot, Plain, Ready, Single};
-ghost use Rattle.ktm_types.specs.declared.event.Part.TheVariants.{Changes, Settings};
+// The durable state in memory, as its users see it.
+ghost use Rattle.std.specs.Prelude.{◌≡◌, ◌&&◌, [], Ok, true, IfOk, sum_by};
 ghost use Rattle.ktm_forms.specs.Built.{is_built_group};
-ghost use Rattle.ktm_forms.specs.Commits.{both_events};
-ghost use Rattle.ktm_forms.specs.Taking.{within};
-ghost use Rattle.ktm_world.specs.Changes.{changes_apply, changed_all};
-ghost use Rattle.ktm_world.specs.Durable.{Durable, after_events, are_recorded_changes, empty_state, events_apply, is_new_in, is_sole, next_after_all};
-ghost use Rattle.ktm_world.specs.Keys.{OwnSettings, are_good_settings, stored_all};
-ghost use Rattle.ktm_world.specs.Tree.{bytes_of, bytes_or_none, units_of};
-ghost use Rattle.ktm_journal.specs.Waiting.{has_units_for, may_wait, passes_units};
+ghost use Rattle.ktm_world.specs.Durable.{after_events, empty_state, events_apply};
+ghost use Rattle.ktm_world.specs.Tree.{bytes_or_none, units_of};
 ghost use Rattle.txf_tree.specs.TreeState.{tree_of, versions_of};
 
-use ktm_base::{Bytes, Id, NoMemory, UNIT_BYTES};
-use ktm_forms::is_built_group;
+use crate::replayed::Replayed;
+use ktm_base::{Bytes, NoMemory};
 use ktm_keyed::KeyedList;
-use ktm_types::{Change, Event, Part, Setting};
-use ktm_world::{are_good_settings, make_all};
+use ktm_types::Event;
 use std::alloc::Global;
 use std::marker::Model;
-use txf_durable::{
-    DurableFiles, FilesRead, are_recorded_changes, name_changes, nodes_made, written_files,
-};
-use txf_tree::bytes_in;
-
-/// The most events that an image may ever record.
-const MOST_EVENTS: u64 = (1 << 63) - 1;
+use txf_durable::FilesRead;
 
 /// What the groups of an image's log stand for. They are applied in place: neither a change nor a key or a value is copied.
 #[derive(Drop)]
 pub struct Durable {
-    alloc: Global,
-    units: u32,
-    image: u16,
-    events: u64,
-    boots: u32,
-    files: DurableFiles,
-    keys: KeyedList<Bytes>,
+    replayed: Replayed,
 }
 
 impl Model for Durable {
-    ghost use Rattle.ktm_forms.specs.Built.{built_state};
     ghost use Rattle.ktm_world.specs.Durable.{Durable};
 
     ghost Value = { Durable };
 
-    ghost view = { λ s. built_state s.units s.image s.events s.boots s.files.next_node s.files.tree s.keys.items };
-}
-
-// Is there room for so many more.
-fn has_room(most: u32, used: usize, more: usize) -> bool
-    ensures { result ≡ nat_le (used + more) most }
-{
-    let most = most as usize;
-    used <= most && more <= most - used
-}
-
-// Would the change leave its file longer than all units of the image together: it is then refused before memory is taken for
-// it.
-fn passes_units(units: u32, change: &Change) -> bool
-    ensures { result ≡ passes_units units change.now }
-{
-    let most = u128::from(units) * u128::from(UNIT_BYTES);
-    match change {
-        Change::Put {
-            offset,
-            contents,
-            ..
-        } => u128::from(*offset) + bytes_in(contents).len() as u128 > most,
-        Change::Cut { size, .. } => u128::from(*size) > most,
-        _ => false,
-    }
-}
-
-fn count_set(settings: &[Setting]) -> usize
-    ensures { result ≡ count_by (λ setting. is_some setting.value) settings.now }
-{
-    settings.iter().filter(|s| s.value.is_some()).count()
-}
-
-fn count_unset(settings: &[Setting]) -> usize
-    ensures { result ≡ count_by (λ setting. is_none setting.value) settings.now }
-{
-    settings.len() - count_set(settings)
-}
-
-// The changes of a transaction whose files are ready.
-fn into_changes(event: Event) -> Option<(Id, Vec<Change>)>
-    ensures { (transaction : Id) (changes : List Change) → event ≡ Ready transaction (Changes changes)
-        → IsSomeAnd result (λ part. (part.0 ≡ transaction) × (part.1.items ≡ changes)) }
-{
-    match event {
-        Event::Ready {
-            transaction,
-            part: Part::Changes(changes),
-        } => Some((transaction, changes.into_vec())),
-        _ => None,
-    }
-}
-
-// The settings of a transaction whose keys are ready.
-fn into_settings(event: Event) -> Option<Vec<Setting>>
-    ensures { (transaction : Id) (settings : OwnSettings) → event ≡ Ready transaction (Settings settings)
-        → IsSomeAnd result (λ part. part.items ≡ settings) }
-{
-    match event {
-        Event::Ready {
-            part: Part::Settings(settings),
-            ..
-        } => Some(settings.into_vec()),
-        _ => None,
-    }
+    ghost view = { λ s. s.replayed.state };
 }
 
 impl Durable {
@@ -122,13 +33,7 @@ impl Durable {
         ensures { result ≡ empty_state units image }
     {
         Durable {
-            alloc,
-            units,
-            image,
-            events: 0,
-            boots: 0,
-            files: DurableFiles::new(alloc),
-            keys: KeyedList::new(alloc),
+            replayed: Replayed::empty(alloc, units, image),
         }
     }
 
@@ -136,28 +41,28 @@ impl Durable {
     pub fn units(&self) -> u32
         ensures { result ≡ self.now.units }
     {
-        self.units
+        self.replayed.units()
     }
 
     /// The image's number.
     pub fn image(&self) -> u16
         ensures { result ≡ self.now.image }
     {
-        self.image
+        self.replayed.image()
     }
 
     /// How many events were ever recorded.
     pub fn events(&self) -> u64
         ensures { result ≡ self.now.events }
     {
-        self.events
+        self.replayed.events()
     }
 
     /// How many boots there were.
     pub fn boots(&self) -> u32
         ensures { result ≡ self.now.boots }
     {
-        self.boots
+        self.replayed.boots()
     }
 
     /// What a machine starts from: the committed files, of which none was changed since, and the committed keys, by rising key.
@@ -168,218 +73,8 @@ impl Durable {
         ensures next_node { result.0.next_node ≡ self.next_node }
         ensures keys { result.1.items ≡ self.keys }
     {
-        let Durable { files, keys, .. } = self;
-        (files.into_parts(), keys)
-    }
-
-    // Are the files and the keys within the units of the image.
-    fn is_within(&self) -> bool
-        ensures { result ≡ within self.now.units self.now.tree self.now.keys }
-    {
-        self.files.units() <= u64::from(self.units)
-            && self.files.nodes() < self.units as usize
-            && self.keys.len() <= self.units as usize
-    }
-
-    // May so many events more be recorded.
-    fn has_events_left(&self, events: u64) -> bool
-        requires { events ≤ 5 }
-        ensures { result ≡ nat_lt (self.now.events + events) (2 ^ 63) }
-    {
-        self.events <= MOST_EVENTS - events
-    }
-
-    // A restart of the machine counts a boot.
-    fn boot(&mut self, boot: u32) -> bool
-        ensures applies { result ≡ events_apply self.old (Boot boot ∷ []) }
-        ensures after { result ≡ true → self.new ≡ after_events self.old (Boot boot ∷ []) }
-    {
-        if boot == u32::MAX
-            || u64::from(boot) != u64::from(self.boots) + 1
-            || !self.has_events_left(1)
-        {
-            return false;
-        }
-        self.boots = boot;
-        self.events += 1;
-        self.is_within()
-    }
-
-    // Changes the files by one event.
-    fn change(&mut self, changes: Vec<Change>) -> Result<bool, NoMemory>
-        ensures applies { IfOk result (λ applied. applied ≡ (changes_apply self.old.tree changes.items && list_all (is_new_in self.old.tree) changes.items
-            && within self.old.units (changed_all self.old.tree changes.items) self.old.keys && nat_lt (self.old.events + 1) (2 ^ 63))) }
-        ensures after { result ≡ Ok true → self.new ≡ record self.old {
-          events = self.old.events + 1;
-          tree = changed_all self.old.tree changes.items;
-          next_node = next_after_all self.old.next_node changes.items;
-        } }
-    {
-        if !self.has_events_left(1) || !self.files.commit(changes)? {
-            return Ok(false);
-        }
-        self.events += 1;
-        Ok(self.is_within())
-    }
-
-    // A plain call changed the files.
-    fn change_plainly(&mut self, change: Change) -> Result<bool, NoMemory>
-        ensures applies { IfOk result (λ applied. applied ≡ events_apply self.old (Plain change ∷ [])) }
-        ensures after { result ≡ Ok true → self.new ≡ after_events self.old (Plain change ∷ []) }
-    {
-        if passes_units(self.units, &change) {
-            return Ok(false);
-        }
-        let mut changes = Vec::new(self.alloc);
-        changes.push(change)?;
-        self.change(changes)
-    }
-
-    // A transaction commits what it changed, and nothing else.
-    fn commit_changes(&mut self, transaction: Id, changes: Vec<Change>) -> Result<bool, NoMemory>
-        ensures applies { IfOk result (λ applied. applied ≡ events_apply self.old (Single transaction (Changes changes.items) ∷ [])) }
-        ensures after { result ≡ Ok true → self.new ≡ after_events self.old (Single transaction (Changes changes.items) ∷ []) }
-    {
-        if transaction.boot != self.boots || !are_recorded_changes(self.alloc, &changes)? {
-            return Ok(false);
-        }
-        self.change(changes)
-    }
-
-    // Makes settings in the store, counts the events that record them, and tells whether the image has room for what is then
-    // committed.
-    fn set(&mut self, settings: Vec<Setting>, events: u64) -> Result<bool, NoMemory>
-        requires { nat_lt (self.old.events + events) (2 ^ 63) ≡ true }
-        ensures applies { IfOk result (λ applied. applied ≡ within self.old.units self.old.tree (stored_all self.old.keys settings.items)) }
-        ensures after { result ≡ Ok true → self.new ≡ record self.old { events = self.old.events + events; keys = stored_all self.old.keys settings.items } }
-    {
-        self.keys.reserve(settings.len())?;
-        make_all(&mut self.keys, settings);
-        self.events += events;
-        Ok(self.is_within())
-    }
-
-    // A transaction commits what it set, and nothing else.
-    fn commit_settings(&mut self, transaction: Id, settings: Vec<Setting>) -> Result<bool, NoMemory>
-        ensures applies { IfOk result (λ applied. applied ≡ events_apply self.old (Single transaction (Settings settings.items) ∷ [])) }
-        ensures after { result ≡ Ok true → self.new ≡ after_events self.old (Single transaction (Settings settings.items) ∷ []) }
-    {
-        if transaction.boot != self.boots
-            || !self.has_events_left(1)
-            || !are_good_settings(&settings)
-        {
-            return Ok(false);
-        }
-        self.set(settings, 1)
-    }
-
-    // A transaction commits its one part.
-    fn commit_part(&mut self, transaction: Id, part: Part) -> Result<bool, NoMemory>
-        ensures applies { IfOk result (λ applied. applied ≡ (is_sole part && events_apply self.old (Single transaction part ∷ []))) }
-        ensures after { result ≡ Ok true → self.new ≡ after_events self.old (Single transaction part ∷ []) }
-    {
-        match part {
-            Part::Changes(changes) => self.commit_changes(transaction, changes.into_vec()),
-            Part::Settings(settings) => self.commit_settings(transaction, settings.into_vec()),
-            Part::Enlistment { .. } => Ok(false),
-        }
-    }
-
-    // Is there room for these beside what is committed, but for the units of the files.
-    fn may_wait(&self, changes: &[Change], settings: &[Setting]) -> bool
-        ensures { result ≡ may_wait self.now changes.now settings.now }
-    {
-        has_room(self.units, name_changes(changes), count_unset(settings))
-            && has_room(self.units, self.keys.len(), count_set(settings))
-            && self.files.nodes() < self.units as usize
-            && has_room(self.units - 1, self.files.nodes(), nodes_made(changes))
-    }
-
-    // May these be recorded as the parts of a transaction that commits, but for what the files say.
-    fn may_commit(&self, changes: &[Change], settings: &[Setting]) -> Result<bool, NoMemory>
-        ensures { IfOk result (λ may. may ≡ (nat_lt (self.now.events + 5) (2 ^ 63) && are_good_settings settings.now
-            && may_wait self.now changes.now settings.now && are_recorded_changes changes.now)) }
-    {
-        if !self.has_events_left(5)
-            || !are_good_settings(settings)
-            || !self.may_wait(changes, settings)
-        {
-            return Ok(false);
-        }
-        are_recorded_changes(self.alloc, changes)
-    }
-
-    // Is there room for the units that the files have, and for those of the written ones once more.
-    fn has_units_left(&self, units: u64, written: &[u64]) -> bool
-        ensures { result ≡ nat_le (units + sum_by (λ file. units_of (bytes_of self.now.tree file)) written.now) self.now.units }
-    {
-        let most = u64::from(self.units);
-        units <= most && self.files.units_of(written) <= u128::from(most - units)
-    }
-
-    // Commits changes that wait in these units.
-    fn commit_files(&mut self, changes: Vec<Change>) -> Result<bool, NoMemory>
-        ensures applies { IfOk result (λ applied. applied ≡ (changes_apply self.old.tree changes.items && list_all (is_new_in self.old.tree) changes.items
-            && has_units_for self.old changes.items)) }
-        ensures after { result ≡ Ok true → self.new ≡ record self.old {
-          tree = changed_all self.old.tree changes.items;
-          next_node = next_after_all self.old.next_node changes.items;
-        } }
-    {
-        let written = written_files(self.alloc, &changes)?;
-        let units = self.files.units();
-        if !self.files.commit(changes)? {
-            return Ok(false);
-        }
-        Ok(self.has_units_left(units, &written))
-    }
-
-    // A transaction commits what it changed and what it set.
-    fn commit_both(
-        &mut self,
-        transaction: Id,
-        changes: Vec<Change>,
-        settings: Vec<Setting>,
-    ) -> Result<bool, NoMemory>
-        ensures applies { IfOk result (λ applied. applied ≡ events_apply self.old (both_events transaction changes.items settings.items)) }
-        ensures after { result ≡ Ok true → self.new ≡ after_events self.old (both_events transaction changes.items settings.items) }
-    {
-        if transaction.boot != self.boots
-            || !self.may_commit(&changes, &settings)?
-            || !self.commit_files(changes)?
-        {
-            return Ok(false);
-        }
-        self.set(settings, 5)
-    }
-
-    // Applies an event that is a group by itself.
-    fn apply_alone(&mut self, event: Event) -> Result<bool, NoMemory>
-        ensures applies { IfOk result (λ applied. applied ≡ (is_built_group (event ∷ []) && events_apply self.old (event ∷ []))) }
-        ensures after { result ≡ Ok true → self.new ≡ after_events self.old (event ∷ []) }
-    {
-        match event {
-            Event::Boot { boot } => Ok(self.boot(boot)),
-            Event::Plain { change } => self.change_plainly(change),
-            Event::Single { transaction, part } => self.commit_part(transaction, part),
-            _ => Ok(false),
-        }
-    }
-
-    // Applies what is recorded of a transaction whose files and keys are ready.
-    fn apply_parts(&mut self, files: Event, keys: Event) -> Result<bool, NoMemory>
-        ensures applies { (transaction other : Id) (changes : List Change) (settings : OwnSettings) → files ≡ Ready transaction (Changes changes) → keys ≡ Ready other (Settings settings)
-            → IfOk result (λ applied. applied ≡ events_apply self.old (both_events transaction changes settings)) }
-        ensures after { (transaction other : Id) (changes : List Change) (settings : OwnSettings) → files ≡ Ready transaction (Changes changes) → keys ≡ Ready other (Settings settings)
-            → result ≡ Ok true → self.new ≡ after_events self.old (both_events transaction changes settings) }
-    {
-        let Some((transaction, changes)) = into_changes(files) else {
-            return Ok(false);
-        };
-        let Some(settings) = into_settings(keys) else {
-            return Ok(false);
-        };
-        self.commit_both(transaction, changes, settings)
+        let Durable { replayed } = self;
+        replayed.into_files_and_keys()
     }
 
     /// Applies a group of events. It answers false where the group is not built or does not apply; the state is then of no use,
@@ -388,16 +83,6 @@ impl Durable {
         ensures applies { IfOk result (λ applied. applied ≡ (is_built_group events.items && events_apply self.old events.items)) }
         ensures after { result ≡ Ok true → self.new ≡ after_events self.old events.items }
     {
-        if !is_built_group(&events) {
-            return Ok(false);
-        }
-        let mut events = events.into_iter();
-        let Some(first) = events.next() else {
-            return Ok(false);
-        };
-        match events.next() {
-            None => self.apply_alone(first),
-            Some(second) => self.apply_parts(first, second),
-        }
+        self.replayed.apply_group(events)
     }
 }

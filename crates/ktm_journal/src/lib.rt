@@ -8,6 +8,7 @@ mod image;
 mod journal;
 mod laws;
 mod load;
+mod replayed;
 
 pub use durable::Durable;
 pub use fault::LoadFault;

@@ -10,3 +10,8 @@ AreAbove n (m ∷ ms) = (n < m) × AreAbove n ms
 abbrev pub IsRising : List ℕ → Type 0
 IsRising [] = Unit {0}
 IsRising (n ∷ ns) = AreAbove n ns × IsRising ns
+
+-- the numbers, and how many there is room for
+pub record FileNumbersState : Type 0 where
+  pub numbers : List ℕ
+  pub room : ℕ

@@ -1,11 +1,11 @@
 // The committed files while a log is read.
-ghost use Rattle.std.specs.Prelude.{◌≡◌, ◌+◌, ◌&&◌, ◌<◌, ◌≤◌, ◌^◌, [], true, length, sum_by, Ok, IfOk, OnOk};
+ghost use Rattle.std.specs.Prelude.{◌≡◌, ◌+◌, ◌&&◌, ◌<◌, ◌≤◌, ◌^◌, [], ◌∷◌, true, length, sum_by, Ok, IfOk, IsOk};
 ghost use Rattle.std.specs.List.{list_all};
 ghost use Rattle.ktm_world.specs.Changes.{applies, changes_apply, changed, changed_all, next_after};
 ghost use Rattle.ktm_world.specs.Durable.{is_new_in, next_after_all};
 ghost use Rattle.ktm_world.specs.Tree.{bytes_of, bytes_or_none, units_of};
-ghost use Rattle.txf_tree.specs.TreeState.{fits, tree_of, versions_of};
-ghost use Rattle.txf_durable.specs.State.{IsCounted};
+ghost use Rattle.txf_tree.specs.TreeState.{fits, tree_of, versions_of, KeepsRooms};
+ghost use Rattle.txf_durable.specs.State.{CanMake, CanMakeAll, IsCounted, IsMade};
 
 use ktm_base::{NoMemory, UNIT_BYTES};
 use ktm_types::Change;
@@ -30,11 +30,10 @@ pub struct DurableFiles {
 
 impl Model for DurableFiles {
     ghost use Rattle.txf_durable.specs.State.{DurableFilesState};
-    ghost use Rattle.txf_tree.specs.TreeState.{tree_of};
 
     ghost Value = { DurableFilesState };
 
-    ghost view = { λ f. record { tree = tree_of f.tree; next_node = f.next_node } };
+    ghost view = { λ f. record { tree = f.tree; next_node = f.next_node } };
 
     ghost use Rattle.txf_durable.specs.State.{IsCounted};
 
@@ -64,8 +63,11 @@ fn prepare(tree: &mut Tree, units: u64, change: &Change) -> Result<bool, NoMemor
     ensures applies { IfOk result (λ is. is ≡ applies (tree_of tree.old) change.now) }
     ensures fits { result ≡ Ok true → fits tree.new change.now ≡ true }
     ensures few { result ≡ Ok true → units + 2 ^ 52 < 2 ^ 64 }
+    ensures enough { fits tree.old change.now ≡ true → units + 2 ^ 52 < 2 ^ 64 → IsOk result }
     ensures tree { tree_of tree.new ≡ tree_of tree.old }
     ensures versions { versions_of tree.new ≡ versions_of tree.old }
+    ensures rooms { KeepsRooms tree.old tree.new }
+    ensures spare { tree.old.spare ≤ tree.new.spare }
 {
     if !tree.applies(change) {
         return Ok(false);
@@ -83,7 +85,7 @@ fn restore(tree: &mut Tree, units: u64, change: Change) -> u64
     requires fits { fits tree.old change ≡ true }
     requires counted { IsCounted tree.old units }
     requires few { units + 2 ^ 52 < 2 ^ 64 }
-    ensures tree { tree_of tree.new ≡ changed (tree_of tree.old) change }
+    ensures made { IsMade tree.old tree.new change }
     ensures counted { IsCounted tree.new result }
 {
     let node = node_of(&change);
@@ -97,7 +99,7 @@ fn restore(tree: &mut Tree, units: u64, change: Change) -> u64
 impl DurableFiles {
     /// No files.
     pub fn new(alloc: Global) -> Self
-        ensures tree { result.tree ≡ [] }
+        ensures tree { tree_of result.tree ≡ [] }
         ensures next_node { result.next_node ≡ 2 }
     {
         DurableFiles {
@@ -109,21 +111,21 @@ impl DurableFiles {
 
     /// The files and directories.
     pub fn tree(&self) -> &Tree
-        ensures { tree_of result.now ≡ self.now.tree }
+        ensures { result.now ≡ self.now.tree }
     {
         &self.tree
     }
 
     /// How many nodes there are beside the root.
     pub fn nodes(&self) -> usize
-        ensures { result ≡ length self.now.tree }
+        ensures { result ≡ length (tree_of self.now.tree) }
     {
         self.tree.len()
     }
 
     /// The units of all files.
     pub fn units(&self) -> u64
-        ensures { result ≡ sum_by (λ node. units_of (bytes_or_none node.content)) self.now.tree }
+        ensures { result ≡ sum_by (λ node. units_of (bytes_or_none node.content)) (tree_of self.now.tree) }
     {
         self.units
     }
@@ -137,7 +139,7 @@ impl DurableFiles {
 
     /// The units of the files with these numbers, one after another.
     pub fn units_of(&self, files: &[u64]) -> u128
-        ensures { result ≡ sum_by (λ file. units_of (bytes_of self.now.tree file)) files.now }
+        ensures { result ≡ sum_by (λ file. units_of (bytes_of (tree_of self.now.tree) file)) files.now }
     {
         let mut units = 0;
         for file in files {
@@ -150,8 +152,9 @@ impl DurableFiles {
     /// that is so. It fails for want of memory, and where the files have nearly 2^64 units. Where not all changes were made
     /// the files are of no use, since some of them may have been.
     pub fn commit(&mut self, changes: Vec<Change>) -> Result<bool, NoMemory>
-        ensures applies { IfOk result (λ all. all ≡ (changes_apply self.old.tree changes.items && list_all (is_new_in self.old.tree) changes.items)) }
-        ensures after { result ≡ Ok true → (self.new.tree ≡ changed_all self.old.tree changes.items) × (self.new.next_node ≡ next_after_all self.old.next_node changes.items) }
+        ensures applies { IfOk result (λ all. all ≡ (changes_apply (tree_of self.old.tree) changes.items && list_all (is_new_in (tree_of self.old.tree)) changes.items)) }
+        ensures after { result ≡ Ok true → (tree_of self.new.tree ≡ changed_all (tree_of self.old.tree) changes.items) × (self.new.next_node ≡ next_after_all self.old.next_node changes.items) }
+        ensures enough { CanMakeAll self.old.tree changes.items → IsOk result }
     {
         if !self.are_new(&changes) {
             return Ok(false);
@@ -164,11 +167,23 @@ impl DurableFiles {
         Ok(true)
     }
 
+    /// Makes one change in the same way.
+    pub fn commit_one(&mut self, change: Change) -> Result<bool, NoMemory>
+        ensures applies { IfOk result (λ done. done ≡ (changes_apply (tree_of self.old.tree) (change ∷ []) && list_all (is_new_in (tree_of self.old.tree)) (change ∷ []))) }
+        ensures after { result ≡ Ok true → (tree_of self.new.tree ≡ changed_all (tree_of self.old.tree) (change ∷ [])) × (self.new.next_node ≡ next_after_all self.old.next_node (change ∷ [])) }
+        ensures enough { CanMake self.old.tree change → IsOk result }
+    {
+        if !self.is_new(&change) {
+            return Ok(false);
+        }
+        self.make(change)
+    }
+
     /// Hands out what the log came to. The bytes of no file were changed since.
     pub fn into_parts(self) -> FilesRead
-        ensures tree { tree_of result.tree ≡ self.tree }
+        ensures tree { tree_of result.tree ≡ tree_of self.tree }
         ensures versions { versions_of result.tree ≡ [] }
-        ensures units { result.units ≡ sum_by (λ node. units_of (bytes_or_none node.content)) self.tree }
+        ensures units { result.units ≡ sum_by (λ node. units_of (bytes_or_none node.content)) (tree_of self.tree) }
         ensures next_node { result.next_node ≡ self.next_node }
     {
         let DurableFiles {
@@ -185,21 +200,22 @@ impl DurableFiles {
 
     // Does the change make no node that is there.
     fn is_new(&self, change: &Change) -> bool
-        ensures { result ≡ is_new_in self.now.tree change.now }
+        ensures { result ≡ is_new_in (tree_of self.now.tree) change.now }
     {
         !is_make(change) || self.tree.node(node_of(change)).is_none()
     }
 
     fn are_new(&self, changes: &[Change]) -> bool
-        ensures { result ≡ list_all (is_new_in self.now.tree) changes.now }
+        ensures { result ≡ list_all (is_new_in (tree_of self.now.tree)) changes.now }
     {
         changes.iter().all(|change| self.is_new(change))
     }
 
     // Makes a change if it applies, counts what it adds to the units and takes from them, and tells whether it applies.
     fn make(&mut self, change: Change) -> Result<bool, NoMemory>
-        ensures applies { IfOk result (λ done. done ≡ applies self.old.tree change) }
-        ensures after { result ≡ Ok true → (self.new.tree ≡ changed self.old.tree change) × (self.new.next_node ≡ next_after self.old.next_node change) }
+        ensures applies { IfOk result (λ done. done ≡ applies (tree_of self.old.tree) change) }
+        ensures after { result ≡ Ok true → IsMade self.old.tree self.new.tree change × (self.new.next_node ≡ next_after self.old.next_node change) }
+        ensures enough { CanMake self.old.tree change → IsOk result }
     {
         let prepared = prepare(&mut self.tree, self.units, &change);
         if let Ok(true) = prepared {

@@ -10,5 +10,6 @@ mod written;
 
 pub use counts::{name_changes, nodes_made};
 pub use files::{DurableFiles, FilesRead};
+pub use numbers::FileNumbers;
 pub use recorded::are_recorded_changes;
-pub use written::written_files;
+pub use written::gather_written;

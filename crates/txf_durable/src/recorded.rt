@@ -1,15 +1,14 @@
 // The form in which a transaction records its changes.
-ghost use Rattle.std.specs.Prelude.{◌≡◌, ◌++◌, None, true, IfOk};
+ghost use Rattle.std.specs.Prelude.{◌≡◌, ◌≤◌, ◌++◌, None, true, length};
 ghost use Rattle.std.specs.List.{list_all, position};
 ghost use Rattle.ktm_world.specs.Changes.{changes_bytes};
 ghost use Rattle.ktm_world.specs.Durable.{are_final_bytes, are_recorded_changes, gives_bytes};
 ghost use Rattle.txf_durable.specs.Numbers.{IsRising};
 ghost use Rattle.txf_durable.specs.Recorded.{are_names, begins_with, begins_with_bytes, from_file};
 
-use crate::written::written_files;
-use ktm_base::NoMemory;
+use crate::numbers::FileNumbers;
+use crate::written::gather_written;
 use ktm_types::Change;
-use std::alloc::Global;
 use txf_tree::{changes_bytes, node_of};
 
 // Where the first change of bytes is.
@@ -89,17 +88,19 @@ fn have_bytes(files: &[u64], bytes: &[Change]) -> bool
 }
 
 /// Have the changes the form in which a transaction records them: some at least, their bytes last, and the bytes of each
-/// file that they make and leave. It fails for want of memory.
-pub fn are_recorded_changes(alloc: Global, changes: &[Change]) -> Result<bool, NoMemory>
-    ensures { IfOk result (λ are. are ≡ are_recorded_changes changes.now) }
+/// file that they make and leave. The numbers of these files are gathered in room that is there, so it takes no memory.
+pub fn are_recorded_changes(files: &mut FileNumbers, changes: &[Change]) -> bool
+    requires { length changes.now ≤ files.old.room }
+    ensures recorded { result ≡ are_recorded_changes changes.now }
+    ensures room { files.new.room ≡ files.old.room }
 {
     if changes.is_empty() {
-        return Ok(false);
+        return false;
     }
     let (names, bytes) = split_at_bytes(changes);
     if !are_final_bytes(bytes) {
-        return Ok(false);
+        return false;
     }
-    let files = written_files(alloc, names)?;
-    Ok(have_bytes(&files, bytes))
+    gather_written(files, names);
+    have_bytes(files.as_slice(), bytes)
 }

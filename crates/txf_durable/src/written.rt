@@ -1,13 +1,10 @@
 // The files that changes write.
-ghost use Rattle.std.specs.Prelude.{◌≡◌, IfOk, OnOk};
+ghost use Rattle.std.specs.Prelude.{◌≡◌, ◌+◌, ◌<◌, ◌≤◌, length};
 ghost use Rattle.ktm_world.specs.Changes.{is_make_of_file};
 ghost use Rattle.ktm_world.specs.Committed.{written_after, written_files};
-ghost use Rattle.txf_durable.specs.Numbers.{IsRising};
 
-use crate::numbers::Numbers;
-use ktm_base::NoMemory;
+use crate::numbers::FileNumbers;
 use ktm_types::{Change, NodeKind};
-use std::alloc::Global;
 use txf_tree::{changes_bytes, is_drop, node_of};
 
 fn is_make_of_file(change: &Change) -> bool
@@ -23,26 +20,29 @@ fn is_make_of_file(change: &Change) -> bool
 }
 
 // What becomes of the files with a change.
-fn add_change(files: &mut Numbers, change: &Change) -> Result<(), NoMemory>
-    ensures { OnOk result (files.new ≡ written_after files.old change.now) }
+fn add_change(files: &mut FileNumbers, change: &Change)
+    requires { length files.old.numbers < files.old.room }
+    ensures numbers { files.new.numbers ≡ written_after files.old.numbers change.now }
+    ensures few { length files.new.numbers ≤ length files.old.numbers + 1 }
+    ensures room { files.new.room ≡ files.old.room }
 {
     if changes_bytes(change) || is_make_of_file(change) {
-        return files.put(node_of(change));
+        files.put(node_of(change));
+        return;
     }
     if is_drop(change) {
         files.remove(node_of(change));
     }
-    Ok(())
 }
 
-/// The files that the changes write or make, and leave, by rising number. It fails for want of memory.
-pub fn written_files(alloc: Global, changes: &[Change]) -> Result<Vec<u64>, NoMemory>
-    ensures files { IfOk result (λ files. files.items ≡ written_files changes.now) }
-    ensures rising { IfOk result (λ files. IsRising files.items) }
+/// Makes the numbers those of the files that the changes write or make, and leave. It takes no memory.
+pub fn gather_written(files: &mut FileNumbers, changes: &[Change])
+    requires { length changes.now ≤ files.old.room }
+    ensures numbers { files.new.numbers ≡ written_files changes.now }
+    ensures room { files.new.room ≡ files.old.room }
 {
-    let mut files = Numbers::new(alloc);
+    files.clear();
     for change in changes {
-        add_change(&mut files, change)?;
+        add_change(files, change);
     }
-    Ok(files.into_vec())
 }

@@ -16,19 +16,19 @@ some_changes : (cs : List Change) → false ≡ (length cs == 0) → true ≡ ha
 some_changes [] some = absurd (cc)
 some_changes (c ∷ cs) some = refl
 
-pub returns-then-is_empty : goal.returns-then-is_empty
-returns-then-is_empty c = no_changes c.args.changes.now c.if-is_empty.ensures
+pub returns-then-is_empty-clause-recorded : goal.returns-then-is_empty-clause-recorded
+returns-then-is_empty-clause-recorded c = no_changes c.args.changes.now c.if-is_empty.ensures
 
-pub returns-then-not-are_final_bytes : goal.returns-then-not-are_final_bytes
-returns-then-not-are_final_bytes c =
+pub returns-then-not-are_final_bytes-clause-recorded : goal.returns-then-not-are_final_bytes-clause-recorded
+returns-then-not-are_final_bytes-clause-recorded c =
     let split = c.split_at_bytes.ensures in
     sym (not-recorded c.args.changes.now c.split_at_bytes.result.0.now c.split_at_bytes.result.1.now split.whole split.names split.bytes (sym c.if-not-are_final_bytes.ensures))
 
-pub returns : goal.returns
-returns c =
+pub returns-clause-recorded : goal.returns-clause-recorded
+returns-clause-recorded c =
     let split = c.split_at_bytes.ensures in
     let some = some_changes c.args.changes.now c.if-is_empty.ensures in
-    let files = c.deref.ensures.value ∙ c.in_ok-files.ensures.files in
+    let files = c.as_slice.ensures.numbers ∙ c.gather_written.ensures.numbers in
     c.have_bytes.ensures ∙ ap (list_all (gives_bytes c.split_at_bytes.result.1.now)) files
     ∙ ap (λ b. b && list_all (gives_bytes c.split_at_bytes.result.1.now) (written_files c.split_at_bytes.result.0.now)) some
     ∙ sym (recorded-split c.args.changes.now c.split_at_bytes.result.0.now c.split_at_bytes.result.1.now split.whole split.names split.bytes (sym c.if-not-are_final_bytes.ensures))

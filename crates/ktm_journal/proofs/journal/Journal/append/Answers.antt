@@ -1,4 +1,4 @@
-use Rattle.std.proofs.Common.{Err, arith}
+use Rattle.std.proofs.Common.{arith}
 use Rattle.ktm_journal.specs.Image.{JournalState}
 use Rattle.ktm_journal.proofs.Images.{full_law, stays_formatted, group_added, group_or_not}
 use Rattle.ktm_journal.proofs.journal.Journal.append.Goals as goal

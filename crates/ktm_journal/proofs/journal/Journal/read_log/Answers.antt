@@ -1,4 +1,4 @@
-use Rattle.std.proofs.Common.{refl, sym}
+use Rattle.std.proofs.Common.{refl}
 use Rattle.ktm_journal.proofs.LogLoads.{comes_to_built, comes_to_events, comes_to_image, comes_to_keys, comes_to_units}
 use Rattle.ktm_journal.proofs.journal.Journal.read_log.Goals as goal
 

@@ -1,19 +1,19 @@
-use Rattle.std.proofs.Common.{◌∙◌, is_ok, sym, subst}
+use Rattle.std.proofs.Common.{◌∙◌, sym, subst, true}
 use Rattle.txf_durable.specs.Numbers.{IsRising}
 use Rattle.txf_durable.proofs.Rising.{found, missing}
-use Rattle.txf_durable.proofs.numbers.Numbers.put.Goals as goal
+use Rattle.txf_durable.proofs.numbers.FileNumbers.put.Goals as goal
 
 pub invariant_of-self : goal.invariant_of-self
 invariant_of-self c =
     let is = missing c.self.inside.items.items c.deref.result.now c.args.number c.in-Err.place c.deref.ensures.value c.self.invariant c.in-Err.ensures.position in
-    subst IsRising (sym c.insert.ensures.items) (is.rising (is_ok c.insert.result))
+    subst IsRising (sym c.insert_reserved.ensures.items) (is.rising true)
 
-pub returns-in_ok-insert : goal.returns-in_ok-insert
-returns-in_ok-insert c =
+pub returns-in-Err-clause-numbers : goal.returns-in-Err-clause-numbers
+returns-in-Err-clause-numbers c =
     let is = missing c.self.inside.items.items c.deref.result.now c.args.number c.in-Err.place c.deref.ensures.value c.self.invariant c.in-Err.ensures.position in
-    rw (← c.self.view_is) (c.in_ok-insert.ensures.items ∙ sym is.put)
+    rw (← c.self.view_is) (c.insert_reserved.ensures.items ∙ sym is.put)
 
-pub returns-in_default : goal.returns-in_default
-returns-in_default c =
+pub returns-in_default-clause-numbers : goal.returns-in_default-clause-numbers
+returns-in_default-clause-numbers c =
     let is = found c.self.inside.items.items c.deref.result.now c.args.number c.in_default.field-0 c.deref.ensures.value c.self.invariant c.in_default.ensures.position in
     rw (← c.self.view_is) (sym is.put)

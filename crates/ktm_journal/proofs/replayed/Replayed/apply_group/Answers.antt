@@ -1,9 +1,9 @@
-use Rattle.std.proofs.Common.{◌≡◌, ◌&&◌, ◌∷◌, true, IfOk, Ok, sym, ◌∙◌, ap, subst}
+use Rattle.std.proofs.Common.{◌≡◌, ◌&&◌, ◌∷◌, true, IfOk, sym, ◌∙◌, ap, subst}
 use Rattle.ktm_forms.specs.Built.{is_built_group}
 use Rattle.ktm_world.specs.Durable.{after_events, events_apply}
 use Rattle.ktm_world.specs.Logs.{Group}
 use Rattle.ktm_journal.proofs.Groups.{Begins, begins}
-use Rattle.ktm_journal.proofs.durable.Durable.apply_group.Goals as goal
+use Rattle.ktm_journal.proofs.replayed.Replayed.apply_group.Goals as goal
 
 module _ (c : goal.After-drop-events-2) where
   made : is_built_group c.args.events.items ≡ true
@@ -18,10 +18,10 @@ module _ (c : goal.After-drop-events-2) where
 pub returns-clause-applies : goal.returns-clause-applies
 returns-clause-applies c =
     let g = group c in
-    subst (λ (events : Group). IfOk c.apply_parts.result (λ applied. applied ≡ (is_built_group events && events_apply c.args.self.now events))) (sym (parts c ∙ g.is))
+    subst (λ (events : Group). IfOk c.apply_parts.result (λ applied. applied ≡ (is_built_group events && events_apply c.args.self.now.state events))) (sym (parts c ∙ g.is))
     (rw (ap is_built_group (sym (parts c ∙ g.is)) ∙ made c) (c.apply_parts.ensures.applies g.transaction g.other g.changes g.settings g.files_is g.keys_is))
 
 pub returns-clause-after : goal.returns-clause-after
 returns-clause-after c is =
     let g = group c in
-    c.apply_parts.ensures.after g.transaction g.other g.changes g.settings g.files_is g.keys_is is ∙ ap (after_events c.args.self.now) (sym (parts c ∙ g.is))
+    c.apply_parts.ensures.after g.transaction g.other g.changes g.settings g.files_is g.keys_is is ∙ ap (after_events c.args.self.now.state) (sym (parts c ∙ g.is))

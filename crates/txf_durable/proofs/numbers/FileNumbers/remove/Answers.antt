@@ -1,19 +1,19 @@
 use Rattle.std.proofs.Common.{◌∙◌, sym, subst}
 use Rattle.txf_durable.specs.Numbers.{IsRising}
 use Rattle.txf_durable.proofs.Rising.{found, missing}
-use Rattle.txf_durable.proofs.numbers.Numbers.remove.Goals as goal
+use Rattle.txf_durable.proofs.numbers.FileNumbers.remove.Goals as goal
 
 pub invariant_of-self : goal.invariant_of-self
 invariant_of-self c =
     let is = found c.self.inside.items.items c.deref.result.now c.args.number c.in-Ok.place c.deref.ensures.value c.self.invariant c.in-Ok.ensures.position in
     subst IsRising (sym c.remove.ensures.items) is.rising
 
-pub returns-in-Ok : goal.returns-in-Ok
-returns-in-Ok c =
+pub returns-in-Ok-clause-numbers : goal.returns-in-Ok-clause-numbers
+returns-in-Ok-clause-numbers c =
     let is = found c.self.inside.items.items c.deref.result.now c.args.number c.in-Ok.place c.deref.ensures.value c.self.invariant c.in-Ok.ensures.position in
     rw (← c.self.view_is) (c.remove.ensures.items ∙ sym is.taken)
 
-pub returns-in_default : goal.returns-in_default
-returns-in_default c =
+pub returns-in_default-clause-numbers : goal.returns-in_default-clause-numbers
+returns-in_default-clause-numbers c =
     let is = missing c.self.inside.items.items c.deref.result.now c.args.number c.in_default.field-0 c.deref.ensures.value c.self.invariant c.in_default.ensures.position in
     rw (← c.self.view_is) (sym is.taken)

@@ -1,6 +1,6 @@
 use Rattle.std.proofs.Common.{arith}
 use Rattle.ktm_world.proofs.KeyLemmas.{length-counts}
-use Rattle.ktm_journal.proofs.durable.count_unset.Goals as goal
+use Rattle.ktm_journal.proofs.replayed.count_unset.Goals as goal
 
 pub overflow_sub-result : goal.overflow_sub-result
 overflow_sub-result c = omega (arith, c.count_set.ensures, length-counts c.args.settings.now)
