@@ -2,3 +2,4 @@
 pub mod Count
 pub mod File
 pub mod ImageFile
+pub mod LateFile

@@ -4,14 +4,14 @@ ghost use Rattle.ktm_base.specs.Bytes.{written, SameOutside, GrewTo, GrewTowards
 ghost use Rattle.ktm_base.specs.Stream.{Faults};
 ghost use Rattle.ktm_base.specs.Told.{Goes};
 ghost use Rattle.ktm_os.specs.Count.{counted, IsOneMore};
-ghost use Rattle.ktm_os.specs.File.{to_change};
 
+use crate::access::Access;
 use crate::count::count_failure;
 use crate::image::Image;
 use crate::image_file::ImageFile;
 use crate::late_file::LateFile;
 use ktm_base::{Block, Failed};
-use std::fs::{File, OpenOptions};
+use std::fs::File;
 use std::rt::Files;
 
 /// A block device in a file, which nobody else changes. A range that passes the file's end is a failure.
@@ -27,12 +27,10 @@ impl<R: Files<File = File>> FileBlock<LateFile<R>> {
         ensures faults { result.faults ≡ 0 }
         ensures rt { result.image.file.rt ≡ rt }
         ensures path { result.image.file.path ≡ path }
-        ensures how { result.image.file.how ≡ to_change }
+        ensures access { result.image.file.access ≡ Access.Change }
         ensures waits { result.image.waits ≡ true }
     {
-        let mut how = OpenOptions::new();
-        how.read(true).write(true).create(true);
-        FileBlock::over(LateFile::new(rt, path, how))
+        FileBlock::over(LateFile::new(rt, path, Access::Change))
     }
 }
 

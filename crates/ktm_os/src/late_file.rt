@@ -1,9 +1,10 @@
 // A file that is opened at its first use.
-ghost use Rattle.std.specs.Prelude.{◌≡◌, ◌<ℤ◌, pos, None, IfOk, true};
+ghost use Rattle.std.specs.Prelude.{◌≡◌, ◌<ℤ◌, pos, None, Some, IfOk, OnOk, OnErr, IsSome, true};
 ghost use Rattle.std.specs.Option.{ForSome};
 ghost use Rattle.std.specs.Fd.{file_raw_fd};
 ghost use Rattle.ktm_os.specs.File.{folder_of};
 
+use crate::access::Access;
 use crate::image_file::ImageFile;
 use std::fs::{File, OpenOptions};
 use std::io;
@@ -17,41 +18,53 @@ use std::rt::Files;
 pub struct LateFile<R> {
     rt: R,
     path: String,
-    how: OpenOptions,
+    access: Access,
     file: Option<File>,
     ghost apart: { ForSome file (λ f. pos 2 <ℤ file_raw_fd f) },
 }
 
 impl<R: Files<File = File>> LateFile<R> {
-    pub fn new(rt: R, path: String, how: OpenOptions) -> LateFile<R>
+    ghost use Rattle.ktm_os.specs.LateFile.{IsSameFile};
+
+    pub fn new(rt: R, path: String, access: Access) -> LateFile<R>
         ensures rt { result.rt ≡ rt }
         ensures path { result.path ≡ path }
-        ensures how { result.how ≡ how }
+        ensures access { result.access ≡ access }
         ensures not_open { result.file ≡ None }
     {
         LateFile {
             rt,
             path,
-            how,
+            access,
             file: None,
         }
     }
 
-    pub fn get(&mut self) -> io::Result<&File>
-        ensures apart { IfOk result (λ file. pos 2 <ℤ file_raw_fd file.now) }
+    /// Opens it, where it is not open.
+    pub fn open(&mut self) -> io::Result<()>
+        ensures opened { OnOk result (IsSome self.new.file) }
+        ensures failed { OnErr result (self.new ≡ self.old) }
+        ensures same { IsSameFile self.old self.new }
     {
         if self.file.is_none() {
-            self.file = Some(open_apart(&self.rt, &self.how, self.path.as_str())?);
+            self.file = Some(open(&self.rt, self.access, self.path.as_str())?);
         }
-        match &self.file {
-            Some(file) => Ok(file),
-            None => Err(io::ErrorKind::NotFound.into()),
-        }
+        Ok(())
+    }
+
+    /// The open file.
+    pub fn opened(&self) -> &File
+        requires { IsSome self.now.file }
+        ensures { self.now.file ≡ Some result.now }
+    {
+        self.file.as_ref().unwrap()
     }
 }
 
 /// It tells nothing, since no contract can say what a file holds or the system keeps.
 impl<R: Files<File = File>> ImageFile for LateFile<R> {
+    ghost use Rattle.ktm_os.specs.LateFile.{IsSameFile};
+
     ghost contents = { λ _. None };
 
     ghost failures = { λ _. None };
@@ -60,31 +73,59 @@ impl<R: Files<File = File>> ImageFile for LateFile<R> {
 
     ghost is_name_synced = { λ _. true };
 
-    fn len(&mut self) -> io::Result<u64> {
-        Ok(self.get()?.metadata()?.len())
+    fn len(&mut self) -> io::Result<u64>
+        ensures same { IsSameFile self.old self.new }
+    {
+        self.open()?;
+        Ok(self.opened().metadata()?.len())
     }
 
-    fn read(&mut self, at: u64, buf: &mut [u8]) -> io::Result<()> {
-        self.get()?.read_exact_at(buf, at)
+    fn read(&mut self, at: u64, buf: &mut [u8]) -> io::Result<()>
+        ensures same { IsSameFile self.old self.new }
+    {
+        self.open()?;
+        self.opened().read_exact_at(buf, at)
     }
 
-    fn write(&mut self, at: u64, bytes: &[u8]) -> io::Result<()> {
-        self.get()?.write_all_at(bytes, at)
+    fn write(&mut self, at: u64, bytes: &[u8]) -> io::Result<()>
+        ensures same { IsSameFile self.old self.new }
+    {
+        self.open()?;
+        self.opened().write_all_at(bytes, at)
     }
 
-    fn grow(&mut self, len: u64) -> io::Result<()> {
-        self.get()?.set_len(len)
+    fn grow(&mut self, len: u64) -> io::Result<()>
+        ensures same { IsSameFile self.old self.new }
+    {
+        self.open()?;
+        self.opened().set_len(len)
     }
 
-    fn sync(&mut self) -> io::Result<()> {
-        self.get()?.sync_data()
+    fn sync(&mut self) -> io::Result<()>
+        ensures same { IsSameFile self.old self.new }
+    {
+        self.open()?;
+        self.opened().sync_data()
     }
 
-    fn sync_folder(&mut self) -> io::Result<()> {
-        let mut how = OpenOptions::new();
-        how.read(true);
-        open_apart(&self.rt, &how, folder_of(self.path.as_str()))?.sync_all()
+    fn sync_folder(&mut self) -> io::Result<()>
+        ensures same { self.new ≡ self.old }
+    {
+        open(&self.rt, Access::Read, folder_of(self.path.as_str()))?.sync_all()
     }
+}
+
+/// Opens a file for an access, and locks one that is to be changed: until it is closed nobody else can open it so. It fails
+/// where another program has it locked, and where the file system has no locks.
+fn open<R: Files<File = File>>(rt: &R, access: Access, path: &str) -> io::Result<File>
+    ensures { IfOk result (λ file. pos 2 <ℤ file_raw_fd file) }
+{
+    let file = open_apart(rt, &access.options(), path)?;
+    match access {
+        Access::Read => {}
+        Access::Change => file.try_lock()?,
+    }
+    Ok(file)
 }
 
 /// Opens a file apart from standard input, output and error: where one of these is closed, the system gives its number

@@ -3,10 +3,12 @@
 //! its file, and what it makes of the answers, is proved over any file.
 #![tactic(auto)]
 
+mod access;
 mod block;
 mod count;
 mod image;
 mod image_file;
+mod interrupted;
 mod late_file;
 mod sink;
 mod source;

@@ -4,6 +4,7 @@ ghost use Rattle.ktm_base.specs.Stream.{Faults};
 ghost use Rattle.ktm_os.specs.Count.{counted};
 
 use crate::count::count_failure;
+use crate::interrupted::write_some;
 use ktm_base::{Failed, Sink};
 use std::io::{self, Print};
 
@@ -44,16 +45,16 @@ impl<R: Print> Sink for StdSink<R> {
         ensures faults { Faults self.old.faults self.new.faults result }
         ensures counts { self.new.faults ≡ counted result self.old.faults }
     {
-        count_failure(write_some(&self.rt, bytes), &mut self.faults)
+        count_failure(take_some(&self.rt, bytes), &mut self.faults)
     }
 }
 
 /// Writes some of the bytes. To take none of some bytes is a failure.
-fn write_some<R: Print>(rt: &R, bytes: &[u8]) -> io::Result<usize>
+fn take_some<R: Print>(rt: &R, bytes: &[u8]) -> io::Result<usize>
     ensures bound { IfOk result (λ n. n ≤ length bytes.now) }
     ensures some { IfOk result (λ n. 0 < length bytes.now → 0 < n) }
 {
-    match rt.write_some(bytes) {
+    match write_some(rt, bytes) {
         Ok(0) if !bytes.is_empty() => Err(io::ErrorKind::WriteZero.into()),
         done => done,
     }

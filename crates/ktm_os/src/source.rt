@@ -2,13 +2,15 @@
 ghost use Rattle.std.specs.Prelude.{◌≡◌, ◌≤◌, None, IfOk, length};
 ghost use Rattle.ktm_base.specs.Stream.{Faults};
 ghost use Rattle.ktm_os.specs.Count.{counted};
-ghost use Rattle.ktm_os.specs.File.{to_read};
+ghost use Rattle.ktm_os.specs.LateFile.{IsSameFile};
 
+use crate::access::Access;
 use crate::count::count_failure;
+use crate::interrupted::read_some;
 use crate::late_file::LateFile;
 use ktm_base::{Failed, Source};
-use std::fs::{File, OpenOptions};
-use std::io::{self, Read};
+use std::fs::File;
+use std::io;
 use std::rt::Files;
 
 /// The bytes of a file, from its start on. It is opened at the first read.
@@ -23,12 +25,10 @@ impl<R: Files<File = File>> FileSource<R> {
         ensures faults { result.faults ≡ 0 }
         ensures rt { result.file.rt ≡ rt }
         ensures path { result.file.path ≡ path }
-        ensures how { result.file.how ≡ to_read }
+        ensures access { result.file.access ≡ Access.Read }
     {
-        let mut how = OpenOptions::new();
-        how.read(true);
         FileSource {
-            file: LateFile::new(rt, path, how),
+            file: LateFile::new(rt, path, Access::Read),
             faults: 0,
         }
     }
@@ -50,14 +50,16 @@ impl<R: Files<File = File>> Source for FileSource<R> {
         ensures count { IfOk result (λ n. n ≤ length buf.old) }
         ensures faults { Faults self.old.faults self.new.faults result }
         ensures counts { self.new.faults ≡ counted result self.old.faults }
+        ensures same { IsSameFile self.old.file self.new.file }
     {
-        count_failure(read_some(&mut self.file, buf), &mut self.faults)
+        count_failure(read_file(&mut self.file, buf), &mut self.faults)
     }
 }
 
-fn read_some<R: Files<File = File>>(file: &mut LateFile<R>, buf: &mut [u8]) -> io::Result<usize>
-    ensures { IfOk result (λ n. n ≤ length buf.old) }
+fn read_file<R: Files<File = File>>(file: &mut LateFile<R>, buf: &mut [u8]) -> io::Result<usize>
+    ensures count { IfOk result (λ n. n ≤ length buf.old) }
+    ensures same { IsSameFile file.old file.new }
 {
-    let mut file = file.get()?;
-    file.read(buf)
+    file.open()?;
+    read_some(&mut file.opened(), buf)
 }
