@@ -10,7 +10,8 @@ use crate::schedule::{Calls, Schedule};
 use ktm_base::{Block, Bytes, Failed, NoMemory};
 use std::alloc::Global;
 
-/// Keeps its bytes, and grows within its room. A call that fails changes none of them.
+/// Keeps its bytes, and grows within its room. A call that fails changes none of them, and a buffer that it was to fill is as it
+/// was.
 #[derive(Drop)]
 pub struct MemBlock {
     bytes: Vec<u8>,
@@ -87,6 +88,7 @@ impl Block for MemBlock {
         ensures waits { self.new.waits ≡ self.old.waits }
         ensures faults { Faults self.old.faults self.new.faults result }
         ensures call { BlockCall self.old self.new result }
+        ensures refused { OnErr result (buf.new ≡ buf.old) }
         ensures fails { is_err result ≡ fails_next (block_schedule self.old) }
     {
         self.begin_call()?;

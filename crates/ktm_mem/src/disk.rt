@@ -12,7 +12,7 @@ use ktm_base::{Bytes, Disk, Down, MOST_PENDING, NoMemory};
 use std::alloc::Global;
 
 /// Keeps its bytes. It goes down at the first call that fails, or that asks for a length beyond its room, and stays down.
-/// A call that it refuses changes none of its bytes.
+/// A call that it refuses changes none of its bytes, and a buffer that it was to fill is as it was.
 #[derive(Drop)]
 pub struct MemDisk {
     bytes: Vec<u8>,
@@ -92,6 +92,7 @@ impl Disk for MemDisk {
         ensures same { Some (state_of self.new) ≡ Some (state_of self.old) }
         ensures pending { (status_of self.new).pending ≡ (status_of self.old).pending }
         ensures call { DeviceCall (status_of self.old) (status_of self.new) (is_err result) }
+        ensures refused { OnErr result (buf.new ≡ buf.old) }
         ensures fails { is_err result ≡ refuses_next self.old }
         ensures after { DiskCall self.old self.new (is_err result) }
     {
@@ -111,6 +112,7 @@ impl Disk for MemDisk {
         ensures frozen { IsTrue (status_of self.old).is_down → Some (state_of self.new) ≡ Some (state_of self.old) }
         ensures pending { (status_of self.old).is_down ≡ false → (status_of self.new).pending ≡ (status_of self.old).pending + 1 }
         ensures call { DeviceCall (status_of self.old) (status_of self.new) (is_err result) }
+        ensures refused { OnErr result ((state_of self.new).seen ≡ (state_of self.old).seen) }
         ensures fails { is_err result ≡ refuses_next self.old }
         ensures after { DiskCall self.old self.new (is_err result) }
     {
@@ -149,6 +151,7 @@ impl Disk for MemDisk {
         ensures frozen { IsTrue (status_of self.old).is_down → Some (state_of self.new) ≡ Some (state_of self.old) }
         ensures pending { (status_of self.new).pending ≡ (status_of self.old).pending }
         ensures call { DeviceCall (status_of self.old) (status_of self.new) (is_err result) }
+        ensures refused { OnErr result ((state_of self.new).seen ≡ (state_of self.old).seen) }
         ensures fails { is_err result ≡ (refuses_next self.old || nat_lt (disk_room self.old) len) }
         ensures after { DiskCall self.old self.new (is_err result) }
     {
