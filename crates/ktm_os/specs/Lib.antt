@@ -3,3 +3,4 @@ pub mod Count
 pub mod File
 pub mod ImageFile
 pub mod LateFile
+pub mod Path

@@ -22,11 +22,14 @@ pub struct FileBlock<F: ImageFile> {
 }
 
 impl<R: Files<File = File>> FileBlock<LateFile<R>> {
+    ghost use Rattle.std.specs.Prelude.{string_bytes};
+    ghost use Rattle.ktm_os.specs.Path.{path_of_block};
+
     /// In the file of this path, which is opened at the first call, and made, empty, where there is none.
     pub fn new(rt: R, path: String) -> FileBlock<LateFile<R>>
         ensures faults { result.faults ≡ 0 }
         ensures rt { result.image.file.rt ≡ rt }
-        ensures path { result.image.file.path ≡ path }
+        ensures path { path_of_block result ≡ string_bytes path }
         ensures access { result.image.file.access ≡ Access.Change }
         ensures waits { result.image.waits ≡ true }
     {

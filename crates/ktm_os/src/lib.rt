@@ -15,5 +15,6 @@ mod source;
 
 pub use block::FileBlock;
 pub use image_file::ImageFile;
+pub use late_file::LateFile;
 pub use sink::StdSink;
 pub use source::FileSource;

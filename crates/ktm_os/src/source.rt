@@ -21,10 +21,13 @@ pub struct FileSource<R> {
 }
 
 impl<R: Files<File = File>> FileSource<R> {
+    ghost use Rattle.std.specs.Prelude.{string_bytes};
+    ghost use Rattle.ktm_os.specs.Path.{path_of_source};
+
     pub fn new(rt: R, path: String) -> FileSource<R>
         ensures faults { result.faults ≡ 0 }
         ensures rt { result.file.rt ≡ rt }
-        ensures path { result.file.path ≡ path }
+        ensures path { path_of_source result ≡ string_bytes path }
         ensures access { result.file.access ≡ Access.Read }
     {
         FileSource {

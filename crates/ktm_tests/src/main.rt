@@ -16,9 +16,14 @@
 //! - `events`, `groups`: bytes, as digits, and the event or the group that they are.
 //! - `picks`: the number of a pick, and what a loss of power leaves of a disk by it.
 //! - `calls`: the number of the first call of a file that fails, and the calls that a block makes over it.
+//!
+//! And the whole program is run, over files that it finds and makes in its folder:
+//!
+//! - `commands`: command lines one after another, each with its exit code. What they write comes before the line of the table.
 #![tactic(auto)]
 
 mod answers;
+mod commands;
 mod cuts;
 mod events;
 mod faults;
@@ -45,7 +50,10 @@ fn main(rt: HostRuntime) -> io::Result<()> {
                 let replies = fs::read(&rt, format!(in alloc; "{name}.out")?)?;
                 wrong_reply(alloc, &table, &replies)
             }
-            None => found(alloc, kind_of(&word), &table),
+            None => match kind_of(&word) {
+                "commands" => commands::found(alloc, &rt, &table),
+                kind => found(alloc, kind, &table),
+            },
         };
         match found {
             Ok(None) => println!(rt; "{word} holds")?,
