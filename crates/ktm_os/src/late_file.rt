@@ -26,7 +26,7 @@ pub struct LateFile<R> {
 impl<R: Files<File = File>> LateFile<R> {
     ghost use Rattle.ktm_os.specs.LateFile.{IsSameFile};
 
-    pub fn new(rt: R, path: String, access: Access) -> LateFile<R>
+    pub(crate) fn new(rt: R, path: String, access: Access) -> LateFile<R>
         ensures rt { result.rt ≡ rt }
         ensures path { result.path ≡ path }
         ensures access { result.access ≡ access }
@@ -41,7 +41,7 @@ impl<R: Files<File = File>> LateFile<R> {
     }
 
     /// Opens it, where it is not open.
-    pub fn open(&mut self) -> io::Result<()>
+    pub(crate) fn open(&mut self) -> io::Result<()>
         ensures opened { OnOk result (IsSome self.new.file) }
         ensures failed { OnErr result (self.new ≡ self.old) }
         ensures same { IsSameFile self.old self.new }
@@ -53,7 +53,7 @@ impl<R: Files<File = File>> LateFile<R> {
     }
 
     /// The open file.
-    pub fn opened(&self) -> &File
+    pub(crate) fn opened(&self) -> &File
         requires { IsSome self.now.file }
         ensures { self.now.file ≡ Some result.now }
     {
