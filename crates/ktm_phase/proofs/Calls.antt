@@ -1,10 +1,9 @@
 -- The calls of the model come to their rows.
 use Rattle.std.specs.Prelude.{if◌then◌else◌}
-use Rattle.std.proofs.Common.{◌≡◌, ◌&&◌, ◌||◌, not, Bool, true, false, Option, Some, None, is_some, Result, Ok, Err, refl, sym, ◌∙◌, ap, subst}
+use Rattle.std.proofs.Common.{◌≡◌, ◌&&◌, ◌||◌, not, Bool, true, false, Option, Some, None, is_some, Err, refl, sym, ◌∙◌, ap}
 use Rattle.std.proofs.lemmas.Bool.{true≢false}
 use Rattle.ktm_base.specs.declared.id.Label.{Label}
 use Rattle.ktm_base.specs.declared.id.Pid.{Pid}
-use Rattle.ktm_base.specs.declared.refusal.Refusal.{Refusal}
 use Rattle.ktm_base.specs.declared.refusal.Refusal.TheVariants.{EnlistmentNotSuperior, TransactionRequestNotValid}
 use Rattle.ktm_types.specs.declared.command.Command.{Command}
 use Rattle.ktm_types.specs.declared.object.Phase.{Phase}
@@ -23,6 +22,7 @@ use Rattle.ktm_phase.specs.declared.phase.PhaseInput.{PhaseInput}
 use Rattle.ktm_phase.specs.declared.superior.SuperiorCall.{SuperiorCall}
 use Rattle.ktm_phase.specs.Calls.{CallsLaw, ComesTo, Counts, Names, course_by, led, refusal_in, reply_call, superior_call}
 use Rattle.ktm_phase.specs.Replies.{allows, commanded, if_allowed, input_of, may_recover, may_set_information, may_vote, recovered, replied}
+use Rattle.ktm_phase.proofs.Coming.{of-allowed, of-command}
 use Rattle.ktm_phase.proofs.Table.{rows_law}
 
 -- ---- what is allowed, and what comes then
@@ -34,21 +34,6 @@ allowed-refusal false input = refl
 command-refusal : (s b : Bool) (input : PhaseInput) → (if not s then Some EnlistmentNotSuperior else (if not b then Some TransactionRequestNotValid else None)) ≡ refusal_in (if s then if_allowed b input else Err EnlistmentNotSuperior)
 command-refusal true b input = allowed-refusal b input
 command-refusal false b input = refl
-
-same_input : (a b : PhaseInput) (r : Result PhaseInput Refusal) → r ≡ Ok a → r ≡ Ok b → a ≡ b
-same_input a b r first second = cc
-
-no-input : (refusal : Refusal) (a : PhaseInput) (r : Result PhaseInput Refusal) → r ≡ Err refusal → r ≡ Ok a → ⊥
-no-input refusal a r first second = cc
-
--- what holds of an input that comes where it is allowed holds of what comes
-of-allowed : (b : Bool) (a input : PhaseInput) (P : PhaseInput → Type 0) → if_allowed b a ≡ Ok input → (b ≡ true → P a) → P input
-of-allowed true a input P same holds = subst P (same_input a input (Ok a) refl same) (holds refl)
-of-allowed false a input P same holds = absurd (no-input TransactionRequestNotValid input (Err TransactionRequestNotValid) refl same)
-
-of-command : (s b : Bool) (a input : PhaseInput) (P : PhaseInput → Type 0) → (if s then if_allowed b a else Err EnlistmentNotSuperior) ≡ Ok input → P a → P input
-of-command true b a input P same holds = of-allowed b a input P same (λ is. holds)
-of-command false b a input P same holds = absurd (no-input EnlistmentNotSuperior input (Err EnlistmentNotSuperior) refl same)
 
 some-owed : (test : Option Owed → Bool) (o : Option Owed) → test None ≡ false → test o ≡ true → is_some o ≡ true
 some-owed test None none is = absurd (true≢false (sym is ∙ none))
@@ -88,7 +73,7 @@ module _ (x : Present) (process : Pid) (label : Label) (e : Enlistment) (t : Tra
         ap (λ o. first_refusal (superior_tests x o test)) names.enlistment
         ∙ ap (λ b. if not (is_superior e) then Some EnlistmentNotSuperior else (if not b then Some TransactionRequestNotValid else None)) (passes test) ∙ command-refusal (is_superior e) (test t.phase) input;
     leads = λ other came. of-command (is_superior e) (test t.phase) input other (λ input. answering x (enlistment_named x process label) step ≡ arrived x (led (Some e) input (course_by x t e)) Done) came
-        (leads-by input step same);
+        (λ may. leads-by input step same);
   }
 
   may : may_vote_in x e ≡ may_vote t.phase e

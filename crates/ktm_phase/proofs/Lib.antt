@@ -3,5 +3,6 @@ mod Lasting
 mod Table
 mod Ahead
 mod Fading
+mod Coming
 mod Outcomes
 mod Calls

@@ -20,6 +20,7 @@ use Rattle.ktm_phase.specs.Outcomes.{AreTrue, IsKnownIn, KeepsTrue, MayBe, MayCo
 use Rattle.ktm_phase.specs.Rows.{aborts, all_readies, commit_completes, commits, commits_one, goes_after, goes_without, is_last, participants, pre_prepare_completes, pre_prepares, prepare_completes, prepares, prepares_all, prepares_alone, read_onlies, recovers, recovers_superior, requests, rollback_completes, row, tells_in, without}
 use Rattle.ktm_phase.specs.Run.{answer_to, carried, is_meant, run, seen}
 use Rattle.ktm_phase.specs.Procedures.{IsRun}
+use Rattle.ktm_phase.proofs.Coming.{command-may-come, recovery-may-come, reply-may-come}
 use Rattle.ktm_phase.proofs.Table.{once, runs_law}
 
 through : (k j t : Option Bool) → MayBe k j → MayBe j t → MayBe k t
@@ -177,7 +178,10 @@ pub outcome_law : OutcomeLaw
 unfolding runs_law
 outcome_law = record {
   steps = keeps-steps;
-  rows = true-row;
+  rows = λ by s input c may. keeps-steps by (row s input) c (true-row s input (known c) may);
+  replies = λ phase known e vote input by fits came. reply-may-come phase known by e vote input fits came;
+  superiors = λ phase known e call input by came. command-may-come phase known by e call input came;
+  recoveries = λ phase known e input by came. recovery-may-come phase known by e input came;
   committing = λ c is. keeps-first c _ (runs_law.committing c) is true-commits;
   aborting = λ c is. keeps-first c _ (runs_law.aborting c) is true-aborts;
   all_ready = λ c is. keeps-first c _ (runs_law.all_ready c) is (true-all_readies (seen c));

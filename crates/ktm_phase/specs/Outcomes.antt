@@ -1,13 +1,16 @@
 -- What a transaction on its way tells of its outcome is so, and an outcome that is known stays.
-use Rattle.std.specs.Prelude.{◌≡◌, ⊤, ◌⊎◌, Bool, true, false, List, [], ◌∷◌, All, Option, Some, None}
+use Rattle.std.specs.Prelude.{◌≡◌, ⊤, ◌⊎◌, Bool, true, false, List, [], ◌∷◌, All, Option, Some, None, Ok}
 use Rattle.ktm_base.specs.declared.notify.Notify.{Notify}
 use Rattle.ktm_types.specs.declared.object.Phase.{Phase}
-use Rattle.ktm_world.specs.Enlistments.{Enlistment, Sent}
+use Rattle.ktm_world.specs.Enlistments.{Enlistment, Owed as Answer, Sent, pre_prepare, prepare, commit, rollback}
 use Rattle.ktm_world.specs.OneOutcome.{told_by, told_outcome}
-use Rattle.ktm_world.specs.Phases.{Course, aborting, all_ready, commit_answered, committing, end_notice, pre_prepare_answered, pre_prepared, prepare_answered, read_only_answered, recovered, rollback_answered, single_phase_rejected, to_commit, to_pre_prepare, to_prepare}
+use Rattle.ktm_world.specs.Phases.{Course, aborting, all_ready, commit_answered, committing, end_notice, pre_prepare_answered, pre_prepared, prepare_answered, read_only_answered, recovered as recovered_by, rollback_answered, single_phase_rejected, to_commit, to_pre_prepare, to_prepare}
+use Rattle.ktm_phase.specs.declared.enlistment.Vote.{Vote}
 use Rattle.ktm_phase.specs.declared.phase.PhaseInput.{PhaseInput}
 use Rattle.ktm_phase.specs.declared.phase.Seen.{Seen}
 use Rattle.ktm_phase.specs.declared.step.Step.{Step}
+use Rattle.ktm_phase.specs.declared.superior.SuperiorCall.{SuperiorCall}
+use Rattle.ktm_phase.specs.Replies.{commanded, recovered, replied}
 use Rattle.ktm_phase.specs.Rows.{row}
 use Rattle.ktm_phase.specs.Run.{run}
 
@@ -49,11 +52,26 @@ pub record StaysTrue (before : Option Bool) (d : Course) : Type 0 where
 
 -- ---- what may be known when something comes
 
--- in the phases of an outcome this one is known
+-- the outcome is known exactly in the phases in which it is decided
 abbrev pub IsKnownIn : Phase → Option Bool → Type 0
 IsKnownIn Phase.Committing known = known ≡ Some true
 IsKnownIn Phase.Aborting known = known ≡ Some false
-IsKnownIn _ known = ⊤
+IsKnownIn Phase.Ended known = ⊤
+IsKnownIn _ known = known ≡ None
+
+-- is this answer waited for in this phase
+abbrev pub is_asked_in : Phase → Answer → Bool
+is_asked_in Phase.PrePreparing pre_prepare = true
+is_asked_in Phase.Preparing prepare = true
+is_asked_in Phase.SinglePhase commit = true
+is_asked_in Phase.Committing commit = true
+is_asked_in Phase.Aborting rollback = true
+is_asked_in _ _ = false
+
+-- the answer that is owed, if one is, is waited for in this phase
+abbrev pub IsOwedIn : Phase → Option Answer → Type 0
+IsOwedIn phase None = ⊤
+IsOwedIn phase (Some answer) = is_asked_in phase answer ≡ true
 
 -- what may be known in this phase when this comes: nothing where the outcome is still to be decided, and this outcome where an enlistment has finished or is told it
 abbrev pub MayCome : Option Bool → Phase → PhaseInput → Type 0
@@ -68,10 +86,16 @@ MayCome known phase _ = known ≡ None
 abbrev pub KeepsTrue : Course → Course → Type 0
 KeepsTrue c d = IsTrue c → StaysTrue (known c) d
 
--- what steps, rows and procedures tell is so, and none takes back what is known
+-- what is told is so, and nothing takes back an outcome that is known
 pub record OutcomeLaw : Type 0 where
+  -- by steps that tell and decide nothing else
   pub steps : (by : Option Enlistment) (steps : List Step) (c : Course) → AreTrue (known c) steps → KeepsTrue c (run by steps c)
-  pub rows : (s : Seen) (input : PhaseInput) (known : Option Bool) → MayCome known s.phase input → AreTrue known (row s input)
+  -- by the row of what may come
+  pub rows : (by : Option Enlistment) (s : Seen) (input : PhaseInput) (c : Course) → MayCome (known c) s.phase input → KeepsTrue c (run by (row s input) c)
+  -- and so may all that is allowed, where the enlistment owes nothing but what is waited for
+  pub replies : (phase : Phase) (known : Option Bool) (e : Enlistment) (vote : Vote) (input : PhaseInput) → IsKnownIn phase known → IsOwedIn phase e.owes → replied phase e vote ≡ Ok input → MayCome known phase input
+  pub superiors : (phase : Phase) (known : Option Bool) (e : Enlistment) (call : SuperiorCall) (input : PhaseInput) → IsKnownIn phase known → commanded phase e call ≡ Ok input → MayCome known phase input
+  pub recoveries : (phase : Phase) (known : Option Bool) (e : Enlistment) (input : PhaseInput) → IsKnownIn phase known → recovered phase e ≡ Ok input → MayCome known phase input
   -- procedures that begin while nothing is known
   pub committing : (c : Course) → known c ≡ None → KeepsTrue c (committing c)
   pub aborting : (c : Course) → known c ≡ None → KeepsTrue c (aborting c)
@@ -87,4 +111,4 @@ pub record OutcomeLaw : Type 0 where
   pub single_phase_rejected : (c : Course) (e : Enlistment) → KeepsTrue c (single_phase_rejected c e)
   pub commit_answered : (c : Course) (e : Enlistment) → MayBe (known c) (Some true) → KeepsTrue c (commit_answered c e)
   pub rollback_answered : (c : Course) (e : Enlistment) → MayBe (known c) (Some false) → KeepsTrue c (rollback_answered c e)
-  pub recovered : (c : Course) (e : Enlistment) → IsKnownIn c.transaction.phase (known c) → KeepsTrue c (recovered c e)
+  pub recovered : (c : Course) (e : Enlistment) → IsKnownIn c.transaction.phase (known c) → KeepsTrue c (recovered_by c e)
