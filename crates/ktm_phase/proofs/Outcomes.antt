@@ -17,7 +17,7 @@ use Rattle.ktm_phase.specs.declared.step.Fact.{Fact}
 use Rattle.ktm_phase.specs.declared.step.Step.{Step}
 use Rattle.ktm_phase.specs.declared.step.Step.TheVariants.{Record, Change}
 use Rattle.ktm_phase.specs.Outcomes.{AreTrue, IsKnownIn, KeepsTrue, MayBe, MayCome, OutcomeLaw, StaysTrue, TellsOnly, known}
-use Rattle.ktm_phase.specs.Rows.{aborts, all_readies, commit_completes, commits, commits_one, goes_after, goes_without, is_last, participants, pre_prepare_completes, pre_prepares, prepare_completes, prepares, prepares_all, prepares_alone, read_onlies, recovers, recovers_superior, requests, rollback_completes, row, tells_in, without}
+use Rattle.ktm_phase.specs.Rows.{aborts, all_readies, commit_completes, commits, commits_one, proceeds, proceeds_without, is_last, participants, pre_prepare_completes, pre_prepares, prepare_completes, prepares, prepares_all, prepares_alone, read_onlies, recovers, recovers_superior, requests, rollback_completes, row, tells_in, without}
 use Rattle.ktm_phase.specs.Run.{answer_to, carried, is_meant, run, seen}
 use Rattle.ktm_phase.specs.Procedures.{IsRun}
 use Rattle.ktm_phase.proofs.Coming.{command-may-come, recovery-may-come, reply-may-come}
@@ -112,11 +112,11 @@ true-prepares_alone s (suc (suc more)) = true-prepares_all s
 true-prepares : (s : Seen) → AreTrue None (prepares s)
 true-prepares s = true-if None s.has_superior (prepares_all s) (prepares_alone s (participants s)) (true-prepares_all s) (true-prepares_alone s (participants s))
 
-true-goes_after : (s : Seen) → AreTrue None (goes_after s)
-true-goes_after s = true-if None s.has_superior _ (prepares s) (inl refl, tt) (true-prepares s)
+true-proceeds : (s : Seen) → AreTrue None (proceeds s)
+true-proceeds s = true-if None s.has_superior _ (prepares s) (inl refl, tt) (true-prepares s)
 
 true-pre_prepares : (s : Seen) → AreTrue None (pre_prepares s)
-true-pre_prepares s = true-if None (s.asking == 0) (goes_after s) _ (true-goes_after s) (inl refl, tt)
+true-pre_prepares s = true-if None (s.asking == 0) (proceeds s) _ (true-proceeds s) (inl refl, tt)
 
 true-requests : (s : Seen) → AreTrue None (requests s)
 true-requests s = true-if None s.has_superior _ (pre_prepares s) (inl refl, tt) (true-pre_prepares s)
@@ -124,11 +124,11 @@ true-requests s = true-if None s.has_superior _ (pre_prepares s) (inl refl, tt) 
 true-where : (k : Option Bool) (b : Bool) (steps : List Step) → AreTrue k steps → AreTrue k (if b then steps else [])
 true-where k b steps ok = true-if k b steps [] ok tt
 
-true-goes_without : (phase : Phase) (s : Seen) → AreTrue None (goes_without phase s)
-true-goes_without PrePreparing s = true-goes_after s
-true-goes_without Preparing s = true-all_readies s
-true-goes_without SinglePhase s = (inl refl, inr refl, tt)
-true-goes_without _ s = tt
+true-proceeds_without : (phase : Phase) (s : Seen) → AreTrue None (proceeds_without phase s)
+true-proceeds_without PrePreparing s = true-proceeds s
+true-proceeds_without Preparing s = true-all_readies s
+true-proceeds_without SinglePhase s = (inl refl, inr refl, tt)
+true-proceeds_without _ s = tt
 
 true-commit_completes : (k : Option Bool) (phase : Phase) → MayBe k (Some true) → AreTrue k (commit_completes phase)
 true-commit_completes k phase may = true-if k (is_single_phase phase) _ _ (may, inr refl, tt) (may, inr refl, tt, tt)
@@ -148,9 +148,9 @@ at-none k steps is ok = subst (λ k. AreTrue k steps) (sym is) ok
 true-row : (s : Seen) (input : PhaseInput) (k : Option Bool) → MayCome k s.phase input → AreTrue k (row s input)
 true-row s PhaseInput.CommitTransaction k is = at-none k (requests s) is (true-requests s)
 true-row s PhaseInput.Rollback k is = at-none k aborts is true-aborts
-true-row s PhaseInput.PrePrepareComplete k is = at-none k (pre_prepare_completes s) is (true-where None (is_last s) (goes_after s) (true-goes_after s))
+true-row s PhaseInput.PrePrepareComplete k is = at-none k (pre_prepare_completes s) is (true-where None (is_last s) (proceeds s) (true-proceeds s))
 true-row s PhaseInput.PrepareComplete k is = at-none k (prepare_completes s) is (true-where None (is_last s) (all_readies s) (true-all_readies s))
-true-row s (PhaseInput.ReadOnly share) k is = at-none k (read_onlies s share) is (true-where None _ (goes_without s.phase (without share s)) (true-goes_without s.phase (without share s)))
+true-row s (PhaseInput.ReadOnly share) k is = at-none k (read_onlies s share) is (true-where None _ (proceeds_without s.phase (without share s)) (true-proceeds_without s.phase (without share s)))
 true-row s PhaseInput.SinglePhaseReject k is = (inl refl, tt)
 true-row s PhaseInput.CommitComplete k may = true-commit_completes k s.phase may
 true-row s PhaseInput.RollbackComplete k may = true-rollback_completes k may
@@ -186,13 +186,13 @@ outcome_law = record {
   aborting = λ c is. keeps-first c _ (runs_law.aborting c) is true-aborts;
   all_ready = λ c is. keeps-first c _ (runs_law.all_ready c) is (true-all_readies (seen c));
   to_prepare = λ c is. keeps-first c _ (runs_law.to_prepare c) is (true-prepares (seen c));
-  pre_prepared = λ c is. keeps-first c _ (runs_law.pre_prepared c) is (true-goes_after (seen c));
+  pre_prepared = λ c is. keeps-first c _ (runs_law.pre_prepared c) is (true-proceeds (seen c));
   to_pre_prepare = λ c is. keeps-first c _ (runs_law.to_pre_prepare c) is (true-pre_prepares (seen c));
   to_commit = λ c is. keeps-first c _ (runs_law.to_commit c) is (true-requests (seen c));
-  pre_prepare_answered = λ c e is. keeps-first c _ (runs_law.pre_prepare_answered c e) is (true-once c e (Change Answered.PrePrepared ∷ []) goes_after true-goes_after (λ next ok. ok));
+  pre_prepare_answered = λ c e is. keeps-first c _ (runs_law.pre_prepare_answered c e) is (true-once c e (Change Answered.PrePrepared ∷ []) proceeds true-proceeds (λ next ok. ok));
   prepare_answered = λ c e is. keeps-first c _ (runs_law.prepare_answered c e) is (true-once c e (Change Answered.Prepared ∷ Record Fact.Ready ∷ []) all_readies true-all_readies (λ next ok. ok));
-  read_only_answered = λ c e is. keeps-first c _ (runs_law.read_only_answered c e) is (true-if None (is_some e.owes) (once c e (Change Answered.ReadOnly ∷ []) (goes_without c.transaction.phase)) (Change Answered.ReadOnly ∷ [])
-      (true-once c e (Change Answered.ReadOnly ∷ []) (goes_without c.transaction.phase) (true-goes_without c.transaction.phase) (λ next ok. ok)) tt);
+  read_only_answered = λ c e is. keeps-first c _ (runs_law.read_only_answered c e) is (true-if None (is_some e.owes) (once c e (Change Answered.ReadOnly ∷ []) (proceeds_without c.transaction.phase)) (Change Answered.ReadOnly ∷ [])
+      (true-once c e (Change Answered.ReadOnly ∷ []) (proceeds_without c.transaction.phase) (true-proceeds_without c.transaction.phase) (λ next ok. ok)) tt);
   single_phase_rejected = λ c e. keeps-run c _ (runs_law.single_phase_rejected c e) (inl refl, tt);
   commit_answered = λ c e may. keeps-run c _ (runs_law.commit_answered c e) (true-commit_completes (known c) c.transaction.phase may);
   rollback_answered = λ c e may. keeps-run c _ (runs_law.rollback_answered c e) (true-rollback_completes (known c) may);

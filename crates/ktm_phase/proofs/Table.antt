@@ -20,7 +20,7 @@ use Rattle.ktm_phase.specs.declared.step.Step.{Step}
 use Rattle.ktm_phase.specs.declared.step.Step.TheVariants.{Record, Change}
 use Rattle.ktm_phase.specs.declared.step.Who.{Who}
 use Rattle.ktm_phase.specs.Laws.{IsPart, RowsLaw}
-use Rattle.ktm_phase.specs.Rows.{aborts, all_readies, commit_completes, commits, commits_one, goes_after, goes_without, holds_or_commits, is_last, participants, pre_prepare_completes, pre_prepares, prepare_completes, prepares, prepares_all, prepares_alone, read_onlies, recovers, recovers_superior, rejects_one_phase, requests, rollback_completes, tells_in, without}
+use Rattle.ktm_phase.specs.Rows.{aborts, all_readies, commit_completes, commits, commits_one, proceeds, proceeds_without, holds_or_commits, is_last, participants, pre_prepare_completes, pre_prepares, prepare_completes, prepares, prepares_all, prepares_alone, read_onlies, recovers, recovers_superior, rejects_one_phase, requests, rollback_completes, tells_in, without}
 use Rattle.ktm_phase.specs.Run.{answered, counted, held_event, lasting_of, run, seen, share_of}
 use Rattle.ktm_phase.specs.Procedures.{AreProcedures, IsRun}
 use Rattle.ktm_phase.proofs.Counts.{any-counted, owed-less, participants-counted, seen-left, seen-settled}
@@ -117,13 +117,13 @@ module _ (by : Option Enlistment) where
 
   -- ---- pre-preparing
 
-  pub goes_after-run : (c : Course) → run by (goes_after (seen c)) c ≡ pre_prepared c
+  pub proceeds-run : (c : Course) → run by (proceeds (seen c)) c ≡ pre_prepared c
   unfolding pre_prepared
-  goes_after-run c = run-if by (is_some (superior c)) _ _ c _ _ refl (prepares-run c)
+  proceeds-run c = run-if by (is_some (superior c)) _ _ c _ _ refl (prepares-run c)
 
   pub pre_prepares-run : (c : Course) → run by (pre_prepares (seen c)) c ≡ to_pre_prepare c
   unfolding to_pre_prepare
-  pre_prepares-run c = run-any by (counted c asks_pre_prepare) (some_enlistment c asks_pre_prepare) _ _ c _ _ (any-counted _ c.enlistments) (λ none. goes_after-run c) refl
+  pre_prepares-run c = run-any by (counted c asks_pre_prepare) (some_enlistment c asks_pre_prepare) _ _ c _ _ (any-counted _ c.enlistments) (λ none. proceeds-run c) refl
 
   pub requests-run : (c : Course) → run by (requests (seen c)) c ≡ to_commit c
   unfolding to_commit
@@ -136,11 +136,11 @@ on-where_last : (by : Option Enlistment) (last : Bool) (steps : List Step) (c : 
 on-where_last by true steps c next owes goes = goes ∙ sym (ap (λ b. if b then c else next c) owes)
 on-where_last by false steps c next owes goes = sym (ap (λ b. if b then c else next c) owes)
 
-goes_without-run : (by : Option Enlistment) (phase : Phase) (c : Course) → run by (goes_without phase (seen c)) c ≡ without_its_answer phase c
-goes_without-run by PrePreparing c = goes_after-run by c
-goes_without-run by Preparing c = all_readies-run by c
-goes_without-run by SinglePhase c = refl
-goes_without-run by _ c = refl
+proceeds_without-run : (by : Option Enlistment) (phase : Phase) (c : Course) → run by (proceeds_without phase (seen c)) c ≡ without_its_answer phase c
+proceeds_without-run by PrePreparing c = proceeds-run by c
+proceeds_without-run by Preparing c = all_readies-run by c
+proceeds_without-run by SinglePhase c = refl
+proceeds_without-run by _ c = refl
 
 ready-run : (c : Course) (e : Enlistment) → run (Some e) (Record Fact.Ready ∷ []) c ≡ ready_of_enlistment c e
 ready-run c e = at (is_durable_at c.managers e.manager)
@@ -179,8 +179,8 @@ module _ (c : Course) (e : Enlistment) (is : IsPart c e) where
   unfolding pre_prepare_answered next
   pre_prepare_completes-run owed =
       let d = changing_one c e.id (answered Answered.PrePrepared) in
-      on-where_last (Some e) (is_last (seen c)) (goes_after (seen c)) d pre_prepared (owed-less c e is (answered Answered.PrePrepared) owed refl)
-      (ap (λ s. run (Some e) (goes_after s) d) (sym (seen-next Answered.PrePrepared refl)) ∙ goes_after-run (Some e) d)
+      on-where_last (Some e) (is_last (seen c)) (proceeds (seen c)) d pre_prepared (owed-less c e is (answered Answered.PrePrepared) owed refl)
+      (ap (λ s. run (Some e) (proceeds s) d) (sym (seen-next Answered.PrePrepared refl)) ∙ proceeds-run (Some e) d)
 
   pub prepare_completes-run : is_some e.owes ≡ true → run (Some e) (prepare_completes (seen c)) c ≡ prepare_answered c e
   unfolding prepare_answered next
@@ -199,12 +199,12 @@ module _ (c : Course) (e : Enlistment) (is : IsPart c e) where
       left = changing_one c e.id (answered Answered.ReadOnly)
 
       steps : List Step
-      steps = goes_without c.transaction.phase (without (share_of e) (seen c))
+      steps = proceeds_without c.transaction.phase (without (share_of e) (seen c))
 
       where_owed : (o : Bool) → is_some e.owes ≡ o → run (Some e) (if o && is_last (seen c) then steps else []) left ≡ (if o then when_none_owes left (without_its_answer c.transaction.phase) else left)
       where_owed true owed =
           on-where_last (Some e) (is_last (seen c)) steps left (without_its_answer c.transaction.phase) (owed-less c e is (answered Answered.ReadOnly) owed refl)
-          (ap (λ s. run (Some e) (goes_without c.transaction.phase s) left) (sym seen-without) ∙ goes_without-run (Some e) c.transaction.phase left)
+          (ap (λ s. run (Some e) (proceeds_without c.transaction.phase s) left) (sym seen-without) ∙ proceeds_without-run (Some e) c.transaction.phase left)
       where_owed false owed = refl
 
 pub rejects_one_phase-run : (c : Course) (e : Enlistment) → run (Some e) rejects_one_phase c ≡ single_phase_rejected c e
@@ -241,7 +241,7 @@ rows_law = record {
   aborts = aborts-run;
   all_readies = all_readies-run;
   prepares = prepares-run;
-  goes_after = goes_after-run;
+  proceeds = proceeds-run;
   pre_prepares = pre_prepares-run;
   requests = requests-run;
   pre_prepare_completes = pre_prepare_completes-run;
@@ -258,9 +258,9 @@ rows_law = record {
 abbrev pub once : Course → Enlistment → List Step → (Seen → List Step) → List Step
 once c e first steps = let d = run (Some e) first c in first ++ (if not (someone_owes d) then steps (seen d) else [])
 
-pub pre_prepare_answered-run : (c : Course) (e : Enlistment) → run (Some e) (once c e (Change Answered.PrePrepared ∷ []) goes_after) c ≡ pre_prepare_answered c e
+pub pre_prepare_answered-run : (c : Course) (e : Enlistment) → run (Some e) (once c e (Change Answered.PrePrepared ∷ []) proceeds) c ≡ pre_prepare_answered c e
 unfolding pre_prepare_answered
-pre_prepare_answered-run c e = let d = changing_one c e.id (answered Answered.PrePrepared) in on-where_none_owes (Some e) (goes_after (seen d)) d pre_prepared (goes_after-run (Some e) d)
+pre_prepare_answered-run c e = let d = changing_one c e.id (answered Answered.PrePrepared) in on-where_none_owes (Some e) (proceeds (seen d)) d pre_prepared (proceeds-run (Some e) d)
 
 pub prepare_answered-run : (c : Course) (e : Enlistment) → run (Some e) (once c e (Change Answered.Prepared ∷ Record Fact.Ready ∷ []) all_readies) c ≡ prepare_answered c e
 unfolding prepare_answered
@@ -271,14 +271,14 @@ prepare_answered-run c e =
 
 -- the steps of an enlistment that takes part no more
 abbrev pub leaving : Course → Enlistment → List Step
-leaving c e = let left = Change Answered.ReadOnly ∷ [] in if is_some e.owes then once c e left (goes_without c.transaction.phase) else left
+leaving c e = let left = Change Answered.ReadOnly ∷ [] in if is_some e.owes then once c e left (proceeds_without c.transaction.phase) else left
 
 pub read_only_answered-run : (c : Course) (e : Enlistment) → run (Some e) (leaving c e) c ≡ read_only_answered c e
 unfolding read_only_answered
 read_only_answered-run c e =
     let d = changing_one c e.id (answered Answered.ReadOnly) in
     run-if (Some e) (is_some e.owes) _ _ c _ d
-    (on-where_none_owes (Some e) (goes_without c.transaction.phase (seen d)) d (without_its_answer c.transaction.phase) (goes_without-run (Some e) c.transaction.phase d)) refl
+    (on-where_none_owes (Some e) (proceeds_without c.transaction.phase (seen d)) d (without_its_answer c.transaction.phase) (proceeds_without-run (Some e) c.transaction.phase d)) refl
 
 -- the steps of an enlistment that recovers
 abbrev pub recovering_in : Phase → Bool → List Step
@@ -294,10 +294,10 @@ runs_law = record {
   aborting = λ c. record { by = None; steps = aborts; is = aborts-run None c };
   all_ready = λ c. record { by = None; steps = all_readies (seen c); is = all_readies-run None c };
   to_prepare = λ c. record { by = None; steps = prepares (seen c); is = prepares-run None c };
-  pre_prepared = λ c. record { by = None; steps = goes_after (seen c); is = goes_after-run None c };
+  pre_prepared = λ c. record { by = None; steps = proceeds (seen c); is = proceeds-run None c };
   to_pre_prepare = λ c. record { by = None; steps = pre_prepares (seen c); is = pre_prepares-run None c };
   to_commit = λ c. record { by = None; steps = requests (seen c); is = requests-run None c };
-  pre_prepare_answered = λ c e. record { by = Some e; steps = once c e (Change Answered.PrePrepared ∷ []) goes_after; is = pre_prepare_answered-run c e };
+  pre_prepare_answered = λ c e. record { by = Some e; steps = once c e (Change Answered.PrePrepared ∷ []) proceeds; is = pre_prepare_answered-run c e };
   prepare_answered = λ c e. record { by = Some e; steps = once c e (Change Answered.Prepared ∷ Record Fact.Ready ∷ []) all_readies; is = prepare_answered-run c e };
   read_only_answered = λ c e. record { by = Some e; steps = leaving c e; is = read_only_answered-run c e };
   single_phase_rejected = λ c e. record { by = Some e; steps = rejects_one_phase; is = rejects_one_phase-run c e };

@@ -5,7 +5,7 @@ use Rattle.ktm_world.specs.Enlistments.{Enlistment, has_id, is_superior, takes_p
 use Rattle.ktm_world.specs.Phases.{Course, aborting, all_ready, commit_answered, committing, pre_prepare_answered, pre_prepared, prepare_answered, read_only_answered, recovered, rollback_answered, single_phase_rejected, to_commit, to_pre_prepare, to_prepare}
 use Rattle.ktm_phase.specs.declared.phase.PhaseInput.{PhaseInput}
 use Rattle.ktm_phase.specs.declared.step.Step.{Step}
-use Rattle.ktm_phase.specs.Rows.{all_readies, goes_after, row}
+use Rattle.ktm_phase.specs.Rows.{all_readies, proceeds, row}
 use Rattle.ktm_phase.specs.Run.{basis, events_ahead, run, seen, share_of}
 
 -- the enlistment takes part, and is the only one with its Id
@@ -24,7 +24,7 @@ pub record RowsLaw : Type 0 where
   pub aborts : (by : Option Enlistment) (c : Course) → run by (row (seen c) PhaseInput.Rollback) c ≡ aborting c
   pub all_readies : (by : Option Enlistment) (c : Course) → run by (all_readies (seen c)) c ≡ all_ready c
   pub prepares : (by : Option Enlistment) (c : Course) → run by (row (seen c) PhaseInput.Prepare) c ≡ to_prepare c
-  pub goes_after : (by : Option Enlistment) (c : Course) → run by (goes_after (seen c)) c ≡ pre_prepared c
+  pub proceeds : (by : Option Enlistment) (c : Course) → run by (proceeds (seen c)) c ≡ pre_prepared c
   pub pre_prepares : (by : Option Enlistment) (c : Course) → run by (row (seen c) PhaseInput.PrePrepare) c ≡ to_pre_prepare c
   pub requests : (by : Option Enlistment) (c : Course) → run by (row (seen c) PhaseInput.CommitTransaction) c ≡ to_commit c
   -- the answers of an enlistment

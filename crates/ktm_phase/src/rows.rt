@@ -1,7 +1,7 @@
 // The phase table: what happens by each procedure and each answer.
 ghost use Rattle.std.specs.Prelude.{◌≡◌, ◌≤◌, ◌++◌};
 ghost use Rattle.arrayvec.specs.ArrayVec.{array_vec_len};
-ghost use Rattle.ktm_phase.specs.Rows.{aborts, all_readies, commit_completes, commits, commits_one, goes_after, goes_without, pre_prepare_completes, pre_prepares, prepare_completes, prepares, prepares_all, read_onlies, recovers, recovers_superior, rejects_one_phase, requests, rollback_completes};
+ghost use Rattle.ktm_phase.specs.Rows.{aborts, all_readies, commit_completes, commits, commits_one, proceeds, proceeds_without, pre_prepare_completes, pre_prepares, prepare_completes, prepares, prepares_all, read_onlies, recovers, recovers_superior, rejects_one_phase, requests, rollback_completes};
 
 use crate::phase::{Seen, Share};
 use crate::step::{Answered, Fact, Owed, Step, Steps, Who};
@@ -105,9 +105,9 @@ pub fn prepare(s: &Seen, steps: &mut Steps)
 }
 
 /// All have pre-prepared.
-pub fn go_after(s: &Seen, steps: &mut Steps)
+pub fn proceed(s: &Seen, steps: &mut Steps)
     requires room { array_vec_len steps.old ≤ 2 }
-    ensures items { steps.new.items ≡ steps.old.items ++ goes_after s.now }
+    ensures items { steps.new.items ≡ steps.old.items ++ proceeds s.now }
 {
     if s.has_superior {
         steps.push(Step::Tell(Who::Superior, Notify::PrePrepareComplete));
@@ -123,7 +123,7 @@ pub fn pre_prepare(s: &Seen, steps: &mut Steps)
     ensures items { steps.new.items ≡ steps.old.items ++ pre_prepares s.now }
 {
     if s.asking == 0 {
-        go_after(s, steps);
+        proceed(s, steps);
     } else {
         steps.push(Step::Ask(Who::Asking, Notify::PrePrepare, Owed::PrePrepare));
         steps.push(Step::Enter(Phase::PrePreparing));
@@ -150,7 +150,7 @@ pub fn pre_prepare_complete(s: &Seen, steps: &mut Steps)
 {
     steps.push(Step::Change(Answered::PrePrepared));
     if s.is_last() {
-        go_after(s, steps);
+        proceed(s, steps);
     }
 }
 
@@ -167,12 +167,12 @@ pub fn prepare_complete(s: &Seen, steps: &mut Steps)
 }
 
 // The last enlistment that owed an answer takes part no more.
-fn go_without(s: &Seen, steps: &mut Steps)
+fn proceed_without(s: &Seen, steps: &mut Steps)
     requires room { array_vec_len steps.old ≤ 2 }
-    ensures items { steps.new.items ≡ steps.old.items ++ goes_without s.now.phase s.now }
+    ensures items { steps.new.items ≡ steps.old.items ++ proceeds_without s.now.phase s.now }
 {
     match s.phase {
-        Phase::PrePreparing => go_after(s, steps),
+        Phase::PrePreparing => proceed(s, steps),
         Phase::Preparing => all_ready(s, steps),
         Phase::SinglePhase => steps.push(Step::End(TransactionOutcome::Committed)),
         _ => {}
@@ -186,7 +186,7 @@ pub fn read_only(s: &Seen, share: Share, steps: &mut Steps)
 {
     steps.push(Step::Change(Answered::ReadOnly));
     if share.owes && s.is_last() {
-        go_without(&s.without(share), steps);
+        proceed_without(&s.without(share), steps);
     }
 }
 
