@@ -15,7 +15,7 @@ pub(crate) const SELECTOR_AT: u64 = 2048;
 pub(crate) const SNAPSHOT_AT: u64 = 4096;
 
 /// The length in bytes of each area of an image of so many units.
-pub fn area_len(units: u32) -> u64
+pub(crate) fn area_len(units: u32) -> u64
     requires { units ≤ MOST_UNITS }
     ensures { result ≡ area_len units }
 {

@@ -1,5 +1,5 @@
 // The journal of an image, and how it grows.
-ghost use Rattle.std.specs.Prelude.{◌^◌, ◌≡◌, ◌↔◌, ℕ, ◌+◌, ◌-◌, ◌*◌, ◌<◌, ◌≤◌, List, [], ◌∷◌, ◌++◌, length, IfOk, OnOk, OnErr, IfErr, IsTrue, IsErrOf, false, is_err, vec_capacity, IfSome, IsSomeAnd};
+ghost use Rattle.std.specs.Prelude.{◌^◌, ◌≡◌, ◌↔◌, ℕ, ◌+◌, ◌-◌, ◌*◌, ◌<◌, ◌≤◌, List, [], ◌∷◌, ◌++◌, length, min, sum_by, IfOk, OnOk, OnErr, IfErr, IsTrue, IsErrOf, true, false, is_err, vec_capacity, IfSome, IsSomeAnd};
 ghost use Rattle.ktm_base.specs.declared.limits.TheConstants.{LEAST_UNITS, MOST_UNITS, MOST_PENDING};
 ghost use Rattle.ktm_base.specs.Told.{Goes};
 ghost use Rattle.ktm_base.specs.Disk.{DeviceCalls, IsSafe, OnlyReads};
@@ -8,7 +8,7 @@ ghost use Rattle.ktm_forms.specs.Built.{IsBuiltState};
 ghost use Rattle.ktm_world.specs.Logs.{Group};
 ghost use Rattle.ktm_laws.specs.GoodState.{IsGoodState};
 ghost use Rattle.ktm_world.specs.Outcome.{is_full};
-ghost use Rattle.ktm_types.specs.Sizes.{area_len, frame_size};
+ghost use Rattle.ktm_types.specs.Sizes.{area_len, event_size, frame_size};
 ghost use Rattle.ktm_event.specs.Kept.{Holds};
 ghost use Rattle.ktm_journal.specs.Image.{AreInLog, AreSpelled, HoldsLog, IsFormatted, IsHeaded, JournalAt, LeavesGroupOrNot, StandsFor, log_area};
 ghost use Rattle.ktm_journal.specs.Bad.{IsBadAt, load_went_down};
@@ -19,13 +19,16 @@ ghost use Rattle.ktm_world.specs.Durable.{empty_state};
 
 use crate::LoadFault;
 use crate::durable::Durable;
-use crate::image::{lay, log_area, put_header};
+use crate::image::{area_len, lay, log_area, put_header};
 use crate::load::{Header, read_form, replay};
 use ktm_base::{Disk, Down};
 use ktm_event::Events;
 use ktm_log::{AppendFault, Log, LogFault};
 use std::alloc::Global;
 use std::marker::Model;
+
+// How many bytes a frame takes beside its events: a gate, a length of four bytes, and a count of four.
+const FRAME: usize = 9;
 
 /// The groups of an image. It knows where the next one goes, and none of them.
 #[derive(Drop)]
@@ -241,6 +244,21 @@ impl Journal {
         ensures within { result ≤ area_len self.now.units }
     {
         self.log.spare() + 1
+    }
+
+    /// Has the log room for a group whose events take so many bytes together, or 2^64 - 1, where they take more.
+    pub fn has_room(&self, size: usize) -> bool
+        ensures room { (group : Group) → min (sum_by event_size group) (2 ^ 64 - 1) ≡ size → 1 ≤ length group → IsTrue result ↔ (is_full (self.now.log.area.len - self.now.log.end) group ≡ false) }
+        ensures small { result ≡ true → size + frame_size [] < area_len self.now.units }
+    {
+        (size.saturating_add(FRAME) as u64) < self.left()
+    }
+
+    /// How many bytes the events of a group take at most, for which the log of a new image of its size has room.
+    pub fn events_room(&self) -> usize
+        ensures { result + frame_size [] ≡ area_len self.now.units }
+    {
+        area_len(self.units) as usize - FRAME
     }
 
     /// How many events were ever recorded.

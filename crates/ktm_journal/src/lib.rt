@@ -12,7 +12,6 @@ mod replayed;
 
 pub use durable::Durable;
 pub use fault::LoadFault;
-pub use image::area_len;
 pub use journal::{Journal, Loaded};
 pub use ktm_log::AppendFault;
 pub use laws::{

@@ -1,5 +1,5 @@
 -- What a commit records, by what the transaction changed and set.
-use Rattle.std.proofs.Common.{arith, ◌≡◌, ◌≤◌, ℕ, Bool, not, true, false, eqb, List, [], ◌∷◌, length, Some, refl, sym, ◌∙◌, ap, subst}
+use Rattle.std.proofs.Common.{arith, ◌≡◌, ◌≤◌, ◌||◌, ℕ, Bool, not, true, false, eqb, List, [], ◌∷◌, ◌++◌, length, None, Some, refl, sym, ◌∙◌, ap, subst}
 use Rattle.std.specs.Prelude.{All}
 use Rattle.std.proofs.lemmas.Bool.{eqb-true}
 use Rattle.std.proofs.lemmas.List.Elements.{recursion_from_All}
@@ -26,10 +26,13 @@ use Rattle.ktm_built.specs.Forms.{changes_of, settings_of}
 use Rattle.ktm_built.specs.Standing.{IsBuiltNow}
 use Rattle.ktm_built.proofs.Forms.{forms_law}
 use Rattle.ktm_laws.specs.Reservations.{files_committed}
-use Rattle.txf_volume.specs.Commit.{AreUnopened, AreVersionsFew, LeavesOthers, MayCommit}
-use Rattle.txf_volume.specs.Held.{files_of}
+use Rattle.txf_volume.specs.Commit.{AreUnopened, AreVersionsFew, LeavesOthers, MayCommit, names_in}
+use Rattle.txf_volume.specs.Held.{FilesHeld, files_of, overlay_in}
+use Rattle.txf_volume.proofs.Seen.{changes_in, own_changes-held}
 use Rattle.txf_volume.specs.Writes.{CanBeCounted}
 use Rattle.ktm_kernel.specs.Memory.{CanCommit, MemoryState}
+use Rattle.ktm_kernel.specs.Takes.{has_work}
+use Rattle.ktm_world.specs.Phases.{has_settings}
 
 -- ---- which group
 
@@ -92,3 +95,25 @@ can_commit x m t same may ready room = record {
   counted = subst (λ (f : FilesNow). CanBeCounted (files_committed f t.id)) (sym same) may.counted;
   few = subst (λ (f : FilesNow). AreVersionsFew f.versions) (sym same) may.few;
 }
+
+-- ---- a commit that takes no memory
+
+no_names : (names rest : List Change) (n : ℕ) → has_changes (names ++ rest) ≡ false → length names ≤ n
+no_names [] rest n none = omega arith
+no_names (c ∷ cs) rest n none = absurd (cc)
+
+-- nothing has to be taken ahead for a transaction that changed nothing
+pub idle_may : (h : FilesHeld) (id : Id) → has_changes (own_changes (files_of h).table.own id) ≡ false → MayCommit h id
+idle_may h id none =
+    let idle = ap has_changes (sym (own_changes-held h.overlays id)) ∙ none in
+    let few = elim (overlay_in h.overlays id) as (λ o. has_changes (changes_in o) ≡ false → names_in o ≤ h.tree.spare) [ None ↦ λ e. omega arith | Some o ↦ λ e. no_names o.names _ h.tree.spare e ] in
+    record { nodes = few idle }
+
+-- nor for one that set nothing
+pub idle_keys : (x : Present) (t : Transaction) (room : ℕ) → has_work x (Some t) ≡ false → (has_changes (changes_of x t) ≡ false) × (length (settings_of x t) ≤ room)
+idle_keys x t room idle = go (changes_of x t) (settings_of x t) idle
+  where
+    go : (cs : List Change) (ss : OwnSettings) → (has_changes cs || has_settings ss) ≡ false → (has_changes cs ≡ false) × (length ss ≤ room)
+    go [] [] none = (refl, omega arith)
+    go [] (s ∷ ss) none = absurd (cc)
+    go (c ∷ cs) ss none = absurd (cc)

@@ -1,5 +1,5 @@
 -- Calls on files: the open file that a label names, and from the tests of a command to those of its call.
-use Rattle.std.proofs.Common.{◌≡◌, ℕ, not, cond, Bool, true, List, [], ◌∷◌, ◌++◌, Option, Some, None, Result, Ok, Err, IfOk, IfErr, IsErrAnd, is_some, option_and_then, refl, sym, ◌∙◌, ap, subst}
+use Rattle.std.proofs.Common.{◌≡◌, ◌&&◌, ℕ, not, cond, Bool, true, false, List, [], ◌∷◌, ◌++◌, Option, Some, None, Result, Ok, Err, IfOk, IfErr, IsErrAnd, is_some, option_and_then, refl, sym, ◌∙◌, ap, subst}
 use Rattle.ktm_base.specs.declared.id.Id.{Id}
 use Rattle.ktm_base.specs.declared.id.Label.{Label}
 use Rattle.ktm_base.specs.declared.id.Pid.{Pid}
@@ -27,7 +27,7 @@ use Rattle.ktm_world.specs.Uses.{file_room}
 use Rattle.ktm_laws.specs.FileCallsMade.{file_call, in_caller, on_open}
 use Rattle.ktm_built.specs.Laws.{FilesLaw}
 use Rattle.ktm_built.specs.Standing.{IsStandingNow}
-use Rattle.txf_calls.specs.Calls.{file_effect, file_tests, unless_refused}
+use Rattle.txf_calls.specs.Calls.{file_effect, file_outcome, file_tests, takes_memory as decision_takes_memory, unless_refused}
 use Rattle.txf_calls.specs.Fits.{MayBeUsed}
 use Rattle.txf_calls.specs.Views.{open_of}
 use Rattle.txf_calls.specs.declared.call.FileCall.{FileCall}
@@ -35,10 +35,12 @@ use Rattle.txf_calls.specs.declared.call.FileCall.TheVariants.{Create, Read, Wri
 use Rattle.txf_calls.specs.declared.call.OpenFile.{OpenFile as Kept}
 use Rattle.ktm_journal.specs.Image.{JournalState}
 use Rattle.ktm_kernel.specs.Memory.{Held, now_of}
-use Rattle.ktm_kernel.specs.Route.{IsFreeLabel, IsReadyFor, Routes, files_outcome, outcome_of}
+use Rattle.ktm_kernel.specs.Route.{IsFreeLabel, IsRouted, Routes, files_outcome}
+use Rattle.ktm_kernel.specs.Takes.{early_tests, effect_takes_memory, files_take_memory, has_log_room, is_quiet, takes_memory}
 use Rattle.ktm_kernel.specs.declared.route.Routed.{Routed}
 use Rattle.ktm_kernel.specs.declared.route.Routed.TheVariants.{Files}
 use Rattle.ktm_kernel.proofs.Routes.{first_of-passed, refused_first, up_or}
+use Rattle.ktm_kernel.proofs.Takes.{change_takes, flush_takes, passed_takes, set_end_takes, size_takes, write_takes}
 
 -- ---- the open file that a label names
 
@@ -71,10 +73,6 @@ files_refused x process (Some id) None (Some refusal) o = refl
 files_refused x process None (Some l) (Some refusal) o = refl
 files_refused x process (Some id) (Some l) (Some refusal) o = refl
 
--- what a call with ready labels comes to, and that they are
-abbrev pub IsRouted : Present → Pid → Command → Routed → Type 0
-IsRouted x process command routed = (with_room x process command ≡ outcome_of x process routed) × IsReadyFor x process routed
-
 -- a command on files whose tests on handles passed
 module _ (x : Present) (process : Pid) (up : x.machine.is_up ≡ true) (law : FilesLaw) (standing : IsStandingNow x) (command : Command) (is : IsCommand command) where
   module _ (who : Option Id) (label : Option Label) (call : FileCall) (tests : List (Bool × Refusal))
@@ -87,19 +85,30 @@ module _ (x : Present) (process : Pid) (up : x.machine.is_up ≡ true) (law : Fi
     tested : first_refusal (command_tests x process command) ≡ first_refusal own
     tested = ap first_refusal are ∙ first_of-passed tests own passed
 
-    pub routed : IsRouted x process command (Files who label call)
-    routed = (
-      up_or x (command_tests x process command) (command_effect x process command) up
-          ∙ ap (λ r. refuse_or x r (command_effect x process command)) tested
-          ∙ ap (λ o. refuse_or x (first_refusal own) o) effect
-          ∙ files_refused x process who label (first_refusal own) (file_effect x.files who call),
+    -- what it comes to
+    comes_to : with_room x process command ≡ files_outcome x process who label (file_outcome x.files (file_room x) who call)
+    comes_to =
+        up_or x (command_tests x process command) (command_effect x process command) up
+        ∙ ap (λ r. refuse_or x r (command_effect x process command)) tested
+        ∙ ap (λ o. refuse_or x (first_refusal own) o) effect
+        ∙ files_refused x process who label (first_refusal own) (file_effect x.files who call)
+
+    pub routed : takes_memory x process command ≡ files_take_memory x who call → IsRouted x process command (Files who label call)
+    routed takes = (
+      comes_to,
       record {
         usable = usable;
         free = free;
         may = λ none. law.calls x process command who (file_effect x.files who call) standing is
             (ap (λ u. cond (not u) (Some MachineDown) (first_refusal (command_tests x process command))) up ∙ tested ∙ none) made;
       },
+      takes,
     )
+
+    -- a change of an open file
+    pub routed_change : early_tests x process command ≡ command_tests x process command → decision_takes_memory call ≡ false
+        → effect_takes_memory x process command ≡ (not (is_quiet (file_effect x.files who call)) && has_log_room x process command) → IsRouted x process command (Files who label call)
+    routed_change early quick takes = routed (change_takes x process up command who label call tests (early ∙ are) passed comes_to quick takes)
 
 -- ---- plain calls on paths
 
@@ -116,25 +125,26 @@ module _ (x : Present) (process : Pid) (up : x.machine.is_up ≡ true) (law : Fi
     pub create_routed : IsCommand (CreateFile label path access share d) → object_at x.handles process label ≡ None → IsRouted x process (CreateFile label path access share d) (Files None (Some label) (Create path access share d))
     create_routed is free =
         routed x process up law standing (CreateFile label path access share d) is None (Some label) (Create path access share d) (bound_test x process label ∷ []) refl (unbound label free) refl refl tt free
+        (passed_takes x process up (CreateFile label path access share d) (bound_test x process label ∷ []) refl (unbound label free))
 
     pub create_refused : (refusal : Refusal) → (refusal ≡ InvalidParameter) × (is_bound x process label ≡ true) → with_room x process (CreateFile label path access share d) ≡ only_reply x (Refused refusal)
     create_refused refusal bound =
         refused_first x process (CreateFile label path access share d) (bound_test x process label ∷ []) (create_file_tests x.files (file_room x) None path access share d) refusal up refl (bound_first label refusal bound)
 
   pub delete_routed : (path : List ℕ) → IsCommand (DeleteFile path) → IsRouted x process (DeleteFile path) (Files None None (Delete path))
-  delete_routed path is = routed x process up law standing (DeleteFile path) is None None (Delete path) [] refl refl refl refl tt tt
+  delete_routed path is = routed x process up law standing (DeleteFile path) is None None (Delete path) [] refl refl refl refl tt tt (passed_takes x process up (DeleteFile path) [] refl refl)
 
   pub make_routed : (path : List ℕ) → IsCommand (CreateDirectory path) → IsRouted x process (CreateDirectory path) (Files None None (MakeDirectory path))
-  make_routed path is = routed x process up law standing (CreateDirectory path) is None None (MakeDirectory path) [] refl refl refl refl tt tt
+  make_routed path is = routed x process up law standing (CreateDirectory path) is None None (MakeDirectory path) [] refl refl refl refl tt tt (passed_takes x process up (CreateDirectory path) [] refl refl)
 
   pub remove_routed : (path : List ℕ) → IsCommand (RemoveDirectory path) → IsRouted x process (RemoveDirectory path) (Files None None (Remove path))
-  remove_routed path is = routed x process up law standing (RemoveDirectory path) is None None (Remove path) [] refl refl refl refl tt tt
+  remove_routed path is = routed x process up law standing (RemoveDirectory path) is None None (Remove path) [] refl refl refl refl tt tt (passed_takes x process up (RemoveDirectory path) [] refl refl)
 
   pub move_routed : (source target : List ℕ) → IsCommand (MoveFile source target) → IsRouted x process (MoveFile source target) (Files None None (Move source target))
-  move_routed source target is = routed x process up law standing (MoveFile source target) is None None (Move source target) [] refl refl refl refl tt tt
+  move_routed source target is = routed x process up law standing (MoveFile source target) is None None (Move source target) [] refl refl refl refl tt tt (passed_takes x process up (MoveFile source target) [] refl refl)
 
   pub find_routed : (searched : List ℕ) → IsCommand (FindFiles searched) → IsRouted x process (FindFiles searched) (Files None None (Find searched))
-  find_routed searched is = routed x process up law standing (FindFiles searched) is None None (Find searched) [] refl refl refl refl tt tt
+  find_routed searched is = routed x process up law standing (FindFiles searched) is None None (Find searched) [] refl refl refl refl tt tt (passed_takes x process up (FindFiles searched) [] refl refl)
 
   -- ---- calls in a transaction
 
@@ -157,6 +167,8 @@ module _ (x : Present) (process : Pid) (up : x.machine.is_up ≡ true) (law : Fi
           (first_of-passed (transaction_tests (Some t)) (bound_test x process handle ∷ []) passed ∙ unbound handle free)
           (by_named (λ n. opening x process handle (id_of_named n) (create_file x.files (id_of_named n) path access share d)))
           (by_named (λ n. in_caller (id_of_named n) (λ who. create_file x.files who path access share d))) tt free
+          (passed_takes x process up (CreateFileTransacted handle path access share d label) tests (by_named (λ n. transaction_tests n ++ bound_test x process handle ∷ []))
+          (first_of-passed (transaction_tests (Some t)) (bound_test x process handle ∷ []) passed ∙ unbound handle free))
 
       pub create_transacted_refused : (refusal : Refusal) → (refusal ≡ InvalidParameter) × (is_bound x process handle ≡ true)
           → with_room x process (CreateFileTransacted handle path access share d label) ≡ only_reply x (Refused refusal)
@@ -168,31 +180,31 @@ module _ (x : Present) (process : Pid) (up : x.machine.is_up ≡ true) (law : Fi
     delete_transacted path is =
         routed x process up law standing (DeleteFileTransacted path label) is (Some t.id) None (Delete path) (transaction_tests (Some t))
         (by_named (λ n. transaction_tests n ++ delete_file_tests x.files (file_room x) (id_of_named n) path)) passed
-        (by_named (λ n. of_files x (id_of_named n) (delete_file x.files (id_of_named n) path))) (by_named (λ n. in_caller (id_of_named n) (λ who. delete_file x.files who path))) tt tt
+        (by_named (λ n. of_files x (id_of_named n) (delete_file x.files (id_of_named n) path))) (by_named (λ n. in_caller (id_of_named n) (λ who. delete_file x.files who path))) tt tt (passed_takes x process up (DeleteFileTransacted path label) (transaction_tests (Some t)) (by_named transaction_tests) passed)
 
     pub make_transacted : (path : List ℕ) → IsCommand (CreateDirectoryTransacted path label) → IsRouted x process (CreateDirectoryTransacted path label) (Files (Some t.id) None (MakeDirectory path))
     make_transacted path is =
         routed x process up law standing (CreateDirectoryTransacted path label) is (Some t.id) None (MakeDirectory path) (transaction_tests (Some t))
         (by_named (λ n. transaction_tests n ++ create_directory_tests x.files (file_room x) (id_of_named n) path)) passed
-        (by_named (λ n. of_files x (id_of_named n) (create_directory x.files (id_of_named n) path))) (by_named (λ n. in_caller (id_of_named n) (λ who. create_directory x.files who path))) tt tt
+        (by_named (λ n. of_files x (id_of_named n) (create_directory x.files (id_of_named n) path))) (by_named (λ n. in_caller (id_of_named n) (λ who. create_directory x.files who path))) tt tt (passed_takes x process up (CreateDirectoryTransacted path label) (transaction_tests (Some t)) (by_named transaction_tests) passed)
 
     pub remove_transacted : (path : List ℕ) → IsCommand (RemoveDirectoryTransacted path label) → IsRouted x process (RemoveDirectoryTransacted path label) (Files (Some t.id) None (Remove path))
     remove_transacted path is =
         routed x process up law standing (RemoveDirectoryTransacted path label) is (Some t.id) None (Remove path) (transaction_tests (Some t))
         (by_named (λ n. transaction_tests n ++ remove_directory_tests x.files (file_room x) (id_of_named n) path)) passed
-        (by_named (λ n. of_files x (id_of_named n) (remove_directory x.files (id_of_named n) path))) (by_named (λ n. in_caller (id_of_named n) (λ who. remove_directory x.files who path))) tt tt
+        (by_named (λ n. of_files x (id_of_named n) (remove_directory x.files (id_of_named n) path))) (by_named (λ n. in_caller (id_of_named n) (λ who. remove_directory x.files who path))) tt tt (passed_takes x process up (RemoveDirectoryTransacted path label) (transaction_tests (Some t)) (by_named transaction_tests) passed)
 
     pub move_transacted : (source target : List ℕ) → IsCommand (MoveFileTransacted source target label) → IsRouted x process (MoveFileTransacted source target label) (Files (Some t.id) None (Move source target))
     move_transacted source target is =
         routed x process up law standing (MoveFileTransacted source target label) is (Some t.id) None (Move source target) (transaction_tests (Some t))
         (by_named (λ n. transaction_tests n ++ move_file_tests x.files (file_room x) (id_of_named n) source target)) passed
-        (by_named (λ n. of_files x (id_of_named n) (move_file x.files (id_of_named n) source target))) (by_named (λ n. in_caller (id_of_named n) (λ who. move_file x.files who source target))) tt tt
+        (by_named (λ n. of_files x (id_of_named n) (move_file x.files (id_of_named n) source target))) (by_named (λ n. in_caller (id_of_named n) (λ who. move_file x.files who source target))) tt tt (passed_takes x process up (MoveFileTransacted source target label) (transaction_tests (Some t)) (by_named transaction_tests) passed)
 
     pub find_transacted : (searched : List ℕ) → IsCommand (FindFilesTransacted searched label) → IsRouted x process (FindFilesTransacted searched label) (Files (Some t.id) None (Find searched))
     find_transacted searched is =
         routed x process up law standing (FindFilesTransacted searched label) is (Some t.id) None (Find searched) (transaction_tests (Some t))
         (by_named (λ n. transaction_tests n ++ find_files_tests x.files (id_of_named n) searched)) passed
-        (by_named (λ n. of_files x (id_of_named n) (find_files x.files (id_of_named n) searched))) (by_named (λ n. in_caller (id_of_named n) (λ who. find_files x.files who searched))) tt tt
+        (by_named (λ n. of_files x (id_of_named n) (find_files x.files (id_of_named n) searched))) (by_named (λ n. in_caller (id_of_named n) (λ who. find_files x.files who searched))) tt tt (passed_takes x process up (FindFilesTransacted searched label) (transaction_tests (Some t)) (by_named transaction_tests) passed)
 
   -- ---- calls on an open file
 
@@ -205,29 +217,30 @@ module _ (x : Present) (process : Pid) (up : x.machine.is_up ≡ true) (law : Fi
         routed x process up law standing (ReadFile label offset many) is file.transaction None (Read file offset many) (handle_tests x process label)
         (by_file (λ n. handle_tests x process label ++ own_tests n (λ o. read_file_tests o many))) passed (by_file (λ n. on_file x n (λ o. read_file x.files o offset many)))
         (by_file (λ n. on_open n (λ o. read_file x.files o offset many))) tt tt
+        (passed_takes x process up (ReadFile label offset many) (handle_tests x process label) refl passed)
 
     pub write_routed : (offset : ℕ) (bytes : List ℕ) → IsCommand (WriteFile label offset bytes) → IsRouted x process (WriteFile label offset bytes) (Files file.transaction None (Write file offset bytes))
     write_routed offset bytes is =
-        routed x process up law standing (WriteFile label offset bytes) is file.transaction None (Write file offset bytes) (handle_tests x process label)
+        routed_change x process up law standing (WriteFile label offset bytes) is file.transaction None (Write file offset bytes) (handle_tests x process label)
         (by_file (λ n. handle_tests x process label ++ own_tests n (λ o. write_file_tests x.files (file_room x) o offset bytes))) passed (by_file (λ n. on_file x n (λ o. write_file o offset bytes)))
-        (by_file (λ n. on_open n (λ o. write_file o offset bytes))) (law.usable x process label (open_of file) standing named) tt
+        (by_file (λ n. on_open n (λ o. write_file o offset bytes))) (law.usable x process label (open_of file) standing named) tt refl refl (write_takes x process up label file offset bytes)
 
     pub set_end_routed : (size : ℕ) → IsCommand (SetEndOfFile label size) → IsRouted x process (SetEndOfFile label size) (Files file.transaction None (SetEnd file size))
     set_end_routed size is =
-        routed x process up law standing (SetEndOfFile label size) is file.transaction None (SetEnd file size) (handle_tests x process label)
+        routed_change x process up law standing (SetEndOfFile label size) is file.transaction None (SetEnd file size) (handle_tests x process label)
         (by_file (λ n. handle_tests x process label ++ own_tests n (λ o. set_end_tests x.files (file_room x) o size))) passed (by_file (λ n. on_file x n (λ o. set_end o size)))
-        (by_file (λ n. on_open n (λ o. set_end o size))) (law.usable x process label (open_of file) standing named) tt
+        (by_file (λ n. on_open n (λ o. set_end o size))) (law.usable x process label (open_of file) standing named) tt refl refl (set_end_takes x process up label file size)
 
     pub size_routed : IsCommand (GetFileSizeEx label) → IsRouted x process (GetFileSizeEx label) (Files file.transaction None (Size file))
     size_routed is =
         routed x process up law standing (GetFileSizeEx label) is file.transaction None (Size file) (handle_tests x process label) refl passed
-        (by_file (λ n. on_file x n (λ o. get_size x.files o))) (by_file (λ n. on_open n (λ o. get_size x.files o))) tt tt
+        (by_file (λ n. on_file x n (λ o. get_size x.files o))) (by_file (λ n. on_open n (λ o. get_size x.files o))) tt tt (size_takes x file.transaction file)
 
     pub flush_routed : IsCommand (FlushFileBuffers label) → IsRouted x process (FlushFileBuffers label) (Files file.transaction None (Flush file))
     flush_routed is =
         routed x process up law standing (FlushFileBuffers label) is file.transaction None (Flush file) (handle_tests x process label)
         (by_file (λ n. handle_tests x process label ++ own_tests n (λ o. write_access_test o ∷ []))) passed (by_file (λ n. on_file x n (λ o. flush_file)))
-        (by_file (λ n. on_open n (λ o. flush_file))) tt tt
+        (by_file (λ n. on_open n (λ o. flush_file))) tt tt (flush_takes x file.transaction file)
 
 -- ---- by what came of the labels
 

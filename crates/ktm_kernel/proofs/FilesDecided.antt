@@ -33,6 +33,7 @@ use Rattle.ktm_kernel.specs.declared.settlement.Settlement.TheVariants.{Plain}
 use Rattle.ktm_kernel.specs.Decided.{CanAnswer, Decides, bind_opened}
 use Rattle.ktm_kernel.specs.Memory.{CanMakePlain, Held, MayBind, MemoryState, MaySettle, appended, handles_then, held, now_of, settled}
 use Rattle.ktm_kernel.specs.Route.{IsFreeLabel, IsReadyCall, files_outcome}
+use Rattle.ktm_kernel.specs.Takes.{is_quiet}
 use Rattle.ktm_kernel.proofs.Decides.{nothing_appended}
 use Rattle.txf_calls.specs.Calls.{file_effect, file_outcome, file_tests, unless_refused}
 use Rattle.txf_calls.specs.Views.{open_of}
@@ -58,7 +59,7 @@ reply_of x process who (Some l) o = go o.opened
     go None = refl
     go (Some file) = refl
 
-events_in : (x : Present) (process : Pid) (who : Option Id) (label : Option Label) (o : FileOutcome) → (files_outcome x process who label o).events ≡ events_of who o.change
+pub events_in : (x : Present) (process : Pid) (who : Option Id) (label : Option Label) (o : FileOutcome) → (files_outcome x process who label o).events ≡ events_of who o.change
 events_in x process who None o = refl
 events_in x process who (Some l) o = go o.opened
   where
@@ -174,7 +175,7 @@ none_from : {T : Type 0} (o : Option T) → is_none o ≡ true → o ≡ None
 none_from None is = refl
 none_from (Some t) is = absurd (cc)
 
-pub quiet_outcome : (x : Present) (process : Pid) (who : Option Id) (label : Option Label) (o : FileOutcome) → (is_none o.change && is_none o.first && is_none o.opened) ≡ true → files_outcome x process who label o ≡ only_reply x o.reply
+pub quiet_outcome : (x : Present) (process : Pid) (who : Option Id) (label : Option Label) (o : FileOutcome) → is_quiet o ≡ true → files_outcome x process who label o ≡ only_reply x o.reply
 quiet_outcome x process who label o quiet =
     let all = and_parts (is_none o.change && is_none o.first) (is_none o.opened) quiet in
     let both = and_parts (is_none o.change) (is_none o.first) all.0 in
@@ -184,10 +185,6 @@ quiet_outcome x process who label o quiet =
     ∙ only_answers x process who label o.reply
 
 -- ---- what a call comes to can be made
-
--- does the call only answer
-abbrev is_quiet : FileOutcome → Bool
-is_quiet o = is_none o.change && is_none o.first && is_none o.opened
 
 created : (files : FilesNow) (who : Option Id) (there : Whereabouts) (access : Access) (share : ShareMode) (d : Disposition) (refusal : Refusal) → (create_at files who there access share d).reply ≢ Refused refusal
 created files who no_path access share d refusal e = absurd (cc)
@@ -257,3 +254,11 @@ pub may_make : (x : Present) (process : Pid) (who : Option Id) (label : Option L
 may_make x process who label call o ready is changes =
     let (passed, comes) = goes_through x.files (file_room x) who call o is changes in
     (subst (MayMake x who) (sym comes) (ready.may passed), λ some refusal e. effect_answers x.files who call refusal (ap (λ (p : FileOutcome). p.reply) (sym comes) ∙ e))
+
+-- what is to be opened is what is planned to be
+pub opens_some : (opened : Option Kept) (o : Option OpenFile) → option_map open_of opened ≡ o → is_some opened ≡ true → is_some o ≡ true
+opens_some opened o is some = ap is_some (sym is) ∙ mapped opened ∙ some
+  where
+    mapped : (opened : Option Kept) → is_some (option_map open_of opened) ≡ is_some opened
+    mapped None = refl
+    mapped (Some file) = refl

@@ -1,5 +1,6 @@
 pub mod Standing
 pub mod Routes
+pub mod Takes
 pub mod Rooms
 pub mod FileRoutes
 pub mod Decides

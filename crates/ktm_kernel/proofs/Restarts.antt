@@ -1,12 +1,12 @@
 -- What a restart finds on a disk, and what it makes of it.
-use Rattle.std.proofs.Common.{◌≡◌, ℕ, ◌+◌, ◌-◌, ◌^◌, ◌≤◌, ◌<◌, true, false, List, [], ◌∷◌, ◌++◌, length, Bool, Result, Ok, Err, Option, None, Some, refl, sym, ◌∙◌, ap, subst, arith, inl, inr, append_assoc}
+use Rattle.std.proofs.Common.{◌≡◌, ◌≢◌, ◌↔◌, ℕ, ◌+◌, ◌-◌, ◌^◌, ◌≤◌, ◌<◌, true, false, List, [], ◌∷◌, ◌++◌, length, Bool, Result, Ok, Err, Option, None, Some, refl, sym, ◌∙◌, ap, subst, arith, inl, inr, append_assoc}
 use Rattle.std.proofs.lemmas.Bool.{and_from, and_parts, eq-eqb, lt-ltb, false_from_ne_true}
 use Rattle.std.proofs.lemmas.List.Folds.{list_all-append}
 use Rattle.std.proofs.lemmas.List.Sums.{sum_by-cons}
 use Rattle.std.specs.List.{list_all}
 use Rattle.std.specs.Prelude.{IsTrue, IfSome, IsSomeAnd}
 use Rattle.ktm_base.specs.declared.limits.TheConstants.{LEAST_UNITS, MOST_UNITS}
-use Rattle.ktm_base.specs.Disk.{DiskState, DiskStatus, IsSafe}
+use Rattle.ktm_base.specs.Disk.{DeviceCalls, DiskState, DiskStatus, IsSafe}
 use Rattle.ktm_base.proofs.Images.{safe_law}
 use Rattle.ktm_base.proofs.ToldSteps.{IsSomeAnd-map}
 use Rattle.ktm_log.specs.declared.area.Area.{Area}
@@ -41,8 +41,11 @@ use Rattle.ktm_world.specs.Tree.{Tree}
 use Rattle.txf_volume.specs.Held.{files_begun, files_of}
 use Rattle.ktm_world.specs.Files.{FilesNow}
 use Rattle.ktm_world.specs.Keys.{Store}
+use Rattle.ktm_log.specs.Fault.{append_went_down}
+use Rattle.ktm_log.specs.declared.fault.AppendFault.{AppendFault}
 use Rattle.ktm_log.specs.declared.fault.AppendFault.TheVariants.{Full}
-use Rattle.ktm_kernel.specs.Restarts.{HoldsBoth, base_of, is_full_for_own, Started, LeavesOwnOrNot}
+use Rattle.ktm_kernel.specs.Restarts.{HoldsBoth, base_of, is_full_for_own, Started, LeavesOwnOrNot, restart_went_down, unrecorded}
+use Rattle.ktm_kernel.specs.declared.restart.RestartFault.{RestartFault}
 use Rattle.ktm_kernel.specs.Stands.{KernelState, IsReady}
 
 -- ---- what the grammar has
@@ -104,6 +107,38 @@ own_length state built = ap (λ (es : List Event). length es) (own_is state buil
 -- where an append answered Ok the log was not full
 pub not_full : {T : Type 0} (value : T) (full : Bool) → (IsTrue full → Ok value ≡ Err Full) → full ≡ false
 not_full value full tells = false_from_ne_true full (λ is. let wrong = tells is in cc)
+
+-- the log is full for the start where it is for the append
+module _ {T U : Type 0} (full : Type 0) where
+  pub full_not : (value : T) (other : U) → (Ok value ≡ Err Full) ↔ full → (Ok other ≡ Err Full) ↔ full
+  full_not value other tells = (λ is. absurd (cc), λ is. let wrong = tells.1 is in absurd (cc))
+
+  pub full_same : (fault : AppendFault) → (let r : Result T AppendFault = Err fault in r ≡ Err Full) ↔ full → (let r : Result U AppendFault = Err fault in r ≡ Err Full) ↔ full
+  full_same fault tells = (λ is. let same : fault ≡ Full = cc in tells.0 (ap Err same), λ is. let told = tells.1 is in let same : fault ≡ Full = cc in ap Err same)
+
+-- why a machine did not start whose start was not recorded
+pub unrecorded_down : (fault : AppendFault) → unrecorded fault ≡ RestartFault.Down → fault ≡ AppendFault.Down
+unrecorded_down AppendFault.Down is = refl
+unrecorded_down Full is = absurd (cc)
+
+pub unrecorded_full : (fault : AppendFault) → unrecorded fault ≡ RestartFault.Full → fault ≡ Full
+unrecorded_full AppendFault.Down is = absurd (cc)
+unrecorded_full Full is = refl
+
+pub unrecorded_good : (fault : AppendFault) (offset : ℕ) → unrecorded fault ≢ RestartFault.Bad offset
+unrecorded_good AppendFault.Down offset is = cc
+unrecorded_good Full offset is = cc
+
+-- its append found the log full, where it did not find the disk down
+pub unrecorded_other : (fault : AppendFault) → unrecorded fault ≢ RestartFault.Down → fault ≡ Full
+unrecorded_other AppendFault.Down other = absurd (other refl)
+unrecorded_other Full other = refl
+
+-- both found the disk down, or neither did
+pub unrecorded_calls : (n : ℕ) (a b : DiskStatus) (fault : AppendFault) (failed : RestartFault) → failed ≡ unrecorded fault
+    → (let r : Result ℕ AppendFault = Err fault in DeviceCalls n a b (append_went_down r)) → (let r : Result ℕ RestartFault = Err failed in DeviceCalls n a b (restart_went_down r))
+unrecorded_calls n a b AppendFault.Down failed is calls = subst (λ f. let r : Result ℕ RestartFault = Err f in DeviceCalls n a b (restart_went_down r)) (sym is) calls
+unrecorded_calls n a b Full failed is calls = subst (λ f. let r : Result ℕ RestartFault = Err f in DeviceCalls n a b (restart_went_down r)) (sym is) calls
 
 -- what a machine holds that starts from this state
 abbrev pub fresh_held : Durable → Held

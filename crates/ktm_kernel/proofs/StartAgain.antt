@@ -1,6 +1,7 @@
 -- A machine that is down, whose disk has the power back, and is started again.
-use Rattle.std.proofs.Common.{◌≡◌, ℕ, ◌+◌, ◌-◌, ◌*◌, ◌≤◌, Bool, true, false, List, [], ◌∷◌, ◌++◌, length, Option, None, Some, refl, sym, ◌∙◌, ap, subst, arith, inl, inr}
-use Rattle.std.specs.Prelude.{Contains, IfSome, IsSomeAnd}
+use Rattle.std.proofs.Common.{◌≡◌, ℕ, ◌+◌, ◌-◌, ◌*◌, ◌≤◌, Bool, true, false, List, [], ◌∷◌, ◌++◌, length, Option, None, Some, Result, Ok, Err, refl, sym, ◌∙◌, ap, subst, arith, inl, inr}
+use Rattle.std.specs.Prelude.{Contains, IfOk, IfSome, IsSomeAnd}
+use Rattle.ktm_base.specs.declared.fault.NoMemory.{NoMemory}
 use Rattle.ktm_base.specs.declared.refusal.Refusal.TheVariants.{MachineDown, LogFull}
 use Rattle.ktm_base.specs.Disk.{DiskState}
 use Rattle.ktm_base.proofs.Images.{safe_law, power_law as images_power_law}
@@ -10,7 +11,7 @@ use Rattle.ktm_journal.specs.Image.{IsHeaded, HoldsLog}
 use Rattle.ktm_journal.proofs.OneImage.{not_bad}
 use Rattle.ktm_types.specs.declared.command.Line.TheVariants.{Restart}
 use Rattle.ktm_types.specs.declared.reply.Reply.{Reply}
-use Rattle.ktm_types.specs.declared.reply.Reply.TheVariants.{Refused, Restarted}
+use Rattle.ktm_types.specs.declared.reply.Reply.TheVariants.{BadImage, Refused, Restarted}
 use Rattle.ktm_world.specs.Durable.{Durable, empty_state, stand}
 use Rattle.ktm_world.specs.Outcome.{is_full}
 use Rattle.ktm_types.specs.Sizes.{log_size}
@@ -21,7 +22,9 @@ use Rattle.ktm_built.specs.Laws.{StandingLaw}
 use Rattle.ktm_world.specs.Logs.{Group, down, is_up}
 use Rattle.ktm_world.specs.Transcript.{Step, interrupted, found, full, RestartDoes, StartDoes}
 use Rattle.ktm_world.proofs.Durables.{stand-units}
-use Rattle.ktm_kernel.specs.Restarts.{HoldsBoth, base_of, is_full_for_own, Started, LeavesOwnOrNot}
+use Rattle.ktm_kernel.specs.Restarts.{HoldsBoth, answer_of, base_of, is_full_for_own, Started, LeavesOwnOrNot}
+use Rattle.ktm_kernel.specs.declared.restart.RestartFault.{RestartFault}
+use Rattle.ktm_kernel.specs.declared.restart.RestartFault.TheVariants.{Down, Bad, Full}
 use Rattle.ktm_kernel.specs.Stands.{KernelState, HasFallen, StandsBy, KernelAt, LeavesPossible, DoesLine, FoundAt, PowerLaw, FoundLaw}
 use Rattle.ktm_kernel.proofs.Left.{stands_for}
 use Rattle.ktm_kernel.proofs.Possible.{first_is, Contains-map, in_first, in_second}
@@ -184,3 +187,14 @@ found_law k (Some s) w at = λ image may.
       possible,
       stands_for k.journal at.before w at.began log image (subst (λ (l : List ℕ). HoldsLog k.journal.units k.journal.image (at.before ++ log) l) (sym ((safe_law s image safe).0 may)) holds),
     )
+
+-- ---- what a restart answers that did not start its machine
+
+-- by its fault
+pub answered_by : (fault : RestartFault) (r : Result Reply NoMemory) (P : Reply → Type 0) → IfOk r (λ reply. answer_of fault ≡ Some reply)
+    → (fault ≡ Down → P (Refused MachineDown)) → ((offset : ℕ) → fault ≡ Bad offset → P (BadImage offset)) → (fault ≡ Full → P (Refused LogFull)) → IfOk r P
+answered_by fault (Err e) P is off ill tight = tt
+answered_by Down (Ok reply) P is off ill tight = let same : Refused MachineDown ≡ reply = cc in subst P same (off refl)
+answered_by (Bad offset) (Ok reply) P is off ill tight = let same : BadImage offset ≡ reply = cc in subst P same (ill offset refl)
+answered_by Full (Ok reply) P is off ill tight = let same : Refused LogFull ≡ reply = cc in subst P same (tight refl)
+answered_by RestartFault.NoMemory (Ok reply) P is off ill tight = absurd (cc)

@@ -1,4 +1,5 @@
 pub mod Memory
+pub mod Takes
 pub mod Route
 pub mod Decided
 pub mod Stands

@@ -6,7 +6,7 @@ use Rattle.ktm_base.specs.declared.id.Pid.{Pid}
 use Rattle.ktm_built.specs.Forms.{handles_with, with_bound, with_commit_made, with_files_made, with_handle_closed, with_process_gone, with_rollback, with_tick, with_transaction}
 use Rattle.ktm_event.specs.Kept.{EventsState}
 use Rattle.ktm_journal.specs.Image.{JournalState}
-use Rattle.ktm_types.specs.Sizes.{area_len, log_size}
+use Rattle.ktm_types.specs.Sizes.{area_len, frame_size, log_size}
 use Rattle.ktm_laws.specs.GoodState.{each_pair}
 use Rattle.ktm_object.specs.Table.{HandleTable, handles_of}
 use Rattle.ktm_tm.specs.TmState.{TmState}
@@ -136,4 +136,4 @@ settled x (Tick ms) = with_tick x ms
 -- the list has room for each group that the log has room for, in an image of a size that there is
 pub record IsRoomy (j : JournalState) (events : EventsState) : Type 0 where
   pub most : j.units ≤ MOST_UNITS
-  pub room : area_len j.units ≤ events.room + 9
+  pub room : area_len j.units ≤ events.room + frame_size []

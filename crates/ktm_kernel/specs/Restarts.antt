@@ -1,5 +1,5 @@
 -- What a restart makes of a disk that holds groups.
-use Rattle.std.specs.Prelude.{◌≡◌, ◌⊎◌, ℕ, ◌-◌, Bool, true, false, List, [], ◌∷◌, ◌++◌, Option, Result, Ok, Err}
+use Rattle.std.specs.Prelude.{◌≡◌, ◌⊎◌, ℕ, ◌-◌, Bool, true, false, List, [], ◌∷◌, ◌++◌, Option, Some, None, Result, Ok, Err}
 use Rattle.ktm_base.specs.Disk.{DiskState, MayLeave, IsSafe}
 use Rattle.ktm_journal.specs.Image.{HoldsLog, left_after}
 use Rattle.ktm_world.specs.Durable.{Durable, empty_state, stand}
@@ -8,7 +8,8 @@ use Rattle.ktm_types.specs.Sizes.{log_size}
 use Rattle.ktm_world.specs.Logs.{Group}
 use Rattle.ktm_types.specs.declared.reply.Reply.{Reply}
 use Rattle.ktm_types.specs.declared.reply.Reply.TheVariants.{BadImage, Refused}
-use Rattle.ktm_base.specs.declared.refusal.Refusal.TheVariants.{LogFull}
+use Rattle.ktm_base.specs.declared.refusal.Refusal.TheVariants.{LogFull, MachineDown}
+use Rattle.ktm_log.specs.declared.fault.AppendFault.{AppendFault}
 use Rattle.ktm_world.specs.World.{own_group, opened}
 use Rattle.ktm_kernel.specs.declared.restart.RestartFault.{RestartFault}
 use Rattle.ktm_kernel.specs.declared.restart.RestartFault.TheVariants.{Down, Bad, Full, NoMemory}
@@ -37,6 +38,18 @@ pub record Started (units image : ℕ) (before log : List Group) (kernel : Kerne
 abbrev pub LeavesOwnOrNot : ℕ → ℕ → List Group → List Group → DiskState → Type 0
 LeavesOwnOrNot units image before log s = (bytes : List ℕ) → MayLeave s bytes
     → HoldsLog units image (before ++ log) bytes ⊎ HoldsLog units image (before ++ (log ++ own_group (stand (base_of units image before) log) ∷ [])) bytes
+
+-- why a machine did not start, by why its start was not recorded
+abbrev pub unrecorded : AppendFault → RestartFault
+unrecorded AppendFault.Down = Down
+unrecorded AppendFault.Full = Full
+
+-- what a restart answers, by why the machine did not start, if memory was not wanting
+abbrev pub answer_of : RestartFault → Option Reply
+answer_of Down = Some (Refused MachineDown)
+answer_of (Bad offset) = Some (BadImage offset)
+answer_of Full = Some (Refused LogFull)
+answer_of NoMemory = None
 
 -- did it find the disk down
 abbrev pub restart_went_down : {T : Type 0} → Result T RestartFault → Bool

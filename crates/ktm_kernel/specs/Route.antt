@@ -35,6 +35,7 @@ use Rattle.ktm_world.specs.Transactions.{transaction_at}
 use Rattle.ktm_kernel.specs.Memory.{Held, now_of}
 use Rattle.ktm_kernel.specs.declared.decide.Asked.{Asked}
 use Rattle.ktm_kernel.specs.declared.decide.Asked.TheVariants.{Call, Tick}
+use Rattle.ktm_kernel.specs.Takes.{routed_takes_memory, takes_memory}
 use Rattle.ktm_kernel.specs.declared.route.Routed.{Routed}
 use Rattle.ktm_kernel.specs.declared.route.Routed.TheVariants.{Create, Bind, Duplicate, Commit, Rollback, Information, Close, Exit, Keys, Files}
 
@@ -84,9 +85,14 @@ IsReadyFor x process Exit = Unit {0}
 IsReadyFor x process (Keys who call) = Unit {0}
 IsReadyFor x process (Files who label call) = IsReadyCall x process who label call
 
--- a command comes to what a call comes to for which its labels are ready, or to a refusal
+-- a command comes to what a call comes to, for which its labels are ready, and may take memory where the call may
+abbrev pub IsRouted : Present → Pid → Command → Routed → Type 0
+IsRouted x process command routed =
+    (with_room x process command ≡ outcome_of x process routed) × IsReadyFor x process routed × (takes_memory x process command ≡ routed_takes_memory x routed)
+
+-- a command is routed to a call, or comes to a refusal
 abbrev pub Routes : JournalState → Held → Pid → Command → Result Routed Refusal → Type 0
-Routes j h process command (Ok routed) = (with_room (now_of j h) process command ≡ outcome_of (now_of j h) process routed) × IsReadyFor (now_of j h) process routed
+Routes j h process command (Ok routed) = IsRouted (now_of j h) process command routed
 Routes j h process command (Err refusal) = with_room (now_of j h) process command ≡ only_reply (now_of j h) (Refused refusal)
 
 -- is the command one on an open file
@@ -135,8 +141,3 @@ decided x asked = within_log x (asked_outcome x asked)
 abbrev pub IsBuiltAsked : Asked → Type 0
 IsBuiltAsked (Call process command) = IsCommand command × (is_built_command command ≡ true)
 IsBuiltAsked (Tick ms) = Unit {0}
-
--- may it want memory; the passing of time does not
-abbrev pub takes_memory : Asked → Bool
-takes_memory (Call process command) = true
-takes_memory (Tick ms) = false

@@ -1,18 +1,21 @@
 // Recording what a commit or a plain call has to record, where the log has room for it.
-ghost use Rattle.std.specs.Prelude.{◌≡◌, ◌↔◌, ◌+◌, ◌-◌, ◌<◌, ◌≤◌, ◌^◌, ◌∷◌, ◌++◌, min, not, true, false, None, Some, [], All, IfOk, IfSome, IsTrue, OnErr, length, sum_by};
+ghost use Rattle.std.specs.Prelude.{◌≡◌, ◌↔◌, ◌+◌, ◌-◌, ◌<◌, ◌≤◌, ◌^◌, ◌∷◌, ◌++◌, min, not, true, false, None, Some, [], All, IfOk, IfSome, IsOk, IsTrue, OnErr, length, sum_by};
 ghost use Rattle.ktm_event.specs.Kept.{Holds};
 ghost use Rattle.ktm_event.specs.Spelling.{IsSpellableEvent, IsSpellableId};
 ghost use Rattle.ktm_event.specs.Work.{part_of, work_event};
 ghost use Rattle.ktm_event.specs.declared.work.Stage.TheVariants.{Single as Alone};
 ghost use Rattle.ktm_forms.specs.Commits.{commit_events, parts_events};
-ghost use Rattle.ktm_types.specs.Sizes.{area_len, event_size};
+ghost use Rattle.ktm_types.specs.Sizes.{event_size};
+ghost use Rattle.ktm_built.specs.Forms.{changes_of};
 ghost use Rattle.ktm_kernel.specs.Decided.{DecidesIf};
 ghost use Rattle.ktm_kernel.specs.Memory.{IsRoomy, held, now_of};
 ghost use Rattle.ktm_kernel.specs.Route.{IsReadyCommit};
 ghost use Rattle.ktm_built.specs.Standing.{IsStandingNow};
 ghost use Rattle.ktm_types.specs.declared.change.Change.{Change as Made};
 ghost use Rattle.ktm_types.specs.declared.event.Event.{Event as Recorded};
+ghost use Rattle.ktm_types.specs.declared.event.DonePart.TheVariants.{Files as OfFiles, Keys as OfKeys};
 ghost use Rattle.ktm_types.specs.declared.event.Event.TheVariants.{Decide, Done};
+ghost use Rattle.ktm_world.specs.Changes.{has_changes};
 ghost use Rattle.ktm_world.specs.Decide.{events_of};
 ghost use Rattle.ktm_world.specs.Files.{own_changes};
 ghost use Rattle.ktm_world.specs.Keys.{own_settings};
@@ -31,17 +34,6 @@ use ktm_types::{Change, DonePart, Event, Reply, Setting, Transaction};
 use kv_rm::KvRm;
 use txf_calls::Plan;
 use txf_volume::Files;
-
-/// How many bytes a decision takes, and that the files and the keys are done.
-const DECISION: usize = 29;
-
-// Has the log room for a group whose events take so many bytes together.
-fn has_room(journal: &Journal, size: usize) -> bool
-    ensures room { (group : Group) → min (sum_by event_size group) (2 ^ 64 - 1) ≡ size → 1 ≤ length group → IsTrue result ↔ (is_full (journal.now.log.area.len - journal.now.log.end) group ≡ false) }
-    ensures small { result ≡ true → size + 9 < area_len journal.now.units }
-{
-    (size.saturating_add(9) as u64) < journal.left()
-}
 
 // The change of the event of a plain call.
 fn change_in(event: Event) -> Option<Change>
@@ -63,7 +55,7 @@ fn record_change(journal: &Journal, events: &mut Events, change: Change) -> Opti
     ensures room { events.new.room ≡ events.old.room }
 {
     let event = Event::Plain { change };
-    if !has_room(journal, event_size(&event)) {
+    if !journal.has_room(event_size(&event)) {
         return None;
     }
     events.push(&event);
@@ -104,6 +96,23 @@ pub(crate) fn record_plan(journal: &Journal, events: &mut Events, plan: Plan) ->
     })
 }
 
+// How many bytes the decision of a transaction takes, and that the files and the keys are done.
+fn ends_size(id: Id) -> usize
+    ensures { result ≡ event_size (Decide id) + event_size (Done id OfFiles) + event_size (Done id OfKeys) }
+{
+    let transaction = id;
+    let decision = event_size(&Event::Decide { transaction });
+    let files = event_size(&Event::Done {
+        transaction,
+        done: DonePart::Files,
+    });
+    let keys = event_size(&Event::Done {
+        transaction,
+        done: DonePart::Keys,
+    });
+    decision + files + keys
+}
+
 // Records the work of the only participant of a transaction that commits, where the log has room.
 fn record_single(journal: &Journal, events: &mut Events, id: Id, work: Work<'_>) -> bool
     requires empty { Holds events.old [] }
@@ -113,7 +122,7 @@ fn record_single(journal: &Journal, events: &mut Events, id: Id, work: Work<'_>)
     ensures full { result ≡ not (is_full (journal.now.log.area.len - journal.now.log.end) (work_event Alone id (part_of work.entry) ∷ [])) }
     ensures room { events.new.room ≡ events.old.room }
 {
-    if !has_room(journal, work_size(work)) {
+    if !journal.has_room(work_size(work)) {
         return false;
     }
     events.push_work(Stage::Single, id, work);
@@ -123,9 +132,9 @@ fn record_single(journal: &Journal, events: &mut Events, id: Id, work: Work<'_>)
 // Records that the transaction commits.
 fn push_decision(events: &mut Events, id: Id)
     requires id { IsSpellableId id }
-    requires fits { 9 ≤ events.old.spare }
+    requires fits { event_size (Decide id) ≤ events.old.spare }
     ensures adds { (group : Group) → Holds events.old group → Holds events.new (group ++ Decide id ∷ []) }
-    ensures spare { events.new.spare + 9 ≡ events.old.spare }
+    ensures spare { events.new.spare + event_size (Decide id) ≡ events.old.spare }
     ensures room { events.new.room ≡ events.old.room }
 {
     events.push(&Event::Decide { transaction: id });
@@ -161,7 +170,7 @@ fn record_both(
     ensures room { events.new.room ≡ events.old.room }
 {
     let works = work_size(changes).saturating_add(work_size(settings));
-    if !has_room(journal, works.saturating_add(DECISION)) {
+    if !journal.has_room(works.saturating_add(ends_size(id))) {
         return false;
     }
     events.push_work(Stage::Ready, id, changes);
@@ -203,6 +212,7 @@ fn record_commit(
     ensures recorded { IfOk result (λ is. is ≡ true → Holds events.new (commit_events id (own_changes (files_of files.now).table.own id) (own_settings keys.now.keys.own id))) }
     ensures full { IfOk result (λ is. is ≡ not (is_full (journal.now.log.area.len - journal.now.log.end) (commit_events id (own_changes (files_of files.now).table.own id) (own_settings keys.now.keys.own id)))) }
     ensures room { events.new.room ≡ events.old.room }
+    ensures enough { has_changes (own_changes (files_of files.now).table.own id) ≡ false → IsOk result }
 {
     let settings = keys.own_settings(id);
     if !files.has_changes(id) {
@@ -236,6 +246,7 @@ impl Memory {
         ensures ok { IfOk result (λ d. DecidesIf journal.now (held self.old) (commit_transaction (now_of journal.now (held self.old)) (Some t)) d events.new self.new) }
         ensures room { events.new.room ≡ events.old.room }
         ensures no_memory { OnErr result (held self.new ≡ held self.old) }
+        ensures enough { has_changes (changes_of (now_of journal.now (held self.old)) t) ≡ false → length (own_settings self.old.keys.keys.own t.id) ≤ self.old.keys.room → IsOk result }
     {
         self.keys.reserve(t.id)?;
         self.files.prepare_commit(t.id)?;

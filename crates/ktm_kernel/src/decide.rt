@@ -1,11 +1,12 @@
 // Deciding what a command comes to.
-ghost use Rattle.std.specs.Prelude.{◌≡◌, ◌≤◌, ◌∷◌, true, false, None, Some, [], IfOk, IsOk, OnErr};
+ghost use Rattle.std.specs.Prelude.{◌≡◌, ◌≤◌, ◌∷◌, true, false, None, Some, [], IfOk, IsOk, OnErr, is_none};
 ghost use Rattle.ktm_built.specs.Forms.{ComesTo};
 ghost use Rattle.ktm_built.specs.Standing.{IsBuiltNow, IsStandingNow};
 ghost use Rattle.ktm_event.specs.Kept.{EventsState, Holds};
 ghost use Rattle.ktm_kernel.specs.Decided.{Decides, DecidesIf};
 ghost use Rattle.ktm_kernel.specs.Memory.{Held, IsRoomy, MaySettle, MemoryState, held, now_of, settled};
-ghost use Rattle.ktm_kernel.specs.Route.{asked_outcome, outcome_of, takes_memory, IsBuiltAsked, IsReadyFor};
+ghost use Rattle.ktm_kernel.specs.Route.{asked_outcome, outcome_of, IsBuiltAsked, IsReadyFor};
+ghost use Rattle.ktm_kernel.specs.Takes.{asked_takes_memory, routed_takes_memory, takes_memory};
 ghost use Rattle.ktm_kernel.specs.declared.route.Routed.TheVariants.{Create};
 ghost use Rattle.ktm_object.specs.Table.{handles_of};
 ghost use Rattle.ktm_types.specs.declared.reply.Reply.TheVariants.{Done};
@@ -16,7 +17,7 @@ ghost use Rattle.ktm_world.specs.Outcome.{Outcome, first_refusal, refuse_or};
 ghost use Rattle.ktm_world.specs.TransactionCalls.{handle_test, information_of};
 ghost use Rattle.ktm_world.specs.Uses.{key_room};
 ghost use Rattle.ktm_types.specs.Values.{IsCommand};
-ghost use Rattle.kv_rm.specs.Calls.{key_outcome};
+ghost use Rattle.kv_rm.specs.Calls.{is_refused, key_outcome};
 
 use crate::memory::Memory;
 use crate::route::Routed;
@@ -63,6 +64,8 @@ impl Memory {
         requires free { object_at (handles_of self.old.handles) process label ≡ None }
         ensures ok { IfOk result (λ d. (events : _) → Holds events [] → Decides journal.now (held self.old) (outcome_of (now_of journal.now (held self.old)) process (Create label timeout)) d.reply d.settlement events self.new) }
         ensures no_memory { OnErr result (held self.new ≡ held self.old) }
+        ensures spare { 1 ≤ self.old.tm.room → 1 ≤ self.old.handles.spare → IsOk result }
+        ensures enough { routed_takes_memory (now_of journal.now (held self.old)) (Create label timeout) ≡ false → IsOk result }
     {
         if self.handles.is_full() || self.tm.is_full() {
             return Ok(Decision::only(Reply::Refused(Refusal::NotEnoughQuota)));
@@ -91,6 +94,8 @@ impl Memory {
         ensures ok { IfOk result (λ d. (o : Outcome) → ComesTo (now_of journal.now (held self.old)) o Done (settled (now_of journal.now (held self.old)) settlement)
             → (events : EventsState) → Holds events [] → Decides journal.now (held self.old) (refuse_or (now_of journal.now (held self.old)) (first_refusal (handle_test (now_of journal.now (held self.old)) ∷ [])) o) d.reply d.settlement events self.new) }
         ensures no_memory { OnErr result (held self.new ≡ held self.old) }
+        ensures enough { is_none (first_refusal (handle_test (now_of journal.now (held self.old)) ∷ [])) ≡ false → IsOk result }
+        ensures spare { 1 ≤ self.old.handles.spare → IsOk result }
     {
         if self.handles.is_full() {
             return Ok(Decision::only(Reply::Refused(Refusal::NotEnoughQuota)));
@@ -109,6 +114,7 @@ impl Memory {
         requires built { IsBuiltNow (now_of journal.now (held self.old)) }
         ensures ok { IfOk result (λ d. (events : EventsState) → Holds events [] → Decides journal.now (held self.old) (of_keys (now_of journal.now (held self.old)) (key_outcome self.old.keys.keys (key_room (now_of journal.now (held self.old))) who call)) d.reply d.settlement events self.new) }
         ensures no_memory { OnErr result (held self.new ≡ held self.old) }
+        ensures enough { is_refused (key_outcome self.old.keys.keys (key_room (now_of journal.now (held self.old))) who call).reply ≡ true → IsOk result }
     {
         let room = self.key_room(journal);
         Ok(Decision::only(self.keys.call(who, call, room)?))
@@ -131,6 +137,7 @@ impl Memory {
         ensures ok { IfOk result (λ d. DecidesIf journal.now (held self.old) (outcome_of (now_of journal.now (held self.old)) process routed) d events.new self.new) }
         ensures room { events.new.room ≡ events.old.room }
         ensures no_memory { OnErr result (held self.new ≡ held self.old) }
+        ensures enough { routed_takes_memory (now_of journal.now (held self.old)) routed ≡ false → IsOk result }
     {
         match routed {
             Routed::Create { label, timeout } => Ok(Some(self.decide_create(
@@ -187,6 +194,7 @@ impl Memory {
         ensures ok { IfOk result (λ d. DecidesIf journal.now (held self.old) (with_room (now_of journal.now (held self.old)) process command) d events.new self.new) }
         ensures room { events.new.room ≡ events.old.room }
         ensures no_memory { OnErr result (held self.new ≡ held self.old) }
+        ensures enough { takes_memory (now_of journal.now (held self.old)) process command ≡ false → IsOk result }
     {
         match self.route(journal, process, command) {
             Ok(routed) => self.decide_routed(alloc, journal, process, routed, events),
@@ -211,7 +219,7 @@ impl Memory {
         ensures ok { IfOk result (λ d. DecidesIf journal.now (held self.old) (asked_outcome (now_of journal.now (held self.old)) asked) d events.new self.new) }
         ensures room { events.new.room ≡ events.old.room }
         ensures no_memory { OnErr result (held self.new ≡ held self.old) }
-        ensures time { takes_memory asked ≡ false → IsOk result }
+        ensures enough { asked_takes_memory (now_of journal.now (held self.old)) asked ≡ false → IsOk result }
     {
         match asked {
             Asked::Call(process, command) => {

@@ -1,5 +1,5 @@
 // Deciding the calls on files, and the room that files and keys have.
-ghost use Rattle.std.specs.Prelude.{◌≡◌, ◌≤◌, ◌&&◌, true, None, Some, [], IfOk, OnErr, OnOk, is_none, is_some};
+ghost use Rattle.std.specs.Prelude.{◌≡◌, ◌-◌, ◌≤◌, true, false, None, Some, [], IfOk, IsOk, OnErr, OnOk, is_some};
 ghost use Rattle.ktm_built.specs.Files.{MayMake};
 ghost use Rattle.ktm_built.specs.Standing.{IsBuiltNow, IsStandingNow};
 ghost use Rattle.ktm_event.specs.Kept.{EventsState, Holds};
@@ -7,7 +7,12 @@ ghost use Rattle.ktm_kernel.specs.Decided.{CanAnswer, Decides, DecidesIf, bind_o
 ghost use Rattle.ktm_kernel.specs.Memory.{IsRoomy, held, now_of};
 ghost use Rattle.ktm_kernel.specs.Route.{IsFreeLabel, IsReadyCall, files_outcome, outcome_of};
 ghost use Rattle.ktm_kernel.specs.declared.route.Routed.TheVariants.{Files as OfFiles};
+ghost use Rattle.ktm_kernel.specs.Takes.{files_take_memory, is_quiet};
+ghost use Rattle.ktm_world.specs.Decide.{events_of};
+ghost use Rattle.ktm_world.specs.Outcome.{is_full};
 ghost use Rattle.ktm_world.specs.Uses.{file_room, key_room};
+ghost use Rattle.txf_volume.specs.Plain.{IsReady};
+ghost use Rattle.txf_volume.specs.Transacted.{HasRoom};
 
 use crate::commit::record_plan;
 use crate::memory::Memory;
@@ -38,7 +43,7 @@ fn binding(process: Pid, label: Option<Label>, opened: Option<OpenFile>) -> Sett
 
 // Does a call only answer.
 fn changes_nothing(plan: &Plan) -> bool
-    ensures { result ≡ (is_none plan.now.change && is_none plan.now.first && is_none plan.now.opened) }
+    ensures { result ≡ is_quiet plan.now }
 {
     plan.change.is_none() && plan.first.is_none() && plan.opened.is_none()
 }
@@ -69,7 +74,9 @@ impl Memory {
     // Makes room for the handle of a file that is opened, if one is.
     fn reserve_for(&mut self, opened: Option<OpenFile>) -> Result<(), NoMemory>
         ensures same { held self.new ≡ held self.old }
+        ensures files { self.new.files ≡ self.old.files }
         ensures room { OnOk result (is_some opened ≡ true → 1 ≤ self.new.handles.spare) }
+        ensures enough { (is_some opened ≡ true → 1 ≤ self.old.handles.spare) → IsOk result }
     {
         if opened.is_none() {
             return Ok(());
@@ -95,6 +102,8 @@ impl Memory {
         ensures ok { IfOk result (λ d. DecidesIf journal.now (held self.old) (files_outcome (now_of journal.now (held self.old)) process None label plan) d events.new self.new) }
         ensures room { events.new.room ≡ events.old.room }
         ensures no_memory { OnErr result (held self.new ≡ held self.old) }
+        ensures full { is_full (journal.now.log.area.len - journal.now.log.end) (events_of None plan.change) ≡ true → IsOk result }
+        ensures enough { IsReady self.old.files plan None → (is_some plan.opened ≡ true → 1 ≤ self.old.handles.spare) → IsOk result }
     {
         let Some(mut plan) = record_plan(journal, events, plan) else {
             return Ok(None);
@@ -127,6 +136,7 @@ impl Memory {
         requires may { MayMake (now_of journal.now (held self.old)) (Some id) plan }
         ensures ok { IfOk result (λ d. (events : EventsState) → Holds events [] → Decides journal.now (held self.old) (files_outcome (now_of journal.now (held self.old)) process (Some id) label plan) d.reply d.settlement events self.new) }
         ensures no_memory { OnErr result (held self.new ≡ held self.old) }
+        ensures enough { HasRoom self.old.files → plan.change ≡ None → (is_some plan.opened ≡ true → 1 ≤ self.old.handles.spare) → IsOk result }
     {
         let mut plan = plan;
         let opened = plan.opened;
@@ -157,6 +167,7 @@ impl Memory {
         ensures ok { IfOk result (λ d. DecidesIf journal.now (held self.old) (outcome_of (now_of journal.now (held self.old)) process (OfFiles who label call)) d events.new self.new) }
         ensures room { events.new.room ≡ events.old.room }
         ensures no_memory { OnErr result (held self.new ≡ held self.old) }
+        ensures enough { files_take_memory (now_of journal.now (held self.old)) who call ≡ false → IsOk result }
     {
         law_of_files();
         let room = self.file_room(journal);

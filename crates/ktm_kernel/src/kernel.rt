@@ -10,8 +10,9 @@ ghost use Rattle.ktm_types.specs.Values.{IsCommand};
 ghost use Rattle.ktm_world.specs.Decide.{decide};
 ghost use Rattle.ktm_world.specs.World.{World};
 ghost use Rattle.ktm_kernel.specs.Done.{Ends, TouchesNothing, fallen};
-ghost use Rattle.ktm_kernel.specs.Route.{IsBuiltAsked, decided, takes_memory};
+ghost use Rattle.ktm_kernel.specs.Route.{IsBuiltAsked, decided};
 ghost use Rattle.ktm_kernel.specs.Stands.{KernelAt, DoesLine, IsPowered, IsReady};
+ghost use Rattle.ktm_kernel.specs.Takes.{asked_takes_memory, takes_memory};
 
 use crate::decide::Asked;
 use crate::memory::Memory;
@@ -84,6 +85,7 @@ impl Kernel {
         ensures calls { OnOk result (DeviceCalls 4 (D.status disk.old) (D.status disk.new) (D.status disk.new).is_down) }
         ensures untouched { IfOk result (λ reply. TouchesNothing (decide self.old.now process command) reply → (D.told disk.new ≡ D.told disk.old) × (D.status disk.new ≡ D.status disk.old)) }
         ensures no_memory { OnErr result ((D.told disk.new ≡ D.told disk.old) × (D.status disk.new ≡ D.status disk.old)) }
+        ensures enough { takes_memory self.old.now process command ≡ false → IsOk result }
     {
         law_of_events();
         law_of_standing();
@@ -124,7 +126,7 @@ impl Kernel {
         ensures calls { OnOk result (DeviceCalls 4 (D.status disk.old) (D.status disk.new) (D.status disk.new).is_down) }
         ensures untouched { IfOk result (λ reply. TouchesNothing (decided self.old.now asked) reply → (D.told disk.new ≡ D.told disk.old) × (D.status disk.new ≡ D.status disk.old)) }
         ensures no_memory { OnErr result ((D.told disk.new ≡ D.told disk.old) × (D.status disk.new ≡ D.status disk.old)) }
-        ensures time { takes_memory asked ≡ false → IsOk result }
+        ensures enough { asked_takes_memory self.old.now asked ≡ false → IsOk result }
     {
         self.events.clear();
         let decided = self

@@ -1,5 +1,5 @@
 // Starting the machine from its disk.
-ghost use Rattle.std.specs.Prelude.{◌≡◌, ◌+◌, ◌-◌, ◌*◌, ◌^◌, ◌<◌, ◌≤◌, ◌∷◌, ◌++◌, ℕ, List, IfOk, OnOk, IfErr, OnErr, IsErrOf, ◌≢◌, Some, true, false, [], vec_capacity, IfSome, IsSomeAnd};
+ghost use Rattle.std.specs.Prelude.{◌≡◌, ◌↔◌, ◌+◌, ◌-◌, ◌*◌, ◌^◌, ◌<◌, ◌≤◌, ◌∷◌, ◌++◌, ℕ, List, IfOk, OnOk, IfErr, OnErr, IsErrOf, ◌≢◌, Some, None, true, false, [], vec_capacity, IfSome, IsSomeAnd};
 ghost use Rattle.ktm_base.specs.declared.limits.TheConstants.{MOST_UNITS};
 ghost use Rattle.ktm_event.specs.Kept.{Holds};
 ghost use Rattle.ktm_base.specs.Count.{Rose};
@@ -18,7 +18,8 @@ ghost use Rattle.ktm_world.specs.Outcome.{is_full};
 ghost use Rattle.ktm_world.specs.World.{World, own_group};
 ghost use Rattle.ktm_kernel.specs.Memory.{IsRoomy};
 ghost use Rattle.ktm_world.specs.Logs.{Group};
-ghost use Rattle.ktm_kernel.specs.Restarts.{HoldsBoth, Started, LeavesOwnOrNot, is_full_for_own, IfUnwrittenBy, restart_went_down};
+ghost use Rattle.ktm_kernel.specs.Restarts.{HoldsBoth, Started, LeavesOwnOrNot, answer_of, is_full_for_own, IfUnwrittenBy, restart_went_down, unrecorded};
+ghost use Rattle.ktm_log.specs.Fault.{append_went_down};
 ghost use Rattle.ktm_kernel.specs.Stands.{IsReady, FoundAt, DoesLine};
 
 use crate::kernel::Kernel;
@@ -26,7 +27,7 @@ use crate::memory::Memory;
 use ktm_base::{Disk, NoMemory, Refusal};
 use ktm_built::{law_of_fresh, law_of_standing};
 use ktm_event::Events;
-use ktm_journal::{AppendFault, Durable, Journal, LoadFault, Loaded, area_len};
+use ktm_journal::{AppendFault, Durable, Journal, LoadFault, Loaded};
 use ktm_laws::{law_of_good_states, law_of_grammar};
 use ktm_types::{Event, Reply};
 use std::alloc::Global;
@@ -38,11 +39,10 @@ fn events_in(buffer: Vec<u8>, journal: &Journal) -> Events
     requires most { journal.now.units ≤ MOST_UNITS }
     requires reserved { area_len journal.now.units ≤ vec_capacity buffer }
     ensures empty { Holds result [] }
-    ensures room { result.room + 9 ≡ area_len journal.now.units }
+    ensures room { result.room + frame_size [] ≡ area_len journal.now.units }
     ensures capacity { vec_capacity buffer ≤ result.capacity }
 {
-    let room = area_len(journal.units()) as usize - 9;
-    Events::with_buffer(buffer, room)
+    Events::with_buffer(buffer, journal.events_room())
 }
 
 /// A machine that started.
@@ -63,7 +63,7 @@ fn record_start<D: Disk>(
     journal: &mut Journal,
     state: &Durable,
     buffer: &mut Vec<u8>,
-) -> Result<Events, RestartFault>
+) -> Result<Events, AppendFault>
     requires built { IsBuiltState state.now }
     requires boots { state.now.boots + 1 < 2 ^ 32 }
     requires most { journal.old.units ≤ MOST_UNITS }
@@ -76,17 +76,16 @@ fn record_start<D: Disk>(
     ensures end { OnOk result (journal.new.log.end ≡ journal.old.log.end + frame_size (own_group state.now)) }
     ensures counted { OnOk result (journal.new.events ≡ journal.old.events + 1) }
     ensures room { OnOk result (is_full (journal.old.log.area.len - journal.old.log.end) (own_group state.now) ≡ false) }
-    ensures full { IsErrOf result RestartFault.Full → is_full (journal.old.log.area.len - journal.old.log.end) (own_group state.now) ≡ true }
-    ensures same { IfErr result (λ fault. fault ≢ RestartFault.Down → D.told disk.new ≡ D.told disk.old) }
-    ensures waits { IfErr result (λ fault. fault ≢ RestartFault.Down → (D.status disk.new).pending ≡ (D.status disk.old).pending) }
+    ensures full { IsErrOf result AppendFault.Full ↔ (is_full (journal.old.log.area.len - journal.old.log.end) (own_group state.now) ≡ true) }
+    ensures same { IsErrOf result AppendFault.Full → D.told disk.new ≡ D.told disk.old }
+    ensures waits { IsErrOf result AppendFault.Full → (D.status disk.new).pending ≡ (D.status disk.old).pending }
     ensures adds { OnOk result ((log : List Group) → IsSomeAnd (D.told disk.old) (JournalAt journal.old log) → IsSomeAnd (D.told disk.new) (JournalAt journal.new (log ++ own_group state.now ∷ []))) }
-    ensures down { IsErrOf result RestartFault.Down → (log : List Group) → IsSomeAnd (D.told disk.old) (JournalAt journal.old log) → IsSomeAnd (D.told disk.new) (LeavesGroupOrNot journal.old log (own_group state.now)) }
-    ensures good { (offset : ℕ) → IsErrOf result (RestartFault.Bad offset) → ⊥ }
+    ensures down { IsErrOf result AppendFault.Down → (log : List Group) → IsSomeAnd (D.told disk.old) (JournalAt journal.old log) → IsSomeAnd (D.told disk.new) (LeavesGroupOrNot journal.old log (own_group state.now)) }
     ensures formatted { OnOk result (IfSome (D.told disk.new) (λ s. IsFormatted journal.new.units journal.new.image s.seen)) }
     ensures settled { OnOk result ((D.status disk.new).pending ≡ 0) }
     ensures up { OnOk result ((D.status disk.new).is_down ≡ false) }
-    ensures calls { DeviceCalls 4 (D.status disk.old) (D.status disk.new) (restart_went_down result) }
-    ensures roomy { IfOk result (λ events. events.room + 9 ≡ area_len journal.old.units) }
+    ensures calls { DeviceCalls 4 (D.status disk.old) (D.status disk.new) (append_went_down result) }
+    ensures roomy { IfOk result (λ events. events.room + frame_size [] ≡ area_len journal.old.units) }
     ensures buffer { OnErr result (vec_capacity buffer.old ≤ vec_capacity buffer.new) }
 {
     let mut events = events_in(replace(buffer, Vec::new(alloc)), journal);
@@ -95,13 +94,9 @@ fn record_start<D: Disk>(
     });
     match journal.append(disk, &events) {
         Ok(()) => Ok(events),
-        Err(AppendFault::Down) => {
+        Err(fault) => {
             *buffer = events.into_buffer();
-            Err(RestartFault::Down)
-        }
-        Err(AppendFault::Full) => {
-            *buffer = events.into_buffer();
-            Err(RestartFault::Full)
+            Err(fault)
         }
     }
 }
@@ -152,6 +147,29 @@ pub enum RestartFault {
     NoMemory,
 }
 
+// Why a machine did not start whose start was not recorded. No memory is wanted once its image was read.
+fn unrecorded(fault: AppendFault) -> RestartFault
+    ensures { result ≡ unrecorded fault }
+{
+    match fault {
+        AppendFault::Down => RestartFault::Down,
+        AppendFault::Full => RestartFault::Full,
+    }
+}
+
+// What a restart answers that did not start its machine.
+fn answer_of(fault: RestartFault) -> Result<Reply, NoMemory>
+    ensures ok { IfOk result (λ reply. answer_of fault ≡ Some reply) }
+    ensures err { OnErr result (answer_of fault ≡ None) }
+{
+    match fault {
+        RestartFault::Down => Ok(Reply::Refused(Refusal::MachineDown)),
+        RestartFault::Bad(offset) => Ok(Reply::BadImage(offset)),
+        RestartFault::Full => Ok(Reply::Refused(Refusal::LogFull)),
+        RestartFault::NoMemory => Err(NoMemory),
+    }
+}
+
 impl Kernel {
     /// Starts the machine from the image of its disk: it reads the groups that are there, and records that it started. The
     /// log is read into the buffer, which the machine keeps, and gives back where it does not start; an empty one grows to
@@ -190,7 +208,7 @@ impl Kernel {
         };
         match record_start(alloc, disk, &mut journal, &state, buffer) {
             Ok(events) => Ok(started(alloc, journal, state, events)),
-            Err(fault) => Err(fault),
+            Err(fault) => Err(unrecorded(fault)),
         }
     }
 }
@@ -230,12 +248,7 @@ impl Kernel {
             }
             Err(fault) => {
                 self.events = events_in(buffer, &self.journal);
-                match fault {
-                    RestartFault::Down => Ok(Reply::Refused(Refusal::MachineDown)),
-                    RestartFault::Bad(offset) => Ok(Reply::BadImage(offset)),
-                    RestartFault::Full => Ok(Reply::Refused(Refusal::LogFull)),
-                    RestartFault::NoMemory => Err(NoMemory),
-                }
+                answer_of(fault)
             }
         }
     }

@@ -29,3 +29,6 @@ returns-clause-recorded c = λ is.
     ∙ ap (λ l. parts_events c.args.id (Changes (own_changes (files_of c.args.files.now).table.own c.args.id)) (Settings l)) c.own_settings-settings.ensures
     ∙ both_done c.args.id (own_changes (files_of c.args.files.now).table.own c.args.id) (own_settings c.args.keys.now.keys.own c.args.id) (sym c.has_changes.ensures ∙ c.if-not-has_changes.false) (ap (λ s. eqb (length s) 0) (sym c.own_settings-settings.ensures) ∙ sym c.is_empty.ensures ∙ c.if-is_empty.false))
     (c.record_both.ensures.recorded is)
+
+pub returns-in_err-written-clause-enough : goal.returns-in_err-written-clause-enough
+returns-in_err-written-clause-enough c = λ unchanged. let both = sym c.if-not-has_changes.false ∙ c.has_changes.ensures ∙ unchanged in absurd (cc)

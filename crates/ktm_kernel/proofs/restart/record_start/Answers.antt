@@ -1,6 +1,7 @@
-use Rattle.std.proofs.Common.{Err, [], ◌+◌, ap, arith}
+use Rattle.std.proofs.Common.{◌≡◌, Err, [], ◌+◌, ap, arith}
+use Rattle.ktm_log.specs.declared.fault.AppendFault.TheVariants.{Down}
 use Rattle.ktm_world.specs.World.{own_group}
-use Rattle.ktm_kernel.proofs.Restarts.{not_full, own_held, own_length}
+use Rattle.ktm_kernel.proofs.Restarts.{full_not, full_same, not_full, own_held, own_length}
 use Rattle.ktm_kernel.proofs.restart.record_start.Goals as goal
 
 pub append-requires-clause-some : goal.append-requires-clause-some
@@ -23,14 +24,17 @@ pub returns-in-Ok-clause-adds : goal.returns-in-Ok-clause-adds
 returns-in-Ok-clause-adds g c = λ log at.
     c.in-Ok.ensures.ok log _ (own_held c.push.new.self c.args.state.now _ c.requires.built (ap (λ n. n + 1) c.boots.ensures) (c.push.ensures.adds [] c.events_in-events.ensures.empty)) at
 
-pub returns-in-Err-Down-clause-down : goal.returns-in-Err-Down-clause-down
-returns-in-Err-Down-clause-down g c = λ failed log at.
-    c.in-Err-Down.ensures.down (ap Err c.in-Err-Down.field-0-is) log _ (own_held c.push.new.self c.args.state.now _ c.requires.built (ap (λ n. n + 1) c.boots.ensures) (c.push.ensures.adds [] c.events_in-events.ensures.empty)) at
-
-pub returns-in-Err-Down-clause-calls : goal.returns-in-Err-Down-clause-calls
-returns-in-Err-Down-clause-calls g c = rw c.in-Err-Down.field-0-is at c.in-Err-Down.ensures.calls
-
-pub returns-in-Err-Full-clause-full : goal.returns-in-Err-Full-clause-full
-returns-in-Err-Full-clause-full g c = λ failed.
+pub returns-in-Ok-clause-full : goal.returns-in-Ok-clause-full
+returns-in-Ok-clause-full g c =
     let own = own_held c.push.new.self c.args.state.now _ c.requires.built (ap (λ n. n + 1) c.boots.ensures) (c.push.ensures.adds [] c.events_in-events.ensures.empty) in
-    (c.in-Err-Full.ensures.full (own_group c.args.state.now) own).0 (ap Err c.in-Err-Full.field-0-is)
+    full_not _ c.in-Ok.field-0 _ (c.in-Ok.ensures.full (own_group c.args.state.now) own)
+
+pub returns-in-Err-clause-full : goal.returns-in-Err-clause-full
+returns-in-Err-clause-full g c =
+    let own = own_held c.push.new.self c.args.state.now _ c.requires.built (ap (λ n. n + 1) c.boots.ensures) (c.push.ensures.adds [] c.events_in-events.ensures.empty) in
+    full_same _ c.in-Err.fault (c.in-Err.ensures.full (own_group c.args.state.now) own)
+
+pub returns-in-Err-clause-down : goal.returns-in-Err-clause-down
+returns-in-Err-clause-down g c = λ failed log at.
+    let down : c.in-Err.fault ≡ Down = cc in
+    c.in-Err.ensures.down (ap Err down) log _ (own_held c.push.new.self c.args.state.now _ c.requires.built (ap (λ n. n + 1) c.boots.ensures) (c.push.ensures.adds [] c.events_in-events.ensures.empty)) at

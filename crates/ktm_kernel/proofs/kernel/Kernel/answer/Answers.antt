@@ -6,7 +6,10 @@ use Rattle.ktm_built.specs.Standing.{IsStandingNow}
 use Rattle.ktm_kernel.specs.Done.{TouchesNothing}
 use Rattle.ktm_kernel.specs.Memory.{held, now_of}
 use Rattle.ktm_kernel.specs.Route.{decided}
+use Rattle.ktm_kernel.proofs.Takes.{gave_up}
 use Rattle.ktm_kernel.proofs.Ends.{as_shown, done, cut, done_touches, kept, stopped}
+use Rattle.ktm_kernel.specs.Stands.{KernelState}
+use Rattle.ktm_kernel.specs.Takes.{asked_takes_memory}
 use Rattle.ktm_kernel.proofs.kernel.Kernel.answer.Goals as goal
 
 pub returns-in_default-clause-ends : goal.returns-in_default-clause-ends
@@ -48,3 +51,6 @@ returns-in-Err-Down-clause-ends g c =
     (cut c.self.inside.journal (held c.self.inside.memory) _ c.in-Some.field-0.reply c.in-Some.field-0.settlement c.decide.new.events c.decide.new.self (rw c.in-Some.is at c.in_ok-decided.ensures.ok)
     c.record.new.journal c.fall-in-Err-Down.new.self (g.D.Disk.told c.args.disk.now) (g.D.Disk.told c.record.new.disk)
     c.in-Err-Down.ensures.refused (ap held c.fall-in-Err-Down.ensures) c.in-Err-Down.ensures.some ((rw c.in-Err-Down.field-0-is at c.in-Err-Down.ensures.cut) refl))
+
+pub returns-in_err-decided-clause-enough : goal.returns-in_err-decided-clause-enough
+returns-in_err-decided-clause-enough g c = λ none. gave_up (c.in_err-decided.ensures.enough (ap (λ (k : KernelState). asked_takes_memory k.now c.args.asked) c.self.view_is ∙ none))

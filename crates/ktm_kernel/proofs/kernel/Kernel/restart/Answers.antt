@@ -9,10 +9,10 @@ use Rattle.ktm_world.specs.Durable.{Durable}
 use Rattle.ktm_world.specs.Logs.{Group}
 use Rattle.ktm_world.specs.Outcome.{is_full}
 use Rattle.ktm_world.specs.World.{own_group}
-use Rattle.ktm_kernel.specs.declared.restart.RestartFault.TheVariants.{Down, Bad, Full}
+use Rattle.ktm_kernel.specs.declared.restart.RestartFault.TheVariants.{Down as RestartDown, Bad, Full as RestartFull}
 use Rattle.ktm_kernel.specs.Restarts.{HoldsBoth, LeavesOwnOrNot, is_full_for_own}
 use Rattle.ktm_log.specs.declared.area.Area.{Area}
-use Rattle.ktm_kernel.proofs.Restarts.{found, next_applies, unwritten_leaves, journal_at, found_grammatical, is_full as full_is, started, cut_off, fresh_ready}
+use Rattle.ktm_kernel.proofs.Restarts.{found, next_applies, unwritten_leaves, journal_at, found_grammatical, is_full as full_is, started, cut_off, fresh_ready, unrecorded_down, unrecorded_full, unrecorded_good, unrecorded_calls, unrecorded_other}
 use Rattle.ktm_kernel.proofs.kernel.Kernel.restart.Goals as goal
 
 pub returns-in-Err-Down-clause-down : goal.returns-in-Err-Down-clause-down
@@ -56,7 +56,8 @@ returns-in-Ok-record_start-clause-few g c = λ units image headed. omega (arith,
 
 pub returns-in-Err-clause-down : goal.returns-in-Err-clause-down
 returns-in-Err-clause-down g c = λ failed units image before log holds.
-    let down : c.in-Err.fault ≡ Down = cc in
+    let fault : c.unrecorded.result ≡ RestartDown = cc in
+    let down = unrecorded_down c.in-Err.fault (sym c.unrecorded.ensures ∙ fault) in
     let is = found units image before log c.in-Ok.loaded.state (g.D.Disk.told c.args.disk.now) c.in-Ok.ensures.stands holds in
     let at = journal_at units image before log c.in-Ok.loaded.state is c.in-Ok.loaded.journal (g.D.Disk.told c.args.disk.now) (g.D.Disk.told c.load.new.disk) c.in-Ok.ensures.journal holds in
     cut_off units image before log c.in-Ok.loaded.state is (next_applies c.in-Ok.loaded.state c.in-Ok.loaded.journal.log c.in-Ok.ensures.built c.in-Ok.ensures.good c.in-Ok.ensures.events c.in-Ok.ensures.inside c.in-Ok.ensures.area c.in-Ok.ensures.units.2) c.in-Ok.loaded.journal c.record_start.new.journal c.in-Ok.ensures.units.0 c.in-Ok.ensures.image
@@ -64,24 +65,25 @@ returns-in-Err-clause-down g c = λ failed units image before log holds.
 
 pub returns-in-Err-clause-full : goal.returns-in-Err-clause-full
 returns-in-Err-clause-full g c = λ failed units image before log holds.
-    let full : c.in-Err.fault ≡ Full = cc in
+    let fault : c.unrecorded.result ≡ RestartFull = cc in
+    let full = unrecorded_full c.in-Err.fault (sym c.unrecorded.ensures ∙ fault) in
     let is = found units image before log c.in-Ok.loaded.state (g.D.Disk.told c.args.disk.now) c.in-Ok.ensures.stands holds in
     let at = journal_at units image before log c.in-Ok.loaded.state is c.in-Ok.loaded.journal (g.D.Disk.told c.args.disk.now) (g.D.Disk.told c.load.new.disk) c.in-Ok.ensures.journal holds in
-    sym (full_is units image before log c.in-Ok.loaded.state is c.in-Ok.loaded.journal (g.D.Disk.told c.load.new.disk) c.in-Ok.ensures.units.0 at) ∙ c.in-Err.ensures.full (ap Err full)
+    sym (full_is units image before log c.in-Ok.loaded.state is c.in-Ok.loaded.journal (g.D.Disk.told c.load.new.disk) c.in-Ok.ensures.units.0 at) ∙ c.in-Err.ensures.full.0 (ap Err full)
 
 pub returns-in-Err-clause-found_full : goal.returns-in-Err-clause-found_full
 returns-in-Err-clause-found_full g c = λ failed. IfSome-map (g.D.Disk.told c.args.disk.now) _ _ c.in-Ok.ensures.stands (λ s stands. (c.in-Ok.loaded.state, stands))
 
 pub returns-in-Err-clause-bad : goal.returns-in-Err-clause-bad
 returns-in-Err-clause-bad g c = λ offset failed.
-    let bad : c.in-Err.fault ≡ Bad offset = cc in
-    absurd (c.in-Err.ensures.good offset (ap Err bad))
+    let bad : c.unrecorded.result ≡ Bad offset = cc in
+    absurd (unrecorded_good c.in-Err.fault offset (sym c.unrecorded.ensures ∙ bad))
 
 pub returns-in-Err-clause-unwritten : goal.returns-in-Err-clause-unwritten
-returns-in-Err-clause-unwritten g c = λ other. c.in-Err.ensures.same other ∙ c.in-Ok.ensures.reads.same
+returns-in-Err-clause-unwritten g c = λ other. c.in-Err.ensures.same (ap Err (unrecorded_other c.in-Err.fault (λ is. other (c.unrecorded.ensures ∙ is)))) ∙ c.in-Ok.ensures.reads.same
 
 pub returns-in-Err-clause-pending : goal.returns-in-Err-clause-pending
-returns-in-Err-clause-pending g c = λ other. c.in-Err.ensures.waits other ∙ c.in-Ok.ensures.reads.pending
+returns-in-Err-clause-pending g c = λ other. c.in-Err.ensures.waits (ap Err (unrecorded_other c.in-Err.fault (λ is. other (c.unrecorded.ensures ∙ is)))) ∙ c.in-Ok.ensures.reads.pending
 
 pub returns-in-Err-clause-calls : goal.returns-in-Err-clause-calls
-returns-in-Err-clause-calls g c = calls_law _ _ _ (8 * MOST_UNITS + 64) 4 _ c.in-Ok.ensures.reads.calls c.in-Err.ensures.calls
+returns-in-Err-clause-calls g c = unrecorded_calls _ _ _ c.in-Err.fault c.unrecorded.result c.unrecorded.ensures (calls_law _ _ _ (8 * MOST_UNITS + 64) 4 _ c.in-Ok.ensures.reads.calls c.in-Err.ensures.calls)

@@ -1,12 +1,15 @@
-use Rattle.std.proofs.Common.{◌-◌, not, refl, sym, ◌∙◌, ap, subst}
+use Rattle.std.proofs.Common.{◌-◌, ◌≤◌, length, not, refl, sym, ◌∙◌, ap, subst}
 use Rattle.ktm_event.specs.Kept.{Holds}
-use Rattle.ktm_world.specs.Files.{FilesNow}
+use Rattle.ktm_world.specs.Files.{FilesNow, own_changes}
 use Rattle.ktm_world.specs.Outcome.{is_full}
 use Rattle.txf_volume.specs.Held.{files_of}
 use Rattle.ktm_kernel.specs.Memory.{MemoryState, held, now_of}
-use Rattle.ktm_kernel.proofs.CommitGroups.{can_commit, commit_full, events_of, room_from}
+use Rattle.ktm_kernel.proofs.CommitGroups.{can_commit, commit_full, events_of, idle_may, room_from}
 use Rattle.ktm_kernel.proofs.Decides.{commit_decided}
 use Rattle.ktm_kernel.proofs.Standing.{built}
+use Rattle.ktm_world.specs.Changes.{has_changes}
+use Rattle.ktm_world.specs.Keys.{own_settings}
+use Rattle.ktm_kernel.proofs.Takes.{gave_up}
 use Rattle.ktm_kernel.proofs.memory.Memory.decide_commit.Goals as goal
 
 pub returns-then-not-branch-clause-ok : goal.returns-then-not-branch-clause-ok
@@ -31,3 +34,15 @@ returns-clause-ok c =
     (rw (← c.self.view_is) (rw (c.in_ok-reserve.ensures.keys, c.in_ok-prepare_commit.ensures.same) refl))
     (can_commit x _ c.args.t (c.in_ok-prepare_commit.ensures.same ∙ ap (λ (m : MemoryState). files_of m.files) c.self.view_is) (c.requires.ready room) c.in_ok-prepare_commit.ensures.ready (rw c.in_ok-reserve.ensures.keys c.in_ok-reserve.ensures.room))
     (subst (Holds c.record_commit.new.events) same (c.in_ok-record_commit.ensures.recorded c.if-not-branch.false)) room
+
+pub returns-in_err-reserve-clause-enough : goal.returns-in_err-reserve-clause-enough
+returns-in_err-reserve-clause-enough c = λ unchanged few.
+    gave_up (c.in_err-reserve.ensures.succeeds (subst (λ (m : MemoryState). length (own_settings m.keys.keys.own c.args.t.id) ≤ m.keys.room) (sym c.self.view_is) few))
+
+pub returns-in_err-prepare_commit-clause-enough : goal.returns-in_err-prepare_commit-clause-enough
+returns-in_err-prepare_commit-clause-enough c = λ unchanged few.
+    gave_up (c.in_err-prepare_commit.ensures.enough (idle_may c.self.inside.files c.args.t.id (ap (λ (m : MemoryState). has_changes (own_changes (files_of m.files).table.own c.args.t.id)) c.self.view_is ∙ unchanged)))
+
+pub returns-in_err-record_commit-clause-enough : goal.returns-in_err-record_commit-clause-enough
+returns-in_err-record_commit-clause-enough c = λ unchanged few.
+    gave_up (c.in_err-record_commit.ensures.enough (ap (λ (f : FilesNow). has_changes (own_changes f.table.own c.args.t.id)) (c.in_ok-prepare_commit.ensures.same ∙ ap (λ (m : MemoryState). files_of m.files) c.self.view_is) ∙ unchanged))

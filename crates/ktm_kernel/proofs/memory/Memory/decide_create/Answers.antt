@@ -1,4 +1,4 @@
-use Rattle.std.proofs.Common.{◌≡◌, ◌||◌, true, List, [], map, refl, ap, sym, ◌∙◌}
+use Rattle.std.proofs.Common.{◌≡◌, ◌≤◌, ◌||◌, true, List, [], map, refl, ap, subst, sym, ◌∙◌}
 use Rattle.std.proofs.lemmas.Bool.{or_from, or_left, or_right}
 use Rattle.ktm_base.specs.declared.refusal.Refusal.TheVariants.{NotEnoughQuota}
 use Rattle.ktm_object.specs.declared.entry.Entry.{Entry}
@@ -12,6 +12,7 @@ use Rattle.ktm_kernel.proofs.Decides.{create_decided, create_says, only_decided}
 use Rattle.ktm_kernel.proofs.Routes.{test_passes, test_refuses}
 use Rattle.ktm_kernel.proofs.Standing.{built}
 use Rattle.ktm_kernel.proofs.memory.Memory.decide_create.Goals as goal
+use Rattle.ktm_kernel.proofs.Takes.{gave_up, not_refused}
 use Rattle.ktm_kernel.proofs.memory.Memory.decide_create.Goals.{then-is_full-via-then-is_full, then-is_full-via-else-is_full+then-is_full-2}
 
 pub returns-then-is_full-clause-ok : goal.returns-then-is_full-clause-ok
@@ -40,3 +41,21 @@ returns-clause-ok c = λ events holds.
       ap (λ (es : List Entry). object_at (map handle_of es) c.args.process c.args.label) (c.in_ok-reserve-2.ensures.entries ∙ ap (λ m. m.handles.entries) c.self.view_is) ∙ c.requires.free,
     )
     holds _ (test_passes x _ NotEnoughQuota [] (create_transaction x c.args.process c.args.label c.args.timeout) (or_from _ _ handles transactions))
+
+pub returns-in_err-reserve-clause-enough : goal.returns-in_err-reserve-clause-enough
+returns-in_err-reserve-clause-enough c = λ none.
+    let handles = ap (λ m. no_handle_left (handles_of m.handles)) (sym c.self.view_is) ∙ sym c.is_full.ensures ∙ c.if-is_full.false in
+    let transactions = ap (λ m. no_transaction_left m.tm.now) (sym c.self.view_is) ∙ sym c.is_full-else-is_full.ensures ∙ c.if-is_full-2.false in
+    absurd (not_refused _ NotEnoughQuota (or_from _ _ handles transactions) none)
+
+pub returns-in_err-reserve-2-clause-enough : goal.returns-in_err-reserve-2-clause-enough
+returns-in_err-reserve-2-clause-enough c = λ none.
+    let handles = ap (λ m. no_handle_left (handles_of m.handles)) (sym c.self.view_is) ∙ sym c.is_full.ensures ∙ c.if-is_full.false in
+    let transactions = ap (λ m. no_transaction_left m.tm.now) (sym c.self.view_is) ∙ sym c.is_full-else-is_full.ensures ∙ c.if-is_full-2.false in
+    absurd (not_refused _ NotEnoughQuota (or_from _ _ handles transactions) none)
+
+pub returns-in_err-reserve-clause-spare : goal.returns-in_err-reserve-clause-spare
+returns-in_err-reserve-clause-spare c = λ room spare. gave_up (c.in_err-reserve.ensures.enough (subst (λ m. 1 ≤ m.tm.room) (sym c.self.view_is) room))
+
+pub returns-in_err-reserve-2-clause-spare : goal.returns-in_err-reserve-2-clause-spare
+returns-in_err-reserve-2-clause-spare c = λ room spare. gave_up (c.in_err-reserve-2.ensures.enough (subst (λ m. 1 ≤ m.handles.spare) (sym c.self.view_is) spare))

@@ -10,6 +10,7 @@ use Rattle.ktm_kernel.specs.Route.{files_outcome}
 use Rattle.ktm_kernel.proofs.Decides.{only_decided}
 use Rattle.ktm_kernel.proofs.FilesDecided.{may_make, planned, quiet_outcome}
 use Rattle.ktm_kernel.proofs.Standing.{built}
+use Rattle.ktm_kernel.proofs.Takes.{gave_up, own_quiet, plain_full, quick_decision}
 use Rattle.ktm_kernel.proofs.memory.Memory.decide_files.Goals as goal
 
 pub decide-requires-clause-orderly : goal.decide-requires-clause-orderly
@@ -48,3 +49,18 @@ returns-in_ok-decide_own-in-Some-clause-ok c =
     subst (λ o. Decides c.args.journal.now (held c.args.self.now) (files_outcome x c.args.process c.args.who c.args.label o) d.reply d.settlement c.args.events.now c.decide_own.new.self) plan
     (subst (λ who. Decides c.args.journal.now (held c.args.self.now) (files_outcome x c.args.process who c.args.label c.in_ok-plan.plan) d.reply d.settlement c.args.events.now c.decide_own.new.self) (sym c.in-Some.is)
     (c.in_ok-decide_own-in-Some.ensures.ok c.args.events.now c.requires.empty))
+
+pub returns-in_err-plan-clause-enough : goal.returns-in_err-plan-clause-enough
+returns-in_err-plan-clause-enough c = λ none. gave_up (c.in_err-plan.ensures.enough (quick_decision (now_of c.args.journal.now (held c.args.self.now)) c.args.who c.args.call none))
+
+pub returns-in_err-decide_own-in-Some-clause-enough : goal.returns-in_err-decide_own-in-Some-clause-enough
+returns-in_err-decide_own-in-Some-clause-enough c = λ none.
+    let x = now_of c.args.journal.now (held c.args.self.now) in
+    let plan = planned c.args.journal.now (held c.args.self.now) _ _ c.args.who c.args.call c.in_ok-plan.plan c.in_ok-plan.ensures.plan c.file_room-room.ensures (ap (λ m. files_of m.files) c.self.view_is) in
+    absurd (own_quiet x c.args.who c.args.call none c.in_ok-plan.plan plan (sym c.changes_nothing.ensures ∙ c.if-changes_nothing.false) c.in-Some.id c.in-Some.is)
+
+pub returns-in-None-clause-enough : goal.returns-in-None-clause-enough
+returns-in-None-clause-enough c = λ none.
+    let x = now_of c.args.journal.now (held c.args.self.now) in
+    let plan = planned c.args.journal.now (held c.args.self.now) _ _ c.args.who c.args.call c.in_ok-plan.plan c.in_ok-plan.ensures.plan c.file_room-room.ensures (ap (λ m. files_of m.files) c.self.view_is) in
+    c.decide_plain.ensures.full (plain_full x c.args.who c.args.call none c.in_ok-plan.plan plan (sym c.changes_nothing.ensures ∙ c.if-changes_nothing.false) c.in-None.is)

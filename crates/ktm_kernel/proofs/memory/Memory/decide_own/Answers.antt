@@ -5,7 +5,9 @@ use Rattle.txf_calls.specs.Views.{open_of}
 use Rattle.std.specs.Option.{option_map}
 use Rattle.ktm_kernel.specs.Memory.{Held, MemoryState, held, now_of}
 use Rattle.ktm_kernel.specs.Route.{IsFreeLabel}
-use Rattle.ktm_kernel.proofs.FilesDecided.{may_bind, own_decided}
+use Rattle.ktm_kernel.proofs.FilesDecided.{may_bind, opens_some, own_decided}
+use Rattle.txf_volume.specs.Transacted.{HasRoom}
+use Rattle.ktm_kernel.proofs.Takes.{gave_up}
 use Rattle.ktm_kernel.proofs.memory.Memory.decide_own.Goals as goal
 
 pub returns-clause-ok : goal.returns-clause-ok
@@ -21,3 +23,11 @@ returns-clause-ok c = λ events holds.
     (may_bind c.args.journal.now after c.args.process c.args.label c.plan.inside.opened (λ some. subst (λ m. 1 ≤ m.handles.spare) (sym c.self.view_is) (c.in_ok-reserve_for.ensures.room some))
     (subst (λ (h : Held). IsFreeLabel (now_of c.args.journal.now h) c.args.process c.args.label) (sym then) c.requires.free))
     holds)
+
+pub returns-in_err-reserve_for-clause-enough : goal.returns-in_err-reserve_for-clause-enough
+returns-in_err-reserve_for-clause-enough c = λ room unchanged spare.
+    gave_up (c.in_err-reserve_for.ensures.enough (λ some. spare (opens_some c.plan.inside.opened c.args.plan.opened (ap (λ p. p.opened) c.plan.view_is) some)))
+
+pub returns-in_err-keep-clause-enough : goal.returns-in_err-keep-clause-enough
+returns-in_err-keep-clause-enough c = λ room unchanged spare.
+    gave_up (c.in_err-keep.ensures.enough (subst HasRoom (sym (ap (λ (m : MemoryState). m.files) c.self.view_is ∙ c.in_ok-reserve_for.ensures.files)) room) (ap (λ p. p.change) c.plan.view_is ∙ unchanged))

@@ -1,4 +1,4 @@
-use Rattle.std.proofs.Common.{◌≤◌, ap, sym, subst, ◌∙◌}
+use Rattle.std.proofs.Common.{◌≤◌, None, ap, sym, subst, ◌∙◌}
 use Rattle.std.specs.Option.{option_map}
 use Rattle.ktm_object.specs.Table.{handles_of}
 use Rattle.ktm_types.specs.declared.reply.Reply.TheVariants.{Done}
@@ -7,7 +7,8 @@ use Rattle.ktm_world.specs.Files.{FilesNow}
 use Rattle.txf_calls.specs.Views.{open_of}
 use Rattle.txf_volume.specs.Plain.{IsReady}
 use Rattle.ktm_kernel.specs.Memory.{MemoryState, held}
-use Rattle.ktm_kernel.proofs.FilesDecided.{may_settle, plain_decided}
+use Rattle.ktm_kernel.proofs.FilesDecided.{may_settle, opens_some, plain_decided}
+use Rattle.ktm_kernel.proofs.Takes.{gave_up}
 use Rattle.ktm_kernel.proofs.memory.Memory.decide_plain.Goals as goal
 
 pub returns-clause-ok : goal.returns-clause-ok
@@ -29,3 +30,19 @@ returns-clause-ok c =
     (λ some. subst (λ m. 1 ≤ m.handles.spare) (sym c.self.view_is) (c.in_ok-reserve_for.ensures.room some))
     c.requires.free)
     recorded.1 recorded.2 c.requires.answers
+
+pub returns-in_err-reserve_for-clause-full : goal.returns-in_err-reserve_for-clause-full
+returns-in_err-reserve_for-clause-full c = λ full. let both = sym full ∙ c.in-Some.ensures.some.2 in absurd (cc)
+
+pub returns-in_err-ready-clause-full : goal.returns-in_err-ready-clause-full
+returns-in_err-ready-clause-full c = λ full. let both = sym full ∙ c.in-Some.ensures.some.2 in absurd (cc)
+
+pub returns-in_err-reserve_for-clause-enough : goal.returns-in_err-reserve_for-clause-enough
+returns-in_err-reserve_for-clause-enough c = λ ready spare.
+    gave_up (c.in_err-reserve_for.ensures.enough (λ some. spare (opens_some c.plan.inside.opened c.args.plan.opened (ap (λ (p : FileOutcome). p.opened) (c.plan.view_is ∙ c.in-Some.ensures.some.0)) some)))
+
+pub returns-in_err-ready-clause-enough : goal.returns-in_err-ready-clause-enough
+returns-in_err-ready-clause-enough c = λ ready spare.
+    gave_up (c.in_err-ready.ensures.enough
+    (subst (λ files. IsReady files c.in-Some.plan None) (sym (ap (λ (m : MemoryState). m.files) c.self.view_is ∙ c.in_ok-reserve_for.ensures.files))
+    (subst (λ (p : FileOutcome). IsReady c.args.self.now.files p None) (sym c.in-Some.ensures.some.0) ready)))

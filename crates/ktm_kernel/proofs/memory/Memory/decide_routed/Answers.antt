@@ -8,6 +8,8 @@ use Rattle.ktm_world.specs.HandleCalls.{close_handle, duplicate_handle, exit}
 use Rattle.ktm_world.specs.TransactionCalls.{get_transaction_information, opened_object, rollback_transaction}
 use Rattle.ktm_kernel.proofs.Decides.{bound_comes, duplicated_comes, information_is, only_decided, quiet_decided}
 use Rattle.ktm_kernel.proofs.Standing.{built}
+use Rattle.ktm_kernel.proofs.CommitGroups.{idle_keys}
+use Rattle.ktm_kernel.proofs.Takes.{from_not, gave_up}
 use Rattle.ktm_kernel.proofs.memory.Memory.decide_routed.Goals as goal
 
 pub returns-in_ok-decide_create-in-Create-clause-ok : goal.returns-in_ok-decide_create-in-Create-clause-ok
@@ -58,3 +60,22 @@ returns-in-Information-clause-ok c =
     rw (c.in-Information.is, c.only.ensures.reply, c.only.ensures.settlement)
     (only_decided c.args.journal.now c.args.self.now (get_transaction_information x (Some c.in-Information.t)) _ c.args.events.now (built x c.requires.standing)
     (information_is x c.in-Information.t _ (c.information.ensures (held c.args.self.now))) c.requires.empty)
+
+pub returns-in_err-decide_create-in-Create-clause-enough : goal.returns-in_err-decide_create-in-Create-clause-enough
+returns-in_err-decide_create-in-Create-clause-enough c = rw c.in-Create.is (λ none. gave_up (c.in_err-decide_create-in-Create.ensures.enough none))
+
+pub returns-in_err-decide_handle-in-Bind-clause-enough : goal.returns-in_err-decide_handle-in-Bind-clause-enough
+returns-in_err-decide_handle-in-Bind-clause-enough c = rw c.in-Bind.is (λ none. gave_up (c.in_err-decide_handle-in-Bind.ensures.enough none))
+
+pub returns-in_err-decide_handle-in-Duplicate-clause-enough : goal.returns-in_err-decide_handle-in-Duplicate-clause-enough
+returns-in_err-decide_handle-in-Duplicate-clause-enough c = rw c.in-Duplicate.is (λ none. gave_up (c.in_err-decide_handle-in-Duplicate.ensures.enough none))
+
+pub returns-in_err-decide_keys-in-Keys-clause-enough : goal.returns-in_err-decide_keys-in-Keys-clause-enough
+returns-in_err-decide_keys-in-Keys-clause-enough c = rw c.in-Keys.is (λ none. gave_up (c.in_err-decide_keys-in-Keys.ensures.enough (from_not _ none)))
+
+pub returns-in-Commit-clause-enough : goal.returns-in-Commit-clause-enough
+returns-in-Commit-clause-enough c =
+    rw c.in-Commit.is (λ none. let idle = idle_keys (now_of c.args.journal.now (held c.args.self.now)) c.in-Commit.t c.args.self.now.keys.room none in c.decide_commit.ensures.enough idle.0 idle.1)
+
+pub returns-in-Files-clause-enough : goal.returns-in-Files-clause-enough
+returns-in-Files-clause-enough c = rw c.in-Files.is c.decide_files.ensures.enough

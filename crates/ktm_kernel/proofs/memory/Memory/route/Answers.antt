@@ -3,12 +3,18 @@ use Rattle.ktm_types.specs.declared.command.Command.TheVariants.{KvSet, KvUnset,
 use Rattle.ktm_world.specs.Labels.{transaction_named, transaction_tests, view_tests}
 use Rattle.ktm_kernel.specs.Memory.{held, now_of}
 use Rattle.ktm_kernel.proofs.Routes.{refused_first, set_routed, unset_routed}
+use Rattle.ktm_kernel.proofs.Takes.{set_takes, unset_takes}
 use Rattle.ktm_kernel.proofs.memory.Memory.route.Goals as goal
 
 pub returns-in-Ok : goal.returns-in-Ok
 returns-in-Ok c =
     let (named, passed) = c.in-Ok.ensures.ok c.args.journal.now in
-    (rw c.in-KvSet.is (set_routed (now_of c.args.journal.now (held c.args.self.now)) c.args.process c.requires.up c.in-KvSet.transaction c.in-Ok.t named passed c.in-KvSet.key c.in-KvSet.value), tt)
+    let x = now_of c.args.journal.now (held c.args.self.now) in
+    rw c.in-KvSet.is (
+      set_routed x c.args.process c.requires.up c.in-KvSet.transaction c.in-Ok.t named passed c.in-KvSet.key c.in-KvSet.value,
+      tt,
+      set_takes x c.args.process c.requires.up c.in-KvSet.transaction c.in-Ok.t named passed c.in-KvSet.key c.in-KvSet.value,
+    )
 
 pub returns-in-Err : goal.returns-in-Err
 returns-in-Err c = rw c.in-KvSet.is (refused_first (now_of c.args.journal.now (held c.args.self.now)) c.args.process (KvSet c.in-KvSet.transaction c.in-KvSet.key c.in-KvSet.value) (transaction_tests (transaction_named (now_of c.args.journal.now (held c.args.self.now)) c.args.process c.in-KvSet.transaction)) _ c.in-Err.refusal c.requires.up refl (c.in-Err.ensures.err c.args.journal.now))
@@ -16,7 +22,12 @@ returns-in-Err c = rw c.in-KvSet.is (refused_first (now_of c.args.journal.now (h
 pub returns-in-Ok-active : goal.returns-in-Ok-active
 returns-in-Ok-active c =
     let (named, passed) = c.in-Ok-active.ensures.ok c.args.journal.now in
-    (rw c.in-KvUnset.is (unset_routed (now_of c.args.journal.now (held c.args.self.now)) c.args.process c.requires.up c.in-KvUnset.transaction c.in-Ok-active.t named passed c.in-KvUnset.key), tt)
+    let x = now_of c.args.journal.now (held c.args.self.now) in
+    rw c.in-KvUnset.is (
+      unset_routed x c.args.process c.requires.up c.in-KvUnset.transaction c.in-Ok-active.t named passed c.in-KvUnset.key,
+      tt,
+      unset_takes x c.args.process c.requires.up c.in-KvUnset.transaction c.in-Ok-active.t named passed c.in-KvUnset.key,
+    )
 
 pub returns-in-Err-active : goal.returns-in-Err-active
 returns-in-Err-active c = rw c.in-KvUnset.is (refused_first (now_of c.args.journal.now (held c.args.self.now)) c.args.process (KvUnset c.in-KvUnset.transaction c.in-KvUnset.key) (transaction_tests (transaction_named (now_of c.args.journal.now (held c.args.self.now)) c.args.process c.in-KvUnset.transaction)) _ c.in-Err-active.refusal c.requires.up refl (c.in-Err-active.ensures.err c.args.journal.now))

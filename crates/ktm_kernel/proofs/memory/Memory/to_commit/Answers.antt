@@ -1,6 +1,7 @@
 use Rattle.ktm_built.proofs.Forms.{named_law}
 use Rattle.ktm_kernel.specs.Memory.{held, now_of}
 use Rattle.ktm_kernel.proofs.Routes.{commit_refused, commit_routed}
+use Rattle.ktm_kernel.proofs.Takes.{commit_takes}
 use Rattle.ktm_kernel.proofs.memory.Memory.to_commit.Goals as goal
 
 pub returns-in-Ok : goal.returns-in-Ok
@@ -9,6 +10,7 @@ returns-in-Ok c =
     let (named, passed) = c.in-Ok.ensures.ok c.args.journal.now in (
       commit_routed x c.args.process c.requires.up c.args.label c.in-Ok.t named passed,
       (named_law x c.args.process c.args.label c.in-Ok.t named, c.law_of_files.ensures.commits x c.args.process c.args.label c.in-Ok.t c.requires.standing c.requires.up named passed),
+      commit_takes x c.args.process c.requires.up c.args.label c.in-Ok.t named passed,
     )
 
 pub returns-in-Err : goal.returns-in-Err

@@ -6,6 +6,7 @@ use Rattle.txf_volume.specs.Held.{files_of}
 use Rattle.ktm_kernel.specs.Memory.{held, now_of}
 use Rattle.ktm_kernel.specs.Route.{source_tests}
 use Rattle.ktm_kernel.proofs.Routes.{duplicate_bound, duplicate_refused, duplicate_routed, source_named, unbound_names}
+use Rattle.ktm_kernel.proofs.Takes.{duplicate_takes}
 use Rattle.ktm_kernel.proofs.memory.Memory.to_duplicate.Goals as goal
 
 pub returns-in-Some : goal.returns-in-Some
@@ -18,4 +19,8 @@ pub returns : goal.returns
 returns c =
     let passed = (ap (λ m. first_refusal (source_tests (files_of c.args.self.now.files) (object_at (handles_of m.handles) c.args.from c.args.source))) (sym c.self.view_is) ∙ ap (λ o. first_refusal (source_tests (files_of c.args.self.now.files) o)) (sym c.get.ensures) ∙ sym c.source_refusal.ensures ∙ c.in_default.is) in
     let free = (ap (λ m. is_some (object_at (handles_of m.handles) c.args.process c.args.label)) (sym c.self.view_is) ∙ ap is_some (sym c.get-2.ensures) ∙ sym c.is_some.ensures ∙ c.if-is_some.false) in
-    (duplicate_routed (now_of c.args.journal.now (held c.args.self.now)) c.args.process c.requires c.args.label c.args.from c.args.source passed free, (unbound_names _ free, source_named (files_of c.args.self.now.files) _ passed))
+    let x = now_of c.args.journal.now (held c.args.self.now) in (
+      duplicate_routed x c.args.process c.requires c.args.label c.args.from c.args.source passed free,
+      (unbound_names _ free, source_named (files_of c.args.self.now.files) _ passed),
+      duplicate_takes x c.args.process c.requires c.args.label c.args.from c.args.source passed free,
+    )

@@ -1,4 +1,4 @@
-use Rattle.std.proofs.Common.{sym, ◌∙◌}
+use Rattle.std.proofs.Common.{refl, sym, ◌∙◌}
 use Rattle.ktm_built.proofs.Forms.{named_law}
 use Rattle.ktm_kernel.specs.Memory.{held, now_of}
 use Rattle.ktm_kernel.proofs.Routes.{rollback_not_ended, rollback_refused, rollback_routed, rollback_unnamed}
@@ -16,4 +16,4 @@ returns-in-None c =
     let x = now_of c.args.journal.now (held c.args.self.now) in
     let named = sym (c.named.ensures c.args.journal.now) ∙ c.in-Some.is in
     let passed = sym c.rollback_refusal.ensures ∙ c.in-None.is in
-    (rollback_routed x c.args.process c.requires c.args.label c.in-Some.t named passed, (named_law x c.args.process c.args.label c.in-Some.t named, rollback_not_ended c.in-Some.t passed))
+    (rollback_routed x c.args.process c.requires c.args.label c.in-Some.t named passed, (named_law x c.args.process c.args.label c.in-Some.t named, rollback_not_ended c.in-Some.t passed), refl)
