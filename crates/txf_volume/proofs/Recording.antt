@@ -5,7 +5,7 @@ use Rattle.std.proofs.lemmas.Grind.{flat_map-append}
 use Rattle.std.proofs.lemmas.List.Elements.{All-cons, All-nil}
 use Rattle.std.proofs.lemmas.List.{append-nil}
 use Rattle.std.proofs.lemmas.Option.{same_Some, none-some}
-use Rattle.std.specs.List.{flat_map}
+use Rattle.std.specs.List.{flat_map, list_all}
 use Rattle.std.specs.Option.{option_copied}
 use Rattle.std.specs.Prelude.{nat_le, nat_lt}
 use Rattle.ktm_types.specs.declared.change.Change.{Change}
@@ -140,6 +140,23 @@ module _ (ws : List Written) (rise : IsRising ws) (next : Option (Bor Written)) 
 
     pub fewer : (files : List FileBytes) → IsSoFar ws files now → length (files_left ws next) < length (files_left ws now)
     fewer files so_far = let e = ap length (here files so_far) in omega arith
+
+-- where no file was written there is no next one
+pub none-next : (ws : List Written) (files : List FileBytes) (next : Option (Bor Written)) (w : Bor Written) → next ≡ Some w → IsSoFar ws files next → ws ≡ [] → ⊥
+none-next ws files next w is so_far none =
+    let first : files_from ws w.now.file ≡ w.now ∷ files_from ws (w.now.file + 1) = subst (λ o. IfSome o (λ w. files_from ws w.now.file ≡ w.now ∷ files_from ws (w.now.file + 1))) is so_far.first in
+    let nothing : [] ≡ w.now ∷ [] = subst (λ (ws : List Written). files_from ws w.now.file ≡ w.now ∷ files_from ws (w.now.file + 1)) none first in
+    cc
+
+cut-first : (file : ℕ) (bytes : List ℕ) (rest : List Change) → list_all is_of_names (final_bytes file bytes ++ rest) ≡ true → ⊥
+cut-first file [] rest only = true≢false (sym only)
+cut-first file (b ∷ bs) rest only = true≢false (sym only)
+
+-- changes of names alone write no file
+pub names-alone : (names : List Change) (ws : List Written) → list_all is_of_names (names ++ flat_map final_of ws) ≡ true → ws ≡ []
+names-alone names [] only = refl
+names-alone [] (w ∷ ws) only = absurd (cut-first w.file w.bytes (flat_map final_of ws) only)
+names-alone (c ∷ cs) (w ∷ ws) only = names-alone cs (w ∷ ws) (and_parts (is_of_names c) (list_all is_of_names (cs ++ flat_map final_of (w ∷ ws))) only).1
 
 -- ---- the number of the next node
 

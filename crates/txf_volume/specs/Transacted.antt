@@ -1,5 +1,5 @@
 -- What a call of a transaction makes of the files in memory, and what its end does.
-use Rattle.std.specs.Prelude.{◌≡◌, ℕ, ◌+◌, ◌<◌, ◌≤◌, ◌^◌, true, not, [], ◌∷◌, ◌++◌, filter, Option, Some, None}
+use Rattle.std.specs.Prelude.{◌≡◌, ℕ, ◌+◌, ◌<◌, ◌≤◌, ◌^◌, true, not, List, [], ◌∷◌, ◌++◌, filter, Option, Some, None}
 use Rattle.ktm_base.specs.declared.id.Id.{Id}
 use Rattle.ktm_laws.specs.OwnChange.{owned}
 use Rattle.ktm_types.specs.declared.change.Change.{Change}
@@ -8,7 +8,8 @@ use Rattle.ktm_world.specs.FileOutcome.{FileOutcome, files_after, with_open}
 use Rattle.ktm_world.specs.Files.{FilesNow, FileTable, OpenFile, committed_files, first_open, first_open_of, tree_seen, without_transaction}
 use Rattle.ktm_world.specs.Transactions.{same_id}
 use Rattle.ktm_world.specs.Tree.{is_file}
-use Rattle.txf_volume.specs.Held.{FilesHeld}
+use Rattle.txf_overlay.specs.OverlayState.{OverlayState, is_of_names}
+use Rattle.txf_volume.specs.Held.{FilesHeld, OwnHeld, overlay_in}
 use Rattle.txf_volume.specs.Writes.{CanBeCounted}
 
 -- the files without what the transaction changed, first opened and has open
@@ -51,3 +52,13 @@ pub record HasRoom (h : FilesHeld) : Type 0 where
   pub opens : 1 ≤ h.opens.spare
   pub versions : 1 ≤ h.versions.spare
   pub reserve : 1 ≤ h.reserve.spare
+
+-- for how many more changes of names there is room beside what the transaction changed
+abbrev pub spare_in : Option OverlayState → ℕ
+spare_in None = 0
+spare_in (Some o) = o.spare
+
+-- the memory is there with which the change is the transaction's own: it makes, moves or drops a node, and there is room
+abbrev pub CanOwn : List OwnHeld → Id → Option Change → Type 0
+CanOwn overlays id None = Unit {0}
+CanOwn overlays id (Some c) = (is_of_names c ≡ true) × (1 ≤ spare_in (overlay_in overlays id))

@@ -1,10 +1,10 @@
 // One change more of a transaction, in what it changed and in what it holds.
-ghost use Rattle.std.specs.Prelude.{◌≡◌, ℕ, ◌<◌, ◌^◌, List, [], ◌∷◌, All, None, Some, OnOk, OnErr, is_some, map, true, if◌then◌else◌};
+ghost use Rattle.std.specs.Prelude.{◌≡◌, ℕ, ◌<◌, ◌^◌, ◌≤◌, List, [], ◌∷◌, All, IsOk, None, Some, OnOk, OnErr, is_some, map, true, if◌then◌else◌};
 ghost use Rattle.ktm_types.specs.declared.recorded.Node.{Node};
 ghost use Rattle.ktm_types.specs.declared.change.Change.TheVariants.{Make, Put, Cut, Move, Drop};
 ghost use Rattle.ktm_world.specs.Changes.{applies, bytes_in, changed};
 ghost use Rattle.ktm_world.specs.Tree.{Tree as Nodes, IsWellFormed, node_at};
-ghost use Rattle.txf_overlay.specs.OverlayState.{seen};
+ghost use Rattle.txf_overlay.specs.OverlayState.{is_of_names, seen};
 ghost use Rattle.txf_overlay.specs.Views.{StandsOver};
 ghost use Rattle.txf_overlay.specs.Written.{total_units};
 ghost use Rattle.txf_reserve.specs.Acts.{listed};
@@ -12,6 +12,7 @@ ghost use Rattle.txf_tree.specs.TreeState.{tree_of};
 ghost use Rattle.txf_volume.specs.Held.{overlay_in};
 ghost use Rattle.txf_volume.specs.OwnParts.{bare, bare_own, or_unchanged, starts, unchanged, written_next, IsChanged, IsChangedIn, IsPlace};
 ghost use Rattle.txf_volume.specs.Ties.{held_by_two, IsOver};
+ghost use Rattle.txf_volume.specs.Transacted.{CanOwn};
 ghost use Rattle.ktm_laws.specs.GoodState.{each_pair};
 
 use crate::holding::{
@@ -173,6 +174,7 @@ fn change_overlay(
     ensures ok { OnOk result (IsChanged (tree_of tree.now) fixed.now transaction change overlay.old overlay.new reserve.old reserve.new) }
     ensures err { OnErr result (bare overlay.new ≡ bare overlay.old) }
     ensures same { OnErr result (reserve.new ≡ reserve.old) }
+    ensures enough { is_of_names change ≡ true → IsOk result }
 {
     law_of_forms();
     match change {
@@ -226,6 +228,7 @@ fn make_room_and_change(
     ensures ok { OnOk result (IsChanged (tree_of tree.now) fixed.now transaction change overlay.old overlay.new reserve.old reserve.new) }
     ensures err { OnErr result (bare overlay.new ≡ bare overlay.old) }
     ensures same { OnErr result (reserve.new ≡ reserve.old) }
+    ensures enough { is_of_names change ≡ true → 1 ≤ overlay.old.spare → IsOk result }
 {
     if let Err(NoMemory) = overlay.reserve(1) {
         return Err(NoMemory);
@@ -251,6 +254,7 @@ fn change_at(
     ensures ok { OnOk result (IsChangedIn (tree_of tree.now) fixed.now transaction change overlays.old.items overlays.new.items reserve.old reserve.new) }
     ensures err { OnErr result (map bare_own overlays.new.items ≡ map bare_own overlays.old.items) }
     ensures same { OnErr result (reserve.new ≡ reserve.old) }
+    ensures enough { CanOwn overlays.old.items transaction (Some change) → IsOk result }
 {
     let overlay = &mut overlays[place].overlay;
     make_room_and_change(tree, reserve, overlay, transaction, fixed, change)
@@ -318,6 +322,7 @@ pub(crate) fn change_own(
     ensures ok { OnOk result (IsChangedIn (tree_of tree.now) fixed.now transaction change overlays.old.items overlays.new.items reserve.old reserve.new) }
     ensures err { OnErr result (map bare_own overlays.new.items ≡ map bare_own overlays.old.items) }
     ensures same { OnErr result (reserve.new ≡ reserve.old) }
+    ensures enough { CanOwn overlays.old.items transaction (Some change) → IsOk result }
 {
     match place_of(overlays, transaction) {
         Some(place) => change_at(tree, reserve, overlays, place, transaction, fixed, change),

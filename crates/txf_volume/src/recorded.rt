@@ -1,6 +1,6 @@
 // What a transaction changed, as it is recorded: its changes of names, and the bytes of the files that it wrote.
-ghost use Rattle.std.specs.Prelude.{◌≡◌, ◌<◌, ◌≤◌, ◌^◌, All, IfOk, filter, true};
-ghost use Rattle.std.specs.List.{flat_map};
+ghost use Rattle.std.specs.Prelude.{◌≡◌, ◌<◌, ◌≤◌, ◌^◌, [], All, IfOk, IsOk, filter, true};
+ghost use Rattle.std.specs.List.{flat_map, list_all};
 ghost use Rattle.ktm_event.specs.Work.{changes_of, changes_of_file};
 ghost use Rattle.ktm_world.specs.Changes.{has_changes, is_make, node_of};
 ghost use Rattle.ktm_world.specs.Durable.{next_after_all};
@@ -20,7 +20,8 @@ use txf_tree::next_after;
 // The files that a transaction wrote, by rising number.
 fn written_in(alloc: Global, overlay: &Overlay) -> Result<Vec<FileBytes<'_>>, NoMemory>
     requires { IsRising overlay.now.written }
-    ensures { IfOk result (λ files. flat_map changes_of_file files.items ≡ flat_map final_of overlay.now.written) }
+    ensures files { IfOk result (λ files. flat_map changes_of_file files.items ≡ flat_map final_of overlay.now.written) }
+    ensures enough { overlay.now.written ≡ [] → IsOk result }
 {
     let mut files = Vec::new(alloc);
     let mut next = overlay.written_from(0);
@@ -69,9 +70,11 @@ impl Files {
     }
 
     /// The files that the transaction wrote or made, by rising number, with all of their bytes. With what it made, moved and
-    /// dropped they are its changes in the form in which they are recorded. It takes memory for the list alone.
+    /// dropped they are its changes in the form in which they are recorded. It takes memory for the list alone, and none where
+    /// no file was written or made.
     pub fn written(&self, transaction: Id) -> Result<Vec<FileBytes<'_>>, NoMemory>
-        ensures { IfOk result (λ files. own_changes (files_of self.now).table.own transaction ≡ changes_of (filter is_of_names (own_changes (files_of self.now).table.own transaction)) files.items) }
+        ensures files { IfOk result (λ files. own_changes (files_of self.now).table.own transaction ≡ changes_of (filter is_of_names (own_changes (files_of self.now).table.own transaction)) files.items) }
+        ensures enough { list_all is_of_names (own_changes (files_of self.now).table.own transaction) ≡ true → IsOk result }
     {
         match self.overlay(transaction) {
             Some(overlay) => written_in(self.alloc, overlay),

@@ -9,7 +9,7 @@ ghost use Rattle.ktm_world.specs.Files.{tree_seen};
 ghost use Rattle.txf_calls.specs.Views.{open_of};
 ghost use Rattle.txf_calls.specs.declared.call.OpenFile.{OpenFile as Kept};
 ghost use Rattle.txf_volume.specs.Held.{files_of, without_own};
-ghost use Rattle.txf_volume.specs.Transacted.{changed_by, first_opened, forgotten, opened_by, HasRoom, IsNextOpen, IsNotOpened, IsPlanOf};
+ghost use Rattle.txf_volume.specs.Transacted.{changed_by, first_opened, forgotten, opened_by, CanOwn, HasRoom, IsNextOpen, IsNotOpened, IsPlanOf};
 ghost use Rattle.txf_volume.specs.Uses.{IsSteady};
 ghost use Rattle.txf_volume.specs.Writes.{CanBeCounted};
 
@@ -43,6 +43,7 @@ impl Files {
         ensures opens { OnOk result (0 < self.new.opens.spare) }
         ensures versions { OnOk result (0 < self.new.versions.spare) }
         ensures reserve { OnOk result (0 < self.new.reserve.spare) }
+        ensures overlays { self.new.overlays ≡ self.old.overlays }
         ensures enough { HasRoom self.old → IsOk result }
     {
         if let Err(NoMemory) = self.opens.reserve(1) {
@@ -66,6 +67,7 @@ impl Files {
         ensures same { OnErr result (files_of self.new ≡ files_of self.old) }
         ensures opens { self.new.opens ≡ self.old.opens }
         ensures versions { self.new.versions ≡ self.old.versions }
+        ensures enough { CanOwn self.old.overlays transaction (Some change) → IsOk result }
     {
         law_of_own_forms();
         let next = next_after(self.next_node, &change);
@@ -93,7 +95,7 @@ impl Files {
         ensures same { OnErr result (files_of self.new ≡ files_of self.old) }
         ensures opens { OnOk result (0 < self.new.opens.spare) }
         ensures versions { OnOk result (0 < self.new.versions.spare) }
-        ensures enough { HasRoom self.old → change ≡ None → IsOk result }
+        ensures enough { HasRoom self.old → CanOwn self.old.overlays transaction change → IsOk result }
     {
         if let Err(NoMemory) = self.make_room() {
             return Err(NoMemory);
@@ -144,12 +146,13 @@ impl Files {
 
     /// Makes what a call of a transaction comes to: its change is the transaction's own from now on, and holds what it names;
     /// a file that it opens first is fixed at its last version; a file is open. Where memory fails, nothing has changed; a
-    /// call that changes nothing finds the room that was left.
+    /// call that changes no bytes finds the room that was left.
     pub fn keep(&mut self, transaction: Id, plan: Plan) -> Result<(), NoMemory>
         requires { IsPlanOf (files_of self.old) transaction plan }
         ensures done { OnOk result (files_of self.new ≡ files_after (files_of self.old) (Some transaction) plan) }
         ensures same { OnErr result (files_of self.new ≡ files_of self.old) }
         ensures enough { HasRoom self.old → plan.change ≡ None → IsOk result }
+        ensures enough_for_names { HasRoom self.old → CanOwn self.old.overlays transaction plan.change → IsOk result }
     {
         let Plan {
             change,
