@@ -12,7 +12,11 @@ use Rattle.ktm_journal.specs.Image.{HoldsLog, IsHeaded, StandsFor, left_after}
 use Rattle.ktm_journal.proofs.OneImage.{not_bad}
 use Rattle.ktm_kernel.specs.Restarts.{HoldsBoth, LeavesOwnOrNot, Started, base_of, is_full_for_own}
 use Rattle.ktm_kernel.specs.Stands.{KernelState, KernelAt}
-use Rattle.ktm_run.specs.Opening.{Prepared}
+use Rattle.ktm_kernel.specs.declared.restart.RestartFault.{RestartFault}
+use Rattle.ktm_kernel.specs.declared.restart.RestartFault.TheVariants as kernel
+use Rattle.ktm_run.specs.declared.fault.OpenFault.{OpenFault}
+use Rattle.ktm_run.specs.declared.fault.OpenFault.TheVariants as opening
+use Rattle.ktm_run.specs.Opening.{Prepared, open_fault_of}
 use Rattle.ktm_run.specs.Theorem.{Begins, BeginsAs, BeginsWith, LeavesOpening, RunCounts}
 use Rattle.ktm_world.specs.Durable.{Durable, empty_state, stand}
 use Rattle.ktm_world.proofs.Durables.{stand-append, stand-units, stand-image}
@@ -228,3 +232,21 @@ module _ (base : Durable) (room : ℕ) where
     | inr holds ↦ inr (recorded is.before image is.comes_to is.room_is
         (subst (λ (d : Durable). HoldsLog base.units base.image (is.before ++ own_group d ∷ []) image) (sym is.comes_to) holds))
   ])
+
+-- ---- why no machine was started
+
+-- what the kernel said, by why no machine was started
+abbrev pub restart_fault_of : OpenFault → RestartFault
+restart_fault_of (opening.BadImage offset) = kernel.Bad offset
+restart_fault_of opening.Down = kernel.Down
+restart_fault_of opening.Full = kernel.Full
+restart_fault_of opening.NoMemory = kernel.NoMemory
+
+restart_fault-back : (fault : RestartFault) → restart_fault_of (open_fault_of fault) ≡ fault
+restart_fault-back kernel.Down = refl
+restart_fault-back (kernel.Bad offset) = refl
+restart_fault-back kernel.Full = refl
+restart_fault-back kernel.NoMemory = refl
+
+pub kernel_said : (fault : RestartFault) (told why : OpenFault) → told ≡ open_fault_of fault → told ≡ why → fault ≡ restart_fault_of why
+kernel_said fault told why is same = sym (restart_fault-back fault) ∙ ap restart_fault_of (sym is ∙ same)

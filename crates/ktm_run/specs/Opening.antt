@@ -1,9 +1,20 @@
--- What the opening of an image makes of a disk.
-use Rattle.std.specs.Prelude.{◌≡◌, ◌⊎◌, ℕ, ◌<◌, [], length}
+-- What the opening of an image makes of a disk, and why it gives no machine.
+use Rattle.std.specs.Prelude.{◌≡◌, ◌⊎◌, ◌<◌, [], length}
 use Rattle.ktm_base.specs.declared.limits.TheConstants.{NEW_UNITS}
 use Rattle.ktm_base.specs.Disk.{DiskState, IsSafe}
 use Rattle.ktm_journal.specs.Image.{HoldsLog}
+use Rattle.ktm_kernel.specs.declared.restart.RestartFault.{RestartFault}
+use Rattle.ktm_kernel.specs.declared.restart.RestartFault.TheVariants as kernel
+use Rattle.ktm_run.specs.declared.fault.OpenFault.{OpenFault}
+use Rattle.ktm_run.specs.declared.fault.OpenFault.TheVariants as opening
 
 -- a disk without a byte became a new image, and another one is as it was
 abbrev pub Prepared : DiskState → DiskState → Type 0
 Prepared old new = ((old.seen ≡ []) × IsSafe new × HoldsLog NEW_UNITS 1 [] new.seen) ⊎ ((0 < length old.seen) × (new ≡ old))
+
+-- why no machine was started, by what the kernel says
+abbrev pub open_fault_of : RestartFault → OpenFault
+open_fault_of kernel.Down = opening.Down
+open_fault_of (kernel.Bad offset) = opening.BadImage offset
+open_fault_of kernel.Full = opening.Full
+open_fault_of kernel.NoMemory = opening.NoMemory

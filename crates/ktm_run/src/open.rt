@@ -5,7 +5,7 @@ ghost use Rattle.ktm_base.specs.Disk.{DeviceCalls, MayLeave};
 ghost use Rattle.ktm_base.specs.Told.{Goes};
 ghost use Rattle.ktm_journal.specs.Bad.{IsBadAt};
 ghost use Rattle.ktm_kernel.specs.Stands.{KernelAt, IsReady};
-ghost use Rattle.ktm_run.specs.Opening.{Prepared};
+ghost use Rattle.ktm_run.specs.Opening.{Prepared, open_fault_of};
 ghost use Rattle.ktm_run.specs.Theorem.{Begins, BeginsAs, LeavesOpening, RunCounts};
 ghost use Rattle.ktm_run.specs.Early.{WentDown};
 ghost use Rattle.ktm_world.specs.Durable.{Durable};
@@ -42,6 +42,18 @@ fn prepare<D: Disk>(disk: &mut D) -> Result<(), Down>
     Ok(())
 }
 
+// Why no machine was started, by what the kernel says.
+fn open_fault(fault: RestartFault) -> OpenFault
+    ensures { result ≡ open_fault_of fault }
+{
+    match fault {
+        RestartFault::Down => OpenFault::Down,
+        RestartFault::Bad(offset) => OpenFault::BadImage(offset),
+        RestartFault::Full => OpenFault::Full,
+        RestartFault::NoMemory => OpenFault::NoMemory,
+    }
+}
+
 /// Starts the machine of the image. A disk without a byte becomes a new one.
 pub fn open_kernel<D: Disk>(alloc: Global, disk: &mut D) -> Result<Kernel, OpenFault>
     requires { (D.status disk.old).pending ≡ 0 }
@@ -69,9 +81,6 @@ pub fn open_kernel<D: Disk>(alloc: Global, disk: &mut D) -> Result<Kernel, OpenF
     let mut buffer = Vec::new(alloc);
     match Kernel::restart(alloc, disk, &mut buffer) {
         Ok(Restarted { kernel, .. }) => Ok(kernel),
-        Err(RestartFault::Down) => Err(OpenFault::Down),
-        Err(RestartFault::Bad(offset)) => Err(OpenFault::BadImage(offset)),
-        Err(RestartFault::Full) => Err(OpenFault::Full),
-        Err(RestartFault::NoMemory) => Err(OpenFault::NoMemory),
+        Err(fault) => Err(open_fault(fault)),
     }
 }
