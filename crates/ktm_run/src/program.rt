@@ -3,7 +3,7 @@ ghost use Rattle.std.specs.Prelude.{◌≡◌, ◌⊎◌, ◌<◌, ◌≤◌, �
 ghost use Rattle.std.specs.String.{string_bytes};
 ghost use Rattle.ktm_base.specs.declared.limits.TheConstants.{MOST_SCRIPT_BYTES};
 ghost use Rattle.ktm_base.specs.Count.{Rose};
-ghost use Rattle.ktm_run.specs.Early.{Ends, FoundDown, NoRun, outside};
+ghost use Rattle.ktm_run.specs.Early.{Ends, FoundDown, NoRun, Untouched, outside};
 ghost use Rattle.ktm_run.specs.Form.{is_run};
 ghost use Rattle.ktm_run.specs.Theorem.{Begins, BeginsAs, EndedEarly};
 ghost use Rattle.ktm_world.specs.Durable.{Durable};
@@ -29,6 +29,9 @@ pub fn ktm<S: Source, K: Sink, D: PowerDisk>(
     disk: &mut D,
 ) -> Status
     requires { (D.status disk.old).pending ≡ 0 }
+    // the sink is asked before anything is touched
+    ensures first { K.refuses sink.old ≡ true → (result ≡ Status.SinkFault) × Untouched
+        (outside (S.left source.old) (K.taken sink.old) (D.told disk.old) (D.status disk.old)) (outside (S.left source.new) (K.taken sink.new) (D.told disk.new) (D.status disk.new)) }
     // the transcript theorem, and what stands where a run ended early
     ensures run { is_run (map string_bytes words.now) ≡ true → (base : Durable) (room : ℕ) → IsSomeAnd (D.told disk.old) (Begins base room)
         → EndedEarly result base room (outside (S.left source.old) (K.taken sink.old) (D.told disk.old) (D.status disk.old)) (outside (S.left source.new) (K.taken sink.new) (D.told disk.new) (D.status disk.new)) }

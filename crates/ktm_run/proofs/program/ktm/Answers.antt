@@ -4,6 +4,9 @@ use Rattle.ktm_run.proofs.Theorems.{run_complete}
 use Rattle.ktm_run.proofs.Known.{Rose-later}
 use Rattle.ktm_run.proofs.program.ktm.Goals as goal
 
+pub returns-in-Err-clause-first : goal.returns-in-Err-clause-first
+returns-in-Err-clause-first g c = λ refuses. (refl, record { alone = record { source = refl; disk = refl; status = refl }; not_written = c.in-Err.ensures.writes })
+
 pub returns-in-Err-clause-run : goal.returns-in-Err-clause-run
 returns-in-Err-clause-run g c = λ is base room tells. inl (record { alone = record { source = refl; disk = refl; status = refl }; not_written = c.in-Err.ensures.writes })
 
