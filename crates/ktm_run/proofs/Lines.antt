@@ -14,9 +14,13 @@ use Rattle.ktm_types.specs.declared.command.Line.{Line}
 pub kept_whole : (n : ℕ) (part : List ℕ) → length (take n part) < n → take n part ≡ part
 kept_whole n part h = grind (arith, common_steps)
 
-pub has_reply-kept : (line : List ℕ) → has_reply (kept_of line) ≡ has_reply line
+has_reply-kept : (line : List ℕ) → has_reply (kept_of line) ≡ has_reply line
 has_reply-kept [] = refl
 has_reply-kept (byte ∷ bytes) = refl
+
+-- what is kept of a line has a reply where the line has
+pub has_reply-of : (line kept : List ℕ) → kept ≡ kept_of line → has_reply line ≡ has_reply kept
+has_reply-of line kept is = sym (has_reply-kept line) ∙ ap has_reply (sym is)
 
 pub Means-kept : (line : List ℕ) (meant : Option Line) → Means (kept_of line) meant → Means line meant
 Means-kept line (Some x) h = let short = h.0.short in (h.0, h.1, h.2 ∙ kept_whole 140001 line (subst (λ (l : List ℕ). length l < 140001) h.2 (omega arith)))

@@ -94,10 +94,13 @@ module _ (left : Option (List ℕ)) (a b : Option (List ℕ)) (disk : Option Dis
       was_read = h.was_read;
       within = h.within;
       room_left = h.room_left;
+      lines = h.lines;
+      may = h.may;
       before = h.before;
       line = h.line;
       behind = h.behind;
       split = h.split;
+      wants_reply = h.wants_reply;
       at = h.at;
       replied = replied h.at h.before h.replied;
       broke = h.broke;

@@ -91,9 +91,9 @@ Progress-line a b line meant reply has means answers wrote = λ w stands.
 
 -- ---- a run that ends early
 
-pub Stops-line : (a b : Now) (line : List ℕ) → IfSome a.scene.disk HasLengths → ((w : World) → KernelAt a.scene.machine a.scene.disk w → Broke w a b line) → Stops a b (line ∷ [])
+pub Stops-line : (a b : Now) (line : List ℕ) → has_reply line ≡ true → IfSome a.scene.disk HasLengths → ((w : World) → KernelAt a.scene.machine a.scene.disk w → Broke w a b line) → Stops a b (line ∷ [])
 unfolding Progress-none
-Stops-line a b line lengths broke = λ w stands. record { before = []; line = line; behind = []; split = refl; at = a; lengths = lengths; ran = Progress-none a w stands; broke = broke w stands }
+Stops-line a b line wants lengths broke = λ w stands. record { before = []; line = line; behind = []; split = refl; wants_reply = wants; at = a; lengths = lengths; ran = Progress-none a w stands; broke = broke w stands }
 
 pub Stops-after : (a b c : Now) (xs ys : List (List ℕ)) → Progress a b xs → Stops b c ys → Stops a c (xs ++ ys)
 unfolding Ran-then
@@ -104,6 +104,7 @@ Stops-after a b c xs ys p q = λ w stands.
       line = last.line;
       behind = last.behind;
       split = ap (λ (l : List (List ℕ)). xs ++ l) last.split ∙ sym (append_assoc xs last.before (last.line ∷ last.behind));
+      wants_reply = last.wants_reply;
       at = last.at;
       lengths = last.lengths;
       ran = Ran-then w a b last.at xs last.before first last.ran;
@@ -117,6 +118,7 @@ Stops-within a b xs ys p = λ w stands.
       line = first.line;
       behind = first.behind ++ ys;
       split = ap (λ (l : List (List ℕ)). l ++ ys) first.split ∙ append_assoc first.before (first.line ∷ first.behind) ys;
+      wants_reply = first.wants_reply;
       at = first.at;
       lengths = first.lengths;
       ran = first.ran;

@@ -15,7 +15,7 @@ use Rattle.ktm_run.specs.declared.status.Status.{Status}
 use Rattle.ktm_run.specs.declared.status.Status.TheVariants.{Done, Usage, SourceFault, SinkFault, NoMemory, BadImage, DiskFault, ScriptTooLong, LogFull}
 use Rattle.ktm_run.specs.Lawful.{RunIsLawful}
 use Rattle.ktm_run.specs.Progress.{Scene, Now, Counts, Ran, Progress, Broke, Stops}
-use Rattle.ktm_run.specs.Script.{Means, cut_lines, lines_from}
+use Rattle.ktm_run.specs.Script.{MayExecute, Means, cut_lines, lines_from}
 use Rattle.ktm_run.specs.Early.{Outside, Ends, FoundDown}
 use Rattle.ktm_run.specs.Theorem.{HoldsStates, Moment, moment_of, RunCounts, LineCounts, Replied, RunTheorem, EndedBetween, Unanswered, HalfWritten, EndedWithin, EndedEarly}
 use Rattle.ktm_types.specs.declared.command.Line.TheVariants.{Restart}
@@ -109,17 +109,20 @@ module _ (base : Durable) (room : ℕ) (old new : Outside) (first : Scene) (mach
     between : (script lines : List ℕ) → Consumes old.left new.left script → Progress begun ended (lines_from [] lines) → EndedBetween base room old new script lines
     between script lines read progress = record { was_read = read; room_left = fits; replied = all_replied (lines_from [] lines) progress }
 
-    within : (script : List ℕ) → Consumes old.left new.left script → length script ≤ MOST_SCRIPT_BYTES → Stops begun ended (cut_lines script) → EndedWithin base room old new
-    within script read few stops =
+    within : (script : List ℕ) (lines : List (List ℕ)) → Consumes old.left new.left script → length script ≤ MOST_SCRIPT_BYTES → MayExecute new.left script lines → Stops begun ended lines → EndedWithin base room old new
+    within script lines read few may stops =
         let stopped = stops (opened base room []) stands in record {
           script = script;
           was_read = read;
           within = few;
           room_left = fits;
+          lines = lines;
+          may = may;
           before = stopped.before;
           line = stopped.line;
           behind = stopped.behind;
           split = stopped.split;
+          wants_reply = stopped.wants_reply;
           at = moment_at stopped.at;
           replied = replied stopped.at stopped.before stopped.lengths stopped.ran;
           broke = broke_of stopped.ran.world stopped.at ended stopped.line lengths stopped.broke;
@@ -129,14 +132,14 @@ module _ (base : Durable) (room : ℕ) (old new : Outside) (first : Scene) (mach
         → (result ≡ Done → (script : List ℕ) × Consumes old.left new.left script × IsAtEnd new.left × (length script ≤ MOST_SCRIPT_BYTES) × Progress begun ended (cut_lines script))
         → (result ≡ SourceFault → (script : List ℕ) × Consumes old.left new.left script × (length script ≤ MOST_SCRIPT_BYTES) × Progress begun ended (lines_from [] script))
         → (result ≡ ScriptTooLong → (script : List ℕ) × Consumes old.left new.left script × (length script ≡ MOST_SCRIPT_BYTES + 1) × Progress begun ended (lines_from [] (take MOST_SCRIPT_BYTES script)))
-        → ((result ≡ SinkFault) ⊎ (result ≡ NoMemory) → (script : List ℕ) × Consumes old.left new.left script × (length script ≤ MOST_SCRIPT_BYTES) × Stops begun ended (cut_lines script))
+        → ((result ≡ SinkFault) ⊎ (result ≡ NoMemory) → (script : List ℕ) × (lines : List (List ℕ)) × Consumes old.left new.left script × (length script ≤ MOST_SCRIPT_BYTES) × MayExecute new.left script lines × Stops begun ended lines)
         → (result ≡ Usage → ⊥) → (result ≡ BadImage → ⊥) → (result ≡ DiskFault → ⊥) → (result ≡ LogFull → ⊥)
         → EndedEarly result base room old new
     run_ended Done done part behind broke usage image down full = let (script, read, at_end, short, progress) = done refl in whole script read at_end short progress
     run_ended SourceFault done part behind broke usage image down full = let (script, read, short, progress) = part refl in (script, short, between script script read progress)
     run_ended ScriptTooLong done part behind broke usage image down full = let (script, read, long, progress) = behind refl in (script, long, between script (take MOST_SCRIPT_BYTES script) read progress)
-    run_ended SinkFault done part behind broke usage image down full = let (script, read, few, stops) = broke (inl refl) in inr (within script read few stops)
-    run_ended NoMemory done part behind broke usage image down full = let (script, read, few, stops) = broke (inr refl) in inr (within script read few stops)
+    run_ended SinkFault done part behind broke usage image down full = let (script, lines, read, few, may, stops) = broke (inl refl) in inr (within script lines read few may stops)
+    run_ended NoMemory done part behind broke usage image down full = let (script, lines, read, few, may, stops) = broke (inr refl) in inr (within script lines read few may stops)
     run_ended Usage done part behind broke usage image down full = absurd (usage refl)
     run_ended BadImage done part behind broke usage image down full = absurd (image refl)
     run_ended LogFull done part behind broke usage image down full = absurd (full refl)

@@ -1,5 +1,5 @@
 -- What lines made of the machine, its disk and the sink.
-use Rattle.std.specs.Prelude.{◌≡◌, ◌⊎◌, ℕ, ◌+◌, ◌*◌, ◌≤◌, false, List, [], ◌∷◌, ◌++◌, length, Option, Some, IfSome, IsSomeAnd}
+use Rattle.std.specs.Prelude.{◌≡◌, ◌⊎◌, ℕ, ◌+◌, ◌*◌, ◌≤◌, true, false, List, [], ◌∷◌, ◌++◌, length, Option, Some, IfSome, IsSomeAnd}
 use Rattle.std.specs.List.{filter}
 use Rattle.std.specs.Io.KnownBytes.{Appends}
 use Rattle.ktm_base.specs.declared.power.PowerCall.{PowerCall}
@@ -92,6 +92,8 @@ pub record Stopped (w : World) (old new : Now) (lines : List (List ℕ)) : Type 
   pub line : List ℕ
   pub behind : List (List ℕ)
   pub split : lines ≡ before ++ line ∷ behind
+  -- only a line that has a reply ends a run
+  pub wants_reply : has_reply line ≡ true
   pub at : Now
   -- what the disk reads there is as long as an image that may be left
   pub lengths : IfSome at.scene.disk HasLengths

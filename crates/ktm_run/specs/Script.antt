@@ -1,7 +1,7 @@
 -- The lines of a script, what they mean, and how replies are written.
-use Rattle.std.specs.Prelude.{◌≡◌, ℕ, ◌+◌, ◌==◌, Bool, true, false, not, List, [], ◌∷◌, ◌++◌, Option, Some, None, take, if◌then◌else◌}
+use Rattle.std.specs.Prelude.{◌≡◌, ◌⊎◌, ℕ, ◌+◌, ◌==◌, Bool, true, false, not, List, [], ◌∷◌, ◌++◌, Option, Some, None, take, if◌then◌else◌}
 use Rattle.std.specs.List.{flat_map}
-use Rattle.std.specs.Io.KnownBytes.{Appends}
+use Rattle.std.specs.Io.KnownBytes.{Appends, IsAtEnd}
 use Rattle.ktm_base.specs.declared.limits.TheConstants.{MOST_LINE_BYTES}
 use Rattle.ktm_reply.specs.Spelling.{reply_spelling}
 use Rattle.ktm_script.specs.Spelling.{IsLine, spelling}
@@ -31,6 +31,11 @@ last_line (byte ∷ bytes) = (byte ∷ bytes) ∷ []
 -- the lines of a script: those that end in a newline, and what is behind the last newline where it is not empty
 abbrev pub cut_lines : List ℕ → List (List ℕ)
 cut_lines script = lines_from [] script ++ last_line (part_from [] script)
+
+-- the lines of what was read that may be executed: those that end in a newline, and what is behind the last newline only once the
+-- source is at its end
+abbrev pub MayExecute : Option (List ℕ) → List ℕ → List (List ℕ) → Type 0
+MayExecute left script lines = (lines ≡ lines_from [] script) ⊎ ((lines ≡ cut_lines script) × IsAtEnd left)
 
 -- the first byte of a comment
 abbrev pub number_sign : ℕ

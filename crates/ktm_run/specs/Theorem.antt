@@ -15,7 +15,7 @@ use Rattle.ktm_world.specs.Transcript.{Does, Transcript, Step}
 use Rattle.ktm_world.specs.World.{World, opened, own_group, possible_logs}
 use Rattle.ktm_run.specs.Early.{Outside, Untouched}
 use Rattle.ktm_run.specs.Plan.{plan_of, plans, falls_of, falls, RoseBy, most_calls}
-use Rattle.ktm_run.specs.Script.{has_reply, cut_lines, lines_from, Means, MeanAll, AppendsPart, reply_line, written_replies}
+use Rattle.ktm_run.specs.Script.{has_reply, cut_lines, lines_from, MayExecute, Means, MeanAll, AppendsPart, reply_line, written_replies}
 use Rattle.ktm_run.specs.declared.status.Status.{Status}
 use Rattle.ktm_run.specs.declared.status.Status.TheVariants.{Done, Usage, SourceFault, SinkFault, NoMemory, BadImage, DiskFault, ScriptTooLong, LogFull}
 use Rattle.ktm_types.specs.declared.command.Line.{Line}
@@ -142,10 +142,15 @@ pub record EndedWithin (base : Durable) (room : ℕ) (old new : Outside) : Type 
   pub was_read : Consumes old.left new.left script
   pub within : length script ≤ MOST_SCRIPT_BYTES
   pub room_left : is_full room (own_group base) ≡ false
+  -- no line was executed that was read half
+  pub lines : List (List ℕ)
+  pub may : MayExecute new.left script lines
   pub before : List (List ℕ)
   pub line : List ℕ
   pub behind : List (List ℕ)
-  pub split : cut_lines script ≡ before ++ line ∷ behind
+  pub split : lines ≡ before ++ line ∷ behind
+  -- only a line that has a reply ends a run
+  pub wants_reply : has_reply line ≡ true
   -- the moment before that line
   pub at : Moment
   pub replied : Replied base room (moment_of old) at before

@@ -1,5 +1,5 @@
 // A line of a script.
-ghost use Rattle.std.specs.Prelude.{◌≡◌, ◌≤◌, ◌++◌, ◌∷◌, [], ℕ, List, IfOk, OnOk, OnErr, IsErrOf, vec_capacity};
+ghost use Rattle.std.specs.Prelude.{◌≡◌, ◌≤◌, ◌++◌, ◌∷◌, [], true, ℕ, List, IfOk, OnOk, OnErr, IsErrOf, vec_capacity};
 ghost use Rattle.ktm_base.specs.Count.{Rose};
 ghost use Rattle.ktm_kernel.specs.Stands.{KernelAt, IsReady};
 ghost use Rattle.ktm_run.specs.Progress.{Progress, Broke, Stops, point};
@@ -38,6 +38,7 @@ pub fn do_line<K: Sink, D: PowerDisk>(
     requires { IsReady kernel.old (D.told disk.old) (D.status disk.old) }
     ensures done { OnOk result ((line : List ℕ) → kept.now ≡ kept_of line → Progress (point kernel.old (D.told disk.old) (D.status disk.old) (K.taken sink.old)) (point kernel.new (D.told disk.new) (D.status disk.new) (K.taken sink.new)) (line ∷ [])) }
     ensures broke { OnErr result ((line : List ℕ) → kept.now ≡ kept_of line → (w : World) → KernelAt kernel.old (D.told disk.old) w → Broke w (point kernel.old (D.told disk.old) (D.status disk.old) (K.taken sink.old)) (point kernel.new (D.told disk.new) (D.status disk.new) (K.taken sink.new)) line) }
+    ensures wants_reply { OnErr result (has_reply kept.now ≡ true) }
     ensures ready { OnOk result (IsReady kernel.new (D.told disk.new) (D.status disk.new)) }
     ensures fault { IsErrOf result RunFault.SinkFault → Rose (K.faults sink.old) (K.faults sink.new) }
     ensures later { K.faults sink.old ≤ K.faults sink.new }

@@ -5,7 +5,7 @@ ghost use Rattle.ktm_base.specs.Count.{Rose};
 ghost use Rattle.ktm_base.specs.Stream.{Faults};
 ghost use Rattle.ktm_kernel.specs.Stands.{IsReady};
 ghost use Rattle.ktm_run.specs.Progress.{Progress, Stops, point};
-ghost use Rattle.ktm_run.specs.Script.{cut_lines, kept_of, last_line, lines_from};
+ghost use Rattle.ktm_run.specs.Script.{MayExecute, cut_lines, kept_of, last_line, lines_from};
 
 use crate::fault::RunFault;
 use crate::line::{do_line, feed};
@@ -89,10 +89,10 @@ pub fn run_script<S: Source, K: Sink, D: PowerDisk>(
         (point kernel.old (D.told disk.old) (D.status disk.old) (K.taken sink.old))
         (point kernel.new (D.told disk.new) (D.status disk.new) (K.taken sink.new))
         (lines_from [] (take MOST_SCRIPT_BYTES script)) }
-    ensures within { (result ≡ Status.SinkFault) ⊎ (result ≡ Status.NoMemory) → (script : List ℕ) × Consumes (S.left source.old) (S.left source.new) script × (length script ≤ MOST_SCRIPT_BYTES) × Stops
+    ensures within { (result ≡ Status.SinkFault) ⊎ (result ≡ Status.NoMemory) → (script : List ℕ) × (lines : List (List ℕ)) × Consumes (S.left source.old) (S.left source.new) script × (length script ≤ MOST_SCRIPT_BYTES) × MayExecute (S.left source.new) script lines × Stops
         (point kernel.old (D.told disk.old) (D.status disk.old) (K.taken sink.old))
         (point kernel.new (D.told disk.new) (D.status disk.new) (K.taken sink.new))
-        (cut_lines script) }
+        lines }
     ensures source { result ≡ Status.SourceFault → Rose (S.faults source.old) (S.faults source.new) }
     ensures sink { result ≡ Status.SinkFault → Rose (K.faults sink.old) (K.faults sink.new) }
     ensures too_long { result ≡ Status.ScriptTooLong → IfSome (S.left source.old) (λ bytes. MOST_SCRIPT_BYTES < length bytes) }

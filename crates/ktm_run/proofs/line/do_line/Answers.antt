@@ -1,13 +1,13 @@
 use Rattle.std.proofs.Common.{◌≡◌, inl, inr, ℕ, List, [], ◌∷◌, ◌++◌, sym, ◌∙◌, ap}
 use Rattle.ktm_run.proofs.Breaks.{unanswered_here, unanswered_kept, did_planned, unanswered_planned, half_written, AppendsPart-none}
 use Rattle.ktm_run.proofs.Known.{Appends-none}
-use Rattle.ktm_run.proofs.Lines.{has_reply-kept, Means-kept}
+use Rattle.ktm_run.proofs.Lines.{has_reply-of, Means-kept}
 use Rattle.ktm_run.proofs.Runs.{Progress-silent, Progress-line}
-use Rattle.ktm_run.specs.Script.{has_reply, newline, reply_line}
+use Rattle.ktm_run.specs.Script.{newline, reply_line}
 use Rattle.ktm_run.proofs.line.do_line.Goals as goal
 
 pub returns-then-not-is_answered-clause-done : goal.returns-then-not-is_answered-clause-done
-returns-then-not-is_answered-clause-done g c = λ line is. Progress-silent _ line (sym (has_reply-kept line) ∙ ap has_reply (sym is) ∙ sym c.if-not-is_answered.ensures)
+returns-then-not-is_answered-clause-done g c = λ line is. Progress-silent _ line (has_reply-of line c.args.kept.now is ∙ sym c.if-not-is_answered.ensures)
 
 pub returns-in-Err-clause-broke : goal.returns-in-Err-clause-broke
 returns-in-Err-clause-broke g c = λ line is w stands.
@@ -43,7 +43,7 @@ returns-clause-done g c = λ line is.
     let (meant, means, answers) = c.in-Ok.ensures.does in
     let whole : c.as_slice.result.now ≡ reply_line c.in-Ok.reply = c.as_slice.ensures.value ∙ c.in_default-push.ensures.items ∙ ap (λ (l : List ℕ). l ++ newline ∷ []) (c.into_vec-bytes.ensures ∙ c.in-Ok-write_reply.ensures) in
     Progress-line _ _ line meant c.in-Ok.reply
-    (sym (has_reply-kept line) ∙ ap has_reply (sym is) ∙ sym c.if-not-is_answered.ensures)
+    (has_reply-of line c.args.kept.now is ∙ sym c.if-not-is_answered.ensures)
     (Means-kept line meant (rw is at means))
     (λ w stands. did_planned c.args.kernel.now _ _ c.plan_room.ensures.same _ _ _ c.plan_room.ensures.others w meant c.in-Ok.reply answers stands)
     (rw whole at c.in_default-write_all.ensures.ok)

@@ -1,7 +1,7 @@
 use Rattle.std.proofs.Common.{ℕ, List, [], ◌∷◌, ◌++◌, take, refl, sym, ◌∙◌, ap, append_assoc, arith}
 use Rattle.std.proofs.lemmas.List.{append-nil}
 use Rattle.std.proofs.lemmas.Bool.{false_from_ne_true}
-use Rattle.ktm_run.proofs.Lines.{cut_at, behind, uncut}
+use Rattle.ktm_run.proofs.Lines.{has_reply-of, cut_at, behind, uncut}
 use Rattle.ktm_run.proofs.Runs.{Progress-none, Progress-as, Progress-then, Stops-line, Stops-after, Stops-within, Stops-as}
 use Rattle.ktm_run.specs.Script.{kept_of, lines_from, part_from}
 use Rattle.ktm_run.proofs.line.feed.Goals as goal
@@ -44,5 +44,7 @@ returns-in-Err-clause-stopped g c = λ part is.
     let (now, lines, kept, all, rest, went) = c.loop-end.invariant.went part is in
     let cut = cut_at now c.loop-end.rest.now c.in-Some.end c.in-Some.ensures.0.high c.in-Some.ensures.1 (λ k below. false_from_ne_true _ (c.in-Some.ensures.0.before k (omega arith) below)) in
     let line = now ++ take c.in-Some.end c.loop-end.rest.now in
+    let is_kept = c.deref.ensures.value ∙ c.keep.ensures.kept now kept in
     Stops-as _ _ _ _ (append_assoc lines (line ∷ []) _ ∙ ap (λ (l : List (List ℕ)). lines ++ l) (sym cut.0) ∙ all)
-    (Stops-within _ _ (lines ++ line ∷ []) _ (Stops-after _ _ _ lines (line ∷ []) went (Stops-line _ _ line (g.met.D.Disk.lengths c.loop-end.disk) (c.in-Err.ensures.broke line (c.deref.ensures.value ∙ c.keep.ensures.kept now kept)))))
+    (Stops-within _ _ (lines ++ line ∷ []) _ (Stops-after _ _ _ lines (line ∷ []) went
+    (Stops-line _ _ line (has_reply-of line _ is_kept ∙ c.in-Err.ensures.wants_reply) (g.met.D.Disk.lengths c.loop-end.disk) (c.in-Err.ensures.broke line is_kept))))

@@ -1,10 +1,10 @@
-use Rattle.std.proofs.Common.{◌≡◌, ℕ, List, [], ◌++◌, length, take, refl, sym, ◌∙◌, ap, arith, length-append, length-take}
+use Rattle.std.proofs.Common.{◌≡◌, inl, inr, ℕ, List, [], ◌++◌, length, take, refl, sym, ◌∙◌, ap, arith, length-append, length-take}
 use Rattle.std.proofs.lemmas.Grind.{common_steps}
 use Rattle.ktm_base.specs.declared.limits.TheConstants.{MOST_SCRIPT_BYTES}
 use Rattle.ktm_run.proofs.Known.{Consumes-none, Consumes-trans, Consumes-end, Consumes-kept}
 use Rattle.ktm_run.proofs.Lines.{lines_from-append, part_from-append, take_front}
-use Rattle.ktm_run.proofs.Runs.{Progress-none, Progress-then, Progress-as, Stops-after, Stops-within, Stops-as}
-use Rattle.ktm_run.specs.Script.{lines_from, part_from, last_line, kept_of}
+use Rattle.ktm_run.proofs.Runs.{Progress-none, Progress-then, Progress-as, Stops-after, Stops-as}
+use Rattle.ktm_run.specs.Script.{cut_lines, lines_from, part_from, last_line, kept_of}
 use Rattle.ktm_run.proofs.script.run_script.Goals as goal
 
 pub pieces-init : goal.pieces-init
@@ -58,8 +58,10 @@ returns-in-Err-SinkFault-clause-within g c = λ same.
     let (script, read, long, kept, went) = c.pieces.invariant.went in
     let part = part_from [] script in (
       script,
+      cut_lines script,
       Consumes-end _ _ _ script _ _ read c.in-Ok.ensures.reads c.if-count-eq0.true,
       omega (arith, long),
+      inr (refl, c.in-Ok.ensures.end c.if-count-eq0.true),
       Stops-after _ _ _ (lines_from [] script) (last_line part) went (c.in-Err-SinkFault.ensures.stopped part (c.deref.ensures.value ∙ kept)),
     )
 
@@ -68,8 +70,10 @@ returns-in-Err-NoMemory-clause-within g c = λ same.
     let (script, read, long, kept, went) = c.pieces.invariant.went in
     let part = part_from [] script in (
       script,
+      cut_lines script,
       Consumes-end _ _ _ script _ _ read c.in-Ok.ensures.reads c.if-count-eq0.true,
       omega (arith, long),
+      inr (refl, c.in-Ok.ensures.end c.if-count-eq0.true),
       Stops-after _ _ _ (lines_from [] script) (last_line part) went (c.in-Err-NoMemory.ensures.stopped part (c.deref.ensures.value ∙ kept)),
     )
 
@@ -79,10 +83,11 @@ returns-in-Err-SinkFault-feed-clause-within g c = λ same.
     let part = part_from [] script in
     let piece = take c.in-Ok.count c.read_some.new.buffer in (
       script ++ piece,
+      lines_from [] (script ++ piece),
       Consumes-trans _ _ _ script piece read c.in-Ok.ensures.reads,
       omega (arith, length-append {A = ℕ}, length-take {A = ℕ}, long, c.in-Ok.ensures.within, c.in-Ok.ensures.count, c.max.ensures, c.if-left-eq0.false),
-      Stops-within _ _ (lines_from [] (script ++ piece)) _
-          (Stops-as _ _ _ _ (sym (lines_from-append [] script piece)) (Stops-after _ _ _ (lines_from [] script) (lines_from part piece) went (c.in-Err-SinkFault-feed.ensures.stopped part kept))),
+      inl refl,
+      Stops-as _ _ _ _ (sym (lines_from-append [] script piece)) (Stops-after _ _ _ (lines_from [] script) (lines_from part piece) went (c.in-Err-SinkFault-feed.ensures.stopped part kept)),
     )
 
 pub returns-in-Err-NoMemory-feed-clause-within : goal.returns-in-Err-NoMemory-feed-clause-within
@@ -91,10 +96,11 @@ returns-in-Err-NoMemory-feed-clause-within g c = λ same.
     let part = part_from [] script in
     let piece = take c.in-Ok.count c.read_some.new.buffer in (
       script ++ piece,
+      lines_from [] (script ++ piece),
       Consumes-trans _ _ _ script piece read c.in-Ok.ensures.reads,
       omega (arith, length-append {A = ℕ}, length-take {A = ℕ}, long, c.in-Ok.ensures.within, c.in-Ok.ensures.count, c.max.ensures, c.if-left-eq0.false),
-      Stops-within _ _ (lines_from [] (script ++ piece)) _
-          (Stops-as _ _ _ _ (sym (lines_from-append [] script piece)) (Stops-after _ _ _ (lines_from [] script) (lines_from part piece) went (c.in-Err-NoMemory-feed.ensures.stopped part kept))),
+      inl refl,
+      Stops-as _ _ _ _ (sym (lines_from-append [] script piece)) (Stops-after _ _ _ (lines_from [] script) (lines_from part piece) went (c.in-Err-NoMemory-feed.ensures.stopped part kept)),
     )
 
 pub returns-then-left-eq0-clause-behind : goal.returns-then-left-eq0-clause-behind
