@@ -1,9 +1,9 @@
 -- The files that a transaction wrote.
-use Rattle.std.specs.Prelude.{ℕ, ◌<◌, ◌==◌, not, List, [], ◌∷◌, Option, Some, None, filter, find, sum_by, nat_lt, if◌then◌else◌}
+use Rattle.std.specs.Prelude.{ℕ, ◌<◌, ◌≤◌, ◌==◌, not, List, [], ◌∷◌, length, Option, Some, None, IsSomeAnd, filter, find, sum_by, nat_lt, if◌then◌else◌}
 use Rattle.ktm_types.specs.declared.change.NodeKind.{NodeKind}
 use Rattle.ktm_types.specs.declared.change.NodeKind.TheVariants.{File, Directory}
 use Rattle.ktm_world.specs.Tree.{units_of}
-use Rattle.txf_overlay.specs.OverlayState.{Written}
+use Rattle.txf_overlay.specs.OverlayState.{OverlayState, Written}
 
 -- the bytes of a file, if it is written
 abbrev pub bytes_at : List Written → ℕ → Option (List ℕ)
@@ -42,6 +42,11 @@ with_made ws node Directory = ws
 -- the first file whose number is not below this one
 abbrev pub first_from : List Written → ℕ → Option Written
 first_from ws from = find (λ w. not (nat_lt w.file from)) ws
+
+-- the file is written and has so many bytes, and there is a place for it while these are changed
+pub record HasBytes (o : OverlayState) (file size : ℕ) : Type 0 where
+  pub places : o.spare < o.places
+  pub bytes : IsSomeAnd (bytes_at o.written file) (λ bytes. size ≤ length bytes)
 
 -- the units that the bytes of a file take
 abbrev pub units_in : Written → ℕ

@@ -2,7 +2,7 @@
 ghost use Rattle.std.specs.Prelude.{◌≡◌, ◌<◌, ◌≤◌, ◌^◌, ◌+◌, [], true, length, not, IsOk, OnOk, OnErr, IfNone, ◌++◌, option_to_list};
 ghost use Rattle.std.specs.List.{list_all};
 ghost use Rattle.std.specs.Option.{option_copied};
-ghost use Rattle.txf_overlay.specs.Written.{IsRising, bytes_at, bytes_or, first_from, total_units, with_bytes};
+ghost use Rattle.txf_overlay.specs.Written.{HasBytes, IsRising, bytes_at, bytes_or, first_from, total_units, with_bytes};
 ghost use Rattle.txf_overlay.specs.OverlayState.{is_of_names, own_of};
 ghost use Rattle.ktm_world.specs.Changes.{has_changes, has_made, nodes_made};
 ghost use Rattle.ktm_world.specs.Tree.{cut_to, put_over};
@@ -48,6 +48,7 @@ impl Model for Overlay {
       held = seats_in o.seats.entries;
       written = files_in o.files.entries;
       spare = min (vec_capacity o.names - vec_len o.names) (min o.nodes.spare (min (o.seats.spare / 2) o.files.spare));
+      places = o.files.spare;
     } };
 
     ghost invariant = { λ o. IsKept o.names.items o.nodes.entries o.files.entries o.made o.units };
@@ -155,6 +156,7 @@ impl Overlay {
     pub fn reserve(&mut self, n: usize) -> Result<(), NoMemory>
         ensures room { OnOk result (n ≤ self.new.spare) }
         ensures enough { n ≤ self.old.spare → IsOk result }
+        ensures same { n ≤ self.old.spare → self.new ≡ self.old }
         ensures names { self.new.names ≡ self.old.names }
         ensures held { self.new.held ≡ self.old.held }
         ensures written { self.new.written ≡ self.old.written }
@@ -184,6 +186,7 @@ impl Overlay {
         requires few { total_units (with_bytes self.old.written file (put_over (bytes_or first.now (bytes_at self.old.written file)) offset bytes.now)) < 2 ^ 64 }
         ensures ok { OnOk result (self.new.written ≡ with_bytes self.old.written file (put_over (bytes_or first.now (bytes_at self.old.written file)) offset bytes.now)) }
         ensures err { OnErr result (self.new.written ≡ self.old.written) }
+        ensures enough { HasBytes self.old file (offset + length bytes.now) → IsOk result }
         ensures names { self.new.names ≡ self.old.names }
         ensures held { self.new.held ≡ self.old.held }
         ensures spare { self.old.spare ≤ self.new.spare }
@@ -201,6 +204,7 @@ impl Overlay {
         requires few { total_units (with_bytes self.old.written file (cut_to (bytes_or first.now (bytes_at self.old.written file)) size)) < 2 ^ 64 }
         ensures ok { OnOk result (self.new.written ≡ with_bytes self.old.written file (cut_to (bytes_or first.now (bytes_at self.old.written file)) size)) }
         ensures err { OnErr result (self.new.written ≡ self.old.written) }
+        ensures enough { HasBytes self.old file size → IsOk result }
         ensures names { self.new.names ≡ self.old.names }
         ensures held { self.new.held ≡ self.old.held }
         ensures spare { self.old.spare ≤ self.new.spare }

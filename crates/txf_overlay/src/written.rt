@@ -1,5 +1,5 @@
 // A file whose bytes a transaction wrote.
-ghost use Rattle.std.specs.Prelude.{◌≡◌, ◌+◌, ◌-◌, ◌<◌, ◌≤◌, ◌^◌, ◌++◌, length, replicate, [], None, is_none, is_some, IfOk, IfNone, OnOk, OnErr, MatchBool};
+ghost use Rattle.std.specs.Prelude.{◌≡◌, ◌+◌, ◌-◌, ◌<◌, ◌≤◌, ◌^◌, ◌++◌, length, replicate, [], None, is_none, is_some, true, IfOk, IfNone, IsOk, OnOk, OnErr, MatchBool};
 ghost use Rattle.ktm_base.specs.Bytes.{written};
 ghost use Rattle.ktm_world.specs.Tree.{cut_to, put_over, units_of};
 ghost use Rattle.std.specs.Option.{option_copied, option_map};
@@ -35,15 +35,20 @@ impl Model for WrittenFile {
 /// The files that are written, by number.
 pub(crate) type Files = Chains<NumberName, WrittenFile>;
 
-// Adds zeros up to this length, where it is not reached.
-fn grow(bytes: &mut Vec<u8>, len: usize) -> Result<(), NoMemory>
-    ensures ok { OnOk result (bytes.new.items ≡ bytes.old.items ++ replicate (len - length bytes.old.items) 0) }
+// Adds zeros where there are not so many bytes from the start on.
+fn grow(bytes: &mut Vec<u8>, start: usize, many: usize) -> Result<(), NoMemory>
+    ensures ok { OnOk result (bytes.new.items ≡ bytes.old.items ++ replicate (start + many - length bytes.old.items) 0) }
     ensures err { OnErr result (bytes.new.items ≡ bytes.old.items) }
+    ensures enough { start + many ≤ length bytes.old.items → IsOk result }
 {
-    if bytes.len() >= len {
+    let had = bytes.len();
+    if start <= had && many <= had - start {
         return Ok(());
     }
-    bytes.resize(len, 0)?;
+    let Some(end) = start.checked_add(many) else {
+        return Err(NoMemory);
+    };
+    bytes.resize(end, 0)?;
     Ok(())
 }
 
@@ -106,12 +111,10 @@ impl WrittenFile {
     pub(crate) fn put(&mut self, offset: u64, bytes: &[u8]) -> Result<(), NoMemory>
         ensures ok { OnOk result (self.new ≡ record self.old { bytes = put_over self.old.bytes offset bytes.now }) }
         ensures err { OnErr result (self.new ≡ self.old) }
+        ensures enough { offset + length bytes.now ≤ length self.old.bytes → IsOk result }
     {
         let start = offset as usize;
-        if bytes.len() > usize::MAX - start {
-            return Err(NoMemory);
-        }
-        grow(&mut self.bytes, start + bytes.len())?;
+        grow(&mut self.bytes, start, bytes.len())?;
         write_over(&mut self.bytes, start, bytes);
         Ok(())
     }
@@ -120,6 +123,7 @@ impl WrittenFile {
     pub(crate) fn cut(&mut self, size: u64) -> Result<(), NoMemory>
         ensures ok { OnOk result (self.new ≡ record self.old { bytes = cut_to self.old.bytes size }) }
         ensures err { OnErr result (self.new ≡ self.old) }
+        ensures enough { size ≤ length self.old.bytes → IsOk result }
     {
         self.bytes.resize(size as usize, 0)?;
         Ok(())
@@ -195,6 +199,7 @@ pub(crate) fn open(
     ensures out { OnOk result (files.new.entries ≡ without_name files.old.entries (number_bytes file)) }
     ensures free { OnOk result (key_at files.new.entries (number_bytes file) ≡ None) }
     ensures err { OnErr result (files.new.entries ≡ files.old.entries) }
+    ensures enough { is_some (bytes_at (files_in files.old.entries) file) ≡ true → IsOk result }
     ensures spare { files.old.spare ≤ files.new.spare }
 {
     match take(files, file) {

@@ -1,14 +1,16 @@
 -- What a call of a transaction makes of the files in memory, and what its end does.
-use Rattle.std.specs.Prelude.{◌≡◌, ℕ, ◌+◌, ◌<◌, ◌≤◌, ◌^◌, true, not, List, [], ◌∷◌, ◌++◌, filter, Option, Some, None}
+use Rattle.std.specs.Prelude.{◌≡◌, ℕ, ◌+◌, ◌<◌, ◌≤◌, ◌^◌, true, not, List, [], ◌∷◌, ◌++◌, filter, length, Option, Some, None}
 use Rattle.ktm_base.specs.declared.id.Id.{Id}
 use Rattle.ktm_laws.specs.OwnChange.{owned}
 use Rattle.ktm_types.specs.declared.change.Change.{Change}
-use Rattle.ktm_world.specs.Changes.{applies}
+use Rattle.ktm_types.specs.declared.change.Change.TheVariants.{Put, Cut}
+use Rattle.ktm_world.specs.Changes.{applies, bytes_in}
 use Rattle.ktm_world.specs.FileOutcome.{FileOutcome, files_after, with_open}
 use Rattle.ktm_world.specs.Files.{FilesNow, FileTable, OpenFile, committed_files, first_open, first_open_of, tree_seen, without_transaction}
 use Rattle.ktm_world.specs.Transactions.{same_id}
 use Rattle.ktm_world.specs.Tree.{is_file}
-use Rattle.txf_overlay.specs.OverlayState.{OverlayState, is_of_names}
+use Rattle.txf_overlay.specs.OverlayState.{OverlayState}
+use Rattle.txf_overlay.specs.Written.{HasBytes}
 use Rattle.txf_volume.specs.Held.{FilesHeld, OwnHeld, overlay_in}
 use Rattle.txf_volume.specs.Writes.{CanBeCounted}
 
@@ -58,7 +60,13 @@ abbrev pub spare_in : Option OverlayState → ℕ
 spare_in None = 0
 spare_in (Some o) = o.spare
 
--- the memory is there with which the change is the transaction's own: it makes, moves or drops a node, and there is room
+-- the bytes that a change puts or leaves are among those that the transaction wrote of the file
+abbrev pub IsWithin : Option OverlayState → Change → Type 0
+IsWithin (Some o) (Put node offset contents) = HasBytes o node (offset + length (bytes_in contents))
+IsWithin (Some o) (Cut node size pages) = HasBytes o node size
+IsWithin _ _ = Unit {0}
+
+-- the memory is there with which the change, if there is one, is the transaction's own: there is room for one more change of names, and bytes take none
 abbrev pub CanOwn : List OwnHeld → Id → Option Change → Type 0
 CanOwn overlays id None = Unit {0}
-CanOwn overlays id (Some c) = (is_of_names c ≡ true) × (1 ≤ spare_in (overlay_in overlays id))
+CanOwn overlays id (Some c) = (1 ≤ spare_in (overlay_in overlays id)) × IsWithin (overlay_in overlays id) c

@@ -1,18 +1,18 @@
 // One change more of a transaction, in what it changed and in what it holds.
-ghost use Rattle.std.specs.Prelude.{◌≡◌, ℕ, ◌<◌, ◌^◌, ◌≤◌, List, [], ◌∷◌, All, IsOk, None, Some, OnOk, OnErr, is_some, map, true, if◌then◌else◌};
+ghost use Rattle.std.specs.Prelude.{◌≡◌, ℕ, ◌<◌, ◌+◌, ◌^◌, ◌≤◌, List, [], ◌∷◌, All, IsOk, None, Some, OnOk, OnErr, is_some, length, map, true, if◌then◌else◌};
 ghost use Rattle.ktm_types.specs.declared.recorded.Node.{Node};
 ghost use Rattle.ktm_types.specs.declared.change.Change.TheVariants.{Make, Put, Cut, Move, Drop};
 ghost use Rattle.ktm_world.specs.Changes.{applies, bytes_in, changed};
 ghost use Rattle.ktm_world.specs.Tree.{Tree as Nodes, IsWellFormed, node_at};
-ghost use Rattle.txf_overlay.specs.OverlayState.{is_of_names, seen};
+ghost use Rattle.txf_overlay.specs.OverlayState.{seen};
 ghost use Rattle.txf_overlay.specs.Views.{StandsOver};
-ghost use Rattle.txf_overlay.specs.Written.{total_units};
+ghost use Rattle.txf_overlay.specs.Written.{total_units, HasBytes};
 ghost use Rattle.txf_reserve.specs.Acts.{listed};
 ghost use Rattle.txf_tree.specs.TreeState.{tree_of};
 ghost use Rattle.txf_volume.specs.Held.{overlay_in};
 ghost use Rattle.txf_volume.specs.OwnParts.{bare, bare_own, or_unchanged, starts, unchanged, written_next, IsChanged, IsChangedIn, IsPlace};
 ghost use Rattle.txf_volume.specs.Ties.{held_by_two, IsOver};
-ghost use Rattle.txf_volume.specs.Transacted.{CanOwn};
+ghost use Rattle.txf_volume.specs.Transacted.{CanOwn, IsWithin};
 ghost use Rattle.ktm_laws.specs.GoodState.{each_pair};
 
 use crate::holding::{
@@ -50,6 +50,7 @@ fn put(
     ensures ok { OnOk result ((tree : Nodes) → StandsOver tree overlay.old → IsChanged tree fixed.now transaction (Put node offset contents.now) overlay.old overlay.new reserve.old reserve.new) }
     ensures err { OnErr result (bare overlay.new ≡ bare overlay.old) }
     ensures same { OnErr result (reserve.new ≡ reserve.old) }
+    ensures enough { HasBytes overlay.old node (offset + length (bytes_in contents.now)) → IsOk result }
 {
     let first = starts(overlay, fixed, node);
     if let Err(NoMemory) = overlay.put(node, first, offset, bytes_in(contents)) {
@@ -73,6 +74,7 @@ fn cut(
     ensures ok { OnOk result ((tree : Nodes) (pages : List ℕ) → StandsOver tree overlay.old → IsChanged tree fixed.now transaction (Cut node size pages) overlay.old overlay.new reserve.old reserve.new) }
     ensures err { OnErr result (bare overlay.new ≡ bare overlay.old) }
     ensures same { OnErr result (reserve.new ≡ reserve.old) }
+    ensures enough { HasBytes overlay.old node size → IsOk result }
 {
     let first = starts(overlay, fixed, node);
     if let Err(NoMemory) = overlay.cut(node, first, size) {
@@ -174,7 +176,7 @@ fn change_overlay(
     ensures ok { OnOk result (IsChanged (tree_of tree.now) fixed.now transaction change overlay.old overlay.new reserve.old reserve.new) }
     ensures err { OnErr result (bare overlay.new ≡ bare overlay.old) }
     ensures same { OnErr result (reserve.new ≡ reserve.old) }
-    ensures enough { is_of_names change ≡ true → IsOk result }
+    ensures enough { IsWithin (Some overlay.old) change → IsOk result }
 {
     law_of_forms();
     match change {
@@ -228,7 +230,7 @@ fn make_room_and_change(
     ensures ok { OnOk result (IsChanged (tree_of tree.now) fixed.now transaction change overlay.old overlay.new reserve.old reserve.new) }
     ensures err { OnErr result (bare overlay.new ≡ bare overlay.old) }
     ensures same { OnErr result (reserve.new ≡ reserve.old) }
-    ensures enough { is_of_names change ≡ true → 1 ≤ overlay.old.spare → IsOk result }
+    ensures enough { 1 ≤ overlay.old.spare → IsWithin (Some overlay.old) change → IsOk result }
 {
     if let Err(NoMemory) = overlay.reserve(1) {
         return Err(NoMemory);

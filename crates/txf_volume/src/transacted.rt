@@ -146,13 +146,13 @@ impl Files {
 
     /// Makes what a call of a transaction comes to: its change is the transaction's own from now on, and holds what it names;
     /// a file that it opens first is fixed at its last version; a file is open. Where memory fails, nothing has changed; a
-    /// call that changes no bytes finds the room that was left.
+    /// call finds the room that was left, and bytes over those that the transaction wrote take none.
     pub fn keep(&mut self, transaction: Id, plan: Plan) -> Result<(), NoMemory>
         requires { IsPlanOf (files_of self.old) transaction plan }
         ensures done { OnOk result (files_of self.new ≡ files_after (files_of self.old) (Some transaction) plan) }
         ensures same { OnErr result (files_of self.new ≡ files_of self.old) }
         ensures enough { HasRoom self.old → plan.change ≡ None → IsOk result }
-        ensures enough_for_names { HasRoom self.old → CanOwn self.old.overlays transaction plan.change → IsOk result }
+        ensures enough_for_change { HasRoom self.old → CanOwn self.old.overlays transaction plan.change → IsOk result }
     {
         let Plan {
             change,
