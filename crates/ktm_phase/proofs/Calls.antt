@@ -20,7 +20,7 @@ use Rattle.ktm_world.specs.Transactions.{is_undecided}
 use Rattle.ktm_phase.specs.declared.enlistment.Vote.{Vote}
 use Rattle.ktm_phase.specs.declared.phase.PhaseInput.{PhaseInput}
 use Rattle.ktm_phase.specs.declared.superior.SuperiorCall.{SuperiorCall}
-use Rattle.ktm_phase.specs.Calls.{CallsLaw, ComesTo, Counts, Names, course_by, led, refusal_in, reply_call, superior_call}
+use Rattle.ktm_phase.specs.Calls.{CallsLaw, ComesTo, Names, TakesPart, course_by, led, refusal_in, reply_call, superior_call}
 use Rattle.ktm_phase.specs.Replies.{allows, commanded, if_allowed, input_of, may_recover, may_set_information, may_vote, recovered, replied}
 use Rattle.ktm_phase.proofs.Coming.{of-allowed, of-command}
 use Rattle.ktm_phase.proofs.Table.{rows_law}
@@ -55,14 +55,14 @@ module _ (x : Present) (process : Pid) (label : Label) (e : Enlistment) (t : Tra
 
   -- a call that is allowed so
   comes : (allowed : Enlistment → Bool) (b : Bool) (input : PhaseInput) (step : Course → Enlistment → Course) → allowed e ≡ b
-      → (b ≡ true → led (Some e) input (course_by x t e) ≡ step (course_by x t e) e)
+      → (b ≡ true → TakesPart input (course_by x t e) e → led (Some e) input (course_by x t e) ≡ step (course_by x t e) e)
       → ComesTo x t e (enlistment_tests (enlistment_named x process label) allowed) (answering x (enlistment_named x process label) step) (if_allowed b input)
   comes allowed b input step is same = record {
     refused =
         ap (λ o. first_refusal (enlistment_tests o allowed)) names.enlistment
         ∙ ap (λ b. if not b then Some TransactionRequestNotValid else None) is ∙ allowed-refusal b input;
-    leads = λ other came. of-allowed b input other (λ input. answering x (enlistment_named x process label) step ≡ arrived x (led (Some e) input (course_by x t e)) Done) came
-        (λ allowed. leads-by input step (same allowed));
+    leads = λ other came. of-allowed b input other (λ input. TakesPart input (course_by x t e) e → answering x (enlistment_named x process label) step ≡ arrived x (led (Some e) input (course_by x t e)) Done) came
+        (λ allowed part. leads-by input step (same allowed part));
   }
 
   -- a call of a superior that these phases let it make
@@ -72,8 +72,8 @@ module _ (x : Present) (process : Pid) (label : Label) (e : Enlistment) (t : Tra
     refused =
         ap (λ o. first_refusal (superior_tests x o test)) names.enlistment
         ∙ ap (λ b. if not (is_superior e) then Some EnlistmentNotSuperior else (if not b then Some TransactionRequestNotValid else None)) (passes test) ∙ command-refusal (is_superior e) (test t.phase) input;
-    leads = λ other came. of-command (is_superior e) (test t.phase) input other (λ input. answering x (enlistment_named x process label) step ≡ arrived x (led (Some e) input (course_by x t e)) Done) came
-        (λ may. leads-by input step same);
+    leads = λ other came. of-command (is_superior e) (test t.phase) input other (λ input. TakesPart input (course_by x t e) e → answering x (enlistment_named x process label) step ≡ arrived x (led (Some e) input (course_by x t e)) Done) came
+        (λ may part. leads-by input step same);
   }
 
   may : may_vote_in x e ≡ may_vote t.phase e
@@ -82,18 +82,18 @@ module _ (x : Present) (process : Pid) (label : Label) (e : Enlistment) (t : Tra
   may_roll_back : may_roll_back_by x e ≡ allows t.phase e Vote.Rollback
   may_roll_back = λ i. if is_superior e then passes lets_superior_roll_back i else may i
 
-  replies : (vote : Vote) → Counts vote (course_by x t e) e → ComesTo x t e (call_of x process (reply_call vote label)).0 (call_of x process (reply_call vote label)).1 (replied t.phase e vote)
+  replies : (vote : Vote) → ComesTo x t e (call_of x process (reply_call vote label)).0 (call_of x process (reply_call vote label)).1 (replied t.phase e vote)
   unfolding pre_prepare_complete prepare_complete read_only_enlistment single_phase_reject commit_complete rollback_complete rollback_enlistment
-  replies Vote.PrePrepareComplete is = comes owes_pre_prepare (owes_pre_prepare e) PhaseInput.PrePrepareComplete pre_prepare_answered refl
-      (λ owed. rows_law.pre_prepare_completes (course_by x t e) e is (some-owed (λ o. owes_pre_prepare (record e { owes = o })) e.owes refl owed))
-  replies Vote.PrepareComplete is = comes owes_prepare (owes_prepare e) PhaseInput.PrepareComplete prepare_answered refl
-      (λ owed. rows_law.prepare_completes (course_by x t e) e is (some-owed (λ o. owes_prepare (record e { owes = o })) e.owes refl owed))
-  replies Vote.ReadOnly is = comes (may_vote_in x) (may_vote t.phase e) (input_of e Vote.ReadOnly) read_only_answered may (λ allowed. rows_law.read_onlies (course_by x t e) e is)
-  replies Vote.SinglePhaseReject is = comes (may_reject_one_phase x) (is_single_phase t.phase && owes_commit e) PhaseInput.SinglePhaseReject single_phase_rejected
-      (ap (λ b. b && owes_commit e) (passes is_single_phase)) (λ allowed. rows_law.rejects_one_phase (course_by x t e) e)
-  replies Vote.CommitComplete is = comes owes_commit (owes_commit e) PhaseInput.CommitComplete commit_answered refl (λ allowed. rows_law.commit_completes (course_by x t e) e)
-  replies Vote.RollbackComplete is = comes owes_rollback (owes_rollback e) PhaseInput.RollbackComplete rollback_answered refl (λ allowed. rows_law.rollback_completes (course_by x t e) e)
-  replies Vote.Rollback is = comes (may_roll_back_by x) (allows t.phase e Vote.Rollback) PhaseInput.Rollback (λ c e. aborting c) may_roll_back (λ allowed. rows_law.aborts (Some e) (course_by x t e))
+  replies Vote.PrePrepareComplete = comes owes_pre_prepare (owes_pre_prepare e) PhaseInput.PrePrepareComplete pre_prepare_answered refl
+      (λ owed is. rows_law.pre_prepare_completes (course_by x t e) e is (some-owed (λ o. owes_pre_prepare (record e { owes = o })) e.owes refl owed))
+  replies Vote.PrepareComplete = comes owes_prepare (owes_prepare e) PhaseInput.PrepareComplete prepare_answered refl
+      (λ owed is. rows_law.prepare_completes (course_by x t e) e is (some-owed (λ o. owes_prepare (record e { owes = o })) e.owes refl owed))
+  replies Vote.ReadOnly = comes (may_vote_in x) (may_vote t.phase e) (input_of e Vote.ReadOnly) read_only_answered may (λ allowed is. rows_law.read_onlies (course_by x t e) e is)
+  replies Vote.SinglePhaseReject = comes (may_reject_one_phase x) (is_single_phase t.phase && owes_commit e) PhaseInput.SinglePhaseReject single_phase_rejected
+      (ap (λ b. b && owes_commit e) (passes is_single_phase)) (λ allowed part. rows_law.rejects_one_phase (course_by x t e) e)
+  replies Vote.CommitComplete = comes owes_commit (owes_commit e) PhaseInput.CommitComplete commit_answered refl (λ allowed part. rows_law.commit_completes (course_by x t e) e)
+  replies Vote.RollbackComplete = comes owes_rollback (owes_rollback e) PhaseInput.RollbackComplete rollback_answered refl (λ allowed part. rows_law.rollback_completes (course_by x t e) e)
+  replies Vote.Rollback = comes (may_roll_back_by x) (allows t.phase e Vote.Rollback) PhaseInput.Rollback (λ c e. aborting c) may_roll_back (λ allowed part. rows_law.aborts (Some e) (course_by x t e))
 
   superiors : (call : SuperiorCall) → ComesTo x t e (call_of x process (superior_call call label)).0 (call_of x process (superior_call call label)).1 (commanded t.phase e call)
   unfolding pre_prepare_enlistment prepare_enlistment commit_enlistment
@@ -108,7 +108,7 @@ module _ (x : Present) (process : Pid) (label : Label) (e : Enlistment) (t : Tra
   recoveries : ComesTo x t e (call_of x process (Command.RecoverEnlistment label)).0 (call_of x process (Command.RecoverEnlistment label)).1 (recovered t.phase e)
   unfolding recover_enlistment
   recoveries = comes (may_recover_in x) (may_recover t.phase e) (if is_superior e then PhaseInput.RecoverSuperior else PhaseInput.Recover) recovered_by
-      (ap (λ o. not e.is_recovered && (not (is_superior e) || holds_of is_in_doubt o)) names.transaction) (λ allowed. recovers (is_superior e) refl)
+      (ap (λ o. not e.is_recovered && (not (is_superior e) || holds_of is_in_doubt o)) names.transaction) (λ allowed part. recovers (is_superior e) refl)
 
   informed : may_set_information_now x e ≡ may_set_information t e
   informed = λ i. holds_of is_undecided (names.transaction i) && (if is_superior e then passes (λ phase. not (waits_for_superior phase)) i else is_open_for_votes e)

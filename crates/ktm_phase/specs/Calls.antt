@@ -46,12 +46,12 @@ pub record Names (x : Present) (process : Pid) (label : Label) (e : Enlistment) 
 abbrev pub course_by : Present → Transaction → Enlistment → Course
 course_by x t e = course_of x t (if is_superior e then Some e.id else None)
 
--- an enlistment whose answer counts takes part
-abbrev pub Counts : Vote → Course → Enlistment → Type 0
-Counts Vote.PrePrepareComplete c e = IsPart c e
-Counts Vote.PrepareComplete c e = IsPart c e
-Counts Vote.ReadOnly c e = IsPart c e
-Counts _ c e = ⊤
+-- where an enlistment answers so, it takes part
+abbrev pub TakesPart : PhaseInput → Course → Enlistment → Type 0
+TakesPart PhaseInput.PrePrepareComplete c e = IsPart c e
+TakesPart PhaseInput.PrepareComplete c e = IsPart c e
+TakesPart (PhaseInput.ReadOnly share) c e = IsPart c e
+TakesPart _ c e = ⊤
 
 -- why it is refused, if it is
 abbrev pub refusal_in : Result PhaseInput Refusal → Option Refusal
@@ -65,11 +65,11 @@ led by input c = run by (row (seen c) input) c
 -- a call, by its tests and its effect: it is refused where this is a refusal, and leads the transaction by the row of what came where it is none
 pub record ComesTo (x : Present) (t : Transaction) (e : Enlistment) (tests : List (Bool × Refusal)) (effect : Outcome) (result : Result PhaseInput Refusal) : Type 0 where
   pub refused : first_refusal tests ≡ refusal_in result
-  pub leads : (input : PhaseInput) → result ≡ Ok input → effect ≡ arrived x (led (Some e) input (course_by x t e)) Done
+  pub leads : (input : PhaseInput) → result ≡ Ok input → TakesPart input (course_by x t e) e → effect ≡ arrived x (led (Some e) input (course_by x t e)) Done
 
 -- each call on an enlistment comes to what is answered to it, and a transaction commits and rolls back by its row
 pub record CallsLaw : Type 0 where
-  pub replies : (x : Present) (process : Pid) (label : Label) (e : Enlistment) (t : Transaction) (vote : Vote) → Names x process label e t → Counts vote (course_by x t e) e
+  pub replies : (x : Present) (process : Pid) (label : Label) (e : Enlistment) (t : Transaction) (vote : Vote) → Names x process label e t
       → ComesTo x t e (call_of x process (reply_call vote label)).0 (call_of x process (reply_call vote label)).1 (replied t.phase e vote)
   pub superiors : (x : Present) (process : Pid) (label : Label) (e : Enlistment) (t : Transaction) (call : SuperiorCall) → Names x process label e t
       → ComesTo x t e (call_of x process (superior_call call label)).0 (call_of x process (superior_call call label)).1 (commanded t.phase e call)
