@@ -1,3 +1,1 @@
-pub mod ToldSteps
-pub mod Images
-pub mod GuidLemmas
+pub mod offered

@@ -16,12 +16,12 @@ use Rattle.ktm_world.specs.Phases.{ended, committing, all_ready, to_prepare, pre
 use Rattle.ktm_world.specs.Present.{Present}
 use Rattle.ktm_world.specs.Transactions.{transaction_at, change_at}
 use Rattle.ktm_world.specs.TransactionCalls.{course_of, arrived, commit_reply, commit_transaction}
-use Rattle.ktm_laws.proofs.Releasing.{tree-store, versions-store}
+use Rattle.ktm_owned.proofs.offered.EndedTransactions.{tree-store, versions-store}
 use Rattle.ktm_built.specs.Forms.{changes_of, settings_of, is_of_both, ended_committed, commit_works, commit_outcome, with_commit}
 use Rattle.ktm_built.specs.Standing.{IsBuiltNow}
 use Rattle.ktm_built.proofs.Alone.{alone, by_alone}
-use Rattle.ktm_built.proofs.Found.{change_at-found}
-use Rattle.ktm_built.proofs.Quiet.{opens_left, opens_but}
+use Rattle.ktm_built.proofs.offered.Found.{change_at-found}
+use Rattle.ktm_built.proofs.offered.Quiet.{opens_left, opens_but}
 
 -- ---- the outcome
 

@@ -26,18 +26,18 @@ use Rattle.ktm_world.specs.Present.{Present}
 use Rattle.ktm_world.specs.TransactionCalls.{commit_transaction}
 use Rattle.ktm_world.specs.Transactions.{is_of, is_undecided, same_id}
 use Rattle.ktm_world.specs.World.{World, present}
-use Rattle.ktm_laws.specs.Footprint.{IsIn}
-use Rattle.ktm_laws.specs.Reservations.{IsLeft, ReservationsLaw, files_committed}
+use Rattle.txf_laws.specs.Elements.{IsIn}
+use Rattle.txf_laws.specs.Reservations.{IsLeft, ReservationsLaw, files_committed}
 use Rattle.ktm_laws.specs.Running.{LawfulWorldsLaw}
-use Rattle.ktm_laws.specs.SoundCourse.{is_counted}
-use Rattle.ktm_laws.specs.SoundFiles.{IsSoundFiles, is_undecided_in, numbers_made}
-use Rattle.ktm_laws.proofs.Calls.{Passes, passed, transaction-named}
-use Rattle.ktm_laws.proofs.Elements.{IsIn-kept, list_all-at, list_all-from, list_any-from}
-use Rattle.ktm_laws.proofs.OwnSizes.{spelled-owned}
-use Rattle.ktm_laws.proofs.Passing.{All-by, made-in, undecided-entry}
-use Rattle.ktm_laws.proofs.Reserving.{own-apply, own_changes-by}
-use Rattle.ktm_laws.proofs.Tables.{same_id-sym}
-use Rattle.ktm_laws.proofs.Undecided.{undecided-from}
+use Rattle.ktm_courses.specs.SoundCourse.{is_counted}
+use Rattle.txf_laws.specs.SoundFiles.{IsSoundFiles, is_undecided_in, numbers_made}
+use Rattle.ktm_courses.proofs.offered.Calls.{Passes, passed, transaction-named}
+use Rattle.txf_laws.proofs.offered.Elements.{IsIn-kept, list_all-at, list_all-from, list_any-from}
+use Rattle.ktm_records.proofs.offered.OwnSizes.{spelled-owned}
+use Rattle.txf_laws.proofs.offered.CommitsOfOthers.{All-by, made-in, undecided-entry}
+use Rattle.txf_laws.proofs.offered.Reservations.{own-apply, own_changes-by}
+use Rattle.txf_laws.proofs.offered.Tables.{same_id-sym}
+use Rattle.ktm_owned.proofs.offered.Undecided.{undecided-from}
 use Rattle.txf_volume.specs.Commit.{AreUnopened, LeavesOthers}
 use Rattle.ktm_built.specs.Files.{MayCommitNow}
 use Rattle.ktm_built.specs.Forms.{changes_of, commit_outcome, settings_of}

@@ -12,9 +12,9 @@ use Rattle.ktm_world.specs.Outcome.{Outcome, apply}
 use Rattle.ktm_world.specs.Present.{Present}
 use Rattle.ktm_world.specs.Uses.{changes_waiting}
 use Rattle.ktm_world.specs.World.{World, after, present}
-use Rattle.ktm_world.proofs.Durables.{stand-units}
+use Rattle.ktm_world.proofs.offered.Durables.{stand-units}
 use Rattle.ktm_laws.specs.Running.{IsRunning, LawfulWorldsLaw}
-use Rattle.ktm_laws.proofs.NoMore.{fits-within}
+use Rattle.ktm_records.proofs.offered.NoMore.{fits-within}
 use Rattle.txf_volume.specs.Commit.{AreVersionsFew}
 use Rattle.txf_volume.specs.Writes.{CanBeCounted}
 use Rattle.ktm_built.specs.Standing.{IsStanding}

@@ -15,11 +15,12 @@ use Rattle.ktm_world.specs.Outcome.{Outcome, apply}
 use Rattle.ktm_world.specs.Present.{Present}
 use Rattle.ktm_world.specs.Transactions.{transaction_at}
 use Rattle.ktm_world.specs.TransactionCalls.{information_of, get_transaction_information, may_roll_back, open_transaction, rollback_transaction, rollback_transaction_tests, transaction_with}
-use Rattle.ktm_laws.proofs.Calls.{Passes, passed, not-not}
+use Rattle.txf_laws.proofs.offered.Elements.{not-not}
+use Rattle.ktm_courses.proofs.offered.Calls.{Passes, passed}
 use Rattle.ktm_built.specs.Standing.{IsBuiltNow}
-use Rattle.ktm_built.proofs.Forms.{named_law, quiet_create, quiet_open, quiet_bind, quiet_keys}
+use Rattle.ktm_built.proofs.offered.Forms.{named_law, quiet_create, quiet_open, quiet_bind, quiet_keys}
 use Rattle.ktm_built.proofs.Leaves.{left_by, with_named_rollback}
-use Rattle.ktm_built.proofs.Quiet.{IsQuiet, comes_to, quiet_reply, quiet_rollback, quiet_close, quiet_exit, rolls_before_end}
+use Rattle.ktm_built.proofs.offered.Quiet.{IsQuiet, comes_to, quiet_reply, quiet_rollback, quiet_close, quiet_exit, rolls_before_end}
 
 quiet_named : (x : Present) (named : Option Transaction) → ((t : Transaction) → named ≡ Some t → transaction_at x.transactions.items t.id ≡ Some t) → Passes (rollback_transaction_tests named) → IsBuiltNow x
     → IsQuiet x (rollback_transaction x named) Done (with_named_rollback x named)

@@ -13,7 +13,7 @@ use Rattle.ktm_world.specs.Files.{OpenFile}
 use Rattle.ktm_world.specs.Labels.{file_named}
 use Rattle.ktm_world.specs.Outcome.{Outcome, apply, is_full, refuse_or}
 use Rattle.ktm_world.specs.Present.{Present}
-use Rattle.ktm_laws.specs.FileCallsMade.{file_call, in_caller, on_open}
+use Rattle.ktm_records.specs.FileCallsMade.{file_call, in_caller, on_open}
 use Rattle.ktm_built.specs.Laws.{FormsLaw}
 use Rattle.ktm_built.specs.Standing.{IsBuiltNow}
 

@@ -23,18 +23,17 @@ use Rattle.ktm_world.specs.Outcome.{Outcome, is_full}
 use Rattle.ktm_world.specs.Present.{Present}
 use Rattle.ktm_world.specs.Tree.{node_at, root}
 use Rattle.ktm_world.specs.World.{World, present}
-use Rattle.ktm_laws.specs.FileCallsMade.{FileCallsLaw, IsRightCall, file_call}
-use Rattle.ktm_laws.specs.Reservations.{IsLeft}
+use Rattle.ktm_records.specs.FileCallsMade.{FileCallsLaw, IsRightCall, file_call}
+use Rattle.txf_laws.specs.Reservations.{IsLeft}
 use Rattle.ktm_laws.specs.Running.{LawfulWorldsLaw}
-use Rattle.ktm_laws.specs.SoundFiles.{IsSoundFiles, is_drawn_node, is_plain_well, is_undecided_in}
-use Rattle.ktm_laws.specs.Spelling.{SpellingLaw}
-use Rattle.ktm_laws.proofs.Calls.{and_then-found}
-use Rattle.ktm_laws.proofs.Elements.{list_all-at}
-use Rattle.ktm_laws.proofs.Diamonds.{none-from}
-use Rattle.ktm_laws.proofs.Moves.{find-found}
-use Rattle.ktm_laws.proofs.Passing.{All-by, undecided-entry}
-use Rattle.ktm_laws.proofs.PlainCalls.{next-free}
-use Rattle.ktm_laws.proofs.Seeing.{below-next}
+use Rattle.txf_laws.specs.SoundFiles.{IsSoundFiles, is_drawn_node, is_plain_well, is_undecided_in}
+use Rattle.ktm_records.specs.Spelling.{SpellingLaw}
+use Rattle.ktm_courses.proofs.offered.Calls.{and_then-found}
+use Rattle.txf_laws.proofs.offered.Elements.{list_all-at}
+use Rattle.txf_laws.proofs.offered.Diamonds.{none-from}
+use Rattle.ktm_courses.proofs.offered.Moves.{find-found}
+use Rattle.txf_laws.proofs.offered.CommitsOfOthers.{All-by, undecided-entry, next-free}
+use Rattle.ktm_owned.proofs.offered.SeenFiles.{below-next}
 use Rattle.txf_calls.specs.Fits.{IsOrderly}
 use Rattle.txf_volume.specs.Plain.{IsPlainChange, IsPlainOpen, LeavesOwn}
 use Rattle.txf_volume.specs.Writes.{CanBeCounted}

@@ -26,10 +26,10 @@ use Rattle.ktm_world.specs.Keys.{OwnSettings, stored_all}
 use Rattle.ktm_world.specs.Labels.{transaction_named}
 use Rattle.ktm_world.specs.Present.{Present}
 use Rattle.ktm_world.specs.TransactionCalls.{transaction_with}
-use Rattle.ktm_laws.proofs.Makings.{list_all-push}
+use Rattle.ktm_courses.proofs.offered.NewObjects.{list_all-push}
 use Rattle.ktm_built.specs.Forms.{with_transaction, with_commit, with_bound, with_files, with_opened, with_rollback, with_handle_closed, with_process_gone, ended_committed, ended_aborted, is_of_both, plain_changes, recorded_by, changes_of, settings_of}
 use Rattle.ktm_built.specs.Standing.{IsBuiltNow, is_recorded_at_its_end}
-use Rattle.ktm_built.proofs.Found.{change_at-passes}
+use Rattle.ktm_built.proofs.offered.Found.{change_at-passes}
 
 -- ---- what a command leaves that records nothing
 

@@ -10,10 +10,10 @@ use Rattle.ktm_world.specs.Files.{OpenFile, own_changes}
 use Rattle.ktm_world.specs.Holds.{holds_by}
 use Rattle.ktm_world.specs.Present.{Present}
 use Rattle.ktm_world.specs.Transactions.{is_of}
-use Rattle.ktm_laws.specs.FileCallsMade.{IsRightCall}
-use Rattle.ktm_laws.specs.Reservations.{IsLeft}
-use Rattle.ktm_laws.specs.SoundFiles.{IsSoundFiles}
-use Rattle.ktm_laws.proofs.Reserving.{own-apply}
+use Rattle.ktm_records.specs.FileCallsMade.{IsRightCall}
+use Rattle.txf_laws.specs.Reservations.{IsLeft}
+use Rattle.txf_laws.specs.SoundFiles.{IsSoundFiles}
+use Rattle.txf_laws.proofs.offered.Reservations.{own-apply}
 
 -- a plain open file is none of a transaction's
 written_plain : (opens : List OpenFile) (p : OpenFile) (id : Id) → p.transaction ≡ None → written_by (opens ++ p ∷ []) id ≡ written_by opens id

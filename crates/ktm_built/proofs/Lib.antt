@@ -1,25 +1,17 @@
-pub mod Alone
-pub mod Found
-pub mod Leaves
-pub mod Quiet
-pub mod Commits
-pub mod FileCalls
-pub mod Forms
-pub mod Effects
-pub mod Distinct
-pub mod Timeouts
-pub mod Guids
-pub mod Decided
-pub mod Machine
-pub mod Outcomes
-pub mod Logs
-pub mod Opened
-pub mod Worlds
-pub mod FileForms
-pub mod Versions
-pub mod Counted
-pub mod LeftPlain
-pub mod FilesMade
-pub mod CommitsMade
-pub mod Relied
-pub mod Starts
+mod Alone
+mod Leaves
+mod Commits
+mod FileCalls
+mod Effects
+mod Logs
+mod Opened
+mod Worlds
+mod FileForms
+mod Versions
+mod Counted
+mod LeftPlain
+mod FilesMade
+mod CommitsMade
+mod Relied
+mod Starts
+pub mod offered

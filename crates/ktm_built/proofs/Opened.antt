@@ -8,10 +8,10 @@ use Rattle.ktm_world.specs.Durable.{Durable, stand}
 use Rattle.ktm_world.specs.Logs.{Group}
 use Rattle.ktm_world.specs.Present.{Present}
 use Rattle.ktm_world.specs.World.{present, opened, own_group}
-use Rattle.ktm_world.proofs.SizeLemmas.{log_size-append}
+use Rattle.ktm_world.proofs.offered.SizeLemmas.{log_size-append}
 use Rattle.ktm_laws.specs.Running.{IsRunning}
-use Rattle.ktm_laws.specs.Spelling.{AreRecordedTexts, SpellingLaw}
-use Rattle.ktm_laws.proofs.Falling.{left-all}
+use Rattle.ktm_records.specs.Spelling.{AreRecordedTexts, SpellingLaw}
+use Rattle.ktm_laws.proofs.offered.PossibleLogs.{left-all}
 use Rattle.ktm_built.specs.Standing.{IsBuiltNow, IsStanding, fresh}
 use Rattle.ktm_built.proofs.Logs.{log_with_own}
 

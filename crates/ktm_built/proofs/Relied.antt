@@ -7,10 +7,10 @@ use Rattle.ktm_world.specs.Laws.{StepLaw}
 use Rattle.ktm_world.specs.Outcome.{first_refusal, is_full}
 use Rattle.ktm_world.specs.Present.{Present}
 use Rattle.ktm_world.specs.World.{World, present}
-use Rattle.ktm_laws.specs.FileCallsMade.{FileCallsLaw, file_call}
-use Rattle.ktm_laws.specs.Reservations.{ReservationsLaw}
+use Rattle.ktm_records.specs.FileCallsMade.{FileCallsLaw, file_call}
+use Rattle.txf_laws.specs.Reservations.{ReservationsLaw}
 use Rattle.ktm_laws.specs.Running.{LawfulWorldsLaw}
-use Rattle.ktm_laws.specs.Spelling.{SpellingLaw}
+use Rattle.ktm_records.specs.Spelling.{SpellingLaw}
 use Rattle.txf_calls.specs.Fits.{IsOrderly}
 use Rattle.ktm_built.specs.Files.{IsOnCommitted, MayCommitNow, MayMake}
 use Rattle.ktm_built.specs.Forms.{changes_of, settings_of}

@@ -7,15 +7,15 @@ use Rattle.ktm_forms.specs.Built.{IsBuiltState}
 use Rattle.ktm_forms.proofs.BuiltStates.{built_stand}
 use Rattle.ktm_world.specs.Durable.{Durable}
 use Rattle.ktm_world.specs.World.{opened, own_group}
-use Rattle.ktm_laws.specs.Agreeing.{AgreeingLaw}
-use Rattle.ktm_laws.specs.GoodState.{IsGoodState}
-use Rattle.ktm_laws.specs.GoodStates.{GoodStatesLaw}
-use Rattle.ktm_laws.specs.LimitsKept.{LimitsLaw}
+use Rattle.ktm_records.specs.Agreement.{AgreeingLaw}
+use Rattle.ktm_states.specs.GoodState.{IsGoodState}
+use Rattle.ktm_states.specs.GoodStates.{GoodStatesLaw}
+use Rattle.ktm_limits.specs.LimitsKept.{LimitsLaw}
 use Rattle.ktm_laws.specs.Notes.{NotesLaw}
-use Rattle.ktm_laws.specs.OwnGroup.{OwnGroupLaw}
-use Rattle.ktm_laws.specs.SoundWorlds.{SoundWorldsLaw}
-use Rattle.ktm_laws.specs.Spelling.{SpellingLaw}
-use Rattle.ktm_laws.proofs.Starts.{running-opened}
+use Rattle.ktm_states.specs.OwnGroup.{OwnGroupLaw}
+use Rattle.ktm_records.specs.SoundWorlds.{SoundWorldsLaw}
+use Rattle.ktm_records.specs.Spelling.{SpellingLaw}
+use Rattle.ktm_laws.proofs.offered.Starts.{running-opened}
 use Rattle.ktm_built.specs.Laws.{FreshLaw}
 use Rattle.ktm_built.specs.Standing.{IsStandingNow, fresh}
 use Rattle.ktm_built.proofs.Opened.{opened_is, stands_opened}

@@ -5,7 +5,7 @@ use Rattle.std.proofs.lemmas.List.Sums.{sum_by-cons}
 use Rattle.ktm_types.specs.declared.change.Change.{Change}
 use Rattle.ktm_world.specs.Changes.{changes_bytes, is_drop, node_of}
 use Rattle.ktm_world.specs.Committed.{Committed, Version, Work, committed_with, raised_version, version_of, versions_after, with_change, with_work, without_version}
-use Rattle.ktm_laws.proofs.Versions.{version_of-without}
+use Rattle.txf_laws.proofs.offered.Versions.{version_of-without}
 use Rattle.ktm_built.specs.Standing.{changes_committed}
 
 raised_by_one : (vs : List Version) (n file : ℕ) → version_of (raised_version vs n) file ≤ version_of vs file + 1

@@ -16,15 +16,15 @@ use Rattle.ktm_world.specs.Logs.{Group, down, as_groups}
 use Rattle.ktm_world.specs.Outcome.{Outcome, apply}
 use Rattle.ktm_world.specs.Present.{Present}
 use Rattle.ktm_world.specs.World.{World, present, extend, after, decide_tick, possible_logs, interrupted_by, interrupted_restart}
-use Rattle.ktm_world.proofs.SizeLemmas.{log_size-append}
+use Rattle.ktm_world.proofs.offered.SizeLemmas.{log_size-append}
 use Rattle.ktm_laws.specs.Running.{IsRunning, LawfulWorldsLaw}
-use Rattle.ktm_laws.specs.Spelling.{AreTexts, SpellingLaw}
-use Rattle.ktm_laws.proofs.Falling.{contains-passes, left-with, left-extend, left-restart}
+use Rattle.ktm_records.specs.Spelling.{AreTexts, SpellingLaw}
+use Rattle.ktm_laws.proofs.offered.PossibleLogs.{contains-passes, left-with, left-extend, left-restart}
 use Rattle.ktm_built.specs.Laws.{StandingLaw}
 use Rattle.ktm_built.specs.Standing.{IsBuiltNow, IsBuiltWorld, IsStanding, IsStandingNow}
 use Rattle.ktm_built.proofs.Logs.{groups_built, log_with_own}
 use Rattle.ktm_built.proofs.Opened.{stands_opened}
-use Rattle.ktm_built.proofs.Outcomes.{IsBuiltOutcome, decided_outcome, ticked_outcome}
+use Rattle.ktm_built.proofs.offered.Outcomes.{IsBuiltOutcome, decided_outcome, ticked_outcome}
 
 module _ (step : StepLaw) (law : LawfulWorldsLaw) (spelling : SpellingLaw) where
   -- ---- an outcome

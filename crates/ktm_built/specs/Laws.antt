@@ -34,10 +34,10 @@ use Rattle.ktm_world.specs.Transactions.{same_id, transaction_at, is_live}
 use Rattle.ktm_world.specs.TransactionCalls.{create_transaction, commit_transaction, rollback_transaction, get_transaction_information, information_of, open_transaction, transaction_with, later, is_due, with_clock, tick}
 use Rattle.ktm_world.specs.Transcript.{Finds}
 use Rattle.ktm_world.specs.World.{World, present, extend, after, decide_tick, crashed, interrupted_by, interrupted_restart, found_full, opened, own_group}
-use Rattle.ktm_laws.specs.FileCallsMade.{file_call}
-use Rattle.ktm_laws.specs.GoodState.{IsGoodState}
+use Rattle.ktm_records.specs.FileCallsMade.{file_call}
+use Rattle.ktm_states.specs.GoodState.{IsGoodState}
 use Rattle.ktm_laws.specs.Running.{IsRoomy, is_log_grammatical}
-use Rattle.ktm_laws.specs.SoundCourse.{IsSoundCourse}
+use Rattle.ktm_courses.specs.SoundCourse.{IsSoundCourse}
 use Rattle.txf_calls.specs.Fits.{IsOrderly}
 use Rattle.ktm_built.specs.Files.{IsOnCommitted, MayCommitNow, MayMake}
 use Rattle.ktm_built.specs.Forms.{ComesTo, with_transaction, commit_outcome, with_commit, with_rollback, with_bound, with_files, with_handle_closed, with_opened, with_process_gone, with_tick, changes_of, settings_of}

@@ -11,7 +11,7 @@ use Rattle.ktm_world.specs.Present.{Present}
 use Rattle.ktm_world.specs.Enlistments.{is_ended}
 use Rattle.ktm_world.specs.World.{World, present, possible_logs}
 use Rattle.ktm_laws.specs.Running.{IsRunning}
-use Rattle.ktm_laws.specs.Spelling.{AreTexts}
+use Rattle.ktm_records.specs.Spelling.{AreTexts}
 
 -- ---- what has only what built forms make
 

@@ -1,11 +1,12 @@
 // Laws of worlds that have only what built forms make, each the contract of a function that does nothing.
 ghost use Rattle.ktm_built.specs.Laws.{FormsLaw, TimeoutLaw, NamedLaw, GuidLaw, DecidedLaw, EventsLaw, FilesLaw, StandingLaw, FreshLaw};
 
-use ktm_laws::{
-    law_of_agreement, law_of_file_calls, law_of_good_states, law_of_lawful_worlds, law_of_limits,
-    law_of_notes, law_of_own_groups, law_of_reservations, law_of_sound_worlds, law_of_spelling,
-};
+use ktm_laws::{law_of_lawful_worlds, law_of_notes, law_of_sound_worlds};
+use ktm_limits::law_of_limits;
+use ktm_records::{law_of_agreement, law_of_file_calls, law_of_spelling};
+use ktm_states::{law_of_good_states, law_of_own_groups};
 use ktm_world::law_of_step;
+use txf_laws::law_of_reservations;
 
 /// Each call changes its own part of what is so now.
 pub fn law_of_forms()

@@ -10,7 +10,7 @@ use Rattle.ktm_forms.specs.Built.{is_built_group}
 use Rattle.ktm_world.specs.Logs.{Group}
 use Rattle.ktm_world.specs.Durable.{Durable, empty_state, after_events, events_apply}
 use Rattle.ktm_types.specs.EventGrammar.{IsGroupOf}
-use Rattle.ktm_world.proofs.Durables.{stand-append, log_applies-append}
+use Rattle.ktm_world.proofs.offered.Durables.{stand-append, log_applies-append}
 use Rattle.ktm_journal.specs.Image.{log_area}
 use Rattle.ktm_journal.specs.Bad.{IsBadPayload}
 use Rattle.ktm_journal.specs.Load.{ComesTo, IsFirstBad}

@@ -5,7 +5,7 @@ use Rattle.std.specs.Int.{from_le_bytes, w16, w32}
 use Rattle.ktm_base.specs.declared.limits.TheConstants.{LEAST_UNITS, MOST_UNITS}
 use Rattle.ktm_base.specs.Bytes.{written}
 use Rattle.ktm_base.specs.Disk.{DiskState, IsSafe, Grew}
-use Rattle.ktm_base.proofs.Images.{same_written, length-written}
+use Rattle.ktm_base.proofs.offered.Images.{same_written, length-written}
 use Rattle.ktm_log.specs.declared.area.Area.{Area}
 use Rattle.ktm_log.specs.Log.{area_bytes}
 use Rattle.ktm_log.proofs.Parts.{not_covered, same_part, written_part, get_or-area, length-area}

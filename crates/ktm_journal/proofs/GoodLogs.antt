@@ -4,9 +4,9 @@ use Rattle.std.proofs.lemmas.Bool.{and_from}
 use Rattle.std.specs.List.{list_all}
 use Rattle.ktm_base.specs.declared.limits.TheConstants.{LEAST_UNITS}
 use Rattle.ktm_base.specs.Bytes.{AreBytes}
-use Rattle.ktm_laws.specs.GoodState.{IsGoodState}
-use Rattle.ktm_laws.specs.GoodStates.{GoodStatesLaw}
-use Rattle.ktm_laws.specs.Grammatical.{GrammarLaw, is_grammatical}
+use Rattle.ktm_states.specs.GoodState.{IsGoodState}
+use Rattle.ktm_states.specs.GoodStates.{GoodStatesLaw}
+use Rattle.ktm_states.specs.Grammatical.{GrammarLaw, is_grammatical}
 use Rattle.ktm_log.specs.Log.{payloads_in}
 use Rattle.ktm_world.specs.Durable.{Durable, empty_state}
 use Rattle.ktm_world.specs.Logs.{Group}

@@ -4,7 +4,7 @@ use Rattle.std.proofs.Common.{◌≡◌, inl, inr, ℕ, ◌+◌, ◌-◌, ◌%�
 use Rattle.std.specs.Int.{from_le_bytes, w16, w32}
 use Rattle.ktm_base.specs.Disk.{DiskState, MayLeave}
 use Rattle.ktm_base.specs.Told.{Goes}
-use Rattle.ktm_base.proofs.Images.{safe_law}
+use Rattle.ktm_base.proofs.offered.Images.{safe_law}
 use Rattle.ktm_log.specs.declared.area.Area.{Area}
 use Rattle.ktm_log.specs.Log.{LogState, IsLog, Rests, LeavesEither, SameElsewhere, area_bytes}
 use Rattle.ktm_log.proofs.Parts.{not_covered, same_part}

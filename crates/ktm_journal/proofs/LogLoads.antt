@@ -14,8 +14,8 @@ use Rattle.ktm_forms.proofs.BuiltStates.{built_log}
 use Rattle.ktm_world.specs.Logs.{Group}
 use Rattle.ktm_world.specs.Durable.{Durable, empty_state, stand}
 use Rattle.ktm_types.specs.Sizes.{frame_size, log_size}
-use Rattle.ktm_world.proofs.Durables.{count_events, stand-units, stand-image, stand-events, few_keys, few_boots}
-use Rattle.ktm_world.proofs.SizeLemmas.{size_law}
+use Rattle.ktm_world.proofs.offered.Durables.{count_events, stand-units, stand-image, stand-events, few_keys, few_boots}
+use Rattle.ktm_world.proofs.offered.SizeLemmas.{size_law}
 use Rattle.ktm_journal.specs.Image.{AreInLog, HoldGroups, HoldsLog, IsFormatted, JournalAt, JournalState, StandsFor, left_after, log_area}
 use Rattle.ktm_journal.specs.Bad.{IsBadAt, IsBadPayload}
 use Rattle.ktm_journal.specs.Load.{ComesTo, IsFirstBad}

@@ -11,7 +11,7 @@ use Rattle.ktm_world.specs.Logs.{Group}
 use Rattle.ktm_world.specs.Durable.{Durable, empty_state, stand, events_apply, log_applies}
 use Rattle.ktm_types.specs.EventGrammar.{IsGroupOf}
 use Rattle.ktm_types.specs.Sizes.{log_size}
-use Rattle.ktm_world.proofs.Durables.{log_applies-append}
+use Rattle.ktm_world.proofs.offered.Durables.{log_applies-append}
 use Rattle.ktm_journal.specs.Image.{IsHeaded, HoldGroups, HoldsLog, StandsFor, log_area}
 use Rattle.ktm_journal.specs.Bad.{IsBadFrame, IsBadAt}
 

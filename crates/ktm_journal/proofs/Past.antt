@@ -14,7 +14,7 @@ use Rattle.ktm_world.specs.Changes.{applies, changes_apply, bytes_in, changed}
 use Rattle.ktm_world.specs.Durable.{is_new_in}
 use Rattle.ktm_world.specs.Keys.{Store}
 use Rattle.ktm_world.specs.Tree.{Tree, bytes_or_none, content_of, cut_to, node_at, put_over, units_of}
-use Rattle.ktm_world.proofs.Lookups.{map_node, node_at-there}
+use Rattle.ktm_world.proofs.offered.Lookups.{map_node, node_at-there}
 use Rattle.ktm_journal.specs.Waiting.{passes_units}
 
 abbrev node_units : Node → ℕ

@@ -6,7 +6,7 @@ ghost use Rattle.ktm_base.specs.Disk.{DeviceCalls, IsSafe, OnlyReads};
 ghost use Rattle.ktm_log.specs.Fault.{append_went_down};
 ghost use Rattle.ktm_forms.specs.Built.{IsBuiltState};
 ghost use Rattle.ktm_world.specs.Logs.{Group};
-ghost use Rattle.ktm_laws.specs.GoodState.{IsGoodState};
+ghost use Rattle.ktm_states.specs.GoodState.{IsGoodState};
 ghost use Rattle.ktm_world.specs.Outcome.{is_full};
 ghost use Rattle.ktm_types.specs.Sizes.{area_len, event_size, frame_size};
 ghost use Rattle.ktm_event.specs.Kept.{Holds};

@@ -6,7 +6,7 @@ ghost use Rattle.ktm_log.specs.Log.{payloads_in};
 ghost use Rattle.ktm_world.specs.Durable.{Durable, after_events, empty_state, events_apply};
 ghost use Rattle.ktm_forms.specs.Built.{is_built_group};
 ghost use Rattle.ktm_world.specs.Logs.{Group};
-ghost use Rattle.ktm_laws.specs.GoodState.{IsGoodState};
+ghost use Rattle.ktm_states.specs.GoodState.{IsGoodState};
 ghost use Rattle.ktm_types.specs.EventGrammar.{IsGroupOf};
 ghost use Rattle.ktm_journal.specs.Image.{IsFormatted, IsHeaded, empty_snapshot, snapshot_of};
 ghost use Rattle.ktm_journal.specs.Format.{IsHeader};
@@ -19,8 +19,8 @@ use crate::image::{SELECTOR_AT, SNAPSHOT_AT, empty_snapshot, image_len, log_area
 use ktm_base::{Disk, Down, LEAST_UNITS, MOST_UNITS, NoMemory};
 use ktm_codec::{u16_in, u32_in};
 use ktm_event::{EventFault, read_group};
-use ktm_laws::{law_of_good_states, law_of_grammar};
 use ktm_log::first_payload;
+use ktm_states::{law_of_good_states, law_of_grammar};
 use std::alloc::Global;
 
 /// What the header of an image says.

@@ -24,8 +24,8 @@ use Rattle.ktm_world.specs.Transactions.{transaction_at}
 use Rattle.ktm_built.specs.Files.{MayCommitNow}
 use Rattle.ktm_built.specs.Forms.{changes_of, settings_of}
 use Rattle.ktm_built.specs.Standing.{IsBuiltNow}
-use Rattle.ktm_built.proofs.Forms.{forms_law}
-use Rattle.ktm_laws.specs.Reservations.{files_committed}
+use Rattle.ktm_built.proofs.offered.Forms.{forms_law}
+use Rattle.txf_laws.specs.Reservations.{files_committed}
 use Rattle.txf_volume.specs.Commit.{AreUnopened, AreVersionsFew, LeavesOthers, MayCommit, names_in}
 use Rattle.txf_volume.specs.Held.{FilesHeld, files_of, overlay_in}
 use Rattle.txf_volume.proofs.Seen.{changes_in, own_changes-held}

@@ -27,14 +27,14 @@ use Rattle.ktm_world.specs.Uses.{key_room}
 use Rattle.ktm_forms.specs.Commits.{commit_events}
 use Rattle.ktm_built.specs.Forms.{ComesTo, changes_of, settings_of, commit_outcome, with_bound, with_tick, with_transaction}
 use Rattle.ktm_built.specs.Standing.{IsBuiltNow, IsStandingNow}
-use Rattle.ktm_built.proofs.Forms.{forms_law}
+use Rattle.ktm_built.proofs.offered.Forms.{forms_law}
 use Rattle.ktm_kernel.specs.declared.settlement.Settlement.{Settlement}
 use Rattle.ktm_kernel.specs.declared.settlement.Settlement.TheVariants.{Nothing, Create, Commit, Tick}
 use Rattle.ktm_kernel.specs.declared.decide.Asked.{Asked}
 use Rattle.ktm_kernel.specs.Route.{asked_outcome}
 use Rattle.ktm_kernel.proofs.Routes.{up_or}
 use Rattle.ktm_kernel.specs.Decided.{Decides}
-use Rattle.ktm_laws.proofs.NoMore.{fits-within}
+use Rattle.ktm_records.proofs.offered.NoMore.{fits-within}
 use Rattle.ktm_kernel.proofs.Standing.{built, kept}
 use Rattle.ktm_kernel.specs.Memory.{CanCommit, Held, MemoryState, MaySettle, appended, held, now_of, settled, with_bound_to}
 

@@ -17,8 +17,8 @@ use Rattle.ktm_world.specs.Logs.{Group, as_groups}
 use Rattle.ktm_world.specs.Outcome.{Outcome, apply, is_full, within_log}
 use Rattle.ktm_world.specs.Present.{Present}
 use Rattle.ktm_built.specs.Standing.{IsStandingNow}
-use Rattle.ktm_built.proofs.Decided.{full_log}
-use Rattle.ktm_built.proofs.Machine.{apply-full}
+use Rattle.ktm_built.proofs.offered.Decided.{full_log}
+use Rattle.ktm_built.proofs.offered.Machine.{apply-full}
 use Rattle.ktm_kernel.specs.declared.settlement.Settlement.{Settlement}
 use Rattle.ktm_kernel.specs.Decided.{Decides}
 use Rattle.ktm_kernel.specs.Done.{Ends, IsDone, IsCutOff, LeavesWithOr, TouchesNothing}

@@ -27,7 +27,7 @@ use Rattle.ktm_world.specs.Uses.{file_room}
 use Rattle.ktm_built.specs.Files.{MayMake, MayMakePlain}
 use Rattle.ktm_built.specs.Forms.{with_files, with_group}
 use Rattle.ktm_built.specs.Standing.{IsBuiltNow}
-use Rattle.ktm_built.proofs.Forms.{forms_law}
+use Rattle.ktm_built.proofs.offered.Forms.{forms_law}
 use Rattle.ktm_kernel.specs.declared.settlement.Settlement.{Settlement}
 use Rattle.ktm_kernel.specs.declared.settlement.Settlement.TheVariants.{Plain}
 use Rattle.ktm_kernel.specs.Decided.{CanAnswer, Decides, bind_opened}

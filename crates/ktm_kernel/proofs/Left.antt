@@ -5,14 +5,14 @@ use Rattle.std.proofs.lemmas.List.{append-nil}
 use Rattle.std.proofs.lemmas.List.Folds.{list_all-append}
 use Rattle.std.specs.Prelude.{Contains, IsTrue, IsSomeAnd}
 use Rattle.ktm_base.specs.Disk.{DiskState}
-use Rattle.ktm_base.proofs.ToldSteps.{IsSomeAnd-map}
+use Rattle.ktm_base.proofs.offered.ToldSteps.{IsSomeAnd-map}
 use Rattle.ktm_journal.specs.Image.{JournalState, JournalAt, HoldsLog, StandsFor}
 use Rattle.ktm_journal.proofs.Images.{what_is_left}
 use Rattle.ktm_world.specs.Durable.{Durable, empty_state, stand, log_applies}
 use Rattle.ktm_world.specs.World.{World, possible_logs}
 use Rattle.ktm_forms.specs.Built.{is_built_group, is_built_log}
 use Rattle.ktm_world.specs.Logs.{Group, Power, up, down, is_up, prefixes_from, possible_by}
-use Rattle.ktm_world.proofs.Durables.{stand-append, stand-units, stand-image, log_applies-append}
+use Rattle.ktm_world.proofs.offered.Durables.{stand-append, stand-units, stand-image, log_applies-append}
 use Rattle.ktm_kernel.specs.Stands.{KernelState, Began, Stands, StandsBy, LeavesPossible, LeavesStates, LeftLaw}
 use Rattle.ktm_kernel.proofs.Possible.{log_possible}
 

@@ -10,8 +10,8 @@ use Rattle.ktm_world.specs.Outcome.{Outcome, apply}
 use Rattle.ktm_world.specs.Present.{Present}
 use Rattle.ktm_world.specs.World.{decide_tick}
 use Rattle.ktm_built.specs.Standing.{IsBuiltNow, IsStandingNow}
-use Rattle.ktm_built.proofs.Decided.{decided_law}
-use Rattle.ktm_built.proofs.Forms.{forms_law}
+use Rattle.ktm_built.proofs.offered.Decided.{decided_law}
+use Rattle.ktm_built.proofs.offered.Forms.{forms_law}
 use Rattle.ktm_kernel.specs.Done.{Ends, IsDone, TouchesNothing}
 use Rattle.ktm_kernel.specs.Stands.{KernelState, IsPowered, IsReady}
 

@@ -7,8 +7,8 @@ use Rattle.std.specs.List.{list_all}
 use Rattle.std.specs.Prelude.{IsTrue, IfSome, IsSomeAnd}
 use Rattle.ktm_base.specs.declared.limits.TheConstants.{LEAST_UNITS, MOST_UNITS}
 use Rattle.ktm_base.specs.Disk.{DeviceCalls, DiskState, DiskStatus, IsSafe}
-use Rattle.ktm_base.proofs.Images.{safe_law}
-use Rattle.ktm_base.proofs.ToldSteps.{IsSomeAnd-map}
+use Rattle.ktm_base.proofs.offered.Images.{safe_law}
+use Rattle.ktm_base.proofs.offered.ToldSteps.{IsSomeAnd-map}
 use Rattle.ktm_log.specs.declared.area.Area.{Area}
 use Rattle.ktm_log.specs.Log.{LogState}
 use Rattle.ktm_journal.specs.Image.{AreInLog, AreSpelled, JournalState, JournalAt, IsImage, HoldsLog, IsFormatted, StandsFor, LeavesGroupOrNot, left_after, log_area}
@@ -26,15 +26,15 @@ use Rattle.ktm_types.specs.Sizes.{frame_size, log_size}
 use Rattle.ktm_world.specs.Logs.{Group}
 use Rattle.ktm_world.specs.Outcome.{is_full as is_full_in}
 use Rattle.ktm_world.specs.World.{own_group, opened, present}
-use Rattle.ktm_world.proofs.Durables.{stand-append, stand-units, log_applies-append}
-use Rattle.ktm_world.proofs.SizeLemmas.{log_size-append}
+use Rattle.ktm_world.proofs.offered.Durables.{stand-append, stand-units, log_applies-append}
+use Rattle.ktm_world.proofs.offered.SizeLemmas.{log_size-append}
 use Rattle.ktm_built.specs.Laws.{FreshLaw, StandingLaw}
 use Rattle.ktm_built.specs.Standing.{IsStanding, IsStandingNow, fresh}
-use Rattle.ktm_laws.specs.GoodState.{IsGoodState}
-use Rattle.ktm_laws.specs.GoodStates.{GoodStatesLaw}
-use Rattle.ktm_laws.specs.Grammatical.{GrammarLaw, is_grammatical}
+use Rattle.ktm_states.specs.GoodState.{IsGoodState}
+use Rattle.ktm_states.specs.GoodStates.{GoodStatesLaw}
+use Rattle.ktm_states.specs.Grammatical.{GrammarLaw, is_grammatical}
 use Rattle.ktm_laws.specs.Running.{IsRoomy, is_log_grammatical}
-use Rattle.ktm_laws.proofs.Counting.{log-boots, log-events, own-frame, room-for}
+use Rattle.ktm_laws.proofs.offered.LogCounts.{log-boots, log-events, own-frame, room-for}
 use Rattle.ktm_kernel.specs.Memory.{Held, MemoryState, held, now_of}
 use Rattle.ktm_object.specs.Table.{handles_of}
 use Rattle.ktm_world.specs.Tree.{Tree}

@@ -24,9 +24,9 @@ use Rattle.ktm_world.specs.Present.{Present}
 use Rattle.ktm_world.specs.TransactionCalls.{bound_test, commit_transaction, create_transaction, create_transaction_tests, get_transaction_information, handle_test, may_roll_back, no_transaction_left, open_to_transaction, open_transaction, open_transaction_tests, opened_object, quota_test, rollback_transaction, rollback_transaction_tests, transaction_with}
 use Rattle.ktm_world.specs.HandleCalls.{close_handle, close_handle_tests, duplicate_handle, duplicate_handle_tests, exit}
 use Rattle.ktm_world.specs.Handles.{object_at}
-use Rattle.ktm_laws.proofs.Calls.{not-not}
-use Rattle.ktm_laws.proofs.KeysKept.{not_refused}
-use Rattle.ktm_built.proofs.Quiet.{rolls_before_end}
+use Rattle.txf_laws.proofs.offered.Elements.{not-not}
+use Rattle.ktm_owned.proofs.offered.KeysKept.{not_refused}
+use Rattle.ktm_built.proofs.offered.Quiet.{rolls_before_end}
 use Rattle.ktm_kernel.specs.Route.{source_tests}
 use Rattle.ktm_world.specs.Uses.{key_room}
 use Rattle.kv_rm.specs.declared.call.KvCall.TheVariants.{Set, Unset, Get, List as Listing}

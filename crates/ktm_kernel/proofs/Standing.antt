@@ -1,7 +1,7 @@
 -- Parts of what stands.
 use Rattle.std.proofs.Common.{subst}
 use Rattle.ktm_world.specs.Present.{Present}
-use Rattle.ktm_laws.specs.Kept.{IsKept}
+use Rattle.ktm_records.specs.Kept.{IsKept}
 use Rattle.ktm_built.specs.Standing.{IsBuiltNow, IsStandingNow}
 
 -- what a machine keeps of what is so now

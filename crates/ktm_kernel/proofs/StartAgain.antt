@@ -4,8 +4,8 @@ use Rattle.std.specs.Prelude.{Contains, IfOk, IfSome, IsSomeAnd}
 use Rattle.ktm_base.specs.declared.fault.NoMemory.{NoMemory}
 use Rattle.ktm_base.specs.declared.refusal.Refusal.TheVariants.{MachineDown, LogFull}
 use Rattle.ktm_base.specs.Disk.{DiskState}
-use Rattle.ktm_base.proofs.Images.{safe_law, power_law as images_power_law}
-use Rattle.ktm_base.proofs.ToldSteps.{IsSomeAnd-map, IsSomeAnd-step}
+use Rattle.ktm_base.proofs.offered.Images.{safe_law, power_law as images_power_law}
+use Rattle.ktm_base.proofs.offered.ToldSteps.{IsSomeAnd-map, IsSomeAnd-step}
 use Rattle.ktm_journal.specs.Bad.{IsBadAt}
 use Rattle.ktm_journal.specs.Image.{IsHeaded, HoldsLog}
 use Rattle.ktm_journal.proofs.OneImage.{not_bad}
@@ -21,14 +21,14 @@ use Rattle.ktm_forms.proofs.BuiltStates.{built_stand}
 use Rattle.ktm_built.specs.Laws.{StandingLaw}
 use Rattle.ktm_world.specs.Logs.{Group, down, is_up}
 use Rattle.ktm_world.specs.Transcript.{Step, interrupted, found, full, RestartDoes, StartDoes}
-use Rattle.ktm_world.proofs.Durables.{stand-units}
+use Rattle.ktm_world.proofs.offered.Durables.{stand-units}
 use Rattle.ktm_kernel.specs.Restarts.{HoldsBoth, answer_of, base_of, is_full_for_own, Started, LeavesOwnOrNot}
 use Rattle.ktm_kernel.specs.declared.restart.RestartFault.{RestartFault}
 use Rattle.ktm_kernel.specs.declared.restart.RestartFault.TheVariants.{Down, Bad, Full}
 use Rattle.ktm_kernel.specs.Stands.{KernelState, HasFallen, StandsBy, KernelAt, LeavesPossible, DoesLine, FoundAt, PowerLaw, FoundLaw}
 use Rattle.ktm_kernel.proofs.Left.{stands_for}
 use Rattle.ktm_kernel.proofs.Possible.{first_is, Contains-map, in_first, in_second}
-use Rattle.ktm_laws.proofs.Falling.{contains-passes}
+use Rattle.ktm_laws.proofs.offered.PossibleLogs.{contains-passes}
 use Rattle.ktm_kernel.proofs.Worlds.{began_on}
 
 -- what is so now of a machine that is down is the same, whatever is possible on its disk

@@ -10,10 +10,10 @@ use Rattle.ktm_world.specs.Present.{Present}
 use Rattle.ktm_world.specs.Transactions.{same_id, transaction_at, change_at, is_live}
 use Rattle.ktm_world.specs.TransactionCalls.{is_due, later, may_roll_back, with_clock}
 use Rattle.ktm_built.specs.Forms.{ended_aborted, with_rollback, with_tick}
-use Rattle.ktm_built.proofs.Distinct.{Rise, rise-first, rise-found, rise-rest}
-use Rattle.ktm_built.proofs.Timeouts.{in_turn}
+use Rattle.ktm_built.proofs.offered.Distinct.{Rise, rise-first, rise-found, rise-rest}
+use Rattle.ktm_built.proofs.offered.Timeouts.{in_turn}
 use Rattle.ktm_forms.proofs.Ids.{same_id-self}
-use Rattle.ktm_laws.proofs.Tables.{same_id-sym}
+use Rattle.txf_laws.proofs.offered.Tables.{same_id-sym}
 
 -- ---- which are due
 

@@ -6,7 +6,7 @@ use Rattle.ktm_base.specs.declared.fault.NoMemory.{NoMemory}
 use Rattle.ktm_base.specs.declared.id.Pid.{Pid}
 use Rattle.ktm_base.specs.declared.refusal.Refusal.TheVariants.{MachineDown}
 use Rattle.ktm_base.specs.Disk.{DiskState}
-use Rattle.ktm_base.proofs.ToldSteps.{IsSomeAnd-map}
+use Rattle.ktm_base.proofs.offered.ToldSteps.{IsSomeAnd-map}
 use Rattle.ktm_journal.specs.Image.{JournalState, JournalAt, IsImage, HoldsLog}
 use Rattle.ktm_journal.proofs.Images.{what_is_left}
 use Rattle.ktm_types.specs.declared.command.Command.{Command}
@@ -22,11 +22,11 @@ use Rattle.ktm_world.specs.Outcome.{Outcome, apply, first_refusal}
 use Rattle.ktm_world.specs.Present.{Present}
 use Rattle.ktm_world.specs.Transcript.{Step, answered, interrupted, CallDoes, CrashDoes}
 use Rattle.ktm_world.specs.World.{World, present, extend, decide_tick, power_after, crashed, interrupted_by}
-use Rattle.ktm_world.proofs.Worlds.{step_law, refusal_law}
+use Rattle.ktm_world.proofs.offered.Worlds.{step_law, refusal_law}
 use Rattle.ktm_built.specs.Laws.{StandingLaw}
 use Rattle.ktm_built.specs.Standing.{IsStanding}
-use Rattle.ktm_built.proofs.Decided.{decided_law}
-use Rattle.ktm_built.proofs.Outcomes.{events_law}
+use Rattle.ktm_built.proofs.offered.Decided.{decided_law}
+use Rattle.ktm_built.proofs.offered.Outcomes.{events_law}
 use Rattle.ktm_kernel.specs.Stands.{KernelState, Began, Stands, HasFallen, StandsBy, KernelAt, LeavesPossible, DoesLine}
 use Rattle.ktm_kernel.specs.Done.{IsDone, IsCutOff, Ends, fallen}
 use Rattle.ktm_kernel.proofs.Left.{both_apply, both_built, log_is_possible, left_up}

@@ -7,7 +7,7 @@ use Rattle.ktm_built.specs.Forms.{handles_with, with_bound, with_commit_made, wi
 use Rattle.ktm_event.specs.Kept.{EventsState}
 use Rattle.ktm_journal.specs.Image.{JournalState}
 use Rattle.ktm_types.specs.Sizes.{area_len, frame_size, log_size}
-use Rattle.ktm_laws.specs.GoodState.{each_pair}
+use Rattle.txf_laws.specs.Elements.{each_pair}
 use Rattle.ktm_object.specs.Table.{HandleTable, handles_of}
 use Rattle.ktm_tm.specs.TmState.{TmState}
 use Rattle.ktm_types.specs.declared.event.Event.{Event}
@@ -16,7 +16,7 @@ use Rattle.ktm_types.specs.declared.object.Object.{Object}
 use Rattle.ktm_types.specs.declared.object.Transaction.{Transaction}
 use Rattle.ktm_forms.specs.Built.{built_state}
 use Rattle.ktm_world.specs.Durable.{is_before}
-use Rattle.ktm_laws.specs.Reservations.{files_committed}
+use Rattle.txf_laws.specs.Reservations.{files_committed}
 use Rattle.ktm_world.specs.Changes.{changes_apply}
 use Rattle.ktm_world.specs.FileOutcome.{FileOutcome, files_after}
 use Rattle.ktm_world.specs.Files.{FilesNow, OpenFile, own_changes}

@@ -39,25 +39,25 @@ use Rattle.ktm_world.specs.Present.{Present}
 use Rattle.ktm_world.specs.Transactions.{same_id, is_undecided, is_committed}
 use Rattle.ktm_world.specs.Transcript.{Step, answered, interrupted, found, full, Does, CallDoes, IsAnswered, CrashDoes, StartDoes, RestartDoes, Transcript}
 use Rattle.ktm_world.specs.World.{World, present, extend, decide_tick, power_after, possible_logs, done_if, own_events, own_group, is_brought_back, transaction_back, back, opened, interrupted_by, crashed}
-use Rattle.ktm_world.proofs.Durables.{after_events-image, stand-append}
-use Rattle.ktm_world.proofs.SizeLemmas.{log_size-append}
-use Rattle.ktm_laws.specs.Footprint.{IsIn}
-use Rattle.ktm_laws.specs.Outcomes.{OutcomesStay, OutcomesLaw}
+use Rattle.ktm_world.proofs.offered.Durables.{after_events-image, stand-append}
+use Rattle.ktm_world.proofs.offered.SizeLemmas.{log_size-append}
+use Rattle.txf_laws.specs.Elements.{IsIn}
+use Rattle.ktm_courses.specs.Outcomes.{OutcomesStay, OutcomesLaw}
 use Rattle.ktm_laws.specs.Running.{IsRunning, LawfulWorldsLaw, OneOutcomeLaw}
-use Rattle.ktm_laws.specs.SoundCourse.{is_counted, is_outcome_of}
-use Rattle.ktm_laws.specs.SoundCourses.{CoursesLaw}
-use Rattle.ktm_laws.proofs.Agreeing.{summaries}
-use Rattle.ktm_laws.proofs.Counting.{room-for, own-frame}
-use Rattle.ktm_laws.proofs.Diamonds.{IsIn-map}
-use Rattle.ktm_laws.proofs.Elements.{IsIn-filter, IsIn-unflat, list_all-at, list_all-from, list_any-at, list_any-from}
-use Rattle.ktm_laws.proofs.Falling.{contains-passes, left-with, left-all, left-restart}
-use Rattle.ktm_laws.proofs.Honest.{IsHonest, known, honest-decided, honest-ticked}
-use Rattle.ktm_laws.proofs.Lists.{IsIn-unmap}
-use Rattle.ktm_laws.proofs.Makings.{counted-parts}
-use Rattle.ktm_laws.proofs.Moves.{if_cases, same-by_id}
+use Rattle.ktm_courses.specs.SoundCourse.{is_counted, is_outcome_of}
+use Rattle.ktm_courses.specs.SoundCourses.{CoursesLaw}
+use Rattle.ktm_records.proofs.offered.Agreement.{summaries}
+use Rattle.ktm_laws.proofs.offered.LogCounts.{room-for, own-frame}
+use Rattle.txf_laws.proofs.offered.Diamonds.{IsIn-map}
+use Rattle.txf_laws.proofs.offered.Elements.{IsIn-filter, IsIn-unflat, list_all-at, list_all-from, list_any-at, list_any-from}
+use Rattle.ktm_laws.proofs.offered.PossibleLogs.{contains-passes, left-with, left-all, left-restart}
+use Rattle.ktm_laws.proofs.Notes.{IsHonest, known, honest-decided, honest-ticked}
+use Rattle.txf_laws.proofs.offered.Lists.{IsIn-unmap}
+use Rattle.ktm_courses.proofs.offered.NewObjects.{counted-parts}
+use Rattle.ktm_courses.proofs.offered.Moves.{if_cases, same-by_id}
 use Rattle.ktm_laws.proofs.Replies.{HasOutcome, named_id, enlisted_in, is_note, Replies, decided-replies}
-use Rattle.ktm_laws.proofs.SoundRestarts.{booted}
-use Rattle.ktm_laws.proofs.Tables.{same_id-equal, same_id-from, recorded_at-found}
+use Rattle.ktm_courses.proofs.offered.SoundRestarts.{booted}
+use Rattle.txf_laws.proofs.offered.Tables.{same_id-equal, same_id-from, recorded_at-found}
 
 -- ---- what a durable state says of an outcome that was told
 

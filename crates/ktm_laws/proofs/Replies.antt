@@ -13,7 +13,7 @@ use Rattle.ktm_base.specs.declared.notify.Notify.{Notify}
 use Rattle.ktm_base.specs.declared.refusal.Refusal.{Refusal}
 use Rattle.ktm_base.specs.declared.refusal.Refusal.TheVariants.{LogFull, MachineDown, InvalidParameter, TransactionNotActive, TransactionSuperiorExists, TransactionRequestNotValid}
 use Rattle.ktm_base.specs.Guid.{IsId, guid_of}
-use Rattle.ktm_base.proofs.GuidLemmas.{id_read}
+use Rattle.ktm_base.proofs.offered.GuidLemmas.{id_read}
 use Rattle.ktm_types.specs.declared.command.Command.{Command}
 use Rattle.ktm_types.specs.declared.command.Command.TheVariants.{CreateTransaction, OpenTransaction, CommitTransaction, RollbackTransaction, GetTransactionInformation, CreateResourceManager, OpenResourceManager, RecoverResourceManager, GetNotificationResourceManager, CreateEnlistment, OpenEnlistment, RecoverEnlistment, PrePrepareComplete, PrepareComplete, ReadOnlyEnlistment, CommitComplete, RollbackComplete, SinglePhaseReject, RollbackEnlistment, PrePrepareEnlistment, PrepareEnlistment, CommitEnlistment, SetEnlistmentRecoveryInformation, GetEnlistmentRecoveryInformation, CreateFile, CreateFileTransacted, ReadFile, WriteFile, SetEndOfFile, GetFileSizeEx, FlushFileBuffers, DeleteFile, CreateDirectory, RemoveDirectory, MoveFile, DeleteFileTransacted, CreateDirectoryTransacted, RemoveDirectoryTransacted, MoveFileTransacted, FindFiles, FindFilesTransacted, KvSet, KvUnset, KvGet, KvList, CloseHandle, DuplicateHandle, Exit}
 use Rattle.ktm_types.specs.declared.command.View.{View}
@@ -48,19 +48,19 @@ use Rattle.ktm_world.specs.Present.{Present}
 use Rattle.ktm_world.specs.TransactionCalls.{course_of, has_superior, is_superior_kind, no_enlistment_left, quota_test, arrived, bound_test, aborted_by, guid_in, create_transaction, create_transaction_tests, transaction_with, open_to_transaction, open_transaction, open_transaction_tests, commit_of, commit_reply, commit_transaction, rollback_of, rollback_transaction, may_roll_back, information_of, get_transaction_information, create_resource_manager, create_resource_manager_tests, manager_with, open_to_manager, open_resource_manager, open_resource_manager_tests, recover_all, recover_resource_manager, note_reply, take_first, get_notification, enlist, create_enlistment, create_enlistment_tests, enlistment_with, open_to_enlistment, open_enlistment, open_enlistment_tests, transaction_in, goes_on, answering, pre_prepare_complete, prepare_complete, read_only_enlistment, commit_complete, rollback_complete, single_phase_reject, rollback_enlistment, pre_prepare_enlistment, prepare_enlistment, commit_enlistment, recover_enlistment, keep_information, set_information, information_in, get_information}
 use Rattle.ktm_world.specs.Transactions.{transaction_at, is_active, is_committed, is_aborted, is_undecided}
 use Rattle.ktm_world.specs.Uses.{file_room, key_room}
-use Rattle.ktm_laws.specs.Footprint.{IsIn}
+use Rattle.txf_laws.specs.Elements.{IsIn}
 use Rattle.ktm_laws.specs.Notes.{AreNotesTrue}
-use Rattle.ktm_laws.specs.SoundCourse.{IsSoundCourse, is_counted, is_outcome_of}
-use Rattle.ktm_laws.specs.SoundCourses.{CoursesLaw}
-use Rattle.ktm_laws.proofs.Arrivals.{changed_to}
-use Rattle.ktm_laws.proofs.Calls.{Passes, passed, transaction_at-found, and_then-found, manager-named}
-use Rattle.ktm_laws.proofs.Elements.{find-in, list_all-at}
-use Rattle.ktm_laws.proofs.Honest.{says-begun}
-use Rattle.ktm_laws.proofs.Makings.{counted-parts}
-use Rattle.ktm_laws.proofs.Moves.{if_cases, same-by_id}
-use Rattle.ktm_laws.proofs.Outcomes.{changed-itself}
+use Rattle.ktm_courses.specs.SoundCourse.{IsSoundCourse, is_counted, is_outcome_of}
+use Rattle.ktm_courses.specs.SoundCourses.{CoursesLaw}
+use Rattle.ktm_courses.proofs.offered.Arrivals.{changed_to}
+use Rattle.ktm_courses.proofs.offered.Calls.{Passes, passed, transaction_at-found, and_then-found, manager-named}
+use Rattle.txf_laws.proofs.offered.Elements.{find-in, list_all-at}
+use Rattle.ktm_laws.proofs.Notes.{says-begun}
+use Rattle.ktm_courses.proofs.offered.NewObjects.{counted-parts}
+use Rattle.ktm_courses.proofs.offered.Moves.{if_cases, same-by_id}
+use Rattle.ktm_courses.proofs.offered.Outcomes.{changed-itself}
 use Rattle.ktm_laws.proofs.Sayings.{naming, to_commit-ends}
-use Rattle.ktm_laws.proofs.Tables.{same_id-from}
+use Rattle.txf_laws.proofs.offered.Tables.{same_id-from}
 
 -- ---- what is told of a transaction
 

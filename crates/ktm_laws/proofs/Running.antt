@@ -27,32 +27,33 @@ use Rattle.ktm_world.specs.Present.{Present}
 use Rattle.ktm_world.specs.Transcript.{Step, answered, interrupted, found, full, Finds, CallDoes, IsAnswered, CrashDoes, RestartDoes, Does, Transcript}
 use Rattle.ktm_world.specs.Uses.{changes_waiting, is_over_quota, is_over_disk}
 use Rattle.ktm_world.specs.World.{World, OpenedAfter, committed, first_open_now, present, extend, after, decide_tick, possible_logs, interrupted_by, crashed, own_group, interrupted_restart, found_full, opened}
-use Rattle.ktm_world.proofs.Durables.{stand-append, stand-as_groups, log_applies-append, log_applies-as_groups}
-use Rattle.ktm_world.proofs.SizeLemmas.{log_size-append}
-use Rattle.ktm_laws.specs.Agreeing.{AgreeingLaw}
-use Rattle.ktm_laws.specs.Footprint.{IsIn, ListsLaw}
-use Rattle.ktm_laws.specs.Formed.{FormedLaw}
-use Rattle.ktm_laws.specs.GoodState.{IsGoodState}
-use Rattle.ktm_laws.specs.GoodStates.{GoodStatesLaw}
-use Rattle.ktm_laws.specs.Grammatical.{names_objects, is_grammatical}
-use Rattle.ktm_laws.specs.Kept.{IsWithin, are_carried_out, facts_apply, limits_hold}
-use Rattle.ktm_laws.specs.NamedObjects.{NamedLaw}
+use Rattle.ktm_world.proofs.offered.Durables.{stand-append, stand-as_groups, log_applies-append, log_applies-as_groups}
+use Rattle.ktm_world.proofs.offered.SizeLemmas.{log_size-append}
+use Rattle.ktm_records.specs.Agreement.{AgreeingLaw}
+use Rattle.txf_laws.specs.Elements.{IsIn}
+use Rattle.txf_laws.specs.Footprint.{ListsLaw}
+use Rattle.txf_laws.specs.Formed.{FormedLaw}
+use Rattle.ktm_states.specs.GoodState.{IsGoodState}
+use Rattle.ktm_states.specs.GoodStates.{GoodStatesLaw}
+use Rattle.ktm_states.specs.Grammatical.{names_objects, is_grammatical}
+use Rattle.ktm_records.specs.Kept.{IsWithin, are_carried_out, facts_apply, limits_hold}
+use Rattle.ktm_courses.specs.NamedObjects.{NamedLaw}
 use Rattle.ktm_laws.specs.Notes.{AreNotesTrue, NotesLaw}
-use Rattle.ktm_laws.specs.OwnGroup.{OwnGroupLaw}
-use Rattle.ktm_laws.specs.OwnKeys.{OwnKeysLaw}
-use Rattle.ktm_laws.specs.RecordedFacts.{RecordedFactsLaw}
+use Rattle.ktm_states.specs.OwnGroup.{OwnGroupLaw}
+use Rattle.ktm_owned.specs.OwnKeys.{OwnKeysLaw}
+use Rattle.ktm_records.specs.RecordedFacts.{RecordedFactsLaw}
 use Rattle.ktm_laws.specs.Running.{IsRoomy, is_log_grammatical, is_good_log, is_last_since, IsRunning, LawfulWorldsLaw}
-use Rattle.ktm_laws.specs.SoundFiles.{files_apart, is_open_last, set_apart}
-use Rattle.ktm_laws.specs.SoundWorlds.{IsSound, SoundWorldsLaw}
-use Rattle.ktm_laws.specs.LimitsKept.{AreVersionsFixed, LimitsLaw}
-use Rattle.ktm_laws.proofs.Counting.{apply-from, frame-counts, log-events, room-for, within-log, log-grows, own-grammatical, own-frame, own-applies}
-use Rattle.ktm_laws.proofs.Diamonds.{IsIn-map}
-use Rattle.ktm_laws.proofs.Elements.{list_all-at, list_all-from}
-use Rattle.ktm_laws.proofs.Falling.{contains-passes, left-with, kept-all, left-extend, left-restart}
-use Rattle.ktm_laws.proofs.Lasting.{last-extend}
-use Rattle.ktm_laws.proofs.Passing.{All-by}
+use Rattle.txf_laws.specs.SoundFiles.{files_apart, is_open_last, set_apart}
+use Rattle.ktm_records.specs.SoundWorlds.{IsSound, SoundWorldsLaw}
+use Rattle.ktm_limits.specs.LimitsKept.{AreVersionsFixed, LimitsLaw}
+use Rattle.ktm_laws.proofs.offered.LogCounts.{apply-from, frame-counts, log-events, room-for, within-log, log-grows, own-grammatical, own-frame, own-applies}
+use Rattle.txf_laws.proofs.offered.Diamonds.{IsIn-map}
+use Rattle.txf_laws.proofs.offered.Elements.{list_all-at, list_all-from}
+use Rattle.ktm_laws.proofs.offered.PossibleLogs.{contains-passes, left-with, kept-all, left-extend, left-restart}
+use Rattle.ktm_laws.proofs.LastVersions.{last-extend}
+use Rattle.txf_laws.proofs.offered.CommitsOfOthers.{All-by}
 use Rattle.ktm_laws.proofs.Sayings.{puts_all}
-use Rattle.ktm_laws.proofs.Starts.{good-log-from, running-opened}
+use Rattle.ktm_laws.proofs.offered.Starts.{good-log-from, running-opened}
 use Rattle.ktm_laws.proofs.Written.{IsWritten, MakesNone, written-decided, written-ticked}
 
 -- ---- logs

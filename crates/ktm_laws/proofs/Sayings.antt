@@ -18,16 +18,16 @@ use Rattle.ktm_world.specs.Enlistments.{Enlistment, Sent, pre_prepare, prepare, 
 use Rattle.ktm_world.specs.OneOutcome.{told_by, told_outcome}
 use Rattle.ktm_world.specs.Phases.{Course, has_settings, event_if, telling, recording, recorded, in_phase, decided, owing, unchanged, enlistment_part, finished, recovering, superior, some_enlistment, participants, work_of, someone_owes, is_single_phase, is_its_superior, is_caller, end_notice, ended, ended_if_finished, committing, aborting, ready_parts, readied, held_or_committing, all_ready, preparing, single, one_phase, one_participant, prepare_alone, to_prepare, pre_prepared, to_pre_prepare, to_commit, when_none_owes, changing_one, ready_of_enlistment, pre_prepare_answered, prepare_answered, without_its_answer, read_only_answered, single_phase_rejected, commit_answered, rollback_answered, recovered as recovered_by, recovered_in}
 use Rattle.ktm_world.specs.Transactions.{same_id}
-use Rattle.ktm_laws.specs.Footprint.{IsIn}
-use Rattle.ktm_laws.specs.GoodState.{puts_some}
-use Rattle.ktm_laws.specs.Grammatical.{changes_of_event}
-use Rattle.ktm_laws.specs.SoundCourse.{is_outcome_of}
-use Rattle.ktm_laws.proofs.Diamonds.{IsIn-map}
-use Rattle.ktm_laws.proofs.Elements.{IsIn-filter}
-use Rattle.ktm_laws.proofs.Lists.{IsIn-cases, IsIn-unmap}
-use Rattle.ktm_laws.proofs.Moves.{if_cases}
-use Rattle.ktm_laws.proofs.Outcomes.{committed-outcome, aborted-outcome}
-use Rattle.ktm_laws.proofs.Tables.{same_id-equal}
+use Rattle.txf_laws.specs.Elements.{IsIn}
+use Rattle.txf_laws.specs.Contents.{puts_some}
+use Rattle.ktm_states.specs.Grammatical.{changes_of_event}
+use Rattle.ktm_courses.specs.SoundCourse.{is_outcome_of}
+use Rattle.txf_laws.proofs.offered.Diamonds.{IsIn-map}
+use Rattle.txf_laws.proofs.offered.Elements.{IsIn-filter}
+use Rattle.txf_laws.proofs.offered.Lists.{IsIn-cases, IsIn-unmap}
+use Rattle.ktm_courses.proofs.offered.Moves.{if_cases}
+use Rattle.ktm_courses.proofs.offered.Outcomes.{committed-outcome, aborted-outcome}
+use Rattle.txf_laws.proofs.offered.Tables.{same_id-equal}
 
 -- ---- names, and what is put
 

@@ -4,15 +4,15 @@ use Rattle.ktm_world.specs.Decide.{decide}
 use Rattle.ktm_world.specs.Laws.{FirstOpensLaw, StepLaw}
 use Rattle.ktm_world.specs.Outcome.{Outcome, apply}
 use Rattle.ktm_world.specs.World.{World, present, extend, decide_tick}
-use Rattle.ktm_laws.specs.FilesKept.{FilesKeptLaw}
-use Rattle.ktm_laws.specs.Footprint.{ListsLaw}
-use Rattle.ktm_laws.specs.Formed.{FormedLaw}
-use Rattle.ktm_laws.specs.OwnKeys.{OwnKeysLaw}
-use Rattle.ktm_laws.specs.SoundCourses.{CoursesLaw}
-use Rattle.ktm_laws.specs.SoundWorlds.{IsSound, IsSoundWorld, SoundWorldsLaw}
-use Rattle.ktm_laws.proofs.Arriving.{named}
-use Rattle.ktm_laws.proofs.KeysKept.{same}
-use Rattle.ktm_laws.proofs.Releasing.{unchanged}
+use Rattle.ktm_owned.specs.FilesKept.{FilesKeptLaw}
+use Rattle.txf_laws.specs.Footprint.{ListsLaw}
+use Rattle.txf_laws.specs.Formed.{FormedLaw}
+use Rattle.ktm_owned.specs.OwnKeys.{OwnKeysLaw}
+use Rattle.ktm_courses.specs.SoundCourses.{CoursesLaw}
+use Rattle.ktm_records.specs.SoundWorlds.{IsSound, IsSoundWorld, SoundWorldsLaw}
+use Rattle.txf_laws.proofs.offered.Reservations.{named}
+use Rattle.ktm_owned.proofs.offered.KeysKept.{same}
+use Rattle.ktm_owned.proofs.offered.EndedTransactions.{unchanged}
 
 module _ (step : StepLaw) (openings : FirstOpensLaw) (lists : ListsLaw) (formed : FormedLaw) (courses : CoursesLaw) (keys : OwnKeysLaw) (files : FilesKeptLaw) where
   -- an outcome that keeps what is so now sound keeps the world so

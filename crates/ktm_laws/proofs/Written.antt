@@ -51,23 +51,24 @@ use Rattle.ktm_world.specs.Transactions.{transaction_at, is_active, is_undecided
 use Rattle.ktm_world.specs.Tree.{Tree, is_file}
 use Rattle.ktm_world.specs.Uses.{file_room}
 use Rattle.ktm_world.specs.World.{decide_tick}
-use Rattle.ktm_laws.specs.Footprint.{IsIn, ListsLaw}
-use Rattle.ktm_laws.specs.Formed.{FormedLaw}
-use Rattle.ktm_laws.specs.GoodState.{puts_some}
-use Rattle.ktm_laws.specs.SoundCourse.{IsSoundCourse}
-use Rattle.ktm_laws.specs.SoundFiles.{IsSoundFiles, is_drawn_node, numbers_made}
-use Rattle.ktm_laws.proofs.PlainFacts.{MayLand, lands-none, lands-one, lands-created, may-land}
-use Rattle.ktm_laws.proofs.Applying.{applies-from}
-use Rattle.ktm_laws.proofs.Calls.{Passes, passed, not-not}
-use Rattle.ktm_laws.proofs.Elements.{IsIn-flat_map, IsIn-kept, list_all-at, list_any-from}
-use Rattle.ktm_laws.proofs.Honest.{Comes, comes-effect}
-use Rattle.ktm_laws.proofs.Moves.{if_cases}
-use Rattle.ktm_laws.proofs.OpenCalls.{file-in, own-passes, lands-written}
-use Rattle.ktm_laws.proofs.OwnCalls.{caller-may}
-use Rattle.ktm_laws.proofs.PlainCalls.{plain-deleted, plain-removed, plain-made, plain-moved}
-use Rattle.ktm_laws.proofs.Reserving.{own-apply, own_changes-by}
+use Rattle.txf_laws.specs.Elements.{IsIn}
+use Rattle.txf_laws.specs.Footprint.{ListsLaw}
+use Rattle.txf_laws.specs.Formed.{FormedLaw}
+use Rattle.txf_laws.specs.Contents.{puts_some}
+use Rattle.ktm_courses.specs.SoundCourse.{IsSoundCourse}
+use Rattle.txf_laws.specs.SoundFiles.{IsSoundFiles, is_drawn_node, numbers_made}
+use Rattle.ktm_records.proofs.offered.PlainFacts.{MayLand, lands-none, lands-one, lands-created, may-land}
+use Rattle.txf_laws.proofs.offered.ChangeTests.{applies-from}
+use Rattle.ktm_courses.proofs.offered.Calls.{Passes, passed}
+use Rattle.txf_laws.proofs.offered.Elements.{IsIn-flat_map, IsIn-kept, list_all-at, list_any-from, not-not}
+use Rattle.ktm_laws.proofs.Notes.{Comes, comes-effect}
+use Rattle.ktm_courses.proofs.offered.Moves.{if_cases}
+use Rattle.ktm_owned.proofs.offered.OpenCalls.{file-in, own-passes, lands-written}
+use Rattle.ktm_owned.proofs.offered.OwnCalls.{caller-may}
+use Rattle.ktm_owned.proofs.offered.PlainCalls.{plain-deleted, plain-removed, plain-made, plain-moved}
+use Rattle.txf_laws.proofs.offered.Reservations.{own-apply, own_changes-by}
 use Rattle.ktm_laws.proofs.Sayings.{puts_all}
-use Rattle.ktm_laws.proofs.Seeing.{below-next}
+use Rattle.ktm_owned.proofs.offered.SeenFiles.{below-next}
 
 -- ---- what is committed
 

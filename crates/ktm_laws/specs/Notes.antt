@@ -11,8 +11,8 @@ use Rattle.ktm_world.specs.OneOutcome.{told_by, told_outcome}
 use Rattle.ktm_world.specs.Outcome.{apply}
 use Rattle.ktm_world.specs.Present.{Present, Transactions}
 use Rattle.ktm_world.specs.World.{World, present, opened, decide_tick}
-use Rattle.ktm_laws.specs.Footprint.{IsIn}
-use Rattle.ktm_laws.specs.SoundCourse.{IsSoundCourse}
+use Rattle.txf_laws.specs.Elements.{IsIn}
+use Rattle.ktm_courses.specs.SoundCourse.{IsSoundCourse}
 
 -- the enlistment of a notification is there, and its transaction, with the outcome that is told
 pub record IsToldTruly (ts : Transactions) (note : Note) (committed : Bool) : Type 0 where

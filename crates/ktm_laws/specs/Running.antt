@@ -17,11 +17,11 @@ use Rattle.ktm_world.specs.Outcome.{is_full}
 use Rattle.ktm_world.specs.Transcript.{Step, Finds, Does, Transcript}
 use Rattle.ktm_world.specs.Tree.{IsWellFormed}
 use Rattle.ktm_world.specs.World.{World, OpenedAfter, first_open_now, present, extend, after, decide_tick, interrupted_by, crashed, own_group, interrupted_restart, found_full, opened, possible_logs}
-use Rattle.ktm_laws.specs.GoodState.{IsGoodState}
-use Rattle.ktm_laws.specs.Grammatical.{is_grammatical}
-use Rattle.ktm_laws.specs.Kept.{IsKept}
+use Rattle.ktm_states.specs.GoodState.{IsGoodState}
+use Rattle.ktm_states.specs.Grammatical.{is_grammatical}
+use Rattle.ktm_records.specs.Kept.{IsKept}
 use Rattle.ktm_laws.specs.Notes.{AreNotesTrue}
-use Rattle.ktm_laws.specs.LimitsKept.{AreVersionsFixed}
+use Rattle.ktm_limits.specs.LimitsKept.{AreVersionsFixed}
 
 -- the log has fewer bytes than there are events and boots to the ends of their counts
 pub record IsRoomy (base : Durable) (room : ℕ) : Type 0 where

@@ -14,9 +14,9 @@ use Rattle.ktm_links.specs.Items.{Listed, IsSpent as IsSpentKey, Item, item, sam
 use Rattle.ktm_links.specs.Mapped.{Mapped, IsSpent, NameAndValue, NamedItem, name_cmp, at, first_from, key_at, put, without_name, value_of, IsFirstOf, IsNoneOf, IsNotBelow}
 use Rattle.ktm_links.specs.Order.{order_in, order_at, entries_of, AreAbove, IsRising, ArePresent, HasKey, IsInOrder, IsFirstNotBelow}
 use Rattle.ktm_links.proofs.Blocks.{no_key}
-use Rattle.ktm_links.proofs.Names.{less_equal, index_rises, name_equal, name_same, from_is_eq}
-use Rattle.ktm_links.proofs.Keys.{on_some, same_key-true, same_key-self, some_of, none_of, value_at-kept, value_at-last, value_at-others, value_at-append}
-use Rattle.ktm_links.proofs.Entries.{key_at-at, key_at-same, key_at-less, key_at-differs, put-lower, put-higher, rising_put, without_name-same, without_name-less, at-same, at-less, rising_without, value_of-same, value_of-other, first_from-least, first_from-nothing}
+use Rattle.ktm_links.proofs.offered.Names.{less_equal, index_rises, name_equal, name_same, from_is_eq}
+use Rattle.ktm_links.proofs.offered.Keys.{on_some, same_key-true, same_key-self, some_of, none_of, value_at-kept, value_at-last, value_at-others, value_at-append}
+use Rattle.ktm_links.proofs.offered.Entries.{key_at-at, key_at-same, key_at-less, key_at-differs, put-lower, put-higher, rising_put, without_name-same, without_name-less, at-same, at-less, rising_without, value_of-same, value_of-other, first_from-least, first_from-nothing}
 
 HasKey-inserted : (ks : List Key) (i : ℕ) (key other : Key) → (key ≡ other) ⊎ HasKey other ks → HasKey other (take i ks ++ key ∷ drop i ks)
 HasKey-inserted ks zero key other has = has

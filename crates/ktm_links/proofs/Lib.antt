@@ -1,11 +1,6 @@
-pub mod Blocks
-pub mod Comparing
-pub mod Entries
-pub mod Found
-pub mod InOrder
-pub mod Indexes
-pub mod Keys
-pub mod Linked
-pub mod Names
-pub mod Numbers
-pub mod Segments
+mod Blocks
+mod Found
+mod InOrder
+mod Linked
+mod Segments
+pub mod offered

@@ -9,7 +9,7 @@ use Rattle.ktm_links.specs.Items.{Item, item, value_at, with_value, without}
 use Rattle.ktm_links.specs.Links.{first_place, last_place, entry_of, Segment, HasPlace, HasDistinctPlaces, IsBelow, IsLinked}
 use Rattle.ktm_links.specs.Entry.{SetsAfter, SetsBefore, SetsValue, beside_or, value_of}
 use Rattle.ktm_links.proofs.Segments.{HasPlace-cases, Segment-present, Segment-append, HasPlace-append, distinct_parts, revalued, unlinked}
-use Rattle.ktm_links.proofs.Keys.{other_place, other_generation, value_at-same, value_at-other, IsSplit}
+use Rattle.ktm_links.proofs.offered.Keys.{other_place, other_generation, value_at-same, value_at-other, IsSplit}
 
 module _ {T : Type 0} where
   pub value_at-absent : (xs : List (Item T)) (key : Key) → (HasPlace key.place xs → ⊥) → value_at xs key ≡ None

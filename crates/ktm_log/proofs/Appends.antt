@@ -7,7 +7,7 @@ use Rattle.ktm_log.specs.declared.area.Area.{Area}
 use Rattle.ktm_log.specs.Log.{Rests, LeavesEither, SameElsewhere, IsLog, area_bytes, end_of}
 use Rattle.ktm_log.specs.Settle.{Settled, Tore, IsBodyOf, behind_gate}
 use Rattle.std.proofs.lemmas.List.{get_or-take}
-use Rattle.ktm_base.proofs.Images.{same_written}
+use Rattle.ktm_base.proofs.offered.Images.{same_written}
 use Rattle.ktm_log.proofs.Parts.{area_written, area_same, elsewhere_same, elsewhere_trans, length-area}
 use Rattle.ktm_log.proofs.Frames.{Staged, first_at, gate_opened, gate_either, log_torn_behind, end_of-push}
 

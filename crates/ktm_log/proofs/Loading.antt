@@ -9,8 +9,8 @@ use Rattle.ktm_log.specs.Log.{area_bytes, size_at, IsClosed, IsTorn, IsFrame, Is
 use Rattle.ktm_log.specs.Load.{EndFrames, IsRead, Loads, WentOn, pieces}
 use Rattle.ktm_log.proofs.Parts.{area_part, length-area}
 use Rattle.ktm_log.proofs.Frames.{first_at, begins-push, end_of-push}
-use Rattle.ktm_base.proofs.Images.{calls_law}
-use Rattle.ktm_base.proofs.ToldSteps.{IfSome-map}
+use Rattle.ktm_base.proofs.offered.Images.{calls_law}
+use Rattle.ktm_base.proofs.offered.ToldSteps.{IfSome-map}
 use Rattle.ktm_log.proofs.Payloads.{front_at, went_on_trans, size_went_on, begins_went_on, log_went_on, none_closed, payloads_are}
 use Rattle.ktm_log.proofs.Steps.{IfSome-both}
 

@@ -4,7 +4,7 @@ use Rattle.std.proofs.lemmas.Grind.{same_number_lists}
 use Rattle.std.proofs.lemmas.List.{take_at, drop_at, length-take-le, take-take, drop-take, drop-drop, get_or-take, get_or-drop, get_or_past}
 use Rattle.std.proofs.lemmas.Bool.{cases_lt}
 use Rattle.std.proofs.lemmas.Bool.Decides.{nat_tests}
-use Rattle.ktm_base.proofs.Images.{outside}
+use Rattle.ktm_base.proofs.offered.Images.{outside}
 use Rattle.ktm_base.specs.Bytes.{SameOutside, written, covers}
 use Rattle.ktm_log.specs.declared.area.Area.{Area}
 use Rattle.ktm_log.specs.Log.{area_bytes, SameElsewhere}

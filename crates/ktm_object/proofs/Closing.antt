@@ -10,8 +10,8 @@ use Rattle.ktm_links.specs.declared.list.Key.{Key}
 use Rattle.ktm_links.specs.Items.{Item, same_key, value_at, without}
 use Rattle.ktm_links.specs.Mapped.{NamedItem, key_under}
 use Rattle.ktm_links.specs.Indexed.{values_of, AreNamed, IsIndex}
-use Rattle.ktm_links.proofs.Indexes.{named_at}
-use Rattle.ktm_links.proofs.Keys.{on_some, same_key-true, same_key-self}
+use Rattle.ktm_links.proofs.offered.Indexes.{named_at}
+use Rattle.ktm_links.proofs.offered.Keys.{on_some, same_key-true, same_key-self}
 use Rattle.ktm_object.specs.declared.entry.Entry.{Entry}
 use Rattle.ktm_object.specs.Table.{handle_of, entry_at, without_entry}
 use Rattle.ktm_object.specs.Names.{label_bytes, label_name}

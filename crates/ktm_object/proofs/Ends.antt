@@ -8,14 +8,14 @@ use Rattle.ktm_links.specs.declared.list.Key.{Key}
 use Rattle.ktm_links.specs.Items.{Item, same_key, value_at, with_value}
 use Rattle.ktm_links.specs.Mapped.{NamedItem, Begins, IsNotBelow, key_under}
 use Rattle.ktm_links.specs.Indexed.{values_of, AreDistinct, AreNamed, IsIndex, IsFirstUnder, IsNoneUnder}
-use Rattle.ktm_links.proofs.Keys.{same_key-true, same_key-self, value_at-with_other, cases_key}
-use Rattle.ktm_links.proofs.Names.{begins_between, begins_not_below}
+use Rattle.ktm_links.proofs.offered.Keys.{same_key-true, same_key-self, value_at-with_other, cases_key}
+use Rattle.ktm_links.proofs.offered.Names.{begins_between, begins_not_below}
 use Rattle.ktm_object.specs.declared.entry.Entry.{Entry}
 use Rattle.ktm_object.specs.declared.name.Owner.{Owner}
 use Rattle.ktm_object.specs.Table.{handle_of, ended, ended_group}
 use Rattle.ktm_object.specs.Names.{label_name, group_name, group_owner, owner_bytes}
 use Rattle.ktm_object.specs.Ending.{AreAllEnded, AreEnded, after, group_bytes, name_in}
-use Rattle.ktm_links.proofs.Comparing.{above_next, not_below_upto}
+use Rattle.ktm_links.proofs.offered.Comparing.{above_next, not_below_upto}
 use Rattle.ktm_object.proofs.Owners.{owner_begins}
 
 -- ---- names of a group

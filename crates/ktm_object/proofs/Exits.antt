@@ -11,8 +11,8 @@ use Rattle.ktm_links.specs.declared.list.Key.{Key}
 use Rattle.ktm_links.specs.Items.{Item, same_key, value_at, without}
 use Rattle.ktm_links.specs.Mapped.{NamedItem, Begins, IsNotBelow, key_under}
 use Rattle.ktm_links.specs.Indexed.{values_of, AreDistinct, AreNamed, IsIndex, IsFirstUnder, IsNoneUnder}
-use Rattle.ktm_links.proofs.Indexes.{value_at-gone}
-use Rattle.ktm_links.proofs.Keys.{same_key-true}
+use Rattle.ktm_links.proofs.offered.Indexes.{value_at-gone}
+use Rattle.ktm_links.proofs.offered.Keys.{same_key-true}
 use Rattle.ktm_object.specs.declared.entry.Entry.{Entry}
 use Rattle.ktm_object.specs.Table.{handle_of}
 use Rattle.ktm_object.specs.Names.{label_bytes, label_name}

@@ -8,7 +8,7 @@ use Rattle.ktm_links.specs.declared.list.Key.{Key}
 use Rattle.ktm_links.specs.Items.{Item}
 use Rattle.ktm_links.specs.Mapped.{NamedItem, key_at, key_under}
 use Rattle.ktm_links.specs.Indexed.{values_of, IsIndex}
-use Rattle.ktm_links.proofs.Indexes.{key_at-free, named_at, option_cases}
+use Rattle.ktm_links.proofs.offered.Indexes.{key_at-free, named_at, option_cases}
 use Rattle.ktm_object.specs.declared.entry.Entry.{Entry}
 use Rattle.ktm_object.specs.declared.name.Owner.{Owner}
 use Rattle.ktm_object.specs.Table.{handle_of}

@@ -11,7 +11,7 @@ use Rattle.ktm_links.specs.declared.list.Key.{Key}
 use Rattle.ktm_links.specs.Items.{Item, same_key, value_at}
 use Rattle.ktm_links.specs.Mapped.{NamedItem, key_under}
 use Rattle.ktm_links.specs.Indexed.{values_of, AreNamed, IsIndex}
-use Rattle.ktm_links.proofs.Keys.{same_key-self}
+use Rattle.ktm_links.proofs.offered.Keys.{same_key-self}
 use Rattle.ktm_object.specs.declared.entry.Entry.{Entry}
 use Rattle.ktm_object.specs.Table.{handle_of, entry_at}
 use Rattle.ktm_object.specs.declared.name.Owner.{Owner}

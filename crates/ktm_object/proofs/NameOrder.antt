@@ -12,7 +12,7 @@ use Rattle.ktm_links.specs.Mapped.{IsNotBelow}
 use Rattle.ktm_object.specs.Ending.{after, labels_after, name_in, IsInRange}
 use Rattle.ktm_object.specs.declared.name.Owner.{Owner}
 use Rattle.ktm_object.specs.Names.{group_owner, label_bytes, owner_bytes}
-use Rattle.ktm_links.proofs.Comparing.{level}
+use Rattle.ktm_links.proofs.offered.Comparing.{level}
 
 -- ---- labels
 

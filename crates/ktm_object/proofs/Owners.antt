@@ -16,7 +16,7 @@ use Rattle.ktm_object.specs.declared.entry.Entry.{Entry}
 use Rattle.ktm_object.specs.declared.name.Owner.{Owner}
 use Rattle.ktm_object.specs.Table.{handle_of}
 use Rattle.ktm_object.specs.Names.{label_name, object_name, object_owner, owner_bytes}
-use Rattle.ktm_links.proofs.Numbers.{number_from}
+use Rattle.ktm_links.proofs.offered.Numbers.{number_from}
 
 -- ---- names by owner
 

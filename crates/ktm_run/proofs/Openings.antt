@@ -5,8 +5,8 @@ use Rattle.std.proofs.lemmas.List.{append-nil}
 use Rattle.ktm_base.specs.declared.limits.TheConstants.{MOST_UNITS, NEW_UNITS}
 use Rattle.ktm_base.specs.Disk.{DiskState, DiskStatus, DeviceCalls, MayLeave, IsSafe}
 use Rattle.ktm_base.specs.Told.{Goes}
-use Rattle.ktm_base.proofs.Images.{safe_law}
-use Rattle.ktm_base.proofs.ToldSteps.{IsSomeAnd-map, IsSomeAnd-step}
+use Rattle.ktm_base.proofs.offered.Images.{safe_law}
+use Rattle.ktm_base.proofs.offered.ToldSteps.{IsSomeAnd-map, IsSomeAnd-step}
 use Rattle.ktm_journal.specs.Bad.{IsBadAt}
 use Rattle.ktm_journal.specs.Image.{HoldsLog, IsHeaded, StandsFor, left_after}
 use Rattle.ktm_journal.proofs.OneImage.{not_bad}
@@ -19,8 +19,8 @@ use Rattle.ktm_run.specs.declared.fault.OpenFault.TheVariants as opening
 use Rattle.ktm_run.specs.Opening.{Prepared, open_fault_of}
 use Rattle.ktm_run.specs.Theorem.{Begins, BeginsAs, BeginsWith, LeavesOpening, RunCounts}
 use Rattle.ktm_world.specs.Durable.{Durable, empty_state, stand}
-use Rattle.ktm_world.proofs.Durables.{stand-append, stand-units, stand-image}
-use Rattle.ktm_world.proofs.SizeLemmas.{log_size-append}
+use Rattle.ktm_world.proofs.offered.Durables.{stand-append, stand-units, stand-image}
+use Rattle.ktm_world.proofs.offered.SizeLemmas.{log_size-append}
 use Rattle.ktm_world.specs.Outcome.{is_full}
 use Rattle.ktm_types.specs.Sizes.{log_size}
 use Rattle.ktm_world.specs.Logs.{Group}

@@ -8,7 +8,7 @@ use Rattle.ktm_base.specs.declared.power.PowerCall.{PowerCall}
 use Rattle.ktm_base.specs.declared.power.PowerCall.TheVariants.{Power}
 use Rattle.ktm_base.specs.Count.{Rose}
 use Rattle.ktm_base.specs.Disk.{DiskState, DiskStatus, HasLengths}
-use Rattle.ktm_base.proofs.Images.{seen_law}
+use Rattle.ktm_base.proofs.offered.Images.{seen_law}
 use Rattle.ktm_kernel.specs.Stands.{KernelState, KernelAt, LeavesStates}
 use Rattle.ktm_kernel.proofs.Left.{left_law}
 use Rattle.ktm_run.specs.declared.status.Status.{Status}

@@ -24,7 +24,7 @@ use Rattle.ktm_world.specs.Transactions.{is_live}
 use Rattle.ktm_world.specs.FileUses.{file_changes_waiting, nodes_used, units_used}
 use Rattle.ktm_world.specs.Uses.{changes_waiting, file_room, is_over_disk, is_over_quota}
 use Rattle.ktm_world.specs.Laws.{FilesLaw}
-use Rattle.ktm_world.proofs.Worlds.{filter_all}
+use Rattle.ktm_world.proofs.offered.Worlds.{filter_all}
 
 -- ---- the files
 

@@ -1,10 +1,5 @@
-pub mod SizeLemmas
-pub mod Durables
-pub mod KeyLemmas
-pub mod Stores
-pub mod Worlds
+mod Stores
 mod FileLaws
-pub mod Texts
-pub mod Transcripts
-pub mod Computing
-pub mod Lookups
+mod Texts
+mod Transcripts
+pub mod offered

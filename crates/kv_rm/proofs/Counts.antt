@@ -10,7 +10,7 @@ use Rattle.ktm_keyed.specs.declared.keyed.Slot.{Slot}
 use Rattle.ktm_keyed.specs.declared.keyed.Slot.TheVariants.{Here, Free}
 use Rattle.ktm_keyed.specs.Keyed.{put, value_at}
 use Rattle.ktm_world.specs.Keys.{Own, OwnSettings, own_settings, with_own, without_own}
-use Rattle.ktm_world.proofs.KeyLemmas.{counted-without_own}
+use Rattle.ktm_world.proofs.offered.KeyLemmas.{counted-without_own}
 use Rattle.ktm_keyed.specs.Slot.{IsSlot}
 use Rattle.kv_rm.specs.Count.{kind_of, is_of_kind, one_of, own_count, AreCounts}
 use Rattle.kv_rm.specs.declared.count.Counts.{Counts}

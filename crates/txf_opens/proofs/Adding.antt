@@ -12,10 +12,10 @@ use Rattle.txf_opens.specs.Indexed.{is_any, is_denying_read, is_denying_write, i
 use Rattle.txf_opens.specs.Names.{number_name, use_name}
 use Rattle.txf_opens.specs.OpensState.{open_of}
 use Rattle.txf_opens.proofs.Bytes.{use_name-tells}
-use Rattle.ktm_links.proofs.Comparing.{cases_name}
+use Rattle.ktm_links.proofs.offered.Comparing.{cases_name}
 use Rattle.txf_opens.proofs.Found.{one_key}
-use Rattle.ktm_links.proofs.Indexes.{option_cases}
-use Rattle.ktm_links.proofs.Keys.{cases_key}
+use Rattle.ktm_links.proofs.offered.Indexes.{option_cases}
+use Rattle.ktm_links.proofs.offered.Keys.{cases_key}
 
 -- ---- one more
 -- the open file has the key now, and each other key what it had

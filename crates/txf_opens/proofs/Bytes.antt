@@ -8,7 +8,7 @@ use Rattle.ktm_world.specs.Transactions.{is_of}
 use Rattle.ktm_links.specs.Mapped.{Begins}
 use Rattle.ktm_links.specs.Numbers.{number_bytes, long_bytes}
 use Rattle.txf_opens.specs.Names.{boot_of, group_bytes, group_name, kind_of, number_name, number_of, use_name}
-use Rattle.ktm_links.proofs.Numbers.{number_from}
+use Rattle.ktm_links.proofs.offered.Numbers.{number_from}
 
 -- ---- numbers
 

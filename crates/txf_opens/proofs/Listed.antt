@@ -7,7 +7,7 @@ use Rattle.ktm_world.specs.Files.{OpenFile}
 use Rattle.ktm_links.specs.declared.list.Key.{Key}
 use Rattle.ktm_links.specs.Items.{Item, item, same_key, value_at, without}
 use Rattle.ktm_links.specs.Indexed.{AreDistinct}
-use Rattle.ktm_links.proofs.Keys.{same_key-true, same_key-self}
+use Rattle.ktm_links.proofs.offered.Keys.{same_key-true, same_key-self}
 use Rattle.txf_opens.specs.declared.file.OpenFile.{OpenFile as Kept}
 use Rattle.txf_opens.specs.Indexed.{opens_of}
 use Rattle.txf_opens.specs.OpensState.{open_of}

@@ -13,7 +13,7 @@ use Rattle.ktm_links.specs.declared.list.Key.{Key}
 use Rattle.ktm_links.specs.Items.{Item, value_at}
 use Rattle.ktm_links.specs.Mapped.{NamedItem, Begins, IsNotBelow}
 use Rattle.ktm_links.specs.Indexed.{AreDistinct, IsFirstUnder}
-use Rattle.ktm_links.proofs.Names.{begins_between, begins_not_below}
+use Rattle.ktm_links.proofs.offered.Names.{begins_between, begins_not_below}
 use Rattle.txf_opens.specs.declared.file.OpenFile.{OpenFile as Kept}
 use Rattle.txf_opens.specs.Indexed.{is_writer, opens_of, IsIndex}
 use Rattle.ktm_links.specs.Numbers.{number_bytes, long_bytes}
@@ -23,7 +23,7 @@ use Rattle.txf_opens.specs.Writers.{IsFirstWriter, IsNoWriter}
 use Rattle.txf_opens.proofs.Bytes.{begins_transacted, group_tells, node_leaves, same_group-true, transacted_begins}
 use Rattle.txf_opens.proofs.Found.{found_at}
 use Rattle.txf_opens.proofs.Listed.{any_from, none_passes}
-use Rattle.ktm_links.proofs.Comparing.{not_below_upto, level}
+use Rattle.ktm_links.proofs.offered.Comparing.{not_below_upto, level}
 
 -- ---- the first writer
 module _ (P : List ℕ → Type 0) (items : List (Item Kept)) (named : List (NamedItem Key)) (key : Key) (index : IsIndex is_writer use_name items named) (first : IsFirstUnder P named key) where

@@ -13,7 +13,7 @@ use Rattle.ktm_base.specs.declared.limits.TheConstants.{MOST_NAME_BYTES}
 use Rattle.ktm_base.specs.Names.{IsName, folded}
 use Rattle.ktm_keyed.specs.Keyed.{comes_before}
 use Rattle.ktm_links.specs.Mapped.{name_cmp, Begins, IsNotBelow}
-use Rattle.ktm_links.proofs.Names.{name_same}
+use Rattle.ktm_links.proofs.offered.Names.{name_same}
 use Rattle.ktm_types.specs.declared.recorded.Node.{Node}
 use Rattle.ktm_world.specs.FileCalls.{in_order, with_entry}
 use Rattle.ktm_world.specs.Holds.{each_change}
@@ -23,14 +23,14 @@ use Rattle.txf_tree.specs.declared.entry.Entry.{Entry}
 use Rattle.txf_tree.specs.Places.{after_child, child_name, entries_behind, entries_from, number_bytes}
 use Rattle.txf_tree.proofs.Digits.{number_begins}
 use Rattle.txf_tree.proofs.Listing.{AreDistinct, in_order-ascends, in_order-from, in_order-in}
-use Rattle.ktm_links.proofs.Comparing.{less_from, not_below_upto}
+use Rattle.ktm_links.proofs.offered.Comparing.{less_from, not_below_upto}
 use Rattle.txf_tree.proofs.Ordered.{AreAscending, IsIn, above_next, below_next, entries_begun, entries_from-first, entries_from-none, greater_from, in-map, not_below, of-map}
 use Rattle.txf_overlay.specs.declared.listing.SeatRef.{SeatRef}
 use Rattle.txf_overlay.specs.OverlayState.{is_of_names, OverlayState, Seat, seen}
 use Rattle.txf_overlay.specs.Listing.{is_before, IsNextSeat, IsNoSeat}
 use Rattle.txf_overlay.specs.Names.{place_in}
 use Rattle.txf_overlay.specs.Views.{last_seat, seat_at, seats_of, StandsOver}
-use Rattle.ktm_world.proofs.Lookups.{Above, Rises, Rises-from}
+use Rattle.ktm_world.proofs.offered.Lookups.{Above, Rises, Rises-from}
 use Rattle.txf_overlay.proofs.Trees.{at-All}
 use Rattle.txf_overlay.proofs.Views.{IsOneEach, IsOneEach-from, Seated, seated}
 

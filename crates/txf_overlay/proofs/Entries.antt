@@ -4,7 +4,7 @@ use Rattle.std.specs.Prelude.{IfNone}
 use Rattle.std.specs.Option.{option_map}
 use Rattle.ktm_links.specs.declared.list.Key.{Key}
 use Rattle.ktm_links.specs.Mapped.{NamedItem, at, key_at, without_name}
-use Rattle.ktm_links.proofs.Entries.{key_at-at, none_at}
+use Rattle.ktm_links.proofs.offered.Entries.{key_at-at, none_at}
 use Rattle.txf_overlay.specs.Maps.{under}
 
 module _ {T : Type 0} where

@@ -35,7 +35,7 @@ use Rattle.txf_overlay.specs.Written.{total_units}
 use Rattle.txf_overlay.proofs.NodesSeen.{made-push, made-drop, was-counted, drops, lasts, AreSeen-push, IsNext}
 use Rattle.txf_overlay.proofs.Options.{or_some, or-assoc}
 use Rattle.txf_overlay.proofs.Views.{come_to, come-some, last_seat-append, left-some, puts, seats-are}
-use Rattle.ktm_world.proofs.Lookups.{remade}
+use Rattle.ktm_world.proofs.offered.Lookups.{remade}
 use Rattle.txf_overlay.proofs.Trees.{Applies-from, at-All, node_at-elsewhere, node_at-there}
 
 -- ---- lists of changes

@@ -5,7 +5,7 @@ use Rattle.std.specs.declared.cmp.Ordering.TheVariants.{Less, Equal, Greater}
 use Rattle.std.proofs.lemmas.Bool.{cases_order, lt-ltb, le-ltb, eq-eqb, ne_eqb}
 use Rattle.std.proofs.lemmas.Cmp.{nat_list_cmp_total}
 use Rattle.ktm_links.specs.Mapped.{name_cmp}
-use Rattle.ktm_links.proofs.Names.{name_same}
+use Rattle.ktm_links.proofs.offered.Names.{name_same}
 use Rattle.txf_tree.specs.Places.{number_bytes}
 use Rattle.txf_tree.proofs.Digits.{number_bytes-less}
 

@@ -7,9 +7,9 @@ use Rattle.std.proofs.lemmas.Bool.Decides.{Decides-eqb}
 use Rattle.std.proofs.lemmas.Slice.Eq.{starts_is}
 use Rattle.ktm_links.specs.declared.list.Key.{Key}
 use Rattle.ktm_links.specs.Mapped.{NamedItem, at, Begins, IsFirstOf, IsNoneOf, IsNotBelow}
-use Rattle.ktm_links.proofs.Names.{begins_between, begins_not_below}
+use Rattle.ktm_links.proofs.offered.Names.{begins_between, begins_not_below}
 use Rattle.txf_tree.specs.Places.{number_bytes}
-use Rattle.ktm_links.proofs.Comparing.{not_below_upto}
+use Rattle.ktm_links.proofs.offered.Comparing.{not_below_upto}
 use Rattle.txf_overlay.specs.Kept.{seats_in}
 use Rattle.txf_overlay.specs.Listing.{IsNextSeat, IsNoSeat}
 use Rattle.txf_overlay.specs.Views.{seat_at}

@@ -10,7 +10,7 @@ use Rattle.ktm_types.specs.declared.recorded.Node.{Node}
 use Rattle.ktm_world.specs.Changes.{applies, changed, is_free, is_make, is_node_number, node_of}
 use Rattle.ktm_world.specs.Paths.{is_name}
 use Rattle.ktm_world.specs.Tree.{Tree, has_entries, is_at_or_below, is_directory, is_there, node_at, root}
-use Rattle.ktm_world.proofs.Lookups.{node_at-with_node, node_at-with_changed, node_at-without_node, remade, Rises, node_at-below}
+use Rattle.ktm_world.proofs.offered.Lookups.{node_at-with_node, node_at-with_changed, node_at-without_node, remade, Rises, node_at-below}
 
 -- ---- the tests of a change, one by one
 abbrev pub Applies : Tree → Change → Type 0

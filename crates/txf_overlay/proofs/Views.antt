@@ -24,7 +24,7 @@ use Rattle.txf_overlay.specs.Sight.{sight_of}
 use Rattle.txf_overlay.specs.Views.{or_before, if_at, last_seat, left_by, seat, seats_of}
 use Rattle.txf_tree.proofs.Digits.{length-number_bytes, number_bytes-one}
 use Rattle.txf_overlay.proofs.Options.{or_none, or_some, or-assoc, or-nothing}
-use Rattle.ktm_world.proofs.Lookups.{Rises-from, remade}
+use Rattle.ktm_world.proofs.offered.Lookups.{Rises-from, remade}
 use Rattle.txf_overlay.proofs.Trees.{Applies-from, at-All, fails-all, found-at, is_there-none, is_there-some, node_at-elsewhere, node_at-there, number-at}
 
 -- ---- places by name

@@ -9,9 +9,9 @@ use Rattle.ktm_base.specs.declared.id.Id.{Id}
 use Rattle.ktm_world.specs.Transactions.{same_id}
 use Rattle.ktm_links.specs.declared.list.Key.{Key}
 use Rattle.ktm_links.specs.Mapped.{NamedItem, at, key_at, Begins}
-use Rattle.ktm_links.proofs.Entries.{key_at-at}
-use Rattle.ktm_links.proofs.Keys.{none_of}
-use Rattle.ktm_links.proofs.Comparing.{cases_name}
+use Rattle.ktm_links.proofs.offered.Entries.{key_at-at}
+use Rattle.ktm_links.proofs.offered.Keys.{none_of}
+use Rattle.ktm_links.proofs.offered.Comparing.{cases_name}
 use Rattle.txf_reserve.specs.HeldPairs.{has_pair, id_bytes, is_pair, key_name, owner_name, pairs_of, ArePairs, IsOwnerName}
 use Rattle.txf_reserve.proofs.PairNames.{id_tells, key_name-tells, other_ids, owner_begins}
 use Rattle.txf_reserve.proofs.Present.{has-at, is_pair-self, is_pair-true, pair}

@@ -8,9 +8,9 @@ use Rattle.ktm_base.specs.declared.id.Id.{Id}
 use Rattle.ktm_world.specs.Transactions.{same_id, is_of}
 use Rattle.ktm_links.specs.declared.list.Key.{Key}
 use Rattle.ktm_links.specs.Mapped.{NamedItem, at, Begins, IsFirstOf, IsNotBelow}
-use Rattle.ktm_links.proofs.Keys.{none_of}
-use Rattle.ktm_links.proofs.Names.{begins_between, begins_not_below}
-use Rattle.ktm_links.proofs.Comparing.{not_below_upto, above_next}
+use Rattle.ktm_links.proofs.offered.Keys.{none_of}
+use Rattle.ktm_links.proofs.offered.Names.{begins_between, begins_not_below}
+use Rattle.ktm_links.proofs.offered.Comparing.{not_below_upto, above_next}
 use Rattle.txf_reserve.specs.HeldPairs.{has_pair, id_bytes, is_of_other, is_pair, key_bytes, key_name, pairs_of, ArePairs, HasNoHolder, IsHolder, Pair}
 use Rattle.txf_opens.proofs.Lists.{some_of}
 use Rattle.txf_reserve.proofs.PairNames.{begins_key, id_self, key_begins, key_name-tells, not_behind, own_is, same_ids}

@@ -6,7 +6,7 @@ use Rattle.std.proofs.lemmas.Slice.Eq.{bytes_eq-Decides}
 use Rattle.ktm_base.specs.declared.id.Id.{Id}
 use Rattle.ktm_world.specs.Transactions.{same_id}
 use Rattle.ktm_links.specs.Mapped.{NamedItem, at, name_cmp, without_name}
-use Rattle.ktm_links.proofs.Names.{from_is_eq, name_equal, name_same}
+use Rattle.ktm_links.proofs.offered.Names.{from_is_eq, name_equal, name_same}
 use Rattle.txf_reserve.specs.HeldPairs.{has_pair, is_pair, owner_name, pair_of, pairs_of, IsOwnerName, Pair}
 use Rattle.txf_reserve.proofs.PairNames.{id_self, number_from-bytes, same_ids}
 

@@ -10,7 +10,7 @@ use Rattle.ktm_types.specs.declared.change.NodeKind.{NodeKind}
 use Rattle.ktm_types.specs.declared.recorded.Node.{Node}
 use Rattle.ktm_links.specs.declared.list.Key.{Key}
 use Rattle.ktm_links.specs.Mapped.{NamedItem, at, key_at}
-use Rattle.ktm_links.proofs.Entries.{key_at-at}
+use Rattle.ktm_links.proofs.offered.Entries.{key_at-at}
 use Rattle.ktm_world.specs.Changes.{applies, is_free, is_node_number}
 use Rattle.ktm_world.specs.Paths.{is_name}
 use Rattle.ktm_world.specs.Tree.{Tree, child_of, is_at_or_below, is_directory, is_there, node_at, root}

@@ -13,7 +13,7 @@ use Rattle.ktm_world.specs.FileCalls.{entries as matching, in_order, listed, wit
 use Rattle.ktm_world.specs.Tree.{Tree}
 use Rattle.txf_tree.specs.Children.{children, entries_in, shown}
 use Rattle.txf_tree.specs.Found.{found, shown_text}
-use Rattle.ktm_links.proofs.Comparing.{less_from}
+use Rattle.ktm_links.proofs.offered.Comparing.{less_from}
 
 -- does the first name come before the second, both folded
 abbrev before : Node → Node → Bool

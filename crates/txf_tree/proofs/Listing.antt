@@ -6,7 +6,7 @@ use Rattle.std.proofs.lemmas.Option.{same_Some}
 use Rattle.ktm_base.specs.Names.{folded}
 use Rattle.ktm_types.specs.declared.recorded.Node.{Node}
 use Rattle.ktm_links.specs.Mapped.{NamedItem, name_cmp, Begins, IsNotBelow}
-use Rattle.ktm_links.proofs.Names.{begins_between, begins_not_below}
+use Rattle.ktm_links.proofs.offered.Names.{begins_between, begins_not_below}
 use Rattle.ktm_keyed.specs.Keyed.{comes_before}
 use Rattle.ktm_world.specs.FileCalls.{in_order, with_entry}
 use Rattle.txf_tree.specs.Children.{Shown, children, entries_in, shown}
@@ -14,7 +14,7 @@ use Rattle.txf_tree.specs.Indexes.{AreAbove, AreNamed, AreRising, IsFirstUnder, 
 use Rattle.txf_tree.specs.Places.{after_child, child_name, entries_from, number_bytes}
 use Rattle.txf_tree.specs.TreeState.{NodeNow, now_at, tree_in}
 use Rattle.txf_tree.proofs.Digits.{number_begins}
-use Rattle.ktm_links.proofs.Comparing.{less_from, not_below_upto}
+use Rattle.ktm_links.proofs.offered.Comparing.{less_from, not_below_upto}
 use Rattle.txf_tree.proofs.Ordered.{AreAscending, IsBefore, IsBefore-lower, IsIn, entries_from-first, entries_from-none, greater_from, in-map, of-map}
 
 -- ---- which nodes are in the order

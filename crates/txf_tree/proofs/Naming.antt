@@ -11,7 +11,7 @@ use Rattle.ktm_base.specs.Names.{folded, folded_byte}
 use Rattle.ktm_types.specs.declared.recorded.Node.{Node}
 use Rattle.ktm_links.specs.declared.list.Key.{Key}
 use Rattle.ktm_links.specs.Mapped.{NamedItem, name_cmp, Begins, IsFirstOf, IsNoneOf}
-use Rattle.ktm_links.proofs.Names.{from_is_eq, name_equal, name_same}
+use Rattle.ktm_links.proofs.offered.Names.{from_is_eq, name_equal, name_same}
 use Rattle.ktm_world.specs.Tree.{Tree, child_of, has_entries, is_directory, node_at, same_name}
 use Rattle.txf_tree.specs.Indexes.{AreNamed, IsNamedAt, IsTree, name_of, under}
 use Rattle.txf_tree.specs.Places.{child_name, number_bytes}

@@ -7,8 +7,8 @@ use Rattle.std.proofs.lemmas.Option.{same_Some}
 use Rattle.ktm_links.specs.declared.list.Key.{Key}
 use Rattle.ktm_links.specs.Items.{Item, item, same_key, value_at, with_value, without}
 use Rattle.ktm_links.specs.Mapped.{NamedItem, at, key_at, name_cmp, put, without_name}
-use Rattle.ktm_links.proofs.Entries.{at-put_other, at-without_other, key_at-at}
-use Rattle.ktm_links.proofs.Names.{is_eq-other, name_same, not_lower}
+use Rattle.ktm_links.proofs.offered.Entries.{at-put_other, at-without_other, key_at-at}
+use Rattle.ktm_links.proofs.offered.Names.{is_eq-other, name_same, not_lower}
 use Rattle.txf_tree.specs.Indexes.{AreNumbered, IsIndexed, IsNumberedAt, nodes_of, replaced, under, with_now, without_now}
 use Rattle.txf_tree.specs.Places.{number_bytes}
 use Rattle.txf_tree.specs.TreeState.{NodeNow, now_at}

@@ -7,11 +7,11 @@ use Rattle.std.proofs.lemmas.Bool.{cases_Bool}
 use Rattle.std.proofs.lemmas.Cmp.{nat_cmp_total, nat_list_cmp_total, ranked, tied_back, tied_itself}
 use Rattle.ktm_base.specs.Names.{folded}
 use Rattle.ktm_links.specs.Mapped.{name_cmp, IsNotBelow}
-use Rattle.ktm_links.proofs.Names.{begins_not_below, name_equal, turned}
+use Rattle.ktm_links.proofs.offered.Names.{begins_not_below, name_equal, turned}
 use Rattle.txf_tree.specs.Children.{Shown}
 use Rattle.txf_tree.specs.Places.{after_child, child_name, entries_from, number_bytes}
 use Rattle.txf_tree.proofs.Digits.{number_bytes-alike}
-use Rattle.ktm_links.proofs.Comparing.{not_below_upto}
+use Rattle.ktm_links.proofs.offered.Comparing.{not_below_upto}
 
 -- ---- the order of names
 

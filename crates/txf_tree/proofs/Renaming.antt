@@ -5,7 +5,7 @@ use Rattle.std.proofs.lemmas.Bool.{cases_Bool, cases_eq, eqb-false}
 use Rattle.std.proofs.lemmas.Option.{same_Some}
 use Rattle.ktm_base.specs.declared.limits.TheConstants.{MOST_NAME_BYTES}
 use Rattle.ktm_links.specs.Mapped.{NamedItem, name_cmp}
-use Rattle.ktm_links.proofs.Names.{from_is_eq, name_equal, name_same}
+use Rattle.ktm_links.proofs.offered.Names.{from_is_eq, name_equal, name_same}
 use Rattle.txf_tree.specs.Indexes.{AreNamed, IsNamedAt, IsTree, name_of, replaced, under, with_now, without_now}
 use Rattle.txf_tree.specs.TreeState.{NodeNow, now_at}
 use Rattle.txf_tree.proofs.Changing.{AreRising-replaced, AreRising-with, AreRising-without, now_at-replaced_other, now_at-replaced_same, now_at-with_other, now_at-with_same, now_at-without_other}

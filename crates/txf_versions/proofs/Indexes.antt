@@ -8,8 +8,8 @@ use Rattle.ktm_links.specs.declared.list.Key.{Key}
 use Rattle.ktm_links.specs.Items.{Item, item, same_key, value_at, without}
 use Rattle.ktm_links.specs.Mapped.{NamedItem, key_at, key_under}
 use Rattle.ktm_links.specs.Indexed.{value_in, values_of, AreNamed, IsIndex, IsFirstUnder, IsNoneUnder}
-use Rattle.ktm_links.proofs.Indexes.{key_at-free, option_cases}
-use Rattle.ktm_links.proofs.Keys.{same_key-self, split}
+use Rattle.ktm_links.proofs.offered.Indexes.{key_at-free, option_cases}
+use Rattle.ktm_links.proofs.offered.Keys.{same_key-self, split}
 use Rattle.txf_versions.specs.declared.opened.Opened.{Opened}
 use Rattle.txf_versions.specs.Parts.{IsTaken}
 

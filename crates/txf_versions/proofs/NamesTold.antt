@@ -14,7 +14,7 @@ use Rattle.txf_versions.specs.declared.opened.Opened.{Opened}
 use Rattle.ktm_links.specs.Numbers.{number_bytes, long_bytes}
 use Rattle.txf_versions.specs.Names.{holder_name, own_name, open_name, transaction_bytes, version_bytes}
 use Rattle.txf_versions.specs.VersionsState.{comes_before, fixes, is_open_of, is_own, is_version}
-use Rattle.ktm_links.proofs.Numbers.{number_from}
+use Rattle.ktm_links.proofs.offered.Numbers.{number_from}
 
 -- ---- numbers
 

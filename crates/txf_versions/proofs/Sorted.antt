@@ -7,8 +7,8 @@ use Rattle.std.proofs.lemmas.List.Sums.{sum_by-cons}
 use Rattle.std.proofs.lemmas.Option.{same_Some}
 use Rattle.ktm_links.specs.declared.list.Key.{Key}
 use Rattle.ktm_links.specs.Mapped.{NamedItem, name_cmp, at, key_at, put, without_name}
-use Rattle.ktm_links.proofs.Entries.{key_at-at}
-use Rattle.ktm_links.proofs.Names.{name_equal, name_same, from_is_eq}
+use Rattle.ktm_links.proofs.offered.Entries.{key_at-at}
+use Rattle.ktm_links.proofs.offered.Names.{name_equal, name_same, from_is_eq}
 use Rattle.txf_versions.specs.declared.kept.Older.{Older}
 use Rattle.txf_versions.specs.Names.{version_bytes}
 use Rattle.txf_versions.specs.Parts.{older_of, AreNamed}

@@ -11,7 +11,7 @@ use Rattle.txf_reserve.specs.ReserveState.{Keeps, names_of, numbers_of}
 use Rattle.txf_tree.specs.TreeState.{tree_of}
 use Rattle.txf_volume.specs.Held.{FilesHeld, OwnHeld, files_of, own_held, tree_units}
 use Rattle.txf_volume.specs.Ties.{AreTied, IsKeptOpen, IsOver, held_by_two, names_held, nodes_held, units_held}
-use Rattle.ktm_laws.specs.GoodState.{each_pair}
+use Rattle.txf_laws.specs.Elements.{each_pair}
 
 -- nothing is changed, opened or held
 pub record IsAtRest (h : FilesHeld) : Type 0 where

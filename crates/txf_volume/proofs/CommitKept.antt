@@ -16,13 +16,13 @@ use Rattle.txf_versions.specs.declared.opened.Opened.{Opened}
 use Rattle.txf_volume.specs.Making.{files_only, units_older, IsEnded}
 use Rattle.txf_volume.specs.Held.{first_held, version_bytes}
 use Rattle.txf_volume.specs.Ties.{IsKeptOpen, is_last}
-use Rattle.ktm_laws.specs.Footprint.{IsIn}
-use Rattle.ktm_laws.proofs.Elements.{list_any-from}
-use Rattle.ktm_laws.proofs.Passing.{All-by, All-in}
+use Rattle.txf_laws.specs.Elements.{IsIn}
+use Rattle.txf_laws.proofs.offered.Elements.{list_any-from}
+use Rattle.txf_laws.proofs.offered.CommitsOfOthers.{All-by, All-in}
 use Rattle.txf_volume.proofs.Elements.{each-mapped}
-use Rattle.ktm_laws.proofs.OlderVersions.{older-is, older_units, version_units}
+use Rattle.txf_laws.proofs.offered.OlderVersions.{older-is, older_units, version_units}
 use Rattle.txf_volume.proofs.OlderVersions.{older-alike, older-more}
-use Rattle.ktm_laws.proofs.CommittedUnits.{is_older}
+use Rattle.txf_laws.proofs.offered.CommittedUnits.{is_older}
 use Rattle.txf_volume.proofs.PlainUses.{eqb-turned}
 
 -- the units of older versions, by a test

@@ -7,11 +7,11 @@ use Rattle.std.proofs.lemmas.List.Elements.{All-cons, All-head, All-nil, All-tai
 use Rattle.std.proofs.lemmas.List.Folds.{list_all-append}
 use Rattle.std.proofs.lemmas.List.Sums.{fold-append, sum_by-cons}
 use Rattle.std.specs.List.{flat_map, list_all}
-use Rattle.ktm_laws.proofs.Applying.{Applies-from, Fits-from}
-use Rattle.ktm_laws.proofs.CommittedUnits.{cut-empty, suits-applies}
-use Rattle.ktm_world.proofs.Lookups.{Rises-changed, Rises-from as Rises-of, numbers_rise-from}
-use Rattle.ktm_laws.proofs.NormalForms.{changes_apply-second}
-use Rattle.ktm_laws.proofs.Passing.{changes_apply-first, All-by, All-in}
+use Rattle.txf_laws.proofs.offered.ChangeTests.{Applies-from, Fits-from}
+use Rattle.txf_laws.proofs.offered.CommittedUnits.{cut-empty, suits-applies}
+use Rattle.ktm_world.proofs.offered.Lookups.{Rises-changed, Rises-from as Rises-of, numbers_rise-from}
+use Rattle.txf_laws.proofs.offered.NormalForms.{changes_apply-second}
+use Rattle.txf_laws.proofs.offered.CommitsOfOthers.{changes_apply-first, All-by, All-in}
 use Rattle.ktm_types.specs.declared.change.Change.{Change}
 use Rattle.ktm_types.specs.declared.change.Change.TheVariants.{Make, Put, Cut, Move, Drop}
 use Rattle.ktm_types.specs.declared.change.Contents.TheVariants.{Whole}
@@ -31,14 +31,14 @@ use Rattle.txf_volume.specs.Ties.{IsKeptOpen}
 use Rattle.txf_volume.specs.Uses.{gain, loss}
 use Rattle.txf_volume.proofs.CommitKept.{IsStill, absent, ended-firsts, ended-opened, ended-units, older-of, still-firsts, still-opened, still-units}
 use Rattle.txf_volume.proofs.CommitVersions.{AllFresh, Rests, content-elsewhere, content-final-other, content-dropped, content-moved, file-dropped, rests-all, units-rise-all, version-final, version-final-other}
-use Rattle.ktm_laws.specs.Footprint.{IsIn}
-use Rattle.ktm_laws.proofs.Elements.{list_any-from}
+use Rattle.txf_laws.specs.Elements.{IsIn}
+use Rattle.txf_laws.proofs.offered.Elements.{list_any-from}
 use Rattle.txf_volume.proofs.Elements.{each-mapped}
-use Rattle.ktm_laws.proofs.NormalForms.{cut-none, put-none}
-use Rattle.ktm_world.proofs.Lookups.{Rises-from}
+use Rattle.txf_laws.proofs.offered.NormalForms.{cut-none, put-none}
+use Rattle.ktm_world.proofs.offered.Lookups.{Rises-from}
 use Rattle.txf_volume.proofs.Steady.{versions-rise}
 use Rattle.txf_volume.proofs.TreeUnits.{units-changed}
-use Rattle.ktm_laws.proofs.Versions.{version_of-without, version-elsewhere}
+use Rattle.txf_laws.proofs.offered.Versions.{version_of-without, version-elsewhere}
 
 -- ---- what can be made
 

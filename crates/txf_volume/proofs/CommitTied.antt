@@ -6,12 +6,12 @@ use Rattle.std.proofs.lemmas.Option.{none-some}
 use Rattle.std.specs.List.{flat_map, list_all, list_any}
 use Rattle.std.specs.Option.{option_map}
 use Rattle.ktm_base.specs.declared.id.Id.{Id}
-use Rattle.ktm_laws.proofs.Passing.{changes_apply-first, All-by, All-in, own_changes-of}
-use Rattle.ktm_laws.proofs.Reserving.{tree-of}
-use Rattle.ktm_laws.proofs.Sums.{sum-filter-less}
+use Rattle.txf_laws.proofs.offered.CommitsOfOthers.{changes_apply-first, All-by, All-in, own_changes-of}
+use Rattle.txf_laws.proofs.offered.Reservations.{tree-of}
+use Rattle.txf_laws.proofs.offered.Sums.{sum-filter-less}
 use Rattle.std.proofs.Math.Bool.{and-false, and-true}
-use Rattle.ktm_laws.specs.Formed.{FormedLaw}
-use Rattle.ktm_laws.specs.Reservations.{files_committed, IsLeft}
+use Rattle.txf_laws.specs.Formed.{FormedLaw}
+use Rattle.txf_laws.specs.Reservations.{files_committed, IsLeft}
 use Rattle.ktm_types.specs.declared.change.Change.{Change}
 use Rattle.ktm_types.specs.declared.change.Change.TheVariants.{Make, Put, Cut, Move, Drop}
 use Rattle.ktm_world.specs.Changes.{changes_apply, changed, changed_all, changes_bytes, has_made, is_make, node_of}
@@ -34,19 +34,18 @@ use Rattle.txf_volume.specs.Commit.{names_in, AreUnopened, AreVersionsFew, Leave
 use Rattle.txf_volume.specs.Making.{firsts_of, is_fresh, parts, units_older, AreMade, AreRight, CanTake}
 use Rattle.txf_volume.specs.Held.{FilesHeld, OwnHeld, changes_held, files_of, first_held, overlay_in, own_held, without_own, tree_units}
 use Rattle.txf_volume.specs.Ties.{AreTied, IsKeptOpen, IsOver, held_by_two, names_held, nodes_held, units_held}
-use Rattle.ktm_laws.specs.SoundFiles.{changed_by_two}
-use Rattle.ktm_laws.specs.GoodState.{each_pair}
+use Rattle.txf_laws.specs.SoundFiles.{changed_by_two}
 use Rattle.txf_volume.specs.Writes.{CanBeCounted}
 use Rattle.txf_volume.proofs.CommitKept.{older-of}
-use Rattle.ktm_laws.specs.Footprint.{IsIn}
-use Rattle.ktm_laws.proofs.Elements.{IsIn-filter, list_all-from, list_any-at, list_any-from}
-use Rattle.ktm_laws.proofs.Elements.{each_pair-filter}
-use Rattle.ktm_laws.proofs.NormalForms.{AllBytes}
+use Rattle.txf_laws.specs.Elements.{IsIn, each_pair}
+use Rattle.txf_laws.proofs.offered.Elements.{IsIn-filter, list_all-from, list_any-at, list_any-from}
+use Rattle.txf_laws.proofs.offered.Elements.{each_pair-filter}
+use Rattle.txf_laws.proofs.offered.NormalForms.{AllBytes}
 use Rattle.txf_volume.proofs.OlderKept.{older-kept}
-use Rattle.ktm_laws.proofs.OlderVersions.{older-is, version_units}
-use Rattle.ktm_laws.proofs.Tables.{same_id-equal}
+use Rattle.txf_laws.proofs.offered.OlderVersions.{older-is, version_units}
+use Rattle.txf_laws.proofs.offered.Tables.{same_id-equal}
 use Rattle.txf_volume.proofs.OwnTables.{own_changes-none}
-use Rattle.ktm_laws.proofs.CommittedUnits.{is_older}
+use Rattle.txf_laws.proofs.offered.CommittedUnits.{is_older}
 use Rattle.txf_volume.proofs.Seen.{changes_in, over-in, own_changes-held}
 use Rattle.txf_volume.proofs.Steady.{finals-bytes, steady}
 

@@ -1,8 +1,8 @@
 -- Versions while changes are committed one after another: what was older stays older.
 use Rattle.std.proofs.Common.{◌≡◌, ℕ, ◌+◌, ◌<◌, ◌≤◌, ◌==◌, ◌&&◌, not, Bool, true, false, cond, fold, is_some, List, [], ◌∷◌, Option, Some, None, refl, sym, ◌∙◌, ap, subst, arith, inl, inr}
 use Rattle.std.proofs.lemmas.Bool.{cases_Bool, and_parts, eqb-false, eqb-true, false_from_ne_true, not_from_false, true≢false}
-use Rattle.ktm_laws.proofs.Applying.{Applies-from, Fits-from}
-use Rattle.ktm_laws.proofs.CommittedUnits.{suits-applies, older-like, Fresh, is_older}
+use Rattle.txf_laws.proofs.offered.ChangeTests.{Applies-from, Fits-from}
+use Rattle.txf_laws.proofs.offered.CommittedUnits.{suits-applies, older-like, Fresh, is_older}
 use Rattle.ktm_types.specs.declared.change.Change.{Change}
 use Rattle.ktm_types.specs.declared.change.Change.TheVariants.{Make, Put, Cut, Move, Drop}
 use Rattle.ktm_types.specs.declared.change.Contents.TheVariants.{Whole}
@@ -12,12 +12,11 @@ use Rattle.ktm_world.specs.Committed.{Version, final_bytes, version_of, versions
 use Rattle.ktm_world.specs.Files.{FirstOpen}
 use Rattle.ktm_world.specs.FileUses.{same_version}
 use Rattle.ktm_world.specs.Tree.{Tree, content_of, is_file, node_at}
-use Rattle.ktm_laws.specs.GoodState.{each_pair}
-use Rattle.ktm_laws.specs.SoundFiles.{files_rise}
-use Rattle.ktm_laws.specs.Footprint.{IsIn}
-use Rattle.ktm_world.proofs.Lookups.{map_node, node_at-elsewhere, node_at-there}
-use Rattle.ktm_laws.proofs.OlderVersions.{has_older, list_any-alike, older-cons, older_units, version_units}
-use Rattle.ktm_laws.proofs.Versions.{version_of-raised, version-elsewhere}
+use Rattle.txf_laws.specs.SoundFiles.{files_rise}
+use Rattle.txf_laws.specs.Elements.{IsIn, each_pair}
+use Rattle.ktm_world.proofs.offered.Lookups.{map_node, node_at-elsewhere, node_at-there}
+use Rattle.txf_laws.proofs.offered.OlderVersions.{has_older, list_any-alike, older-cons, older_units, version_units}
+use Rattle.txf_laws.proofs.offered.Versions.{version_of-raised, version-elsewhere}
 use Rattle.txf_volume.proofs.Versions.{rises-after, version_of-twice}
 
 -- ---- more of them are older

@@ -1,6 +1,6 @@
 -- Elements of lists, and tests of each of them.
 use Rattle.std.proofs.Common.{List, [], ◌∷◌, map, refl, subst, inl, inr}
-use Rattle.ktm_laws.specs.Footprint.{IsIn}
+use Rattle.txf_laws.specs.Elements.{IsIn}
 
 -- what comes of each of them
 pub each-mapped : {X Y : Type 0} (P : Y → Type 0) (f : X → Y) (xs : List X) → ((x : X) → IsIn x xs → P (f x)) → (y : Y) → IsIn y (map f xs) → P y

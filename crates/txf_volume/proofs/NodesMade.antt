@@ -7,10 +7,10 @@ use Rattle.ktm_types.specs.declared.change.Change.TheVariants.{Make, Put, Cut, M
 use Rattle.ktm_world.specs.Changes.{changes_bytes, is_drop, is_make, node_of, nodes_made}
 use Rattle.ktm_world.specs.Committed.{changes_to_commit, written_files}
 use Rattle.txf_volume.specs.Uses.{one_if}
-use Rattle.ktm_laws.proofs.NormalForms.{AllBytes, ends-bytes, names-kept, names_only}
-use Rattle.ktm_laws.proofs.NormalForms.{ends_of}
-use Rattle.ktm_laws.specs.FinalChanges.{names_of}
-use Rattle.ktm_laws.proofs.Sums.{count-append, count-cons, one_where}
+use Rattle.txf_laws.proofs.offered.NormalForms.{AllBytes, ends-bytes, names-kept, names_only}
+use Rattle.txf_laws.proofs.offered.NormalForms.{ends_of}
+use Rattle.txf_laws.specs.FinalChanges.{names_of}
+use Rattle.txf_laws.proofs.offered.Sums.{count-append, count-cons, one_where}
 
 -- do changes drop the node
 abbrev drop_it : ℕ → List Change → Bool

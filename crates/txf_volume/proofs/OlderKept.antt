@@ -10,9 +10,9 @@ use Rattle.ktm_world.specs.Tree.{units_of}
 use Rattle.txf_versions.specs.VersionsState.{AreAllHeld, AreApart, AreHeld, fixes, is_held, is_version, version_units as kept_units}
 use Rattle.txf_versions.specs.declared.kept.Older.{Older}
 use Rattle.txf_versions.specs.declared.opened.Opened.{Opened}
-use Rattle.ktm_laws.specs.Footprint.{IsIn}
-use Rattle.ktm_laws.proofs.Elements.{IsIn-filter, list_any-at, list_any-from}
-use Rattle.ktm_laws.proofs.OlderVersions.{has_older, older-cons, older_units, version_units}
+use Rattle.txf_laws.specs.Elements.{IsIn}
+use Rattle.txf_laws.proofs.offered.Elements.{IsIn-filter, list_any-at, list_any-from}
+use Rattle.txf_laws.proofs.offered.OlderVersions.{has_older, older-cons, older_units, version_units}
 
 -- ---- elements
 

@@ -4,8 +4,8 @@ use Rattle.std.proofs.lemmas.Bool.{cases_Bool}
 use Rattle.std.specs.List.{list_any}
 use Rattle.ktm_world.specs.Files.{FirstOpen}
 use Rattle.ktm_world.specs.FileUses.{same_version}
-use Rattle.ktm_laws.specs.Footprint.{IsIn}
-use Rattle.ktm_laws.proofs.OlderVersions.{list_any-alike, older_by, older_units, version_units, but_not, without-one}
+use Rattle.txf_laws.specs.Elements.{IsIn}
+use Rattle.txf_laws.proofs.offered.OlderVersions.{list_any-alike, older_by, older_units, version_units, but_not, without-one}
 
 pub older-alike : (old new : FirstOpen → Bool) (os : List FirstOpen) → ((o : FirstOpen) → IsIn o os → old o ≡ new o) → older_by old os ≡ older_by new os
 older-alike old new [] same = refl

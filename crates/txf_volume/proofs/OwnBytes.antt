@@ -15,12 +15,12 @@ use Rattle.ktm_world.specs.Files.{FilesNow, own_changes, bytes_after, bytes_seen
 use Rattle.ktm_world.specs.Holds.{is_in}
 use Rattle.ktm_world.specs.Tree.{Tree, bytes_of, cut_to, put_over, units_of}
 use Rattle.txf_volume.specs.Uses.{gain, loss, own_bytes}
-use Rattle.ktm_laws.specs.Footprint.{IsIn}
-use Rattle.ktm_laws.proofs.Elements.{IsIn-filter, list_any-from}
-use Rattle.ktm_laws.proofs.NormalForms.{RisingNumbers, is_of_file, rising-written, ends-elsewhere, names-of-no-file}
-use Rattle.ktm_laws.proofs.NormalForms.{bytes-final, ends_of, filter-append}
-use Rattle.ktm_laws.specs.FinalChanges.{names_of}
-use Rattle.ktm_laws.proofs.Sums.{sum-same}
+use Rattle.txf_laws.specs.Elements.{IsIn}
+use Rattle.txf_laws.proofs.offered.Elements.{IsIn-filter, list_any-from}
+use Rattle.txf_laws.proofs.offered.NormalForms.{RisingNumbers, is_of_file, rising-written, ends-elsewhere, names-of-no-file}
+use Rattle.txf_laws.proofs.offered.NormalForms.{bytes-final, ends_of, filter-append}
+use Rattle.txf_laws.specs.FinalChanges.{names_of}
+use Rattle.txf_laws.proofs.offered.Sums.{sum-same}
 
 -- ---- sums over rising numbers
 

@@ -11,10 +11,9 @@ use Rattle.txf_overlay.specs.OverlayState.{OverlayState}
 use Rattle.txf_volume.specs.Held.{OwnHeld, overlay_in, without_own}
 use Rattle.txf_volume.specs.OwnParts.{IsPlace, with_overlay}
 use Rattle.txf_volume.specs.Ties.{held_by_two}
-use Rattle.ktm_laws.specs.GoodState.{each_pair}
-use Rattle.ktm_laws.specs.Footprint.{IsIn}
-use Rattle.ktm_laws.proofs.Elements.{list_all-at}
-use Rattle.ktm_laws.proofs.Tables.{same_id-equal, same_id-sym}
+use Rattle.txf_laws.specs.Elements.{IsIn, each_pair}
+use Rattle.txf_laws.proofs.offered.Elements.{list_all-at}
+use Rattle.txf_laws.proofs.offered.Tables.{same_id-equal, same_id-sym}
 
 filter-all : {X : Type 0} (keep : X → Bool) (xs : List X) → ((x : X) → IsIn x xs → keep x ≡ true) → filter keep xs ≡ xs
 filter-all keep [] each = refl

@@ -7,12 +7,11 @@ use Rattle.ktm_base.specs.declared.id.Id.{Id}
 use Rattle.ktm_types.specs.declared.change.Change.{Change}
 use Rattle.ktm_world.specs.Files.{OwnChanges, own_changes, with_own_changes}
 use Rattle.ktm_world.specs.Transactions.{same_id}
-use Rattle.ktm_laws.specs.SoundFiles.{changed_by_two}
-use Rattle.ktm_laws.specs.GoodState.{each_pair}
-use Rattle.ktm_laws.specs.Footprint.{IsIn}
-use Rattle.ktm_laws.proofs.Elements.{list_all-at}
-use Rattle.ktm_laws.proofs.Sums.{sum-same}
-use Rattle.ktm_laws.proofs.Tables.{same_id-equal, same_id-from, same_id-sym}
+use Rattle.txf_laws.specs.SoundFiles.{changed_by_two}
+use Rattle.txf_laws.specs.Elements.{IsIn, each_pair}
+use Rattle.txf_laws.proofs.offered.Elements.{list_all-at}
+use Rattle.txf_laws.proofs.offered.Sums.{sum-same}
+use Rattle.txf_laws.proofs.offered.Tables.{same_id-equal, same_id-from, same_id-sym}
 
 -- ---- the changes of each
 

@@ -16,20 +16,20 @@ use Rattle.ktm_world.specs.Transactions.{same_id}
 use Rattle.ktm_world.specs.Tree.{is_file, bytes_of, node_at, units_of}
 use Rattle.txf_calls.specs.Fits.{Suits, opens_file}
 use Rattle.txf_volume.specs.Uses.{IsSteady, PlainUses, OwnUses, SameUses, UsesLaw, gain, loss, kept, names_added, one_if, own_bytes}
-use Rattle.ktm_laws.specs.Footprint.{IsIn}
-use Rattle.ktm_laws.proofs.Passing.{All-in, own_changes-of}
-use Rattle.ktm_laws.proofs.NormalForms.{names_only}
-use Rattle.ktm_laws.proofs.NormalForms.{bytes-final, written-final}
-use Rattle.ktm_world.proofs.Lookups.{Rises-from}
+use Rattle.txf_laws.specs.Elements.{IsIn}
+use Rattle.txf_laws.proofs.offered.CommitsOfOthers.{All-in, own_changes-of}
+use Rattle.txf_laws.proofs.offered.NormalForms.{names_only}
+use Rattle.txf_laws.proofs.offered.NormalForms.{bytes-final, written-final}
+use Rattle.ktm_world.proofs.offered.Lookups.{Rises-from}
 use Rattle.txf_volume.proofs.NodesMade.{made-final, made-last, waiting-final, waiting-last}
-use Rattle.ktm_laws.proofs.OlderVersions.{older_by, older_units, older-is, version_units}
+use Rattle.txf_laws.proofs.offered.OlderVersions.{older_by, older_units, older-is, version_units}
 use Rattle.txf_volume.proofs.OwnBytes.{written-units}
-use Rattle.ktm_laws.proofs.Tables.{same_id-equal, same_id-sym}
+use Rattle.txf_laws.proofs.offered.Tables.{same_id-equal, same_id-sym}
 use Rattle.txf_volume.proofs.OwnTables.{own_changes-new, own_changes-none, own_changes-other, sum-with_own}
 use Rattle.txf_volume.specs.Held.{tree_units}
-use Rattle.ktm_laws.proofs.CommittedUnits.{is_older}
+use Rattle.txf_laws.proofs.offered.CommittedUnits.{is_older}
 use Rattle.txf_volume.proofs.PlainUses.{older-then}
-use Rattle.ktm_laws.proofs.Sums.{sum-same}
+use Rattle.txf_laws.proofs.offered.Sums.{sum-same}
 use Rattle.txf_volume.proofs.TreeUnits.{nodes-changed, units-changed}
 
 -- ---- own units

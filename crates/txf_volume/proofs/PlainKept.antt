@@ -22,16 +22,15 @@ use Rattle.txf_volume.specs.Making.{IsEnded}
 use Rattle.txf_volume.specs.Plain.{KeepsEnded, copied_for, is_ended, is_last_pinned, opened_bytes}
 use Rattle.txf_volume.specs.Ties.{IsKeptOpen, is_last}
 use Rattle.txf_calls.specs.Fits.{Suits}
-use Rattle.ktm_laws.specs.GoodState.{each_pair}
-use Rattle.ktm_laws.specs.SoundFiles.{files_rise}
+use Rattle.txf_laws.specs.SoundFiles.{files_rise}
 use Rattle.txf_volume.specs.Uses.{ends}
-use Rattle.ktm_laws.specs.Footprint.{IsIn}
-use Rattle.ktm_laws.proofs.Elements.{list_any-at, list_any-from}
-use Rattle.ktm_laws.proofs.Passing.{All-by, All-in}
-use Rattle.ktm_world.proofs.Lookups.{map_node, node_at-elsewhere, node_at-there}
-use Rattle.ktm_laws.proofs.CommittedUnits.{is_older}
+use Rattle.txf_laws.specs.Elements.{IsIn, each_pair}
+use Rattle.txf_laws.proofs.offered.Elements.{list_any-at, list_any-from}
+use Rattle.txf_laws.proofs.offered.CommitsOfOthers.{All-by, All-in}
+use Rattle.ktm_world.proofs.offered.Lookups.{map_node, node_at-elsewhere, node_at-there}
+use Rattle.txf_laws.proofs.offered.CommittedUnits.{is_older}
 use Rattle.txf_volume.proofs.PlainUses.{older-after}
-use Rattle.ktm_laws.proofs.Versions.{version_of-raised, version-elsewhere}
+use Rattle.txf_laws.proofs.offered.Versions.{version_of-raised, version-elsewhere}
 
 -- ---- lists and options
 

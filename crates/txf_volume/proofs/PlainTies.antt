@@ -8,8 +8,8 @@ use Rattle.ktm_base.specs.declared.id.Id.{Id}
 use Rattle.ktm_types.specs.declared.change.Change.{Change}
 use Rattle.ktm_types.specs.declared.change.Change.TheVariants.{Make, Put, Cut, Move, Drop}
 use Rattle.ktm_types.specs.declared.change.Contents.TheVariants.{Whole}
-use Rattle.ktm_laws.specs.Formed.{FormedLaw}
-use Rattle.ktm_laws.specs.Reservations.{IsLeft}
+use Rattle.txf_laws.specs.Formed.{FormedLaw}
+use Rattle.txf_laws.specs.Reservations.{IsLeft}
 use Rattle.ktm_world.specs.Changes.{applies, changes_apply, changed, changed_all, changes_bytes, is_free, is_make, is_node_number, is_whole, is_empty_list, next_after, node_of}
 use Rattle.ktm_world.specs.Committed.{committed_with, final_bytes, versions_after}
 use Rattle.ktm_world.specs.FileOutcome.{FileOutcome, changing, files_after, next_node_after, with_open, works_of}
@@ -30,9 +30,9 @@ use Rattle.txf_volume.specs.Ties.{AreTied, IsKeptOpen, IsOver}
 use Rattle.txf_calls.specs.Fits.{Suits}
 use Rattle.txf_volume.specs.Uses.{gain, kept, loss}
 use Rattle.txf_volume.proofs.Counted.{pinned-last}
-use Rattle.ktm_laws.specs.Footprint.{IsIn}
-use Rattle.ktm_laws.proofs.Passing.{All-by, All-in}
-use Rattle.ktm_world.proofs.Lookups.{Rises-from}
+use Rattle.txf_laws.specs.Elements.{IsIn}
+use Rattle.txf_laws.proofs.offered.CommitsOfOthers.{All-by, All-in}
+use Rattle.ktm_world.proofs.offered.Lookups.{Rises-from}
 use Rattle.txf_volume.proofs.OwnUses.{uses_law}
 use Rattle.txf_volume.proofs.PlainKept.{IsIn-map, firsts-then, opened-then}
 use Rattle.txf_volume.proofs.Seen.{changes_in, own_changes-held}

@@ -10,17 +10,16 @@ use Rattle.ktm_world.specs.Files.{FilesNow, FirstOpen, is_last_version}
 use Rattle.ktm_world.specs.FileUses.{same_version}
 use Rattle.ktm_world.specs.Tree.{Tree, node_at, content_of, is_file, bytes_of, bytes_or_none, units_of}
 use Rattle.txf_calls.specs.Fits.{Suits}
-use Rattle.ktm_laws.specs.GoodState.{each_pair}
-use Rattle.ktm_laws.specs.SoundFiles.{files_rise}
+use Rattle.txf_laws.specs.SoundFiles.{files_rise}
 use Rattle.txf_volume.specs.Uses.{IsSteady, ends, is_last_opened, kept}
-use Rattle.ktm_laws.specs.Footprint.{IsIn}
-use Rattle.ktm_laws.proofs.Elements.{list_any-from}
-use Rattle.ktm_laws.proofs.Passing.{All-in}
-use Rattle.ktm_world.proofs.Lookups.{map_node, node_at-elsewhere, node_at-there}
-use Rattle.ktm_laws.proofs.OlderVersions.{list_any-alike, older_units, version_units}
+use Rattle.txf_laws.specs.Elements.{IsIn, each_pair}
+use Rattle.txf_laws.proofs.offered.Elements.{list_any-from}
+use Rattle.txf_laws.proofs.offered.CommitsOfOthers.{All-in}
+use Rattle.ktm_world.proofs.offered.Lookups.{map_node, node_at-elsewhere, node_at-there}
+use Rattle.txf_laws.proofs.offered.OlderVersions.{list_any-alike, older_units, version_units}
 use Rattle.txf_volume.proofs.OlderVersions.{older-alike, older-more}
-use Rattle.ktm_laws.proofs.Versions.{version_of-raised, version-elsewhere}
-use Rattle.ktm_laws.proofs.CommittedUnits.{is_older}
+use Rattle.txf_laws.proofs.offered.Versions.{version_of-raised, version-elsewhere}
+use Rattle.txf_laws.proofs.offered.CommittedUnits.{is_older}
 
 -- is it the last version of the file
 abbrev pub is_last : List Version → ℕ → FirstOpen → Bool

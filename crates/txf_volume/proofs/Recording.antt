@@ -16,7 +16,7 @@ use Rattle.ktm_world.specs.Committed.{final_bytes}
 use Rattle.ktm_world.specs.Durable.{next_after_all}
 use Rattle.ktm_world.specs.Files.{own_changes}
 use Rattle.ktm_world.specs.Tree.{Tree}
-use Rattle.ktm_laws.proofs.Applying.{Applies-from}
+use Rattle.txf_laws.proofs.offered.ChangeTests.{Applies-from}
 use Rattle.txf_overlay.specs.Laws.{IsOwn}
 use Rattle.txf_overlay.specs.OverlayState.{OverlayState, Written, final_of, is_of_names, own_of}
 use Rattle.txf_overlay.specs.Written.{AreOver, IsRising, first_from}

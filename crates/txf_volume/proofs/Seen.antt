@@ -24,8 +24,8 @@ use Rattle.txf_versions.specs.declared.opened.Opened.{Opened}
 use Rattle.txf_volume.specs.Held.{FilesHeld, OwnHeld, files_of, first_held, overlay_in, own_held, version_bytes}
 use Rattle.txf_volume.specs.Ties.{IsOver}
 use Rattle.std.proofs.lemmas.List.Elements.{All-head, All-tail}
-use Rattle.ktm_laws.proofs.NormalForms.{is_of_file, final-bytes}
-use Rattle.ktm_laws.proofs.NormalForms.{filter-append}
+use Rattle.txf_laws.proofs.offered.NormalForms.{is_of_file, final-bytes}
+use Rattle.txf_laws.proofs.offered.NormalForms.{filter-append}
 use Rattle.txf_volume.proofs.OwnBytes.{one-bytes}
 
 -- ---- own changes

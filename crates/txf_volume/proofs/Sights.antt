@@ -17,9 +17,9 @@ use Rattle.txf_calls.specs.declared.view.Seen.{Seen}
 use Rattle.txf_tree.specs.TreeState.{tree_of}
 use Rattle.txf_volume.specs.Held.{FilesHeld, files_of, overlay_in}
 use Rattle.txf_volume.specs.Ties.{IsOver, seen_by}
-use Rattle.ktm_laws.specs.Footprint.{IsIn}
-use Rattle.ktm_laws.specs.FinalChanges.{names_of}
-use Rattle.ktm_world.proofs.Lookups.{Above, Rises, Rises-from}
+use Rattle.txf_laws.specs.Elements.{IsIn}
+use Rattle.txf_laws.specs.FinalChanges.{names_of}
+use Rattle.ktm_world.proofs.offered.Lookups.{Above, Rises, Rises-from}
 use Rattle.txf_volume.proofs.Seen.{changes_in, own_changes-held}
 use Rattle.txf_volume.proofs.Steady.{names-own}
 

@@ -24,25 +24,24 @@ use Rattle.txf_versions.specs.declared.kept.Older.{Older}
 use Rattle.txf_versions.specs.declared.opened.Opened.{Opened}
 use Rattle.txf_volume.specs.Held.{FilesHeld, OwnHeld, changes_held, files_of, first_held, overlay_in, own_held, version_bytes}
 use Rattle.txf_volume.specs.Ties.{AreFew, AreTied, IsKeptOpen, IsOver, held_by_two, is_last, names_held, nodes_held, units_held}
-use Rattle.ktm_laws.specs.SoundFiles.{changed_by_two, files_rise}
-use Rattle.ktm_laws.specs.GoodState.{each_pair}
+use Rattle.txf_laws.specs.SoundFiles.{changed_by_two, files_rise}
 use Rattle.txf_volume.specs.Uses.{IsSteady}
 use Rattle.txf_volume.specs.Writes.{CanBeCounted}
-use Rattle.ktm_laws.specs.Footprint.{IsIn}
-use Rattle.ktm_laws.proofs.Elements.{list_all-at}
-use Rattle.ktm_laws.proofs.Passing.{All-in}
-use Rattle.ktm_laws.proofs.NormalForms.{AllBytes, names_only}
-use Rattle.ktm_laws.proofs.NormalForms.{ends_of, filter-append, no-names}
-use Rattle.ktm_laws.specs.FinalChanges.{names_of}
-use Rattle.ktm_world.proofs.Lookups.{Above, Rises, Rises-from}
+use Rattle.txf_laws.specs.Elements.{IsIn, each_pair}
+use Rattle.txf_laws.proofs.offered.Elements.{list_all-at}
+use Rattle.txf_laws.proofs.offered.CommitsOfOthers.{All-in}
+use Rattle.txf_laws.proofs.offered.NormalForms.{AllBytes, names_only}
+use Rattle.txf_laws.proofs.offered.NormalForms.{ends_of, filter-append, no-names}
+use Rattle.txf_laws.specs.FinalChanges.{names_of}
+use Rattle.ktm_world.proofs.offered.Lookups.{Above, Rises, Rises-from}
 use Rattle.txf_volume.proofs.NodesMade.{made-append, made-bytes, drops-bytes, waiting-bytes}
 use Rattle.txf_volume.proofs.OlderKept.{older-kept}
-use Rattle.ktm_laws.proofs.OlderVersions.{older-is, version_units}
-use Rattle.ktm_laws.proofs.Tables.{same_id-from}
-use Rattle.ktm_laws.proofs.CommittedUnits.{is_older}
+use Rattle.txf_laws.proofs.offered.OlderVersions.{older-is, version_units}
+use Rattle.txf_laws.proofs.offered.Tables.{same_id-from}
+use Rattle.txf_laws.proofs.offered.CommittedUnits.{is_older}
 use Rattle.txf_volume.proofs.Seen.{seen-some}
-use Rattle.ktm_laws.proofs.Sums.{count-append, one_where, count-cons}
-use Rattle.ktm_laws.proofs.Sums.{sum-same}
+use Rattle.txf_laws.proofs.offered.Sums.{count-append, one_where, count-cons}
+use Rattle.txf_laws.proofs.offered.Sums.{sum-same}
 
 -- ---- lists
 

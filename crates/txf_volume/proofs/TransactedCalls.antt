@@ -6,7 +6,7 @@ use Rattle.std.specs.List.{list_all}
 use Rattle.std.proofs.lemmas.Option.{none-some}
 use Rattle.std.specs.Option.{option_copied, option_map}
 use Rattle.ktm_base.specs.declared.id.Id.{Id}
-use Rattle.ktm_laws.specs.OwnChange.{owned}
+use Rattle.txf_laws.specs.OwnChange.{owned}
 use Rattle.ktm_types.specs.declared.change.Change.{Change}
 use Rattle.ktm_types.specs.declared.reply.Reply.{Reply}
 use Rattle.ktm_world.specs.Committed.{version_of}
@@ -27,16 +27,15 @@ use Rattle.txf_volume.specs.OwnParts.{bare_own}
 use Rattle.txf_volume.specs.Ties.{AreTied, IsKeptOpen, IsOver, held_by_two, names_held, nodes_held, units_held}
 use Rattle.txf_volume.specs.Transacted.{IsNotOpened, IsPlanOf, changed_by, first_opened, opened_by}
 use Rattle.txf_calls.specs.Fits.{opens_file}
-use Rattle.ktm_laws.specs.GoodState.{each_pair}
 use Rattle.txf_volume.specs.Uses.{IsSteady}
 use Rattle.txf_volume.specs.Writes.{CanBeCounted}
-use Rattle.ktm_laws.specs.Footprint.{IsIn}
-use Rattle.ktm_laws.proofs.Elements.{list_any-at}
-use Rattle.ktm_laws.proofs.Passing.{All-by, All-in}
+use Rattle.txf_laws.specs.Elements.{IsIn, each_pair}
+use Rattle.txf_laws.proofs.offered.Elements.{list_any-at}
+use Rattle.txf_laws.proofs.offered.CommitsOfOthers.{All-by, All-in}
 use Rattle.txf_volume.proofs.OwnUses.{uses_law}
 use Rattle.txf_volume.proofs.Seen.{first_open-held}
 use Rattle.txf_volume.proofs.Steady.{sum-map}
-use Rattle.ktm_laws.proofs.Sums.{sum-same as sums-same}
+use Rattle.txf_laws.proofs.offered.Sums.{sum-same as sums-same}
 use Rattle.txf_volume.proofs.TransactedParts.{stands-same}
 
 -- ---- what a call comes to, step by step

@@ -7,8 +7,8 @@ use Rattle.std.proofs.lemmas.List.Sums.{sum_by-cons}
 use Rattle.std.specs.List.{flat_map, list_all, list_any}
 use Rattle.std.specs.Prelude.{nat_lt}
 use Rattle.ktm_base.specs.declared.id.Id.{Id}
-use Rattle.ktm_laws.specs.OwnChange.{owned}
-use Rattle.ktm_laws.proofs.NormalForms.{Silent, each_change-append, silent-dropped, silent-moved, silent-places}
+use Rattle.txf_laws.specs.OwnChange.{owned}
+use Rattle.txf_laws.proofs.offered.NormalForms.{Silent, each_change-append, silent-dropped, silent-moved, silent-places}
 use Rattle.ktm_types.specs.declared.change.Change.{Change}
 use Rattle.ktm_types.specs.declared.change.Change.TheVariants.{Make, Put, Cut, Move, Drop}
 use Rattle.ktm_types.specs.declared.change.Contents.TheVariants.{Whole}
@@ -28,13 +28,12 @@ use Rattle.txf_tree.specs.TreeState.{tree_of, versions_of}
 use Rattle.txf_volume.specs.Held.{FilesHeld, OwnHeld, files_of, overlay_in, own_held}
 use Rattle.txf_volume.specs.OwnParts.{HoldsToo, IsChangedIn, or_unchanged, starts, unchanged, with_overlay, written_next}
 use Rattle.txf_volume.specs.Ties.{AreFew, AreTied, IsOver, held_by_two, units_held}
-use Rattle.ktm_laws.specs.GoodState.{each_pair}
 use Rattle.txf_volume.specs.Writes.{CanBeCounted}
-use Rattle.ktm_laws.specs.Footprint.{IsIn}
-use Rattle.ktm_laws.proofs.Passing.{All-by, All-in}
-use Rattle.ktm_laws.proofs.NormalForms.{written-final}
-use Rattle.ktm_laws.specs.FinalChanges.{names_of}
-use Rattle.ktm_laws.proofs.Tables.{same_id-equal, same_id-sym}
+use Rattle.txf_laws.specs.Elements.{IsIn, each_pair}
+use Rattle.txf_laws.proofs.offered.CommitsOfOthers.{All-by, All-in}
+use Rattle.txf_laws.proofs.offered.NormalForms.{written-final}
+use Rattle.txf_laws.specs.FinalChanges.{names_of}
+use Rattle.txf_laws.proofs.offered.Tables.{same_id-equal, same_id-sym}
 use Rattle.txf_volume.proofs.OwnTables.{own_changes-new, own_changes-other}
 use Rattle.txf_volume.proofs.Seen.{changes_in, has_made-own, made-append, over-in, own_changes-held}
 use Rattle.txf_volume.proofs.Steady.{few-counted, names-own}

@@ -22,7 +22,7 @@ use Rattle.txf_overlay.specs.Written.{total_units}
 use Rattle.txf_overlay.specs.Nodes.{last_of}
 use Rattle.txf_overlay.specs.OverlayState.{OverlayState, is_of_names, seen}
 use Rattle.txf_overlay.specs.Views.{StandsOver, last_seat, seat_at, seats_of}
-use Rattle.ktm_world.proofs.Lookups.{remade}
+use Rattle.ktm_world.proofs.offered.Lookups.{remade}
 use Rattle.txf_overlay.proofs.Trees.{Applies-from, at-All, is_there-some, node_at-there}
 use Rattle.txf_overlay.proofs.Views.{LastIs, last-is, untouched}
 use Rattle.txf_reserve.specs.ReserveState.{ReserveState}

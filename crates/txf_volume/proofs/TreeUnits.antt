@@ -11,9 +11,9 @@ use Rattle.ktm_types.specs.declared.recorded.Node.{Node}
 use Rattle.ktm_world.specs.Changes.{changed, bytes_in, new_content, changes_bytes, is_drop, is_make, node_of}
 use Rattle.ktm_world.specs.Tree.{Tree, node_at, content_of, is_file, bytes_or_none, bytes_of, units_of, cut_to, put_over, with_node, with_changed, without_node}
 use Rattle.txf_volume.specs.Uses.{gain, loss, one_if}
-use Rattle.ktm_world.proofs.Lookups.{Above, Rises}
+use Rattle.ktm_world.proofs.offered.Lookups.{Above, Rises}
 use Rattle.txf_volume.specs.Held.{node_units, tree_units}
-use Rattle.ktm_laws.proofs.CommittedUnits.{units-with_node, changed-above, units-with_same, file-found}
+use Rattle.txf_laws.proofs.offered.CommittedUnits.{units-with_node, changed-above, units-with_same, file-found}
 
 -- the units of a node, where there is one
 abbrev units_in : Option Node → ℕ

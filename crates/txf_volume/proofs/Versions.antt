@@ -6,12 +6,11 @@ use Rattle.std.specs.Prelude.{nat_lt}
 use Rattle.ktm_types.specs.declared.change.Change.{Change}
 use Rattle.ktm_types.specs.declared.change.Change.TheVariants.{Make, Put, Cut, Move, Drop}
 use Rattle.ktm_world.specs.Committed.{Version, version_of, raised_version, versions_after}
-use Rattle.ktm_laws.specs.GoodState.{each_pair}
-use Rattle.ktm_laws.specs.SoundFiles.{files_rise}
-use Rattle.ktm_laws.specs.Footprint.{IsIn}
-use Rattle.ktm_laws.proofs.Elements.{list_all-at, list_all-from}
-use Rattle.ktm_laws.proofs.Elements.{each_pair-filter}
-use Rattle.ktm_laws.proofs.Versions.{version_of-raised, rises-behind}
+use Rattle.txf_laws.specs.SoundFiles.{files_rise}
+use Rattle.txf_laws.specs.Elements.{IsIn, each_pair}
+use Rattle.txf_laws.proofs.offered.Elements.{list_all-at, list_all-from}
+use Rattle.txf_laws.proofs.offered.Elements.{each_pair-filter}
+use Rattle.txf_laws.proofs.offered.Versions.{version_of-raised, rises-behind}
 
 -- a version that was there, or one of the file
 IsIn-raised : (vs : List Version) (n : ℕ) (v : Version) → IsIn v (raised_version vs n) → IsIn v vs ⊎ (v.file ≡ n)

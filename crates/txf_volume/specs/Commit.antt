@@ -1,7 +1,7 @@
 -- What the commit of a transaction needs.
 use Rattle.std.specs.Prelude.{◌≡◌, ℕ, ◌-◌, ◌<◌, ◌≤◌, ◌^◌, not, true, false, List, length, Option, Some, None, All}
 use Rattle.ktm_base.specs.declared.id.Id.{Id}
-use Rattle.ktm_laws.specs.Reservations.{files_committed, IsLeft}
+use Rattle.txf_laws.specs.Reservations.{files_committed, IsLeft}
 use Rattle.ktm_world.specs.Committed.{Version, version_of}
 use Rattle.std.specs.List.{list_all}
 use Rattle.ktm_world.specs.Changes.{has_made}

@@ -1,7 +1,7 @@
 -- What a plain call needs, and what it makes of the parts of the files in memory.
 use Rattle.std.specs.Prelude.{◌≡◌, ℕ, ◌+◌, ◌-◌, ◌<◌, ◌^◌, ◌==◌, ◌&&◌, Bool, true, false, List, [], find, Option, Some, None, is_some, All, IfSome, if◌then◌else◌}
 use Rattle.std.specs.List.{list_any}
-use Rattle.ktm_laws.specs.Reservations.{IsLeft}
+use Rattle.txf_laws.specs.Reservations.{IsLeft}
 use Rattle.ktm_types.specs.declared.change.Change.{Change}
 use Rattle.ktm_world.specs.Changes.{applies, changes_apply, changed, changes_bytes, is_make, node_of}
 use Rattle.ktm_world.specs.Committed.{version_of}

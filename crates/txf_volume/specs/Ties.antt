@@ -14,7 +14,7 @@ use Rattle.txf_versions.specs.VersionsState.{is_version}
 use Rattle.txf_versions.specs.declared.kept.Older.{Older}
 use Rattle.txf_versions.specs.declared.opened.Opened.{Opened}
 use Rattle.txf_volume.specs.Held.{FilesHeld, OwnHeld, files_of, tree_units}
-use Rattle.ktm_laws.specs.GoodState.{each_pair}
+use Rattle.txf_laws.specs.Elements.{each_pair}
 
 -- are they of two transactions
 abbrev pub held_by_two : OwnHeld → OwnHeld → Bool

@@ -1,7 +1,7 @@
 -- What a call of a transaction makes of the files in memory, and what its end does.
 use Rattle.std.specs.Prelude.{◌≡◌, ℕ, ◌+◌, ◌<◌, ◌≤◌, ◌^◌, true, not, List, [], ◌∷◌, ◌++◌, filter, length, Option, Some, None}
 use Rattle.ktm_base.specs.declared.id.Id.{Id}
-use Rattle.ktm_laws.specs.OwnChange.{owned}
+use Rattle.txf_laws.specs.OwnChange.{owned}
 use Rattle.ktm_types.specs.declared.change.Change.{Change}
 use Rattle.ktm_types.specs.declared.change.Change.TheVariants.{Put, Cut}
 use Rattle.ktm_world.specs.Changes.{applies, bytes_in}

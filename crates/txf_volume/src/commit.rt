@@ -1,6 +1,6 @@
 // What a transaction changed is committed.
 ghost use Rattle.std.specs.Prelude.{◌≡◌, ◌+◌, ◌-◌, ◌<◌, ◌^◌, ◌∷◌, [], IfSome, IsOk, MatchOption, None, OnOk, true};
-ghost use Rattle.ktm_laws.specs.Reservations.{files_committed};
+ghost use Rattle.txf_laws.specs.Reservations.{files_committed};
 ghost use Rattle.ktm_world.specs.Changes.{changes_apply};
 ghost use Rattle.ktm_world.specs.Files.{own_changes};
 ghost use Rattle.ktm_world.specs.Tree.{units_of};
@@ -15,8 +15,8 @@ use crate::change::units_in;
 use crate::files::{Files, end_version, law_of_older};
 use crate::own::{overlay_of, take_overlay};
 use ktm_base::{Bytes, Id, NoMemory};
-use ktm_laws::law_of_forms;
 use ktm_types::Change;
+use txf_laws::law_of_forms;
 use txf_overlay::{Overlay, WrittenFile, law_of_other_trees};
 use txf_tree::{Tree, node_of};
 use txf_versions::Versions;

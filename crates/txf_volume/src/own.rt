@@ -4,7 +4,7 @@ ghost use Rattle.std.specs.Option.{option_copied};
 ghost use Rattle.txf_volume.specs.Held.{overlay_in, without_own};
 ghost use Rattle.txf_volume.specs.OwnParts.{IsPlace};
 ghost use Rattle.txf_volume.specs.Ties.{held_by_two, names_held, nodes_held, units_held};
-ghost use Rattle.ktm_laws.specs.GoodState.{each_pair};
+ghost use Rattle.txf_laws.specs.Elements.{each_pair};
 
 use ktm_base::Id;
 use std::marker::Model;

@@ -13,17 +13,17 @@ ghost use Rattle.txf_volume.specs.Held.{overlay_in};
 ghost use Rattle.txf_volume.specs.OwnParts.{bare, bare_own, or_unchanged, starts, unchanged, written_next, IsChanged, IsChangedIn, IsPlace};
 ghost use Rattle.txf_volume.specs.Ties.{held_by_two, IsOver};
 ghost use Rattle.txf_volume.specs.Transacted.{CanOwn, IsWithin};
-ghost use Rattle.ktm_laws.specs.GoodState.{each_pair};
+ghost use Rattle.txf_laws.specs.Elements.{each_pair};
 
 use crate::holding::{
     hold_dropped, hold_file, hold_made, hold_moved, is_directory_seen, place_seen,
 };
 use crate::own::{Own, place_of};
 use ktm_base::{Id, NoMemory, Text};
-use ktm_laws::law_of_forms;
 use ktm_types::{Change, Contents, NodeKind};
 use std::alloc::Global;
 use txf_calls::Place;
+use txf_laws::law_of_forms;
 use txf_overlay::Overlay;
 use txf_reserve::Reserve;
 use txf_tree::{Tree, bytes_in};

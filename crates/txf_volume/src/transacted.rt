@@ -1,7 +1,7 @@
 // What transactions change, hold and open of the files, until they end.
 ghost use Rattle.std.specs.Prelude.{◌≡◌, ℕ, ◌<◌, Some, None, IsOk, OnOk, OnErr, true};
 ghost use Rattle.std.specs.Option.{option_map};
-ghost use Rattle.ktm_laws.specs.OwnChange.{owned};
+ghost use Rattle.txf_laws.specs.OwnChange.{owned};
 ghost use Rattle.ktm_types.specs.declared.change.Change.{Change as Made};
 ghost use Rattle.ktm_world.specs.Changes.{applies};
 ghost use Rattle.ktm_world.specs.FileOutcome.{files_after};

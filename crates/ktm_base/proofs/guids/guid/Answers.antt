@@ -1,7 +1,7 @@
 use Rattle.std.proofs.Common.{rules, sym, ap, ◌∙◌}
 use Rattle.std.specs.Int.{w64, to_be_bytes}
 use Rattle.ktm_base.specs.Guid.{kind_number}
-use Rattle.ktm_base.proofs.GuidLemmas.{from_fields}
+use Rattle.ktm_base.proofs.offered.GuidLemmas.{from_fields}
 use Rattle.ktm_base.proofs.guids.guid.Goals as goal
 
 pub returns : goal.returns

@@ -2,7 +2,7 @@ use Rattle.std.proofs.Common.{rules, ◌≡◌, ap, ◌∙◌}
 use Rattle.std.specs.Cmp.Lexicographic.{other_text}
 use Rattle.std.specs.Int.{w64, from_be_bytes}
 use Rattle.ktm_base.specs.Guid.{guid_of}
-use Rattle.ktm_base.proofs.GuidLemmas.{id_read}
+use Rattle.ktm_base.proofs.offered.GuidLemmas.{id_read}
 use Rattle.ktm_base.proofs.guids.id_of.Goals as goal
 
 pub returns-else-eq-clause-every : goal.returns-else-eq-clause-every

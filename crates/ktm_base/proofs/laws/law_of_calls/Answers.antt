@@ -1,4 +1,4 @@
-use Rattle.ktm_base.proofs.Images.{calls_law}
+use Rattle.ktm_base.proofs.offered.Images.{calls_law}
 use Rattle.ktm_base.proofs.laws.law_of_calls.Goals as goal
 
 pub returns : goal.returns

@@ -1,4 +1,4 @@
-use Rattle.ktm_base.proofs.Images.{sync_law}
+use Rattle.ktm_base.proofs.offered.Images.{sync_law}
 use Rattle.ktm_base.proofs.laws.law_of_sync.Goals as goal
 
 pub returns : goal.returns

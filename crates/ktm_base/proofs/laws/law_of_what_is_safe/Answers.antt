@@ -1,4 +1,4 @@
-use Rattle.ktm_base.proofs.Images.{safe_law}
+use Rattle.ktm_base.proofs.offered.Images.{safe_law}
 use Rattle.ktm_base.proofs.laws.law_of_what_is_safe.Goals as goal
 
 pub returns : goal.returns

@@ -1,4 +1,4 @@
-use Rattle.ktm_base.proofs.Images.{write_refused_law}
+use Rattle.ktm_base.proofs.offered.Images.{write_refused_law}
 use Rattle.ktm_base.proofs.laws.law_of_write_refused.Goals as goal
 
 pub returns : goal.returns

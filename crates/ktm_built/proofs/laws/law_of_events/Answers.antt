@@ -1,4 +1,4 @@
-use Rattle.ktm_built.proofs.Outcomes.{events_law}
+use Rattle.ktm_built.proofs.offered.Outcomes.{events_law}
 use Rattle.ktm_built.proofs.laws.law_of_events.Goals as goal
 
 pub returns : goal.returns

@@ -1,4 +1,4 @@
-use Rattle.ktm_built.proofs.Guids.{guid_law}
+use Rattle.ktm_built.proofs.offered.Guids.{guid_law}
 use Rattle.ktm_built.proofs.laws.law_of_guids.Goals as goal
 
 pub returns : goal.returns

@@ -1,4 +1,4 @@
-use Rattle.ktm_built.proofs.Timeouts.{timeout_law}
+use Rattle.ktm_built.proofs.offered.Timeouts.{timeout_law}
 use Rattle.ktm_built.proofs.laws.law_of_timeouts.Goals as goal
 
 pub returns : goal.returns

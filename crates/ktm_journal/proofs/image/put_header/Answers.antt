@@ -1,6 +1,6 @@
 use Rattle.ktm_base.specs.Disk.{DiskState}
 use Rattle.ktm_journal.specs.Format.{IsLaid}
-use Rattle.ktm_base.proofs.ToldSteps.{Goes-map}
+use Rattle.ktm_base.proofs.offered.ToldSteps.{Goes-map}
 use Rattle.ktm_journal.proofs.Formats.{headed}
 use Rattle.ktm_journal.proofs.image.put_header.Goals as goal
 

@@ -1,6 +1,6 @@
 use Rattle.std.proofs.Common.{◌≡◌, Err, refl, sym, ◌∙◌, ap}
 use Rattle.ktm_base.specs.Disk.{DiskState}
-use Rattle.ktm_base.proofs.ToldSteps.{IfSome-map}
+use Rattle.ktm_base.proofs.offered.ToldSteps.{IfSome-map}
 use Rattle.ktm_log.specs.Log.{BeginsWith, IsLog, IsBadLog, area_bytes, payloads_in}
 use Rattle.ktm_journal.specs.declared.fault.LoadFault.TheVariants.{Bad}
 use Rattle.ktm_journal.proofs.LogLoads.{stands_told, bad_payload_told, torn_told, journal_told}

@@ -1,5 +1,5 @@
 use Rattle.std.proofs.Common.{arith}
-use Rattle.ktm_world.proofs.KeyLemmas.{length-counts}
+use Rattle.ktm_world.proofs.offered.KeyLemmas.{length-counts}
 use Rattle.ktm_journal.proofs.replayed.count_unset.Goals as goal
 
 pub overflow_sub-result : goal.overflow_sub-result

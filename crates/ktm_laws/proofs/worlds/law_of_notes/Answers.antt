@@ -1,4 +1,4 @@
-use Rattle.ktm_laws.proofs.Honest.{notes_law}
+use Rattle.ktm_laws.proofs.Notes.{notes_law}
 use Rattle.ktm_laws.proofs.worlds.law_of_notes.Goals as goal
 
 pub returns : goal.returns

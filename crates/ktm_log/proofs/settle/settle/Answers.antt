@@ -3,8 +3,8 @@ use Rattle.std.proofs.lemmas.Grind.{common_steps}
 use Rattle.ktm_base.specs.Bytes.{SameOutside}
 use Rattle.ktm_base.specs.Told.{Goes}
 use Rattle.ktm_base.specs.Disk.{DiskState, Dirtied}
-use Rattle.ktm_base.proofs.Images.{same_written}
-use Rattle.ktm_base.proofs.ToldSteps.{Goes-map}
+use Rattle.ktm_base.proofs.offered.Images.{same_written}
+use Rattle.ktm_base.proofs.offered.ToldSteps.{Goes-map}
 use Rattle.ktm_log.specs.Settle.{Tore}
 use Rattle.ktm_log.proofs.settle.settle.Goals as goal
 

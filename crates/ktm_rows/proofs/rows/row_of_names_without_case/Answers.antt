@@ -1,5 +1,5 @@
 use Rattle.std.proofs.Common.{refl}
-use Rattle.ktm_world.proofs.Computing.{computed}
+use Rattle.ktm_world.proofs.offered.Computing.{computed}
 use Rattle.ktm_rows.proofs.rows.row_of_names_without_case.Goals as goal
 
 pub returns : goal.returns

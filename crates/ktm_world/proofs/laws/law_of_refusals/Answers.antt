@@ -1,4 +1,4 @@
-use Rattle.ktm_world.proofs.Worlds.{refusal_law}
+use Rattle.ktm_world.proofs.offered.Worlds.{refusal_law}
 use Rattle.ktm_world.proofs.laws.law_of_refusals.Goals as goal
 
 pub returns : goal.returns

@@ -1,4 +1,4 @@
-use Rattle.ktm_world.proofs.SizeLemmas.{size_law}
+use Rattle.ktm_world.proofs.offered.SizeLemmas.{size_law}
 use Rattle.ktm_world.proofs.laws.law_of_sizes.Goals as goal
 
 pub returns : goal.returns

@@ -1,4 +1,4 @@
-use Rattle.ktm_links.proofs.Indexes.{key_at-free}
+use Rattle.ktm_links.proofs.offered.Indexes.{key_at-free}
 use Rattle.txf_opens.proofs.index.add.Goals as goal
 
 pub insert-requires-clause-free : goal.insert-requires-clause-free

@@ -3,7 +3,7 @@ use Rattle.txf_overlay.specs.OverlayState.{OverlayState}
 use Rattle.txf_volume.specs.Held.{overlay_in, without_own}
 use Rattle.txf_volume.specs.OwnParts.{with_overlay}
 use Rattle.txf_volume.specs.Ties.{held_by_two}
-use Rattle.ktm_laws.specs.GoodState.{each_pair}
+use Rattle.txf_laws.specs.Elements.{each_pair}
 use Rattle.txf_volume.proofs.own.place_of.Given as goal
 
 -- the transaction is in the rest

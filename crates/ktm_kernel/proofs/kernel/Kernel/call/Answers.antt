@@ -1,6 +1,6 @@
 use Rattle.std.proofs.Common.{sym, ◌∙◌}
 use Rattle.ktm_world.specs.Decide.{decide}
-use Rattle.ktm_built.proofs.Decided.{decided_law}
+use Rattle.ktm_built.proofs.offered.Decided.{decided_law}
 use Rattle.ktm_kernel.proofs.Ready.{ready_after, down_causes}
 use Rattle.ktm_kernel.proofs.Worlds.{call_goes_on, ended_lines, down_call}
 use Rattle.ktm_kernel.proofs.kernel.Kernel.call.Goals as goal

@@ -1,8 +1,8 @@
 use Rattle.std.specs.Prelude.{IfSome, IsSomeAnd}
 use Rattle.std.proofs.Common.{Err, ◌≡◌, ℕ, List, true, false, ◌+◌, ◌-◌, ◌*◌, refl, ap, subst, sym, ◌∙◌, arith}
 use Rattle.ktm_base.specs.declared.limits.TheConstants.{MOST_UNITS}
-use Rattle.ktm_base.proofs.Images.{calls_law}
-use Rattle.ktm_base.proofs.ToldSteps.{IfSome-map}
+use Rattle.ktm_base.proofs.offered.Images.{calls_law}
+use Rattle.ktm_base.proofs.offered.ToldSteps.{IfSome-map}
 use Rattle.ktm_journal.specs.Bad.{IsBadAt}
 use Rattle.ktm_journal.specs.Image.{IsFormatted, JournalAt, LeavesGroupOrNot, StandsFor}
 use Rattle.ktm_world.specs.Durable.{Durable}

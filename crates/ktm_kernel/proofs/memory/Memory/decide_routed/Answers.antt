@@ -1,6 +1,6 @@
 use Rattle.std.proofs.Common.{Some, refl}
 use Rattle.ktm_kernel.specs.Memory.{held, now_of}
-use Rattle.ktm_built.proofs.Forms.{forms_law}
+use Rattle.ktm_built.proofs.offered.Forms.{forms_law}
 use Rattle.ktm_built.specs.Forms.{with_handle_closed, with_process_gone, with_rollback}
 use Rattle.ktm_kernel.specs.declared.settlement.Settlement.TheVariants.{Rollback, Close, Exit}
 use Rattle.ktm_types.specs.declared.reply.Reply.TheVariants.{Done}

@@ -1,5 +1,5 @@
 use Rattle.std.proofs.Common.{ap, sym, ◌∙◌}
-use Rattle.ktm_built.proofs.Found.{found_again}
+use Rattle.ktm_built.proofs.offered.Found.{found_again}
 use Rattle.ktm_world.specs.Transactions.{transaction_at}
 use Rattle.ktm_kernel.specs.Memory.{held, now_of}
 use Rattle.ktm_kernel.proofs.Settles.{active_rolled, none_stays, others_stay}

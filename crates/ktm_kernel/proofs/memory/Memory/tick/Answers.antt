@@ -3,7 +3,7 @@ use Rattle.std.proofs.lemmas.List.Sums.{length-filter}
 use Rattle.std.proofs.lemmas.Option.{slice_get_within}
 use Rattle.std.specs.List.{slice_get}
 use Rattle.ktm_base.specs.declared.limits.TheConstants.{MOST_LIVE}
-use Rattle.ktm_built.proofs.Distinct.{Rise, rise-ended}
+use Rattle.ktm_built.proofs.offered.Distinct.{Rise, rise-ended}
 use Rattle.ktm_built.specs.Forms.{with_tick}
 use Rattle.ktm_types.specs.declared.object.Transaction.{Transaction}
 use Rattle.ktm_types.specs.declared.object.TransactionOutcome.{TransactionOutcome}

@@ -1,7 +1,7 @@
 use Rattle.std.proofs.Common.{◌≡◌, ◌-◌, ◌≤◌, filter, length}
 use Rattle.ktm_base.specs.declared.limits.TheConstants.{MOST_LIVE}
 use Rattle.ktm_built.specs.Forms.{with_tick}
-use Rattle.ktm_built.proofs.Distinct.{Rise}
+use Rattle.ktm_built.proofs.offered.Distinct.{Rise}
 use Rattle.ktm_journal.specs.Image.{JournalState}
 use Rattle.ktm_kernel.specs.Memory.{held, now_of}
 use Rattle.ktm_world.specs.Transactions.{is_live}

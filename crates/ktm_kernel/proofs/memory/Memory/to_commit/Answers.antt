@@ -1,4 +1,4 @@
-use Rattle.ktm_built.proofs.Forms.{named_law}
+use Rattle.ktm_built.proofs.offered.Forms.{named_law}
 use Rattle.ktm_kernel.specs.Memory.{held, now_of}
 use Rattle.ktm_kernel.proofs.Routes.{commit_refused, commit_routed}
 use Rattle.ktm_kernel.proofs.Takes.{commit_takes}

@@ -5,7 +5,7 @@ use Rattle.ktm_base.specs.declared.id.ObjectKind.{ObjectKind}
 use Rattle.ktm_base.specs.Guid.{IsId, guid_of}
 use Rattle.ktm_world.specs.Transactions.{is_live, same_id}
 use Rattle.ktm_built.specs.Laws.{LeadsTo}
-use Rattle.ktm_built.proofs.Guids.{guid_law}
+use Rattle.ktm_built.proofs.offered.Guids.{guid_law}
 use Rattle.ktm_kernel.specs.Memory.{held, now_of}
 use Rattle.ktm_kernel.proofs.Standing.{kept}
 use Rattle.ktm_kernel.proofs.memory.Memory.with_guid.Goals as goal

@@ -1,7 +1,7 @@
 use Rattle.std.proofs.Common.{sym}
 use Rattle.ktm_links.specs.Blocks.{index_of}
 use Rattle.ktm_links.proofs.Blocks.{spot_gap, within}
-use Rattle.ktm_links.proofs.Entries.{none_at}
+use Rattle.ktm_links.proofs.offered.Entries.{none_at}
 use Rattle.ktm_links.proofs.InOrder.{absent, found_key}
 use Rattle.ktm_links.proofs.chains.Chains.find.Goals as goal
 

@@ -1,6 +1,6 @@
 use Rattle.std.proofs.Common.{◌∙◌, sym}
 use Rattle.std.proofs.lemmas.Option.{same_Some}
-use Rattle.ktm_links.proofs.Entries.{first_with-here, first_with-nowhere, first_with-nothing}
+use Rattle.ktm_links.proofs.offered.Entries.{first_with-here, first_with-nowhere, first_with-nothing}
 use Rattle.ktm_links.proofs.chains.Chains.first_with.Goals as goal
 
 pub returns-then-starts_with-clause-first : goal.returns-then-starts_with-clause-first

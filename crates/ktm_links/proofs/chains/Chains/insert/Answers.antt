@@ -3,8 +3,8 @@ use Rattle.ktm_links.specs.Mapped.{Mapped, put, at, value_of}
 use Rattle.ktm_links.proofs.InOrder.{in_order, inserted, value_of-absent}
 use Rattle.ktm_links.specs.Blocks.{index_of}
 use Rattle.ktm_links.proofs.Blocks.{within_gap}
-use Rattle.ktm_links.proofs.Keys.{same_key-other}
-use Rattle.ktm_links.proofs.Entries.{at-put_same, at-put_other, value_of-put_same, value_of-put_other, KeepsSpent-put}
+use Rattle.ktm_links.proofs.offered.Keys.{same_key-other}
+use Rattle.ktm_links.proofs.offered.Entries.{at-put_same, at-put_other, value_of-put_same, value_of-put_other, KeepsSpent-put}
 use Rattle.ktm_links.proofs.chains.Chains.insert.Goals as goal
 
 pub invariant_of-self : goal.invariant_of-self

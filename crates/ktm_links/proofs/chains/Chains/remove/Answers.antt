@@ -6,8 +6,8 @@ use Rattle.ktm_links.specs.Mapped.{at, key_at, value_of, without_name}
 use Rattle.ktm_links.proofs.InOrder.{taken, taken_spent, order_taken, absent}
 use Rattle.ktm_links.specs.Blocks.{index_of}
 use Rattle.ktm_links.proofs.Blocks.{within}
-use Rattle.ktm_links.proofs.Keys.{gone_at}
-use Rattle.ktm_links.proofs.Entries.{none_at, at-without_same, at-without_other, value_of-without_other, KeepsSpent-without_name}
+use Rattle.ktm_links.proofs.offered.Keys.{gone_at}
+use Rattle.ktm_links.proofs.offered.Entries.{none_at, at-without_same, at-without_other, value_of-without_other, KeepsSpent-without_name}
 use Rattle.ktm_links.proofs.chains.Chains.remove.Goals as goal
 
 pub invariant_of-self : goal.invariant_of-self

@@ -2,7 +2,7 @@ use Rattle.std.proofs.Common.{◌∙◌, ap, refl, sym}
 use Rattle.ktm_links.specs.declared.list.Key.{Key}
 use Rattle.ktm_links.specs.Items.{item, value_at}
 use Rattle.ktm_links.proofs.Segments.{pushed, is_linked, walk-linked}
-use Rattle.ktm_links.proofs.Keys.{KeepsSpent-push, value_at-last, value_at-push_other}
+use Rattle.ktm_links.proofs.offered.Keys.{KeepsSpent-push, value_at-last, value_at-push_other}
 use Rattle.ktm_links.proofs.Linked.{vacant}
 use Rattle.ktm_links.proofs.list.List.push_spare.Goals as goal
 

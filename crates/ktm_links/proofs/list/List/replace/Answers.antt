@@ -1,7 +1,7 @@
 use Rattle.std.proofs.Common.{◌≡◌, ◌∙◌, ap, true, is_some, refl}
 use Rattle.ktm_links.specs.Items.{Listed, value_at, with_value}
 use Rattle.ktm_links.proofs.Segments.{is_linked, walk-linked}
-use Rattle.ktm_links.proofs.Keys.{split, value_at-with_same, value_at-with_other, KeepsSpent-with_value}
+use Rattle.ktm_links.proofs.offered.Keys.{split, value_at-with_same, value_at-with_other, KeepsSpent-with_value}
 use Rattle.ktm_links.proofs.Linked.{present, valued_key, valued_was}
 use Rattle.ktm_links.proofs.list.List.replace.Goals as goal
 

@@ -1,7 +1,7 @@
 use Rattle.std.proofs.Common.{◌≡◌, ◌∙◌, ap, sym, true, false, is_some, refl}
 use Rattle.ktm_links.specs.Items.{Listed, value_at, without}
 use Rattle.ktm_links.proofs.Segments.{is_linked, walk-linked}
-use Rattle.ktm_links.proofs.Keys.{split, without-absent, KeepsSpent-without, value_at-others}
+use Rattle.ktm_links.proofs.offered.Keys.{split, without-absent, KeepsSpent-without, value_at-others}
 use Rattle.ktm_links.proofs.Linked.{present, removed_value, unlinked_key, value_at-removed, generation_before}
 use Rattle.ktm_links.proofs.list.List.unlink.Goals as goal
 

@@ -3,7 +3,7 @@ use Rattle.std.proofs.lemmas.Grind.{common_steps}
 use Rattle.ktm_base.specs.Disk.{DiskState}
 use Rattle.ktm_log.specs.Log.{Rests}
 use Rattle.ktm_log.proofs.Appends.{length-body, stage_tore, stage_done, gate_tore, gate_done, both_elsewhere}
-use Rattle.ktm_base.proofs.ToldSteps.{Goes-map}
+use Rattle.ktm_base.proofs.offered.ToldSteps.{Goes-map}
 use Rattle.ktm_log.proofs.Steps.{Goes-two, IsSomeAnd-two, IfSome-from_tells}
 use Rattle.ktm_log.proofs.log.Log.append.Goals as goal
 

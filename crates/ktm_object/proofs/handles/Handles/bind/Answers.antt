@@ -1,5 +1,5 @@
 use Rattle.std.proofs.Common.{◌+◌, ◌∙◌, sym, ap, refl}
-use Rattle.ktm_links.proofs.Indexes.{AreDistinct-push, IsIndex-push}
+use Rattle.ktm_links.proofs.offered.Indexes.{AreDistinct-push, IsIndex-push}
 use Rattle.ktm_object.specs.Names.{label_bytes, label_name, object_name, object_owner, owner_bytes, group_name, group_owner}
 use Rattle.ktm_object.proofs.Indexes.{label_free, label_key_free, name_free, name_key_free}
 use Rattle.ktm_object.proofs.handles.Handles.bind.Goals as goal

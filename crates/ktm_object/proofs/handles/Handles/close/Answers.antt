@@ -4,7 +4,7 @@ use Rattle.ktm_world.specs.HandleCalls.{has_handle, without_handle}
 use Rattle.ktm_object.specs.declared.entry.Entry.{Entry}
 use Rattle.ktm_object.specs.Table.{HandleTable, closing, entry_at, handle_of, without_entry}
 use Rattle.ktm_links.specs.Mapped.{key_under}
-use Rattle.ktm_links.proofs.Indexes.{AreDistinct-without, IsIndex-without}
+use Rattle.ktm_links.proofs.offered.Indexes.{AreDistinct-without, IsIndex-without}
 use Rattle.ktm_object.specs.Names.{label_bytes, label_name, object_name, object_owner, owner_bytes, group_name, group_owner}
 use Rattle.ktm_object.proofs.Closing.{values_of-without, handles-without, label_name-found, name_taken, not_flip, spare_back, spare_rises, without_entry-absent}
 use Rattle.ktm_object.proofs.Labels.{entry_at-absent, entry_at-index, object_at-entry}

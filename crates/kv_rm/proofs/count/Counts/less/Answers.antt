@@ -1,5 +1,5 @@
 use Rattle.std.proofs.Common.{◌≡◌, ◌+◌, length, count_by, arith}
-use Rattle.ktm_world.proofs.KeyLemmas.{length-counts}
+use Rattle.ktm_world.proofs.offered.KeyLemmas.{length-counts}
 use Rattle.kv_rm.specs.Count.{is_of_kind}
 use Rattle.kv_rm.specs.declared.count.Kind.TheVariants.{Value, Unset}
 use Rattle.kv_rm.proofs.count.Counts.less.Goals as goal

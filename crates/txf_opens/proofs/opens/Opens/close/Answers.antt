@@ -1,7 +1,7 @@
 use Rattle.std.proofs.Common.{◌≡◌, ◌==◌, [], Some, None, filter, sym, ap, ◌∙◌}
 use Rattle.std.proofs.lemmas.Bool.{eq-eqb}
 use Rattle.ktm_links.specs.Items.{value_at}
-use Rattle.ktm_links.proofs.Indexes.{AreDistinct-without}
+use Rattle.ktm_links.proofs.offered.Indexes.{AreDistinct-without}
 use Rattle.txf_opens.specs.Indexed.{is_any, opens_of}
 use Rattle.ktm_links.specs.Numbers.{number_bytes, long_bytes}
 use Rattle.txf_opens.specs.Names.{group_bytes, group_name, number_name}

@@ -1,7 +1,7 @@
 use Rattle.std.proofs.Common.{◌≡◌, ◌+◌, None, refl, arith}
 use Rattle.txf_opens.specs.declared.file.OpenFile.{OpenFile as Kept}
 use Rattle.ktm_links.specs.Mapped.{key_under}
-use Rattle.ktm_links.proofs.Indexes.{AreDistinct-push}
+use Rattle.ktm_links.proofs.offered.Indexes.{AreDistinct-push}
 use Rattle.txf_opens.specs.Indexed.{is_any, IsFree}
 use Rattle.txf_opens.specs.Names.{group_name, number_name, use_name}
 use Rattle.txf_opens.specs.OpensState.{open_of, opened}

@@ -1,4 +1,4 @@
-use Rattle.ktm_links.proofs.Indexes.{IsIndex-push}
+use Rattle.ktm_links.proofs.offered.Indexes.{IsIndex-push}
 use Rattle.txf_versions.specs.Names.{holder_name, open_name, own_name}
 use Rattle.txf_versions.specs.VersionsState.{is_open_of}
 use Rattle.txf_versions.proofs.Indexes.{free, key_free}

@@ -1,6 +1,6 @@
 use Rattle.std.proofs.Common.{[], sym}
 use Rattle.ktm_links.specs.Mapped.{Begins}
-use Rattle.ktm_links.proofs.Indexes.{IsIndex-without}
+use Rattle.ktm_links.proofs.offered.Indexes.{IsIndex-without}
 use Rattle.txf_versions.specs.Names.{holder_name, own_name, transaction_bytes}
 use Rattle.txf_versions.specs.VersionsState.{is_own}
 use Rattle.txf_versions.proofs.Indexes.{any-none, first_is, taken}

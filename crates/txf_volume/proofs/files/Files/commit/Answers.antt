@@ -1,5 +1,5 @@
 use Rattle.std.proofs.Common.{MatchOption, Option, [], ap, subst, sym, refl, ◌∙◌, arith}
-use Rattle.ktm_laws.specs.Reservations.{files_committed}
+use Rattle.txf_laws.specs.Reservations.{files_committed}
 use Rattle.txf_overlay.specs.OverlayState.{OverlayState, own_of}
 use Rattle.txf_volume.specs.Making.{parts, AreMade}
 use Rattle.txf_volume.specs.Held.{FilesHeld, files_of}

@@ -3,7 +3,7 @@ use Rattle.std.specs.Option.{option_copied}
 use Rattle.ktm_types.specs.declared.change.Change.{Change}
 use Rattle.ktm_world.specs.Changes.{is_make, node_of}
 use Rattle.ktm_world.specs.Durable.{next_after_all}
-use Rattle.ktm_laws.proofs.Committing.{next-to}
+use Rattle.txf_laws.proofs.offered.NodeNumbers.{next-to}
 use Rattle.txf_tree.specs.TreeState.{tree_of}
 use Rattle.txf_volume.proofs.Recording.{made-low, next-none, next-some}
 use Rattle.txf_volume.proofs.files.Files.next_after.Goals as goal

@@ -1,5 +1,5 @@
 use Rattle.std.proofs.Common.{◌≡◌, Some, true, sym, subst}
-use Rattle.ktm_laws.specs.OwnChange.{owned}
+use Rattle.txf_laws.specs.OwnChange.{owned}
 use Rattle.ktm_world.specs.Changes.{applies}
 use Rattle.ktm_world.specs.Files.{tree_seen}
 use Rattle.txf_volume.specs.Held.{FilesHeld, files_of}

@@ -1,0 +1,4 @@
+-- Lemmas that other crates cite.
+pub mod ToldSteps
+pub mod Images
+pub mod GuidLemmas

@@ -1,0 +1,10 @@
+-- Lemmas that other crates cite.
+pub mod Found
+pub mod Quiet
+pub mod Forms
+pub mod Distinct
+pub mod Timeouts
+pub mod Guids
+pub mod Decided
+pub mod Machine
+pub mod Outcomes

@@ -1,0 +1,438 @@
+-- What holds of every outcome of a built command.
+use Rattle.std.proofs.Common.{◌≡◌, ℕ, Bool, true, false, not, ◌&&◌, cond, List, [], ◌∷◌, Option, Some, None, refl, sym, ◌∙◌, ap, inl, inr}
+use Rattle.std.proofs.lemmas.Bool.{cases_Bool, and_from, and_parts, or_from}
+use Rattle.ktm_base.specs.declared.id.Id.{Id}
+use Rattle.ktm_base.specs.declared.id.Label.{Label}
+use Rattle.ktm_base.specs.declared.id.Pid.{Pid}
+use Rattle.ktm_base.specs.declared.refusal.Refusal.{Refusal}
+use Rattle.ktm_base.specs.declared.refusal.Refusal.TheVariants.{MachineDown, LogFull}
+use Rattle.ktm_types.specs.declared.command.Command.{Command}
+use Rattle.ktm_types.specs.declared.command.Command.TheVariants.{CreateTransaction, OpenTransaction, CommitTransaction, RollbackTransaction, GetTransactionInformation, CreateFile, CreateFileTransacted, ReadFile, WriteFile, SetEndOfFile, GetFileSizeEx, FlushFileBuffers, DeleteFile, CreateDirectory, RemoveDirectory, MoveFile, DeleteFileTransacted, CreateDirectoryTransacted, RemoveDirectoryTransacted, MoveFileTransacted, FindFiles, FindFilesTransacted, KvSet, KvUnset, KvGet, KvList, CloseHandle, DuplicateHandle, Exit}
+use Rattle.ktm_types.specs.declared.command.View.TheVariants.{Plain, Transaction as Through}
+use Rattle.ktm_types.specs.declared.event.Event.{Event}
+use Rattle.ktm_types.specs.declared.object.Object.{Object}
+use Rattle.ktm_types.specs.declared.object.Object.TheVariants.{Transaction as TransactionObject, Manager as ManagerObject, Enlistment as EnlistmentObject, File as FileObject}
+use Rattle.ktm_types.specs.declared.object.Transaction.{Transaction}
+use Rattle.ktm_types.specs.declared.options.Access.{Access}
+use Rattle.ktm_types.specs.declared.options.Disposition.{Disposition}
+use Rattle.ktm_types.specs.declared.options.ShareMode.{ShareMode}
+use Rattle.ktm_types.specs.declared.reply.Reply.{Reply}
+use Rattle.ktm_types.specs.declared.reply.Reply.TheVariants.{Refused, Done}
+use Rattle.ktm_forms.specs.Built.{is_built_command}
+use Rattle.ktm_world.specs.Decide.{bound_file, caller, decide, with_room, refusal_of, command_tests, command_effect, on_file, opening, own_tests}
+use Rattle.ktm_world.specs.Enlistments.{is_ended}
+use Rattle.ktm_world.specs.HandleCalls.{without_handle, has_handle, labels_of, abort_active, last_handle_gone, handle_gone, close_handle, closed_in_turn, exit, bind_to, duplicate_handle, duplicate_handle_tests}
+use Rattle.ktm_world.specs.Handles.{object_at}
+use Rattle.ktm_world.specs.Transactions.{transaction_at, is_active, is_undecided}
+use Rattle.ktm_world.specs.FileCalls.{Whereabouts, free, at_node, find_path, conflict_test, create_act, delete_act, make_act, remove_act, move_act, create_at, drop_at, make_at, move_at, create_file, create_file_tests, read_file, read_file_tests, write_access_test, write_file, write_file_tests, set_end, set_end_tests, get_size, flush_file, delete_file, delete_file_tests, create_directory, create_directory_tests, remove_directory, remove_directory_tests, move_file, move_file_tests, find_files, find_files_tests}
+use Rattle.ktm_world.specs.FileOutcome.{FileOutcome, FileRoom}
+use Rattle.ktm_world.specs.Files.{FilesNow, OpenFile, tree_seen, without_transaction}
+use Rattle.ktm_world.specs.Keys.{without_own}
+use Rattle.ktm_world.specs.KeyCalls.{reply_of_value}
+use Rattle.ktm_world.specs.Holds.{Act}
+use Rattle.ktm_world.specs.Labels.{file_named, transaction_named}
+use Rattle.ktm_world.specs.Outcome.{Outcome, apply, only_reply, and_then, refuse_or, first_refusal, is_full, within_log}
+use Rattle.ktm_world.specs.Phases.{Course, aborting, to_commit}
+use Rattle.ktm_world.specs.Present.{Present}
+use Rattle.ktm_world.specs.TransactionCalls.{course_of, released, commit_reply, create_transaction, create_transaction_tests, commit_transaction, aborted_by, rollback_transaction, information_of, get_transaction_information, transaction_with, open_to_transaction, open_transaction, open_transaction_tests, tick}
+use Rattle.ktm_world.specs.Uses.{file_room}
+use Rattle.ktm_world.specs.World.{decide_tick}
+use Rattle.ktm_built.specs.Laws.{DecidedLaw}
+use Rattle.ktm_built.specs.Standing.{IsBuiltNow}
+use Rattle.ktm_built.proofs.offered.Forms.{forms_law}
+
+-- the outcome of a full log
+abbrev pub full_log : Present → Outcome
+full_log x = record (only_reply x (Refused LogFull)) { stops = true }
+
+-- ---- refused, or with nothing to record
+
+refused_is : (x : Present) (process : Pid) (command : Command) (refusal : Refusal) → refusal_of x process command ≡ Some refusal → decide x process command ≡ only_reply x (Refused refusal)
+refused_is x process command refusal tested =
+    let refused : with_room x process command ≡ only_reply x (Refused refusal) = ap (λ r. refuse_or x r (command_effect x process command)) tested in
+    ap (λ (o : Outcome). cond (is_full x.machine.left o.events) (full_log x) o) refused
+
+quiet_or_refused : (x : Present) (tested : Option Refusal) (effect : Outcome) → effect.events ≡ [] → (refuse_or x tested effect).events ≡ []
+quiet_or_refused x None effect none = none
+quiet_or_refused x (Some refusal) effect none = refl
+
+quiet_is : (x : Present) (process : Pid) (command : Command) → (command_effect x process command).events ≡ [] → decide x process command ≡ with_room x process command
+quiet_is x process command none =
+    let o = with_room x process command in
+    ap (λ (es : List Event). cond (is_full x.machine.left es) (full_log x) o) (quiet_or_refused x (refusal_of x process command) (command_effect x process command) none)
+
+-- ---- a command by itself stops no machine
+
+released_goes_on : (c : Course) (o : Outcome) → (released c o).stops ≡ o.stops
+released_goes_on c o = elim (is_undecided c.transaction) as (λ b. (cond b o (record o { forgotten = c.transaction.id ∷ []; table = without_transaction o.table c.transaction.id; own = without_own o.own c.transaction.id })).stops ≡ o.stops) [ true ↦ refl | false ↦ refl ]
+
+released_says : (c : Course) (o : Outcome) → (released c o).reply ≡ o.reply
+released_says c o = elim (is_undecided c.transaction) as (λ b. (cond b o (record o { forgotten = c.transaction.id ∷ []; table = without_transaction o.table c.transaction.id; own = without_own o.own c.transaction.id })).reply ≡ o.reply) [ true ↦ refl | false ↦ refl ]
+
+-- an outcome answers that it is done, and the machine goes on
+pub record IsDone (o : Outcome) : Type 0 where
+  pub goes_on : o.stops ≡ false
+  pub says : o.reply ≡ Done
+
+pub done_open : (x : Present) (process : Pid) (label : Label) (named : Option Transaction) → IsDone (open_to_transaction x process label named)
+done_open x process label None = record { goes_on = refl; says = refl }
+done_open x process label (Some t) = record { goes_on = refl; says = refl }
+
+pub done_bind : (x : Present) (process : Pid) (label : Label) (named : Option Object) → IsDone (bind_to x process label named)
+done_bind x process label None = record { goes_on = refl; says = refl }
+done_bind x process label (Some object) = record { goes_on = refl; says = refl }
+
+done_aborted : (x : Present) (t : Transaction) → IsDone (aborted_by x t None Done)
+done_aborted x t = let c = aborting (course_of x t None) in record { goes_on = released_goes_on c _; says = released_says c _ }
+
+pub done_rollback : (x : Present) (named : Option Transaction) → IsDone (rollback_transaction x named)
+unfolding rollback_transaction
+done_rollback x None = record { goes_on = refl; says = refl }
+done_rollback x (Some t) = done_aborted x t
+
+done_if : (x : Present) (b : Bool) (o : Outcome) → IsDone o → IsDone (cond b o (only_reply x Done))
+done_if x true o done = done
+done_if x false o done = record { goes_on = refl; says = refl }
+
+done_active : (x : Present) (found : Option Transaction) → IsDone (abort_active x found)
+done_active x None = record { goes_on = refl; says = refl }
+done_active x (Some t) = done_if x (is_active t) (aborted_by x t None Done) (done_aborted x t)
+
+done_last : (x : Present) (object : Object) → IsDone (last_handle_gone x object)
+done_last x (TransactionObject id) = done_active x (transaction_at x.transactions.items id)
+done_last x (ManagerObject id) = record { goes_on = refl; says = refl }
+done_last x (EnlistmentObject id) = record { goes_on = refl; says = refl }
+done_last x (FileObject number) = record { goes_on = refl; says = refl }
+
+done_gone : (x : Present) (named : Option Object) → IsDone (handle_gone named x)
+done_gone x None = record { goes_on = refl; says = refl }
+done_gone x (Some object) = go (has_handle x.handles object)
+  where
+    go : (b : Bool) → IsDone (cond b (only_reply x Done) (last_handle_gone x object))
+    go true = record { goes_on = refl; says = refl }
+    go false = done_last x object
+
+done_then : (x : Present) (o : Outcome) (next : Present → Outcome) → IsDone o → ((y : Present) → IsDone (next y)) → IsDone (and_then x o next)
+done_then x o next first then = record { goes_on = or_from _ _ first.goes_on (then (apply x o)).goes_on; says = first.says }
+
+pub done_close : (x : Present) (process : Pid) (label : Label) → IsDone (close_handle x process label)
+unfolding close_handle
+done_close x process label =
+    let named = object_at x.handles process label in
+    done_then x (record (only_reply x Done) { handles = without_handle x.handles process label }) (handle_gone named) (record { goes_on = refl; says = refl }) (λ y. done_gone y named)
+
+done_closed : (x : Present) (process : Pid) (labels : List Label) → IsDone (closed_in_turn x process labels)
+done_closed x process [] = record { goes_on = refl; says = refl }
+done_closed x process (label ∷ labels) = done_then x (close_handle x process label) (λ next. closed_in_turn next process labels) (done_close x process label) (λ y. done_closed y process labels)
+
+pub done_exit : (x : Present) (process : Pid) → IsDone (exit x process)
+unfolding exit
+done_exit x process = done_closed x process (labels_of x.handles process)
+
+-- ---- calls on files
+
+-- the label that is bound changes nothing else
+bound_goes_on : (process : Pid) (label : Label) (opened : Option OpenFile) (o : Outcome) → (bound_file process label opened o).stops ≡ o.stops
+bound_goes_on process label None o = refl
+bound_goes_on process label (Some file) o = refl
+
+bound_says : (process : Pid) (label : Label) (opened : Option OpenFile) (o : Outcome) → (bound_file process label opened o).reply ≡ o.reply
+bound_says process label None o = refl
+bound_says process label (Some file) o = refl
+
+on_file_goes_on : (x : Present) (o : Option OpenFile) (call : OpenFile → FileOutcome) → (on_file x o call).stops ≡ false
+on_file_goes_on x None call = refl
+on_file_goes_on x (Some o) call = refl
+
+on_file_not_down : (x : Present) (o : Option OpenFile) (call : OpenFile → FileOutcome) → ((p : OpenFile) → (call p).reply ≡ Refused MachineDown → ⊥) → (on_file x o call).reply ≡ Refused MachineDown → ⊥
+on_file_not_down x None call says e = cc
+on_file_not_down x (Some o) call says e = says o e
+
+created_says : (files : FilesNow) (who : Option Id) (path : List ℕ) (access : Access) (share : ShareMode) (disposition : Disposition) → (create_file files who path access share disposition).reply ≡ Done
+unfolding create_file
+created_says files who path access share disposition = go (find_path (tree_seen files who) path)
+  where
+    go : (there : Whereabouts) → (create_at files who there access share disposition).reply ≡ Done
+    go (free directory name) = refl
+    go (at_node node) = refl
+    go _ = refl
+
+opening_says : (x : Present) (process : Pid) (label : Label) (who : Option Id) (path : List ℕ) (access : Access) (share : ShareMode) (disposition : Disposition)
+    → (opening x process label who (create_file x.files who path access share disposition)).reply ≡ Done
+opening_says x process label who path access share disposition = let o = create_file x.files who path access share disposition in bound_says process label o.opened _ ∙ created_says x.files who path access share disposition
+
+written_says : (o : OpenFile) (offset : ℕ) (bytes : List ℕ) → (write_file o offset bytes).reply ≡ Done
+unfolding write_file
+written_says o offset [] = refl
+written_says o offset (b ∷ bs) = refl
+
+dropped_says : (there : Whereabouts) → (drop_at there).reply ≡ Done
+dropped_says (at_node node) = refl
+dropped_says _ = refl
+
+deleted_says : (files : FilesNow) (who : Option Id) (path : List ℕ) → (delete_file files who path).reply ≡ Done
+unfolding delete_file
+deleted_says files who path = dropped_says (find_path (tree_seen files who) path)
+
+removed_says : (files : FilesNow) (who : Option Id) (path : List ℕ) → (remove_directory files who path).reply ≡ Done
+unfolding remove_directory
+removed_says files who path = dropped_says (find_path (tree_seen files who) path)
+
+made_says : (files : FilesNow) (who : Option Id) (path : List ℕ) → (create_directory files who path).reply ≡ Done
+unfolding create_directory
+made_says files who path = go (find_path (tree_seen files who) path)
+  where
+    go : (there : Whereabouts) → (make_at files there).reply ≡ Done
+    go (free directory name) = refl
+    go _ = refl
+
+moved_says : (files : FilesNow) (who : Option Id) (source target : List ℕ) → (move_file files who source target).reply ≡ Done
+unfolding move_file
+moved_says files who source target = go (find_path (tree_seen files who) source) (find_path (tree_seen files who) target)
+  where
+    go : (from to : Whereabouts) → (move_at from to).reply ≡ Done
+    go (at_node node) (free directory name) = refl
+    go _ _ = refl
+
+-- ---- every effect
+
+commit_goes_on : (x : Present) (t : Option Transaction) → (commit_transaction x t).stops ≡ false
+unfolding commit_transaction
+commit_goes_on x None = refl
+commit_goes_on x (Some t) = released_goes_on (to_commit (course_of x t None)) _
+
+effect_goes_on : (x : Present) (process : Pid) (command : Command) → is_built_command command ≡ true → (command_effect x process command).stops ≡ false
+unfolding create_transaction open_transaction get_transaction_information duplicate_handle
+effect_goes_on x process (CreateTransaction label timeout) built = refl
+effect_goes_on x process (OpenTransaction label guid) built = (done_open x process label (transaction_with x guid)).goes_on
+effect_goes_on x process (CommitTransaction label) built = commit_goes_on x (transaction_named x process label)
+effect_goes_on x process (RollbackTransaction label) built = (done_rollback x (transaction_named x process label)).goes_on
+effect_goes_on x process (GetTransactionInformation label) built = refl
+effect_goes_on x process (CreateFile label path access share disposition) built = bound_goes_on process label (create_file x.files None path access share disposition).opened _
+effect_goes_on x process (CreateFileTransacted label path access share disposition transaction) built =
+    bound_goes_on process label (create_file x.files (caller x process transaction) path access share disposition).opened _
+effect_goes_on x process (ReadFile file offset many) built = on_file_goes_on x (file_named x process file) (λ o. read_file x.files o offset many)
+effect_goes_on x process (WriteFile file offset bytes) built = on_file_goes_on x (file_named x process file) (λ o. write_file o offset bytes)
+effect_goes_on x process (SetEndOfFile file size) built = on_file_goes_on x (file_named x process file) (λ o. set_end o size)
+effect_goes_on x process (GetFileSizeEx file) built = on_file_goes_on x (file_named x process file) (λ o. get_size x.files o)
+effect_goes_on x process (FlushFileBuffers file) built = on_file_goes_on x (file_named x process file) (λ o. flush_file)
+effect_goes_on x process (DeleteFile path) built = refl
+effect_goes_on x process (CreateDirectory path) built = refl
+effect_goes_on x process (RemoveDirectory path) built = refl
+effect_goes_on x process (MoveFile source target) built = refl
+effect_goes_on x process (DeleteFileTransacted path transaction) built = refl
+effect_goes_on x process (CreateDirectoryTransacted path transaction) built = refl
+effect_goes_on x process (RemoveDirectoryTransacted path transaction) built = refl
+effect_goes_on x process (MoveFileTransacted source target transaction) built = refl
+effect_goes_on x process (FindFiles searched) built = refl
+effect_goes_on x process (FindFilesTransacted searched transaction) built = refl
+effect_goes_on x process (KvSet label key value) built = refl
+effect_goes_on x process (KvUnset label key) built = refl
+effect_goes_on x process (KvGet view key) built = refl
+effect_goes_on x process (KvList view) built = refl
+effect_goes_on x process (CloseHandle label) built = (done_close x process label).goes_on
+effect_goes_on x process (DuplicateHandle label from source) built = (done_bind x process label (object_at x.handles from source)).goes_on
+effect_goes_on x process Exit built = (done_exit x process).goes_on
+effect_goes_on x process _ built = absurd (cc)
+
+refused_goes_on : (x : Present) (tested : Option Refusal) (effect : Outcome) → effect.stops ≡ false → (refuse_or x tested effect).stops ≡ false
+refused_goes_on x None effect goes_on = goes_on
+refused_goes_on x (Some refusal) effect goes_on = refl
+
+stops_only_full : (x : Present) (o : Outcome) (b : Bool) → o.stops ≡ false → (cond b (full_log x) o).stops ≡ true → (cond b (full_log x) o).events ≡ []
+stops_only_full x o true goes_on stops = refl
+stops_only_full x o false goes_on stops = let wrong : true ≡ false = sym stops ∙ goes_on in absurd (cc)
+
+-- an outcome that stops the machine records nothing
+stopped_records_nothing : (x : Present) (process : Pid) (command : Command) → is_built_command command ≡ true → (decide x process command).stops ≡ true → (decide x process command).events ≡ []
+stopped_records_nothing x process command built stops =
+    let o = with_room x process command in
+    stops_only_full x o (is_full x.machine.left o.events) (refused_goes_on x (refusal_of x process command) (command_effect x process command) (effect_goes_on x process command built)) stops
+
+-- ---- on a machine that is up no reply says that it is down
+
+is_of_down : Refusal → Bool
+is_of_down MachineDown = true
+is_of_down refusal = false
+
+-- none of the tests is that of a machine that is down
+none_of_down : List (Bool × Refusal) → Bool
+none_of_down [] = true
+none_of_down (test ∷ tests) = not (is_of_down test.1) && none_of_down tests
+
+-- a conflict says nothing of the machine
+conflict_up : (files : FilesNow) (who : Option Id) (act : Option Act) → not (is_of_down (conflict_test files who act).1) ≡ true
+unfolding is_of_down
+conflict_up files who None = refl
+conflict_up files who (Some act) = refl
+
+-- nor do the tests of calls on files
+create_file_up : (files : FilesNow) (room : FileRoom) (who : Option Id) (path : List ℕ) (access : Access) (share : ShareMode) (disposition : Disposition)
+    → none_of_down (create_file_tests files room who path access share disposition) ≡ true
+unfolding is_of_down none_of_down create_file_tests
+create_file_up files room who path access share disposition = and_from _ _ (conflict_up files who (create_act (find_path (tree_seen files who) path) access disposition)) refl
+
+delete_file_up : (files : FilesNow) (room : FileRoom) (who : Option Id) (path : List ℕ) → none_of_down (delete_file_tests files room who path) ≡ true
+unfolding is_of_down none_of_down delete_file_tests
+delete_file_up files room who path = and_from _ _ (conflict_up files who (delete_act (find_path (tree_seen files who) path))) refl
+
+create_directory_up : (files : FilesNow) (room : FileRoom) (who : Option Id) (path : List ℕ) → none_of_down (create_directory_tests files room who path) ≡ true
+unfolding is_of_down none_of_down create_directory_tests
+create_directory_up files room who path = and_from _ _ (conflict_up files who (make_act (find_path (tree_seen files who) path))) refl
+
+remove_directory_up : (files : FilesNow) (room : FileRoom) (who : Option Id) (path : List ℕ) → none_of_down (remove_directory_tests files room who path) ≡ true
+unfolding is_of_down none_of_down remove_directory_tests
+remove_directory_up files room who path = and_from _ _ (conflict_up files who (remove_act (find_path (tree_seen files who) path))) refl
+
+move_file_up : (files : FilesNow) (room : FileRoom) (who : Option Id) (source target : List ℕ) → none_of_down (move_file_tests files room who source target) ≡ true
+unfolding is_of_down none_of_down move_file_tests
+move_file_up files room who source target = and_from _ _ (conflict_up files who (move_act (find_path (tree_seen files who) source) (find_path (tree_seen files who) target))) refl
+
+-- nor do those of calls on open files
+on_file_up : (o : Option OpenFile) (tests : OpenFile → List (Bool × Refusal)) → ((p : OpenFile) → none_of_down (tests p) ≡ true) → none_of_down (own_tests o tests) ≡ true
+unfolding none_of_down
+on_file_up None tests up = refl
+on_file_up (Some o) tests up = up o
+
+tests_of_up : (x : Present) (process : Pid) (command : Command) → is_built_command command ≡ true → none_of_down (command_tests x process command) ≡ true
+unfolding is_of_down none_of_down create_transaction_tests open_transaction_tests duplicate_handle_tests read_file_tests write_file_tests set_end_tests find_files_tests
+tests_of_up x process (CreateTransaction label timeout) built = refl
+tests_of_up x process (OpenTransaction label guid) built = refl
+tests_of_up x process (CommitTransaction label) built = refl
+tests_of_up x process (RollbackTransaction label) built = refl
+tests_of_up x process (GetTransactionInformation label) built = refl
+tests_of_up x process (CreateFile label path access share disposition) built = create_file_up x.files (file_room x) None path access share disposition
+tests_of_up x process (CreateFileTransacted label path access share disposition transaction) built = create_file_up x.files (file_room x) (caller x process transaction) path access share disposition
+tests_of_up x process (ReadFile file offset many) built = on_file_up (file_named x process file) (λ o. read_file_tests o many) (λ o. refl)
+tests_of_up x process (WriteFile file offset bytes) built = on_file_up (file_named x process file) (λ o. write_file_tests x.files (file_room x) o offset bytes) (λ o. refl)
+tests_of_up x process (SetEndOfFile file size) built = on_file_up (file_named x process file) (λ o. set_end_tests x.files (file_room x) o size) (λ o. refl)
+tests_of_up x process (GetFileSizeEx file) built = refl
+tests_of_up x process (FlushFileBuffers file) built = on_file_up (file_named x process file) (λ o. write_access_test o ∷ []) (λ o. refl)
+tests_of_up x process (DeleteFile path) built = delete_file_up x.files (file_room x) None path
+tests_of_up x process (CreateDirectory path) built = create_directory_up x.files (file_room x) None path
+tests_of_up x process (RemoveDirectory path) built = remove_directory_up x.files (file_room x) None path
+tests_of_up x process (MoveFile source target) built = move_file_up x.files (file_room x) None source target
+tests_of_up x process (DeleteFileTransacted path transaction) built = delete_file_up x.files (file_room x) (caller x process transaction) path
+tests_of_up x process (CreateDirectoryTransacted path transaction) built = create_directory_up x.files (file_room x) (caller x process transaction) path
+tests_of_up x process (RemoveDirectoryTransacted path transaction) built = remove_directory_up x.files (file_room x) (caller x process transaction) path
+tests_of_up x process (MoveFileTransacted source target transaction) built = move_file_up x.files (file_room x) (caller x process transaction) source target
+tests_of_up x process (FindFiles searched) built = refl
+tests_of_up x process (FindFilesTransacted searched transaction) built = refl
+tests_of_up x process (KvSet label key value) built = refl
+tests_of_up x process (KvUnset label key) built = refl
+tests_of_up x process (KvGet Plain key) built = refl
+tests_of_up x process (KvGet (Through label) key) built = refl
+tests_of_up x process (KvList Plain) built = refl
+tests_of_up x process (KvList (Through label)) built = refl
+tests_of_up x process (CloseHandle label) built = refl
+tests_of_up x process (DuplicateHandle label from source) built = refl
+tests_of_up x process Exit built = refl
+tests_of_up x process _ built = absurd (cc)
+
+first_not_down : (tests : List (Bool × Refusal)) → none_of_down tests ≡ true → first_refusal tests ≡ Some MachineDown → ⊥
+unfolding is_of_down none_of_down
+first_not_down [] none e = cc
+first_not_down (test ∷ tests) none e =
+    let parts = and_parts (not (is_of_down test.1)) (none_of_down tests) none in
+    elim (cases_Bool test.0) [
+      | inl holds ↦ (let first : Some test.1 ≡ Some MachineDown = rw holds at e in let same : test.1 ≡ MachineDown = cc in let wrong = ap is_of_down same ∙ refl in let right = parts.0 in cc)
+      | inr fails ↦ first_not_down tests parts.1 (rw fails at e)
+    ]
+
+value_not_down : (value : Option (List ℕ)) → reply_of_value value ≡ Refused MachineDown → ⊥
+value_not_down None e = cc
+value_not_down (Some value) e = cc
+
+commit_reply_not_down : (c : Course) → commit_reply c ≡ Refused MachineDown → ⊥
+commit_reply_not_down c = go (is_ended c.transaction.phase)
+  where
+    go : (b : Bool) → cond b Reply.Committed Reply.Pending ≡ Refused MachineDown → ⊥
+    go true e = cc
+    go false e = cc
+
+commit_not_down : (x : Present) (t : Option Transaction) → (commit_transaction x t).reply ≡ Refused MachineDown → ⊥
+unfolding commit_transaction
+commit_not_down x None e = cc
+commit_not_down x (Some t) e = let c = to_commit (course_of x t None) in commit_reply_not_down c (sym (released_says c _) ∙ e)
+
+says_not_down : (reply : Reply) → reply ≡ Done → reply ≡ Refused MachineDown → ⊥
+says_not_down reply says e = cc
+
+done_not_down : (o : Outcome) → IsDone o → o.reply ≡ Refused MachineDown → ⊥
+done_not_down o done = says_not_down o.reply done.says
+
+information_not_down : (x : Present) (t : Option Transaction) → information_of x t ≡ Refused MachineDown → ⊥
+information_not_down x None e = cc
+information_not_down x (Some t) e = cc
+
+effect_not_down : (x : Present) (process : Pid) (command : Command) → is_built_command command ≡ true → (command_effect x process command).reply ≡ Refused MachineDown → ⊥
+unfolding create_transaction open_transaction get_transaction_information duplicate_handle read_file set_end get_size find_files
+effect_not_down x process (CreateTransaction label timeout) built e = cc
+effect_not_down x process (OpenTransaction label guid) built e = done_not_down _ (done_open x process label (transaction_with x guid)) e
+effect_not_down x process (CommitTransaction label) built e = commit_not_down x (transaction_named x process label) e
+effect_not_down x process (RollbackTransaction label) built e = done_not_down _ (done_rollback x (transaction_named x process label)) e
+effect_not_down x process (GetTransactionInformation label) built e = information_not_down x (transaction_named x process label) e
+effect_not_down x process (CreateFile label path access share disposition) built e = says_not_down _ (opening_says x process label None path access share disposition) e
+effect_not_down x process (CreateFileTransacted label path access share disposition transaction) built e =
+    says_not_down _ (opening_says x process label (caller x process transaction) path access share disposition) e
+effect_not_down x process (ReadFile file offset many) built e = on_file_not_down x (file_named x process file) (λ o. read_file x.files o offset many) (λ o e. cc) e
+effect_not_down x process (WriteFile file offset bytes) built e =
+    on_file_not_down x (file_named x process file) (λ o. write_file o offset bytes) (λ o. says_not_down (write_file o offset bytes).reply (written_says o offset bytes)) e
+effect_not_down x process (SetEndOfFile file size) built e = on_file_not_down x (file_named x process file) (λ o. set_end o size) (λ o e. cc) e
+effect_not_down x process (GetFileSizeEx file) built e = on_file_not_down x (file_named x process file) (λ o. get_size x.files o) (λ o e. cc) e
+effect_not_down x process (FlushFileBuffers file) built e = on_file_not_down x (file_named x process file) (λ o. flush_file) (λ o e. cc) e
+effect_not_down x process (DeleteFile path) built e = says_not_down _ (deleted_says x.files None path) e
+effect_not_down x process (CreateDirectory path) built e = says_not_down _ (made_says x.files None path) e
+effect_not_down x process (RemoveDirectory path) built e = says_not_down _ (removed_says x.files None path) e
+effect_not_down x process (MoveFile source target) built e = says_not_down _ (moved_says x.files None source target) e
+effect_not_down x process (DeleteFileTransacted path transaction) built e = says_not_down _ (deleted_says x.files (caller x process transaction) path) e
+effect_not_down x process (CreateDirectoryTransacted path transaction) built e = says_not_down _ (made_says x.files (caller x process transaction) path) e
+effect_not_down x process (RemoveDirectoryTransacted path transaction) built e = says_not_down _ (removed_says x.files (caller x process transaction) path) e
+effect_not_down x process (MoveFileTransacted source target transaction) built e = says_not_down _ (moved_says x.files (caller x process transaction) source target) e
+effect_not_down x process (FindFiles searched) built e = cc
+effect_not_down x process (FindFilesTransacted searched transaction) built e = cc
+effect_not_down x process (KvSet label key value) built e = cc
+effect_not_down x process (KvUnset label key) built e = cc
+effect_not_down x process (KvGet view key) built e = value_not_down _ e
+effect_not_down x process (KvList view) built e = cc
+effect_not_down x process (CloseHandle label) built e = done_not_down _ (done_close x process label) e
+effect_not_down x process (DuplicateHandle label from source) built e = done_not_down _ (done_bind x process label (object_at x.handles from source)) e
+effect_not_down x process Exit built e = done_not_down _ (done_exit x process) e
+effect_not_down x process _ built e = absurd (cc)
+
+room_not_down : (x : Present) (tested : Option Refusal) (effect : Outcome) → (tested ≡ Some MachineDown → ⊥) → (effect.reply ≡ Refused MachineDown → ⊥) → (refuse_or x tested effect).reply ≡ Refused MachineDown → ⊥
+room_not_down x None effect first then e = then e
+room_not_down x (Some refusal) effect first then e = first (cc)
+
+within_not_down : (x : Present) (b : Bool) (o : Outcome) → (o.reply ≡ Refused MachineDown → ⊥) → (cond b (full_log x) o).reply ≡ Refused MachineDown → ⊥
+within_not_down x true o then e = cc
+within_not_down x false o then e = then e
+
+up_not_down : (x : Present) (process : Pid) (command : Command) → is_built_command command ≡ true → x.machine.is_up ≡ true → (decide x process command).reply ≡ Refused MachineDown → ⊥
+up_not_down x process command built up =
+    let tested : refusal_of x process command ≡ first_refusal (command_tests x process command) = ap (λ u. cond (not u) (Some MachineDown) (first_refusal (command_tests x process command))) up in
+    within_not_down x (is_full x.machine.left (with_room x process command).events) (with_room x process command)
+    (room_not_down x (refusal_of x process command) (command_effect x process command) (λ e. first_not_down (command_tests x process command) (tests_of_up x process command built) (sym tested ∙ e)) (effect_not_down x process command built))
+
+-- ---- the passing of time
+
+-- whether time passes is decided by the power alone
+abbrev ticks : Present → ℕ → Bool → Outcome
+ticks x ms on = within_log x (refuse_or x (first_refusal ((not on, MachineDown) ∷ [])) (tick x ms))
+
+tick_down : (x : Present) (ms : ℕ) → x.machine.is_up ≡ false → decide_tick x ms ≡ only_reply x (Refused MachineDown)
+tick_down x ms off = ap (ticks x ms) off
+
+tick_up : (x : Present) (ms : ℕ) → IsBuiltNow x → x.machine.is_up ≡ true → decide_tick x ms ≡ tick x ms
+tick_up x ms built on = ap (ticks x ms) on ∙ ap (λ (es : List Event). cond (is_full x.machine.left es) (full_log x) (tick x ms)) (forms_law.waits x ms built).records
+
+pub decided_law : DecidedLaw
+decided_law = record {
+  refused = refused_is;
+  unrecorded = quiet_is;
+  goes_on = effect_goes_on;
+  stops = stopped_records_nothing;
+  is_up = up_not_down;
+  no_time = tick_down;
+  time = tick_up;
+}

@@ -1,0 +1,2 @@
+mod SoundCommands
+pub mod offered

@@ -1,0 +1,237 @@
+-- How a commit begins: what a transaction comes to, of which nobody is prepared yet, is sound again.
+use Rattle.std.proofs.Common.{◌≡◌, ℕ, ◌&&◌, not, Bool, true, false, List, [], ◌∷◌, ◌++◌, length, zero, suc, count_by, nat_lt, is_some, refl, sym, ◌∙◌, ap, subst, arith, inl, inr, ◌⊎◌}
+use Rattle.std.proofs.lemmas.Bool.{cases_Bool, and_parts, and_from, or_left, eq-eqb, not-true, not_from_false, true≢false}
+use Rattle.std.proofs.lemmas.List.Sums.{length-filter}
+use Rattle.ktm_base.specs.declared.notify.Notify.{Notify}
+use Rattle.ktm_types.specs.declared.event.Event.{Event}
+use Rattle.ktm_types.specs.declared.event.Part.{Part}
+use Rattle.ktm_types.specs.declared.object.Phase.{Phase}
+use Rattle.ktm_types.specs.declared.object.Phase.TheVariants.{Requested, PrePreparing, PrePrepared, Preparing, SinglePhase, Ended}
+use Rattle.ktm_types.specs.declared.object.TransactionOutcome.TheVariants.{Committed}
+use Rattle.ktm_world.specs.Enlistments.{Enlistment, Owed, pre_prepare, prepare, commit, asks_pre_prepare, allows_one_phase, takes_part, is_durable_at, superior_of}
+use Rattle.ktm_world.specs.Phases.{Course, in_phase, recording, telling, owing, unchanged, superior, is_its_superior, some_enlistment, has_settings, one_if, taking_part, participants, work_of, all_ready, preparing, single, one_phase, one_participant, prepare_alone, to_prepare, pre_prepared, to_pre_prepare, to_commit, is_single_phase}
+use Rattle.ktm_world.specs.Transactions.{is_undecided}
+use Rattle.ktm_world.specs.Changes.{has_changes}
+use Rattle.txf_laws.specs.Elements.{IsIn}
+use Rattle.ktm_courses.specs.SoundCourse.{is_last_recover, is_unrecovered_well, is_outcome_of, is_of_its_boot, is_superior_as, is_idle, is_waiting, is_part_as, is_awaited, has_durable_part, is_recorded_as_asked}
+use Rattle.txf_laws.proofs.offered.Diamonds.{none-from}
+use Rattle.txf_laws.proofs.offered.Lists.{IsIn-unmap}
+use Rattle.txf_laws.proofs.offered.Elements.{list_any-at, list_any-from}
+use Rattle.ktm_states.specs.Grammatical.{ids_in}
+use Rattle.ktm_courses.proofs.offered.Moves.{if_cases, IsIn-map, IsSame, IsSame-refl, Moved, Moved-then, moved-transaction, moved-recording, moved-telling, Changes, changes-none, stepped, with-unchanged, Stand, Stand-with, AreOwn-one, knows-own}
+use Rattle.ktm_courses.proofs.offered.Procedures.{none-at, filter-with, superior-with, idle-parts, part-parts, unprepared-recovered, Arrives, arrives-then, its-own, arrives-ended, alike-owing, no-parts, Stand-nobody, only-one, arrives-all_ready}
+
+-- nothing of the transaction is prepared, and the outcome is not known
+pub record Fresh (boot : ℕ) (c : Course) : Type 0 where
+  pub here : nat_lt ((c.transaction).id).boot boot ≡ false
+  pub undecided : is_undecided c.transaction ≡ true
+  pub unrecorded : (c.transaction).is_recorded ≡ false
+  pub stand : Stand c.enlistments (c.transaction).id is_idle
+  pub brought : (e : Enlistment) → IsIn e c.enlistments → is_unrecovered_well boot c.managers e ≡ true
+
+module _ (boot : ℕ) (c : Course) (fresh : Fresh boot c) where
+  -- those that take part
+  abbrev take_part : Enlistment → Bool
+  take_part e = takes_part (c.transaction).id e
+
+  is_recovered-part : (e : Enlistment) → IsIn e c.enlistments → takes_part (c.transaction).id e ≡ true → e.is_recovered ≡ true
+  is_recovered-part e there part = unprepared-recovered boot c.managers (c.transaction).id e (fresh.brought e there) part (idle-parts e ((fresh.stand).parts e there part)).1
+
+  -- those that take part, or some of them, are told something
+  changes-parts : (test : Enlistment → Bool) (owed : Owed) → ((e : Enlistment) → test e ≡ true → takes_part (c.transaction).id e ≡ true) → Changes c test (owing owed)
+  changes-parts test owed only = record {
+    own = λ e there is. (part-parts (c.transaction).id e (only e is)).0;
+    same = λ e. (alike-owing owed e).same;
+    recovered = λ e there is. inr (is_recovered-part e there (only e is));
+  }
+
+  -- in a phase without answers the superior is told something
+  arrives-superior_told : (phase : Phase) (kind : Notify) → is_last_recover kind ≡ false → is_outcome_of phase (record c.transaction { phase = phase }) ≡ true → is_of_its_boot boot (record c.transaction { phase = phase }) ≡ true
+      → (superior-as : is_superior_as phase true ≡ true) → is_some (superior c) ≡ true
+      → ((es : List Enlistment) → Stand es (c.transaction).id is_idle → Stand es (c.transaction).id (is_part_as phase))
+      → ((es : List Enlistment) → is_awaited es (record c.transaction { phase = phase }) ≡ true) → is_single_phase phase ≡ false
+      → ((es : List Enlistment) → is_recorded_as_asked c.managers es (record c.transaction { phase = phase }) ≡ true)
+      → Arrives boot c (in_phase (telling c (is_its_superior c) kind unchanged) phase)
+  arrives-superior_told phase kind other known boots asks has stands awaits several recorded' =
+      let told = telling c (is_its_superior c) kind unchanged in
+      let d = in_phase told phase in
+      let still = with-unchanged (is_its_superior c) c.enlistments in
+      record {
+        moved = Moved-then (moved-telling c (is_its_superior c) kind unchanged other (changes-none c (is_its_superior c) (its-own c c refl))) (moved-transaction told d.transaction refl refl refl);
+        stands = record {
+          outcome = known;
+          boots = boots;
+          superior = subst (λ es. is_superior_as phase (is_some (superior_of es (c.transaction).id)) ≡ true) (sym still) (rw has asks);
+          stand = subst (λ es. Stand es (c.transaction).id (is_part_as phase)) (sym still) (stands c.enlistments fresh.stand);
+          awaited = awaits d.enlistments;
+          alone = or_left _ _ (not_from_false _ several);
+          recorded = recorded' d.enlistments;
+        };
+      }
+
+  -- ---- all are asked to prepare
+
+  abbrev c_asked : Course
+  c_asked = in_phase (telling c take_part Notify.Prepare (owing prepare)) Preparing
+
+  asked-moved : Moved c c_asked
+  asked-moved = Moved-then (moved-telling c take_part Notify.Prepare (owing prepare) refl (changes-parts take_part prepare (λ e is. is)))
+      (moved-transaction (telling c take_part Notify.Prepare (owing prepare)) c_asked.transaction refl refl refl)
+
+  -- none of them is prepared
+  asked-none : has_durable_part c.managers c_asked.enlistments (c.transaction).id (λ e. e.is_prepared) ≡ false
+  asked-none = none-from _ c_asked.enlistments (λ e there. unprepared e (cases_Bool (takes_part (c.transaction).id e)) there)
+    where
+      stand : Stand c_asked.enlistments (c.transaction).id (λ e. not e.is_prepared)
+      stand = Stand-with c.enlistments (c.transaction).id is_idle (λ e. not e.is_prepared) take_part (owing prepare) fresh.stand (λ e there is. is) (alike-owing prepare)
+          (λ e there part idle is. not_from_false _ (idle-parts e idle).1) (λ e there part idle silent. absurd (true≢false (sym part ∙ silent)))
+
+      unprepared : (e : Enlistment) → (takes_part (c.transaction).id e ≡ true) ⊎ (takes_part (c.transaction).id e ≡ false) → IsIn e c_asked.enlistments
+          → (takes_part (c.transaction).id e && (e.is_prepared && is_durable_at c.managers e.manager)) ≡ false
+      unprepared e (inl part) there = rw (part, not-true _ (stand.parts e there part)) refl
+      unprepared e (inr other) there = rw other refl
+
+  asked-stand : Stand c_asked.enlistments (c.transaction).id (is_part_as Preparing)
+  asked-stand = Stand-with c.enlistments (c.transaction).id is_idle (is_part_as Preparing) take_part (owing prepare) fresh.stand (λ e there is. is) (alike-owing prepare)
+      (λ e there part idle is. rw ((idle-parts e idle).1, (idle-parts e idle).2) refl) (λ e there part idle silent. absurd (true≢false (sym part ∙ silent)))
+
+  pub arrives-preparing : Arrives boot c (preparing c)
+  arrives-preparing = if_cases (λ d. Arrives boot c d) (some_enlistment c (λ e. true)) c_asked (all_ready c_asked)
+      (λ some. record {
+        moved = asked-moved;
+        stands = record {
+          outcome = fresh.undecided;
+          boots = rw fresh.here refl;
+          superior = refl;
+          stand = asked-stand;
+          awaited =
+              let one = list_any-at _ c.enlistments some in
+              let part = (and_parts (takes_part (c.transaction).id one.0) true one.2).0 in
+              list_any-from _ c_asked.enlistments (stepped take_part (owing prepare) one.0) (IsIn-map (stepped take_part (owing prepare)) one.0 c.enlistments one.1)
+              (rw part (rw part refl));
+          alone = refl;
+          recorded = rw asked-none (not_from_false _ fresh.unrecorded);
+        };
+      })
+      (λ none. arrives-then boot asked-moved (arrives-all_ready boot c_asked (record {
+        here = fresh.here;
+        undecided = fresh.undecided;
+        stand = Stand-nobody c_asked.enlistments (c.transaction).id (is_part_as Preparing) is_waiting asked-stand (λ e there part. nobody none e there part);
+        recorded = λ some. absurd (true≢false (sym some ∙ asked-none));
+      })))
+    where
+      nobody : some_enlistment c (λ e. true) ≡ false → (e : Enlistment) → IsIn e c_asked.enlistments → takes_part (c.transaction).id e ≡ true → ⊥
+      nobody none e there part =
+          let from = IsIn-unmap (stepped take_part (owing prepare)) e c.enlistments there in
+          let part' : takes_part (c.transaction).id from.0 ≡ true =
+          sym (if_cases (λ x. takes_part (c.transaction).id x ≡ takes_part (c.transaction).id from.0) (take_part from.0) (owing prepare from.0) from.0 (λ is. refl) (λ is. refl))
+          ∙ ap (takes_part (c.transaction).id) from.1 ∙ part in
+          true≢false (sym (and_from _ _ part' refl) ∙ none-at _ c.enlistments none from.0 from.2)
+
+  -- ---- one participant alone
+
+  arrives-single : (part : Part) → ids_in part ≡ [] → length (taking_part c) ≡ 0 → Arrives boot c (single c part)
+  arrives-single part nobody none =
+      let d = record (recording c (Event.Single (c.transaction).id part ∷ [])) { works = c.works ++ work_of c } in
+      arrives-then boot (moved-recording c _ (c.works ++ work_of c) (AreOwn-one c (Event.Single (c.transaction).id part) refl (λ id is. knows-own c id (subst (λ ids. IsIn id ((c.transaction).id ∷ ids)) nobody is))))
+      (arrives-ended boot d Committed refl (rw fresh.here refl) (Stand-nobody c.enlistments (c.transaction).id is_idle (is_part_as Ended) fresh.stand (no-parts c none)))
+
+  abbrev c_single : Course
+  c_single = in_phase (telling c take_part Notify.SinglePhaseCommit (owing commit)) SinglePhase
+
+  pub arrives-one_phase : length (taking_part c) ≡ 1 → has_changes c.changes ≡ false → has_settings c.settings ≡ false → is_some (superior c) ≡ false → Arrives boot c (one_phase c)
+  arrives-one_phase one changes settings alone = if_cases (λ d. Arrives boot c d) (some_enlistment c allows_one_phase) c_single (preparing c)
+      (λ some.
+      let first = list_any-at _ c.enlistments some in
+      let parts = and_parts (takes_part (c.transaction).id first.0) (allows_one_phase first.0) first.2 in
+      record {
+        moved = Moved-then (moved-telling c take_part Notify.SinglePhaseCommit (owing commit) refl (changes-parts take_part commit (λ e is. is)))
+            (moved-transaction (telling c take_part Notify.SinglePhaseCommit (owing commit)) c_single.transaction refl refl refl);
+        stands = record {
+          outcome = fresh.undecided;
+          boots = rw fresh.here refl;
+          superior = not_from_false _ (superior-with (c.transaction).id (stepped take_part (owing commit))
+              (λ e. if_cases (λ x. IsSame e x) (take_part e) (owing commit e) e (λ is. (alike-owing commit e).same) (λ is. IsSame-refl e)) c.enlistments ∙ alone);
+          stand = Stand-with c.enlistments (c.transaction).id is_idle (is_part_as SinglePhase) take_part (owing commit) fresh.stand (λ e there is. is) (alike-owing commit)
+              (λ e there part idle is.
+              let allows : allows_one_phase e ≡ true = subst (λ x. allows_one_phase x ≡ true) (only-one c.enlistments (c.transaction).id one first.0 e first.1 there parts.0 part) parts.1 in
+              rw ((idle-parts e idle).1, (idle-parts e idle).2) allows)
+              (λ e there part idle silent. absurd (true≢false (sym part ∙ silent)));
+          awaited = eq-eqb (count_by take_part c_single.enlistments) 1
+              (sym (length-filter take_part c_single.enlistments) ∙ filter-with take_part take_part (owing commit) (λ e. refl) c.enlistments ∙ one);
+          alone = and_from _ _ (not_from_false _ changes) (not_from_false _ settings);
+          recorded = not_from_false _ fresh.unrecorded;
+        };
+      })
+      (λ none. arrives-preparing)
+
+  one_if-true : (b : Bool) → b ≡ true → one_if b ≡ 1
+  one_if-true b is = ap one_if is
+
+  one_if-false : (b : Bool) → b ≡ false → one_if b ≡ 0
+  one_if-false b is = ap one_if is
+
+  arrives-one_participant : participants c ≡ 1 → is_some (superior c) ≡ false → Arrives boot c (one_participant c)
+  arrives-one_participant one alone = if_cases (λ d. Arrives boot c d) (has_changes c.changes) (single c (Part.Changes c.changes)) _
+      (λ changes. let counted = one_if-true _ changes in arrives-single (Part.Changes c.changes) refl (omega arith))
+      (λ no_changes. if_cases (λ d. Arrives boot c d) (has_settings c.settings) (single c (Part.Settings c.settings)) (one_phase c)
+      (λ settings. let counted = one_if-true _ settings in arrives-single (Part.Settings c.settings) refl (omega arith))
+      (λ no_settings.
+      let none = one_if-false _ no_changes in
+      let none' = one_if-false _ no_settings in
+      arrives-one_phase (omega arith) no_changes no_settings alone))
+
+  arrives-alone : (n : ℕ) → participants c ≡ n → is_some (superior c) ≡ false → Arrives boot c (prepare_alone c n)
+  arrives-alone zero none alone = arrives-ended boot c Committed refl (rw fresh.here refl) (Stand-nobody c.enlistments (c.transaction).id is_idle (is_part_as Ended) fresh.stand (no-parts c (omega arith)))
+  arrives-alone (suc zero) one alone = arrives-one_participant one alone
+  arrives-alone (suc (suc more)) several alone = arrives-preparing
+
+  pub arrives-to_prepare : Arrives boot c (to_prepare c)
+  unfolding to_prepare
+  arrives-to_prepare = if_cases (λ d. Arrives boot c d) (is_some (superior c)) (preparing c) (prepare_alone c (participants c)) (λ has. arrives-preparing) (λ alone. arrives-alone (participants c) refl alone)
+
+  -- ---- pre-preparing
+
+  pub arrives-pre_prepared : Arrives boot c (pre_prepared c)
+  unfolding pre_prepared
+  arrives-pre_prepared = if_cases (λ d. Arrives boot c d) (is_some (superior c)) (in_phase (telling c (is_its_superior c) Notify.PrePrepareComplete unchanged) PrePrepared) (to_prepare c)
+      (λ has. arrives-superior_told PrePrepared Notify.PrePrepareComplete refl fresh.undecided (rw fresh.here refl) refl has (λ es stand. stand) (λ es. refl) refl (λ es. not_from_false _ fresh.unrecorded))
+      (λ alone. arrives-to_prepare)
+
+  -- those that ask for it
+  abbrev ask : Enlistment → Bool
+  ask e = takes_part (c.transaction).id e && asks_pre_prepare e
+
+  abbrev c_pre_preparing : Course
+  c_pre_preparing = in_phase (telling c ask Notify.PrePrepare (owing pre_prepare)) PrePreparing
+
+  pub arrives-to_pre_prepare : Arrives boot c (to_pre_prepare c)
+  unfolding to_pre_prepare
+  arrives-to_pre_prepare = if_cases (λ d. Arrives boot c d) (some_enlistment c asks_pre_prepare) c_pre_preparing (pre_prepared c)
+      (λ some. record {
+        moved = Moved-then (moved-telling c ask Notify.PrePrepare (owing pre_prepare) refl (changes-parts ask pre_prepare (λ e is. (and_parts (takes_part (c.transaction).id e) (asks_pre_prepare e) is).0)))
+            (moved-transaction (telling c ask Notify.PrePrepare (owing pre_prepare)) c_pre_preparing.transaction refl refl refl);
+        stands = record {
+          outcome = fresh.undecided;
+          boots = rw fresh.here refl;
+          superior = refl;
+          stand = Stand-with c.enlistments (c.transaction).id is_idle (is_part_as PrePreparing) ask (owing pre_prepare) fresh.stand
+              (λ e there is. (and_parts (takes_part (c.transaction).id e) (asks_pre_prepare e) is).0) (alike-owing pre_prepare)
+              (λ e there part idle is. rw ((idle-parts e idle).1, (idle-parts e idle).2) (and_parts (takes_part (c.transaction).id e) (asks_pre_prepare e) is).1)
+              (λ e there part idle silent. rw ((idle-parts e idle).0, (idle-parts e idle).1, (idle-parts e idle).2) refl);
+          awaited =
+              let one = list_any-at _ c.enlistments some in
+              let part = (and_parts (takes_part (c.transaction).id one.0) (asks_pre_prepare one.0) one.2).0 in
+              list_any-from _ c_pre_preparing.enlistments (stepped ask (owing pre_prepare) one.0) (IsIn-map (stepped ask (owing pre_prepare)) one.0 c.enlistments one.1)
+              (rw one.2 (rw part refl));
+          alone = refl;
+          recorded = not_from_false _ fresh.unrecorded;
+        };
+      })
+      (λ none. arrives-pre_prepared)
+
+  pub arrives-to_commit : Arrives boot c (to_commit c)
+  unfolding to_commit
+  arrives-to_commit = if_cases (λ d. Arrives boot c d) (is_some (superior c)) (in_phase (telling c (is_its_superior c) Notify.CommitRequest unchanged) Requested) (to_pre_prepare c)
+      (λ has. arrives-superior_told Requested Notify.CommitRequest refl fresh.undecided (rw fresh.here refl) refl has (λ es stand. stand) (λ es. refl) refl (λ es. not_from_false _ fresh.unrecorded))
+      (λ alone. arrives-to_pre_prepare)

@@ -1,0 +1,896 @@
+-- The answers of enlistments: what their transaction comes to is sound again.
+use Rattle.std.specs.Prelude.{if◌then◌else◌}
+use Rattle.std.proofs.Common.{◌≡◌, ℕ, ◌==◌, ◌&&◌, ◌||◌, not, Bool, true, false, List, [], ◌∷◌, ◌++◌, nat_lt, Option, Some, None, is_some, is_none, refl, sym, ◌∙◌, ap, subst, inl, inr, ◌⊎◌}
+use Rattle.std.proofs.lemmas.Bool.{cases_Bool, and_parts, and_from, and_cases, and_left, and_right, or_cases, or_left, or_right, eqb-true, not-true, not_from_false, true≢false, false_from_ne_true}
+use Rattle.std.proofs.lemmas.List.Sums.{length-filter}
+use Rattle.std.specs.List.{list_any}
+use Rattle.ktm_base.specs.declared.id.Id.{Id}
+use Rattle.ktm_base.specs.declared.notify.Notify.{Notify}
+use Rattle.ktm_types.specs.declared.event.DonePart.{DonePart}
+use Rattle.ktm_types.specs.declared.event.Event.{Event}
+use Rattle.ktm_types.specs.declared.object.Phase.{Phase}
+use Rattle.ktm_types.specs.declared.object.Phase.TheVariants.{Active, Requested, PrePreparing, PrePrepared, Preparing, SinglePhase, Held, InDoubt, Committing, Aborting, Ended}
+use Rattle.ktm_types.specs.declared.object.Transaction.{Transaction}
+use Rattle.ktm_types.specs.declared.object.TransactionOutcome.{TransactionOutcome}
+use Rattle.ktm_world.specs.Enlistments.{has_id, Sent, Enlistment, Manager, Owed, pre_prepare, prepare, commit, rollback, is_superior, is_open_for_votes, asks_pre_prepare, allows_one_phase, owes_pre_prepare, owes_prepare, owes_commit, owes_rollback, takes_part, is_unfinished, is_durable_at, with_enlistments, superior_of}
+use Rattle.ktm_world.specs.Phases.{Course, changing_one, someone_owes, when_none_owes, pre_prepare_answered, enlistment_part, prepare_answered, without_its_answer, recovered as recovered_by, read_only_answered, single_phase_rejected, finished, is_single_phase, commit_answered, rollback_answered, recovering, recovered_in, in_phase, recording, telling, owing, unchanged, superior, ended, ended_if_finished, event_if, aborting, all_ready, pre_prepared}
+use Rattle.ktm_world.specs.Transactions.{same_id, is_undecided}
+use Rattle.txf_laws.specs.Elements.{IsIn, each_pair}
+use Rattle.ktm_courses.specs.SoundCourse.{is_last_recover, is_phase_back, is_unrecovered_well, is_outcome_of, is_of_its_boot, is_superior_as, is_idle, is_waiting, owes_until_finished, is_part_as, has_part, is_awaited_as, is_recorded_as, has_durable_part}
+use Rattle.txf_laws.proofs.offered.Diamonds.{none-from}
+use Rattle.txf_laws.proofs.offered.Lists.{IsIn-unmap}
+use Rattle.txf_laws.proofs.offered.Elements.{list_any-at, list_any-from}
+use Rattle.ktm_courses.proofs.offered.Moves.{same-by_id, if_parts, moved-changing, unrecovered-moved, if_cases, IsIn-map, IsSame, IsSame-refl, IsAlike, Moved, Moved-then, moved-transaction, moved-recording, moved-telling, Changes, stepped, with-unchanged, is_bystander, Stand, Stand-with, Stand-as, AreOwn-one, AreOwn-if, Knows, knows-one, knows-moved}
+use Rattle.ktm_courses.proofs.offered.Procedures.{is_backed-from, waiting-parts, over-part, arrives-if_finished, may_be_told, arrives-aborting, none-at, list_any-told, list_any-with, filter-with, superior-with, idle-parts, part-parts, unprepared-recovered, Arrives, Stands, arrives-then, alike-owing, Stand-nobody, only-one, arrives-ended, arrives-all_ready}
+use Rattle.ktm_world.specs.Durable.{is_before}
+use Rattle.ktm_world.specs.TransactionCalls.{is_voting}
+use Rattle.txf_laws.proofs.offered.Tables.{same_id-equal, same_id-from}
+use Rattle.ktm_courses.proofs.offered.Outcomes.{committed-outcome, aborted-outcome}
+use Rattle.ktm_courses.proofs.offered.CommitsBegun.{Fresh, arrives-pre_prepared}
+
+-- ---- enlistments by their Ids
+
+abbrev pub RiseEnlistments : List Enlistment → Type 0
+RiseEnlistments es = each_pair (λ (e f : Enlistment). is_before e.id f.id) es ≡ true
+
+-- ---- what is owed
+
+pub owed-pre_prepare : (e : Enlistment) → owes_pre_prepare e ≡ true → e.owes ≡ Some pre_prepare
+owed-pre_prepare e = go e.owes
+  where
+    go : (o : Option Owed) → owes_pre_prepare (record e { owes = o }) ≡ true → o ≡ Some pre_prepare
+    go (Some pre_prepare) is = refl
+    go _ is = absurd (true≢false (sym is))
+
+pub owed-prepare : (e : Enlistment) → owes_prepare e ≡ true → e.owes ≡ Some prepare
+owed-prepare e = go e.owes
+  where
+    go : (o : Option Owed) → owes_prepare (record e { owes = o }) ≡ true → o ≡ Some prepare
+    go (Some prepare) is = refl
+    go _ is = absurd (true≢false (sym is))
+
+pub owed-commit : (e : Enlistment) → owes_commit e ≡ true → e.owes ≡ Some commit
+owed-commit e = go e.owes
+  where
+    go : (o : Option Owed) → owes_commit (record e { owes = o }) ≡ true → o ≡ Some commit
+    go (Some commit) is = refl
+    go _ is = absurd (true≢false (sym is))
+
+pub owed-rollback : (e : Enlistment) → owes_rollback e ≡ true → e.owes ≡ Some rollback
+owed-rollback e = go e.owes
+  where
+    go : (o : Option Owed) → owes_rollback (record e { owes = o }) ≡ true → o ≡ Some rollback
+    go (Some rollback) is = refl
+    go _ is = absurd (true≢false (sym is))
+
+-- the answer that is waited for in a phase
+pub answer_in : Phase → Option Owed
+answer_in PrePreparing = Some pre_prepare
+answer_in Preparing = Some prepare
+answer_in SinglePhase = Some commit
+answer_in Committing = Some commit
+answer_in Aborting = Some rollback
+answer_in _ = None
+
+none-of : (o : Option Owed) → is_some o ≡ false → is_none o ≡ true
+none-of None is = refl
+none-of (Some owed) is = absurd (true≢false is)
+
+not-both : (o : Option Owed) → is_none o ≡ true → is_some o ≡ true → ⊥
+not-both None none some = true≢false (sym some)
+not-both (Some owed) none some = true≢false (sym none)
+
+owes_none : (e : Enlistment) (owed : Owed) → e.owes ≡ Some owed → is_none e.owes ≡ true → ⊥
+owes_none e owed is none = true≢false (sym none ∙ ap is_none is)
+
+pub until-owed : (owes : Enlistment → Bool) (e : Enlistment) (owed : Owed) → e.owes ≡ Some owed → owes_until_finished owes e ≡ true → (owes e ≡ true) × (e.is_recovered ≡ true) × (e.is_finished ≡ false)
+until-owed owes e owed is until = elim (cases_Bool (e.is_recovered && not e.is_finished)) [
+  | inl both ↦ let parts = and_parts e.is_recovered (not e.is_finished) both in (rw both at until, parts.0, not-true _ parts.1)
+  | inr other ↦ absurd (owes_none e owed is (rw other at until))
+]
+
+-- one that takes part is prepared, or owes that
+pub preparing-parts : (e : Enlistment) → is_part_as Preparing e ≡ true → (is_waiting e ≡ true) ⊎ ((e.is_prepared ≡ false) × (owes_prepare e ≡ true) × (e.is_finished ≡ false))
+preparing-parts e part = elim (if_parts e.is_prepared (is_waiting e) (owes_prepare e && not e.is_finished) part) [
+  | inl waits ↦ inl waits.1
+  | inr owes ↦ let both = and_parts (owes_prepare e) (not e.is_finished) owes.1 in inr (owes.0, both.0, not-true _ both.1)
+]
+
+answer-of : (phase : Phase) (e : Enlistment) (owed : Owed) → e.owes ≡ Some owed → is_part_as phase e ≡ true → e.owes ≡ answer_in phase
+unfolding answer_in
+answer-of Active e owed is part = absurd (owes_none e owed is (idle-parts e part).0)
+answer-of Requested e owed is part = absurd (owes_none e owed is (idle-parts e part).0)
+answer-of PrePrepared e owed is part = absurd (owes_none e owed is (idle-parts e part).0)
+answer-of Held e owed is part = absurd (owes_none e owed is (waiting-parts e part).0)
+answer-of InDoubt e owed is part = absurd (owes_none e owed is (waiting-parts e part).0)
+answer-of Ended e owed is part = absurd (owes_none e owed is (and_parts (is_none e.owes) e.is_finished part).0)
+answer-of PrePreparing e owed is part = elim (or_cases _ _ (and_parts (not e.is_prepared && not e.is_finished) (is_none e.owes || (owes_pre_prepare e && asks_pre_prepare e)) part).1) [
+  | inl none ↦ absurd (owes_none e owed is none)
+  | inr asks ↦ owed-pre_prepare e (and_parts (owes_pre_prepare e) (asks_pre_prepare e) asks).0
+]
+answer-of Preparing e owed is part = elim (preparing-parts e part) [ inl waits ↦ absurd (owes_none e owed is (waiting-parts e waits).0) | inr owes ↦ owed-prepare e owes.1 ]
+answer-of SinglePhase e owed is part =
+    let three = and_parts (owes_commit e && not e.is_prepared && not e.is_finished) (allows_one_phase e) part in
+    let two = and_parts (owes_commit e && not e.is_prepared) (not e.is_finished) three.0 in
+    owed-commit e (and_parts (owes_commit e) (not e.is_prepared) two.0).0
+answer-of Committing e owed is part = owed-commit e (until-owed owes_commit e owed is (and_parts e.is_prepared (owes_until_finished owes_commit e) part).1).0
+answer-of Aborting e owed is part = owed-rollback e (until-owed owes_rollback e owed is part).0
+
+pub is-pre_preparing : (phase : Phase) → answer_in phase ≡ Some pre_prepare → phase ≡ PrePreparing
+unfolding answer_in
+is-pre_preparing PrePreparing is = refl
+is-pre_preparing _ is = absurd cc
+
+pub is-preparing : (phase : Phase) → answer_in phase ≡ Some prepare → phase ≡ Preparing
+unfolding answer_in
+is-preparing Preparing is = refl
+is-preparing _ is = absurd cc
+
+pub is-committing : (phase : Phase) → answer_in phase ≡ Some commit → (phase ≡ Committing) ⊎ (phase ≡ SinglePhase)
+unfolding answer_in
+is-committing Committing is = inl refl
+is-committing SinglePhase is = inr refl
+is-committing _ is = absurd cc
+
+pub is-aborting : (phase : Phase) → answer_in phase ≡ Some rollback → phase ≡ Aborting
+unfolding answer_in
+is-aborting Aborting is = refl
+is-aborting _ is = absurd cc
+
+-- nobody owes an answer
+pub none-owed : (d : Course) → someone_owes d ≡ false → (x : Enlistment) → IsIn x d.enlistments → takes_part (d.transaction).id x ≡ true → is_none x.owes ≡ true
+none-owed d none x there part = elim (and_cases _ _ (none-at _ d.enlistments none x there)) [ inl other ↦ absurd (true≢false (sym part ∙ other)) | inr silent ↦ none-of x.owes silent ]
+
+-- ---- a transaction in a phase
+
+pub stands-in : (boot : ℕ) (c : Course) (phase : Phase) → (c.transaction).phase ≡ phase → Stands boot c → Stands boot (in_phase c phase)
+stands-in boot c phase is stands = subst (λ p. Stands boot (in_phase c p)) is stands
+
+pub stands-back : (boot : ℕ) (c : Course) (phase : Phase) → (c.transaction).phase ≡ phase → Stands boot (in_phase c phase) → Stands boot c
+stands-back boot c phase is stands = subst (λ p. Stands boot (in_phase c p)) (sym is) stands
+
+pub here-from : (boot : ℕ) (t : Transaction) → is_phase_back t.phase ≡ false → is_of_its_boot boot t ≡ true → nat_lt (t.id).boot boot ≡ false
+here-from boot t other is = elim (cases_Bool (nat_lt (t.id).boot boot)) [
+  | inr now ↦ now
+  | inl earlier ↦
+      let is' = rw earlier at is in
+      let three = and_parts _ (t.created == 0) (and_parts _ t.is_recorded is').0 in
+      absurd (true≢false (sym (and_parts (is_phase_back t.phase) (t.timeout == 0) three.0).0 ∙ other))
+]
+
+-- nothing of it is prepared
+pub fresh-from : (boot : ℕ) (c : Course) → is_outcome_of Active c.transaction ≡ true → nat_lt ((c.transaction).id).boot boot ≡ false → not (c.transaction).is_recorded ≡ true → Stand c.enlistments (c.transaction).id is_idle
+    → ((e : Enlistment) → IsIn e c.enlistments → is_unrecovered_well boot c.managers e ≡ true) → Fresh boot c
+fresh-from boot c undecided here unrecorded stand brought = record { here = here; undecided = undecided; unrecorded = not-true _ unrecorded; stand = stand; brought = brought }
+
+-- the phases in which a transaction can be rolled back
+abbrev pub can_roll_back : Phase → Bool
+can_roll_back Committing = false
+can_roll_back Aborting = false
+can_roll_back Ended = false
+can_roll_back _ = true
+
+-- every phase is one of them in which enlistments vote
+pub voting-rolls : (phase : Phase) → is_voting phase ≡ true → can_roll_back phase ≡ true
+voting-rolls Committing is = is
+voting-rolls Aborting is = is
+voting-rolls Ended is = is
+voting-rolls _ is = refl
+
+unfinished-in : (phase : Phase) (e : Enlistment) → can_roll_back phase ≡ true → is_part_as phase e ≡ true → e.is_finished ≡ false
+unfinished-in Active e can part = (idle-parts e part).2
+unfinished-in Requested e can part = (idle-parts e part).2
+unfinished-in PrePrepared e can part = (idle-parts e part).2
+unfinished-in Held e can part = (waiting-parts e part).2
+unfinished-in InDoubt e can part = (waiting-parts e part).2
+unfinished-in PrePreparing e can part = not-true _ (and_parts (not e.is_prepared) (not e.is_finished) (and_parts (not e.is_prepared && not e.is_finished) (is_none e.owes || (owes_pre_prepare e && asks_pre_prepare e)) part).0).1
+unfinished-in Preparing e can part = elim (preparing-parts e part) [ inl waits ↦ (waiting-parts e waits).2 | inr owes ↦ owes.2 ]
+unfinished-in SinglePhase e can part =
+    let three = and_parts (owes_commit e && not e.is_prepared && not e.is_finished) (allows_one_phase e) part in
+    not-true _ (and_parts (owes_commit e && not e.is_prepared) (not e.is_finished) three.0).1
+unfinished-in Committing e can part = absurd (true≢false (sym can))
+unfinished-in Aborting e can part = absurd (true≢false (sym can))
+unfinished-in Ended e can part = absurd (true≢false (sym can))
+
+unrecovered-parts : (boot : ℕ) (ms : List Manager) (e : Enlistment) → is_unrecovered_well boot ms e ≡ true → e.is_recovered ≡ false
+    → (e.is_read_only ≡ false) × (e.is_finished ≡ false) × (is_none e.owes ≡ true) × ((is_superior e || e.is_prepared) ≡ true)
+unrecovered-parts boot ms e well unrecovered =
+    let back : (nat_lt (e.id).boot boot && is_durable_at ms e.manager && not e.is_read_only && not e.is_finished && is_none e.owes && (is_superior e || e.is_prepared)) ≡ true = rw unrecovered at well in
+    let a = and_parts _ (is_superior e || e.is_prepared) back in
+    let b = and_parts _ (is_none e.owes) a.0 in
+    let d = and_parts _ (not e.is_finished) b.0 in
+    let f = and_parts _ (not e.is_read_only) d.0 in
+    (not-true _ f.1, not-true _ d.1, b.1, a.1)
+
+-- a transaction whose outcome is not known rolls back
+pub arrives-rolled_back : (boot : ℕ) (c : Course) → Stands boot c → ((e : Enlistment) → IsIn e c.enlistments → is_unrecovered_well boot c.managers e ≡ true) → can_roll_back (c.transaction).phase ≡ true → Arrives boot c (aborting c)
+arrives-rolled_back boot c stands brought can = arrives-aborting boot c (is_backed-from boot c.transaction stands.boots)
+    (Stand-as c.enlistments (c.transaction).id (is_part_as (c.transaction).phase) may_be_told stands.stand (λ e there part fits.
+    and_from _ _ (not_from_false _ (unfinished-in (c.transaction).phase e can fits)) (elim (cases_Bool e.is_recovered) [
+      | inl recovered ↦ or_left _ _ recovered
+      | inr unrecovered ↦ or_right _ _ (unrecovered-parts boot c.managers e (brought e there) unrecovered).2
+    ])))
+
+-- before that the outcome is not known
+pub undecided-rolls : (t : Transaction) → can_roll_back t.phase ≡ true → is_outcome_of t.phase t ≡ true → is_undecided t ≡ true
+undecided-rolls t = go t.phase
+  where
+    go : (phase : Phase) → can_roll_back phase ≡ true → is_outcome_of phase t ≡ true → is_undecided t ≡ true
+    go Committing can is = absurd (true≢false (sym can))
+    go Aborting can is = absurd (true≢false (sym can))
+    go Ended can is = absurd (true≢false (sym can))
+    go _ can is = is
+
+-- ---- one enlistment answers
+
+module _ (boot : ℕ) (c : Course) (stands : Stands boot c) (brought : (e : Enlistment) → IsIn e c.enlistments → is_unrecovered_well boot c.managers e ≡ true) (rise : RiseEnlistments c.enlistments)
+    (e : Enlistment) (there : IsIn e c.enlistments) (own : same_id e.transaction (c.transaction).id ≡ true) where
+  it : (x : Enlistment) → IsIn x c.enlistments → has_id e.id x ≡ true → x ≡ e
+  it x there' is = same-by_id (λ (f : Enlistment). f.id) c.enlistments rise x e there' there (same_id-equal x.id e.id is)
+
+  it-itself : has_id e.id e ≡ true
+  it-itself = same_id-from e.id e.id refl
+
+  -- it alone is changed
+  changes-one : (f : Enlistment → Enlistment) → ((x : Enlistment) → IsSame x (f x)) → ((f e).is_recovered ≡ true) → Changes c (has_id e.id) f
+  changes-one f same recovered = record {
+    own = λ x there' is. subst (λ (y : Enlistment). same_id y.transaction (c.transaction).id ≡ true) (sym (it x there' is)) own;
+    same = same;
+    recovered = λ x there' is. inr (subst (λ y. (f y).is_recovered ≡ true) (sym (it x there' is)) recovered);
+  }
+
+  moved-one : (f : Enlistment → Enlistment) → ((x : Enlistment) → IsSame x (f x)) → ((f e).is_recovered ≡ true) → Moved c (changing_one c e.id f)
+  moved-one f same recovered = moved-changing c (has_id e.id) f c.sent (changes-one f same recovered) (λ s sent. inl sent)
+
+  -- one that owes something takes part, and is recovered
+  pub takes_part-owing : (owed : Owed) → e.owes ≡ Some owed → takes_part (c.transaction).id e ≡ true
+  takes_part-owing owed is = elim (cases_Bool (takes_part (c.transaction).id e)) [
+    | inl part ↦ part
+    | inr other ↦
+        absurd (owes_none e owed is (idle-parts e (and_parts (is_idle e) (not (is_superior e && e.is_read_only)) ((stands.stand).others e there own other)).0).0)
+  ]
+
+  recovered-owing : (owed : Owed) → e.owes ≡ Some owed → e.is_recovered ≡ true
+  recovered-owing owed is = elim (cases_Bool e.is_recovered) [
+    | inl recovered ↦ recovered
+    | inr unrecovered ↦ absurd (owes_none e owed is (unrecovered-parts boot c.managers e (brought e there) unrecovered).2)
+  ]
+
+  pub phase-owing : (owed : Owed) → e.owes ≡ Some owed → answer_in (c.transaction).phase ≡ Some owed
+  phase-owing owed is = sym (answer-of (c.transaction).phase e owed is ((stands.stand).parts e there (takes_part-owing owed is))) ∙ is
+
+  superior-one : (f : Enlistment → Enlistment) → ((x : Enlistment) → IsSame x (f x)) → is_some (superior_of (with_enlistments (has_id e.id) f c.enlistments) (c.transaction).id) ≡ is_some (superior c)
+  superior-one f same = superior-with (c.transaction).id (stepped (has_id e.id) f) (λ x. if_cases (λ y. IsSame x y) (has_id e.id x) (f x) x (λ is. same x) (λ is. IsSame-refl x)) c.enlistments
+
+  -- it is changed, and takes part as before
+  stand-one : (before after : Enlistment → Bool) (f : Enlistment → Enlistment) → Stand c.enlistments (c.transaction).id before → takes_part (c.transaction).id e ≡ true → ((x : Enlistment) → IsAlike x (f x))
+      → (before e ≡ true → after (f e) ≡ true) → ((x : Enlistment) → IsIn x c.enlistments → takes_part (c.transaction).id x ≡ true → before x ≡ true → has_id e.id x ≡ false → after x ≡ true)
+      → Stand (with_enlistments (has_id e.id) f c.enlistments) (c.transaction).id after
+  stand-one before after f stand part alike changed left = Stand-with c.enlistments (c.transaction).id before after (has_id e.id) f stand
+      (λ x there' is. subst (λ y. takes_part (c.transaction).id y ≡ true) (sym (it x there' is)) part) alike
+      (λ x there' part' passes is. subst (λ y. after (f y) ≡ true) (sym (it x there' is)) (changed (subst (λ y. before y ≡ true) (it x there' is) passes))) left
+
+  -- what it owes tells whether the outcome is known
+  pub undecided-pre_prepare : owes_pre_prepare e ≡ true → is_undecided c.transaction ≡ true
+  undecided-pre_prepare owes = undecided-rolls c.transaction
+      (subst (λ p. can_roll_back p ≡ true) (sym (is-pre_preparing (c.transaction).phase (phase-owing pre_prepare (owed-pre_prepare e owes)))) refl) stands.outcome
+
+  pub undecided-prepare : owes_prepare e ≡ true → is_undecided c.transaction ≡ true
+  undecided-prepare owes = undecided-rolls c.transaction (subst (λ p. can_roll_back p ≡ true) (sym (is-preparing (c.transaction).phase (phase-owing prepare (owed-prepare e owes)))) refl) stands.outcome
+
+  -- an end that is known already
+  if_finished-known : (d : Course) (outcome : TransactionOutcome) → (d.transaction).outcome ≡ (c.transaction).outcome → outcome ≡ (c.transaction).outcome → ((ended_if_finished d outcome).transaction).outcome ≡ (c.transaction).outcome
+  unfolding ended
+  if_finished-known d outcome same is = if_cases (λ (x : Course). (x.transaction).outcome ≡ (c.transaction).outcome) (list_any (is_unfinished (d.transaction).id) d.enlistments) d (ended d outcome) (λ some. same) (λ none. is)
+
+  pub known-commit_answered : owes_commit e ≡ true → is_undecided c.transaction ≡ false → ((commit_answered c e).transaction).outcome ≡ (c.transaction).outcome
+  unfolding commit_answered ended
+  known-commit_answered owes known = elim (is-committing (c.transaction).phase (phase-owing commit (owed-commit e owes))) [
+    | inr phase ↦ absurd (true≢false (sym (undecided-rolls c.transaction (subst (λ p. can_roll_back p ≡ true) (sym phase) refl) stands.outcome) ∙ known))
+    | inl phase ↦
+        let is : TransactionOutcome.Committed ≡ (c.transaction).outcome = committed-outcome c.transaction (stands-in boot c Committing phase stands).outcome in
+        if_cases (λ (x : Course). (x.transaction).outcome ≡ (c.transaction).outcome) (is_single_phase (c.transaction).phase) (ended (finished c e) TransactionOutcome.Committed)
+        (ended_if_finished (recording (finished c e) (event_if (is_durable_at c.managers e.manager) (Event.Done (c.transaction).id (DonePart.Enlistment e.id)))) TransactionOutcome.Committed)
+        (λ single. is) (λ several. if_finished-known (recording (finished c e) (event_if (is_durable_at c.managers e.manager) (Event.Done (c.transaction).id (DonePart.Enlistment e.id)))) TransactionOutcome.Committed refl is)
+  ]
+
+  pub known-rollback_answered : owes_rollback e ≡ true → ((rollback_answered c e).transaction).outcome ≡ (c.transaction).outcome
+  unfolding rollback_answered
+  known-rollback_answered owes = if_finished-known (finished c e) TransactionOutcome.Aborted refl
+      (aborted-outcome c.transaction (stands-in boot c Aborting (is-aborting (c.transaction).phase (phase-owing rollback (owed-rollback e owes))) stands).outcome)
+
+  pub known-recovered : ((recovered_by c e).transaction).outcome ≡ (c.transaction).outcome
+  unfolding recovered_by
+  known-recovered = if_cases (λ (x : Course). (x.transaction).outcome ≡ (c.transaction).outcome) (is_superior e) (telling (recovering c e) (has_id e.id) Notify.RecoverQuery unchanged) (recovered_in (c.transaction).phase (recovering c e) e)
+      (λ above. refl) (λ below. told (c.transaction).phase)
+    where
+      told : (phase : Phase) → ((recovered_in phase (recovering c e) e).transaction).outcome ≡ (c.transaction).outcome
+      told InDoubt = refl
+      told Committing = refl
+      told Aborting = refl
+      told _ = refl
+
+  -- ---- PrePrepareComplete
+
+  -- it owes nothing any more
+  abbrev answered : Enlistment → Enlistment
+  answered x = record x { owes = None }
+
+  alike-answered : (x : Enlistment) → IsAlike x (answered x)
+  alike-answered x = record { same = record { id = refl; manager = refl; transaction = refl; kind = refl; information = refl }; read_only = refl }
+
+  abbrev c_answered : Course
+  c_answered = changing_one c e.id answered
+
+  idle-from : (x : Enlistment) → is_part_as PrePreparing x ≡ true → is_none x.owes ≡ true → is_idle x ≡ true
+  idle-from x fits none =
+      let both = and_parts (not x.is_prepared && not x.is_finished) (is_none x.owes || (owes_pre_prepare x && asks_pre_prepare x)) fits in
+      let first = and_parts (not x.is_prepared) (not x.is_finished) both.0 in
+      and_from _ _ (and_from _ _ none first.0) first.1
+
+  pub arrives-pre_prepare_answered : owes_pre_prepare e ≡ true → Arrives boot c (pre_prepare_answered c e)
+  unfolding pre_prepare_answered
+  arrives-pre_prepare_answered owes = if_cases (λ d. Arrives boot c d) (someone_owes c_answered) c_answered (pre_prepared c_answered)
+      (λ some. record {
+        moved = moved;
+        stands = stands-back boot c_answered PrePreparing phase (record {
+          outcome = at.outcome;
+          boots = at.boots;
+          superior = refl;
+          stand = stand;
+          awaited = some;
+          alone = refl;
+          recorded = at.recorded;
+        });
+      })
+      (λ none. arrives-then boot moved (arrives-pre_prepared boot c_answered (fresh-from boot c_answered at.outcome (here-from boot (in_phase c PrePreparing).transaction refl at.boots) at.recorded
+      (Stand-as c_answered.enlistments (c.transaction).id (is_part_as PrePreparing) is_idle stand (λ x there' part fits.
+      idle-from x fits (none-owed c_answered none x there' part)))
+      (unrecovered-moved c c_answered boot moved brought))))
+    where
+      is : e.owes ≡ Some pre_prepare
+      is = owed-pre_prepare e owes
+
+      phase : (c.transaction).phase ≡ PrePreparing
+      phase = is-pre_preparing (c.transaction).phase (phase-owing pre_prepare is)
+
+      at : Stands boot (in_phase c PrePreparing)
+      at = stands-in boot c PrePreparing phase stands
+
+      moved : Moved c c_answered
+      moved = moved-one answered (λ x. (alike-answered x).same) (recovered-owing pre_prepare is)
+
+      stand : Stand c_answered.enlistments (c.transaction).id (is_part_as PrePreparing)
+      stand = stand-one (is_part_as PrePreparing) (is_part_as PrePreparing) answered at.stand (takes_part-owing pre_prepare is) alike-answered
+          (λ fits. and_from _ _ (and_parts (not e.is_prepared && not e.is_finished) (is_none e.owes || (owes_pre_prepare e && asks_pre_prepare e)) fits).0 refl) (λ x there' part fits other. fits)
+
+  -- ---- PrepareComplete
+
+  -- it owes nothing, and is prepared
+  abbrev prepared : Enlistment → Enlistment
+  prepared x = record x { owes = None; is_prepared = true }
+
+  alike-prepared : (x : Enlistment) → IsAlike x (prepared x)
+  alike-prepared x = record { same = record { id = refl; manager = refl; transaction = refl; kind = refl; information = refl }; read_only = refl }
+
+  -- which is recorded or not
+  abbrev c_prepared : List Event → Bool → Course
+  c_prepared events recorded' = record c { enlistments = with_enlistments (has_id e.id) prepared c.enlistments; events = events; transaction = record c.transaction { is_recorded = recorded' } }
+
+  module _ (owes : owes_prepare e ≡ true) where
+    is_prepare : e.owes ≡ Some prepare
+    is_prepare = owed-prepare e owes
+
+    pub phase_preparing : (c.transaction).phase ≡ Preparing
+    phase_preparing = is-preparing (c.transaction).phase (phase-owing prepare is_prepare)
+
+    at_preparing : Stands boot (in_phase c Preparing)
+    at_preparing = stands-in boot c Preparing phase_preparing stands
+
+    pub part_preparing : takes_part (c.transaction).id e ≡ true
+    part_preparing = takes_part-owing prepare is_prepare
+
+    -- it was not prepared before
+    pub unprepared : (e.is_prepared ≡ false) × (owes_prepare e ≡ true) × (e.is_finished ≡ false)
+    unprepared = elim (preparing-parts e ((at_preparing.stand).parts e there part_preparing)) [ inl waits ↦ absurd (owes_none e prepare is_prepare (waiting-parts e waits).0) | inr parts ↦ parts ]
+
+    stand_prepared : Stand (with_enlistments (has_id e.id) prepared c.enlistments) (c.transaction).id (is_part_as Preparing)
+    stand_prepared = stand-one (is_part_as Preparing) (is_part_as Preparing) prepared at_preparing.stand part_preparing alike-prepared
+        (λ fits. not_from_false _ unprepared.2) (λ x there' part fits other. fits)
+
+    here_preparing : nat_lt ((c.transaction).id).boot boot ≡ false
+    here_preparing = here-from boot (in_phase c Preparing).transaction refl at_preparing.boots
+
+    -- the transaction goes on
+    goes-on : (events : List Event) (recorded' : Bool) → Moved c (c_prepared events recorded')
+        → (if has_durable_part c.managers (with_enlistments (has_id e.id) prepared c.enlistments) (c.transaction).id (λ x. x.is_prepared) then recorded' else not recorded') ≡ true
+        → Arrives boot c (when_none_owes (c_prepared events recorded') all_ready)
+    goes-on events recorded' moved right = let d = c_prepared events recorded' in if_cases (λ d. Arrives boot c d) (someone_owes d) d (all_ready d)
+        (λ some. record {
+          moved = moved;
+          stands = stands-back boot d Preparing phase_preparing (record {
+            outcome = at_preparing.outcome;
+            boots = rw here_preparing refl;
+            superior = refl;
+            stand = stand_prepared;
+            awaited = some;
+            alone = refl;
+            recorded = right;
+          });
+        })
+        (λ none. arrives-then boot moved (arrives-all_ready boot d (record {
+          here = here_preparing;
+          undecided = at_preparing.outcome;
+          stand = Stand-as d.enlistments (c.transaction).id (is_part_as Preparing) is_waiting stand_prepared (λ x there' part fits. elim (preparing-parts x fits) [
+            | inl waits ↦ waits
+            | inr owing' ↦ absurd (owes_none x prepare (owed-prepare x owing'.1) (none-owed d none x there' part))
+          ]);
+          recorded = λ some. elim (if_parts _ recorded' (not recorded') right) [ inl both ↦ both.1 | inr both ↦ absurd (true≢false (sym some ∙ both.0)) ];
+        })))
+
+    prepared-moved : Moved c (changing_one c e.id prepared)
+    prepared-moved = moved-one prepared (λ x. (alike-prepared x).same) (recovered-owing prepare is_prepare)
+
+    pub arrives-prepare_answered : Arrives boot c (prepare_answered c e)
+    unfolding prepare_answered
+    arrives-prepare_answered = if_cases (λ d. Arrives boot c (when_none_owes d all_ready)) (is_durable_at c.managers e.manager)
+        (c_prepared (c.events ++ (Event.Ready (c.transaction).id (enlistment_part e) ∷ [])) true) (c_prepared c.events (c.transaction).is_recorded)
+        (λ durable. goes-on (c.events ++ (Event.Ready (c.transaction).id (enlistment_part e) ∷ [])) true
+        (Moved-then (Moved-then prepared-moved (moved-recording (changing_one c e.id prepared) _ c.works (AreOwn-one (changing_one c e.id prepared) (Event.Ready (c.transaction).id (enlistment_part e)) refl (λ id is. knows-moved c (changing_one c e.id prepared) prepared-moved id (knows-one c e there id is)))))
+        (moved-transaction (recording (changing_one c e.id prepared) (Event.Ready (c.transaction).id (enlistment_part e) ∷ [])) (record c.transaction { is_recorded = true }) refl refl refl))
+        (rw (list_any-from (λ x. takes_part (c.transaction).id x && (x.is_prepared && is_durable_at c.managers x.manager)) (with_enlistments (has_id e.id) prepared c.enlistments) (stepped (has_id e.id) prepared e)
+        (IsIn-map (stepped (has_id e.id) prepared) e c.enlistments there) (rw it-itself (and_from _ _ part_preparing durable))) refl))
+        (λ volatile. goes-on c.events (c.transaction).is_recorded prepared-moved
+        (subst (λ b. (if b then (c.transaction).is_recorded else not (c.transaction).is_recorded) ≡ true)
+        (sym (list_any-told (λ x. takes_part (c.transaction).id x && (x.is_prepared && is_durable_at c.managers x.manager)) (has_id e.id) prepared c.enlistments (λ x there' is.
+        let none : is_durable_at c.managers x.manager ≡ false = subst (λ (y : Enlistment). is_durable_at c.managers y.manager ≡ false) (sym (it x there' is)) volatile in
+        rw none (ap (λ b. takes_part (c.transaction).id x && b) (sym (and_right x.is_prepared false refl))))))
+        at_preparing.recorded))
+
+  -- ---- ReadOnlyEnlistment
+
+  -- it owes nothing, and takes no part
+  abbrev left : Enlistment → Enlistment
+  left x = record x { owes = None; is_read_only = true }
+
+  same-left : (x : Enlistment) → IsSame x (left x)
+  same-left x = record { id = refl; manager = refl; transaction = refl; kind = refl; information = refl }
+
+  abbrev c_left : Course
+  c_left = changing_one c e.id left
+
+  module _ (ordinary : is_superior e ≡ false) (votes : is_open_for_votes e ≡ true) (voting : is_voting (c.transaction).phase ≡ true) where
+    pub part_left : takes_part (c.transaction).id e ≡ true
+    part_left = and_from _ _ (and_from _ _ own (not_from_false _ ordinary)) (and_parts (not e.is_read_only) (not e.is_prepared) votes).0
+
+    pub unprepared_left : e.is_prepared ≡ false
+    unprepared_left = not-true _ (and_parts (not e.is_read_only) (not e.is_prepared) votes).1
+
+    moved_left : Moved c c_left
+    moved_left = moved-one left same-left (unprepared-recovered boot c.managers (c.transaction).id e (brought e there) part_left unprepared_left)
+
+    fits_left : is_part_as (c.transaction).phase e ≡ true
+    fits_left = (stands.stand).parts e there part_left
+
+    unfinished_left : e.is_finished ≡ false
+    unfinished_left = unfinished-in (c.transaction).phase e (voting-rolls (c.transaction).phase voting) fits_left
+
+    -- those that take part are the others that did
+    still : (x : Enlistment) → IsIn x c_left.enlistments → takes_part (c.transaction).id x ≡ true → IsIn x c.enlistments × (has_id e.id x ≡ false)
+    still x there' part =
+        let from = IsIn-unmap (stepped (has_id e.id) left) x c.enlistments there' in
+        elim (cases_Bool (has_id e.id from.0)) [
+          | inl told ↦
+              let is : left from.0 ≡ x = rw told at from.1 in
+              absurd (true≢false (sym part ∙ sym (ap (takes_part (c.transaction).id) is) ∙ and_right (same_id (from.0).transaction (c.transaction).id && not (is_superior from.0)) false refl))
+          | inr silent ↦ let is : from.0 ≡ x = rw silent at from.1 in (subst (λ y. IsIn y c.enlistments) is from.2, subst (λ y. has_id e.id y ≡ false) is silent)
+        ]
+
+    -- the others that took part still do
+    stays : (x : Enlistment) → IsIn x c.enlistments → has_id e.id x ≡ false → IsIn x c_left.enlistments
+    stays x there' other =
+        let same : stepped (has_id e.id) left x ≡ x = rw other refl in
+        subst (λ y. IsIn y c_left.enlistments) same (IsIn-map (stepped (has_id e.id) left) x c.enlistments there')
+
+    stand_left : (test : Enlistment → Bool) → Stand c.enlistments (c.transaction).id test → Stand c_left.enlistments (c.transaction).id test
+    stand_left test stand = record {
+      others = λ x there' own' other.
+          let from = IsIn-unmap (stepped (has_id e.id) left) x c.enlistments there' in
+          elim (cases_Bool (has_id e.id from.0)) [
+            | inl told ↦
+                let is : left from.0 ≡ x = rw told at from.1 in
+                subst (λ y. is_bystander y ≡ true) (ap left (sym (it from.0 from.2 told)) ∙ is) (rw (unprepared_left, unfinished_left, ordinary) refl)
+            | inr silent ↦
+                let is : from.0 ≡ x = rw silent at from.1 in
+                stand.others x (subst (λ y. IsIn y c.enlistments) is from.2) own' other
+          ];
+      parts = λ x there' part. stand.parts x (still x there' part).0 part;
+    }
+
+    -- somebody else still owes
+    still-owes : (is_none e.owes ≡ true) → has_part c.enlistments (c.transaction).id (λ x. is_some x.owes) ≡ true → has_part c_left.enlistments (c.transaction).id (λ x. is_some x.owes) ≡ true
+    still-owes none some =
+        let one = list_any-at (λ x. takes_part (c.transaction).id x && is_some x.owes) c.enlistments some in
+        let owes = (and_parts (takes_part (c.transaction).id one.0) (is_some (one.0).owes) one.2).1 in
+        list_any-from (λ x. takes_part (c.transaction).id x && is_some x.owes) c_left.enlistments one.0
+        (stays one.0 one.1 (false_from_ne_true _ (λ is. not-both e.owes none (subst (λ (y : Enlistment). is_some y.owes ≡ true) (it one.0 one.1 is) owes)))) one.2
+
+    awaited_left : (phase : Phase) → is_voting phase ≡ true → is_none e.owes ≡ true → is_part_as phase e ≡ true → is_awaited_as phase c.enlistments (c.transaction).id ≡ true → is_awaited_as phase c_left.enlistments (c.transaction).id ≡ true
+    awaited_left PrePreparing voting' none fits awaited = still-owes none awaited
+    awaited_left Preparing voting' none fits awaited = still-owes none awaited
+    awaited_left SinglePhase voting' none fits awaited =
+        let three = and_parts (owes_commit e && not e.is_prepared && not e.is_finished) (allows_one_phase e) fits in
+        let two = and_parts (owes_commit e && not e.is_prepared) (not e.is_finished) three.0 in
+        absurd (owes_none e commit (owed-commit e (and_parts (owes_commit e) (not e.is_prepared) two.0).0) none)
+    awaited_left Committing voting' none fits awaited = absurd (true≢false (sym voting'))
+    awaited_left Aborting voting' none fits awaited = absurd (true≢false (sym voting'))
+    awaited_left _ voting' none fits awaited = refl
+
+    -- as many with a durable resource manager are prepared
+    durable_left : has_durable_part c.managers c_left.enlistments (c.transaction).id (λ x. x.is_prepared) ≡ has_durable_part c.managers c.enlistments (c.transaction).id (λ x. x.is_prepared)
+    durable_left = list_any-told (λ x. takes_part (c.transaction).id x && (x.is_prepared && is_durable_at c.managers x.manager)) (has_id e.id) left c.enlistments (λ x there' is.
+        let unprepared' : x.is_prepared ≡ false = subst (λ (y : Enlistment). y.is_prepared ≡ false) (sym (it x there' is)) unprepared_left in
+        and_left (takes_part (c.transaction).id (left x)) _ (and_right (same_id x.transaction (c.transaction).id && not (is_superior x)) false refl)
+        ∙ sym (and_right (takes_part (c.transaction).id x) (x.is_prepared && is_durable_at c.managers x.manager) (and_left x.is_prepared _ unprepared')))
+
+    recorded_left : (phase : Phase) (r : Bool) → is_voting phase ≡ true → is_recorded_as phase c.managers c.enlistments (c.transaction).id r ≡ true → is_recorded_as phase c.managers c_left.enlistments (c.transaction).id r ≡ true
+    recorded_left Preparing r voting' right = subst (λ b. (if b then r else not r) ≡ true) (sym durable_left) right
+    recorded_left Committing r voting' right = absurd (true≢false (sym voting'))
+    recorded_left _ r voting' right = right
+
+    -- nothing else goes on
+    stands_left : is_awaited_as (c.transaction).phase c_left.enlistments (c.transaction).id ≡ true → Stands boot c_left
+    stands_left awaited = record {
+      outcome = stands.outcome;
+      boots = stands.boots;
+      superior = subst (λ b. is_superior_as (c.transaction).phase b ≡ true) (sym (superior-one left same-left)) stands.superior;
+      stand = stand_left (is_part_as (c.transaction).phase) stands.stand;
+      awaited = awaited;
+      alone = stands.alone;
+      recorded = recorded_left (c.transaction).phase (c.transaction).is_recorded voting stands.recorded;
+    }
+
+    silent : is_some e.owes ≡ true → is_idle e ≡ true → ⊥
+    silent owes idle = not-both e.owes (idle-parts e idle).0 owes
+
+    -- it was the last one that owed
+    goes-on_left : (phase : Phase) → (c.transaction).phase ≡ phase → is_voting phase ≡ true → is_some e.owes ≡ true → Arrives boot c (when_none_owes c_left (without_its_answer phase))
+    goes-on_left PrePreparing is voting' owes =
+        let at = stands-in boot c PrePreparing is stands in
+        if_cases (λ d. Arrives boot c d) (someone_owes c_left) c_left (pre_prepared c_left)
+        (λ some. record { moved = moved_left; stands = stands_left (subst (λ p. is_awaited_as p c_left.enlistments (c.transaction).id ≡ true) (sym is) some) })
+        (λ none. arrives-then boot moved_left (arrives-pre_prepared boot c_left (fresh-from boot c_left at.outcome (here-from boot (in_phase c PrePreparing).transaction refl at.boots) at.recorded
+        (Stand-as c_left.enlistments (c.transaction).id (is_part_as PrePreparing) is_idle (stand_left (is_part_as PrePreparing) at.stand) (λ x there' part fits. idle-from x fits (none-owed c_left none x there' part)))
+        (unrecovered-moved c c_left boot moved_left brought))))
+    goes-on_left Preparing is voting' owes =
+        let at = stands-in boot c Preparing is stands in
+        if_cases (λ d. Arrives boot c d) (someone_owes c_left) c_left (all_ready c_left)
+        (λ some. record { moved = moved_left; stands = stands_left (subst (λ p. is_awaited_as p c_left.enlistments (c.transaction).id ≡ true) (sym is) some) })
+        (λ none. arrives-then boot moved_left (arrives-all_ready boot c_left (record {
+          here = here-from boot (in_phase c Preparing).transaction refl at.boots;
+          undecided = at.outcome;
+          stand = Stand-as c_left.enlistments (c.transaction).id (is_part_as Preparing) is_waiting (stand_left (is_part_as Preparing) at.stand) (λ x there' part fits. elim (preparing-parts x fits) [
+            | inl waits ↦ waits
+            | inr owing' ↦ absurd (owes_none x prepare (owed-prepare x owing'.1) (none-owed c_left none x there' part))
+          ]);
+          recorded = λ some. elim (if_parts _ (c.transaction).is_recorded (not (c.transaction).is_recorded) at.recorded) [ inl both ↦ both.1 | inr both ↦ absurd (true≢false (sym some ∙ durable_left ∙ both.0)) ];
+        })))
+    goes-on_left SinglePhase is voting' owes =
+        let at = stands-in boot c SinglePhase is stands in
+        let nobody = λ (x : Enlistment) (there' : IsIn x c_left.enlistments) (part : takes_part (c.transaction).id x ≡ true).
+        let old = still x there' part in
+        let same : e ≡ x = only-one c.enlistments (c.transaction).id (length-filter (takes_part (c.transaction).id) c.enlistments ∙ eqb-true _ 1 at.awaited) e x there old.0 part_left part in
+        true≢false (sym it-itself ∙ ap (has_id e.id) same ∙ old.1) in
+        if_cases (λ d. Arrives boot c d) (someone_owes c_left) c_left (ended c_left TransactionOutcome.Committed)
+        (λ some.
+        let one = list_any-at (λ x. takes_part (c.transaction).id x && is_some x.owes) c_left.enlistments some in
+        absurd (nobody one.0 one.1 (and_parts (takes_part (c.transaction).id one.0) (is_some (one.0).owes) one.2).0))
+        (λ none. arrives-then boot moved_left (arrives-ended boot c_left TransactionOutcome.Committed refl (is_backed-from boot c.transaction stands.boots)
+        (Stand-nobody c_left.enlistments (c.transaction).id (is_part_as SinglePhase) (is_part_as Ended) (stand_left (is_part_as SinglePhase) at.stand) nobody)))
+    goes-on_left Active is voting' owes = absurd (silent owes (subst (λ p. is_part_as p e ≡ true) is fits_left))
+    goes-on_left Requested is voting' owes = absurd (silent owes (subst (λ p. is_part_as p e ≡ true) is fits_left))
+    goes-on_left PrePrepared is voting' owes = absurd (silent owes (subst (λ p. is_part_as p e ≡ true) is fits_left))
+    goes-on_left _ is voting' owes = absurd (true≢false (sym voting'))
+
+    pub arrives-read_only_answered : Arrives boot c (read_only_answered c e)
+    unfolding read_only_answered
+    arrives-read_only_answered = if_cases (λ d. Arrives boot c d) (is_some e.owes) (when_none_owes c_left (without_its_answer (c.transaction).phase)) c_left
+        (λ owes. goes-on_left (c.transaction).phase refl voting owes)
+        (λ silent. record { moved = moved_left; stands = stands_left (awaited_left (c.transaction).phase voting (none-of e.owes silent) fits_left stands.awaited) })
+
+  -- ---- SinglePhaseReject
+
+  module _ (phase : (c.transaction).phase ≡ SinglePhase) (owes : owes_commit e ≡ true) where
+    at_single : Stands boot (in_phase c SinglePhase)
+    at_single = stands-in boot c SinglePhase phase stands
+
+    part_single : takes_part (c.transaction).id e ≡ true
+    part_single = takes_part-owing commit (owed-commit e owes)
+
+    it_single : (x : Enlistment) → IsIn x c.enlistments → takes_part (c.transaction).id x ≡ true → e ≡ x
+    it_single x there' part = only-one c.enlistments (c.transaction).id (length-filter (takes_part (c.transaction).id) c.enlistments ∙ eqb-true _ 1 at_single.awaited) e x there there' part_single part
+
+    single-parts : (x : Enlistment) → is_part_as SinglePhase x ≡ true → (x.is_prepared ≡ false) × (x.is_finished ≡ false)
+    single-parts x fits =
+        let three = and_parts (owes_commit x && not x.is_prepared && not x.is_finished) (allows_one_phase x) fits in
+        let two = and_parts (owes_commit x && not x.is_prepared) (not x.is_finished) three.0 in
+        (not-true _ (and_parts (owes_commit x) (not x.is_prepared) two.0).1, not-true _ two.1)
+
+    abbrev c_rejected : Course
+    c_rejected = in_phase (telling c (has_id e.id) Notify.Prepare (owing prepare)) Preparing
+
+    rejected-none : has_durable_part c.managers c_rejected.enlistments (c.transaction).id (λ x. x.is_prepared) ≡ false
+    rejected-none = none-from _ c_rejected.enlistments (λ x there'. one x there' (cases_Bool (takes_part (c.transaction).id x)))
+      where
+        stand : Stand c_rejected.enlistments (c.transaction).id (λ x. not x.is_prepared)
+        stand = stand-one (is_part_as SinglePhase) (λ x. not x.is_prepared) (owing prepare) at_single.stand part_single (alike-owing prepare)
+            (λ fits. not_from_false _ (single-parts e fits).0) (λ x there' part fits other. not_from_false _ (single-parts x fits).0)
+
+        one : (x : Enlistment) → IsIn x c_rejected.enlistments → (takes_part (c.transaction).id x ≡ true) ⊎ (takes_part (c.transaction).id x ≡ false) → (takes_part (c.transaction).id x && (x.is_prepared && is_durable_at c.managers x.manager)) ≡ false
+        one x there' (inl part) = and_right (takes_part (c.transaction).id x) _ (and_left x.is_prepared _ (not-true _ (stand.parts x there' part)))
+        one x there' (inr other) = and_left (takes_part (c.transaction).id x) _ other
+
+    pub arrives-single_phase_rejected : Arrives boot c (single_phase_rejected c e)
+    unfolding single_phase_rejected
+    arrives-single_phase_rejected = record {
+      moved = Moved-then (moved-telling c (has_id e.id) Notify.Prepare (owing prepare) refl (changes-one (owing prepare) (λ x. (alike-owing prepare x).same) (recovered-owing commit (owed-commit e owes))))
+          (moved-transaction (telling c (has_id e.id) Notify.Prepare (owing prepare)) c_rejected.transaction refl refl refl);
+      stands = record {
+        outcome = at_single.outcome;
+        boots = rw (here-from boot (in_phase c SinglePhase).transaction refl at_single.boots) refl;
+        superior = refl;
+        stand = stand-one (is_part_as SinglePhase) (is_part_as Preparing) (owing prepare) at_single.stand part_single (alike-owing prepare)
+            (λ fits. rw ((single-parts e fits).0, (single-parts e fits).1) refl)
+            (λ x there' part fits other. absurd (true≢false (sym it-itself ∙ ap (has_id e.id) (it_single x there' part) ∙ other)));
+        awaited = list_any-from (λ x. takes_part (c.transaction).id x && is_some x.owes) c_rejected.enlistments (stepped (has_id e.id) (owing prepare) e)
+            (IsIn-map (stepped (has_id e.id) (owing prepare)) e c.enlistments there) (rw it-itself (and_from _ _ part_single refl));
+        alone = refl;
+        recorded = rw rejected-none at_single.recorded;
+      };
+    }
+
+  -- ---- CommitComplete and RollbackComplete
+
+  -- it owes nothing, and has finished
+  abbrev finished' : Enlistment → Enlistment
+  finished' x = record x { owes = None; is_finished = true }
+
+  alike-finished : (x : Enlistment) → IsAlike x (finished' x)
+  alike-finished x = record { same = record { id = refl; manager = refl; transaction = refl; kind = refl; information = refl }; read_only = refl }
+
+  finished-moved : (owed : Owed) → e.owes ≡ Some owed → Moved c (finished c e)
+  finished-moved owed is = moved-one finished' (λ x. (alike-finished x).same) (recovered-owing owed is)
+
+  module _ (owes : owes_commit e ≡ true) where
+    is_commit : e.owes ≡ Some commit
+    is_commit = owed-commit e owes
+
+    -- what it records
+    abbrev done_event : List Event
+    done_event = event_if (is_durable_at c.managers e.manager) (Event.Done (c.transaction).id (DonePart.Enlistment e.id))
+
+    knows-two : (id : Id) → IsIn id ((c.transaction).id ∷ e.id ∷ []) → Knows c id
+    knows-two id (inl own') = inl (sym own')
+    knows-two id (inr (inl its)) = inr (e, there, inl (sym its))
+    knows-two id (inr (inr none)) = absurd none
+
+    -- it was one of many
+    one-committed : (c.transaction).phase ≡ Committing → Stands boot (in_phase c Committing) → Arrives boot c (ended_if_finished (recording (finished c e) done_event) TransactionOutcome.Committed)
+    one-committed phase at = arrives-then boot (Moved-then (finished-moved commit is_commit) (moved-recording (finished c e) _ c.works (AreOwn-if (finished c e) (is_durable_at c.managers e.manager) (Event.Done (c.transaction).id (DonePart.Enlistment e.id)) refl (λ id is. knows-moved c (finished c e) (finished-moved commit is_commit) id (knows-two id is)))))
+        (arrives-if_finished boot (recording (finished c e) done_event) TransactionOutcome.Committed (is_part_as Committing) refl (is_backed-from boot c.transaction stands.boots) stand
+        (λ x fits over. over-part owes_commit x (and_parts x.is_prepared _ fits).1 over)
+        (λ some. stands-back boot (recording (finished c e) done_event) Committing phase (record {
+          outcome = at.outcome;
+          boots = at.boots;
+          superior = refl;
+          stand = stand;
+          awaited = some;
+          alone = refl;
+          recorded = elim (or_cases (c.transaction).is_recorded _ at.recorded) [
+            | inl recorded' ↦ or_left _ _ recorded'
+            | inr none ↦ or_right _ _ (not_from_false _ (fewer (not-true _ none)))
+          ];
+        })))
+      where
+        stand : Stand (with_enlistments (has_id e.id) finished' c.enlistments) (c.transaction).id (is_part_as Committing)
+        stand = stand-one (is_part_as Committing) (is_part_as Committing) finished' at.stand (takes_part-owing commit is_commit) alike-finished
+            (λ fits. and_from _ _ (and_parts e.is_prepared _ fits).0 (rw (and_right e.is_recovered false refl) refl)) (λ x there' part fits other. fits)
+
+        fewer : has_durable_part c.managers c.enlistments (c.transaction).id (λ x. not x.is_finished) ≡ false → has_durable_part c.managers (with_enlistments (has_id e.id) finished' c.enlistments) (c.transaction).id (λ x. not x.is_finished) ≡ false
+        fewer none = none-from _ (with_enlistments (has_id e.id) finished' c.enlistments) (λ x there'.
+            let from = IsIn-unmap (stepped (has_id e.id) finished') x c.enlistments there' in
+            subst (λ y. (takes_part (c.transaction).id y && (not y.is_finished && is_durable_at c.managers y.manager)) ≡ false) from.1
+            (if_cases (λ y. (takes_part (c.transaction).id y && (not y.is_finished && is_durable_at c.managers y.manager)) ≡ false) (has_id e.id from.0) (finished' from.0) from.0
+            (λ is. and_right (takes_part (c.transaction).id (finished' from.0)) false refl) (λ is. none-at _ c.enlistments none from.0 from.2)))
+
+    pub arrives-commit_answered : Arrives boot c (commit_answered c e)
+    unfolding commit_answered
+    arrives-commit_answered = if_cases (λ d. Arrives boot c d) (is_single_phase (c.transaction).phase) (ended (finished c e) TransactionOutcome.Committed)
+        (ended_if_finished (recording (finished c e) done_event) TransactionOutcome.Committed)
+        (λ single. elim (is-committing (c.transaction).phase (phase-owing commit is_commit)) [
+          | inl phase ↦ absurd (true≢false (sym single ∙ ap is_single_phase phase))
+          | inr phase ↦ arrives-then boot (finished-moved commit is_commit) (arrives-ended boot (finished c e) TransactionOutcome.Committed refl (is_backed-from boot c.transaction stands.boots)
+              (stand-one (is_part_as SinglePhase) (is_part_as Ended) finished' (stands-in boot c SinglePhase phase stands).stand (takes_part-owing commit is_commit) alike-finished (λ fits. refl)
+              (λ x there' part fits other. absurd (true≢false (sym it-itself ∙ ap (has_id e.id) (it_single phase owes x there' part) ∙ other)))))
+        ])
+        (λ several. elim (is-committing (c.transaction).phase (phase-owing commit is_commit)) [
+          | inr phase ↦ absurd (true≢false (sym (ap is_single_phase phase) ∙ several))
+          | inl phase ↦ one-committed phase (stands-in boot c Committing phase stands)
+        ])
+
+  pub arrives-rollback_answered : owes_rollback e ≡ true → Arrives boot c (rollback_answered c e)
+  unfolding rollback_answered
+  arrives-rollback_answered owes =
+      let is = owed-rollback e owes in
+      let phase = is-aborting (c.transaction).phase (phase-owing rollback is) in
+      let at = stands-in boot c Aborting phase stands in
+      let stand = stand-one (is_part_as Aborting) (is_part_as Aborting) finished' at.stand (takes_part-owing rollback is) alike-finished
+      (λ fits. rw (and_right e.is_recovered false refl) refl) (λ x there' part fits other. fits) in
+      arrives-then boot (finished-moved rollback is) (arrives-if_finished boot (finished c e) TransactionOutcome.Aborted (is_part_as Aborting) refl (is_backed-from boot c.transaction stands.boots) stand
+      (λ x fits over. over-part owes_rollback x fits over)
+      (λ some. stands-back boot (finished c e) Aborting phase (record { outcome = at.outcome; boots = at.boots; superior = refl; stand = stand; awaited = some; alone = refl; recorded = refl })))
+
+  -- ---- RecoverEnlistment
+
+  -- it is recovered
+  abbrev back : Enlistment → Enlistment
+  back x = record x { is_recovered = true }
+
+  abbrev c_back : Course
+  c_back = recovering c e
+
+  moved-back : Moved c c_back
+  moved-back = moved-one back (λ x. record { id = refl; manager = refl; transaction = refl; kind = refl; information = refl }) refl
+
+  it-back : (x : Enlistment) → IsIn x c_back.enlistments → has_id e.id x ≡ true → x ≡ back e
+  it-back x there' is =
+      let from = IsIn-unmap (stepped (has_id e.id) back) x c.enlistments there' in
+      elim (cases_Bool (has_id e.id from.0)) [
+        | inl told ↦ let same : back from.0 ≡ x = rw told at from.1 in sym same ∙ ap back (it from.0 from.2 told)
+        | inr silent ↦ let same : from.0 ≡ x = rw silent at from.1 in absurd (true≢false (sym is ∙ ap (has_id e.id) (sym same) ∙ silent))
+      ]
+
+  changes-back : (f : Enlistment → Enlistment) → ((x : Enlistment) → IsSame x (f x)) → ((f (back e)).is_recovered ≡ true) → Changes c_back (has_id e.id) f
+  changes-back f same recovered' = record {
+    own = λ x there' is. subst (λ (y : Enlistment). same_id y.transaction (c.transaction).id ≡ true) (sym (it-back x there' is)) own;
+    same = same;
+    recovered = λ x there' is. inr (subst (λ y. (f y).is_recovered ≡ true) (sym (it-back x there' is)) recovered');
+  }
+
+  stand-back : (before after : Enlistment → Bool) → Stand c.enlistments (c.transaction).id before → (takes_part (c.transaction).id e ≡ true → before e ≡ true → after (back e) ≡ true)
+      → ((x : Enlistment) → IsIn x c.enlistments → before x ≡ true → has_id e.id x ≡ false → after x ≡ true) → Stand c_back.enlistments (c.transaction).id after
+  stand-back before after stand itself left' = record {
+    others = λ x there' own' other.
+        let from = IsIn-unmap (stepped (has_id e.id) back) x c.enlistments there' in
+        elim (cases_Bool (has_id e.id from.0)) [
+          | inl told ↦
+              let same : back from.0 ≡ x = rw told at from.1 in
+              subst (λ y. is_bystander y ≡ true) same
+              (stand.others from.0 from.2 (subst (λ (y : Enlistment). same_id y.transaction (c.transaction).id ≡ true) (sym same) own') (ap (takes_part (c.transaction).id) same ∙ other))
+          | inr silent ↦ let same : from.0 ≡ x = rw silent at from.1 in stand.others x (subst (λ y. IsIn y c.enlistments) same from.2) own' other
+        ];
+    parts = λ x there' part.
+        let from = IsIn-unmap (stepped (has_id e.id) back) x c.enlistments there' in
+        elim (cases_Bool (has_id e.id from.0)) [
+          | inl told ↦
+              let same : back from.0 ≡ x = rw told at from.1 in
+              let is = it from.0 from.2 told in
+              subst (λ y. after y ≡ true) same (subst (λ y. after (back y) ≡ true) (sym is)
+              (let part' = ap (takes_part (c.transaction).id) same ∙ part in itself (subst (λ y. takes_part (c.transaction).id y ≡ true) is part') (subst (λ y. before y ≡ true) is (stand.parts from.0 from.2 part'))))
+          | inr silent ↦
+              let same : from.0 ≡ x = rw silent at from.1 in
+              let there'' = subst (λ y. IsIn y c.enlistments) same from.2 in
+              left' x there'' (stand.parts x there'' part) (subst (λ y. has_id e.id y ≡ false) same silent)
+        ];
+  }
+
+  awaited-back : (phase : Phase) → is_awaited_as phase c_back.enlistments (c.transaction).id ≡ is_awaited_as phase c.enlistments (c.transaction).id
+  awaited-back PrePreparing = list_any-with (λ x. takes_part (c.transaction).id x && is_some x.owes) (has_id e.id) back (λ x. refl) c.enlistments
+  awaited-back Preparing = list_any-with (λ x. takes_part (c.transaction).id x && is_some x.owes) (has_id e.id) back (λ x. refl) c.enlistments
+  awaited-back SinglePhase = ap (λ n. n == 1) (sym (length-filter (takes_part (c.transaction).id) c_back.enlistments) ∙ filter-with (takes_part (c.transaction).id) (has_id e.id) back (λ x. refl) c.enlistments ∙ length-filter (takes_part (c.transaction).id) c.enlistments)
+  awaited-back Committing = list_any-with (is_unfinished (c.transaction).id) (has_id e.id) back (λ x. refl) c.enlistments
+  awaited-back Aborting = list_any-with (is_unfinished (c.transaction).id) (has_id e.id) back (λ x. refl) c.enlistments
+  awaited-back _ = refl
+
+  recorded-back : (phase : Phase) (r : Bool) → is_recorded_as phase c.managers c_back.enlistments (c.transaction).id r ≡ is_recorded_as phase c.managers c.enlistments (c.transaction).id r
+  recorded-back Preparing r = ap (λ b. if b then r else not r) (list_any-with (λ x. takes_part (c.transaction).id x && (x.is_prepared && is_durable_at c.managers x.manager)) (has_id e.id) back (λ x. refl) c.enlistments)
+  recorded-back Committing r = ap (λ b. r || not b) (list_any-with (λ x. takes_part (c.transaction).id x && (not x.is_finished && is_durable_at c.managers x.manager)) (has_id e.id) back (λ x. refl) c.enlistments)
+  recorded-back _ r = refl
+
+  stands-back_with : (sent : List Sent) → Stand c_back.enlistments (c.transaction).id (is_part_as (c.transaction).phase) → Stands boot (record c_back { sent = sent })
+  stands-back_with sent stand = record {
+    outcome = stands.outcome;
+    boots = stands.boots;
+    superior = subst (λ b. is_superior_as (c.transaction).phase b ≡ true) (sym (superior-one back (λ x. record { id = refl; manager = refl; transaction = refl; kind = refl; information = refl }))) stands.superior;
+    stand = stand;
+    awaited = awaited-back (c.transaction).phase ∙ stands.awaited;
+    alone = stands.alone;
+    recorded = recorded-back (c.transaction).phase (c.transaction).is_recorded ∙ stands.recorded;
+  }
+
+  -- who is told something more, and not changed
+  arrives-told : (kind : Notify) → is_last_recover kind ≡ false → Stand c_back.enlistments (c.transaction).id (is_part_as (c.transaction).phase) → Arrives boot c (telling c_back (has_id e.id) kind unchanged)
+  arrives-told kind other stand = record {
+    moved = Moved-then moved-back (moved-telling c_back (has_id e.id) kind unchanged other (changes-back unchanged IsSame-refl refl));
+    stands = let d = telling c_back (has_id e.id) kind unchanged in
+        subst (λ es. Stands boot (record d { enlistments = es })) (sym (with-unchanged (has_id e.id) c_back.enlistments)) (stands-back_with d.sent stand);
+  }
+
+  module _ (unrecovered : e.is_recovered ≡ false) where
+    parts_back : (e.is_read_only ≡ false) × (e.is_finished ≡ false) × (is_none e.owes ≡ true) × ((is_superior e || e.is_prepared) ≡ true)
+    parts_back = unrecovered-parts boot c.managers e (brought e there) unrecovered
+
+    -- where the phase asks the same of it
+    phase-back : (phase : Phase) → Stand c.enlistments (c.transaction).id (is_part_as phase) → (is_part_as phase e ≡ true → is_part_as phase (back e) ≡ true) → Stand c_back.enlistments (c.transaction).id (is_part_as phase)
+    phase-back phase stand itself = stand-back (is_part_as phase) (is_part_as phase) stand (λ part. itself) (λ x there' fits other. fits)
+
+    -- it is told of the outcome, and owes an answer
+    abbrev is_told_next : (Enlistment → Bool) → Enlistment → Bool
+    is_told_next test x = if has_id e.id x then x.is_prepared && not x.is_finished && x.is_recovered else test x
+
+    stand-told : (phase : Phase) (owed : Owed) → Stand c.enlistments (c.transaction).id (is_part_as phase) → is_superior e ≡ false
+        → ((x : Enlistment) → x.is_prepared ≡ true → x.is_finished ≡ false → x.is_recovered ≡ true → is_part_as phase (owing owed x) ≡ true)
+        → Stand (with_enlistments (has_id e.id) (owing owed) c_back.enlistments) (c.transaction).id (is_part_as phase)
+    stand-told phase owed stand ordinary owes = Stand-with c_back.enlistments (c.transaction).id (is_told_next (is_part_as phase)) (is_part_as phase) (has_id e.id) (owing owed)
+        (stand-back (is_part_as phase) (is_told_next (is_part_as phase)) stand
+        (λ part fits. rw it-itself (and_from _ _ (and_from _ _ prepared' (not_from_false _ parts_back.1)) refl)) (λ x there' fits other. rw other fits))
+        (λ x there' is. subst (λ y. takes_part (c.transaction).id y ≡ true) (sym (it-back x there' is)) (and_from _ _ (and_from _ _ own (not_from_false _ ordinary)) (not_from_false _ parts_back.0)))
+        (alike-owing owed)
+        (λ x there' part next is.
+        let next' : (x.is_prepared && not x.is_finished && x.is_recovered) ≡ true = rw is at next in
+        let both = and_parts (x.is_prepared && not x.is_finished) x.is_recovered next' in
+        let first = and_parts x.is_prepared (not x.is_finished) both.0 in
+        owes x first.0 (not-true _ first.1) both.1)
+        (λ x there' part next silent'. let next' : is_part_as phase x ≡ true = rw silent' at next in next')
+      where
+        prepared' : e.is_prepared ≡ true
+        prepared' = elim (or_cases (is_superior e) e.is_prepared parts_back.3) [ inl above ↦ absurd (true≢false (sym above ∙ ordinary)) | inr is ↦ is ]
+
+    -- nothing is told
+    recovered-silently : (phase : Phase) → (c.transaction).phase ≡ phase → (is_part_as phase e ≡ true → is_part_as phase (back e) ≡ true) → Arrives boot c c_back
+    recovered-silently phase is itself = record {
+      moved = moved-back;
+      stands = stands-back_with c.sent (subst (λ p. Stand c_back.enlistments (c.transaction).id (is_part_as p)) (sym is) (phase-back phase (stands-in boot c phase is stands).stand itself));
+    }
+
+    recovered-in : (phase : Phase) → (c.transaction).phase ≡ phase → is_superior e ≡ false → Arrives boot c (recovered_in phase c_back e)
+    recovered-in InDoubt is ordinary = arrives-told Notify.Indoubt refl (subst (λ p. Stand c_back.enlistments (c.transaction).id (is_part_as p)) (sym is) (phase-back InDoubt (stands-in boot c InDoubt is stands).stand (λ fits. fits)))
+    recovered-in Committing is ordinary =
+        let at = stands-in boot c Committing is stands in
+        let d = telling c_back (has_id e.id) Notify.Commit (owing commit) in
+        record {
+          moved = Moved-then moved-back (moved-telling c_back (has_id e.id) Notify.Commit (owing commit) refl (changes-back (owing commit) (λ x. (alike-owing commit x).same) refl));
+          stands = stands-back boot d Committing is (record {
+            outcome = at.outcome;
+            boots = at.boots;
+            superior = refl;
+            stand = stand-told Committing commit at.stand ordinary (λ x prepared' unfinished recovered'. rw (prepared', recovered', unfinished) refl);
+            awaited = list_any-with (is_unfinished (c.transaction).id) (has_id e.id) (owing commit) (λ x. refl) c_back.enlistments ∙ awaited-back Committing ∙ at.awaited;
+            alone = refl;
+            recorded = ap (λ b. (c.transaction).is_recorded || not b) (list_any-with (λ x. takes_part (c.transaction).id x && (not x.is_finished && is_durable_at c.managers x.manager)) (has_id e.id) (owing commit) (λ x. refl) c_back.enlistments)
+                ∙ recorded-back Committing (c.transaction).is_recorded ∙ at.recorded;
+          });
+        }
+    recovered-in Aborting is ordinary =
+        let at = stands-in boot c Aborting is stands in
+        let d = telling c_back (has_id e.id) Notify.Rollback (owing rollback) in
+        record {
+          moved = Moved-then moved-back (moved-telling c_back (has_id e.id) Notify.Rollback (owing rollback) refl (changes-back (owing rollback) (λ x. (alike-owing rollback x).same) refl));
+          stands = stands-back boot d Aborting is (record {
+            outcome = at.outcome;
+            boots = at.boots;
+            superior = refl;
+            stand = stand-told Aborting rollback at.stand ordinary (λ x prepared' unfinished recovered'. rw (recovered', unfinished) refl);
+            awaited = list_any-with (is_unfinished (c.transaction).id) (has_id e.id) (owing rollback) (λ x. refl) c_back.enlistments ∙ awaited-back Aborting ∙ at.awaited;
+            alone = refl;
+            recorded = refl;
+          });
+        }
+    recovered-in phase is ordinary = recovered-silently phase is (λ fits. fits)
+
+    pub arrives-recovered : Arrives boot c (recovered_by c e)
+    unfolding recovered_by
+    arrives-recovered = if_cases (λ d. Arrives boot c d) (is_superior e) (telling c_back (has_id e.id) Notify.RecoverQuery unchanged) (recovered_in (c.transaction).phase c_back e)
+        (λ above. arrives-told Notify.RecoverQuery refl (stand-back (is_part_as (c.transaction).phase) (is_part_as (c.transaction).phase) stands.stand
+        (λ part. absurd (true≢false (sym above ∙ (part-parts (c.transaction).id e part).1))) (λ x there' fits other. fits)))
+        (λ ordinary. recovered-in (c.transaction).phase refl ordinary)

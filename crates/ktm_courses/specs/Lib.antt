@@ -1,0 +1,4 @@
+pub mod NamedObjects
+pub mod Outcomes
+pub mod SoundCourse
+pub mod SoundCourses

@@ -1,0 +1,30 @@
+-- What is so of transactions, enlistments and resource managers stays so, whatever a machine does.
+use Rattle.std.specs.Prelude.{ℕ, List}
+use Rattle.ktm_base.specs.declared.id.Pid.{Pid}
+use Rattle.ktm_types.specs.declared.command.Command.{Command}
+use Rattle.ktm_world.specs.Decide.{with_room, decide}
+use Rattle.ktm_world.specs.Durable.{Durable, stand}
+use Rattle.ktm_world.specs.Laws.{FirstOpensLieWithin}
+use Rattle.ktm_world.specs.Logs.{Group, Power}
+use Rattle.ktm_world.specs.Outcome.{apply}
+use Rattle.ktm_world.specs.Present.{Present}
+use Rattle.ktm_world.specs.World.{World, present, extend, after, opened, decide_tick}
+use Rattle.ktm_states.specs.GoodState.{IsGoodState}
+use Rattle.ktm_courses.specs.SoundCourse.{IsSoundCourse}
+
+-- a machine stays sound, whatever command it is given, whatever time passes, and where it falls; and a restart of a good state makes a sound one
+pub record CoursesLaw : Type 0 where
+  -- by a command, where the log has room
+  pub commands : (x : Present) (process : Pid) (command : Command) → IsSoundCourse x → IsSoundCourse (apply x (with_room x process command))
+  -- by a command, whether it has room or not
+  pub decided : (x : Present) (process : Pid) (command : Command) → IsSoundCourse x → IsSoundCourse (apply x (decide x process command))
+  -- by the passing of time
+  pub ticks : (x : Present) (ms : ℕ) → IsSoundCourse x → IsSoundCourse (apply x (decide_tick x ms))
+  -- so it is in worlds, by a command
+  pub worlds : (w : World) (process : Pid) (command : Command) → FirstOpensLieWithin w → IsSoundCourse (present w) → IsSoundCourse (present (after w process command))
+  -- and by the passing of time
+  pub later_worlds : (w : World) (ms : ℕ) → FirstOpensLieWithin w → IsSoundCourse (present w) → IsSoundCourse (present (extend w (decide_tick (present w) ms)))
+  -- by the loss of power
+  pub falls : (w : World) (power : Power) → IsSoundCourse (present w) → IsSoundCourse (present (record w { power = power }))
+  -- by a restart of a good state
+  pub restarts : (base : Durable) (room : ℕ) (log : List Group) → IsGoodState (stand base log) → IsSoundCourse (present (opened base room log))

@@ -1,0 +1,587 @@
+-- What a command tells by notifications is so, and stays so.
+use Rattle.std.specs.Prelude.{if◌then◌else◌}
+use Rattle.std.proofs.Common.{◌≡◌, ℕ, zero, suc, not, Bool, true, false, List, [], ◌∷◌, ◌++◌, map, filter, drop, Option, Some, None, refl, sym, ◌∙◌, ap, subst, inl, inr, ◌⊎◌}
+use Rattle.std.proofs.lemmas.Bool.{true≢false}
+use Rattle.std.proofs.lemmas.Option.{none-some}
+use Rattle.std.specs.List.{list_all}
+use Rattle.ktm_base.specs.declared.id.Id.{Id}
+use Rattle.ktm_base.specs.declared.id.Label.{Label}
+use Rattle.ktm_base.specs.declared.id.Pid.{Pid}
+use Rattle.ktm_base.specs.declared.notify.Notify.{Notify}
+use Rattle.ktm_base.specs.declared.refusal.Refusal.{Refusal}
+use Rattle.ktm_base.specs.declared.refusal.Refusal.TheVariants.{MachineDown}
+use Rattle.ktm_types.specs.declared.change.Change.{Change}
+use Rattle.ktm_types.specs.declared.command.Command.{Command}
+use Rattle.ktm_types.specs.declared.command.Command.TheVariants.{CreateTransaction, OpenTransaction, CommitTransaction, RollbackTransaction, GetTransactionInformation, CreateResourceManager, OpenResourceManager, RecoverResourceManager, GetNotificationResourceManager, CreateEnlistment, OpenEnlistment, RecoverEnlistment, PrePrepareComplete, PrepareComplete, ReadOnlyEnlistment, CommitComplete, RollbackComplete, SinglePhaseReject, RollbackEnlistment, PrePrepareEnlistment, PrepareEnlistment, CommitEnlistment, SetEnlistmentRecoveryInformation, GetEnlistmentRecoveryInformation, CreateFile, CreateFileTransacted, ReadFile, WriteFile, SetEndOfFile, GetFileSizeEx, FlushFileBuffers, DeleteFile, CreateDirectory, RemoveDirectory, MoveFile, DeleteFileTransacted, CreateDirectoryTransacted, RemoveDirectoryTransacted, MoveFileTransacted, FindFiles, FindFilesTransacted, KvSet, KvUnset, KvGet, KvList, CloseHandle, DuplicateHandle, Exit}
+use Rattle.ktm_types.specs.declared.event.Event.{Event}
+use Rattle.ktm_types.specs.declared.event.Event.TheVariants.{MadeRm}
+use Rattle.ktm_types.specs.declared.object.Object.{Object}
+use Rattle.ktm_types.specs.declared.object.Object.TheVariants.{Transaction as TransactionObject, Manager as ManagerObject, Enlistment as EnlistmentObject, File as FileObject}
+use Rattle.ktm_types.specs.declared.object.Transaction.{Transaction}
+use Rattle.ktm_types.specs.declared.object.TransactionOutcome.{TransactionOutcome}
+use Rattle.ktm_types.specs.declared.options.Durability.{Durability}
+use Rattle.ktm_types.specs.declared.options.EnlistmentKind.{EnlistmentKind}
+use Rattle.ktm_types.specs.declared.reply.Reply.{Reply}
+use Rattle.ktm_types.specs.declared.reply.Reply.TheVariants.{Refused, Done}
+use Rattle.ktm_world.specs.Decide.{decide, caller, command_effect, refusal_of, with_room, of_files, opening, on_file, bound_file, events_of}
+use Rattle.ktm_world.specs.Durable.{Durable, after_events, stand}
+use Rattle.ktm_world.specs.Enlistments.{Enlistment, Manager, Note, Sent, is_superior, has_id, notes_for, taken_count}
+use Rattle.ktm_world.specs.FileCalls.{create_file, delete_file, create_directory, remove_directory, move_file, find_files}
+use Rattle.ktm_world.specs.FileOutcome.{FileOutcome}
+use Rattle.ktm_world.specs.Files.{OpenFile, own_changes}
+use Rattle.ktm_world.specs.Keys.{own_settings}
+use Rattle.ktm_world.specs.HandleCalls.{without_handle, has_handle, abort_active, last_handle_gone, handle_gone, close_handle, closed_in_turn, labels_of, exit, bind_to, duplicate_handle}
+use Rattle.ktm_world.specs.Handles.{object_at}
+use Rattle.ktm_world.specs.Labels.{transaction_named, manager_named, enlistment_named, file_named, binding}
+use Rattle.ktm_world.specs.OneOutcome.{told_by, told_outcome}
+use Rattle.ktm_world.specs.Outcome.{Outcome, apply, only_reply, joined, served, refuse_or, first_refusal, is_full, within_log}
+use Rattle.ktm_world.specs.Phases.{Course, aborting, committing, to_commit, to_pre_prepare, to_prepare, pre_prepare_answered, prepare_answered, read_only_answered, commit_answered, rollback_answered, single_phase_rejected, recovered}
+use Rattle.ktm_world.specs.Present.{Present, Transactions}
+use Rattle.ktm_world.specs.TransactionCalls.{course_of, arrived, new_id, create_transaction, transaction_with, open_to_transaction, open_transaction, commit_of, commit_transaction, aborted_by, rollback_of, rollback_transaction, get_transaction_information, is_due, aborted_if_due, aborted_in_turn, with_clock, tick, is_durable, create_resource_manager, manager_with, open_to_manager, open_resource_manager, is_to_recover, recover_all, recover_resource_manager, take_first, get_notification, enlist, create_enlistment, enlistment_with, open_to_enlistment, open_enlistment, transaction_in, goes_on, answering, pre_prepare_complete, prepare_complete, read_only_enlistment, commit_complete, rollback_complete, single_phase_reject, rollback_enlistment, pre_prepare_enlistment, prepare_enlistment, commit_enlistment, recover_enlistment, keep_information, set_information, get_information}
+use Rattle.ktm_world.specs.Transactions.{same_id, transaction_at, is_active, is_undecided}
+use Rattle.ktm_world.specs.World.{ManagerPast, manager_now, decide_tick}
+use Rattle.ktm_world.specs.Logs.{Group}
+use Rattle.ktm_world.proofs.offered.Durables.{after_events-append}
+use Rattle.txf_laws.specs.Elements.{IsIn}
+use Rattle.ktm_laws.specs.Notes.{IsToldTruly, AreNotesTrue, NotesLaw}
+use Rattle.ktm_courses.specs.Outcomes.{OutcomesStay, OutcomesLaw}
+use Rattle.ktm_courses.specs.SoundCourse.{IsSoundCourse, is_outcome_of}
+use Rattle.ktm_courses.proofs.offered.Arrivals.{changed_to, IsIn-changed}
+use Rattle.ktm_courses.proofs.offered.Bindings.{stays-sound, soundly-gone, stays-unbound, stays-closed, stays-closed_all, stays-due, stays-in_turn}
+use Rattle.ktm_courses.proofs.offered.Beginnings.{sound-clock}
+use Rattle.ktm_courses.proofs.offered.Calls.{transaction_at-found, transaction-named, enlistment-named}
+use Rattle.ktm_owned.proofs.offered.CoursesKept.{is_no_boot, Steps, IsCourse, aborting-is, committing-is, to_prepare-is, to_pre_prepare-is, to_commit-is, pre_prepare_answered-is, prepare_answered-is, read_only_answered-is, single_phase_rejected-is, commit_answered-is, rollback_answered-is, recovered-is}
+use Rattle.txf_laws.proofs.offered.Diamonds.{IsIn-map}
+use Rattle.txf_laws.proofs.offered.Elements.{IsIn-filter, list_all-at}
+use Rattle.txf_laws.proofs.offered.Lists.{IsIn-left, IsIn-cases, IsIn-unmap}
+use Rattle.ktm_courses.proofs.offered.Moves.{if_cases, same-by_id}
+use Rattle.ktm_courses.proofs.offered.Outcomes.{changed-itself}
+use Rattle.ktm_owned.proofs.offered.EndedTransactions.{boots-all}
+use Rattle.ktm_laws.proofs.Sayings.{naming, naming-with, Says, Ends, to_prepare-ends, to_pre_prepare-ends, to_commit-ends, pre_prepare_answered-ends, prepare_answered-ends, read_only_answered-ends, commit_answered-ends, rollback_answered-ends, aborting-ends, committing-ends, single_phase_rejected-ends, recovered-ends, Only}
+use Rattle.txf_laws.proofs.offered.Tables.{same_id-from}
+
+-- ---- what an outcome leaves
+
+-- each enlistment is there still, with its transaction
+pub record EnlistmentsStay (es fs : List Enlistment) : Type 0 where
+  pub each : (e : Enlistment) → IsIn e es → (f : Enlistment) × IsIn f fs × (f.id ≡ e.id) × (f.transaction ≡ e.transaction)
+
+-- each transaction was there before, or is of this boot
+pub record ComeFrom (boot : ℕ) (ts us : List Transaction) : Type 0 where
+  pub each : (u : Transaction) → IsIn u us → ((t : Transaction) × IsIn t ts × (t.id ≡ u.id)) ⊎ (u.id.boot ≡ boot)
+
+-- what an outcome tells by notifications is so, and it leaves enlistments and the boot
+pub record IsHonest (x : Present) (o : Outcome) : Type 0 where
+  pub enlistments : EnlistmentsStay x.transactions.enlistments o.transactions.enlistments
+  pub comes : ComeFrom x.recorded.boots x.transactions.items o.transactions.items
+  pub sent : (s : Sent) (k : Bool) → IsIn s o.sent → told_by s.note.kind ≡ Some k → IsToldTruly o.transactions s.note k
+  pub made : (m : Manager) → IsIn m o.made → m.queue ≡ []
+  pub boots : (after_events x.recorded o.events).boots ≡ x.recorded.boots
+
+enlistments-same : (es fs : List Enlistment) → fs ≡ es → EnlistmentsStay es fs
+enlistments-same es fs same = record { each = λ e there. (e, subst (IsIn e) (sym same) there, refl, refl) }
+
+come-same : (boot : ℕ) (ts us : List Transaction) → us ≡ ts → ComeFrom boot ts us
+come-same boot ts us same = record { each = λ u there. inl (u, subst (IsIn u) same there, refl) }
+
+-- nothing is told
+honest-quiet : (x : Present) (o : Outcome) → o.transactions.enlistments ≡ x.transactions.enlistments → o.transactions.items ≡ x.transactions.items → o.sent ≡ [] → o.made ≡ []
+    → (after_events x.recorded o.events).boots ≡ x.recorded.boots → IsHonest x o
+honest-quiet x o enlistments items sent made boots = record {
+  enlistments = enlistments-same x.transactions.enlistments o.transactions.enlistments enlistments;
+  comes = come-same x.recorded.boots x.transactions.items o.transactions.items items;
+  sent = λ s k there. absurd (subst (IsIn s) sent there);
+  made = λ m there. absurd (subst (IsIn m) made there);
+  boots = boots;
+}
+
+honest-reply : (x : Present) (reply : Reply) → IsHonest x (only_reply x reply)
+honest-reply x reply = honest-quiet x (only_reply x reply) refl refl refl refl refl
+
+honest-bound : (x : Present) (process : Pid) (label : Label) (object : Object) (o : Outcome) → IsHonest x o → IsHonest x (binding process label object o)
+honest-bound x process label object o honest = record { enlistments = honest.enlistments; comes = honest.comes; sent = honest.sent; made = honest.made; boots = honest.boots }
+
+-- ---- what was told stays so
+
+pub known : (t : Transaction) (k : Bool) → told_outcome t.outcome ≡ Some k → is_undecided t ≡ false
+known t k = go t.outcome
+  where
+    go : (outcome : TransactionOutcome) → told_outcome outcome ≡ Some k → is_undecided (record t { outcome = outcome }) ≡ false
+    go TransactionOutcome.Undetermined is = absurd (none-some k is)
+    go TransactionOutcome.Committed is = refl
+    go TransactionOutcome.Aborted is = refl
+
+pub truly-still : (ts us : Transactions) (note : Note) (k : Bool) → EnlistmentsStay ts.enlistments us.enlistments → OutcomesStay ts.items us.items → IsToldTruly ts note k → IsToldTruly us note k
+truly-still ts us note k stay outcomes truly =
+    let e = stay.each truly.enlistment truly.enlisted in
+    let t = outcomes.each truly.transaction truly.there in
+    record {
+      enlistment = e.0;
+      enlisted = e.1;
+      named = truly.named ∙ ap Some (sym e.2);
+      transaction = t.0;
+      there = t.1;
+      own = t.2 ∙ truly.own ∙ sym e.3;
+      outcome = ap told_outcome (t.3 (known truly.transaction k truly.outcome)) ∙ truly.outcome;
+    }
+
+IsIn-drop : {X : Type 0} (n : ℕ) (xs : List X) (x : X) → IsIn x (drop n xs) → IsIn x xs
+IsIn-drop zero xs x there = there
+IsIn-drop (suc n) [] x there = there
+IsIn-drop (suc n) (y ∷ ys) x there = inr (IsIn-drop n ys x there)
+
+pub notes-after : (x : Present) (o : Outcome) → IsHonest x o → OutcomesStay x.transactions.items o.transactions.items → AreNotesTrue x → AreNotesTrue (apply x o)
+notes-after x o honest outcomes notes = record {
+  each = λ m note k there waits tells.
+      let from = IsIn-unmap (served o.took o.sent) m (x.managers ++ o.made) there in
+      let waits' = subst (λ (n : Manager). IsIn note n.queue) (sym from.1) waits in
+      elim (IsIn-cases note (drop (taken_count from.0.id o.took) from.0.queue) (notes_for from.0.id o.sent) waits') [
+        | inl old ↦
+            let in_queue = IsIn-drop (taken_count from.0.id o.took) from.0.queue note old in
+            elim (IsIn-cases from.0 x.managers o.made from.2) [
+              | inl was ↦ truly-still x.transactions o.transactions note k honest.enlistments outcomes (notes.each from.0 note k was in_queue tells)
+              | inr new ↦ absurd (subst (IsIn note) (honest.made from.0 new) in_queue)
+            ]
+        | inr new ↦
+            let s = IsIn-unmap (λ (s : Sent). s.note) note (filter (λ (s : Sent). same_id s.manager from.0.id) o.sent) new in
+            subst (λ n. IsToldTruly o.transactions n k) s.1 (honest.sent s.0 k (IsIn-filter (λ (s : Sent). same_id s.manager from.0.id) o.sent s.0 s.2).0 (ap (λ (n : Note). told_by n.kind) s.1 ∙ tells))
+      ];
+}
+
+-- ---- one outcome, and then another
+
+honest-joined : (x : Present) (a b : Outcome) → IsHonest x a → IsHonest (apply x a) b → OutcomesStay a.transactions.items b.transactions.items → IsHonest x (joined a b)
+honest-joined x a b first second outcomes = record {
+  enlistments = record {
+    each = λ e there.
+        let f = first.enlistments.each e there in
+        let g = second.enlistments.each f.0 f.1 in
+        (g.0, g.1, g.2 ∙ f.2, g.3 ∙ f.3);
+  };
+  comes = record {
+    each = λ u there. elim (second.comes.each u there) [
+      | inl (t, was, same) ↦ elim (first.comes.each t was) [ inl (t', was', same') ↦ inl (t', was', same' ∙ same) | inr boot ↦ inr (ap (λ (i : Id). i.boot) (sym same) ∙ boot) ]
+      | inr boot ↦ inr (boot ∙ first.boots)
+    ];
+  };
+  sent = λ s k there tells. elim (IsIn-cases s a.sent b.sent there) [
+    | inl before ↦ truly-still a.transactions b.transactions s.note k second.enlistments outcomes (first.sent s k before tells)
+    | inr after' ↦ second.sent s k after' tells
+  ];
+  made = λ m there. elim (IsIn-cases m a.made b.made there) [ inl before ↦ first.made m before | inr after' ↦ second.made m after' ];
+  boots = ap (λ (s : Durable). s.boots) (after_events-append x.recorded a.events b.events) ∙ second.boots ∙ first.boots;
+}
+
+-- ---- a course has arrived
+
+-- a step that tells what is so
+abbrev Telling : Bool → (Course → Enlistment → Course) → Type 0
+Telling to f = (names : List (Id × Id)) (own : Id) (c : Course) (e : Enlistment) → Only names own e → is_outcome_of c.transaction.phase c.transaction ≡ true → Says names own None c → Ends names own (told_outcome c.transaction.outcome) to (f c e)
+
+-- what comes of a call that brings a transaction on its way, with what was told and recorded by then
+pub record ByCourse (x : Present) (o : Outcome) : Type 0 where
+  pub transaction : Transaction
+  pub there : IsIn transaction x.transactions.items
+  pub course : Course
+  pub reply : Reply
+  pub is : o ≡ arrived x course reply
+  pub own : IsCourse transaction (own_changes x.files.table.own transaction.id) (own_settings x.keys.own transaction.id) course
+  pub before : Option Bool
+  pub to : Bool
+  pub ends : Ends (map naming x.transactions.enlistments) transaction.id before to course
+
+-- nothing but a reply comes, or a transaction came on its way
+abbrev pub Comes : Present → Outcome → Type 0
+Comes x o = ((reply : Reply) × (o ≡ only_reply x reply)) ⊎ ByCourse x o
+
+-- the transactions once a course has arrived
+abbrev arrival_of : Present → Course → Transactions
+arrival_of x d = record x.transactions { items = changed_to x.transactions.items d.transaction; enlistments = d.enlistments }
+
+module _ (x : Present) (sound : IsSoundCourse x) where
+  abbrev names : List (Id × Id)
+  names = map naming x.transactions.enlistments
+
+  pub says-begun : (t : Transaction) (caller : Option Id) → Says names t.id None (course_of x t caller)
+  says-begun t caller = record { id = refl; named = refl; about = λ s none. absurd none; tells = λ s none. absurd none; events = λ puts. refl }
+
+  honest-arrived : (t : Transaction) (d : Course) (reply : Reply) (before : Option Bool) (to : Bool) → IsIn t x.transactions.items → Ends names t.id before to d → list_all is_no_boot d.events ≡ true → IsHonest x (arrived x d reply)
+  honest-arrived t d reply before to there ends no_boots = if_cases (λ o. IsHonest x o) (is_undecided d.transaction) _ _
+      (λ undecided. record { enlistments = stay; comes = come; sent = sent; made = λ m none. absurd none; boots = boots-all d.events x.recorded no_boots })
+      (λ decided. record { enlistments = stay; comes = come; sent = sent; made = λ m none. absurd none; boots = boots-all d.events x.recorded no_boots })
+    where
+      stay : EnlistmentsStay x.transactions.enlistments d.enlistments
+      stay = record {
+        each = λ e was.
+            let from = IsIn-unmap naming (naming e) d.enlistments (subst (IsIn (naming e)) (sym ends.says.named) (IsIn-map naming e x.transactions.enlistments was)) in
+            (from.0, from.2, ap (λ (p : Id × Id). p.0) from.1, ap (λ (p : Id × Id). p.1) from.1);
+      }
+
+      come : ComeFrom x.recorded.boots x.transactions.items (changed_to x.transactions.items d.transaction)
+      come = record {
+        each = λ u is. elim (IsIn-changed x.transactions.items d.transaction u sound.transactions_rise is) [
+          | inl e ↦ inl (t, there, sym ends.says.id ∙ ap (λ (v : Transaction). v.id) (sym e))
+          | inr old ↦ inl (u, old.0, refl)
+        ];
+      }
+
+      sent : (s : Sent) (k : Bool) → IsIn s d.sent → told_by s.note.kind ≡ Some k → IsToldTruly (arrival_of x d) s.note k
+      sent s k is tells =
+          let about = ends.says.about s is in
+          let from = IsIn-unmap naming (about.0, t.id) d.enlistments (subst (IsIn (about.0, t.id)) (sym ends.says.named) about.2) in
+          elim (ends.says.tells s is) [
+            | inl none ↦ absurd (none-some k (sym none ∙ tells))
+            | inr same ↦ record {
+              enlistment = from.0;
+              enlisted = from.2;
+              named = about.1 ∙ ap Some (sym (ap (λ (p : Id × Id). p.0) from.1));
+              transaction = d.transaction;
+              there = changed-itself x.transactions.items d.transaction t there (same_id-from t.id d.transaction.id (sym ends.says.id));
+              own = ends.says.id ∙ sym (ap (λ (p : Id × Id). p.1) from.1);
+              outcome = ends.so k (sym same ∙ tells);
+            }
+          ]
+
+  -- where a course has arrived of which this was told, or nothing but a reply comes
+  pub comes-step : (t : Transaction) (caller : Option Id) (f : Course → Course) (reply : Reply) (to : Bool) → IsIn t x.transactions.items → Steps f → Ends names t.id (told_outcome t.outcome) to (f (course_of x t caller))
+      → Comes x (arrived x (f (course_of x t caller)) reply)
+  comes-step t caller f reply to there steps ends =
+      let c = course_of x t caller in
+      inr (record {
+        transaction = t;
+        there = there;
+        course = f c;
+        reply = reply;
+        is = refl;
+        own = steps t c.changes c.settings c (record { id = refl; changes = refl; settings = refl; works = refl; events = refl; outcome = refl });
+        before = told_outcome t.outcome;
+        to = to;
+        ends = ends;
+      })
+
+  honest-comes : (o : Outcome) → Comes x o → IsHonest x o
+  honest-comes o (inl (reply, is)) = subst (λ p. IsHonest x p) (sym is) (honest-reply x reply)
+  honest-comes o (inr by) = subst (λ p. IsHonest x p) (sym by.is) (honest-arrived by.transaction by.course by.reply by.before by.to by.there by.ends by.own.events)
+
+  only-one : (e : Enlistment) (t : Transaction) → IsIn e x.transactions.enlistments → t.id ≡ e.transaction → Only names t.id e
+  only-one e t there own id named =
+      let from = IsIn-unmap naming (e.id, id) x.transactions.enlistments named in
+      let one : from.0 ≡ e = same-by_id (λ (f : Enlistment). f.id) x.transactions.enlistments sound.enlistments_rise from.0 e from.2 there (ap (λ (p : Id × Id). p.0) from.1) in
+      sym (ap (λ (p : Id × Id). p.1) from.1) ∙ ap (λ (f : Enlistment). f.transaction) one ∙ sym own
+
+  pub outcome-at : (t : Transaction) → IsIn t x.transactions.items → is_outcome_of t.phase t ≡ true
+  outcome-at t there = list_all-at (λ (t : Transaction). is_outcome_of t.phase t) x.transactions.items sound.outcomes t there
+
+  pub comes-answering : (o : Option Enlistment) (f : Course → Enlistment → Course) (to : Bool) → ((e : Enlistment) → o ≡ Some e → IsIn e x.transactions.enlistments) → ((e : Enlistment) → Steps (λ c. f c e)) → Telling to f → Comes x (answering x o f)
+  comes-answering None f to there steps telling = inl (Done, refl)
+  comes-answering (Some e) f to there steps telling = go (transaction_in x e) refl
+    where
+      go : (o : Option Transaction) → transaction_in x e ≡ o → Comes x (goes_on x e o (if is_superior e then Some e.id else None) f)
+      go None is = inl (Done, refl)
+      go (Some t) is =
+          let found = transaction_at-found x.transactions.items e.transaction t is in
+          let who : Option Id = if is_superior e then Some e.id else None in
+          comes-step t who (λ c. f c e) Done to found.0 (steps e)
+          (telling names t.id (course_of x t who) e (only-one e t (there e refl) found.1) (outcome-at t found.0) (says-begun t who))
+
+  comes-aborted : (t : Transaction) (caller : Option Id) (reply : Reply) → IsIn t x.transactions.items → Comes x (aborted_by x t caller reply)
+  comes-aborted t caller reply there = comes-step t caller aborting reply false there aborting-is (aborting-ends names t.id (course_of x t caller) (says-begun t caller))
+
+  honest-aborted : (t : Transaction) (caller : Option Id) (reply : Reply) → IsIn t x.transactions.items → IsHonest x (aborted_by x t caller reply)
+  honest-aborted t caller reply there = honest-comes _ (comes-aborted t caller reply there)
+
+  -- ---- calls on files and keys
+
+  files-boots : (who : Option Id) (change : Option Change) → (after_events x.recorded (events_of who change)).boots ≡ x.recorded.boots
+  files-boots None None = refl
+  files-boots None (Some change) = refl
+  files-boots (Some id) None = refl
+  files-boots (Some id) (Some change) = refl
+
+  honest-files : (who : Option Id) (o : FileOutcome) → IsHonest x (of_files x who o)
+  honest-files who o = honest-quiet x (of_files x who o) refl refl refl refl (files-boots who o.change)
+
+  honest-opening : (process : Pid) (label : Label) (who : Option Id) (o : FileOutcome) → IsHonest x (opening x process label who o)
+  honest-opening process label who o = go o.opened
+    where
+      go : (opened : Option OpenFile) → IsHonest x (bound_file process label opened (of_files x who o))
+      go None = honest-files who o
+      go (Some file) = honest-bound x process label (FileObject file.number) (of_files x who o) (honest-files who o)
+
+  honest-on_file : (o : Option OpenFile) (call : OpenFile → FileOutcome) → IsHonest x (on_file x o call)
+  honest-on_file None call = honest-reply x Done
+  honest-on_file (Some o) call = honest-files o.transaction (call o)
+
+  -- ---- objects
+
+  honest-opened : (process : Pid) (label : Label) (object : Object) → IsHonest x (binding process label object (only_reply x Done))
+  honest-opened process label object = honest-bound x process label object (only_reply x Done) (honest-reply x Done)
+
+  honest-create : (process : Pid) (label : Label) (timeout : ℕ) → IsHonest x (create_transaction x process label timeout)
+  unfolding create_transaction
+  honest-create process label timeout = record {
+    enlistments = enlistments-same x.transactions.enlistments x.transactions.enlistments refl;
+    comes = record {
+      each = λ u there. elim (IsIn-cases u x.transactions.items _ there) [
+        | inl old ↦ inl (u, old, refl)
+        | inr (inl e) ↦ inr (ap (λ (t : Transaction). t.id.boot) (sym e))
+        | inr (inr none) ↦ absurd none
+      ];
+    };
+    sent = λ s k none. absurd none;
+    made = λ m none. absurd none;
+    boots = refl;
+  }
+
+  honest-open : (process : Pid) (label : Label) (o : Option Transaction) → IsHonest x (open_to_transaction x process label o)
+  honest-open process label None = honest-reply x Done
+  honest-open process label (Some t) = honest-opened process label (TransactionObject t.id)
+
+  honest-open_manager : (process : Pid) (label : Label) (o : Option Manager) → IsHonest x (open_to_manager x process label o)
+  honest-open_manager process label None = honest-reply x Done
+  honest-open_manager process label (Some m) = honest-opened process label (ManagerObject m.id)
+
+  honest-open_enlistment : (process : Pid) (label : Label) (o : Option Enlistment) → IsHonest x (open_to_enlistment x process label o)
+  honest-open_enlistment process label None = honest-reply x Done
+  honest-open_enlistment process label (Some e) = honest-opened process label (EnlistmentObject e.id)
+
+  honest-bind : (process : Pid) (label : Label) (o : Option Object) → IsHonest x (bind_to x process label o)
+  honest-bind process label None = honest-reply x Done
+  honest-bind process label (Some object) = honest-opened process label object
+
+  honest-create_manager : (process : Pid) (label : Label) (durability : Durability) → IsHonest x (create_resource_manager x process label durability)
+  unfolding create_resource_manager
+  honest-create_manager process label durability = record {
+    enlistments = enlistments-same x.transactions.enlistments x.transactions.enlistments refl;
+    comes = come-same x.recorded.boots x.transactions.items x.transactions.items refl;
+    sent = λ s k none. absurd none;
+    made = λ m there. elim there [ inl e ↦ ap (λ (n : Manager). n.queue) (sym e) | inr none ↦ absurd none ];
+    boots = if_cases (λ (events : List Event). (after_events x.recorded events).boots ≡ x.recorded.boots) (is_durable durability) (MadeRm (new_id x x.transactions.last_manager) ∷ []) [] (λ is. refl) (λ is. refl);
+  }
+
+  comes-commit : (o : Option Transaction) → ((t : Transaction) → o ≡ Some t → IsIn t x.transactions.items) → Comes x (commit_of x o)
+  comes-commit None there = inl (Done, refl)
+  comes-commit (Some t) there = comes-step t None to_commit _ true (there t refl) to_commit-is (to_commit-ends names t.id (course_of x t None) (says-begun t None))
+
+  comes-rollback : (o : Option Transaction) → ((t : Transaction) → o ≡ Some t → IsIn t x.transactions.items) → Comes x (rollback_of x o)
+  comes-rollback None there = inl (Done, refl)
+  comes-rollback (Some t) there = comes-aborted t None Done (there t refl)
+
+  honest-recover : (o : Option Manager) → IsHonest x (recover_all x o)
+  honest-recover None = honest-reply x Done
+  honest-recover (Some m) = record {
+    enlistments = enlistments-same x.transactions.enlistments x.transactions.enlistments refl;
+    comes = come-same x.recorded.boots x.transactions.items x.transactions.items refl;
+    sent = λ s k there tells. elim (IsIn-cases s (map (λ (e : Enlistment). record { manager = m.id; note = record { kind = Notify.Recover; enlistment = Some e.id } }) (filter (is_to_recover x m.id) x.transactions.enlistments)) _ there) [
+      | inl one ↦
+          let from = IsIn-unmap (λ (e : Enlistment). record { manager = m.id; note = record { kind = Notify.Recover; enlistment = Some e.id } }) s (filter (is_to_recover x m.id) x.transactions.enlistments) one in
+          absurd (none-some k (ap (λ (s : Sent). told_by s.note.kind) from.1 ∙ tells))
+      | inr (inl e) ↦ absurd (none-some k (ap (λ (s : Sent). told_by s.note.kind) e ∙ tells))
+      | inr (inr none) ↦ absurd none
+    ];
+    made = λ m none. absurd none;
+    boots = refl;
+  }
+
+  honest-take : (o : Option Manager) → IsHonest x (take_first x o)
+  honest-take None = honest-reply x Done
+  honest-take (Some m) = honest-quiet x _ refl refl refl refl refl
+
+  honest-enlist : (process : Pid) (label : Label) (m : Option Manager) (t : Option Transaction) (kind : EnlistmentKind) → IsHonest x (enlist x process label m t kind)
+  honest-enlist process label (Some m) (Some t) kind = record {
+    enlistments = record { each = λ e there. (e, IsIn-left e x.transactions.enlistments _ there, refl, refl) };
+    comes = come-same x.recorded.boots x.transactions.items x.transactions.items refl;
+    sent = λ s k none. absurd none;
+    made = λ m none. absurd none;
+    boots = refl;
+  }
+  honest-enlist process label None t kind = honest-reply x Done
+  honest-enlist process label (Some m) None kind = honest-reply x Done
+
+  honest-keep : (o : Option Enlistment) (information : List ℕ) → IsHonest x (keep_information x o information)
+  honest-keep None information = honest-reply x Done
+  honest-keep (Some e) information = record {
+    enlistments = record {
+      each = λ f there.
+          let from = IsIn-unmap naming (naming f) _ (subst (IsIn (naming f)) (sym (naming-with (has_id e.id) (λ (g : Enlistment). record g { information = information }) (λ g. refl) x.transactions.enlistments)) (IsIn-map naming f x.transactions.enlistments there)) in
+          (from.0, from.2, ap (λ (p : Id × Id). p.0) from.1, ap (λ (p : Id × Id). p.1) from.1);
+    };
+    comes = come-same x.recorded.boots x.transactions.items x.transactions.items refl;
+    sent = λ s k none. absurd none;
+    made = λ m none. absurd none;
+    boots = refl;
+  }
+
+-- ---- handles and time
+
+honest-abort_active : (x : Present) (o : Option Transaction) → IsSoundCourse x → ((t : Transaction) → o ≡ Some t → IsIn t x.transactions.items) → IsHonest x (abort_active x o)
+honest-abort_active x None sound there = honest-reply x Done
+honest-abort_active x (Some t) sound there = if_cases (λ o. IsHonest x o) (is_active t) (aborted_by x t None Done) (only_reply x Done) (λ active. honest-aborted x sound t None Done (there t refl)) (λ other. honest-reply x Done)
+
+honest-last : (x : Present) (object : Object) → IsSoundCourse x → IsHonest x (last_handle_gone x object)
+honest-last x (TransactionObject id) sound = honest-abort_active x (transaction_at x.transactions.items id) sound (λ t is. (transaction_at-found x.transactions.items id t is).0)
+honest-last x (ManagerObject id) sound = honest-reply x Done
+honest-last x (EnlistmentObject id) sound = honest-reply x Done
+honest-last x (FileObject number) sound = honest-quiet x _ refl refl refl refl refl
+
+honest-gone : (o : Option Object) (x : Present) → IsSoundCourse x → IsHonest x (handle_gone o x)
+honest-gone None x sound = honest-reply x Done
+honest-gone (Some object) x sound = if_cases (λ o. IsHonest x o) (has_handle x.handles object) (only_reply x Done) (last_handle_gone x object) (λ has. honest-reply x Done) (λ last. honest-last x object sound)
+
+honest-close : (x : Present) (process : Pid) (label : Label) → IsSoundCourse x → IsHonest x (close_handle x process label)
+unfolding close_handle
+honest-close x process label sound =
+    let unbound = record (only_reply x Done) { handles = without_handle x.handles process label } in
+    let sound' = (stays-unbound x process label sound).sound in
+    honest-joined x unbound (handle_gone (object_at x.handles process label) (apply x unbound)) (honest-quiet x unbound refl refl refl refl refl) (honest-gone (object_at x.handles process label) (apply x unbound) sound')
+    (stays-sound _ _ (soundly-gone (object_at x.handles process label) (apply x unbound) sound')).outcomes
+
+honest-closed_all : (labels : List Label) (x : Present) (process : Pid) → IsSoundCourse x → IsHonest x (closed_in_turn x process labels)
+honest-closed_all [] x process sound = honest-reply x Done
+honest-closed_all (label ∷ labels) x process sound =
+    let sound' = (stays-closed x process label sound).sound in
+    honest-joined x (close_handle x process label) (closed_in_turn (apply x (close_handle x process label)) process labels) (honest-close x process label sound) (honest-closed_all labels (apply x (close_handle x process label)) process sound')
+    (stays-closed_all labels (apply x (close_handle x process label)) process sound').outcomes
+
+honest-exit : (x : Present) (process : Pid) → IsSoundCourse x → IsHonest x (exit x process)
+unfolding exit
+honest-exit x process sound = honest-closed_all (labels_of x.handles process) x process sound
+
+honest-due : (x : Present) (o : Option Transaction) → IsSoundCourse x → ((t : Transaction) → o ≡ Some t → IsIn t x.transactions.items) → IsHonest x (aborted_if_due x o)
+honest-due x None sound there = honest-reply x Done
+honest-due x (Some t) sound there = if_cases (λ o. IsHonest x o) (is_due x.transactions.clock t) (aborted_by x t None Done) (only_reply x Done) (λ due. honest-aborted x sound t None Done (there t refl)) (λ other. honest-reply x Done)
+
+honest-in_turn : (ts : List Transaction) (x : Present) → IsSoundCourse x → IsHonest x (aborted_in_turn x ts)
+honest-in_turn [] x sound = honest-reply x Done
+honest-in_turn (t ∷ ts) x sound =
+    let there = λ (u : Transaction) (is : transaction_at x.transactions.items t.id ≡ Some u). (transaction_at-found x.transactions.items t.id u is).0 in
+    let first = aborted_if_due x (transaction_at x.transactions.items t.id) in
+    let sound' = (stays-due x (transaction_at x.transactions.items t.id) sound there).sound in
+    honest-joined x first (aborted_in_turn (apply x first) ts) (honest-due x (transaction_at x.transactions.items t.id) sound there) (honest-in_turn ts (apply x first) sound') (stays-in_turn ts (apply x first) sound').outcomes
+
+honest-tick : (x : Present) (ms : ℕ) → IsSoundCourse x → IsHonest x (tick x ms)
+unfolding tick
+honest-tick x ms sound =
+    let is = honest-in_turn x.transactions.items (with_clock x ms) (sound-clock x ms sound) in
+    record { enlistments = is.enlistments; comes = is.comes; sent = is.sent; made = is.made; boots = is.boots }
+
+-- ---- every call
+
+-- may the command bring a transaction on its way
+abbrev pub brings_on : Command → Bool
+brings_on (CommitTransaction label) = true
+brings_on (RollbackTransaction label) = true
+brings_on (RecoverEnlistment label) = true
+brings_on (PrePrepareComplete label) = true
+brings_on (PrepareComplete label) = true
+brings_on (ReadOnlyEnlistment label) = true
+brings_on (CommitComplete label) = true
+brings_on (RollbackComplete label) = true
+brings_on (SinglePhaseReject label) = true
+brings_on (RollbackEnlistment label) = true
+brings_on (PrePrepareEnlistment label) = true
+brings_on (PrepareEnlistment label) = true
+brings_on (CommitEnlistment label) = true
+brings_on _ = false
+
+module _ (x : Present) (sound : IsSoundCourse x) where
+  comes-enlisted : (process : Pid) (label : Label) (f : Course → Enlistment → Course) (to : Bool) → ((e : Enlistment) → Steps (λ c. f c e)) → Telling to f → Comes x (answering x (enlistment_named x process label) f)
+  comes-enlisted process label f to steps telling = comes-answering x sound (enlistment_named x process label) f to (enlistment-named x process label) steps telling
+
+  -- the calls that bring a transaction on its way
+  pub comes-effect : (process : Pid) (command : Command) → brings_on command ≡ true → Comes x (command_effect x process command)
+  unfolding commit_transaction rollback_transaction pre_prepare_complete prepare_complete read_only_enlistment commit_complete rollback_complete single_phase_reject rollback_enlistment pre_prepare_enlistment prepare_enlistment commit_enlistment recover_enlistment
+  comes-effect process (CommitTransaction label) is = comes-commit x sound (transaction_named x process label) (transaction-named x process label)
+  comes-effect process (RollbackTransaction label) is = comes-rollback x sound (transaction_named x process label) (transaction-named x process label)
+  comes-effect process (RecoverEnlistment label) is = comes-enlisted process label recovered true (λ e t cs ss c. recovered-is t cs ss c e) (λ names own c e only is says. recovered-ends names own c e only is says)
+  comes-effect process (PrePrepareComplete label) is = comes-enlisted process label pre_prepare_answered true (λ e t cs ss c. pre_prepare_answered-is t cs ss c e) (λ names own c e only is says. pre_prepare_answered-ends names own c e says)
+  comes-effect process (PrepareComplete label) is = comes-enlisted process label prepare_answered true (λ e t cs ss c. prepare_answered-is t cs ss c e) (λ names own c e only is says. prepare_answered-ends names own c e says)
+  comes-effect process (ReadOnlyEnlistment label) is = comes-enlisted process label read_only_answered true (λ e t cs ss c. read_only_answered-is t cs ss c e) (λ names own c e only is says. read_only_answered-ends names own c e says)
+  comes-effect process (CommitComplete label) is = comes-enlisted process label commit_answered true (λ e t cs ss c. commit_answered-is t cs ss c e) (λ names own c e only is says. commit_answered-ends names own c e says)
+  comes-effect process (RollbackComplete label) is = comes-enlisted process label rollback_answered false (λ e t cs ss c. rollback_answered-is t cs ss c e) (λ names own c e only is says. rollback_answered-ends names own c e says)
+  comes-effect process (SinglePhaseReject label) is = comes-enlisted process label single_phase_rejected true (λ e t cs ss c. single_phase_rejected-is t cs ss c e) (λ names own c e only is says. single_phase_rejected-ends names own c e only says)
+  comes-effect process (RollbackEnlistment label) is = comes-enlisted process label (λ c e. aborting c) false (λ e. aborting-is) (λ names own c e only is says. aborting-ends names own c says)
+  comes-effect process (PrePrepareEnlistment label) is = comes-enlisted process label (λ c e. to_pre_prepare c) true (λ e. to_pre_prepare-is) (λ names own c e only is says. to_pre_prepare-ends names own c says)
+  comes-effect process (PrepareEnlistment label) is = comes-enlisted process label (λ c e. to_prepare c) true (λ e. to_prepare-is) (λ names own c e only is says. to_prepare-ends names own c says)
+  comes-effect process (CommitEnlistment label) is = comes-enlisted process label (λ c e. committing c) true (λ e. committing-is) (λ names own c e only is says. committing-ends names own c says)
+  comes-effect process _ is = absurd (true≢false (sym is))
+
+  honest-effect : (process : Pid) (command : Command) → IsHonest x (command_effect x process command)
+  unfolding open_transaction get_transaction_information open_resource_manager recover_resource_manager get_notification create_enlistment open_enlistment set_information get_information duplicate_handle
+  honest-effect process (CreateTransaction label timeout) = honest-create x sound process label timeout
+  honest-effect process (OpenTransaction label guid) = honest-open x sound process label (transaction_with x guid)
+  honest-effect process (CommitTransaction label) = honest-comes x sound _ (comes-effect process (CommitTransaction label) refl)
+  honest-effect process (RollbackTransaction label) = honest-comes x sound _ (comes-effect process (RollbackTransaction label) refl)
+  honest-effect process (GetTransactionInformation label) = honest-reply x _
+  honest-effect process (CreateResourceManager label durability) = honest-create_manager x sound process label durability
+  honest-effect process (OpenResourceManager label guid) = honest-open_manager x sound process label (manager_with x guid)
+  honest-effect process (RecoverResourceManager label) = honest-recover x sound (manager_named x process label)
+  honest-effect process (GetNotificationResourceManager label) = honest-take x sound (manager_named x process label)
+  honest-effect process (CreateEnlistment label manager transaction kind) = honest-enlist x sound process label (manager_named x process manager) (transaction_named x process transaction) kind
+  honest-effect process (OpenEnlistment label manager guid) = honest-open_enlistment x sound process label (enlistment_with x (manager_named x process manager) guid)
+  honest-effect process (RecoverEnlistment label) = honest-comes x sound _ (comes-effect process (RecoverEnlistment label) refl)
+  honest-effect process (PrePrepareComplete label) = honest-comes x sound _ (comes-effect process (PrePrepareComplete label) refl)
+  honest-effect process (PrepareComplete label) = honest-comes x sound _ (comes-effect process (PrepareComplete label) refl)
+  honest-effect process (ReadOnlyEnlistment label) = honest-comes x sound _ (comes-effect process (ReadOnlyEnlistment label) refl)
+  honest-effect process (CommitComplete label) = honest-comes x sound _ (comes-effect process (CommitComplete label) refl)
+  honest-effect process (RollbackComplete label) = honest-comes x sound _ (comes-effect process (RollbackComplete label) refl)
+  honest-effect process (SinglePhaseReject label) = honest-comes x sound _ (comes-effect process (SinglePhaseReject label) refl)
+  honest-effect process (RollbackEnlistment label) = honest-comes x sound _ (comes-effect process (RollbackEnlistment label) refl)
+  honest-effect process (PrePrepareEnlistment label) = honest-comes x sound _ (comes-effect process (PrePrepareEnlistment label) refl)
+  honest-effect process (PrepareEnlistment label) = honest-comes x sound _ (comes-effect process (PrepareEnlistment label) refl)
+  honest-effect process (CommitEnlistment label) = honest-comes x sound _ (comes-effect process (CommitEnlistment label) refl)
+  honest-effect process (SetEnlistmentRecoveryInformation label information) = honest-keep x sound (enlistment_named x process label) information
+  honest-effect process (GetEnlistmentRecoveryInformation label) = honest-reply x _
+  honest-effect process (CreateFile label path access share disposition) = honest-opening x sound process label None (create_file x.files None path access share disposition)
+  honest-effect process (CreateFileTransacted label path access share disposition transaction) = honest-opening x sound process label (caller x process transaction) (create_file x.files (caller x process transaction) path access share disposition)
+  honest-effect process (ReadFile file offset many) = honest-on_file x sound (file_named x process file) _
+  honest-effect process (WriteFile file offset bytes) = honest-on_file x sound (file_named x process file) _
+  honest-effect process (SetEndOfFile file size) = honest-on_file x sound (file_named x process file) _
+  honest-effect process (GetFileSizeEx file) = honest-on_file x sound (file_named x process file) _
+  honest-effect process (FlushFileBuffers file) = honest-on_file x sound (file_named x process file) _
+  honest-effect process (DeleteFile path) = honest-files x sound None (delete_file x.files None path)
+  honest-effect process (CreateDirectory path) = honest-files x sound None (create_directory x.files None path)
+  honest-effect process (RemoveDirectory path) = honest-files x sound None (remove_directory x.files None path)
+  honest-effect process (MoveFile source target) = honest-files x sound None (move_file x.files None source target)
+  honest-effect process (DeleteFileTransacted path transaction) = honest-files x sound (caller x process transaction) _
+  honest-effect process (CreateDirectoryTransacted path transaction) = honest-files x sound (caller x process transaction) _
+  honest-effect process (RemoveDirectoryTransacted path transaction) = honest-files x sound (caller x process transaction) _
+  honest-effect process (MoveFileTransacted source target transaction) = honest-files x sound (caller x process transaction) _
+  honest-effect process (FindFiles searched) = honest-files x sound None (find_files x.files None searched)
+  honest-effect process (FindFilesTransacted searched transaction) = honest-files x sound (caller x process transaction) _
+  honest-effect process (KvSet transaction key value) = honest-quiet x _ refl refl refl refl refl
+  honest-effect process (KvUnset transaction key) = honest-quiet x _ refl refl refl refl refl
+  honest-effect process (KvGet view key) = honest-quiet x _ refl refl refl refl refl
+  honest-effect process (KvList view) = honest-quiet x _ refl refl refl refl refl
+  honest-effect process (CloseHandle label) = honest-close x process label sound
+  honest-effect process (DuplicateHandle label from source) = honest-bind x sound process label (object_at x.handles from source)
+  honest-effect process Exit = honest-exit x process sound
+
+  honest-refused : (refusal : Option Refusal) (effect : Outcome) → IsHonest x effect → IsHonest x (refuse_or x refusal effect)
+  honest-refused (Some refusal) effect is = honest-reply x (Refused refusal)
+  honest-refused None effect is = is
+
+  honest-logged : (o : Outcome) → IsHonest x o → IsHonest x (within_log x o)
+  honest-logged o is = if_cases (λ o. IsHonest x o) (is_full x.machine.left o.events) _ o (λ full. honest-quiet x _ refl refl refl refl refl) (λ room. is)
+
+  pub honest-decided : (process : Pid) (command : Command) → IsHonest x (decide x process command)
+  honest-decided process command = honest-logged (with_room x process command) (honest-refused (refusal_of x process command) (command_effect x process command) (honest-effect process command))
+
+  pub honest-ticked : (ms : ℕ) → IsHonest x (decide_tick x ms)
+  honest-ticked ms = honest-logged _ (honest-refused (first_refusal ((not x.machine.is_up, MachineDown) ∷ [])) (tick x ms) (honest-tick x ms sound))
+
+-- ---- notifications
+
+pub notes_law : OutcomesLaw → NotesLaw
+notes_law outcomes = record {
+  commands = λ x process command sound notes. notes-after x (decide x process command) (honest-decided x sound process command) (outcomes.decided x process command sound) notes;
+  ticks = λ x ms sound notes. notes-after x (decide_tick x ms) (honest-ticked x sound ms) (outcomes.ticks x ms sound) notes;
+  falls = λ w power notes. record { each = notes.each };
+  restarts = λ base room log. record { each = λ m note k there waits tells. absurd (silent base log m note there waits) };
+}
+  where
+    silent : (base : Durable) (log : List Group) (m : Manager) (note : Note) → IsIn m (map manager_now (map (λ (id : Id). record { id = id; is_durable = true; taken = []; queue = [] }) (stand base log).managers)) → IsIn note m.queue → ⊥
+    silent base log m note there waits =
+        let from = IsIn-unmap manager_now m (map (λ (id : Id). record { id = id; is_durable = true; taken = []; queue = [] }) (stand base log).managers) there in
+        let id = IsIn-unmap (λ (id : Id). record { id = id; is_durable = true; taken = []; queue = [] }) from.0 (stand base log).managers from.2 in
+        subst (IsIn note) (ap (λ (n : Manager). n.queue) (sym from.1) ∙ ap (λ (n : ManagerPast). n.queue) (sym id.1)) waits

@@ -1,5 +1,0 @@
-use Rattle.ktm_laws.proofs.NormalForms.{final_changes_law}
-use Rattle.ktm_laws.proofs.changes.law_of_final_changes.Goals as goal
-
-pub returns : goal.returns
-returns c = final_changes_law

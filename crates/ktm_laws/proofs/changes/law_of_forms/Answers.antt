@@ -1,5 +1,0 @@
-use Rattle.ktm_laws.proofs.Formed.{formed_law}
-use Rattle.ktm_laws.proofs.changes.law_of_forms.Goals as goal
-
-pub returns : goal.returns
-returns c = formed_law (λ name is. (c.law_of_paths.ensures.0 name).0 is)

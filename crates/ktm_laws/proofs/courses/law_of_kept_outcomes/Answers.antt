@@ -1,5 +1,0 @@
-use Rattle.ktm_laws.proofs.SoundCommands.{outcomes_law}
-use Rattle.ktm_laws.proofs.courses.law_of_kept_outcomes.Goals as goal
-
-pub returns : goal.returns
-returns c = outcomes_law

@@ -1,0 +1,4 @@
+-- Lemmas that other crates cite.
+pub mod LogCounts
+pub mod PossibleLogs
+pub mod Starts

@@ -1,5 +1,0 @@
-use Rattle.ktm_laws.proofs.FilesKept.{files_kept_law}
-use Rattle.ktm_laws.proofs.presents.law_of_files_kept.Goals as goal
-
-pub returns : goal.returns
-returns c = files_kept_law c.law_of_lists.ensures c.law_of_forms.ensures

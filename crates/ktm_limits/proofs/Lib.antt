@@ -1,0 +1,15 @@
+mod BudgetSteps
+mod CourseLimits
+mod EndedCounts
+mod FinalBytes
+mod LimitsBegun
+mod LimitsCalls
+mod LimitsEvents
+mod LimitsFiles
+mod LimitsKept
+mod LimitsLaws
+mod LimitsRestarts
+mod OwnedUnits
+mod RecordedCourses
+mod RecordedLimits
+mod RecordedWithin

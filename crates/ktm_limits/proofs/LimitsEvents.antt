@@ -1,0 +1,462 @@
+-- The limits hold after each event that a command records, and that the passing of time does.
+use Rattle.std.specs.Prelude.{if◌then◌else◌}
+use Rattle.std.proofs.Common.{◌≡◌, ℕ, ◌+◌, not, Bool, true, false, List, [], ◌∷◌, drop, length, take, Option, Some, None, is_none, refl, sym, ◌∙◌, ap, subst, inl, inr, ◌⊎◌}
+use Rattle.std.proofs.lemmas.Bool.{and_parts, and_from, true≢false}
+use Rattle.std.proofs.lemmas.List.Folds.{list_all-append}
+use Rattle.std.specs.List.{list_all, list_any}
+use Rattle.ktm_base.specs.declared.id.Id.{Id}
+use Rattle.ktm_base.specs.declared.id.Label.{Label}
+use Rattle.ktm_base.specs.declared.id.Pid.{Pid}
+use Rattle.ktm_base.specs.declared.refusal.Refusal.{Refusal}
+use Rattle.ktm_base.specs.declared.refusal.Refusal.TheVariants.{LogFull, MachineDown}
+use Rattle.ktm_types.specs.declared.change.Change.{Change}
+use Rattle.ktm_types.specs.declared.command.Command.{Command}
+use Rattle.ktm_types.specs.declared.command.Command.TheVariants.{CreateTransaction, OpenTransaction, CommitTransaction, RollbackTransaction, GetTransactionInformation, CreateResourceManager, OpenResourceManager, RecoverResourceManager, GetNotificationResourceManager, CreateEnlistment, OpenEnlistment, RecoverEnlistment, PrePrepareComplete, PrepareComplete, ReadOnlyEnlistment, CommitComplete, RollbackComplete, SinglePhaseReject, RollbackEnlistment, PrePrepareEnlistment, PrepareEnlistment, CommitEnlistment, SetEnlistmentRecoveryInformation, GetEnlistmentRecoveryInformation, CreateFile, CreateFileTransacted, ReadFile, WriteFile, SetEndOfFile, GetFileSizeEx, FlushFileBuffers, DeleteFile, CreateDirectory, RemoveDirectory, MoveFile, DeleteFileTransacted, CreateDirectoryTransacted, RemoveDirectoryTransacted, MoveFileTransacted, FindFiles, FindFilesTransacted, KvSet, KvUnset, KvGet, KvList, CloseHandle, DuplicateHandle, Exit}
+use Rattle.ktm_types.specs.declared.event.Event.{Event}
+use Rattle.ktm_types.specs.declared.event.Event.TheVariants.{MadeRm, Plain, Undo}
+use Rattle.ktm_types.specs.declared.object.Object.{Object}
+use Rattle.ktm_types.specs.declared.object.Object.TheVariants.{Transaction as TransactionObject, Manager as ManagerObject, Enlistment as EnlistmentObject, File as FileObject}
+use Rattle.ktm_types.specs.declared.object.Phase.{Phase}
+use Rattle.ktm_types.specs.declared.object.Phase.TheVariants.{Active, Requested, PrePreparing, PrePrepared, Preparing, SinglePhase, Held, InDoubt, Committing, Aborting}
+use Rattle.ktm_types.specs.declared.object.Transaction.{Transaction}
+use Rattle.ktm_types.specs.declared.object.TransactionOutcome.{TransactionOutcome}
+use Rattle.ktm_types.specs.declared.options.Durability.{Durability}
+use Rattle.ktm_types.specs.declared.options.EnlistmentKind.{EnlistmentKind}
+use Rattle.ktm_types.specs.declared.recorded.Stage.{Stage}
+use Rattle.ktm_types.specs.declared.reply.Reply.{Reply}
+use Rattle.ktm_types.specs.declared.reply.Reply.TheVariants.{Contents as Bytes, Done, Refused, Size}
+use Rattle.ktm_world.specs.Decide.{of_files, opening, bound_file, on_file, caller, command_tests, command_effect, decide, events_of, refusal_of, with_room}
+use Rattle.ktm_world.specs.Durable.{Durable, after_event, after_events, fact_of, is_within_limits, without_recorded}
+use Rattle.ktm_world.specs.Enlistments.{Enlistment, Manager, Owed, pre_prepare, prepare, commit, is_superior, is_unfinished, owes_commit, owes_pre_prepare, owes_prepare}
+use Rattle.ktm_world.specs.FileCalls.{create_file, create_file_tests, read_file, write_file, set_end, get_size, flush_file, delete_file, create_directory, remove_directory, move_file, find_files}
+use Rattle.ktm_world.specs.FileOutcome.{FileOutcome}
+use Rattle.ktm_world.specs.Files.{OpenFile, bytes_seen}
+use Rattle.ktm_world.specs.HandleCalls.{abort_active, bind_to, close_handle, closed_in_turn, duplicate_handle, exit, handle_gone, has_handle, labels_of, last_handle_gone, without_handle}
+use Rattle.ktm_world.specs.Handles.{object_at}
+use Rattle.ktm_world.specs.Labels.{transaction_named, manager_named, enlistment_named, file_named, transaction_tests}
+use Rattle.ktm_world.specs.Lawful.{Agrees, stage_in}
+use Rattle.ktm_world.specs.Outcome.{Outcome, only_reply, apply, and_then, first_refusal, refuse_or, is_full}
+use Rattle.ktm_world.specs.Phases.{Course, aborting, committing, ended, event_if, finished, recovered_in, recovering, commit_answered, pre_prepare_answered, prepare_answered, read_only_answered, recovered, rollback_answered, single_phase_rejected, to_commit, to_pre_prepare, to_prepare}
+use Rattle.ktm_world.specs.Present.{Present}
+use Rattle.ktm_world.specs.TransactionCalls.{aborted_by, aborted_if_due, aborted_in_turn, answering, before_pre_prepare, before_prepare, commit_of, commit_reply, commit_transaction, rollback_transaction, rollback_of, create_transaction, open_transaction, open_to_transaction, transaction_with, get_transaction_information, create_resource_manager, new_id, open_resource_manager, open_to_manager, manager_with, recover_resource_manager, recover_all, get_notification, take_first, create_enlistment, open_enlistment, open_to_enlistment, enlistment_with, course_of, enlistment_tests, superior_tests, is_due, is_voting, keep_information, may_vote, phase_passes, pre_prepare_complete, prepare_complete, read_only_enlistment, commit_complete, rollback_complete, single_phase_reject, rollback_enlistment, pre_prepare_enlistment, prepare_enlistment, commit_enlistment, recover_enlistment, set_information, get_information, tick, waits_for_superior, with_clock}
+use Rattle.ktm_world.specs.Transactions.{is_active, same_id, transaction_at}
+use Rattle.ktm_world.specs.Uses.{file_room}
+use Rattle.ktm_world.specs.World.{decide_tick}
+use Rattle.ktm_records.specs.Agreement.{AgreeingLaw}
+use Rattle.ktm_owned.specs.FilesKept.{FilesKeptLaw}
+use Rattle.txf_laws.specs.Elements.{IsIn}
+use Rattle.txf_laws.specs.Footprint.{ListsLaw}
+use Rattle.txf_laws.specs.Formed.{FormedLaw}
+use Rattle.ktm_records.specs.Kept.{IsKept, limits_hold}
+use Rattle.ktm_courses.specs.SoundCourse.{is_part_as, is_recorded_as, is_recorded_as_asked}
+use Rattle.txf_laws.specs.SoundFiles.{IsSoundFiles}
+use Rattle.ktm_courses.proofs.offered.EnlistmentAnswers.{answer_in, can_roll_back, is-committing, is-pre_preparing, is-preparing, owed-commit, owed-pre_prepare, owed-prepare, phase-owing, preparing-parts, takes_part-owing}
+use Rattle.ktm_courses.proofs.offered.Arrivals.{stands-now, brought-now}
+use Rattle.ktm_courses.proofs.offered.Calls.{Passes, passed, active-phase, transaction-named, enlistment-named, enlistment-allowed, superior-allowed, phase-passed}
+use Rattle.ktm_records.proofs.offered.DurableLimits.{limits-from}
+use Rattle.txf_laws.proofs.offered.Elements.{list_all-at, not-not}
+use Rattle.ktm_records.proofs.offered.AgreementOfCourses.{arrival}
+use Rattle.ktm_states.proofs.offered.Limits.{Less-filter, limits-less}
+use Rattle.ktm_limits.proofs.LimitsBegun.{holds-arrived, holds-answering, to_commit-events, to_pre_prepare-events, to_prepare-events, pre_prepare_answered-events, read_only_answered-events, prepare_answered-events, committing-events, commit_answered-events}
+use Rattle.ktm_limits.proofs.LimitsCalls.{Stays, stays-create_manager}
+use Rattle.ktm_limits.proofs.LimitsFiles.{stays-answers, stays-create_directory, stays-create_file, stays-create_own, stays-delete, stays-move, stays-on_file, stays-remove, stays-set_end, stays-write}
+use Rattle.ktm_courses.proofs.offered.Moves.{if_cases}
+use Rattle.ktm_records.proofs.offered.NoMore.{Fits, fits-within}
+use Rattle.ktm_owned.proofs.offered.OwnCalls.{caller-may}
+use Rattle.ktm_courses.proofs.offered.Procedures.{waiting-parts}
+use Rattle.ktm_limits.proofs.RecordedLimits.{agreeing-limits}
+use Rattle.ktm_limits.proofs.RecordedCourses.{uncounted}
+use Rattle.txf_laws.proofs.offered.Tables.{Rises}
+use Rattle.ktm_records.proofs.offered.AgreementOfRollbacks.{aborting-undone}
+
+-- ---- what only undoes
+
+abbrev is_undo : Event → Bool
+is_undo (Undo id) = true
+is_undo _ = false
+
+-- the outcome records nothing but rollbacks
+abbrev Undoes : Outcome → Type 0
+Undoes o = list_all is_undo o.events ≡ true
+
+undos-hold : (es : List Event) (s : Durable) → list_all is_undo es ≡ true → is_within_limits s ≡ true → limits_hold s es ≡ true
+unfolding is_within_limits
+undos-hold [] s undos limits = refl
+undos-hold (e ∷ es) s undos limits = let parts = and_parts (is_undo e) (list_all is_undo es) undos in one e parts.0 (λ s' limits'. undos-hold es s' parts.1 limits')
+  where
+    one : (e : Event) → is_undo e ≡ true → ((s' : Durable) → is_within_limits s' ≡ true → limits_hold s' es ≡ true) → limits_hold s (e ∷ es) ≡ true
+    one (Undo id) is rest =
+        let left = limits-less s (without_recorded s.transactions id) (Less-filter (λ r. not (same_id r.id id)) s.transactions) limits in
+        and_from _ _ left (rest (after_event s (Undo id)) left)
+    one _ is rest = absurd (true≢false (sym is))
+
+undoes-then : (x : Present) (o : Outcome) (next : Present → Outcome) → Undoes o → ((y : Present) → Undoes (next y)) → Undoes (and_then x o next)
+undoes-then x o next first second = list_all-append is_undo o.events (next (apply x o)).events ∙ and_from _ _ first (second (apply x o))
+
+undoes-aborted : (x : Present) (t : Transaction) (caller : Option Id) (reply : Reply) → Undoes (aborted_by x t caller reply)
+undoes-aborted x t caller reply =
+    subst (λ es. list_all is_undo es ≡ true) (sym ((arrival x (aborting (course_of x t caller)) reply).events ∙ (aborting-undone (course_of x t caller)).events)) (go t.is_recorded)
+  where
+    go : (b : Bool) → list_all is_undo (event_if b (Undo t.id)) ≡ true
+    go true = refl
+    go false = refl
+
+undoes-either : (b : Bool) (o p : Outcome) → Undoes o → Undoes p → Undoes (if b then o else p)
+undoes-either true o p first second = first
+undoes-either false o p first second = second
+
+undoes-active : (x : Present) (t : Option Transaction) → Undoes (abort_active x t)
+undoes-active x None = refl
+undoes-active x (Some t) = undoes-either (is_active t) (aborted_by x t None Done) (only_reply x Done) (undoes-aborted x t None Done) refl
+
+undoes-last : (x : Present) (object : Object) → Undoes (last_handle_gone x object)
+undoes-last x (TransactionObject id) = undoes-active x (transaction_at x.transactions.items id)
+undoes-last x (ManagerObject id) = refl
+undoes-last x (EnlistmentObject id) = refl
+undoes-last x (FileObject number) = refl
+
+undoes-gone : (object : Option Object) (x : Present) → Undoes (handle_gone object x)
+undoes-gone None x = refl
+undoes-gone (Some object) x = undoes-either (has_handle x.handles object) (only_reply x Done) (last_handle_gone x object) refl (undoes-last x object)
+
+undoes-close : (x : Present) (process : Pid) (label : Label) → Undoes (close_handle x process label)
+unfolding close_handle
+undoes-close x process label = undoes-then x (record (only_reply x Done) { handles = without_handle x.handles process label }) (handle_gone (object_at x.handles process label)) refl (undoes-gone (object_at x.handles process label))
+
+undoes-closed : (labels : List Label) (process : Pid) (x : Present) → Undoes (closed_in_turn x process labels)
+undoes-closed [] process x = refl
+undoes-closed (label ∷ labels) process x = undoes-then x (close_handle x process label) (λ next. closed_in_turn next process labels) (undoes-close x process label) (undoes-closed labels process)
+
+undoes-exit : (x : Present) (process : Pid) → Undoes (exit x process)
+unfolding exit
+undoes-exit x process = undoes-closed (labels_of x.handles process) process x
+
+undoes-due : (x : Present) (t : Option Transaction) → Undoes (aborted_if_due x t)
+undoes-due x None = refl
+undoes-due x (Some t) = undoes-either (is_due x.transactions.clock t) (aborted_by x t None Done) (only_reply x Done) (undoes-aborted x t None Done) refl
+
+undoes-turn : (ts : List Transaction) (x : Present) → Undoes (aborted_in_turn x ts)
+undoes-turn [] x = refl
+undoes-turn (t ∷ ts) x = undoes-then x (aborted_if_due x (transaction_at x.transactions.items t.id)) (λ next. aborted_in_turn next ts) (undoes-due x (transaction_at x.transactions.items t.id)) (undoes-turn ts)
+
+undoes-tick : (x : Present) (ms : ℕ) → Undoes (tick x ms)
+unfolding tick
+undoes-tick x ms = undoes-turn x.transactions.items (with_clock x ms)
+
+-- ---- what records one event
+
+-- the outcome records nothing, or one event that leaves what was recorded of transactions
+abbrev IsBrief : Outcome → Type 0
+IsBrief o = (o.events ≡ []) ⊎ ((e : Event) × (o.events ≡ e ∷ []) × ((s : Durable) → (fact_of s e).transactions ≡ s.transactions))
+
+brief-of_files : (x : Present) (who : Option Id) (o : FileOutcome) → IsBrief (of_files x who o)
+brief-of_files x who o = go who o.change
+  where
+    go : (who : Option Id) (change : Option Change) → (events_of who change ≡ []) ⊎ ((e : Event) × (events_of who change ≡ e ∷ []) × ((s : Durable) → (fact_of s e).transactions ≡ s.transactions))
+    go None None = inl refl
+    go None (Some c) = inr (Plain c, refl, λ s. refl)
+    go (Some id) None = inl refl
+    go (Some id) (Some c) = inl refl
+
+brief-opening : (x : Present) (process : Pid) (label : Label) (who : Option Id) (o : FileOutcome) → IsBrief (opening x process label who o)
+brief-opening x process label who o = go o.opened
+  where
+    go : (p : Option OpenFile) → IsBrief (bound_file process label p (of_files x who o))
+    go None = brief-of_files x who o
+    go (Some file) = brief-of_files x who o
+
+brief-on_file : (x : Present) (o : Option OpenFile) (call : OpenFile → FileOutcome) → IsBrief (on_file x o call)
+brief-on_file x None call = inl refl
+brief-on_file x (Some o) call = brief-of_files x o.transaction (call o)
+
+brief-manager : (x : Present) (process : Pid) (label : Label) (durability : Durability) → IsBrief (create_resource_manager x process label durability)
+unfolding create_resource_manager
+brief-manager x process label Durability.Volatile = inl refl
+brief-manager x process label Durability.Durable = inr (MadeRm (new_id x x.transactions.last_manager), refl, λ s. refl)
+
+-- a state is within the limits by what is so then
+brief-holds : (x : Present) (o : Outcome) → IsBrief o → Rises x.recorded.transactions → Agrees (apply x o) → IsSoundFiles (apply x o) → Fits (apply x o) → limits_hold x.recorded o.events ≡ true
+brief-holds x o (inl none) rises agrees sound fits = subst (λ es. limits_hold x.recorded es ≡ true) (sym none) refl
+brief-holds x o (inr (e, one, same)) rises agrees sound fits =
+    let after : (after_events x.recorded o.events).transactions ≡ x.recorded.transactions = ap (λ es. (after_events x.recorded es).transactions) one ∙ same x.recorded in
+    let limits : is_within_limits (after_events x.recorded o.events) ≡ true = limits-from _ (agreeing-limits (apply x o) agrees sound fits (subst Rises (sym after) rises)) in
+    subst (λ es. limits_hold x.recorded es ≡ true) (sym one) (and_from _ _ (uncounted (fact_of x.recorded e) (x.recorded.events + 1) (subst (λ es. is_within_limits (after_events x.recorded es) ≡ true) one limits)) refl)
+
+-- ---- calls that record nothing
+
+silent-bound : (x : Present) (process : Pid) (label : Label) (guid : List ℕ) → (open_transaction x process label guid).events ≡ []
+unfolding open_transaction
+silent-bound x process label guid = go (transaction_with x guid)
+  where
+    go : (t : Option Transaction) → (open_to_transaction x process label t).events ≡ []
+    go None = refl
+    go (Some t) = refl
+
+silent-manager : (x : Present) (process : Pid) (label : Label) (guid : List ℕ) → (open_resource_manager x process label guid).events ≡ []
+unfolding open_resource_manager
+silent-manager x process label guid = go (manager_with x guid)
+  where
+    go : (m : Option Manager) → (open_to_manager x process label m).events ≡ []
+    go None = refl
+    go (Some m) = refl
+
+silent-enlistment : (x : Present) (process : Pid) (label : Label) (m : Option Manager) (guid : List ℕ) → (open_enlistment x process label m guid).events ≡ []
+unfolding open_enlistment
+silent-enlistment x process label m guid = go (enlistment_with x m guid)
+  where
+    go : (e : Option Enlistment) → (open_to_enlistment x process label e).events ≡ []
+    go None = refl
+    go (Some e) = refl
+
+silent-duplicate : (x : Present) (process : Pid) (label : Label) (from : Pid) (source : Label) → (duplicate_handle x process label from source).events ≡ []
+unfolding duplicate_handle
+silent-duplicate x process label from source = go (object_at x.handles from source)
+  where
+    go : (object : Option Object) → (bind_to x process label object).events ≡ []
+    go None = refl
+    go (Some object) = refl
+
+silent-recover_all : (x : Present) (m : Option Manager) → (recover_all x m).events ≡ []
+silent-recover_all x None = refl
+silent-recover_all x (Some m) = refl
+
+silent-take : (x : Present) (m : Option Manager) → (take_first x m).events ≡ []
+silent-take x None = refl
+silent-take x (Some m) = refl
+
+silent-enlist : (x : Present) (process : Pid) (label : Label) (m : Option Manager) (t : Option Transaction) (kind : EnlistmentKind) → (create_enlistment x process label m t kind).events ≡ []
+unfolding create_enlistment
+silent-enlist x process label None t kind = refl
+silent-enlist x process label (Some m) None kind = refl
+silent-enlist x process label (Some m) (Some t) kind = refl
+
+silent-information : (x : Present) (e : Option Enlistment) (information : List ℕ) → (keep_information x e information).events ≡ []
+silent-information x None information = refl
+silent-information x (Some e) information = refl
+
+-- ---- phases
+
+voting-early : (phase : Phase) → is_voting phase ≡ true → stage_in phase ≡ Some Stage.Ready
+voting-early Active is = refl
+voting-early Requested is = refl
+voting-early PrePreparing is = refl
+voting-early PrePrepared is = refl
+voting-early Preparing is = refl
+voting-early SinglePhase is = refl
+voting-early _ is = absurd (true≢false (sym is))
+
+pre_prepare-early : (phase : Phase) → before_pre_prepare phase ≡ true → stage_in phase ≡ Some Stage.Ready
+pre_prepare-early Active is = refl
+pre_prepare-early Requested is = refl
+pre_prepare-early _ is = absurd (true≢false (sym is))
+
+prepare-early : (phase : Phase) → before_prepare phase ≡ true → stage_in phase ≡ Some Stage.Ready
+prepare-early Active is = refl
+prepare-early Requested is = refl
+prepare-early PrePrepared is = refl
+prepare-early _ is = absurd (true≢false (sym is))
+
+waits-held : (phase : Phase) → waits_for_superior phase ≡ true → (stage_in phase ≡ Some Stage.Held) × (can_roll_back phase ≡ true)
+waits-held Held is = (refl, refl)
+waits-held InDoubt is = (refl, refl)
+waits-held _ is = absurd (true≢false (sym is))
+
+waits-recorded : (phase : Phase) (ms : List Manager) (es : List Enlistment) (id : Id) (r : Bool) → waits_for_superior phase ≡ true → is_recorded_as phase ms es id r ≡ true → r ≡ true
+waits-recorded Held ms es id r is recorded = recorded
+waits-recorded InDoubt ms es id r is recorded = recorded
+waits-recorded _ ms es id r is recorded = absurd (true≢false (sym is))
+
+-- ---- procedures that record nothing
+
+silent-rolled_back : (c : Course) (e : Enlistment) → (rollback_answered c e).events ≡ c.events
+unfolding rollback_answered ended
+silent-rolled_back c e = if_cases (λ (d : Course). d.events ≡ c.events) (list_any (is_unfinished (finished c e).transaction.id) (finished c e).enlistments) (finished c e) (ended (finished c e) TransactionOutcome.Aborted) (λ some. refl) (λ none. refl)
+
+silent-rejected : (c : Course) (e : Enlistment) → (single_phase_rejected c e).events ≡ c.events
+unfolding single_phase_rejected
+silent-rejected c e = refl
+
+silent-recovered : (c : Course) (e : Enlistment) → (recovered c e).events ≡ c.events
+unfolding recovered
+silent-recovered c e = if_cases (λ (d : Course). d.events ≡ c.events) (is_superior e) _ (recovered_in c.transaction.phase (recovering c e) e) (λ above. refl) (λ below. go c.transaction.phase)
+  where
+    go : (phase : Phase) → (recovered_in phase (recovering c e) e).events ≡ c.events
+    go InDoubt = refl
+    go Committing = refl
+    go Aborting = refl
+    go _ = refl
+
+-- ---- all commands
+
+module _ (agreeing : AgreeingLaw) (keeping : FilesKeptLaw) (lists : ListsLaw) (formed : FormedLaw) (x : Present) (kept : IsKept x) where
+  fits : Fits x
+  fits = fits-within x kept.within
+
+  -- the limits hold after each event of an outcome
+  abbrev Holds : Outcome → Type 0
+  Holds o = limits_hold x.recorded o.events ≡ true
+
+  silent : (o : Outcome) → o.events ≡ [] → Holds o
+  silent o none = subst (λ es. limits_hold x.recorded es ≡ true) (sym none) refl
+
+  undoes : (o : Outcome) → Undoes o → Holds o
+  undoes o undos = undos-hold o.events x.recorded undos kept.good.limits
+
+  -- what is so after an outcome
+  record After (o : Outcome) : Type 0 where
+    agrees : Agrees (apply x o)
+    files : IsSoundFiles (apply x o)
+
+  brief : (o : Outcome) → IsBrief o → After o → Fits (apply x o) → Holds o
+  brief o is after fits' = brief-holds x o is kept.good.transactions_rise after.agrees after.files fits'
+
+  commits : (t : Option Transaction) → ((u : Transaction) → t ≡ Some u → IsIn u x.transactions.items) → Passes (transaction_tests t) → Holds (commit_of x t)
+  commits None there passes = refl
+  commits (Some t) there passes =
+      let active = active-phase t (not-not (is_active t) (passed (passed (passed (passed passes).1).1).1).0) in
+      holds-arrived lists x kept.sound.course kept.good kept.agrees kept.sound.files fits (to_commit (course_of x t None)) (commit_reply (to_commit (course_of x t None))) (to_commit-events lists x kept.sound.course kept.good kept.agrees kept.sound.files fits t (there t refl) None (ap stage_in active))
+
+  rolls_back : (t : Option Transaction) → Holds (rollback_of x t)
+  rolls_back None = refl
+  rolls_back (Some t) = undoes (aborted_by x t None Done) (undoes-aborted x t None Done)
+
+  -- an enlistment goes on by what records nothing
+  quiet : (o : Option Enlistment) (f : Course → Enlistment → Course) → ((c : Course) (e : Enlistment) → (f c e).events ≡ c.events) → Holds (answering x o f)
+  quiet o f same = holds-answering lists x kept.sound.course kept.good kept.agrees kept.sound.files fits o f (λ e is t caller found at own. subst (λ es. limits_hold x.recorded es ≡ true) (sym (same (course_of x t caller) e)) refl)
+
+  module _ (o : Option Enlistment) (there : (e : Enlistment) → o ≡ Some e → IsIn e x.transactions.enlistments) where
+    owing : (e : Enlistment) → o ≡ Some e → (t : Transaction) (caller : Option Id) → IsIn t x.transactions.items → same_id e.transaction t.id ≡ true → (owed : Owed) → e.owes ≡ Some owed → answer_in t.phase ≡ Some owed
+    owing e is t caller at own owed owes = phase-owing x.recorded.boots (course_of x t caller) (stands-now x t caller kept.sound.course at) (brought-now x t caller kept.sound.course) kept.sound.course.enlistments_rise e (there e is) own owed owes
+
+    pre_prepares : Passes (enlistment_tests o owes_pre_prepare) → Holds (answering x o pre_prepare_answered)
+    pre_prepares tests = holds-answering lists x kept.sound.course kept.good kept.agrees kept.sound.files fits o pre_prepare_answered (λ e is t caller found at own.
+        pre_prepare_answered-events lists x kept.sound.course kept.good kept.agrees kept.sound.files fits t at caller (ap stage_in (is-pre_preparing t.phase (owing e is t caller at own pre_prepare (owed-pre_prepare e (enlistment-allowed o owes_pre_prepare e is tests))))) e)
+
+    prepares : Passes (enlistment_tests o owes_prepare) → Holds (answering x o prepare_answered)
+    prepares tests = holds-answering lists x kept.sound.course kept.good kept.agrees kept.sound.files fits o prepare_answered (λ e is t caller found at own.
+        let owes = enlistment-allowed o owes_prepare e is tests in
+        let phase = is-preparing t.phase (owing e is t caller at own prepare (owed-prepare e owes)) in
+        let part = takes_part-owing x.recorded.boots (course_of x t caller) (stands-now x t caller kept.sound.course at) (brought-now x t caller kept.sound.course) kept.sound.course.enlistments_rise e (there e is) own prepare (owed-prepare e owes) in
+        let stands = (stands-now x t caller kept.sound.course at).stand.parts e (there e is) part in
+        elim (preparing-parts e (subst (λ p. is_part_as p e ≡ true) phase stands)) [
+          | inl waits ↦ absurd (true≢false (sym (waiting-parts e waits).0 ∙ ap is_none (owed-prepare e owes)))
+          | inr (idle, again, busy) ↦ prepare_answered-events lists x kept.sound.course kept.good kept.agrees kept.sound.files fits t at caller (ap stage_in phase) e (there e is) part idle busy
+        ])
+
+    reads_only : Passes (enlistment_tests o (may_vote x)) → Holds (answering x o read_only_answered)
+    reads_only tests = holds-answering lists x kept.sound.course kept.good kept.agrees kept.sound.files fits o read_only_answered (λ e is t caller found at own.
+        read_only_answered-events lists x kept.sound.course kept.good kept.agrees kept.sound.files fits t at caller (voting-early t.phase (phase-passed x is_voting e t found (and_parts _ (phase_passes x is_voting e) (enlistment-allowed o (may_vote x) e is tests)).1)) e)
+
+    has_committed : Passes (enlistment_tests o owes_commit) → Holds (answering x o commit_answered)
+    has_committed tests = holds-answering lists x kept.sound.course kept.good kept.agrees kept.sound.files fits o commit_answered (λ e is t caller found at own.
+        commit_answered-events lists x kept.sound.course kept.good kept.agrees kept.sound.files fits t at caller e (is-committing t.phase (owing e is t caller at own commit (owed-commit e (enlistment-allowed o owes_commit e is tests)))))
+
+    asks_pre_prepare : Passes (superior_tests x o before_pre_prepare) → Holds (answering x o (λ c e. to_pre_prepare c))
+    asks_pre_prepare tests = holds-answering lists x kept.sound.course kept.good kept.agrees kept.sound.files fits o (λ c e. to_pre_prepare c) (λ e is t caller found at own.
+        to_pre_prepare-events lists x kept.sound.course kept.good kept.agrees kept.sound.files fits t at caller (pre_prepare-early t.phase (phase-passed x before_pre_prepare e t found (superior-allowed x o before_pre_prepare e is tests))))
+
+    asks_prepare : Passes (superior_tests x o before_prepare) → Holds (answering x o (λ c e. to_prepare c))
+    asks_prepare tests = holds-answering lists x kept.sound.course kept.good kept.agrees kept.sound.files fits o (λ c e. to_prepare c) (λ e is t caller found at own.
+        to_prepare-events lists x kept.sound.course kept.good kept.agrees kept.sound.files fits t at caller (prepare-early t.phase (phase-passed x before_prepare e t found (superior-allowed x o before_prepare e is tests))))
+
+    decides : Passes (superior_tests x o waits_for_superior) → Holds (answering x o (λ c e. committing c))
+    decides tests = holds-answering lists x kept.sound.course kept.good kept.agrees kept.sound.files fits o (λ c e. committing c) (λ e is t caller found at own.
+        let waits = phase-passed x waits_for_superior e t found (superior-allowed x o waits_for_superior e is tests) in
+        let held = waits-held t.phase waits in
+        committing-events lists x kept.sound.course kept.good kept.agrees kept.sound.files fits t at caller
+        (waits-recorded t.phase x.managers x.transactions.enlistments t.id t.is_recorded waits (list_all-at (is_recorded_as_asked x.managers x.transactions.enlistments) x.transactions.items kept.sound.course.recorded t at)) held.0 held.1)
+
+  aborts : (o : Option Enlistment) → Holds (answering x o (λ c e. aborting c))
+  aborts o = holds-answering lists x kept.sound.course kept.good kept.agrees kept.sound.files fits o (λ c e. aborting c) (λ e is t caller found at own.
+      undos-hold (aborting (course_of x t caller)).events x.recorded (subst (λ es. list_all is_undo es ≡ true) (sym (aborting-undone (course_of x t caller)).events) (one t.is_recorded t.id)) kept.good.limits)
+    where
+      one : (b : Bool) (id : Id) → list_all is_undo (event_if b (Undo id)) ≡ true
+      one true id = refl
+      one false id = refl
+
+  effect-holds : (process : Pid) (command : Command) → Passes (command_tests x process command) → After (command_effect x process command) → Holds (command_effect x process command)
+  unfolding commit_transaction rollback_transaction get_transaction_information recover_resource_manager get_notification pre_prepare_complete prepare_complete read_only_enlistment commit_complete rollback_complete single_phase_reject rollback_enlistment pre_prepare_enlistment prepare_enlistment commit_enlistment recover_enlistment set_information get_information create_transaction read_file get_size find_files
+  effect-holds process (CreateTransaction label timeout) passes after = refl
+  effect-holds process (OpenTransaction label guid) passes after = silent (command_effect x process (OpenTransaction label guid)) (silent-bound x process label guid)
+  effect-holds process (CommitTransaction label) passes after = commits (transaction_named x process label) (transaction-named x process label) passes
+  effect-holds process (RollbackTransaction label) passes after = rolls_back (transaction_named x process label)
+  effect-holds process (GetTransactionInformation label) passes after = refl
+  effect-holds process (CreateResourceManager label durability) passes after = brief (command_effect x process (CreateResourceManager label durability)) (brief-manager x process label durability) after (stays-create_manager x fits process label durability passes).fits
+  effect-holds process (OpenResourceManager label guid) passes after = silent (command_effect x process (OpenResourceManager label guid)) (silent-manager x process label guid)
+  effect-holds process (RecoverResourceManager label) passes after = silent (command_effect x process (RecoverResourceManager label)) (silent-recover_all x (manager_named x process label))
+  effect-holds process (GetNotificationResourceManager label) passes after = silent (command_effect x process (GetNotificationResourceManager label)) (silent-take x (manager_named x process label))
+  effect-holds process (CreateEnlistment label manager transaction kind) passes after = silent (command_effect x process (CreateEnlistment label manager transaction kind)) (silent-enlist x process label (manager_named x process manager) (transaction_named x process transaction) kind)
+  effect-holds process (OpenEnlistment label manager guid) passes after = silent (command_effect x process (OpenEnlistment label manager guid)) (silent-enlistment x process label (manager_named x process manager) guid)
+  effect-holds process (RecoverEnlistment label) passes after = quiet (enlistment_named x process label) recovered silent-recovered
+  effect-holds process (PrePrepareComplete label) passes after = pre_prepares (enlistment_named x process label) (enlistment-named x process label) passes
+  effect-holds process (PrepareComplete label) passes after = prepares (enlistment_named x process label) (enlistment-named x process label) passes
+  effect-holds process (ReadOnlyEnlistment label) passes after = reads_only (enlistment_named x process label) (enlistment-named x process label) passes
+  effect-holds process (CommitComplete label) passes after = has_committed (enlistment_named x process label) (enlistment-named x process label) passes
+  effect-holds process (RollbackComplete label) passes after = quiet (enlistment_named x process label) rollback_answered silent-rolled_back
+  effect-holds process (SinglePhaseReject label) passes after = quiet (enlistment_named x process label) single_phase_rejected silent-rejected
+  effect-holds process (RollbackEnlistment label) passes after = aborts (enlistment_named x process label)
+  effect-holds process (PrePrepareEnlistment label) passes after = asks_pre_prepare (enlistment_named x process label) (enlistment-named x process label) passes
+  effect-holds process (PrepareEnlistment label) passes after = asks_prepare (enlistment_named x process label) (enlistment-named x process label) passes
+  effect-holds process (CommitEnlistment label) passes after = decides (enlistment_named x process label) (enlistment-named x process label) passes
+  effect-holds process (SetEnlistmentRecoveryInformation label information) passes after = silent (command_effect x process (SetEnlistmentRecoveryInformation label information)) (silent-information x (enlistment_named x process label) information)
+  effect-holds process (GetEnlistmentRecoveryInformation label) passes after = refl
+  effect-holds process (CreateFile label path access share disposition) passes after = brief (command_effect x process (CreateFile label path access share disposition)) (brief-opening x process label None (create_file x.files None path access share disposition)) after (stays-create_file formed x kept.sound.files fits process label path access share disposition (passed passes).1).fits
+  effect-holds process (CreateFileTransacted label path access share disposition transaction) passes after =
+      let is = caller-may x process transaction _ kept.sound.course passes in
+      brief (command_effect x process (CreateFileTransacted label path access share disposition transaction)) (brief-opening x process label (caller x process transaction) (create_file x.files (caller x process transaction) path access share disposition)) after
+      (subst (λ who. Stays x (opening x process label who (create_file x.files who path access share disposition))) (sym is.1)
+      (stays-create_own formed x kept.sound.files fits process label is.0 path access share disposition (subst (λ who. Passes (create_file_tests x.files (file_room x) who path access share disposition)) is.1 (passed is.3).1))).fits
+  effect-holds process (ReadFile file offset many) passes after = brief (command_effect x process (ReadFile file offset many)) (brief-on_file x (file_named x process file) (λ o. read_file x.files o offset many)) after (stays-on_file formed x kept.sound.files fits (file_named x process file) (λ o. Bytes (take many (drop offset (bytes_seen x.files o.transaction o.node))))).fits
+  effect-holds process (WriteFile file offset bytes) passes after = brief (command_effect x process (WriteFile file offset bytes)) (brief-on_file x (file_named x process file) (λ o. write_file o offset bytes)) after (stays-write formed x kept.sound.files fits process file offset bytes passes).fits
+  effect-holds process (SetEndOfFile file size) passes after = brief (command_effect x process (SetEndOfFile file size)) (brief-on_file x (file_named x process file) (λ o. set_end o size)) after (stays-set_end formed x kept.sound.files fits process file size passes).fits
+  effect-holds process (GetFileSizeEx file) passes after = brief (command_effect x process (GetFileSizeEx file)) (brief-on_file x (file_named x process file) (λ o. get_size x.files o)) after (stays-on_file formed x kept.sound.files fits (file_named x process file) (λ o. Size (length (bytes_seen x.files o.transaction o.node)))).fits
+  effect-holds process (FlushFileBuffers file) passes after = brief (command_effect x process (FlushFileBuffers file)) (brief-on_file x (file_named x process file) (λ o. flush_file)) after (stays-on_file formed x kept.sound.files fits (file_named x process file) (λ o. Done)).fits
+  effect-holds process (DeleteFile path) passes after = brief (command_effect x process (DeleteFile path)) (brief-of_files x None (delete_file x.files None path)) after (stays-delete formed x kept.sound.files fits None path passes).fits
+  effect-holds process (CreateDirectory path) passes after = brief (command_effect x process (CreateDirectory path)) (brief-of_files x None (create_directory x.files None path)) after (stays-create_directory formed x kept.sound.files fits None path passes).fits
+  effect-holds process (RemoveDirectory path) passes after = brief (command_effect x process (RemoveDirectory path)) (brief-of_files x None (remove_directory x.files None path)) after (stays-remove formed x kept.sound.files fits None path passes).fits
+  effect-holds process (MoveFile source target) passes after = brief (command_effect x process (MoveFile source target)) (brief-of_files x None (move_file x.files None source target)) after (stays-move formed x kept.sound.files fits None source target passes).fits
+  effect-holds process (FindFiles searched) passes after = brief (command_effect x process (FindFiles searched)) (brief-of_files x None (find_files x.files None searched)) after (stays-answers formed x kept.sound.files fits None (find_files x.files None searched).reply).fits
+  effect-holds process (DeleteFileTransacted path transaction) passes after = brief (command_effect x process (DeleteFileTransacted path transaction)) (brief-of_files x (caller x process transaction) (delete_file x.files (caller x process transaction) path)) after (stays-delete formed x kept.sound.files fits (caller x process transaction) path (passed (passed (passed (passed passes).1).1).1).1).fits
+  effect-holds process (CreateDirectoryTransacted path transaction) passes after = brief (command_effect x process (CreateDirectoryTransacted path transaction)) (brief-of_files x (caller x process transaction) (create_directory x.files (caller x process transaction) path)) after (stays-create_directory formed x kept.sound.files fits (caller x process transaction) path (passed (passed (passed (passed passes).1).1).1).1).fits
+  effect-holds process (RemoveDirectoryTransacted path transaction) passes after = brief (command_effect x process (RemoveDirectoryTransacted path transaction)) (brief-of_files x (caller x process transaction) (remove_directory x.files (caller x process transaction) path)) after (stays-remove formed x kept.sound.files fits (caller x process transaction) path (passed (passed (passed (passed passes).1).1).1).1).fits
+  effect-holds process (MoveFileTransacted source target transaction) passes after = brief (command_effect x process (MoveFileTransacted source target transaction)) (brief-of_files x (caller x process transaction) (move_file x.files (caller x process transaction) source target)) after (stays-move formed x kept.sound.files fits (caller x process transaction) source target (passed (passed (passed (passed passes).1).1).1).1).fits
+  effect-holds process (FindFilesTransacted searched transaction) passes after = brief (command_effect x process (FindFilesTransacted searched transaction)) (brief-of_files x (caller x process transaction) (find_files x.files (caller x process transaction) searched)) after (stays-answers formed x kept.sound.files fits (caller x process transaction) (find_files x.files (caller x process transaction) searched).reply).fits
+  effect-holds process (KvSet transaction key value) passes after = refl
+  effect-holds process (KvUnset transaction key) passes after = refl
+  effect-holds process (KvGet view key) passes after = refl
+  effect-holds process (KvList view) passes after = refl
+  effect-holds process (CloseHandle label) passes after = undoes (command_effect x process (CloseHandle label)) (undoes-close x process label)
+  effect-holds process (DuplicateHandle label from source) passes after = silent (command_effect x process (DuplicateHandle label from source)) (silent-duplicate x process label from source)
+  effect-holds process Exit passes after = undoes (command_effect x process Exit) (undoes-exit x process)
+
+  pub decided-holds : (process : Pid) (command : Command) → Holds (decide x process command)
+  decided-holds process command = room (is_full x.machine.left (with_room x process command).events) refl
+    where
+      effect : Outcome
+      effect = command_effect x process command
+
+      -- where there is room and no refusal the command does what it does
+      after : is_full x.machine.left (with_room x process command).events ≡ false → refusal_of x process command ≡ None → After effect
+      after free' none =
+          let is : decide x process command ≡ effect = ap (λ b. if b then record (only_reply x (Refused LogFull)) { stops = true } else with_room x process command) free' ∙ ap (λ r. refuse_or x r effect) none in
+          record {
+            agrees = subst (λ o. Agrees (apply x o)) is (agreeing.commands x process command kept.sound kept.good kept.carried_out kept.agrees).0;
+            files = subst (λ o. IsSoundFiles (apply x o)) is (keeping.commands x process command kept.sound.course kept.sound.files);
+          }
+
+      refused : (r : Option Refusal) → refusal_of x process command ≡ r → is_full x.machine.left (with_room x process command).events ≡ false → Holds (refuse_or x r effect)
+      refused (Some refusal) is free' = refl
+      refused None none free' = effect-holds process command (passed (record { none = none })).1 (after free' none)
+
+      room : (b : Bool) → is_full x.machine.left (with_room x process command).events ≡ b → Holds (if b then record (only_reply x (Refused LogFull)) { stops = true } else with_room x process command)
+      room true full = refl
+      room false free' = refused (refusal_of x process command) refl free'
+
+  pub later-holds : (ms : ℕ) → Holds (decide_tick x ms)
+  later-holds ms =
+      let o = refuse_or x (first_refusal ((not x.machine.is_up, MachineDown) ∷ [])) (tick x ms) in
+      if_cases Holds (is_full x.machine.left o.events) (record (only_reply x (Refused LogFull)) { stops = true }) o (λ full. refl) (λ free'. refused (first_refusal ((not x.machine.is_up, MachineDown) ∷ [])))
+    where
+      refused : (r : Option Refusal) → Holds (refuse_or x r (tick x ms))
+      refused (Some refusal) = refl
+      refused None = undoes (tick x ms) (undoes-tick x ms)

@@ -1,0 +1,3 @@
+mod NewTransactions
+mod UnchangedFiles
+pub mod offered

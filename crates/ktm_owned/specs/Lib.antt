@@ -1,0 +1,2 @@
+pub mod FilesKept
+pub mod OwnKeys

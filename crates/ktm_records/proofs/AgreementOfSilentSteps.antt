@@ -1,0 +1,159 @@
+-- What was recorded agrees with what is so now after steps of a transaction that record nothing.
+use Rattle.std.specs.Prelude.{if◌then◌else◌}
+use Rattle.std.proofs.Common.{◌≡◌, ◌&&◌, not, Bool, true, false, List, [], ◌∷◌, map, filter, Option, Some, None, refl, sym, ◌∙◌, ap, inl, inr}
+use Rattle.std.proofs.lemmas.Bool.{cases_Bool}
+use Rattle.std.specs.List.{list_any}
+use Rattle.ktm_base.specs.declared.id.Id.{Id}
+use Rattle.ktm_base.specs.declared.notify.Notify.{Notify}
+use Rattle.ktm_types.specs.declared.object.Phase.{Phase}
+use Rattle.ktm_types.specs.declared.object.Phase.TheVariants.{InDoubt, Committing, Aborting}
+use Rattle.ktm_types.specs.declared.object.Transaction.{Transaction}
+use Rattle.ktm_types.specs.declared.object.TransactionOutcome.TheVariants.{Aborted}
+use Rattle.ktm_types.specs.declared.recorded.Stage.{Stage}
+use Rattle.ktm_types.specs.declared.reply.Reply.{Reply}
+use Rattle.ktm_world.specs.Enlistments.{Enlistment, Sent, commit, has_id, is_durable_at, is_superior, is_unfinished, rollback, superior_of, takes_part, with_enlistments}
+use Rattle.ktm_world.specs.Lawful.{brought_back, is_held_stage, stage_in, stays, superior_now}
+use Rattle.ktm_world.specs.Outcome.{apply}
+use Rattle.ktm_world.specs.Phases.{Course, recovering, ended, finished, owing, recovered, recovered_in, rollback_answered, single_phase_rejected, telling, unchanged}
+use Rattle.ktm_world.specs.Present.{Present}
+use Rattle.ktm_world.specs.TransactionCalls.{arrived, course_of}
+use Rattle.ktm_world.specs.Transactions.{same_id}
+use Rattle.ktm_world.specs.World.{by_rising_id}
+use Rattle.ktm_world.specs.Durable.{is_ready}
+use Rattle.txf_laws.specs.Elements.{IsIn}
+use Rattle.ktm_courses.specs.SoundCourse.{IsSoundCourse}
+use Rattle.ktm_records.proofs.offered.Agreement.{Agreed, filter-alike}
+use Rattle.ktm_records.proofs.offered.AgreementOfCourses.{agreed-arrived, begun, carried-itself, course_enlistments, course_in, course_summaries, follows-from, none-in, none-unrecorded, was}
+use Rattle.ktm_courses.proofs.offered.Moves.{if_cases}
+use Rattle.ktm_courses.proofs.offered.Procedures.{Arrives}
+
+-- a step records and commits nothing, and the log has to have of the transaction what it had to have
+pub record IsSilent (c d : Course) : Type 0 where
+  pub events : d.events ≡ c.events
+  pub works : d.works ≡ c.works
+  pub summaries : course_summaries d ≡ course_summaries c
+
+pub agreed-silent : (x : Present) (t : Transaction) (caller : Option Id) (d : Course) (reply : Reply) (sound : IsSoundCourse x) (agreed : Agreed x) (there : IsIn t x.transactions.items) → Arrives x.recorded.boots (course_of x t caller) d
+    → IsSilent (course_of x t caller) d → Agreed (apply x (arrived x d reply))
+agreed-silent x t caller d reply sound agreed there arrives silent =
+    let had = was x sound t there agreed.agrees in
+    agreed-arrived x sound agreed t there caller d arrives.moved reply arrives.stands.outcome
+    (follows-from x t.id had.before had.behind d had.o [] [] silent.events silent.works had.tracks (had.own ∙ begun x t caller ∙ sym silent.summaries) (carried-itself x sound agreed t there))
+
+-- ---- enlistments that are as they would be brought back
+
+-- a step leaves an enlistment as it would be brought back, and whether it is
+pub record IsBackAlike (e f : Enlistment) : Type 0 where
+  pub back : brought_back f ≡ brought_back e
+  pub kind : is_superior f ≡ is_superior e
+  pub read_only : f.is_read_only ≡ e.is_read_only
+  pub prepared : f.is_prepared ≡ e.is_prepared
+  pub finished : f.is_finished ≡ e.is_finished
+
+alike-same : (e : Enlistment) → IsBackAlike e e
+alike-same e = record { back = refl; kind = refl; read_only = refl; prepared = refl; finished = refl }
+
+pub alike-stepped : (test : Enlistment → Bool) (f : Enlistment → Enlistment) → ((e : Enlistment) → IsBackAlike e (f e)) → (e : Enlistment) → IsBackAlike e (if test e then f e else e)
+alike-stepped test f alike e = if_cases (λ g. IsBackAlike e g) (test e) (f e) e (λ is. alike e) (λ other. alike-same e)
+
+-- the enlistments of a course that the log has to have
+abbrev pub is_kept : Course → Enlistment → Bool
+is_kept c e = takes_part c.transaction.id e && is_durable_at c.managers e.manager && e.is_prepared && not e.is_finished
+
+-- where none is there is none to be brought back
+pub none-kept : (c : Course) → ((e : Enlistment) → IsIn e c.enlistments → is_kept c e ≡ false) → course_enlistments c ≡ []
+none-kept c none = ap (λ es. by_rising_id (map brought_back es)) (filter-alike (is_kept c) (λ e. false) c.enlistments none ∙ filter-false c.enlistments)
+  where
+    filter-false : (es : List Enlistment) → filter (λ (e : Enlistment). false) es ≡ []
+    filter-false [] = refl
+    filter-false (e ∷ es) = filter-false es
+
+kept-alike : (c : Course) (step : Enlistment → Enlistment) → ((e : Enlistment) → IsBackAlike e (step e)) → (es : List Enlistment) → map brought_back (filter (is_kept c) (map step es)) ≡ map brought_back (filter (is_kept c) es)
+kept-alike c step alike [] = refl
+kept-alike c step alike (e ∷ es) =
+    let same : is_kept c (step e) ≡ is_kept c e =
+    λ i. same_id ((alike e).back i).transaction c.transaction.id && not ((alike e).kind i) && not ((alike e).read_only i) && is_durable_at c.managers ((alike e).back i).manager && (alike e).prepared i && not ((alike e).finished i) in
+    elim (cases_Bool (is_kept c e)) [
+      | inl is ↦ rw (same ∙ is, is) (λ i. (alike e).back i ∷ kept-alike c step alike es i)
+      | inr other ↦ rw (same ∙ other, other) (kept-alike c step alike es)
+    ]
+
+superior-alike : (id : Id) (step : Enlistment → Enlistment) → ((e : Enlistment) → IsBackAlike e (step e)) → (es : List Enlistment) → superior_now (superior_of (map step es) id) ≡ superior_now (superior_of es id)
+superior-alike id step alike [] = refl
+superior-alike id step alike (e ∷ es) =
+    let same : (same_id (step e).transaction id && is_superior (step e)) ≡ (same_id e.transaction id && is_superior e) = λ i. same_id ((alike e).back i).transaction id && (alike e).kind i in
+    elim (cases_Bool (same_id e.transaction id && is_superior e)) [
+      | inl is ↦ rw (same ∙ is, is) (λ i. superior_now (Some ((alike e).back i)))
+      | inr other ↦ rw (same ∙ other, other) (superior-alike id step alike es)
+    ]
+
+-- so the log has to have the same enlistments
+pub enlistments-alike : (c : Course) (test : Enlistment → Bool) (f : Enlistment → Enlistment) → ((e : Enlistment) → IsBackAlike e (f e)) → course_enlistments (record c { enlistments = with_enlistments test f c.enlistments }) ≡ course_enlistments c
+enlistments-alike c test f alike = ap by_rising_id (kept-alike c (λ e. if test e then f e else e) (alike-stepped test f alike) c.enlistments)
+
+-- and the same of it
+pub in-alike : (c : Course) (step : Enlistment → Enlistment) (sent : List Sent) → ((e : Enlistment) → IsBackAlike e (step e)) → (stage : Option Stage) → course_in (record c { enlistments = map step c.enlistments; sent = sent }) stage ≡ course_in c stage
+in-alike c step sent alike None = refl
+in-alike c step sent alike (Some stage) = ap (λ s. filter stays (s ∷ [])) (λ i. record {
+  id = c.transaction.id;
+  stage = stage;
+  superior = if is_ready stage then None else superior-alike c.transaction.id step alike c.enlistments i;
+  enlistments = by_rising_id (kept-alike c step alike c.enlistments i);
+  changes = if is_held_stage stage then c.changes else [];
+  settings = if is_held_stage stage then c.settings else [];
+})
+
+summaries-alike : (c : Course) (step : Enlistment → Enlistment) (sent : List Sent) → ((e : Enlistment) → IsBackAlike e (step e)) → course_summaries (record c { enlistments = map step c.enlistments; sent = sent }) ≡ course_summaries c
+summaries-alike c step sent alike = elim (cases_Bool c.transaction.is_recorded) [ inl recorded ↦ rw recorded (in-alike c step sent alike (stage_in c.transaction.phase)) | inr other ↦ rw other refl ]
+
+-- ---- steps
+
+silent-then : {c d e : Course} → IsSilent c d → IsSilent d e → IsSilent c e
+silent-then first second = record { events = second.events ∙ first.events; works = second.works ∙ first.works; summaries = second.summaries ∙ first.summaries }
+
+-- some enlistments are changed so, and something is sent
+silent-changing : (c : Course) (test : Enlistment → Bool) (f : Enlistment → Enlistment) (sent : List Sent) → ((e : Enlistment) → IsBackAlike e (f e)) → IsSilent c (record c { enlistments = with_enlistments test f c.enlistments; sent = sent })
+silent-changing c test f sent alike = record {
+  events = refl;
+  works = refl;
+  summaries = summaries-alike c (λ e. if test e then f e else e) sent (alike-stepped test f alike);
+}
+
+-- where the log does not have it, and goes on not to have it
+silent-unrecorded : (c d : Course) → d.events ≡ c.events → d.works ≡ c.works → c.transaction.is_recorded ≡ false → d.transaction.is_recorded ≡ c.transaction.is_recorded → IsSilent c d
+silent-unrecorded c d events works other same = record { events = events; works = works; summaries = none-unrecorded d (same ∙ other) ∙ sym (none-unrecorded c other) }
+
+-- where its phase is one of which the log has nothing
+silent-nothing : (c d : Course) → d.events ≡ c.events → d.works ≡ c.works → stage_in c.transaction.phase ≡ None → stage_in d.transaction.phase ≡ None → IsSilent c d
+silent-nothing c d events works before after = record { events = events; works = works; summaries = none-in d after ∙ sym (none-in c before) }
+
+pub silent-rollback_answered : (c : Course) (e : Enlistment) → c.transaction.phase ≡ Aborting → IsSilent c (rollback_answered c e)
+unfolding rollback_answered ended
+silent-rollback_answered c e phase =
+    let d = finished c e in
+    if_cases (λ x. IsSilent c x) (list_any (is_unfinished d.transaction.id) d.enlistments) d (ended d Aborted)
+    (λ some. silent-nothing c d refl refl (ap stage_in phase) (ap stage_in phase)) (λ none. silent-nothing c (ended d Aborted) refl refl (ap stage_in phase) refl)
+
+pub silent-single_phase_rejected : (c : Course) (e : Enlistment) → c.transaction.is_recorded ≡ false → IsSilent c (single_phase_rejected c e)
+unfolding single_phase_rejected
+silent-single_phase_rejected c e other = silent-unrecorded c _ refl refl other refl
+
+pub silent-recovered : (c : Course) (e : Enlistment) → IsSilent c (recovered c e)
+unfolding recovered
+silent-recovered c e = if_cases (λ x. IsSilent c x) (is_superior e) (telling d (has_id e.id) Notify.RecoverQuery unchanged) (recovered_in c.transaction.phase d e)
+    (λ above. told Notify.RecoverQuery unchanged (λ f. alike-same f)) (λ below. in-phase c.transaction.phase)
+  where
+    d : Course
+    d = recovering c e
+
+    back : IsSilent c d
+    back = silent-changing c (has_id e.id) (λ f. record f { is_recovered = true }) c.sent (λ f. record { back = refl; kind = refl; read_only = refl; prepared = refl; finished = refl })
+
+    told : (kind : Notify) (f : Enlistment → Enlistment) → ((g : Enlistment) → IsBackAlike g (f g)) → IsSilent c (telling d (has_id e.id) kind f)
+    told kind f alike = silent-then back (silent-changing d (has_id e.id) f _ alike)
+
+    in-phase : (phase : Phase) → IsSilent c (recovered_in phase d e)
+    in-phase InDoubt = told Notify.Indoubt unchanged (λ f. alike-same f)
+    in-phase Committing = told Notify.Commit (owing commit) (λ f. record { back = refl; kind = refl; read_only = refl; prepared = refl; finished = refl })
+    in-phase Aborting = told Notify.Rollback (owing rollback) (λ f. record { back = refl; kind = refl; read_only = refl; prepared = refl; finished = refl })
+    in-phase _ = back

@@ -1,0 +1,228 @@
+-- What the calls on transactions and enlistments record applies, but for the limits.
+use Rattle.std.specs.Prelude.{if◌then◌else◌}
+use Rattle.std.proofs.Common.{◌≡◌, ◌&&◌, not, Bool, true, false, nat_lt, List, Option, Some, None, refl, sym, ◌∙◌, ap, subst, inl, inr}
+use Rattle.std.proofs.lemmas.Bool.{and_from, and_parts, not-true, not_from_false, or_cases, true≢false, false_from_ne_true}
+use Rattle.std.proofs.lemmas.Option.{none-some, same_Some}
+use Rattle.ktm_base.specs.declared.id.Id.{Id}
+use Rattle.ktm_types.specs.declared.object.Phase.{Phase}
+use Rattle.ktm_types.specs.declared.object.Phase.TheVariants.{Active, Requested, PrePreparing, PrePrepared, Held, InDoubt, Committing, Aborting, Ended}
+use Rattle.ktm_types.specs.declared.object.Transaction.{Transaction}
+use Rattle.ktm_types.specs.declared.object.TransactionOutcome.TheVariants.{Aborted}
+use Rattle.ktm_types.specs.declared.recorded.Stage.{Stage}
+use Rattle.ktm_types.specs.declared.reply.Reply.TheVariants.{Done}
+use Rattle.ktm_world.specs.Durable.{is_new_enlistment, is_ready}
+use Rattle.ktm_world.specs.Enlistments.{Enlistment, Manager, commit, pre_prepare, is_durable_at, is_open_for_votes, is_superior, owes_commit, owes_pre_prepare, owes_prepare, takes_part}
+use Rattle.ktm_world.specs.Labels.{transaction_tests}
+use Rattle.ktm_world.specs.Lawful.{stage_in}
+use Rattle.ktm_world.specs.Phases.{Course, aborting, commit_answered, committing, finished, is_single_phase, pre_prepare_answered, prepare_answered, read_only_answered, recovered, rollback_answered, single_phase_rejected, to_commit, to_pre_prepare, to_prepare}
+use Rattle.ktm_world.specs.Present.{Present}
+use Rattle.ktm_world.specs.TransactionCalls.{answering, before_pre_prepare, before_prepare, commit_of, commit_reply, course_of, enlistment_tests, goes_on, is_voting, may_roll_back_by, may_vote, phase_passes, rollback_of, rollback_transaction_tests, superior_tests, transaction_in, waits_for_superior}
+use Rattle.ktm_world.specs.Transactions.{is_undecided, same_id}
+use Rattle.txf_laws.specs.Elements.{IsIn}
+use Rattle.ktm_records.specs.Kept.{IsKept, facts_apply}
+use Rattle.ktm_courses.specs.SoundCourse.{has_durable_part, is_outcome_of, is_part_as, is_phase_back, is_recorded_as, owes_until_finished}
+use Rattle.ktm_courses.proofs.offered.EnlistmentAnswers.{here-from, is-committing, is-pre_preparing, owed-commit, owed-pre_prepare, part_preparing, phase-owing, phase_preparing, takes_part-owing, unprepared, until-owed}
+use Rattle.ktm_courses.proofs.offered.Arrivals.{brought-now, stands-now}
+use Rattle.ktm_courses.proofs.offered.Calls.{Passes, active-phase, enlistment-allowed, may-roll, passed, phase-passed, rolls, superior-allowed, transaction_at-found}
+use Rattle.txf_laws.proofs.offered.Elements.{list_all-at, list_any-from, not-not}
+use Rattle.ktm_records.proofs.offered.AgreementOfCourses.{arrival}
+use Rattle.ktm_records.proofs.LoggedStages.{can-decide, can-finish, may-ready, new-part}
+use Rattle.ktm_courses.proofs.offered.Moves.{same-by_id}
+use Rattle.ktm_courses.proofs.offered.Procedures.{Stands, part-parts}
+use Rattle.ktm_records.proofs.CourseRecords.{IsOn, facts-commit_answered, facts-committing, facts-if_finished, facts-pre_prepare_answered, facts-prepare_answered, facts-read_only_answered, facts-to_commit, facts-to_pre_prepare, facts-to_prepare}
+use Rattle.ktm_records.proofs.AgreementOfSilentSteps.{silent-recovered}
+use Rattle.txf_laws.proofs.offered.Tables.{same_id-equal, same_id-from}
+use Rattle.ktm_records.proofs.UndoFacts.{FactsOf, facts-aborted_by}
+
+-- ---- phases
+
+-- a transaction that the log may have ready is undecided, and of this boot
+ready-phase : (phase : Phase) → stage_in phase ≡ Some Stage.Ready → (is_phase_back phase ≡ false) × ((t : Transaction) → is_outcome_of phase t ≡ true → is_undecided t ≡ true)
+ready-phase Held is = absurd (true≢false (sym (ap is_ready (same_Some _ _ is))))
+ready-phase InDoubt is = absurd (true≢false (sym (ap is_ready (same_Some _ _ is))))
+ready-phase Committing is = absurd (true≢false (sym (ap is_ready (same_Some _ _ is))))
+ready-phase Aborting is = absurd (none-some _ is)
+ready-phase Ended is = absurd (none-some _ is)
+ready-phase _ is = (refl, λ t is'. is')
+
+-- in a phase in which no enlistment is prepared the log does not have it
+Early : Phase → Type 0
+Early phase = (stage_in phase ≡ Some Stage.Ready) × ((ms : List Manager) (es : List Enlistment) (id : Id) (recorded : Bool) → is_recorded_as phase ms es id recorded ≡ true → recorded ≡ false)
+
+early-pre_prepare : (phase : Phase) → before_pre_prepare phase ≡ true → Early phase
+unfolding Early
+early-pre_prepare Active is = (refl, λ ms es id recorded is'. not-true _ is')
+early-pre_prepare Requested is = (refl, λ ms es id recorded is'. not-true _ is')
+early-pre_prepare _ is = absurd (true≢false (sym is))
+
+early-prepare : (phase : Phase) → before_prepare phase ≡ true → Early phase
+unfolding Early
+early-prepare Active is = (refl, λ ms es id recorded is'. not-true _ is')
+early-prepare Requested is = (refl, λ ms es id recorded is'. not-true _ is')
+early-prepare PrePrepared is = (refl, λ ms es id recorded is'. not-true _ is')
+early-prepare _ is = absurd (true≢false (sym is))
+
+early-pre_preparing : Early PrePreparing
+unfolding Early
+early-pre_preparing = (refl, λ ms es id recorded is'. not-true _ is')
+
+ready-voting : (phase : Phase) → is_voting phase ≡ true → stage_in phase ≡ Some Stage.Ready
+ready-voting Held is = absurd (true≢false (sym is))
+ready-voting InDoubt is = absurd (true≢false (sym is))
+ready-voting Committing is = absurd (true≢false (sym is))
+ready-voting Aborting is = absurd (true≢false (sym is))
+ready-voting Ended is = absurd (true≢false (sym is))
+ready-voting _ is = refl
+
+held-waiting : (phase : Phase) → waits_for_superior phase ≡ true → (stage_in phase ≡ Some Stage.Held) × ((ms : List Manager) (es : List Enlistment) (id : Id) (recorded : Bool) → is_recorded_as phase ms es id recorded ≡ true → recorded ≡ true)
+held-waiting Held waits = (refl, λ ms es id recorded is. is)
+held-waiting InDoubt waits = (refl, λ ms es id recorded is. is)
+held-waiting _ waits = absurd (true≢false (sym waits))
+
+module _ (x : Present) (kept : IsKept x) where
+  -- ---- a transaction on its way
+
+  module _ (t : Transaction) (there : IsIn t x.transactions.items) (caller : Option Id) where
+    stands : Stands x.recorded.boots (course_of x t caller)
+    stands = stands-now x t caller kept.sound.course there
+
+    is-recorded : is_recorded_as t.phase x.managers x.transactions.enlistments t.id t.is_recorded ≡ true
+    is-recorded = list_all-at (λ t. is_recorded_as t.phase x.managers x.transactions.enlistments t.id t.is_recorded) x.transactions.items kept.sound.course.recorded t there
+
+    module _ (is : stage_in t.phase ≡ Some Stage.Ready) where
+      here : nat_lt t.id.boot x.recorded.boots ≡ false
+      here = here-from x.recorded.boots t (ready-phase t.phase is).0 stands.boots
+
+      undecided' : is_undecided t ≡ true
+      undecided' = (ready-phase t.phase is).1 t stands.outcome
+
+      is-on : IsOn x.recorded (course_of x t caller)
+      is-on = record { facts = refl; may = may-ready x kept t there caller is here undecided' }
+
+      -- an enlistment that is not prepared is new to the log
+      is-new : (e : Enlistment) → IsIn e x.transactions.enlistments → same_id e.transaction t.id ≡ true → e.is_prepared ≡ false → is_durable_at x.managers e.manager ≡ true → is_new_enlistment x.recorded e.id e.manager e.information ≡ true
+      is-new e in_es own other durable = new-part x kept t there caller is here undecided' e in_es own durable (inr other)
+
+    is-unrecorded : Early t.phase → t.is_recorded ≡ false
+    unfolding Early
+    is-unrecorded early = early.1 x.managers x.transactions.enlistments t.id t.is_recorded is-recorded
+
+    is-early : Early t.phase → IsOn x.recorded (course_of x t caller)
+    unfolding Early
+    is-early early = is-on early.0
+
+  -- ---- calls on transactions
+
+  pub facts-commit_of : (o : Option Transaction) → ((t : Transaction) → o ≡ Some t → IsIn t x.transactions.items) → Passes (transaction_tests o) → FactsOf x (commit_of x o)
+  facts-commit_of None there tests = refl
+  facts-commit_of (Some t) there tests =
+      let here = passed tests in let committed = passed here.1 in let aborted = passed committed.1 in let active = passed aborted.1 in
+      let early = subst Early (sym (active-phase t (not-not _ active.0))) (early-pre_prepare Active refl) in
+      let c = course_of x t None in
+      ap (facts_apply x.recorded) (arrival x (to_commit c) (commit_reply (to_commit c))).events ∙ facts-to_commit x.recorded c (is-early t (there t refl) None early) (is-unrecorded t (there t refl) None early)
+
+  pub facts-rollback_of : (o : Option Transaction) → ((t : Transaction) → o ≡ Some t → IsIn t x.transactions.items) → Passes (rollback_transaction_tests o) → FactsOf x (rollback_of x o)
+  facts-rollback_of None there tests = refl
+  facts-rollback_of (Some t) there tests =
+      let here = passed tests in let committed = passed here.1 in let aborted = passed committed.1 in let may = passed aborted.1 in
+      facts-aborted_by x kept.sound.course kept.agrees t (there t refl) (may-roll t (not-not _ may.0)) None Done
+
+  -- ---- calls of enlistments
+
+  answers : (o : Option Enlistment) (step : Course → Enlistment → Course)
+      → ((e : Enlistment) → o ≡ Some e → (t : Transaction) (caller : Option Id) → IsIn t x.transactions.items → same_id e.transaction t.id ≡ true → transaction_in x e ≡ Some t → facts_apply x.recorded (step (course_of x t caller) e).events ≡ true)
+      → FactsOf x (answering x o step)
+  answers None step each = refl
+  answers (Some e) step each = go (transaction_in x e) refl
+    where
+      caller-of : Option Id
+      caller-of = if is_superior e then Some e.id else None
+
+      go : (o : Option Transaction) → transaction_in x e ≡ o → FactsOf x (goes_on x e o caller-of step)
+      go None is = refl
+      go (Some t) is =
+          let found = transaction_at-found x.transactions.items e.transaction t is in
+          ap (facts_apply x.recorded) (arrival x (step (course_of x t caller-of) e) Done).events ∙ each e refl t caller-of found.0 (same_id-from e.transaction t.id (sym found.1)) is
+
+  module _ (o : Option Enlistment) (in_es : (e : Enlistment) → o ≡ Some e → IsIn e x.transactions.enlistments) where
+    pub facts-pre_prepare_complete : Passes (enlistment_tests o owes_pre_prepare) → FactsOf x (answering x o pre_prepare_answered)
+    facts-pre_prepare_complete tests = answers o pre_prepare_answered (λ e is t caller at own found.
+        let owes = enlistment-allowed o owes_pre_prepare e is tests in
+        let phase = is-pre_preparing t.phase (phase-owing x.recorded.boots (course_of x t caller) (stands t at caller) (brought-now x t caller kept.sound.course) kept.sound.course.enlistments_rise e (in_es e is) own pre_prepare (owed-pre_prepare e owes)) in
+        let early = subst Early (sym phase) early-pre_preparing in
+        facts-pre_prepare_answered x.recorded (course_of x t caller) e (is-early t at caller early) (is-unrecorded t at caller early))
+
+    pub facts-prepare_complete : Passes (enlistment_tests o owes_prepare) → FactsOf x (answering x o prepare_answered)
+    facts-prepare_complete tests = answers o prepare_answered (λ e is t caller at own found.
+        let owes = enlistment-allowed o owes_prepare e is tests in
+        let c = course_of x t caller in
+        let brought = brought-now x t caller kept.sound.course in
+        let rise = kept.sound.course.enlistments_rise in
+        let phase = phase_preparing x.recorded.boots c (stands t at caller) brought rise e (in_es e is) own owes in
+        let part = part_preparing x.recorded.boots c (stands t at caller) brought rise e (in_es e is) own owes in
+        let ready : stage_in t.phase ≡ Some Stage.Ready = ap stage_in phase in
+        facts-prepare_answered x.recorded c e (is-on t at caller ready)
+        (λ durable. is-new t at caller ready e (in_es e is) own (unprepared x.recorded.boots c (stands t at caller) brought rise e (in_es e is) own owes).0 durable)
+        (λ f there above. false_from_ne_true _ (λ same.
+        let one : e ≡ f = same-by_id (λ (g : Enlistment). g.id) x.transactions.enlistments rise e f (in_es e is) there (same_id-equal e.id f.id same) in
+        true≢false (sym (and_parts (same_id f.transaction t.id) (is_superior f) above).1 ∙ ap is_superior (sym one) ∙ (part-parts t.id e part).1))))
+
+    pub facts-read_only : Passes (enlistment_tests o (may_vote x)) → FactsOf x (answering x o read_only_answered)
+    facts-read_only tests = answers o read_only_answered (λ e is t caller at own found.
+        let may = enlistment-allowed o (may_vote x) e is tests in
+        let voting = phase-passed x is_voting e t found (and_parts (not (is_superior e) && is_open_for_votes e) (phase_passes x is_voting e) may).1 in
+        facts-read_only_answered x.recorded (course_of x t caller) e (is-on t at caller (ready-voting t.phase voting)) (λ phase. is-unrecorded t at caller (subst Early (sym phase) early-pre_preparing)))
+
+    pub facts-commit_complete : Passes (enlistment_tests o owes_commit) → FactsOf x (answering x o commit_answered)
+    facts-commit_complete tests = answers o commit_answered (λ e is t caller at own found.
+        let c = course_of x t caller in
+        let brought = brought-now x t caller kept.sound.course in
+        let rise = kept.sound.course.enlistments_rise in
+        let owed = owed-commit e (enlistment-allowed o owes_commit e is tests) in
+        let part = takes_part-owing x.recorded.boots c (stands t at caller) brought rise e (in_es e is) own commit owed in
+        facts-commit_answered x.recorded c e refl (λ several durable. elim (is-committing t.phase (phase-owing x.recorded.boots c (stands t at caller) brought rise e (in_es e is) own commit owed)) [
+          | inr single ↦ absurd (true≢false (ap is_single_phase (sym single) ∙ several))
+          | inl phase ↦
+              let both = and_parts e.is_prepared (owes_until_finished owes_commit e) (subst (λ p. is_part_as p e ≡ true) phase (((stands t at caller).stand).parts e (in_es e is) part)) in
+              let unfinished = (until-owed owes_commit e commit owed both.1).2 in
+              can-finish x kept t at caller (recorded-committing t at caller phase e (in_es e is) part durable unfinished) (ap stage_in phase) e (in_es e is) part durable both.0 unfinished
+        ]))
+      where
+        recorded-committing : (t : Transaction) (at : IsIn t x.transactions.items) (caller : Option Id) → t.phase ≡ Committing → (e : Enlistment) → IsIn e x.transactions.enlistments → takes_part t.id e ≡ true → is_durable_at x.managers e.manager ≡ true
+            → e.is_finished ≡ false → t.is_recorded ≡ true
+        recorded-committing t at caller phase e there part durable unfinished =
+            elim (or_cases t.is_recorded (not (has_durable_part x.managers x.transactions.enlistments t.id (λ e. not e.is_finished))) (subst (λ p. is_recorded_as p x.managers x.transactions.enlistments t.id t.is_recorded ≡ true) phase (is-recorded t at caller))) [
+              | inl recorded ↦ recorded
+              | inr none ↦ absurd (true≢false (sym (list_any-from (λ e. takes_part t.id e && (not e.is_finished && is_durable_at x.managers e.manager)) x.transactions.enlistments e there (and_from _ _ part (and_from _ _ (not_from_false _ unfinished) durable))) ∙ not-true _ none))
+            ]
+
+    pub facts-rollback_complete : FactsOf x (answering x o rollback_answered)
+    unfolding rollback_answered
+    facts-rollback_complete = answers o rollback_answered (λ e is t caller at own found. facts-if_finished x.recorded (finished (course_of x t caller) e) Aborted refl)
+
+    pub facts-single_phase_reject : FactsOf x (answering x o single_phase_rejected)
+    unfolding single_phase_rejected
+    facts-single_phase_reject = answers o single_phase_rejected (λ e is t caller at own found. refl)
+
+    pub facts-recover : FactsOf x (answering x o recovered)
+    facts-recover = answers o recovered (λ e is t caller at own found. ap (facts_apply x.recorded) (silent-recovered (course_of x t caller) e).events)
+
+    pub facts-rollback_enlistment : Passes (enlistment_tests o (may_roll_back_by x)) → FactsOf x (answering x o (λ c e. aborting c))
+    facts-rollback_enlistment tests = answers o (λ c e. aborting c) (λ e is t caller at own found.
+        sym (ap (facts_apply x.recorded) (arrival x (aborting (course_of x t caller)) Done).events)
+        ∙ facts-aborted_by x kept.sound.course kept.agrees t at (rolls x kept.sound.course o in_es e t found (enlistment-allowed o (may_roll_back_by x) e is tests)) caller Done)
+
+    pub facts-pre_prepare_enlistment : Passes (superior_tests x o before_pre_prepare) → FactsOf x (answering x o (λ c e. to_pre_prepare c))
+    facts-pre_prepare_enlistment tests = answers o (λ c e. to_pre_prepare c) (λ e is t caller at own found.
+        let early = early-pre_prepare t.phase (phase-passed x before_pre_prepare e t found (superior-allowed x o before_pre_prepare e is tests)) in
+        facts-to_pre_prepare x.recorded (course_of x t caller) (is-early t at caller early) (is-unrecorded t at caller early))
+
+    pub facts-prepare_enlistment : Passes (superior_tests x o before_prepare) → FactsOf x (answering x o (λ c e. to_prepare c))
+    facts-prepare_enlistment tests = answers o (λ c e. to_prepare c) (λ e is t caller at own found.
+        let early = early-prepare t.phase (phase-passed x before_prepare e t found (superior-allowed x o before_prepare e is tests)) in
+        facts-to_prepare x.recorded (course_of x t caller) (is-early t at caller early) (is-unrecorded t at caller early))
+
+    pub facts-commit_enlistment : Passes (superior_tests x o waits_for_superior) → FactsOf x (answering x o (λ c e. committing c))
+    facts-commit_enlistment tests = answers o (λ c e. committing c) (λ e is t caller at own found.
+        let held = held-waiting t.phase (phase-passed x waits_for_superior e t found (superior-allowed x o waits_for_superior e is tests)) in
+        facts-committing x.recorded (course_of x t caller) refl (can-decide x kept t at caller (held.1 x.managers x.transactions.enlistments t.id t.is_recorded (is-recorded t at caller)) held.0))

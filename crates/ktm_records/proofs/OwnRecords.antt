@@ -1,0 +1,432 @@
+-- What each command records: at most six events of what it changes or of what one transaction has to commit, or rollbacks alone; and the keys that
+-- transactions have set stay texts.
+use Rattle.std.specs.Prelude.{if◌then◌else◌, ⊤}
+use Rattle.std.proofs.Common.{◌≡◌, ℕ, ◌≤◌, not, Bool, true, false, List, [], ◌∷◌, ◌++◌, length, Option, Some, None, refl, sym, ◌∙◌, subst, arith, inl, inr, ◌⊎◌}
+use Rattle.std.proofs.lemmas.Bool.{ltb-false}
+use Rattle.std.specs.List.{AllByRecursion}
+use Rattle.ktm_base.specs.declared.id.Id.{Id}
+use Rattle.ktm_base.specs.declared.id.Label.{Label}
+use Rattle.ktm_base.specs.declared.id.Pid.{Pid}
+use Rattle.ktm_base.specs.declared.refusal.Refusal.{Refusal}
+use Rattle.ktm_base.specs.declared.refusal.Refusal.TheVariants.{LogFull, MachineDown}
+use Rattle.ktm_types.specs.declared.change.Change.{Change}
+use Rattle.ktm_types.specs.declared.change.Change.TheVariants.{Cut}
+use Rattle.ktm_types.specs.declared.command.Command.{Command}
+use Rattle.ktm_types.specs.declared.command.Command.TheVariants.{CreateTransaction, OpenTransaction, CommitTransaction, RollbackTransaction, GetTransactionInformation, CreateResourceManager, OpenResourceManager, RecoverResourceManager, GetNotificationResourceManager, CreateEnlistment, OpenEnlistment, RecoverEnlistment, PrePrepareComplete, PrepareComplete, ReadOnlyEnlistment, CommitComplete, RollbackComplete, SinglePhaseReject, RollbackEnlistment, PrePrepareEnlistment, PrepareEnlistment, CommitEnlistment, SetEnlistmentRecoveryInformation, GetEnlistmentRecoveryInformation, CreateFile, CreateFileTransacted, ReadFile, WriteFile, SetEndOfFile, GetFileSizeEx, FlushFileBuffers, DeleteFile, CreateDirectory, RemoveDirectory, MoveFile, DeleteFileTransacted, CreateDirectoryTransacted, RemoveDirectoryTransacted, MoveFileTransacted, FindFiles, FindFilesTransacted, KvSet, KvUnset, KvGet, KvList, CloseHandle, DuplicateHandle, Exit}
+use Rattle.ktm_types.specs.declared.event.Event.{Event}
+use Rattle.ktm_types.specs.declared.event.Event.TheVariants.{Undo}
+use Rattle.ktm_types.specs.declared.object.Object.{Object}
+use Rattle.ktm_types.specs.declared.object.Object.TheVariants.{Transaction as TransactionObject, Manager as ManagerObject, Enlistment as EnlistmentObject, File as FileObject}
+use Rattle.ktm_types.specs.declared.object.Transaction.{Transaction}
+use Rattle.ktm_types.specs.declared.options.Access.{Access}
+use Rattle.ktm_types.specs.declared.options.Disposition.{Disposition}
+use Rattle.ktm_types.specs.declared.options.Durability.{Durability}
+use Rattle.ktm_types.specs.declared.options.EnlistmentKind.{EnlistmentKind}
+use Rattle.ktm_types.specs.declared.options.ShareMode.{ShareMode}
+use Rattle.ktm_types.specs.declared.reply.Reply.{Reply}
+use Rattle.ktm_types.specs.declared.reply.Reply.TheVariants.{Done, Refused}
+use Rattle.ktm_types.specs.Values.{IsCommand, IsText}
+use Rattle.ktm_world.specs.Decide.{bound_file, caller, command_effect, command_tests, decide, events_of, of_files, of_keys, on_file, on_file_tests, opening, own_tests, with_room}
+use Rattle.ktm_world.specs.Enlistments.{Enlistment, Manager, is_superior}
+use Rattle.ktm_world.specs.FileCalls.{Whereabouts, no_path, no_way, free, at_root, at_node, create_at, create_directory, create_file, delete_file, drop_at, empties, find_files, find_path, flush_file, get_size, make_at, move_at, move_file, read_file, remove_directory, set_end, write_file, write_file_tests}
+use Rattle.ktm_world.specs.FileOutcome.{FileOutcome}
+use Rattle.ktm_world.specs.Files.{OpenFile, own_changes, tree_seen}
+use Rattle.ktm_world.specs.HandleCalls.{abort_active, bind_to, close_handle, closed_in_turn, duplicate_handle, exit, handle_gone, has_handle, labels_of, last_handle_gone, without_handle}
+use Rattle.ktm_world.specs.Handles.{object_at}
+use Rattle.ktm_world.specs.KeyCalls.{with_setting}
+use Rattle.ktm_world.specs.Keys.{OwnSettings, own_settings}
+use Rattle.ktm_world.specs.Labels.{enlistment_named, file_named, file_tests, manager_named, transaction_named}
+use Rattle.ktm_world.specs.Outcome.{Outcome, and_then, apply, first_refusal, is_full, only_reply, refuse_or, within_log}
+use Rattle.ktm_world.specs.Phases.{Course, aborting, event_if}
+use Rattle.ktm_world.specs.Present.{Present}
+use Rattle.ktm_world.specs.TransactionCalls.{aborted_by, aborted_if_due, aborted_in_turn, answering, arrived, commit_complete, commit_enlistment, commit_of, commit_reply, commit_transaction, course_of, create_enlistment, create_resource_manager, create_transaction, enlist, enlistment_with, get_information, get_notification, get_transaction_information, goes_on, is_due, keep_information, manager_with, open_enlistment, open_resource_manager, open_to_enlistment, open_to_manager, open_to_transaction, open_transaction, pre_prepare_complete, pre_prepare_enlistment, prepare_complete, prepare_enlistment, read_only_enlistment, recover_all, recover_enlistment, recover_resource_manager, rollback_complete, rollback_enlistment, rollback_of, rollback_transaction, set_information, single_phase_reject, take_first, tick, transaction_in, transaction_with, with_clock}
+use Rattle.ktm_world.specs.Phases.{to_commit, committing, to_pre_prepare, to_prepare, pre_prepare_answered, prepare_answered, read_only_answered, commit_answered, rollback_answered, single_phase_rejected, recovered}
+use Rattle.ktm_world.specs.Transactions.{is_active, is_undecided, transaction_at}
+use Rattle.ktm_world.specs.Uses.{file_room}
+use Rattle.ktm_world.specs.World.{decide_tick}
+use Rattle.ktm_courses.proofs.offered.Calls.{Passes, passed}
+use Rattle.ktm_records.proofs.offered.AgreementOfCourses.{arrival}
+use Rattle.ktm_courses.proofs.offered.Moves.{if_cases}
+use Rattle.ktm_records.proofs.OwnEvents.{Has, IsOwnEvent, IsSpelledPut, all-append, commit_answered-has, committing-has, pre_prepare_answered-has, prepare_answered-has, read_only_answered-has, recovered-has, rollback_answered-has, single_phase_rejected-has, to_commit-has, to_pre_prepare-has, to_prepare-has}
+use Rattle.ktm_records.proofs.OwnTexts.{Texts, texts-with_own, texts-without_own}
+use Rattle.ktm_records.proofs.offered.AgreementOfRollbacks.{aborting-undone}
+
+-- ---- texts
+
+-- an outcome leaves the keys that transactions have set texts
+abbrev KeepsTexts : Present → Outcome → Type 0
+KeepsTexts x o = Texts x.keys.own → Texts o.own
+
+texts-arrived : (x : Present) (d : Course) (reply : Reply) → KeepsTexts x (arrived x d reply)
+texts-arrived x d reply = if_cases (λ o. KeepsTexts x o) (is_undecided d.transaction) _ _ (λ is texts. texts) (λ known texts. texts-without_own x.keys.own d.transaction.id texts)
+
+texts-setting : (x : Present) (who : Option Id) (key : List ℕ) (value : Option (List ℕ)) → IsText key → Texts x.keys.own → Texts (with_setting x.keys.own who key value)
+texts-setting x None key value text texts = texts
+texts-setting x (Some id) key value text texts = texts-with_own x.keys.own id key value text texts
+
+-- ---- rollbacks
+
+-- is the event a rollback
+abbrev pub IsUndo : Event → Type 0
+IsUndo (Undo transaction) = ⊤
+IsUndo _ = ⊥
+
+-- an outcome records rollbacks alone
+record Rolls (x : Present) (o : Outcome) : Type 0 where
+  texts : KeepsTexts x o
+  undos : AllByRecursion IsUndo o.events
+
+rolls-same : (x : Present) (o : Outcome) → o.own ≡ x.keys.own → o.events ≡ [] → Rolls x o
+rolls-same x o own none = record { texts = subst Texts (sym own); undos = subst (AllByRecursion IsUndo) (sym none) tt }
+
+rolls-reply : (x : Present) (reply : Reply) → Rolls x (only_reply x reply)
+rolls-reply x reply = rolls-same x (only_reply x reply) refl refl
+
+rolls-back : (x : Present) (t : Transaction) (caller : Option Id) (reply : Reply) → Rolls x (arrived x (aborting (course_of x t caller)) reply)
+rolls-back x t caller reply = record {
+  texts = texts-arrived x (aborting (course_of x t caller)) reply;
+  undos = subst (AllByRecursion IsUndo) (sym ((arrival x (aborting (course_of x t caller)) reply).events ∙ (aborting-undone (course_of x t caller)).events)) (undo t.is_recorded);
+}
+  where
+    undo : (b : Bool) → AllByRecursion IsUndo (event_if b (Undo t.id))
+    undo true = (tt, tt)
+    undo false = tt
+
+rolls-then : (x : Present) (a : Outcome) (next : Present → Outcome) → Rolls x a → ((y : Present) → Rolls y (next y)) → Rolls x (and_then x a next)
+rolls-then x a next first second = let rest = second (apply x a) in record { texts = λ texts. rest.texts (first.texts texts); undos = all-append IsUndo a.events (next (apply x a)).events first.undos rest.undos }
+
+rolls-if : (x : Present) (b : Bool) (t : Transaction) → Rolls x (if b then aborted_by x t None Done else only_reply x Done)
+rolls-if x b t = if_cases (λ o. Rolls x o) b (aborted_by x t None Done) (only_reply x Done) (λ is. rolls-back x t None Done) (λ other. rolls-reply x Done)
+
+rolls-gone : (o : Option Object) (x : Present) → Rolls x (handle_gone o x)
+rolls-gone None x = rolls-reply x Done
+rolls-gone (Some object) x = if_cases (λ o. Rolls x o) (has_handle x.handles object) (only_reply x Done) (last_handle_gone x object) (λ has. rolls-reply x Done) (λ gone. last object)
+  where
+    active : (t : Option Transaction) → Rolls x (abort_active x t)
+    active None = rolls-reply x Done
+    active (Some t) = rolls-if x (is_active t) t
+
+    last : (object : Object) → Rolls x (last_handle_gone x object)
+    last (TransactionObject id) = active (transaction_at x.transactions.items id)
+    last (ManagerObject id) = rolls-reply x Done
+    last (EnlistmentObject id) = rolls-reply x Done
+    last (FileObject number) = rolls-same x _ refl refl
+
+rolls-closed : (x : Present) (process : Pid) (label : Label) → Rolls x (close_handle x process label)
+unfolding close_handle
+rolls-closed x process label =
+    rolls-then x (record (only_reply x Done) { handles = without_handle x.handles process label }) (handle_gone (object_at x.handles process label)) (rolls-same x _ refl refl) (rolls-gone (object_at x.handles process label))
+
+rolls-closed_all : (labels : List Label) (process : Pid) (x : Present) → Rolls x (closed_in_turn x process labels)
+rolls-closed_all [] process x = rolls-reply x Done
+rolls-closed_all (label ∷ labels) process x = rolls-then x (close_handle x process label) (λ next. closed_in_turn next process labels) (rolls-closed x process label) (rolls-closed_all labels process)
+
+rolls-exit : (x : Present) (process : Pid) → Rolls x (exit x process)
+unfolding exit
+rolls-exit x process = rolls-closed_all (labels_of x.handles process) process x
+
+rolls-in_turn : (ts : List Transaction) (x : Present) → Rolls x (aborted_in_turn x ts)
+rolls-in_turn [] x = rolls-reply x Done
+rolls-in_turn (t ∷ ts) x = rolls-then x (aborted_if_due x (transaction_at x.transactions.items t.id)) (λ next. aborted_in_turn next ts) (due (transaction_at x.transactions.items t.id)) (rolls-in_turn ts)
+  where
+    due : (o : Option Transaction) → Rolls x (aborted_if_due x o)
+    due None = rolls-reply x Done
+    due (Some t) = rolls-if x (is_due x.transactions.clock t) t
+
+rolls-tick : (x : Present) (ms : ℕ) → Rolls x (tick x ms)
+unfolding tick
+rolls-tick x ms = let rest = rolls-in_turn x.transactions.items (with_clock x ms) in record { texts = rest.texts; undos = rest.undos }
+
+-- ---- what an outcome records
+
+-- the contents of a change, if there is one, have bytes
+abbrev IsPut : Option Change → Type 0
+IsPut None = ⊤
+IsPut (Some change) = IsSpelledPut change
+
+-- of tests in a row the last ones
+passes-right : (a b : List (Bool × Refusal)) → Passes (a ++ b) → Passes b
+passes-right [] b passes = passes
+passes-right (test ∷ a) b passes = passes-right a b (passed passes).1
+
+module _ (Files : List Change → Type 0) (Keys : OwnSettings → Type 0) where
+  -- what each transaction has to commit is so
+  pub record Owned (x : Present) : Type 0 where
+    pub files : (id : Id) → Files (own_changes x.files.table.own id)
+    pub keys : (id : Id) → Keys (own_settings x.keys.own id)
+
+  -- rollbacks alone, or at most six events that are so
+  abbrev pub IsShortGroup : List Event → Type 0
+  IsShortGroup events = AllByRecursion IsUndo events ⊎ (AllByRecursion (IsOwnEvent Files Keys) events × (length events ≤ 6))
+
+  -- an outcome records such a group, and leaves the keys texts
+  pub record Does (x : Present) (o : Outcome) : Type 0 where
+    pub texts : Texts x.keys.own → Texts o.own
+    pub group : IsShortGroup o.events
+
+  does-rolled : (x : Present) (o : Outcome) → Rolls x o → Does x o
+  does-rolled x o rolls = record { texts = rolls.texts; group = inl rolls.undos }
+
+  does-same : (x : Present) (o : Outcome) → o.own ≡ x.keys.own → o.events ≡ [] → Does x o
+  does-same x o own none = does-rolled x o (rolls-same x o own none)
+
+  does-reply : (x : Present) (reply : Reply) → Does x (only_reply x reply)
+  does-reply x reply = does-same x (only_reply x reply) refl refl
+
+  module _ (x : Present) (owned : Owned x) where
+    begun : (t : Transaction) (caller : Option Id) → Has Files Keys 0 (course_of x t caller)
+    begun t caller = record { changes = owned.files t.id; settings = owned.keys t.id; events = tt; few = omega arith }
+
+    does-arrived : (n : ℕ) (d : Course) (reply : Reply) → n ≤ 6 → Has Files Keys n d → Does x (arrived x d reply)
+    does-arrived n d reply less has = record {
+      texts = texts-arrived x d reply;
+      group = subst IsShortGroup (sym (arrival x d reply).events) (inr (has.events, omega (arith, less, has.few)));
+    }
+
+    does-commit : (o : Option Transaction) → Does x (commit_of x o)
+    does-commit None = does-reply x Done
+    does-commit (Some t) = let c = to_commit (course_of x t None) in does-arrived 5 c (commit_reply c) (omega arith) (to_commit-has Files Keys 0 (course_of x t None) (begun t None))
+
+    does-rollback : (o : Option Transaction) → Does x (rollback_of x o)
+    does-rollback None = does-reply x Done
+    does-rollback (Some t) = does-rolled x _ (rolls-back x t None Done)
+
+    does-going : (o : Option Enlistment) (step : Course → Enlistment → Course) → ((e : Enlistment) (t : Transaction) (caller : Option Id) → Does x (arrived x (step (course_of x t caller) e) Done)) → Does x (answering x o step)
+    does-going None step each = does-reply x Done
+    does-going (Some e) step each = go (transaction_in x e)
+      where
+        go : (o : Option Transaction) → Does x (goes_on x e o (if is_superior e then Some e.id else None) step)
+        go None = does-reply x Done
+        go (Some t) = each e t (if is_superior e then Some e.id else None)
+
+    does-answering : (n : ℕ) (o : Option Enlistment) (step : Course → Enlistment → Course) → n ≤ 6 → ((c : Course) (e : Enlistment) → Has Files Keys 0 c → Has Files Keys n (step c e)) → Does x (answering x o step)
+    does-answering n o step less steps = does-going o step (λ e t caller. does-arrived n (step (course_of x t caller) e) Done less (steps (course_of x t caller) e (begun t caller)))
+
+    does-rollback_enlistment : (o : Option Enlistment) → Does x (answering x o (λ c e. aborting c))
+    does-rollback_enlistment o = does-going o (λ c e. aborting c) (λ e t caller. does-rolled x _ (rolls-back x t caller Done))
+
+    -- ---- objects
+
+    opened-transaction : (process : Pid) (label : Label) (t : Option Transaction) → Does x (open_to_transaction x process label t)
+    opened-transaction process label None = does-reply x Done
+    opened-transaction process label (Some t) = does-same x _ refl refl
+
+    opened-manager : (process : Pid) (label : Label) (m : Option Manager) → Does x (open_to_manager x process label m)
+    opened-manager process label None = does-reply x Done
+    opened-manager process label (Some m) = does-same x _ refl refl
+
+    opened-enlistment : (process : Pid) (label : Label) (e : Option Enlistment) → Does x (open_to_enlistment x process label e)
+    opened-enlistment process label None = does-reply x Done
+    opened-enlistment process label (Some e) = does-same x _ refl refl
+
+    enlisted : (process : Pid) (label : Label) (m : Option Manager) (t : Option Transaction) (kind : EnlistmentKind) → Does x (enlist x process label m t kind)
+    enlisted process label (Some m) (Some t) kind = does-same x _ refl refl
+    enlisted process label None t kind = does-reply x Done
+    enlisted process label (Some m) None kind = does-reply x Done
+
+    told : (m : Option Manager) → Does x (recover_all x m)
+    told None = does-reply x Done
+    told (Some m) = does-same x _ refl refl
+
+    taken : (m : Option Manager) → Does x (take_first x m)
+    taken None = does-reply x Done
+    taken (Some m) = does-same x _ refl refl
+
+    bound : (process : Pid) (label : Label) (object : Option Object) → Does x (bind_to x process label object)
+    bound process label None = does-reply x Done
+    bound process label (Some object) = does-same x _ refl refl
+
+    informed : (e : Option Enlistment) (information : List ℕ) → Does x (keep_information x e information)
+    informed None information = does-reply x Done
+    informed (Some e) information = does-same x _ refl refl
+
+    made : (process : Pid) (label : Label) (durability : Durability) → Does x (create_resource_manager x process label durability)
+    unfolding create_resource_manager
+    made process label Durability.Volatile = does-same x _ refl refl
+    made process label Durability.Durable = record { texts = λ texts. texts; group = inr ((tt, tt), omega arith) }
+
+    -- ---- files
+
+    does-of_files : (who : Option Id) (o : FileOutcome) → (who ≡ None → IsPut o.change) → Does x (of_files x who o)
+    does-of_files (Some id) o put = does-same x _ refl refl
+    does-of_files None o put = record { texts = λ texts. texts; group = go o.change (put refl) }
+      where
+        go : (change : Option Change) → IsPut change → IsShortGroup (events_of None change)
+        go None put' = inl tt
+        go (Some change) put' = inr ((put', tt), omega arith)
+
+    does-files : (who : Option Id) (o : FileOutcome) → IsPut o.change → Does x (of_files x who o)
+    does-files who o put = does-of_files who o (λ plain. put)
+
+    does-opening : (process : Pid) (label : Label) (who : Option Id) (o : FileOutcome) → IsPut o.change → Does x (opening x process label who o)
+    does-opening process label who o put = go o.opened
+      where
+        files : Does x (of_files x who o)
+        files = does-files who o put
+
+        go : (opened : Option OpenFile) → Does x (bound_file process label opened (of_files x who o))
+        go None = files
+        go (Some file) = record { texts = files.texts; group = files.group }
+
+    does-on_file : (o : Option OpenFile) (call : OpenFile → FileOutcome) → ((f : OpenFile) → o ≡ Some f → IsPut (call f).change) → Does x (on_file x o call)
+    does-on_file None call put = does-reply x Done
+    does-on_file (Some f) call put = does-files f.transaction (call f) (put f refl)
+
+    put-created : (who : Option Id) (path : List ℕ) (access : Access) (mode : ShareMode) (d : Disposition) → IsPut (create_file x.files who path access mode d).change
+    unfolding create_file
+    put-created who path access mode d = go (find_path (tree_seen x.files who) path)
+      where
+        go : (w : Whereabouts) → IsPut (create_at x.files who w access mode d).change
+        go (free directory name) = tt
+        go (at_node node) = if_cases IsPut (empties d) (Some (Cut node.number 0 [])) None (λ is. tt) (λ other. tt)
+        go no_path = tt
+        go no_way = tt
+        go at_root = tt
+
+    put-dropped : (w : Whereabouts) → IsPut (drop_at w).change
+    put-dropped (at_node node) = tt
+    put-dropped (free directory name) = tt
+    put-dropped no_path = tt
+    put-dropped no_way = tt
+    put-dropped at_root = tt
+
+    put-deleted : (who : Option Id) (path : List ℕ) → IsPut (delete_file x.files who path).change
+    unfolding delete_file
+    put-deleted who path = put-dropped (find_path (tree_seen x.files who) path)
+
+    put-removed : (who : Option Id) (path : List ℕ) → IsPut (remove_directory x.files who path).change
+    unfolding remove_directory
+    put-removed who path = put-dropped (find_path (tree_seen x.files who) path)
+
+    put-directory : (who : Option Id) (path : List ℕ) → IsPut (create_directory x.files who path).change
+    unfolding create_directory
+    put-directory who path = go (find_path (tree_seen x.files who) path)
+      where
+        go : (w : Whereabouts) → IsPut (make_at x.files w).change
+        go (free directory name) = tt
+        go (at_node node) = tt
+        go no_path = tt
+        go no_way = tt
+        go at_root = tt
+
+    put-moved : (who : Option Id) (source target : List ℕ) → IsPut (move_file x.files who source target).change
+    unfolding move_file
+    put-moved who source target = go (find_path (tree_seen x.files who) source) (find_path (tree_seen x.files who) target)
+      where
+        go : (from to : Whereabouts) → IsPut (move_at from to).change
+        go (at_node node) (free directory name) = tt
+        go (at_node node) (at_node other) = tt
+        go (at_node node) no_path = tt
+        go (at_node node) no_way = tt
+        go (at_node node) at_root = tt
+        go (free directory name) to = tt
+        go no_path to = tt
+        go no_way to = tt
+        go at_root to = tt
+
+    put-read : (o : OpenFile) (offset many : ℕ) → IsPut (read_file x.files o offset many).change
+    unfolding read_file
+    put-read o offset many = tt
+
+    put-sized : (o : OpenFile) → IsPut (get_size x.files o).change
+    unfolding get_size
+    put-sized o = tt
+
+    put-found : (who : Option Id) (searched : List ℕ) → IsPut (find_files x.files who searched).change
+    unfolding find_files
+    put-found who searched = tt
+
+    put-cut : (o : OpenFile) (size : ℕ) → IsPut (set_end o size).change
+    unfolding set_end
+    put-cut o size = tt
+
+    put-written : (o : OpenFile) (offset : ℕ) (bytes : List ℕ) → length bytes ≤ 65536 → IsPut (write_file o offset bytes).change
+    unfolding write_file
+    put-written o offset [] few = tt
+    put-written o offset (b ∷ bs) few = (omega arith, omega (arith, few))
+
+    does-write : (process : Pid) (label : Label) (offset : ℕ) (bytes : List ℕ) → Passes (on_file_tests x process label (λ o. write_file_tests x.files (file_room x) o offset bytes)) → Does x (on_file x (file_named x process label) (λ o. write_file o offset bytes))
+    unfolding write_file_tests
+    does-write process label offset bytes passes = go (file_named x process label) (passes-right (file_tests x process label) _ passes)
+      where
+        go : (o : Option OpenFile) → Passes (own_tests o (λ o. write_file_tests x.files (file_room x) o offset bytes)) → Does x (on_file x o (λ o. write_file o offset bytes))
+        go None tests = does-reply x Done
+        go (Some o) tests = does-files o.transaction (write_file o offset bytes) (put-written o offset bytes (ltb-false 65536 (length bytes) (passed tests).0))
+
+    -- ---- keys
+
+    does-setting : (who : Option Id) (key : List ℕ) (value : Option (List ℕ)) → IsText key → Does x (of_keys x (record { reply = Done; own = with_setting x.keys.own who key value }))
+    does-setting who key value text = record { texts = texts-setting x who key value text; group = inl tt }
+
+    -- ---- every call
+
+    does-command : (process : Pid) (command : Command) → IsCommand command → Passes (command_tests x process command) → Does x (command_effect x process command)
+    unfolding create_transaction open_transaction commit_transaction rollback_transaction get_transaction_information open_resource_manager recover_resource_manager get_notification create_enlistment open_enlistment recover_enlistment pre_prepare_complete prepare_complete read_only_enlistment commit_complete rollback_complete single_phase_reject rollback_enlistment pre_prepare_enlistment prepare_enlistment commit_enlistment set_information get_information duplicate_handle
+    does-command process (CreateTransaction label timeout) is passes = does-same x _ refl refl
+    does-command process (OpenTransaction label guid) is passes = opened-transaction process label (transaction_with x guid)
+    does-command process (CommitTransaction label) is passes = does-commit (transaction_named x process label)
+    does-command process (RollbackTransaction label) is passes = does-rollback (transaction_named x process label)
+    does-command process (GetTransactionInformation label) is passes = does-same x _ refl refl
+    does-command process (CreateResourceManager label durability) is passes = made process label durability
+    does-command process (OpenResourceManager label guid) is passes = opened-manager process label (manager_with x guid)
+    does-command process (RecoverResourceManager label) is passes = told (manager_named x process label)
+    does-command process (GetNotificationResourceManager label) is passes = taken (manager_named x process label)
+    does-command process (CreateEnlistment label manager transaction kind) is passes = enlisted process label (manager_named x process manager) (transaction_named x process transaction) kind
+    does-command process (OpenEnlistment label manager guid) is passes = opened-enlistment process label (enlistment_with x (manager_named x process manager) guid)
+    does-command process (RecoverEnlistment label) is passes = does-answering 0 (enlistment_named x process label) recovered (omega arith) (recovered-has Files Keys 0)
+    does-command process (PrePrepareComplete label) is passes = does-answering 5 (enlistment_named x process label) pre_prepare_answered (omega arith) (pre_prepare_answered-has Files Keys 0)
+    does-command process (PrepareComplete label) is passes = does-answering 6 (enlistment_named x process label) prepare_answered (omega arith) (prepare_answered-has Files Keys 0)
+    does-command process (ReadOnlyEnlistment label) is passes = does-answering 5 (enlistment_named x process label) read_only_answered (omega arith) (read_only_answered-has Files Keys 0)
+    does-command process (CommitComplete label) is passes = does-answering 1 (enlistment_named x process label) commit_answered (omega arith) (commit_answered-has Files Keys 0)
+    does-command process (RollbackComplete label) is passes = does-answering 0 (enlistment_named x process label) rollback_answered (omega arith) (rollback_answered-has Files Keys 0)
+    does-command process (SinglePhaseReject label) is passes = does-answering 0 (enlistment_named x process label) single_phase_rejected (omega arith) (single_phase_rejected-has Files Keys 0)
+    does-command process (RollbackEnlistment label) is passes = does-rollback_enlistment (enlistment_named x process label)
+    does-command process (PrePrepareEnlistment label) is passes = does-answering 5 (enlistment_named x process label) (λ c e. to_pre_prepare c) (omega arith) (λ c e. to_pre_prepare-has Files Keys 0 c)
+    does-command process (PrepareEnlistment label) is passes = does-answering 5 (enlistment_named x process label) (λ c e. to_prepare c) (omega arith) (λ c e. to_prepare-has Files Keys 0 c)
+    does-command process (CommitEnlistment label) is passes = does-answering 3 (enlistment_named x process label) (λ c e. committing c) (omega arith) (λ c e. committing-has Files Keys 0 c)
+    does-command process (SetEnlistmentRecoveryInformation label information) is passes = informed (enlistment_named x process label) information
+    does-command process (GetEnlistmentRecoveryInformation label) is passes = does-same x _ refl refl
+    does-command process (CreateFile label path access share disposition) is passes = does-opening process label None (create_file x.files None path access share disposition) (put-created None path access share disposition)
+    does-command process (CreateFileTransacted label path access share disposition transaction) is passes =
+        let who = caller x process transaction in does-opening process label who (create_file x.files who path access share disposition) (put-created who path access share disposition)
+    does-command process (ReadFile file offset many) is passes = does-on_file (file_named x process file) (λ o. read_file x.files o offset many) (λ o found. put-read o offset many)
+    does-command process (WriteFile file offset bytes) is passes = does-write process file offset bytes passes
+    does-command process (SetEndOfFile file size) is passes = does-on_file (file_named x process file) (λ o. set_end o size) (λ o found. put-cut o size)
+    does-command process (GetFileSizeEx file) is passes = does-on_file (file_named x process file) (λ o. get_size x.files o) (λ o found. put-sized o)
+    does-command process (FlushFileBuffers file) is passes = does-on_file (file_named x process file) (λ o. flush_file) (λ o found. tt)
+    does-command process (DeleteFile path) is passes = does-files None (delete_file x.files None path) (put-deleted None path)
+    does-command process (CreateDirectory path) is passes = does-files None (create_directory x.files None path) (put-directory None path)
+    does-command process (RemoveDirectory path) is passes = does-files None (remove_directory x.files None path) (put-removed None path)
+    does-command process (MoveFile source target) is passes = does-files None (move_file x.files None source target) (put-moved None source target)
+    does-command process (DeleteFileTransacted path transaction) is passes = let who = caller x process transaction in does-files who (delete_file x.files who path) (put-deleted who path)
+    does-command process (CreateDirectoryTransacted path transaction) is passes = let who = caller x process transaction in does-files who (create_directory x.files who path) (put-directory who path)
+    does-command process (RemoveDirectoryTransacted path transaction) is passes = let who = caller x process transaction in does-files who (remove_directory x.files who path) (put-removed who path)
+    does-command process (MoveFileTransacted source target transaction) is passes = let who = caller x process transaction in does-files who (move_file x.files who source target) (put-moved who source target)
+    does-command process (FindFiles searched) is passes = does-files None (find_files x.files None searched) (put-found None searched)
+    does-command process (FindFilesTransacted searched transaction) is passes = let who = caller x process transaction in does-files who (find_files x.files who searched) (put-found who searched)
+    does-command process (KvSet transaction key value) is passes = does-setting (caller x process transaction) key (Some value) is.1
+    does-command process (KvUnset transaction key) is passes = does-setting (caller x process transaction) key None is.1
+    does-command process (KvGet view key) is passes = does-same x _ refl refl
+    does-command process (KvList view) is passes = does-same x _ refl refl
+    does-command process (CloseHandle label) is passes = does-rolled x _ (rolls-closed x process label)
+    does-command process (DuplicateHandle label from source) is passes = bound process label (object_at x.handles from source)
+    does-command process Exit is passes = does-rolled x _ (rolls-exit x process)
+
+    -- refused or not
+    does-refuse_or : (tests : List (Bool × Refusal)) (effect : Outcome) → (Passes tests → Does x effect) → Does x (refuse_or x (first_refusal tests) effect)
+    does-refuse_or tests effect is = go (first_refusal tests) refl
+      where
+        go : (refusal : Option Refusal) → first_refusal tests ≡ refusal → Does x (refuse_or x refusal effect)
+        go (Some refusal) refused = does-reply x (Refused refusal)
+        go None none = is (record { none = none })
+
+    -- with room in the log or without
+    does-within_log : (o : Outcome) → Does x o → Does x (within_log x o)
+    does-within_log o is = if_cases (λ o. Does x o) (is_full x.machine.left o.events) (record (only_reply x (Refused LogFull)) { stops = true }) o (λ full. does-same x _ refl refl) (λ room. is)
+
+    pub does-decided : (process : Pid) (command : Command) → IsCommand command → Does x (decide x process command)
+    does-decided process command is = does-within_log (with_room x process command)
+        (does-refuse_or ((not x.machine.is_up, MachineDown) ∷ command_tests x process command) (command_effect x process command) (λ passes. does-command process command is (passed passes).1))
+
+    pub does-tick : (ms : ℕ) → Does x (decide_tick x ms)
+    does-tick ms = does-within_log _ (does-refuse_or ((not x.machine.is_up, MachineDown) ∷ []) (tick x ms) (λ passes. does-rolled x _ (rolls-tick x ms)))

@@ -1,0 +1,64 @@
+-- What was recorded agrees with what is so now after a transaction has rolled back.
+use Rattle.std.proofs.Common.{◌≡◌, Bool, true, false, [], ◌∷◌, ◌++◌, Option, None, refl, sym, ◌∙◌, ap, ◌&&◌, not}
+use Rattle.std.specs.List.{list_any}
+use Rattle.ktm_base.specs.declared.id.Id.{Id}
+use Rattle.ktm_base.specs.declared.notify.Notify.{Notify}
+use Rattle.ktm_types.specs.declared.event.Event.{Event}
+use Rattle.ktm_types.specs.declared.object.Phase.TheVariants.{Aborting}
+use Rattle.ktm_types.specs.declared.object.Transaction.{Transaction}
+use Rattle.ktm_types.specs.declared.object.TransactionOutcome.TheVariants.{Aborted}
+use Rattle.ktm_types.specs.declared.reply.Reply.{Reply}
+use Rattle.ktm_world.specs.Enlistments.{is_unfinished, rollback, takes_part}
+use Rattle.ktm_world.specs.Lawful.{stage_in}
+use Rattle.ktm_world.specs.Outcome.{apply, committed_now}
+use Rattle.ktm_world.specs.Phases.{Course, aborting, decided, ended, event_if, in_phase, is_caller, is_its_superior, owing, recording, telling, unchanged}
+use Rattle.ktm_world.specs.Present.{Present}
+use Rattle.ktm_world.specs.TransactionCalls.{aborted_by, course_of}
+use Rattle.txf_laws.specs.Elements.{IsIn}
+use Rattle.ktm_courses.specs.SoundCourse.{IsSoundCourse}
+use Rattle.ktm_records.proofs.offered.Agreement.{Agreed}
+use Rattle.ktm_courses.proofs.offered.EnlistmentAnswers.{arrives-rolled_back, can_roll_back}
+use Rattle.ktm_courses.proofs.offered.Arrivals.{stands-now, brought-now}
+use Rattle.ktm_records.proofs.offered.AgreementOfCourses.{Follows, Was, agreed-arrived, begun, carried-itself, follows-from, none-in, none-unrecorded, placed-at, was}
+use Rattle.ktm_courses.proofs.offered.Moves.{if_cases}
+use Rattle.ktm_records.proofs.LoggedTransaction.{tracks-undone}
+
+-- a course that has rolled back: undone where the log had it, with nothing committed, in a phase that the log knows nothing of
+pub record HasUndone (c d : Course) : Type 0 where
+  pub events : d.events ≡ c.events ++ event_if c.transaction.is_recorded (Event.Undo c.transaction.id)
+  pub works : d.works ≡ c.works
+  pub stage : stage_in d.transaction.phase ≡ None
+
+-- its enlistments are told
+abbrev told : Course → Course
+told c =
+    let undone = recording c (event_if c.transaction.is_recorded (Event.Undo c.transaction.id)) in
+    telling (telling undone (λ e. takes_part c.transaction.id e && e.is_recovered) Notify.Rollback (owing rollback)) (λ e. is_its_superior c e && not (is_caller c e)) Notify.Rollback unchanged
+
+pub aborting-undone : (c : Course) → HasUndone c (aborting c)
+unfolding aborting ended
+aborting-undone c =
+    let d = in_phase (decided (told c) Aborted) Aborting in
+    if_cases (λ d. HasUndone c d) (list_any (is_unfinished d.transaction.id) d.enlistments) d (ended d Aborted) (λ some. record { events = refl; works = refl; stage = refl }) (λ none. record { events = refl; works = refl; stage = refl })
+
+module _ (x : Present) (sound : IsSoundCourse x) (agreed : Agreed x) (t : Transaction) (there : IsIn t x.transactions.items) (caller : Option Id) where
+  abbrev c : Course
+  c = course_of x t caller
+
+  -- what the log has of it
+  abbrev had : Was x t (placed-at x sound t there)
+  had = was x sound t there agreed.agrees
+
+  undo-follows : (d : Course) → HasUndone c d → Follows x t.id had.before had.behind d
+  undo-follows d undone = go t.is_recorded refl
+    where
+      go : (b : Bool) → t.is_recorded ≡ b → Follows x t.id had.before had.behind d
+      go true recorded = follows-from x t.id had.before had.behind d None (Event.Undo t.id ∷ []) [] (undone.events ∙ ap (λ b. event_if b (Event.Undo t.id)) recorded) undone.works
+          (tracks-undone x t.id had.before had.behind had.o x.recorded (committed_now x) had.tracks) (sym (none-in d undone.stage)) (λ r none. absurd none)
+      go false other = follows-from x t.id had.before had.behind d had.o [] [] (undone.events ∙ ap (λ b. event_if b (Event.Undo t.id)) other) undone.works
+          had.tracks (had.own ∙ begun x t caller ∙ none-unrecorded c other ∙ sym (none-in d undone.stage)) (carried-itself x sound agreed t there)
+
+  pub agreed-aborted_by : (reply : Reply) → can_roll_back t.phase ≡ true → Agreed (apply x (aborted_by x t caller reply))
+  agreed-aborted_by reply can =
+      let arrives = arrives-rolled_back x.recorded.boots c (stands-now x t caller sound there) (brought-now x t caller sound) can in
+      agreed-arrived x sound agreed t there caller (aborting c) arrives.moved reply arrives.stands.outcome (undo-follows (aborting c) (aborting-undone c))

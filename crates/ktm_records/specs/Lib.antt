@@ -1,0 +1,9 @@
+pub mod Agreement
+pub mod FileCallsMade
+pub mod Kept
+pub mod MadeManagers
+pub mod RecordedFacts
+pub mod Recordings
+pub mod Rollbacks
+pub mod SoundWorlds
+pub mod Spelling

@@ -1,0 +1,64 @@
+-- What a machine records has bytes.
+use Rattle.std.specs.Prelude.{ℕ, ◌<◌, ◌≤◌, ◌^◌, List, [], length, Option, All}
+use Rattle.ktm_base.specs.declared.limits.TheConstants.{MOST_UNITS}
+use Rattle.ktm_base.specs.declared.id.Pid.{Pid}
+use Rattle.ktm_event.specs.Spelling.{IsSpellableEvent}
+use Rattle.ktm_keyed.specs.declared.keyed.Keyed.{Keyed}
+use Rattle.ktm_types.specs.declared.command.Command.{Command}
+use Rattle.ktm_types.specs.declared.event.Event.{Event}
+use Rattle.ktm_types.specs.declared.event.Event.TheVariants.{Ready, Single}
+use Rattle.ktm_types.specs.EventGrammar.{IsEventOf, IsGroupOf}
+use Rattle.ktm_types.specs.Values.{IsCommand, IsText}
+use Rattle.ktm_world.specs.Decide.{decide}
+use Rattle.ktm_world.specs.Durable.{Durable, Recorded, after_event, after_events, settings_in, settings_of, stand}
+use Rattle.ktm_world.specs.Keys.{Own, OwnSettings}
+use Rattle.ktm_world.specs.Logs.{Group}
+use Rattle.ktm_world.specs.Outcome.{apply}
+use Rattle.ktm_world.specs.Present.{Present}
+use Rattle.ktm_world.specs.World.{present, opened, own_group, decide_tick}
+use Rattle.ktm_states.specs.GoodState.{IsGoodState}
+use Rattle.ktm_records.specs.Kept.{IsKept}
+
+-- the keys of settings are texts
+abbrev pub HaveTextKeys : OwnSettings → Type 0
+HaveTextKeys settings = All (λ (s : Keyed (Option (List ℕ))). IsText s.key) settings
+
+-- the keys that transactions have set are texts
+pub record AreTexts (x : Present) : Type 0 where
+  pub own : All (λ (o : Own). HaveTextKeys o.settings) x.keys.own
+
+-- the keys that transactions set by their parts are texts
+abbrev pub AreRecordedTexts : Durable → Type 0
+AreRecordedTexts s = All (λ (t : Recorded). HaveTextKeys (settings_of t)) s.transactions
+
+-- the settings that an event records of a transaction
+abbrev pub settings_of_event : Event → OwnSettings
+settings_of_event (Ready transaction part) = settings_in part
+settings_of_event (Single transaction part) = settings_in part
+settings_of_event _ = []
+
+-- each event has bytes, and there are few enough for one group
+abbrev pub AreSpelled : List Event → Type 0
+AreSpelled events = All IsSpellableEvent events × (length events < 2 ^ 32)
+
+-- what a kept machine of at most 1,024 units records has bytes, where the keys that transactions have set are texts; these stay texts, and are so
+-- again after a restart, for each event that stands in bytes leaves those that wait in a log texts
+pub record SpellingLaw : Type 0 where
+  -- by a command
+  pub commands : (x : Present) (process : Pid) (command : Command) → IsKept x → AreTexts x → x.recorded.units ≤ MOST_UNITS → IsCommand command → AreSpelled (decide x process command).events
+  -- by the passing of time
+  pub ticks : (x : Present) (ms : ℕ) → IsKept x → AreTexts x → x.recorded.units ≤ MOST_UNITS → AreSpelled (decide_tick x ms).events
+  -- the keys stay texts by a command
+  pub stay : (x : Present) (process : Pid) (command : Command) → IsCommand command → AreTexts x → AreTexts (apply x (decide x process command))
+  -- and by the passing of time
+  pub stay_later : (x : Present) (ms : ℕ) → AreTexts x → AreTexts (apply x (decide_tick x ms))
+  -- and are texts after a restart
+  pub restarts : (base : Durable) (room : ℕ) (log : List Group) → AreRecordedTexts (stand base log) → AreTexts (present (opened base room log))
+  -- those that are recorded stay texts by each event that records texts
+  pub events : (s : Durable) (event : Event) → AreRecordedTexts s → HaveTextKeys (settings_of_event event) → AreRecordedTexts (after_event s event)
+  -- as each event does that stands in bytes
+  pub grammar : (event : Event) (bytes : List ℕ) → IsEventOf event bytes → HaveTextKeys (settings_of_event event)
+  -- and so they stay texts by each group that does
+  pub groups : (s : Durable) (group : Group) (bytes : List ℕ) → AreRecordedTexts s → IsGroupOf group bytes → AreRecordedTexts (after_events s group)
+  -- what a restart of a good state records by itself has bytes
+  pub own_groups : (s : Durable) → IsGoodState s → AreSpelled (own_group s)

@@ -1,0 +1,4 @@
+pub mod GoodState
+pub mod GoodStates
+pub mod Grammatical
+pub mod OwnGroup

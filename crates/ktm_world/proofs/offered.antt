@@ -1,0 +1,7 @@
+-- Lemmas that other crates cite.
+pub mod SizeLemmas
+pub mod Durables
+pub mod KeyLemmas
+pub mod Worlds
+pub mod Computing
+pub mod Lookups

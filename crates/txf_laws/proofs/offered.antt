@@ -1,0 +1,22 @@
+-- Lemmas that other crates cite.
+pub mod ChangeTests
+pub mod CommitsOfOthers
+pub mod CommittedUnits
+pub mod Diamonds
+pub mod Elements
+pub mod FirstOpening
+pub mod Formed
+pub mod Holds
+pub mod Lists
+pub mod NodeKinds
+pub mod NodeNumbers
+pub mod NormalForms
+pub mod OlderVersions
+pub mod Openings
+pub mod OwnChange
+pub mod Pigeons
+pub mod PlainChange
+pub mod Reservations
+pub mod Sums
+pub mod Tables
+pub mod Versions

@@ -1,0 +1,12 @@
+pub mod Contents
+pub mod Diamond
+pub mod Elements
+pub mod FinalChanges
+pub mod FirstOpening
+pub mod Footprint
+pub mod Formed
+pub mod Openings
+pub mod OwnChange
+pub mod PlainChange
+pub mod Reservations
+pub mod SoundFiles

@@ -1,0 +1,13 @@
+//! Laws of changes of a tree, and of what transactions own and hold of the files: each is the contract of a function that does nothing.
+#![tactic(auto)]
+
+mod changes;
+mod files;
+
+pub use changes::{
+    law_of_diamonds, law_of_final_changes, law_of_forms, law_of_lists, law_of_meetings,
+};
+pub use files::{
+    law_of_first_openings, law_of_openings, law_of_own_changes, law_of_plain_changes,
+    law_of_reservations,
+};
