@@ -19,12 +19,12 @@ use Rattle.ktm_world.specs.Present.{Present}
 use Rattle.ktm_built.specs.Standing.{IsStandingNow}
 use Rattle.ktm_built.proofs.offered.Decided.{full_log}
 use Rattle.ktm_built.proofs.offered.Machine.{apply-full}
-use Rattle.ktm_kernel.specs.declared.settlement.Settlement.{Settlement}
-use Rattle.ktm_kernel.specs.Decided.{Decides}
+use Rattle.ktm_memory.specs.declared.settlement.Settlement.{Settlement}
+use Rattle.ktm_memory.specs.Decided.{Decides}
 use Rattle.ktm_kernel.specs.Done.{Ends, IsDone, IsCutOff, LeavesWithOr, TouchesNothing}
 use Rattle.ktm_kernel.specs.Stands.{KernelState}
-use Rattle.ktm_kernel.specs.Memory.{Held, IsRoomy, MemoryState, appended, held, now_of, settled}
-use Rattle.ktm_kernel.proofs.Standing.{built}
+use Rattle.ktm_memory.specs.Memory.{Held, IsRoomy, MemoryState, appended, held, now_of, settled}
+use Rattle.ktm_memory.proofs.Standing.{built}
 
 -- ---- whether the log has room
 

@@ -1,14 +1,3 @@
-pub mod Standing
-pub mod Routes
-pub mod Takes
-pub mod Rooms
-pub mod FileRoutes
-pub mod Decides
-pub mod FilesDecided
-pub mod CommitGroups
-pub mod Closings
-pub mod Ticks
-pub mod Settles
 pub mod Possible
 pub mod Left
 pub mod Worlds

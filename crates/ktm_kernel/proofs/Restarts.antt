@@ -35,7 +35,7 @@ use Rattle.ktm_states.specs.GoodStates.{GoodStatesLaw}
 use Rattle.ktm_states.specs.Grammatical.{GrammarLaw, is_grammatical}
 use Rattle.ktm_laws.specs.Running.{IsRoomy, is_log_grammatical}
 use Rattle.ktm_laws.proofs.offered.LogCounts.{log-boots, log-events, own-frame, room-for}
-use Rattle.ktm_kernel.specs.Memory.{Held, MemoryState, held, now_of}
+use Rattle.ktm_memory.specs.Memory.{Held, MemoryState, held, now_of}
 use Rattle.ktm_object.specs.Table.{handles_of}
 use Rattle.ktm_world.specs.Tree.{Tree}
 use Rattle.txf_volume.specs.Held.{files_begun, files_of}

@@ -10,18 +10,16 @@ ghost use Rattle.ktm_types.specs.Values.{IsCommand};
 ghost use Rattle.ktm_world.specs.Decide.{decide};
 ghost use Rattle.ktm_world.specs.World.{World};
 ghost use Rattle.ktm_kernel.specs.Done.{Ends, TouchesNothing, fallen};
-ghost use Rattle.ktm_kernel.specs.Route.{IsBuiltAsked, decided};
+ghost use Rattle.ktm_memory.specs.Route.{IsBuiltAsked, decided};
 ghost use Rattle.ktm_kernel.specs.Stands.{KernelAt, DoesLine, IsPowered, IsReady};
-ghost use Rattle.ktm_kernel.specs.Takes.{asked_takes_memory, takes_memory};
+ghost use Rattle.ktm_memory.specs.Takes.{asked_takes_memory, takes_memory};
 
-use crate::decide::Asked;
-use crate::memory::Memory;
 use crate::record::record;
-use crate::settlement::Decision;
 use ktm_base::{Disk, NoMemory, Pid, Refusal};
 use ktm_built::{law_of_events, law_of_standing};
 use ktm_event::Events;
 use ktm_journal::{AppendFault, Journal};
+use ktm_memory::{Asked, Decision, Memory};
 use ktm_types::{Command, Reply};
 use std::alloc::Global;
 use std::marker::Model;
@@ -37,7 +35,7 @@ pub struct Kernel {
 }
 
 impl Model for Kernel {
-    ghost use Rattle.ktm_kernel.specs.Memory.{IsRoomy, held, now_of};
+    ghost use Rattle.ktm_memory.specs.Memory.{IsRoomy, held, now_of};
     ghost use Rattle.ktm_kernel.specs.Stands.{KernelState};
 
     ghost Value = { KernelState };
@@ -52,7 +50,7 @@ impl Kernel {
     pub fn is_up(&self) -> bool
         ensures { result ≡ self.now.now.machine.is_up }
     {
-        self.memory.is_up
+        self.memory.is_up()
     }
 
     /// The power is gone: the machine is down until it is started again from its disk.

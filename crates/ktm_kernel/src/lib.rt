@@ -1,18 +1,11 @@
-//! The machine: what it holds in memory, and its journal on a disk. A call is decided on what is in memory, its events
-//! are recorded as one group, and only then the memory is changed.
+//! The machine: its memory, and its journal on a disk. A call is decided on what is in memory, its events are recorded as
+//! one group, and only then the memory is changed.
 #![tactic(auto)]
 
-mod commit;
-mod decide;
-mod files;
 mod kernel;
 mod laws;
-mod memory;
 mod record;
 mod restart;
-mod route;
-mod settle;
-mod settlement;
 
 pub use kernel::Kernel;
 pub use laws::{law_of_power, law_of_what_is_found, law_of_what_is_left};

@@ -7,7 +7,7 @@ ghost use Rattle.ktm_log.specs.Fault.{append_went_down};
 ghost use Rattle.ktm_world.specs.Logs.{Group, as_groups};
 ghost use Rattle.ktm_world.specs.Outcome.{is_full};
 ghost use Rattle.ktm_kernel.specs.Done.{LeavesWithOr};
-ghost use Rattle.ktm_kernel.specs.Memory.{appended};
+ghost use Rattle.ktm_memory.specs.Memory.{appended};
 
 use ktm_base::Disk;
 use ktm_event::Events;

@@ -1,7 +1,7 @@
 use Rattle.std.proofs.Common.{◌+◌, refl, ap, subst, sym, ◌∙◌}
 use Rattle.ktm_world.specs.Tree.{IsWellFormed}
 use Rattle.txf_laws.proofs.offered.CommittedUnits.{tree_units}
-use Rattle.ktm_kernel.specs.Memory.{held}
+use Rattle.ktm_memory.specs.Memory.{held}
 use Rattle.ktm_kernel.proofs.Restarts.{held_fresh, fresh_now}
 use Rattle.ktm_kernel.proofs.restart.started.Goals as goal
 

@@ -4,12 +4,12 @@ use Rattle.ktm_base.specs.declared.refusal.Refusal.TheVariants.{LogFull, Machine
 use Rattle.ktm_types.specs.declared.reply.Reply.TheVariants.{Refused}
 use Rattle.ktm_built.specs.Standing.{IsStandingNow}
 use Rattle.ktm_kernel.specs.Done.{TouchesNothing}
-use Rattle.ktm_kernel.specs.Memory.{held, now_of}
-use Rattle.ktm_kernel.specs.Route.{decided}
-use Rattle.ktm_kernel.proofs.Takes.{gave_up}
+use Rattle.ktm_memory.specs.Memory.{held, now_of}
+use Rattle.ktm_memory.specs.Route.{decided}
+use Rattle.ktm_memory.proofs.Takes.{gave_up}
 use Rattle.ktm_kernel.proofs.Ends.{as_shown, done, cut, done_touches, kept, stopped}
 use Rattle.ktm_kernel.specs.Stands.{KernelState}
-use Rattle.ktm_kernel.specs.Takes.{asked_takes_memory}
+use Rattle.ktm_memory.specs.Takes.{asked_takes_memory}
 use Rattle.ktm_kernel.proofs.kernel.Kernel.answer.Goals as goal
 
 pub returns-in_default-clause-ends : goal.returns-in_default-clause-ends

@@ -1,4 +1,4 @@
-use Rattle.ktm_kernel.specs.Memory.{held, now_of}
+use Rattle.ktm_memory.specs.Memory.{held, now_of}
 use Rattle.ktm_kernel.proofs.Worlds.{crash_line}
 use Rattle.ktm_kernel.proofs.kernel.Kernel.crash.Goals as goal
 

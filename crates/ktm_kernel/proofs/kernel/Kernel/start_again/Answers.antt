@@ -1,7 +1,7 @@
 use Rattle.std.proofs.Common.{◌≡◌, ℕ, Err, Some, refl, ap, subst, sym, ◌∙◌}
 use Rattle.ktm_types.specs.declared.command.Line.TheVariants.{Restart}
 use Rattle.ktm_types.specs.declared.reply.Reply.TheVariants.{Restarted}
-use Rattle.ktm_kernel.specs.Memory.{MemoryState, held, now_of}
+use Rattle.ktm_memory.specs.Memory.{MemoryState, held, now_of}
 use Rattle.ktm_kernel.specs.Stands.{KernelState, DoesLine, FoundAt}
 use Rattle.ktm_kernel.specs.declared.restart.RestartFault.TheVariants.{Down, Full}
 use Rattle.ktm_world.specs.World.{World}

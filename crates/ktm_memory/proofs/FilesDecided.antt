@@ -1,0 +1,264 @@
+-- Decisions of the calls on files.
+use Rattle.std.proofs.Common.{◌≡◌, ◌≢◌, ℕ, ◌+◌, ◌-◌, ◌≤◌, ◌&&◌, Bool, true, false, List, [], ◌∷◌, length, Option, Some, None, is_none, is_some, refl, sym, ◌∙◌, ap, subst, arith}
+use Rattle.std.proofs.lemmas.Bool.{and_parts}
+use Rattle.std.specs.Option.{option_map}
+use Rattle.ktm_base.specs.declared.limits.TheConstants.{MOST_HANDLES}
+use Rattle.ktm_base.specs.declared.id.Id.{Id}
+use Rattle.ktm_base.specs.declared.id.Label.{Label}
+use Rattle.ktm_base.specs.declared.id.Pid.{Pid}
+use Rattle.ktm_base.specs.declared.refusal.Refusal.{Refusal}
+use Rattle.ktm_event.specs.Kept.{EventsState, Holds}
+use Rattle.ktm_journal.specs.Image.{JournalState}
+use Rattle.ktm_types.specs.declared.change.Change.{Change}
+use Rattle.ktm_types.specs.declared.event.Event.{Event}
+use Rattle.ktm_types.specs.declared.reply.Reply.{Reply}
+use Rattle.ktm_types.specs.declared.options.Access.{Access}
+use Rattle.ktm_types.specs.declared.options.Disposition.{Disposition}
+use Rattle.ktm_types.specs.declared.options.ShareMode.{ShareMode}
+use Rattle.ktm_types.specs.declared.reply.Reply.TheVariants.{Done, Refused}
+use Rattle.ktm_world.specs.Decide.{events_of, opening}
+use Rattle.ktm_world.specs.FileOutcome.{FileOutcome, FileRoom, files_after}
+use Rattle.ktm_world.specs.Files.{FilesNow, OpenFile, tree_seen}
+use Rattle.ktm_world.specs.FileCalls.{Whereabouts, no_path, no_way, free, at_root, at_node, create_at, create_directory, create_file, delete_file, drop_at, find_files, find_path, get_size, make_at, move_at, move_file, read_file, remove_directory, set_end, write_file}
+use Rattle.ktm_world.specs.Outcome.{apply, first_refusal, is_full, only_reply}
+use Rattle.ktm_world.specs.Keys.{changes_pending as keys_unset}
+use Rattle.ktm_world.specs.Present.{Present}
+use Rattle.ktm_world.specs.Uses.{file_room}
+use Rattle.ktm_built.specs.Files.{MayMake, MayMakePlain}
+use Rattle.ktm_built.specs.Forms.{with_files, with_group}
+use Rattle.ktm_built.specs.Standing.{IsBuiltNow}
+use Rattle.ktm_built.proofs.offered.Forms.{forms_law}
+use Rattle.ktm_memory.specs.declared.settlement.Settlement.{Settlement}
+use Rattle.ktm_memory.specs.declared.settlement.Settlement.TheVariants.{Plain}
+use Rattle.ktm_memory.specs.Decided.{CanAnswer, Decides, bind_opened}
+use Rattle.ktm_memory.specs.Memory.{CanMakePlain, Held, MayBind, MemoryState, MaySettle, appended, handles_then, held, now_of, settled}
+use Rattle.ktm_memory.specs.Route.{IsFreeLabel, IsReadyCall, files_outcome}
+use Rattle.ktm_memory.specs.Takes.{is_quiet}
+use Rattle.ktm_memory.proofs.Decides.{nothing_appended}
+use Rattle.txf_calls.specs.Calls.{file_effect, file_outcome, file_tests, unless_refused}
+use Rattle.txf_calls.specs.Views.{open_of}
+use Rattle.txf_calls.specs.declared.call.FileCall.{FileCall}
+use Rattle.txf_calls.specs.declared.call.FileCall.TheVariants.{Create, Read, Write, SetEnd, Size, Flush, Delete, MakeDirectory, RemoveDirectory, Move, Find}
+use Rattle.txf_calls.specs.declared.call.OpenFile.{OpenFile as Kept}
+use Rattle.txf_volume.specs.Plain.{IsReady}
+
+-- ---- the room that the files have
+
+pub file_room_is : (j : JournalState) (h : Held) (handles changes units unset : ℕ) → handles ≡ MOST_HANDLES - length h.handles → unset ≡ keys_unset h.keys → units ≡ j.units → changes ≡ j.units - unset
+    → record { handles = handles; changes = changes; units = units } ≡ file_room (now_of j h)
+unfolding file_room
+file_room_is j h handles changes units unset handles_are unset_are units_are changes_are = rw (handles_are, changes_are, unset_are, units_are) refl
+
+-- ---- what an outcome of files answers and records
+
+reply_of : (x : Present) (process : Pid) (who : Option Id) (label : Option Label) (o : FileOutcome) → (files_outcome x process who label o).reply ≡ o.reply
+reply_of x process who None o = refl
+reply_of x process who (Some l) o = go o.opened
+  where
+    go : (opened : Option OpenFile) → (opening x process l who (record o { opened = opened })).reply ≡ o.reply
+    go None = refl
+    go (Some file) = refl
+
+pub events_in : (x : Present) (process : Pid) (who : Option Id) (label : Option Label) (o : FileOutcome) → (files_outcome x process who label o).events ≡ events_of who o.change
+events_in x process who None o = refl
+events_in x process who (Some l) o = go o.opened
+  where
+    go : (opened : Option OpenFile) → (opening x process l who (record o { opened = opened })).events ≡ events_of who o.change
+    go None = refl
+    go (Some file) = refl
+
+-- what it leaves
+left_by : (x : Present) (process : Pid) (who : Option Id) (label : Option Label) (o : FileOutcome) → IsBuiltNow x
+    → apply x (files_outcome x process who label o) ≡ record (with_files x who o) { handles = handles_then x.handles process label o.opened }
+left_by x process who None o built = forms_law.files x who o built
+left_by x process who (Some l) o built = forms_law.opens x process l who o built
+
+-- ---- labels for what is opened
+
+-- there is room for the label of a file that is opened, and the label is free
+pub may_bind : (j : JournalState) (m : MemoryState) (process : Pid) (label : Option Label) (opened : Option Kept) → (is_some opened ≡ true → 1 ≤ m.handles.spare) → IsFreeLabel (now_of j (held m)) process label
+    → MaySettle m (bind_opened process label opened)
+may_bind j m process None opened room unbound = tt
+may_bind j m process (Some l) None room unbound = tt
+may_bind j m process (Some l) (Some file) room unbound = (room refl, unbound)
+
+may_bind_plain : (j : JournalState) (m : MemoryState) (process : Pid) (label : Option Label) (opened : Option Kept) → (is_some opened ≡ true → 1 ≤ m.handles.spare) → IsFreeLabel (now_of j (held m)) process label
+    → MayBind m process label (option_map open_of opened)
+may_bind_plain j m process None opened room unbound = tt
+may_bind_plain j m process (Some l) None room unbound = tt
+may_bind_plain j m process (Some l) (Some file) room unbound = (room refl, unbound)
+
+-- ---- a plain call
+
+-- the call can be made, whatever it answers
+pub may_settle : (j : JournalState) (h : Held) (n : MemoryState) (process : Pid) (label : Option Label) (o : FileOutcome) (opened : Option Kept) (copy : Option (List ℕ)) → held n ≡ h → MayMakePlain (now_of j h) o
+    → IsReady n.files o copy → option_map open_of opened ≡ o.opened → (is_some opened ≡ true → 1 ≤ n.handles.spare) → IsFreeLabel (now_of j h) process label → MaySettle n (Plain process label (record o { reply = Done }) copy)
+may_settle j h n process label o opened copy same may ready is room unbound = (
+  subst (λ (files : FilesNow). CanMakePlain files (record o { reply = Done })) (ap (λ g. g.files) (sym same)) (record { plain = record { change = may.plain.change; opened = may.plain.opened }; left = may.left; counted = may.counted }),
+  record { change = ready.change; opened = ready.opened; copy_is = ready.copy_is },
+  subst (λ (file : Option OpenFile). MayBind n process label file) is (may_bind_plain j n process label opened room (subst (λ (g : Held). IsFreeLabel (now_of j g) process label) (sym same) unbound)),
+)
+
+pub plain_decided : (j : JournalState) (h : Held) (n : MemoryState) (process : Pid) (label : Option Label) (o : FileOutcome) (reply : Reply) (plan : FileOutcome) (copy : Option (List ℕ)) (events : EventsState) → IsBuiltNow (now_of j h)
+    → reply ≡ o.reply → plan ≡ record o { reply = Done } → held n ≡ h → MaySettle n (Plain process label (record o { reply = Done }) copy) → Holds events (events_of None o.change)
+    → is_full (j.log.area.len - j.log.end) (events_of None o.change) ≡ false → CanAnswer None o → Decides j h (files_outcome (now_of j h) process None label o) reply (Plain process label plan copy) events n
+plain_decided j h n process label o reply plan copy events built says is same may holds room answers = record {
+  says = says ∙ sym (reply_of x process None label o);
+  records = subst (λ (es : List Event). Holds events es) (sym are) holds;
+  room = subst (λ (es : List Event). is_full (j.log.area.len - j.log.end) es ≡ false) (sym are) room;
+  comes_to =
+      ap (λ (p : FileOutcome). settled (now_of (appended j (files_outcome x process None label o).events) (held n)) (Plain process label p copy)) is
+      ∙ ap (λ (es : List Event). settled (now_of (appended j es) (held n)) then) are
+      ∙ ap (λ g. settled (now_of (appended j (events_of None o.change)) g) then) same
+      ∙ ap (λ (left : ℕ). record (settled (now_of (appended j (events_of None o.change)) h) then) { machine = record { is_up = h.is_up; left = left } }) (omega arith)
+      ∙ sym (left_by x process None label o built);
+  may = subst (λ (p : FileOutcome). MaySettle n (Plain process label p copy)) (sym is) may;
+  waits = λ some. same;
+  answers = λ some refusal e. answers (λ none. some (are ∙ none)) refusal (sym says ∙ e);
+}
+  where
+    x : Present
+    x = now_of j h
+
+    then : Settlement
+    then = Plain process label (record o { reply = Done }) copy
+
+    are : (files_outcome x process None label o).events ≡ events_of None o.change
+    are = events_in x process None label o
+
+-- ---- a call in a transaction
+
+-- the label is bound to the file that was opened
+bound : (x : Present) (process : Pid) (label : Option Label) (opened : Option Kept) → settled x (bind_opened process label opened) ≡ record x { handles = handles_then x.handles process label (option_map open_of opened) }
+bound x process None opened = refl
+bound x process (Some l) None = refl
+bound x process (Some l) (Some file) = refl
+
+-- no events change nothing of the machine
+grouped : (x : Present) → with_group x [] ≡ x
+grouped x = ap (λ (left : ℕ). record x { machine = record x.machine { left = left }; recorded = record x.recorded { events = x.recorded.events + 0 } }) (omega arith) ∙ ap (λ (n : ℕ). record x { recorded = record x.recorded { events = n } }) (omega arith)
+
+pub own_decided : (j : JournalState) (h : Held) (n : MemoryState) (process : Pid) (id : Id) (label : Option Label) (o : FileOutcome) (opened : Option Kept) (events : EventsState) → IsBuiltNow (now_of j h)
+    → held n ≡ record h { files = files_after h.files (Some id) o } → option_map open_of opened ≡ o.opened → MaySettle n (bind_opened process label opened) → Holds events []
+    → Decides j h (files_outcome (now_of j h) process (Some id) label o) o.reply (bind_opened process label opened) events n
+own_decided j h n process id label o opened events built same opens may holds = record {
+  says = sym (reply_of x process (Some id) label o);
+  records = subst (λ (es : List Event). Holds events es) (sym are) holds;
+  room = ap (is_full (j.log.area.len - j.log.end)) are;
+  comes_to =
+      ap (λ (es : List Event). settled (now_of (appended j es) (held n)) (bind_opened process label opened)) are
+      ∙ ap (λ y. settled y (bind_opened process label opened)) (nothing_appended j (held n) ∙ ap (now_of j) same)
+      ∙ bound (record x { files = files_after h.files (Some id) o }) process label opened
+      ∙ ap (λ (file : Option OpenFile). record x { files = files_after h.files (Some id) o; handles = handles_then x.handles process label file }) opens
+      ∙ sym (ap (λ (y : Present). record y { handles = handles_then x.handles process label o.opened }) (grouped (record x { files = files_after h.files (Some id) o })))
+      ∙ sym (left_by x process (Some id) label o built);
+  may = may;
+  waits = λ some. absurd (some are);
+  answers = λ some. absurd (some are);
+}
+  where
+    x : Present
+    x = now_of j h
+
+    are : (files_outcome x process (Some id) label o).events ≡ []
+    are = events_in x process (Some id) label o
+
+-- ---- a call that only answers
+
+only_answers : (x : Present) (process : Pid) (who : Option Id) (label : Option Label) (reply : Reply) → files_outcome x process who label (record { reply = reply; change = None; first = None; opened = None }) ≡ only_reply x reply
+only_answers x process None None reply = refl
+only_answers x process (Some id) None reply = refl
+only_answers x process None (Some l) reply = refl
+only_answers x process (Some id) (Some l) reply = refl
+
+none_from : {T : Type 0} (o : Option T) → is_none o ≡ true → o ≡ None
+none_from None is = refl
+none_from (Some t) is = absurd (cc)
+
+pub quiet_outcome : (x : Present) (process : Pid) (who : Option Id) (label : Option Label) (o : FileOutcome) → is_quiet o ≡ true → files_outcome x process who label o ≡ only_reply x o.reply
+quiet_outcome x process who label o quiet =
+    let all = and_parts (is_none o.change && is_none o.first) (is_none o.opened) quiet in
+    let both = and_parts (is_none o.change) (is_none o.first) all.0 in
+    ap (λ (c : Option Change). files_outcome x process who label (record o { change = c })) (none_from o.change both.0)
+    ∙ ap (λ (f : Option ℕ). files_outcome x process who label (record o { change = None; first = f })) (none_from o.first both.1)
+    ∙ ap (λ (p : Option OpenFile). files_outcome x process who label (record o { change = None; first = None; opened = p })) (none_from o.opened all.1)
+    ∙ only_answers x process who label o.reply
+
+-- ---- what a call comes to can be made
+
+created : (files : FilesNow) (who : Option Id) (there : Whereabouts) (access : Access) (share : ShareMode) (d : Disposition) (refusal : Refusal) → (create_at files who there access share d).reply ≢ Refused refusal
+created files who no_path access share d refusal e = absurd (cc)
+created files who no_way access share d refusal e = absurd (cc)
+created files who (free directory name) access share d refusal e = absurd (cc)
+created files who at_root access share d refusal e = absurd (cc)
+created files who (at_node node) access share d refusal e = absurd (cc)
+
+dropped : (there : Whereabouts) (refusal : Refusal) → (drop_at there).reply ≢ Refused refusal
+dropped no_path refusal e = absurd (cc)
+dropped no_way refusal e = absurd (cc)
+dropped (free directory name) refusal e = absurd (cc)
+dropped at_root refusal e = absurd (cc)
+dropped (at_node node) refusal e = absurd (cc)
+
+made : (files : FilesNow) (there : Whereabouts) (refusal : Refusal) → (make_at files there).reply ≢ Refused refusal
+made files no_path refusal e = absurd (cc)
+made files no_way refusal e = absurd (cc)
+made files (free directory name) refusal e = absurd (cc)
+made files at_root refusal e = absurd (cc)
+made files (at_node node) refusal e = absurd (cc)
+
+moved : (from to : Whereabouts) (refusal : Refusal) → (move_at from to).reply ≢ Refused refusal
+moved no_path to refusal e = absurd (cc)
+moved no_way to refusal e = absurd (cc)
+moved (free directory name) to refusal e = absurd (cc)
+moved at_root to refusal e = absurd (cc)
+moved (at_node node) no_path refusal e = absurd (cc)
+moved (at_node node) no_way refusal e = absurd (cc)
+moved (at_node node) (free directory name) refusal e = absurd (cc)
+moved (at_node node) at_root refusal e = absurd (cc)
+moved (at_node node) (at_node other) refusal e = absurd (cc)
+
+-- what a call does where it is not refused is no refusal
+effect_answers : (files : FilesNow) (who : Option Id) (call : FileCall) (refusal : Refusal) → (file_effect files who call).reply ≢ Refused refusal
+unfolding create_file read_file write_file set_end get_size delete_file create_directory remove_directory move_file find_files
+effect_answers files who (Create path access share d) refusal e = created files who (find_path (tree_seen files who) path) access share d refusal e
+effect_answers files who (Read file offset many) refusal e = absurd (cc)
+effect_answers files who (Write file offset []) refusal e = absurd (cc)
+effect_answers files who (Write file offset (b ∷ bs)) refusal e = absurd (cc)
+effect_answers files who (SetEnd file size) refusal e = absurd (cc)
+effect_answers files who (Size file) refusal e = absurd (cc)
+effect_answers files who (Flush file) refusal e = absurd (cc)
+effect_answers files who (Delete path) refusal e = dropped (find_path (tree_seen files who) path) refusal e
+effect_answers files who (MakeDirectory path) refusal e = made files (find_path (tree_seen files who) path) refusal e
+effect_answers files who (RemoveDirectory path) refusal e = dropped (find_path (tree_seen files who) path) refusal e
+effect_answers files who (Move source target) refusal e = moved (find_path (tree_seen files who) source) (find_path (tree_seen files who) target) refusal e
+effect_answers files who (Find searched) refusal e = absurd (cc)
+
+-- a call comes to this, by what is so now
+pub planned : (j : JournalState) (h : Held) (files : FilesNow) (room : FileRoom) (who : Option Id) (call : FileCall) (plan : FileOutcome) → plan ≡ file_outcome files room who call → room ≡ file_room (now_of j h) → files ≡ h.files
+    → plan ≡ file_outcome h.files (file_room (now_of j h)) who call
+planned j h files room who call plan is room_is files_are = is ∙ ap (λ r. file_outcome files r who call) room_is ∙ ap (λ f. file_outcome f (file_room (now_of j h)) who call) files_are
+
+-- a call that changes something was not refused
+goes_through : (files : FilesNow) (room : FileRoom) (who : Option Id) (call : FileCall) (o : FileOutcome) → o ≡ file_outcome files room who call → is_quiet o ≡ false
+    → (first_refusal (file_tests files room who call) ≡ None) × (o ≡ file_effect files who call)
+goes_through files room who call o is changes = go (first_refusal (file_tests files room who call)) refl
+  where
+    go : (r : Option Refusal) → first_refusal (file_tests files room who call) ≡ r → (first_refusal (file_tests files room who call) ≡ None) × (o ≡ file_effect files who call)
+    go None passed = (passed, is ∙ ap (λ r. unless_refused r (file_effect files who call)) passed)
+    go (Some refusal) refused = let quiet = ap is_quiet (is ∙ ap (λ r. unless_refused r (file_effect files who call)) refused) in absurd (cc)
+
+-- so it can be made, and is no refusal
+pub may_make : (x : Present) (process : Pid) (who : Option Id) (label : Option Label) (call : FileCall) (o : FileOutcome) → IsReadyCall x process who label call → o ≡ file_outcome x.files (file_room x) who call → is_quiet o ≡ false
+    → MayMake x who o × CanAnswer who o
+may_make x process who label call o ready is changes =
+    let (passed, comes) = goes_through x.files (file_room x) who call o is changes in
+    (subst (MayMake x who) (sym comes) (ready.may passed), λ some refusal e. effect_answers x.files who call refusal (ap (λ (p : FileOutcome). p.reply) (sym comes) ∙ e))
+
+-- what is to be opened is what is planned to be
+pub opens_some : (opened : Option Kept) (o : Option OpenFile) → option_map open_of opened ≡ o → is_some opened ≡ true → is_some o ≡ true
+opens_some opened o is some = ap is_some (sym is) ∙ mapped opened ∙ some
+  where
+    mapped : (opened : Option Kept) → is_some (option_map open_of opened) ≡ is_some opened
+    mapped None = refl
+    mapped (Some file) = refl

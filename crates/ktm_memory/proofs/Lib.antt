@@ -1,0 +1,11 @@
+pub mod Standing
+pub mod Routes
+pub mod Takes
+pub mod Rooms
+pub mod FileRoutes
+pub mod Decides
+pub mod FilesDecided
+pub mod CommitGroups
+pub mod Closings
+pub mod Ticks
+pub mod Settles

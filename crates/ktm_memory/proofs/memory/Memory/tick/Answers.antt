@@ -1,0 +1,71 @@
+use Rattle.std.proofs.Common.{◌≡◌, ◌+◌, ◌≤◌, suc, List, filter, length, ap, sym, ◌∙◌, subst, arith}
+use Rattle.std.proofs.lemmas.List.Sums.{length-filter}
+use Rattle.std.proofs.lemmas.Option.{slice_get_within}
+use Rattle.std.specs.List.{slice_get}
+use Rattle.ktm_base.specs.declared.limits.TheConstants.{MOST_LIVE}
+use Rattle.ktm_built.proofs.offered.Distinct.{Rise, rise-ended}
+use Rattle.ktm_built.specs.Forms.{with_tick}
+use Rattle.ktm_types.specs.declared.object.Transaction.{Transaction}
+use Rattle.ktm_types.specs.declared.object.TransactionOutcome.{TransactionOutcome}
+use Rattle.ktm_world.specs.Transactions.{is_live}
+use Rattle.ktm_world.specs.TransactionCalls.{is_due}
+use Rattle.ktm_memory.specs.Memory.{held, now_of}
+use Rattle.ktm_memory.proofs.Settles.{items_then}
+use Rattle.ktm_memory.proofs.Ticks.{live_at, ticked_all, ticked_due, ticked_from, ticked_none, ticked_over}
+use Rattle.ktm_memory.proofs.memory.Memory.tick.Goals as goal
+
+pub loop-t-init : goal.loop-t-init
+loop-t-init c =
+    let items : c.advance.new.self.now.items ≡ c.args.self.now.tm.now.items = ap (λ now. now.items) c.advance.ensures.now ∙ ap (λ m. m.tm.now.items) c.self.view_is in
+    record {
+      rise = subst Rise (sym items) c.requires.0;
+      few = subst (λ (ts : List Transaction). length (filter is_live ts) ≤ MOST_LIVE) (sym items) (omega (arith, length-filter is_live c.args.self.now.tm.now.items, c.requires.1));
+      ticked = λ j.
+          rw (c.advance.ensures.boot, c.advance.ensures.now)
+          (ticked_all (now_of j (held (record { is_up = c.self.inside.is_up; handles = c.self.inside.handles; tm = c.self.inside.tm; files = c.self.inside.files; next_node = c.self.inside.next_node; keys = c.self.inside.keys }))) c.args.ms (subst (λ m. Rise m.tm.now.items) (sym c.self.view_is) c.requires.0)
+          ∙ ap (λ m. with_tick (now_of j (held m)) c.args.ms) c.self.view_is);
+    }
+
+pub loop-t-preserved : goal.loop-t-preserved
+loop-t-preserved c =
+    let at = live_at c.loop-t.self.tm.now.items c.loop-t.place c.in-Some.t c.loop-t.invariant.rise (ap (λ m. slice_get (filter is_live m.tm.now.items) c.loop-t.place) (sym c.self-in-loop-t.view_is) ∙ sym c.live_at.ensures ∙ c.in-Some.is) in
+    let later = ap (λ m. is_due m.tm.now.clock c.in-Some.t) (sym c.self-in-loop-t.view_is) ∙ sym c.is_due.ensures ∙ c.if-is_due.false in
+    record {
+      rise = c.loop-t.invariant.rise;
+      few = c.loop-t.invariant.few;
+      ticked = λ j.
+          let next : c.loop-t.place + 1 ≡ suc c.loop-t.place = omega arith in
+          ap (ticked_from (now_of j (held c.loop-t.self))) next ∙ ticked_over (now_of j (held c.loop-t.self)) c.loop-t.place c.in-Some.t at later ∙ c.loop-t.invariant.ticked j;
+    }
+
+pub loop-t-smaller : goal.loop-t-smaller
+loop-t-smaller c =
+    omega (arith, slice_get_within (filter is_live c.loop-t.self.tm.now.items) c.loop-t.place c.in-Some.t (ap (λ m. slice_get (filter is_live m.tm.now.items) c.loop-t.place) (sym c.self-in-loop-t.view_is) ∙ sym c.live_at.ensures ∙ c.in-Some.is))
+
+pub roll_back-requires : goal.roll_back-requires
+roll_back-requires c = (live_at c.loop-t.self.tm.now.items c.loop-t.place c.in-Some.t c.loop-t.invariant.rise (ap (λ m. slice_get (filter is_live m.tm.now.items) c.loop-t.place) (sym c.self-in-loop-t.view_is) ∙ sym c.live_at.ensures ∙ c.in-Some.is)).found
+
+pub loop-t-preserved-then-is_due : goal.loop-t-preserved-then-is_due
+loop-t-preserved-then-is_due c =
+    let at = live_at c.loop-t.self.tm.now.items c.loop-t.place c.in-Some.t c.loop-t.invariant.rise (ap (λ m. slice_get (filter is_live m.tm.now.items) c.loop-t.place) (sym c.self-in-loop-t.view_is) ∙ sym c.live_at.ensures ∙ c.in-Some.is) in
+    let due = ap (λ m. is_due m.tm.now.clock c.in-Some.t) (sym c.self-in-loop-t.view_is) ∙ sym c.is_due.ensures ∙ c.if-is_due.true in
+    let items = items_then c.loop-t.self c.roll_back.new.self c.in-Some.t c.roll_back.ensures.now in
+    record {
+      rise = subst Rise (sym items) (rise-ended TransactionOutcome.Aborted c.loop-t.self.tm.now.items c.in-Some.t.id c.loop-t.invariant.rise);
+      few = subst (λ (ts : List Transaction). length (filter is_live ts) ≤ MOST_LIVE) (sym items) (omega (arith, at.fewer, c.loop-t.invariant.few));
+      ticked = λ j.
+          ap (λ x. ticked_from x c.loop-t.place) (c.roll_back.ensures.now j) ∙ ticked_due (now_of j (held c.loop-t.self)) c.loop-t.place c.in-Some.t at due ∙ c.loop-t.invariant.ticked j;
+    }
+
+pub loop-t-smaller-then-is_due : goal.loop-t-smaller-then-is_due
+loop-t-smaller-then-is_due c =
+    let get = (ap (λ m. slice_get (filter is_live m.tm.now.items) c.loop-t.place) (sym c.self-in-loop-t.view_is) ∙ sym c.live_at.ensures ∙ c.in-Some.is) in
+    let at = live_at c.loop-t.self.tm.now.items c.loop-t.place c.in-Some.t c.loop-t.invariant.rise get in
+    let items = items_then c.loop-t.self c.roll_back.new.self c.in-Some.t c.roll_back.ensures.now in
+    omega (arith, at.fewer, ap (λ (ts : List Transaction). length (filter is_live ts)) items, slice_get_within (filter is_live c.loop-t.self.tm.now.items) c.loop-t.place c.in-Some.t get)
+
+pub returns : goal.returns
+returns c = λ j.
+    sym (ticked_none (now_of j (held c.loop-t.self)) c.loop-t.place
+    (ap (λ m. slice_get (filter is_live m.tm.now.items) c.loop-t.place) (sym c.self-in-loop-t.view_is) ∙ sym c.live_at.ensures ∙ c.in_default.is))
+    ∙ c.loop-t.invariant.ticked j

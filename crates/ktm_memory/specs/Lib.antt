@@ -1,0 +1,4 @@
+pub mod Memory
+pub mod Takes
+pub mod Route
+pub mod Decided

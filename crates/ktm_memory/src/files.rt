@@ -1,0 +1,183 @@
+// Deciding the calls on files, and the room that files and keys have.
+ghost use Rattle.std.specs.Prelude.{◌≡◌, ◌-◌, ◌≤◌, true, false, None, Some, [], IfOk, IsOk, OnErr, OnOk, is_some};
+ghost use Rattle.ktm_built.specs.Files.{MayMake};
+ghost use Rattle.ktm_built.specs.Standing.{IsBuiltNow, IsStandingNow};
+ghost use Rattle.ktm_event.specs.Kept.{EventsState, Holds};
+ghost use Rattle.ktm_memory.specs.Decided.{CanAnswer, Decides, DecidesIf, bind_opened};
+ghost use Rattle.ktm_memory.specs.Memory.{IsRoomy, held, now_of};
+ghost use Rattle.ktm_memory.specs.Route.{IsFreeLabel, IsReadyCall, files_outcome, outcome_of};
+ghost use Rattle.ktm_memory.specs.declared.route.Routed.TheVariants.{Files as OfFiles};
+ghost use Rattle.ktm_memory.specs.Takes.{files_take_memory, is_quiet};
+ghost use Rattle.ktm_world.specs.Decide.{events_of};
+ghost use Rattle.ktm_world.specs.Outcome.{is_full};
+ghost use Rattle.ktm_world.specs.Uses.{file_room, key_room};
+ghost use Rattle.txf_volume.specs.Plain.{IsReady};
+ghost use Rattle.txf_volume.specs.Transacted.{HasRoom};
+
+use crate::commit::record_plan;
+use crate::memory::Memory;
+use crate::settlement::{Decision, Settlement};
+use ktm_base::{Id, Label, NoMemory, Pid};
+use ktm_built::law_of_files;
+use ktm_event::Events;
+use ktm_journal::Journal;
+use ktm_types::{Object, Reply};
+use kv_rm::Room as KeyRoom;
+use std::alloc::Global;
+use std::mem::replace;
+use txf_calls::{FileCall, OpenFile, Plan, Room, decide};
+
+// What is left to do where a file was opened: its label is bound to it.
+fn binding(process: Pid, label: Option<Label>, opened: Option<OpenFile>) -> Settlement
+    ensures { result ≡ bind_opened process label opened }
+{
+    match (label, opened) {
+        (Some(label), Some(file)) => Settlement::Bind {
+            process,
+            label,
+            object: Object::File(file.number),
+        },
+        _ => Settlement::Nothing,
+    }
+}
+
+// Does a call only answer.
+fn changes_nothing(plan: &Plan) -> bool
+    ensures { result ≡ is_quiet plan.now }
+{
+    plan.change.is_none() && plan.first.is_none() && plan.opened.is_none()
+}
+
+impl Memory {
+    /// The room that the keys have.
+    pub(crate) fn key_room(&self, journal: &Journal) -> KeyRoom
+        ensures { result ≡ key_room (now_of journal.now (held self.now)) }
+    {
+        let waiting = self.files.changes_waiting();
+        KeyRoom {
+            keys: journal.units(),
+            changes: (journal.units() as u64).saturating_sub(waiting) as u32,
+        }
+    }
+
+    // The room that the files have.
+    fn file_room(&self, journal: &Journal) -> Room
+        ensures { result ≡ file_room (now_of journal.now (held self.now)) }
+    {
+        Room {
+            handles: self.handles.left(),
+            changes: journal.units().saturating_sub(self.keys.unset_count()),
+            units: journal.units(),
+        }
+    }
+
+    // Makes room for the handle of a file that is opened, if one is.
+    fn reserve_for(&mut self, opened: Option<OpenFile>) -> Result<(), NoMemory>
+        ensures same { held self.new ≡ held self.old }
+        ensures files { self.new.files ≡ self.old.files }
+        ensures room { OnOk result (is_some opened ≡ true → 1 ≤ self.new.handles.spare) }
+        ensures enough { (is_some opened ≡ true → 1 ≤ self.old.handles.spare) → IsOk result }
+    {
+        if opened.is_none() {
+            return Ok(());
+        }
+        self.handles.reserve(1)
+    }
+
+    // A plain call has come to this plan: its change is recorded, where the log has room for it, and then it is to be made.
+    fn decide_plain(
+        &mut self,
+        journal: &Journal,
+        process: Pid,
+        label: Option<Label>,
+        plan: Plan,
+        events: &mut Events,
+    ) -> Result<Option<Decision>, NoMemory>
+        requires built { IsBuiltNow (now_of journal.now (held self.old)) }
+        requires free { IsFreeLabel (now_of journal.now (held self.old)) process label }
+        requires may { MayMake (now_of journal.now (held self.old)) None plan }
+        requires answers { CanAnswer None plan }
+        requires empty { Holds events.old [] }
+        requires roomy { IsRoomy journal.now events.old }
+        ensures ok { IfOk result (λ d. DecidesIf journal.now (held self.old) (files_outcome (now_of journal.now (held self.old)) process None label plan) d events.new self.new) }
+        ensures room { events.new.room ≡ events.old.room }
+        ensures no_memory { OnErr result (held self.new ≡ held self.old) }
+        ensures full { is_full (journal.now.log.area.len - journal.now.log.end) (events_of None plan.change) ≡ true → IsOk result }
+        ensures enough { IsReady self.old.files plan None → (is_some plan.opened ≡ true → 1 ≤ self.old.handles.spare) → IsOk result }
+    {
+        let Some(mut plan) = record_plan(journal, events, plan) else {
+            return Ok(None);
+        };
+        self.reserve_for(plan.opened)?;
+        let ready = self.files.prepare(&plan)?;
+        let reply = replace(&mut plan.reply, Reply::Done);
+        Ok(Some(Decision {
+            reply,
+            settlement: Settlement::Plain {
+                process,
+                label,
+                plan,
+                ready,
+            },
+        }))
+    }
+
+    // A call in a transaction has come to this plan, which is made at once, since nothing of it is recorded.
+    fn decide_own(
+        &mut self,
+        journal: &Journal,
+        process: Pid,
+        id: Id,
+        label: Option<Label>,
+        plan: Plan,
+    ) -> Result<Decision, NoMemory>
+        requires built { IsBuiltNow (now_of journal.now (held self.old)) }
+        requires free { IsFreeLabel (now_of journal.now (held self.old)) process label }
+        requires may { MayMake (now_of journal.now (held self.old)) (Some id) plan }
+        ensures ok { IfOk result (λ d. (events : EventsState) → Holds events [] → Decides journal.now (held self.old) (files_outcome (now_of journal.now (held self.old)) process (Some id) label plan) d.reply d.settlement events self.new) }
+        ensures no_memory { OnErr result (held self.new ≡ held self.old) }
+        ensures enough { HasRoom self.old.files → plan.change ≡ None → (is_some plan.opened ≡ true → 1 ≤ self.old.handles.spare) → IsOk result }
+    {
+        let mut plan = plan;
+        let opened = plan.opened;
+        self.reserve_for(opened)?;
+        let reply = replace(&mut plan.reply, Reply::Done);
+        self.files.keep(id, plan)?;
+        Ok(Decision {
+            reply,
+            settlement: binding(process, label, opened),
+        })
+    }
+
+    /// A call on files is decided.
+    pub(crate) fn decide_files(
+        &mut self,
+        alloc: Global,
+        journal: &Journal,
+        process: Pid,
+        who: Option<Id>,
+        label: Option<Label>,
+        call: FileCall,
+        events: &mut Events,
+    ) -> Result<Option<Decision>, NoMemory>
+        requires standing { IsStandingNow (now_of journal.now (held self.old)) }
+        requires ready { IsReadyCall (now_of journal.now (held self.old)) process who label call }
+        requires empty { Holds events.old [] }
+        requires roomy { IsRoomy journal.now events.old }
+        ensures ok { IfOk result (λ d. DecidesIf journal.now (held self.old) (outcome_of (now_of journal.now (held self.old)) process (OfFiles who label call)) d events.new self.new) }
+        ensures room { events.new.room ≡ events.old.room }
+        ensures no_memory { OnErr result (held self.new ≡ held self.old) }
+        ensures enough { files_take_memory (now_of journal.now (held self.old)) who call ≡ false → IsOk result }
+    {
+        law_of_files();
+        let room = self.file_room(journal);
+        let plan = decide(alloc, &self.files, who, call, &room)?;
+        if changes_nothing(&plan) {
+            return Ok(Some(Decision::only(plan.reply)));
+        }
+        match who {
+            Some(id) => Ok(Some(self.decide_own(journal, process, id, label, plan)?)),
+            None => self.decide_plain(journal, process, label, plan, events),
+        }
+    }
+}

@@ -1,0 +1,149 @@
+// What labels name, with the tests of their handles.
+ghost use Rattle.std.specs.Prelude.{◌≡◌, ◌∷◌, [], Some, None, IfOk, IfErr};
+ghost use Rattle.ktm_base.specs.declared.refusal.Refusal.TheVariants.{HandleNoLongerValid};
+ghost use Rattle.ktm_built.specs.Standing.{IsStandingNow};
+ghost use Rattle.ktm_journal.specs.Image.{JournalState};
+ghost use Rattle.ktm_memory.specs.Memory.{held, now_of};
+ghost use Rattle.ktm_memory.specs.Route.{source_tests};
+ghost use Rattle.ktm_world.specs.Handles.{transaction_id};
+ghost use Rattle.ktm_world.specs.Labels.{file_named, file_number, file_tests, is_dead, is_suspended, transaction_named, transaction_tests, view_tests, viewer};
+ghost use Rattle.ktm_world.specs.Outcome.{first_refusal};
+ghost use Rattle.ktm_world.specs.TransactionCalls.{transaction_with};
+ghost use Rattle.txf_calls.specs.Views.{open_of};
+ghost use Rattle.txf_volume.specs.Held.{files_of};
+
+use crate::memory::Memory;
+use ktm_base::{Id, Label, ObjectKind, Pid, Refusal, id_of};
+use ktm_journal::Journal;
+use ktm_tm::{active_refusal, is_active};
+use ktm_types::{Object, Transaction, View};
+use txf_calls::OpenFile;
+use uuid::Uuid;
+
+// The transaction among the objects.
+fn transaction_id(object: Option<Object>) -> Option<Id>
+    ensures { result ≡ transaction_id object }
+{
+    match object {
+        Some(Object::Transaction(id)) => Some(id),
+        Some(Object::Manager(_)) | Some(Object::Enlistment(_)) | Some(Object::File(_)) => None,
+        None => None,
+    }
+}
+
+// The open file among the objects.
+fn file_number(object: Option<Object>) -> Option<u32>
+    ensures { result ≡ file_number object }
+{
+    match object {
+        Some(Object::File(number)) => Some(number),
+        Some(Object::Transaction(_)) | Some(Object::Manager(_)) | Some(Object::Enlistment(_)) => {
+            None
+        }
+        None => None,
+    }
+}
+
+impl Memory {
+    // The transaction that a label of a process names.
+    pub(crate) fn named(&self, process: Pid, label: Label) -> Option<Transaction>
+        ensures { (j : JournalState) → result ≡ transaction_named (now_of j (held self.now)) process label }
+    {
+        let id = transaction_id(self.handles.get(process, label))?;
+        self.tm.find(id)
+    }
+
+    // The active transaction that a label names, or why there is none.
+    pub(crate) fn active(&self, process: Pid, label: Label) -> Result<Transaction, Refusal>
+        ensures ok { IfOk result (λ t. (j : JournalState) → (transaction_named (now_of j (held self.now)) process label ≡ Some t) × (first_refusal (transaction_tests (Some t)) ≡ None)) }
+        ensures err { IfErr result (λ refusal. (j : JournalState) → first_refusal (transaction_tests (transaction_named (now_of j (held self.now)) process label)) ≡ Some refusal) }
+    {
+        let Some(t) = self.named(process, label) else {
+            return Err(Refusal::InvalidHandle);
+        };
+        match active_refusal(&t) {
+            Some(refusal) => Err(refusal),
+            None => Ok(t),
+        }
+    }
+
+    // Through which transaction a view looks, or why it cannot.
+    pub(crate) fn viewer(&self, process: Pid, view: View) -> Result<Option<Id>, Refusal>
+        ensures ok { IfOk result (λ who. (j : JournalState) → (first_refusal (view_tests (now_of j (held self.now)) process view) ≡ None) × (viewer (now_of j (held self.now)) process view ≡ who)) }
+        ensures err { IfErr result (λ refusal. (j : JournalState) → first_refusal (view_tests (now_of j (held self.now)) process view) ≡ Some refusal) }
+    {
+        let View::Transaction(label) = view else {
+            return Ok(None);
+        };
+        match self.active(process, label) {
+            Ok(t) => Ok(Some(t.id)),
+            Err(refusal) => Err(refusal),
+        }
+    }
+
+    // Why the handle of what is named cannot be duplicated, if it cannot.
+    pub(crate) fn source_refusal(&self, named: Option<Object>) -> Option<Refusal>
+        ensures { result ≡ first_refusal (source_tests (files_of self.now.files) named) }
+    {
+        match named {
+            Some(Object::File(number)) => self.dead_refusal(number),
+            Some(Object::Transaction(_)) | Some(Object::Manager(_)) | Some(Object::Enlistment(_)) =>
+                None,
+            None => Some(Refusal::InvalidHandle),
+        }
+    }
+
+    // Why the handle of a file cannot be used, where it is dead.
+    pub(crate) fn dead_refusal(&self, number: u32) -> Option<Refusal>
+        ensures { result ≡ first_refusal ((is_dead (files_of self.now.files) number, HandleNoLongerValid) ∷ []) }
+    {
+        if self.files.is_dead(number) {
+            return Some(Refusal::HandleNoLongerValid);
+        }
+        None
+    }
+
+    // Is the transaction of an open file not active, if it has one.
+    pub(crate) fn is_suspended(&self, file: &OpenFile) -> bool
+        ensures { (j : JournalState) → result ≡ is_suspended (now_of j (held self.now)) (open_of file.now) }
+    {
+        match file.transaction {
+            Some(id) => match self.tm.find(id) {
+                Some(t) => !is_active(&t),
+                None => false,
+            },
+            None => false,
+        }
+    }
+
+    // The open file that a label names, or why it cannot be used.
+    pub(crate) fn open_file(&self, process: Pid, label: Label) -> Result<OpenFile, Refusal>
+        ensures ok { IfOk result (λ file. (j : JournalState) → (file_named (now_of j (held self.now)) process label ≡ Some (open_of file)) × (first_refusal (file_tests (now_of j (held self.now)) process label) ≡ None)) }
+        ensures err { IfErr result (λ refusal. (j : JournalState) → first_refusal (file_tests (now_of j (held self.now)) process label) ≡ Some refusal) }
+    {
+        let Some(number) = file_number(self.handles.get(process, label)) else {
+            return Err(Refusal::InvalidHandle);
+        };
+        if let Some(refusal) = self.dead_refusal(number) {
+            return Err(refusal);
+        }
+        let Some(file) = self.files.open_file(number) else {
+            unreachable!();
+        };
+        if self.is_suspended(&file) {
+            return Err(Refusal::TransactionNotActive);
+        }
+        Ok(file)
+    }
+
+    // The live transaction with a GUID.
+    pub(crate) fn with_guid(&self, journal: &Journal, guid: &Uuid) -> Option<Transaction>
+        requires { IsStandingNow (now_of journal.now (held self.now)) }
+        ensures { result ≡ transaction_with (now_of journal.now (held self.now)) guid.now }
+    {
+        let Some(id) = id_of(ObjectKind::Transaction, journal.image(), guid) else {
+            return None;
+        };
+        self.tm.find_live(id)
+    }
+}

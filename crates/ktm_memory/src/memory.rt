@@ -1,0 +1,75 @@
+// What the machine holds in memory: its layers.
+ghost use Rattle.std.specs.Prelude.{◌≡◌, true, false, []};
+ghost use Rattle.ktm_object.specs.Table.{handles_of};
+ghost use Rattle.ktm_world.specs.Tree.{IsWellFormed};
+ghost use Rattle.txf_tree.specs.TreeState.{tree_of, versions_of};
+ghost use Rattle.txf_volume.specs.Held.{files_begun, files_of, tree_units};
+
+use ktm_base::Bytes;
+use ktm_keyed::KeyedList;
+use ktm_object::Handles;
+use ktm_tm::Tm;
+use kv_rm::KvRm;
+use std::alloc::Global;
+use std::marker::Model;
+use txf_durable::FilesRead;
+use txf_volume::Files;
+
+/// The layers of the machine, and whether it is up.
+#[derive(Drop)]
+pub struct Memory {
+    pub(crate) is_up: bool,
+    pub(crate) handles: Handles,
+    pub(crate) tm: Tm,
+    pub(crate) files: Files,
+    // The number of the next node by what was recorded, which is not above that of the files: those of transactions count.
+    pub(crate) next_node: u64,
+    pub(crate) keys: KvRm,
+}
+
+impl Model for Memory {
+    ghost use Rattle.ktm_memory.specs.Memory.{MemoryState};
+
+    ghost Value = { MemoryState };
+
+    ghost view = { λ m. record { is_up = m.is_up; handles = m.handles; tm = m.tm; files = m.files; next_node = m.next_node; keys = m.keys } };
+}
+
+impl Memory {
+    /// What a machine that starts holds: its boot, and the committed files and keys.
+    pub fn start(alloc: Global, boot: u32, committed: FilesRead, store: KeyedList<Bytes>) -> Self
+        requires formed { IsWellFormed (tree_of committed.tree) }
+        requires rest { versions_of committed.tree ≡ [] }
+        requires units { committed.units ≡ tree_units (tree_of committed.tree) }
+        ensures up { result.is_up ≡ true }
+        ensures boot { result.tm.boot ≡ boot }
+        ensures transactions { result.tm.now ≡ record { clock = 0; last_transaction = 0; last_manager = 0; last_enlistment = 0; items = []; enlistments = [] } }
+        ensures files { files_of result.files ≡ files_begun (tree_of committed.tree) committed.next_node }
+        ensures next_node { result.next_node ≡ committed.next_node }
+        ensures keys { result.keys.keys ≡ record { store = store.items; own = [] } }
+        ensures handles { handles_of result.handles ≡ [] }
+    {
+        Memory {
+            is_up: true,
+            handles: Handles::new(alloc),
+            tm: Tm::new(alloc, boot),
+            files: Files::with_tree(alloc, committed.tree, committed.units, committed.next_node),
+            next_node: committed.next_node,
+            keys: KvRm::with_store(alloc, store),
+        }
+    }
+
+    /// Is the machine up.
+    pub fn is_up(&self) -> bool
+        ensures { result ≡ self.now.is_up }
+    {
+        self.is_up
+    }
+
+    /// The machine is down.
+    pub fn fall(&mut self)
+        ensures { self.new ≡ record self.old { is_up = false } }
+    {
+        self.is_up = false;
+    }
+}

@@ -1,0 +1,153 @@
+// Calls on transactions and handles, once their labels are known.
+ghost use Rattle.std.specs.Prelude.{◌≡◌, true, Some, None};
+ghost use Rattle.ktm_base.specs.declared.refusal.Refusal.TheVariants.{InvalidParameter};
+ghost use Rattle.ktm_built.specs.Standing.{IsStandingNow};
+ghost use Rattle.ktm_memory.specs.Memory.{held, now_of};
+ghost use Rattle.ktm_memory.specs.Route.{Routes};
+ghost use Rattle.ktm_types.specs.declared.command.Command.TheVariants.{CloseHandle, CommitTransaction, CreateTransaction, DuplicateHandle, GetTransactionInformation, OpenTransaction, RollbackTransaction};
+
+use crate::memory::Memory;
+use crate::route::Routed;
+use ktm_base::{Label, Pid, Refusal};
+use ktm_built::law_of_files;
+use ktm_journal::Journal;
+use ktm_tm::rollback_refusal;
+use ktm_types::{Object, Transaction};
+use uuid::Uuid;
+
+impl Memory {
+    // CreateTransaction, whose label is not bound.
+    pub(crate) fn to_create(
+        &self,
+        journal: &Journal,
+        process: Pid,
+        label: Label,
+        timeout: u32,
+    ) -> Result<Routed, Refusal>
+        requires { self.now.is_up ≡ true }
+        ensures { Routes journal.now (held self.now) process (CreateTransaction label timeout) result }
+    {
+        if self.handles.get(process, label).is_some() {
+            return Err(Refusal::InvalidParameter);
+        }
+        Ok(Routed::Create { label, timeout })
+    }
+
+    // OpenTransaction, whose label is not bound, of a live transaction.
+    pub(crate) fn to_open(
+        &self,
+        journal: &Journal,
+        process: Pid,
+        label: Label,
+        guid: &Uuid,
+    ) -> Result<Routed, Refusal>
+        requires up { self.now.is_up ≡ true }
+        requires standing { IsStandingNow (now_of journal.now (held self.now)) }
+        ensures { Routes journal.now (held self.now) process (OpenTransaction label guid.now) result }
+    {
+        if self.handles.get(process, label).is_some() {
+            return Err(Refusal::InvalidParameter);
+        }
+        match self.with_guid(journal, guid) {
+            Some(t) => Ok(Routed::Bind {
+                label,
+                object: Object::Transaction(t.id),
+            }),
+            None => Err(Refusal::TransactionNotFound),
+        }
+    }
+
+    // DuplicateHandle, whose label is not bound, of a handle that is not dead.
+    pub(crate) fn to_duplicate(
+        &self,
+        journal: &Journal,
+        process: Pid,
+        label: Label,
+        from: Pid,
+        source: Label,
+    ) -> Result<Routed, Refusal>
+        requires { self.now.is_up ≡ true }
+        ensures { Routes journal.now (held self.now) process (DuplicateHandle label from source) result }
+    {
+        if let Some(refusal) = self.source_refusal(self.handles.get(from, source)) {
+            return Err(refusal);
+        }
+        if self.handles.get(process, label).is_some() {
+            return Err(Refusal::InvalidParameter);
+        }
+        Ok(Routed::Duplicate {
+            label,
+            from,
+            source,
+        })
+    }
+
+    // RollbackTransaction, of a transaction that may be rolled back.
+    pub(crate) fn to_roll_back(
+        &self,
+        journal: &Journal,
+        process: Pid,
+        label: Label,
+    ) -> Result<Routed, Refusal>
+        requires { self.now.is_up ≡ true }
+        ensures { Routes journal.now (held self.now) process (RollbackTransaction label) result }
+    {
+        let Some(t) = self.named(process, label) else {
+            return Err(Refusal::InvalidHandle);
+        };
+        match rollback_refusal(&t) {
+            Some(refusal) => Err(refusal),
+            None => Ok(Routed::Rollback(t)),
+        }
+    }
+
+    // GetTransactionInformation, of a transaction.
+    pub(crate) fn to_tell(
+        &self,
+        journal: &Journal,
+        process: Pid,
+        label: Label,
+    ) -> Result<Routed, Refusal>
+        requires { self.now.is_up ≡ true }
+        ensures { Routes journal.now (held self.now) process (GetTransactionInformation label) result }
+    {
+        match self.named(process, label) {
+            Some(t) => Ok(Routed::Information(t)),
+            None => Err(Refusal::InvalidHandle),
+        }
+    }
+
+    // CloseHandle, of a handle.
+    pub(crate) fn to_close(
+        &self,
+        journal: &Journal,
+        process: Pid,
+        label: Label,
+    ) -> Result<Routed, Refusal>
+        requires { self.now.is_up ≡ true }
+        ensures { Routes journal.now (held self.now) process (CloseHandle label) result }
+    {
+        if self.handles.get(process, label).is_none() {
+            return Err(Refusal::InvalidHandle);
+        }
+        Ok(Routed::Close(label))
+    }
+
+    // CommitTransaction, of an active transaction.
+    pub(crate) fn to_commit(
+        &self,
+        journal: &Journal,
+        process: Pid,
+        label: Label,
+    ) -> Result<Routed, Refusal>
+        requires up { self.now.is_up ≡ true }
+        requires standing { IsStandingNow (now_of journal.now (held self.now)) }
+        ensures { Routes journal.now (held self.now) process (CommitTransaction label) result }
+    {
+        law_of_files();
+        match self.active(process, label) {
+            Ok(t) => Ok(Routed::Commit(t)),
+            Err(refusal) => Err(refusal),
+        }
+    }
+}
