@@ -24,7 +24,7 @@ use Rattle.ktm_memory.specs.Decided.{Decides}
 use Rattle.ktm_kernel.specs.Done.{Ends, IsDone, IsCutOff, LeavesWithOr, TouchesNothing}
 use Rattle.ktm_kernel.specs.Stands.{KernelState}
 use Rattle.ktm_memory.specs.Memory.{Held, IsRoomy, MemoryState, appended, held, now_of, settled}
-use Rattle.ktm_memory.proofs.Standing.{built}
+use Rattle.ktm_memory.proofs.offered.Standing.{built}
 
 -- ---- whether the log has room
 

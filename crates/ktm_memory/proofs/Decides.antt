@@ -35,7 +35,7 @@ use Rattle.ktm_memory.specs.Route.{asked_outcome}
 use Rattle.ktm_memory.proofs.Routes.{up_or}
 use Rattle.ktm_memory.specs.Decided.{Decides}
 use Rattle.ktm_records.proofs.offered.NoMore.{fits-within}
-use Rattle.ktm_memory.proofs.Standing.{built, kept}
+use Rattle.ktm_memory.proofs.offered.Standing.{built, kept}
 use Rattle.ktm_memory.specs.Memory.{CanCommit, Held, MemoryState, MaySettle, appended, held, now_of, settled, with_bound_to}
 
 -- no events change nothing of the journal

@@ -40,7 +40,7 @@ use Rattle.ktm_memory.specs.Takes.{early_tests, effect_takes_memory, files_take_
 use Rattle.ktm_memory.specs.declared.route.Routed.{Routed}
 use Rattle.ktm_memory.specs.declared.route.Routed.TheVariants.{Files}
 use Rattle.ktm_memory.proofs.Routes.{first_of-passed, refused_first, up_or}
-use Rattle.ktm_memory.proofs.Takes.{change_takes, flush_takes, passed_takes, set_end_takes, size_takes, write_takes}
+use Rattle.ktm_memory.proofs.offered.Takes.{change_takes, flush_takes, passed_takes, set_end_takes, size_takes, write_takes}
 
 -- ---- the open file that a label names
 

@@ -1,11 +1,10 @@
-pub mod Standing
-pub mod Routes
-pub mod Takes
-pub mod Rooms
-pub mod FileRoutes
-pub mod Decides
-pub mod FilesDecided
-pub mod CommitGroups
-pub mod Closings
-pub mod Ticks
-pub mod Settles
+mod Routes
+mod Rooms
+mod FileRoutes
+mod Decides
+mod FilesDecided
+mod CommitGroups
+mod Closings
+mod Ticks
+mod Settles
+pub mod offered

@@ -6,7 +6,7 @@ use Rattle.ktm_built.specs.Standing.{IsStandingNow}
 use Rattle.ktm_kernel.specs.Done.{TouchesNothing}
 use Rattle.ktm_memory.specs.Memory.{held, now_of}
 use Rattle.ktm_memory.specs.Route.{decided}
-use Rattle.ktm_memory.proofs.Takes.{gave_up}
+use Rattle.ktm_memory.proofs.offered.Takes.{gave_up}
 use Rattle.ktm_kernel.proofs.Ends.{as_shown, done, cut, done_touches, kept, stopped}
 use Rattle.ktm_kernel.specs.Stands.{KernelState}
 use Rattle.ktm_memory.specs.Takes.{asked_takes_memory}

@@ -3,7 +3,7 @@ use Rattle.ktm_base.specs.declared.fault.NoMemory.{NoMemory}
 use Rattle.ktm_types.specs.declared.reply.Reply.{Reply}
 use Rattle.ktm_world.specs.World.{decide_tick}
 use Rattle.ktm_built.proofs.offered.Outcomes.{events_law}
-use Rattle.ktm_memory.proofs.Standing.{built}
+use Rattle.ktm_memory.proofs.offered.Standing.{built}
 use Rattle.ktm_kernel.proofs.Ready.{never_cut, quiet_untouched, ready_after, tick_answered}
 use Rattle.ktm_kernel.proofs.Worlds.{down_tick, ended_line, tick_goes_on}
 use Rattle.ktm_kernel.proofs.kernel.Kernel.tick.Goals as goal

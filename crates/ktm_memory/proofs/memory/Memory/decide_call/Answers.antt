@@ -1,6 +1,6 @@
 use Rattle.ktm_types.specs.declared.reply.Reply.TheVariants.{Refused}
 use Rattle.ktm_memory.proofs.Decides.{only_decided}
-use Rattle.ktm_memory.proofs.Standing.{built}
+use Rattle.ktm_memory.proofs.offered.Standing.{built}
 use Rattle.ktm_memory.specs.Memory.{held, now_of}
 use Rattle.std.proofs.Common.{sym, ◌∙◌}
 use Rattle.ktm_memory.proofs.memory.Memory.decide_call.Goals as goal

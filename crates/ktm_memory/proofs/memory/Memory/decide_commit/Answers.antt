@@ -6,10 +6,10 @@ use Rattle.txf_volume.specs.Held.{files_of}
 use Rattle.ktm_memory.specs.Memory.{MemoryState, held, now_of}
 use Rattle.ktm_memory.proofs.CommitGroups.{can_commit, commit_full, events_of, idle_may, room_from}
 use Rattle.ktm_memory.proofs.Decides.{commit_decided}
-use Rattle.ktm_memory.proofs.Standing.{built}
+use Rattle.ktm_memory.proofs.offered.Standing.{built}
 use Rattle.ktm_world.specs.Changes.{has_changes}
 use Rattle.ktm_world.specs.Keys.{own_settings}
-use Rattle.ktm_memory.proofs.Takes.{gave_up}
+use Rattle.ktm_memory.proofs.offered.Takes.{gave_up}
 use Rattle.ktm_memory.proofs.memory.Memory.decide_commit.Goals as goal
 
 pub returns-then-not-branch-clause-ok : goal.returns-then-not-branch-clause-ok

@@ -10,9 +10,9 @@ use Rattle.ktm_types.specs.declared.reply.Reply.TheVariants.{Refused}
 use Rattle.ktm_memory.specs.Memory.{held, now_of}
 use Rattle.ktm_memory.proofs.Decides.{create_decided, create_says, only_decided}
 use Rattle.ktm_memory.proofs.Routes.{test_passes, test_refuses}
-use Rattle.ktm_memory.proofs.Standing.{built}
+use Rattle.ktm_memory.proofs.offered.Standing.{built}
 use Rattle.ktm_memory.proofs.memory.Memory.decide_create.Goals as goal
-use Rattle.ktm_memory.proofs.Takes.{gave_up, not_refused}
+use Rattle.ktm_memory.proofs.offered.Takes.{gave_up, not_refused}
 use Rattle.ktm_memory.proofs.memory.Memory.decide_create.Goals.{then-is_full-via-then-is_full, then-is_full-via-else-is_full+then-is_full-2}
 
 pub returns-then-is_full-clause-ok : goal.returns-then-is_full-clause-ok

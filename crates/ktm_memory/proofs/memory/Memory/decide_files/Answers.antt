@@ -9,8 +9,8 @@ use Rattle.ktm_memory.specs.Memory.{held, now_of}
 use Rattle.ktm_memory.specs.Route.{files_outcome}
 use Rattle.ktm_memory.proofs.Decides.{only_decided}
 use Rattle.ktm_memory.proofs.FilesDecided.{may_make, planned, quiet_outcome}
-use Rattle.ktm_memory.proofs.Standing.{built}
-use Rattle.ktm_memory.proofs.Takes.{gave_up, own_quiet, plain_full, quick_decision}
+use Rattle.ktm_memory.proofs.offered.Standing.{built}
+use Rattle.ktm_memory.proofs.offered.Takes.{gave_up, own_quiet, plain_full, quick_decision}
 use Rattle.ktm_memory.proofs.memory.Memory.decide_files.Goals as goal
 
 pub decide-requires-clause-orderly : goal.decide-requires-clause-orderly

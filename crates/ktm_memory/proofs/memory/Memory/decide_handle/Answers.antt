@@ -6,7 +6,7 @@ use Rattle.ktm_world.specs.Handles.{no_handle_left}
 use Rattle.ktm_memory.specs.Memory.{held, now_of}
 use Rattle.ktm_memory.proofs.Decides.{only_decided}
 use Rattle.ktm_memory.proofs.Routes.{test_refuses}
-use Rattle.ktm_memory.proofs.Takes.{gave_up, not_refused}
+use Rattle.ktm_memory.proofs.offered.Takes.{gave_up, not_refused}
 use Rattle.ktm_memory.proofs.memory.Memory.decide_handle.Goals as goal
 
 pub returns-then-is_full-clause-ok : goal.returns-then-is_full-clause-ok

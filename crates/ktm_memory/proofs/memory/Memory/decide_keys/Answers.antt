@@ -6,7 +6,7 @@ use Rattle.kv_rm.specs.Calls.{is_refused, key_outcome}
 use Rattle.txf_volume.specs.Held.{files_of}
 use Rattle.ktm_memory.specs.Memory.{held, now_of}
 use Rattle.ktm_memory.proofs.Decides.{keys_decided}
-use Rattle.ktm_memory.proofs.Takes.{gave_up}
+use Rattle.ktm_memory.proofs.offered.Takes.{gave_up}
 use Rattle.ktm_memory.proofs.memory.Memory.decide_keys.Goals as goal
 
 pub returns-clause-ok : goal.returns-clause-ok

@@ -7,7 +7,7 @@ use Rattle.ktm_memory.specs.Memory.{Held, MemoryState, held, now_of}
 use Rattle.ktm_memory.specs.Route.{IsFreeLabel}
 use Rattle.ktm_memory.proofs.FilesDecided.{may_bind, opens_some, own_decided}
 use Rattle.txf_volume.specs.Transacted.{HasRoom}
-use Rattle.ktm_memory.proofs.Takes.{gave_up}
+use Rattle.ktm_memory.proofs.offered.Takes.{gave_up}
 use Rattle.ktm_memory.proofs.memory.Memory.decide_own.Goals as goal
 
 pub returns-clause-ok : goal.returns-clause-ok

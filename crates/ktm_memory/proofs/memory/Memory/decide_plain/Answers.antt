@@ -8,7 +8,7 @@ use Rattle.txf_calls.specs.Views.{open_of}
 use Rattle.txf_volume.specs.Plain.{IsReady}
 use Rattle.ktm_memory.specs.Memory.{MemoryState, held}
 use Rattle.ktm_memory.proofs.FilesDecided.{may_settle, opens_some, plain_decided}
-use Rattle.ktm_memory.proofs.Takes.{gave_up}
+use Rattle.ktm_memory.proofs.offered.Takes.{gave_up}
 use Rattle.ktm_memory.proofs.memory.Memory.decide_plain.Goals as goal
 
 pub returns-clause-ok : goal.returns-clause-ok

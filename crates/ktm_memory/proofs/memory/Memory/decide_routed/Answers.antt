@@ -7,9 +7,9 @@ use Rattle.ktm_types.specs.declared.reply.Reply.TheVariants.{Done}
 use Rattle.ktm_world.specs.HandleCalls.{close_handle, duplicate_handle, exit}
 use Rattle.ktm_world.specs.TransactionCalls.{get_transaction_information, opened_object, rollback_transaction}
 use Rattle.ktm_memory.proofs.Decides.{bound_comes, duplicated_comes, information_is, only_decided, quiet_decided}
-use Rattle.ktm_memory.proofs.Standing.{built}
+use Rattle.ktm_memory.proofs.offered.Standing.{built}
 use Rattle.ktm_memory.proofs.CommitGroups.{idle_keys}
-use Rattle.ktm_memory.proofs.Takes.{from_not, gave_up}
+use Rattle.ktm_memory.proofs.offered.Takes.{from_not, gave_up}
 use Rattle.ktm_memory.proofs.memory.Memory.decide_routed.Goals as goal
 
 pub returns-in_ok-decide_create-in-Create-clause-ok : goal.returns-in_ok-decide_create-in-Create-clause-ok

@@ -3,7 +3,7 @@ use Rattle.ktm_types.specs.declared.command.Command.TheVariants.{KvSet, KvUnset,
 use Rattle.ktm_world.specs.Labels.{transaction_named, transaction_tests, view_tests}
 use Rattle.ktm_memory.specs.Memory.{held, now_of}
 use Rattle.ktm_memory.proofs.Routes.{refused_first, set_routed, unset_routed}
-use Rattle.ktm_memory.proofs.Takes.{set_takes, unset_takes}
+use Rattle.ktm_memory.proofs.offered.Takes.{set_takes, unset_takes}
 use Rattle.ktm_memory.proofs.memory.Memory.route.Goals as goal
 
 pub returns-in-Ok : goal.returns-in-Ok

@@ -1,7 +1,7 @@
 use Rattle.ktm_built.proofs.offered.Forms.{named_law}
 use Rattle.ktm_memory.specs.Memory.{held, now_of}
 use Rattle.ktm_memory.proofs.Routes.{commit_refused, commit_routed}
-use Rattle.ktm_memory.proofs.Takes.{commit_takes}
+use Rattle.ktm_memory.proofs.offered.Takes.{commit_takes}
 use Rattle.ktm_memory.proofs.memory.Memory.to_commit.Goals as goal
 
 pub returns-in-Ok : goal.returns-in-Ok

@@ -3,7 +3,7 @@ use Rattle.ktm_object.specs.Table.{handles_of}
 use Rattle.ktm_world.specs.Handles.{object_at}
 use Rattle.ktm_memory.specs.Memory.{held, now_of}
 use Rattle.ktm_memory.proofs.Routes.{create_bound, create_routed, unbound_names}
-use Rattle.ktm_memory.proofs.Takes.{create_takes}
+use Rattle.ktm_memory.proofs.offered.Takes.{create_takes}
 use Rattle.ktm_memory.proofs.memory.Memory.to_create.Goals as goal
 
 pub returns-then-is_some : goal.returns-then-is_some

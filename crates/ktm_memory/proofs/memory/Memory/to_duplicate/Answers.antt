@@ -6,7 +6,7 @@ use Rattle.txf_volume.specs.Held.{files_of}
 use Rattle.ktm_memory.specs.Memory.{held, now_of}
 use Rattle.ktm_memory.specs.Route.{source_tests}
 use Rattle.ktm_memory.proofs.Routes.{duplicate_bound, duplicate_refused, duplicate_routed, source_named, unbound_names}
-use Rattle.ktm_memory.proofs.Takes.{duplicate_takes}
+use Rattle.ktm_memory.proofs.offered.Takes.{duplicate_takes}
 use Rattle.ktm_memory.proofs.memory.Memory.to_duplicate.Goals as goal
 
 pub returns-in-Some : goal.returns-in-Some

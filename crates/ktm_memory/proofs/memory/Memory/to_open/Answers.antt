@@ -3,7 +3,7 @@ use Rattle.ktm_object.specs.Table.{handles_of}
 use Rattle.ktm_world.specs.Handles.{object_at}
 use Rattle.ktm_memory.specs.Memory.{held, now_of}
 use Rattle.ktm_memory.proofs.Routes.{open_bound, open_routed, open_unknown, unbound_names}
-use Rattle.ktm_memory.proofs.Takes.{open_takes}
+use Rattle.ktm_memory.proofs.offered.Takes.{open_takes}
 use Rattle.ktm_memory.proofs.memory.Memory.to_open.Goals as goal
 
 pub returns-then-is_some : goal.returns-then-is_some

@@ -7,7 +7,7 @@ use Rattle.ktm_world.specs.Transactions.{is_live, same_id}
 use Rattle.ktm_built.specs.Laws.{LeadsTo}
 use Rattle.ktm_built.proofs.offered.Guids.{guid_law}
 use Rattle.ktm_memory.specs.Memory.{held, now_of}
-use Rattle.ktm_memory.proofs.Standing.{kept}
+use Rattle.ktm_memory.proofs.offered.Standing.{kept}
 use Rattle.ktm_memory.proofs.memory.Memory.with_guid.Goals as goal
 
 -- what was found for the GUID, on this image
