@@ -1,8 +1,9 @@
 -- From the lines that were answered to what a run comes to.
 use Rattle.std.specs.Prelude.{IfSome, IsSomeAnd}
-use Rattle.std.proofs.Common.{◌≡◌, ◌⊎◌, inl, inr, ℕ, ◌+◌, ◌*◌, ◌<◌, ◌≤◌, false, List, [], ◌∷◌, ◌++◌, length, take, Option, Some, None, refl, ◌∙◌, ap, arith, add-mul}
+use Rattle.std.proofs.Common.{◌≡◌, ◌≢◌, ◌⊎◌, inl, inr, ℕ, ◌+◌, ◌*◌, ◌<◌, ◌≤◌, true, false, List, [], ◌∷◌, ◌++◌, length, take, Option, Some, None, refl, sym, ◌∙◌, ap, subst, arith, add-mul}
 use Rattle.std.proofs.lemmas.List.{append-nil}
-use Rattle.std.specs.Io.KnownBytes.{Consumes, IsAtEnd}
+use Rattle.std.proofs.KnownBytes.{Keeps-refl}
+use Rattle.std.specs.Io.KnownBytes.{Consumes, IsAtEnd, Keeps}
 use Rattle.ktm_base.specs.declared.limits.TheConstants.{MOST_SCRIPT_BYTES}
 use Rattle.ktm_base.specs.declared.power.PowerCall.{PowerCall}
 use Rattle.ktm_base.specs.declared.power.PowerCall.TheVariants.{Power}
@@ -16,8 +17,10 @@ use Rattle.ktm_run.specs.declared.status.Status.TheVariants.{Done, Usage, Source
 use Rattle.ktm_run.specs.Lawful.{RunIsLawful}
 use Rattle.ktm_run.specs.Progress.{Scene, Now, Counts, Ran, Progress, Broke, Stops}
 use Rattle.ktm_run.specs.Script.{MayExecute, Means, cut_lines, lines_from}
-use Rattle.ktm_run.specs.Early.{Outside, Ends, FoundDown}
-use Rattle.ktm_run.specs.Theorem.{HoldsStates, Moment, moment_of, RunCounts, LineCounts, Replied, RunTheorem, EndedBetween, Unanswered, HalfWritten, EndedWithin, EndedEarly}
+use Rattle.ktm_run.specs.declared.fault.OpenFault.{OpenFault}
+use Rattle.ktm_run.specs.declared.fault.OpenFault.TheVariants as opening
+use Rattle.ktm_run.specs.Early.{Outside, SaysWhy, Ends, FoundBad, FoundDown, FoundFull, FoundNoMemory}
+use Rattle.ktm_run.specs.Theorem.{HoldsStates, Moment, moment_of, RunCounts, LineCounts, Replied, RunTheorem, EndedBetween, Unanswered, HalfWritten, EndedWithin, NotOpened, CutOpening, EndedEarly}
 use Rattle.ktm_types.specs.declared.command.Line.TheVariants.{Restart}
 use Rattle.ktm_world.specs.Durable.{Durable}
 use Rattle.ktm_world.specs.Logs.{is_up}
@@ -177,3 +180,35 @@ script_ends Usage Opened old new opened usage image down full = absurd (usage re
 script_ends BadImage Opened old new opened usage image down full = absurd (image refl)
 script_ends DiskFault Opened old new opened usage image down full = absurd (down refl)
 script_ends LogFull Opened old new opened usage image down full = absurd (full refl)
+
+-- ---- a machine that was not started
+
+said_nothing : (old new : Option (List ℕ)) → new ≡ old → Keeps old new
+said_nothing old new same = subst (λ (o : Option (List ℕ)). Keeps old o) (sym same) (Keeps-refl old)
+
+module _ (result : Status) (Opened : Type 0) (old new : Outside) where
+  pub not_started_ends : (why : OpenFault) → SaysWhy result why old.taken new.taken → ((offset : ℕ) → why ≡ opening.BadImage offset → FoundBad offset old new)
+      → (why ≡ opening.Full → Keeps old.taken new.taken → FoundFull old new × Opened) → (why ≡ opening.Down → Keeps old.taken new.taken → FoundDown old new)
+      → (why ≡ opening.NoMemory → Keeps old.taken new.taken → FoundNoMemory old new) → Ends result Opened old new
+  not_started_ends (opening.BadImage offset) (inl (is, wrote)) bad full down none = subst (λ s. Ends s Opened old new) (sym is) (offset, bad offset refl, wrote)
+  not_started_ends (opening.BadImage offset) (inr (is, wrote)) bad full down none = subst (λ s. Ends s Opened old new) (sym is) (inr (inl (offset, bad offset refl, wrote)))
+  not_started_ends opening.Full (is, same) bad full down none = subst (λ s. Ends s Opened old new) (sym is) (full refl (said_nothing _ _ same))
+  not_started_ends opening.Down (is, same) bad full down none = subst (λ s. Ends s Opened old new) (sym is) (down refl (said_nothing _ _ same))
+  not_started_ends opening.NoMemory (is, same) bad full down none = subst (λ s. Ends s Opened old new) (sym is) (inl (none refl (said_nothing _ _ same)))
+
+module _ (result : Status) (base : Durable) (room : ℕ) (old new : Outside) where
+  pub not_started_early : (why : OpenFault) → SaysWhy result why old.taken new.taken → ((offset : ℕ) → why ≡ opening.BadImage offset → ⊥)
+      → (why ≡ opening.Full → is_full room (own_group base) ≡ true) → (why ≡ opening.Down → CutOpening base room old new)
+      → (why ≡ opening.NoMemory → Keeps old.taken new.taken → NotOpened base room old new) → EndedEarly result base room old new
+  not_started_early (opening.BadImage offset) says good full down none = absurd (good offset refl)
+  not_started_early opening.Full (is, same) good full down none = subst (λ s. EndedEarly s base room old new) (sym is) (full refl)
+  not_started_early opening.Down (is, same) good full down none = subst (λ s. EndedEarly s base room old new) (sym is) (down refl)
+  not_started_early opening.NoMemory (is, same) good full down none = subst (λ s. EndedEarly s base room old new) (sym is) (inl (none refl (said_nothing _ _ same)))
+
+-- and it ends with none of these
+pub not_started_is : (result : Status) (why : OpenFault) (old new : Option (List ℕ)) → SaysWhy result why old new → (result ≢ Usage) × (result ≢ SourceFault) × (result ≢ ScriptTooLong)
+not_started_is result (opening.BadImage offset) old new (inl (is, wrote)) = (λ same. cc, λ same. cc, λ same. cc)
+not_started_is result (opening.BadImage offset) old new (inr (is, wrote)) = (λ same. cc, λ same. cc, λ same. cc)
+not_started_is result opening.Full old new (is, silent) = (λ same. cc, λ same. cc, λ same. cc)
+not_started_is result opening.Down old new (is, silent) = (λ same. cc, λ same. cc, λ same. cc)
+not_started_is result opening.NoMemory old new (is, silent) = (λ same. cc, λ same. cc, λ same. cc)

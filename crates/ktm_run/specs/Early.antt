@@ -8,6 +8,8 @@ use Rattle.ktm_journal.specs.Bad.{IsBadAt}
 use Rattle.ktm_run.specs.Form.{usage_line, bad_image_line}
 use Rattle.ktm_run.specs.Opening.{Prepared}
 use Rattle.ktm_run.specs.Script.{AppendsPart}
+use Rattle.ktm_run.specs.declared.fault.OpenFault.{OpenFault}
+use Rattle.ktm_run.specs.declared.fault.OpenFault.TheVariants as opening
 use Rattle.ktm_run.specs.declared.status.Status.{Status}
 use Rattle.ktm_run.specs.declared.status.Status.TheVariants.{Done, Usage, SourceFault, SinkFault, NoMemory, BadImage, DiskFault, ScriptTooLong, LogFull}
 
@@ -78,6 +80,14 @@ NoRun BadImage old new = ⊥
 NoRun DiskFault old new = ⊥
 NoRun ScriptTooLong old new = ⊥
 NoRun LogFull old new = ⊥
+
+-- how a run ends whose machine was not started, and what it says: of a bad image its line, or a part of it where the sink failed, and
+-- else nothing
+abbrev pub SaysWhy : Status → OpenFault → Option (List ℕ) → Option (List ℕ) → Type 0
+SaysWhy result (opening.BadImage offset) old new = ((result ≡ BadImage) × Appends old new (bad_image_line offset)) ⊎ ((result ≡ SinkFault) × AppendsPart old new (bad_image_line offset))
+SaysWhy result opening.Down old new = (result ≡ DiskFault) × (new ≡ old)
+SaysWhy result opening.Full old new = (result ≡ LogFull) × (new ≡ old)
+SaysWhy result opening.NoMemory old new = (result ≡ NoMemory) × (new ≡ old)
 
 -- how a run may end, where Opened says that the disk held what a run begins from
 abbrev pub Ends : Status → Type 0 → Outside → Outside → Type 0

@@ -6,7 +6,7 @@ ghost use Rattle.ktm_base.specs.Count.{Rose};
 ghost use Rattle.ktm_base.specs.Stream.{Faults};
 ghost use Rattle.ktm_run.specs.Form.{bad_image_line};
 ghost use Rattle.ktm_run.specs.Theorem.{Begins, BeginsAs, EndedEarly};
-ghost use Rattle.ktm_run.specs.Early.{Ends, outside};
+ghost use Rattle.ktm_run.specs.Early.{Ends, SaysWhy, outside};
 ghost use Rattle.ktm_run.specs.Script.{AppendsPart};
 ghost use Rattle.ktm_world.specs.Durable.{Durable};
 
@@ -36,6 +36,24 @@ fn write_bad_image<K: Sink>(sink: &mut K, offset: u64) -> Result<(), Failed>
     Ok(())
 }
 
+// How the run ends, where no machine was started. Of a bad image it says so.
+fn not_started<K: Sink>(sink: &mut K, why: OpenFault) -> Status
+    ensures says { SaysWhy result why (K.taken sink.old) (K.taken sink.new) }
+    ensures fault { result ≡ Status.SinkFault → Rose (K.faults sink.old) (K.faults sink.new) }
+{
+    match why {
+        OpenFault::BadImage(offset) => {
+            if let Err(Failed) = write_bad_image(sink, offset) {
+                return Status::SinkFault;
+            }
+            Status::BadImage
+        }
+        OpenFault::Down => Status::DiskFault,
+        OpenFault::Full => Status::LogFull,
+        OpenFault::NoMemory => Status::NoMemory,
+    }
+}
+
 /// Runs the script on the image.
 pub fn run_image<S: Source, K: Sink, D: PowerDisk>(
     alloc: Global,
@@ -59,15 +77,7 @@ pub fn run_image<S: Source, K: Sink, D: PowerDisk>(
     };
     let mut kernel = match open_kernel(alloc, disk) {
         Ok(kernel) => kernel,
-        Err(OpenFault::BadImage(offset)) => {
-            if let Err(Failed) = write_bad_image(sink, offset) {
-                return Status::SinkFault;
-            }
-            return Status::BadImage;
-        }
-        Err(OpenFault::Down) => return Status::DiskFault,
-        Err(OpenFault::Full) => return Status::LogFull,
-        Err(OpenFault::NoMemory) => return Status::NoMemory,
+        Err(why) => return not_started(sink, why),
     };
     law_of_runs();
     let status = run_script(

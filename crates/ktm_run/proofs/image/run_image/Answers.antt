@@ -1,7 +1,8 @@
-use Rattle.std.proofs.Common.{inl, inr, refl}
+use Rattle.std.proofs.Common.{Err, inl, inr, refl, ap}
 use Rattle.std.proofs.KnownBytes.{Keeps-refl}
 use Rattle.ktm_run.proofs.Openings.{begins_good, safe_begins}
-use Rattle.ktm_run.proofs.Theorems.{run_ended, script_ends}
+use Rattle.ktm_run.proofs.Theorems.{not_started_early, not_started_ends, not_started_is, run_ended, script_ends}
+use Rattle.ktm_run.specs.Early.{NotRun}
 use Rattle.ktm_run.proofs.image.run_image.Goals as goal
 
 pub returns-in_default-clause-run : goal.returns-in_default-clause-run
@@ -21,50 +22,33 @@ returns-in_default-clause-ends g c = inl (record {
 
 pub returns-in-Err-clause-run : goal.returns-in-Err-clause-run
 returns-in-Err-clause-run g c = λ base room tells.
-    absurd (begins_good base room (g.D.Disk.told c.args.disk.now) c.in-Err-BadImage.offset tells ((rw c.in-Err-BadImage.field-0-is at c.in-Err-BadImage.ensures.bad) _ refl).1)
+    let opening = c.in-Err.ensures in
+    not_started_early c.not_started.result base room _ _ c.in-Err.why c.not_started.ensures.says
+    (λ offset is. begins_good base room (g.D.Disk.told c.args.disk.now) offset tells (opening.bad offset (ap Err is)).1)
+    (λ is. opening.full (ap Err is) base room tells)
+    (λ is. opening.cut (ap Err is) base room tells)
+    (λ is keeps. record { not_read = Keeps-refl (g.S.Source.left c.args.source.now); not_written = keeps; plan_is = c.open_kernel.ensures.plan; image = opening.no_memory (ap Err is) base room tells })
 
 pub returns-in-Err-clause-ends : goal.returns-in-Err-clause-ends
 returns-in-Err-clause-ends g c =
-    let (same, bad) = (rw c.in-Err-BadImage.field-0-is at c.in-Err-BadImage.ensures.bad) _ refl in
-    inr (inl (c.in-Err-BadImage.offset, record { not_run = record { not_read = refl; plan_is = c.open_kernel.ensures.plan }; same = same; bad = bad }, rw c.in-Err-BadImage.field-0-is at c.in-Err.ensures.err))
+    let opening = c.in-Err.ensures in
+    let not_run : NotRun _ _ = record { not_read = refl; plan_is = c.open_kernel.ensures.plan } in
+    not_started_ends c.not_started.result _ _ _ c.in-Err.why c.not_started.ensures.says
+    (λ offset is. let (same, bad) = opening.bad offset (ap Err is) in record { not_run = not_run; same = same; bad = bad })
+    (λ is keeps.
+    let (same, there) = opening.found_full (ap Err is) in
+    (record { not_run = not_run; not_written = keeps; same = same; there = there }, opening.opens_full (ap Err is)))
+    (λ is keeps. record { not_run = not_run; not_written = keeps; went_down = opening.down (ap Err is) })
+    (λ is keeps. record { not_run = not_run; not_written = keeps; disk = inr (opening.not_recorded (ap Err is)) })
 
-pub returns-in-Err-BadImage-clause-run : goal.returns-in-Err-BadImage-clause-run
-returns-in-Err-BadImage-clause-run g c = λ base room tells.
-    begins_good base room (g.D.Disk.told c.args.disk.now) c.in-Err-BadImage.offset tells ((rw c.in-Err-BadImage.field-0-is at c.in-Err-BadImage.ensures.bad) _ refl).1
+pub returns-in-Err-clause-source : goal.returns-in-Err-clause-source
+returns-in-Err-clause-source g c = λ same. absurd ((not_started_is _ _ _ _ c.not_started.ensures.says).1 same)
 
-pub returns-in-Err-BadImage-clause-ends : goal.returns-in-Err-BadImage-clause-ends
-returns-in-Err-BadImage-clause-ends g c =
-    let (same, bad) = (rw c.in-Err-BadImage.field-0-is at c.in-Err-BadImage.ensures.bad) _ refl in
-    (c.in-Err-BadImage.offset, record { not_run = record { not_read = refl; plan_is = c.open_kernel.ensures.plan }; same = same; bad = bad }, rw c.in-Err-BadImage.field-0-is at c.in_default-write_bad_image.ensures.ok)
+pub returns-in-Err-clause-not_usage : goal.returns-in-Err-clause-not_usage
+returns-in-Err-clause-not_usage g c = λ same. (not_started_is _ _ _ _ c.not_started.ensures.says).0 same
 
-pub returns-in-Err-Down-clause-run : goal.returns-in-Err-Down-clause-run
-returns-in-Err-Down-clause-run g c = λ base room tells. (rw c.in-Err-Down.field-0-is at c.in-Err-Down.ensures.cut) refl base room tells
-
-pub returns-in-Err-Down-clause-ends : goal.returns-in-Err-Down-clause-ends
-returns-in-Err-Down-clause-ends g c = record {
-  not_run = record { not_read = refl; plan_is = c.open_kernel.ensures.plan };
-  not_written = Keeps-refl (g.K.Sink.taken c.args.sink.now);
-  went_down = (rw c.in-Err-Down.field-0-is at c.in-Err-Down.ensures.down) refl;
-}
-
-pub returns-in-Err-Full-clause-ends : goal.returns-in-Err-Full-clause-ends
-returns-in-Err-Full-clause-ends g c =
-    let (same, there) = (rw c.in-Err-Full.field-0-is at c.in-Err-Full.ensures.found_full) refl in (
-      record {
-        not_run = record { not_read = refl; plan_is = c.open_kernel.ensures.plan };
-        not_written = Keeps-refl (g.K.Sink.taken c.args.sink.now);
-        same = same;
-        there = there;
-      },
-      (rw c.in-Err-Full.field-0-is at c.in-Err-Full.ensures.opens_full) refl,
-    )
-
-pub returns-in-Err-NoMemory-clause-ends : goal.returns-in-Err-NoMemory-clause-ends
-returns-in-Err-NoMemory-clause-ends g c = inl (record {
-  not_run = record { not_read = refl; plan_is = c.open_kernel.ensures.plan };
-  not_written = Keeps-refl (g.K.Sink.taken c.args.sink.now);
-  disk = inr ((rw c.in-Err-NoMemory.field-0-is at c.in-Err-NoMemory.ensures.not_recorded) refl);
-})
+pub returns-in-Err-clause-too_long : goal.returns-in-Err-clause-too_long
+returns-in-Err-clause-too_long g c = λ same. absurd ((not_started_is _ _ _ _ c.not_started.ensures.says).2 same)
 
 pub returns-clause-ends : goal.returns-clause-ends
 returns-clause-ends g c =
