@@ -1,6 +1,7 @@
 -- What a commit records, by what the transaction changed and set.
 use Rattle.std.proofs.Common.{arith, ◌≡◌, ◌≤◌, ◌||◌, ℕ, Bool, not, true, false, eqb, List, [], ◌∷◌, ◌++◌, length, None, Some, refl, sym, ◌∙◌, ap, subst}
 use Rattle.std.specs.Prelude.{All}
+use Rattle.std.specs.List.{list_all}
 use Rattle.std.proofs.lemmas.Bool.{eqb-true}
 use Rattle.std.proofs.lemmas.List.Elements.{recursion_from_All}
 use Rattle.ktm_base.specs.declared.id.Id.{Id}
@@ -26,6 +27,7 @@ use Rattle.ktm_built.specs.Forms.{changes_of, settings_of}
 use Rattle.ktm_built.specs.Standing.{IsBuiltNow}
 use Rattle.ktm_built.proofs.offered.Forms.{forms_law}
 use Rattle.txf_laws.specs.Reservations.{files_committed}
+use Rattle.txf_overlay.specs.OverlayState.{is_of_names}
 use Rattle.txf_volume.specs.Commit.{AreUnopened, AreVersionsFew, LeavesOthers, MayCommit, names_in}
 use Rattle.txf_volume.specs.Held.{FilesHeld, files_of, overlay_in}
 use Rattle.txf_volume.proofs.Seen.{changes_in, own_changes-held}
@@ -108,6 +110,11 @@ idle_may h id none =
     let idle = ap has_changes (sym (own_changes-held h.overlays id)) ∙ none in
     let few = elim (overlay_in h.overlays id) as (λ o. has_changes (changes_in o) ≡ false → names_in o ≤ h.tree.spare) [ None ↦ λ e. omega arith | Some o ↦ λ e. no_names o.names _ h.tree.spare e ] in
     record { nodes = few idle }
+
+-- nor for a list of the files that it wrote
+pub idle_names : (cs : List Change) → has_changes cs ≡ false → list_all is_of_names cs ≡ true
+idle_names [] none = refl
+idle_names (c ∷ cs) none = absurd (cc)
 
 -- nor for one that set nothing
 pub idle_keys : (x : Present) (t : Transaction) (room : ℕ) → has_work x (Some t) ≡ false → (has_changes (changes_of x t) ≡ false) × (length (settings_of x t) ≤ room)

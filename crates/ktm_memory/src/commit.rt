@@ -1,8 +1,9 @@
 // Recording what a commit or a plain call has to record, where the log has room for it.
-ghost use Rattle.std.specs.Prelude.{◌≡◌, ◌↔◌, ◌+◌, ◌-◌, ◌<◌, ◌≤◌, ◌^◌, ◌∷◌, ◌++◌, min, not, true, false, None, Some, [], All, IfOk, IfSome, IsOk, IsTrue, OnErr, length, sum_by};
+ghost use Rattle.std.specs.Prelude.{◌≡◌, ◌↔◌, ◌+◌, ◌-◌, ◌<◌, ◌≤◌, ◌^◌, ◌∷◌, ◌++◌, min, not, true, false, None, Some, [], All, IfOk, IfSome, IsOk, IsTrue, OnErr, filter, length, sum_by};
+ghost use Rattle.std.specs.List.{list_all};
 ghost use Rattle.ktm_event.specs.Kept.{Holds};
 ghost use Rattle.ktm_event.specs.Spelling.{IsSpellableEvent, IsSpellableId};
-ghost use Rattle.ktm_event.specs.Work.{part_of, work_event};
+ghost use Rattle.ktm_event.specs.Work.{changes_of as recorded_changes, part_of, work_event};
 ghost use Rattle.ktm_event.specs.declared.work.Stage.TheVariants.{Single as Alone};
 ghost use Rattle.ktm_forms.specs.Commits.{commit_events, parts_events};
 ghost use Rattle.ktm_types.specs.Sizes.{event_size};
@@ -15,7 +16,6 @@ ghost use Rattle.ktm_types.specs.declared.change.Change.{Change as Made};
 ghost use Rattle.ktm_types.specs.declared.event.Event.{Event as Recorded};
 ghost use Rattle.ktm_types.specs.declared.event.DonePart.TheVariants.{Files as OfFiles, Keys as OfKeys};
 ghost use Rattle.ktm_types.specs.declared.event.Event.TheVariants.{Decide, Done};
-ghost use Rattle.ktm_world.specs.Changes.{has_changes};
 ghost use Rattle.ktm_world.specs.Decide.{events_of};
 ghost use Rattle.ktm_world.specs.Files.{own_changes};
 ghost use Rattle.ktm_world.specs.Keys.{own_settings};
@@ -23,12 +23,14 @@ ghost use Rattle.ktm_world.specs.Logs.{Group};
 ghost use Rattle.ktm_world.specs.Outcome.{is_full};
 ghost use Rattle.ktm_world.specs.TransactionCalls.{commit_transaction};
 ghost use Rattle.ktm_world.specs.Transactions.{transaction_at};
+ghost use Rattle.txf_overlay.specs.OverlayState.{is_of_names};
+ghost use Rattle.txf_volume.specs.Commit.{MayCommit};
 ghost use Rattle.txf_volume.specs.Held.{files_of};
 
 use crate::memory::Memory;
 use crate::settlement::{Decision, Settlement};
 use ktm_base::{Id, NoMemory};
-use ktm_event::{Events, Stage, Work, event_size, work_size};
+use ktm_event::{Events, FileBytes, Stage, Work, event_size, work_size};
 use ktm_journal::Journal;
 use ktm_types::{Change, DonePart, Event, Reply, Setting, Transaction};
 use kv_rm::KvRm;
@@ -196,37 +198,36 @@ fn record_settings(journal: &Journal, events: &mut Events, id: Id, settings: &[S
     record_single(journal, events, id, Work::Settings(settings))
 }
 
-// Records what a transaction that commits changed and set, where the log has room. It takes memory for the list of the files
-// that it wrote, and copies none of their bytes.
+// Records what a transaction that commits changed and set, where the log has room. No byte of the files that it wrote is copied.
 fn record_commit(
     journal: &Journal,
     events: &mut Events,
     files: &Files,
+    written: &[FileBytes<'_>],
     keys: &KvRm,
     id: Id,
-) -> Result<bool, NoMemory>
+) -> bool
     requires empty { Holds events.old [] }
     requires roomy { IsRoomy journal.now events.old }
+    requires written { own_changes (files_of files.now).table.own id ≡ recorded_changes (filter is_of_names (own_changes (files_of files.now).table.own id)) written.now }
     requires spelled { is_full (journal.now.log.area.len - journal.now.log.end) (commit_events id (own_changes (files_of files.now).table.own id) (own_settings keys.now.keys.own id)) ≡ false
         → All IsSpellableEvent (commit_events id (own_changes (files_of files.now).table.own id) (own_settings keys.now.keys.own id)) }
-    ensures recorded { IfOk result (λ is. is ≡ true → Holds events.new (commit_events id (own_changes (files_of files.now).table.own id) (own_settings keys.now.keys.own id))) }
-    ensures full { IfOk result (λ is. is ≡ not (is_full (journal.now.log.area.len - journal.now.log.end) (commit_events id (own_changes (files_of files.now).table.own id) (own_settings keys.now.keys.own id)))) }
+    ensures recorded { result ≡ true → Holds events.new (commit_events id (own_changes (files_of files.now).table.own id) (own_settings keys.now.keys.own id)) }
+    ensures full { result ≡ not (is_full (journal.now.log.area.len - journal.now.log.end) (commit_events id (own_changes (files_of files.now).table.own id) (own_settings keys.now.keys.own id))) }
     ensures room { events.new.room ≡ events.old.room }
-    ensures enough { has_changes (own_changes (files_of files.now).table.own id) ≡ false → IsOk result }
 {
     let settings = keys.own_settings(id);
     if !files.has_changes(id) {
-        return Ok(record_settings(journal, events, id, settings));
+        return record_settings(journal, events, id, settings);
     }
-    let written = files.written(id)?;
     let changes = Work::Changes {
         names: files.names(id),
-        files: written.as_slice(),
+        files: written,
     };
     if settings.is_empty() {
-        return Ok(record_single(journal, events, id, changes));
+        return record_single(journal, events, id, changes);
     }
-    Ok(record_both(journal, events, id, changes, Work::Settings(settings)))
+    record_both(journal, events, id, changes, Work::Settings(settings))
 }
 
 impl Memory {
@@ -246,11 +247,14 @@ impl Memory {
         ensures ok { IfOk result (λ d. DecidesIf journal.now (held self.old) (commit_transaction (now_of journal.now (held self.old)) (Some t)) d events.new self.new) }
         ensures room { events.new.room ≡ events.old.room }
         ensures no_memory { OnErr result (held self.new ≡ held self.old) }
-        ensures enough { has_changes (changes_of (now_of journal.now (held self.old)) t) ≡ false → length (own_settings self.old.keys.keys.own t.id) ≤ self.old.keys.room → IsOk result }
+        // it gives up only where the keys, the files, or the list of the files that it wrote have to take memory
+        ensures enough { length (own_settings self.old.keys.keys.own t.id) ≤ self.old.keys.room → MayCommit self.old.files t.id
+            → list_all is_of_names (changes_of (now_of journal.now (held self.old)) t) ≡ true → IsOk result }
     {
         self.keys.reserve(t.id)?;
         self.files.prepare_commit(t.id)?;
-        if !record_commit(journal, events, &self.files, &self.keys, t.id)? {
+        let written = self.files.written(t.id)?;
+        if !record_commit(journal, events, &self.files, &written, &self.keys, t.id) {
             return Ok(None);
         }
         Ok(Some(Decision {

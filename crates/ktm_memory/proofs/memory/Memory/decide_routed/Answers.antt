@@ -8,7 +8,7 @@ use Rattle.ktm_world.specs.HandleCalls.{close_handle, duplicate_handle, exit}
 use Rattle.ktm_world.specs.TransactionCalls.{get_transaction_information, opened_object, rollback_transaction}
 use Rattle.ktm_memory.proofs.Decides.{bound_comes, duplicated_comes, information_is, only_decided, quiet_decided}
 use Rattle.ktm_memory.proofs.offered.Standing.{built}
-use Rattle.ktm_memory.proofs.CommitGroups.{idle_keys}
+use Rattle.ktm_memory.proofs.CommitGroups.{idle_keys, idle_may, idle_names}
 use Rattle.ktm_memory.proofs.offered.Takes.{from_not, gave_up}
 use Rattle.ktm_memory.proofs.memory.Memory.decide_routed.Goals as goal
 
@@ -75,7 +75,7 @@ returns-in_err-decide_keys-in-Keys-clause-enough c = rw c.in-Keys.is (λ none. g
 
 pub returns-in-Commit-clause-enough : goal.returns-in-Commit-clause-enough
 returns-in-Commit-clause-enough c =
-    rw c.in-Commit.is (λ none. let idle = idle_keys (now_of c.args.journal.now (held c.args.self.now)) c.in-Commit.t c.args.self.now.keys.room none in c.decide_commit.ensures.enough idle.0 idle.1)
+    rw c.in-Commit.is (λ none. let idle = idle_keys (now_of c.args.journal.now (held c.args.self.now)) c.in-Commit.t c.args.self.now.keys.room none in c.decide_commit.ensures.enough idle.1 (idle_may c.args.self.now.files c.in-Commit.t.id idle.0) (idle_names _ idle.0))
 
 pub returns-in-Files-clause-enough : goal.returns-in-Files-clause-enough
 returns-in-Files-clause-enough c = rw c.in-Files.is c.decide_files.ensures.enough
