@@ -44,15 +44,15 @@ off_of k told w off at = sym (up_of k told w at) ∙ off
 
 -- ---- the counts of one line
 
-pub counted : (w : World) (k n : KernelState) (before now : Option DiskState) (a b : DiskStatus) (plan : List PowerCall) (fell : ℕ)
-    → RoseBy fell a.downs b.downs → b.plan ≡ a.plan ++ plan → b.calls ≤ a.calls + (8 * w.base.units + 68)
-    → Counts w (record { machine = k; disk = before; status = a }) (record { machine = n; disk = now; status = b }) 1 plan fell
-counted w k n before now a b plan fell rose is few = record { rose = rose; plan_is = is; few = omega arith }
+pub counted : (k n : KernelState) (before now : Option DiskState) (a b : DiskStatus) (most : ℕ) (plan : List PowerCall) (fell : ℕ)
+    → RoseBy fell a.downs b.downs → b.plan ≡ a.plan ++ plan → b.calls ≤ a.calls + most
+    → Counts (record { machine = k; disk = before; status = a }) (record { machine = n; disk = now; status = b }) most plan fell
+counted k n before now a b most plan fell rose is few = record { rose = rose; plan_is = is; few = few }
 
 -- a line that changed no count
-quiet : (w : World) (k n : KernelState) (before now : Option DiskState) (a b : DiskStatus) → b ≡ a
-    → Counts w (record { machine = k; disk = before; status = a }) (record { machine = n; disk = now; status = b }) 1 [] 0
-quiet w k n before now a b same = counted w k n before now a b [] 0
+quiet : (k n : KernelState) (before now : Option DiskState) (a b : DiskStatus) → b ≡ a
+    → Counts (record { machine = k; disk = before; status = a }) (record { machine = n; disk = now; status = b }) 0 [] 0
+quiet k n before now a b same = counted k n before now a b 0 [] 0
     (let is = ap (λ s. s.downs) same in omega arith)
     (ap (λ s. s.plan) same ∙ sym (append-nil a.plan))
     (let is = ap (λ s. s.calls) same in omega arith)
@@ -81,10 +81,10 @@ called k n before now a b process command reply does cause calls = λ w at.
       world = new;
       does = done;
       stands = stands;
-      counts = counted w k n before now a b [] (falls_of (Some (Process process command)) step reply)
+      counts = counted k n before now a b 4 [] (falls_of (Some (Process process command)) step reply)
           (call_rose k before w new a b process command step reply at done cause calls.later)
           (calls.plan ∙ sym (append-nil a.plan))
-          (let few = calls.few in omega arith);
+          calls.few;
     }
 
 -- ---- the passing of time
@@ -92,8 +92,8 @@ called k n before now a b process command reply does cause calls = λ w at.
 -- it makes no call of the disk, and so the power does not go in it
 tick_counts : (k n : KernelState) (before now : Option DiskState) (w new : World) (a b : DiskStatus) (ms : ℕ) (step : Step) (reply : Reply)
     → KernelAt k before w → Does w (Some (Tick ms)) step reply new → (reply ≡ Refused MachineDown → k.now.machine.is_up ≡ false) → b ≡ a
-    → Counts w (record { machine = k; disk = before; status = a }) (record { machine = n; disk = now; status = b }) 1 [] (falls_of (Some (Tick ms)) step reply)
-tick_counts k n before now w new a b ms answered reply at does cause same = quiet w k n before now a b same
+    → Counts (record { machine = k; disk = before; status = a }) (record { machine = n; disk = now; status = b }) 0 [] (falls_of (Some (Tick ms)) step reply)
+tick_counts k n before now w new a b ms answered reply at does cause same = quiet k n before now a b same
 tick_counts k n before now w new a b ms interrupted reply at (on, says, is) cause same = let wrong : true ≡ false = sym on ∙ off_of k before w (cause says) at in absurd (cc)
 tick_counts k n before now w new a b ms (found log) reply at none cause same = absurd none
 tick_counts k n before now w new a b ms (full log) reply at none cause same = absurd none
@@ -116,7 +116,7 @@ pub not_executed : (k n : KernelState) (before now : Option DiskState) (a b : Di
     → Unanswered w (record { machine = k; disk = before; status = a }) (record { machine = n; disk = now; status = b }) line
 not_executed k n before now a b line told same w at = record {
   leaves = subst (λ (o : Option DiskState). IsSomeAnd o (LeavesStates w)) (sym told) (left_law k before w at);
-  counts = inl (quiet w k n before now a b same);
+  counts = inl (quiet k n before now a b same);
 }
 
 -- ---- a crash
@@ -140,7 +140,7 @@ went_down k n before now a b told is does = λ w at.
       world = new;
       does = done;
       stands = stands;
-      counts = counted w k n before now a b _ (falls_of (Some Crash) step Done) (off_rose (is_up w.power) w new a b step is done) (ap (λ s. s.plan) is) (let few = ap (λ s. s.calls) is in omega arith);
+      counts = counted k n before now a b 0 _ (falls_of (Some Crash) step Done) (off_rose (is_up w.power) w new a b step is done) (ap (λ s. s.plan) is) (let few = ap (λ s. s.calls) is in omega arith);
     }
 
 pub is_down_still : (k : KernelState) (told : Option DiskState) (a : DiskStatus) → k.now.machine.is_up ≡ false
@@ -150,7 +150,7 @@ is_down_still k told a off = λ w at. record {
   world = w;
   does = subst (λ b. CrashDoes b w answered (Refused MachineDown) w) (sym (off_of k told w off at)) (refl, refl);
   stands = at;
-  counts = quiet w k k told told a a refl;
+  counts = quiet k k told told a a refl;
 }
 
 -- ---- a restart
@@ -165,7 +165,7 @@ failed_again law k before now a b pick off is rose goes = λ w at.
       world = interrupted_restart w;
       does = subst (λ b. RestartDoes b w interrupted (Refused MachineDown) (interrupted_restart w)) (sym down) (refl, refl);
       stands = (law k before now w down at).1 goes;
-      counts = counted w k k before now a b (Power pick ∷ []) 1 rose (ap (λ s. s.plan) is) (let few = ap (λ s. s.calls) is in omega arith);
+      counts = counted k k before now a b (8 * w.base.units + 68) (Power pick ∷ []) 1 rose (ap (λ s. s.plan) is) (let few = ap (λ s. s.calls) is in omega arith);
     }
 
 -- the power is back
@@ -199,8 +199,9 @@ started_rose w new pick (full log) reply a b does cause later = RoseBy-none a.do
 module _ (law : PowerLaw) (k n : KernelState) (before mid now : Option DiskState) (a m b : DiskStatus) (pick : ℕ)
     (off : k.now.machine.is_up ≡ false) (power : m ≡ powered a pick) (goes : Goes Restored before mid)
     (calls : DeviceCalls (8 * MOST_UNITS + 68) m b b.is_down) (few : (w : World) → FoundAt k mid w → b.calls ≤ m.calls + (8 * w.base.units + 68)) where
-  starts_counted : (w : World) (fell : ℕ) → KernelAt k before w → RoseBy fell m.downs b.downs → Counts w (record { machine = k; disk = before; status = a }) (record { machine = n; disk = now; status = b }) 1 (Power pick ∷ []) fell
-  starts_counted w fell at rose = counted w k n before now a b (Power pick ∷ []) fell
+  starts_counted : (w : World) (fell : ℕ) → KernelAt k before w → RoseBy fell m.downs b.downs
+      → Counts (record { machine = k; disk = before; status = a }) (record { machine = n; disk = now; status = b }) (8 * w.base.units + 68) (Power pick ∷ []) fell
+  starts_counted w fell at rose = counted k n before now a b (8 * w.base.units + 68) (Power pick ∷ []) fell
       (subst (λ d. RoseBy fell d b.downs) (ap (λ s. s.downs) power) rose)
       (calls.plan ∙ ap (λ s. s.plan) power)
       (subst (λ d. b.calls ≤ d + (8 * w.base.units + 68)) (ap (λ s. s.calls) power) (few w (found_at law k before mid off goes w at)))
@@ -214,7 +215,7 @@ module _ (law : PowerLaw) (k n : KernelState) (before mid now : Option DiskState
         world = new;
         does = done;
         stands = stands;
-        counts = subst (λ (p : List PowerCall). Counts w (record { machine = k; disk = before; status = a }) (record { machine = n; disk = now; status = b }) 1 p (falls_of (Some (Restart pick)) step reply))
+        counts = subst (λ (p : List PowerCall). Counts (record { machine = k; disk = before; status = a }) (record { machine = n; disk = now; status = b }) (8 * w.base.units + 68) p (falls_of (Some (Restart pick)) step reply))
             (sym (started_plan w new pick step reply starts))
             (starts_counted w (falls_of (Some (Restart pick)) step reply) at (started_rose w new pick step reply m b starts cause calls.later));
       }

@@ -41,8 +41,8 @@ module _ (machine : KernelState) (disk mid_disk : Option DiskState) (same : mid_
   abbrev pub roomy : Scene
   roomy = record { machine = machine; disk = mid_disk; status = mid }
 
-  counted : (w : World) (lines : ℕ) (plan : List PowerCall) (fell : ℕ) → Counts w roomy new lines plan fell → Counts w before new lines plan fell
-  counted w lines plan fell h =
+  counted : (most : ℕ) (plan : List PowerCall) (fell : ℕ) → Counts roomy new most plan fell → Counts before new most plan fell
+  counted most plan fell h =
       let downs = ap (λ (s : DiskStatus). s.downs) room in
       let calls = ap (λ (s : DiskStatus). s.calls) room in
       let up = h.rose in
@@ -55,15 +55,15 @@ module _ (machine : KernelState) (disk mid_disk : Option DiskState) (same : mid_
   pub did_planned : (w : World) (line : Option Line) (reply : Reply) → Answers roomy new line reply → KernelAt machine disk w → Did w before new line reply
   did_planned w line reply answers stands =
       let did = answers w (subst (λ (d : Option DiskState). KernelAt machine d w) (sym same) stands) in
-      record { step = did.step; world = did.world; does = did.does; stands = did.stands; counts = counted w 1 _ _ did.counts }
+      record { step = did.step; world = did.world; does = did.does; stands = did.stands; counts = counted _ _ _ did.counts }
 
   pub unanswered_planned : (w : World) (line : List ℕ) → ((w : World) → KernelAt roomy.machine roomy.disk w → Unanswered w roomy new line) → KernelAt machine disk w → Unanswered w before new line
   unanswered_planned w line leaves stands =
       let h = leaves w (subst (λ (d : Option DiskState). KernelAt machine d w) (sym same) stands) in record {
         leaves = h.leaves;
         counts = elim h.counts [
-          | inl none ↦ inl (counted w 1 [] 0 none)
-          | inr some ↦ inr (some.0, some.1, some.2, counted w 1 _ 0 some.3)
+          | inl none ↦ inl (counted 0 [] 0 none)
+          | inr some ↦ inr (some.0, some.1, some.2, counted _ _ 0 some.3)
         ];
       }
 

@@ -1,9 +1,9 @@
 -- Counts over lines, one after another.
-use Rattle.std.proofs.Common.{◌≡◌, ℕ, ◌+◌, ◌*◌, ◌≤◌, Bool, true, false, List, [], ◌∷◌, ◌++◌, Option, Some, None, refl, sym, ◌∙◌, ap, subst, arith, append_assoc, add-mul}
+use Rattle.std.proofs.Common.{◌≡◌, ℕ, ◌+◌, ◌*◌, ◌≤◌, Bool, true, false, List, [], ◌∷◌, ◌++◌, Option, Some, None, refl, sym, ◌∙◌, ap, subst, arith, append_assoc, zero-add}
 use Rattle.std.proofs.lemmas.List.{append-nil}
 use Rattle.ktm_base.specs.declared.power.PowerCall.{PowerCall}
 use Rattle.ktm_base.specs.declared.refusal.Refusal.TheVariants.{BadLine, MachineDown, MachineUp}
-use Rattle.ktm_run.specs.Plan.{plan_of, plans, falls, RoseBy, most_calls}
+use Rattle.ktm_run.specs.Plan.{plan_of, plans, falls, RoseBy, calls}
 use Rattle.ktm_run.specs.Progress.{Scene, Counts}
 use Rattle.ktm_types.specs.declared.command.Line.{Line}
 use Rattle.ktm_types.specs.declared.command.Line.TheVariants.{Tick, Cut, Crash, Restart, Process}
@@ -23,18 +23,19 @@ RoseBy-then m n a b c h k = omega arith
 pub RoseBy-later : (m a b c : ℕ) → RoseBy m a b → b ≤ c → RoseBy m a c
 RoseBy-later m a b c h k = omega arith
 
-few-then : (a b c m n x : ℕ) → b ≤ a + m * x → c ≤ b + n * x → c ≤ a + (m + n) * x
-few-then a b c m n x h k = rw (add-mul m n x) (omega arith)
-
-pub Counts-then : (w v : World) (a b c : Scene) (m n : ℕ) (p q : List PowerCall) (f g : ℕ) → v.base ≡ w.base → Counts w a b m p f → Counts v b c n q g → Counts w a c (m + n) (p ++ q) (f + g)
-Counts-then w v a b c m n p q f g same h k = record {
+pub Counts-then : (a b c : Scene) (m n : ℕ) (p q : List PowerCall) (f g : ℕ) → Counts a b m p f → Counts b c n q g → Counts a c (m + n) (p ++ q) (f + g)
+Counts-then a b c m n p q f g h k = record {
   rose = RoseBy-then f g a.status.downs b.status.downs c.status.downs h.rose k.rose;
   plan_is = k.plan_is ∙ ap (λ (l : List PowerCall). l ++ q) h.plan_is ∙ append_assoc a.status.plan p q;
-  few = few-then a.status.calls b.status.calls c.status.calls m n (most_calls w.base.units) h.few (subst (λ (d : Durable). c.status.calls ≤ b.status.calls + n * most_calls d.units) same k.few);
+  few = omega (arith, h.few, k.few);
 }
 
-pub Counts-none : (w : World) (a : Scene) → Counts w a a 0 [] 0
-Counts-none w a = record { rose = RoseBy-none a.status.downs a.status.downs (omega arith); plan_is = sym (append-nil a.status.plan); few = omega arith }
+pub Counts-none : (a : Scene) → Counts a a 0 [] 0
+Counts-none a = record { rose = RoseBy-none a.status.downs a.status.downs (omega arith); plan_is = sym (append-nil a.status.plan); few = omega arith }
+
+pub calls-append : (units : ℕ) (xs ys : List (Option Line)) → calls units (xs ++ ys) ≡ calls units xs + calls units ys
+calls-append units [] ys = sym (zero-add (calls units ys))
+calls-append units (x ∷ xs) ys = let rest = calls-append units xs ys in omega arith
 
 -- ---- along a transcript
 

@@ -111,7 +111,7 @@ module _ (base : Durable) (room : ℕ) where
 
   few_calls : (old new : DiskState) (a b c : DiskStatus) (x y : Bool) → Begins base room old → Prepared old new → DeviceCalls (8 * MOST_UNITS + 65) a b x → DeviceCalls (8 * MOST_UNITS + 68) b c y
       → (0 < length old.seen → b.calls ≤ a.calls + 1) → ((units image : ℕ) → IsHeaded units image new.seen → c.calls ≤ b.calls + (8 * units + 68))
-      → c.calls ≤ a.calls + (0 + 4) * (16 * base.units + 256)
+      → c.calls ≤ a.calls + (16 * base.units + 133 + 0)
   few_calls old new a b c x y begins prepared first second one few = elim prepared [
     | inl (none, all, holds) ↦
         let is = (begins_new base room old.seen none begins.1).0 in

@@ -1,6 +1,6 @@
 -- Runs of lines go one after another, and end early at one line.
 use Rattle.std.specs.Prelude.{IfSome}
-use Rattle.std.proofs.Common.{◌≡◌, ℕ, ◌+◌, ◌*◌, ◌≤◌, true, false, cond, List, [], ◌∷◌, ◌++◌, length, Option, refl, sym, ◌∙◌, ap, subst, arith, append_assoc, length-append}
+use Rattle.std.proofs.Common.{◌≡◌, ℕ, ◌+◌, ◌*◌, ◌≤◌, true, false, cond, List, [], ◌∷◌, ◌++◌, length, Option, refl, sym, ◌∙◌, ap, subst, arith, append_assoc}
 use Rattle.std.proofs.lemmas.List.{append-nil}
 use Rattle.std.proofs.lemmas.List.Elements.{filter-append}
 use Rattle.std.proofs.lemmas.Grind.{flat_map-append}
@@ -10,11 +10,12 @@ use Rattle.ktm_base.specs.declared.power.PowerCall.{PowerCall}
 use Rattle.ktm_base.specs.Disk.{HasLengths}
 use Rattle.ktm_kernel.specs.Stands.{KernelAt}
 use Rattle.ktm_run.proofs.Known.{Appends-none, Appends-trans}
-use Rattle.ktm_run.proofs.Counting.{Counts-none, Counts-then, keeps_base, Transcript-append, plans-append, falls-append}
-use Rattle.ktm_run.specs.Plan.{plan_of, plans, falls_of, falls}
+use Rattle.ktm_run.proofs.Counting.{Counts-none, Counts-then, calls-append, keeps_base, Transcript-append, plans-append, falls-append}
+use Rattle.ktm_run.specs.Plan.{plan_of, plans, falls_of, falls, calls_of, calls}
 use Rattle.ktm_run.specs.Progress.{Scene, Now, Counts, Answers, Ran, Progress, Broke, Stops}
 use Rattle.ktm_run.specs.Script.{has_reply, Means, MeanAll, reply_line}
 use Rattle.ktm_types.specs.declared.command.Line.{Line}
+use Rattle.ktm_world.specs.Durable.{Durable}
 use Rattle.ktm_types.specs.declared.reply.Reply.{Reply}
 use Rattle.ktm_world.specs.World.{World}
 
@@ -25,7 +26,7 @@ MeanAll-append (x ∷ xs) ys [] ns h k = absurd h
 MeanAll-append (x ∷ xs) ys (m ∷ ms) ns h k = (h.0, MeanAll-append xs ys ms ns h.1 k)
 
 pub Progress-none : (now : Now) → Progress now now []
-Progress-none now = λ w stands. record { meant = []; steps = []; replies = []; world = w; mean = tt; run = refl; wrote = Appends-none now.taken; stands = stands; counts = Counts-none w now.scene }
+Progress-none now = λ w stands. record { meant = []; steps = []; replies = []; world = w; mean = tt; run = refl; wrote = Appends-none now.taken; stands = stands; counts = Counts-none now.scene }
 
 pub Ran-then : (w : World) (a b c : Now) (xs ys : List (List ℕ)) (p : Ran w a b xs) → Ran p.world b c ys → Ran w a c (xs ++ ys)
 Ran-then w a b c xs ys p q = record {
@@ -38,12 +39,14 @@ Ran-then w a b c xs ys p q = record {
   wrote = subst (λ (l : List ℕ). Appends a.taken c.taken l) (sym (flat_map-append reply_line p.replies q.replies)) (Appends-trans a.taken b.taken c.taken _ _ p.wrote q.wrote);
   stands = q.stands;
   counts =
-      subst (λ n. Counts w a.scene c.scene n (plans (p.meant ++ q.meant) (p.replies ++ q.replies)) (falls (p.meant ++ q.meant) (p.steps ++ q.steps) (p.replies ++ q.replies))) (sym (length-append p.meant q.meant))
-      (subst (λ (l : List PowerCall). Counts w a.scene c.scene (length p.meant + length q.meant) l (falls (p.meant ++ q.meant) (p.steps ++ q.steps) (p.replies ++ q.replies)))
+      let units = w.base.units in
+      let same : p.world.base.units ≡ units = ap (λ (d : Durable). d.units) (keeps_base w p.meant p.steps p.replies p.world p.run) in
+      subst (λ n. Counts a.scene c.scene n (plans (p.meant ++ q.meant) (p.replies ++ q.replies)) (falls (p.meant ++ q.meant) (p.steps ++ q.steps) (p.replies ++ q.replies))) (sym (calls-append units p.meant q.meant))
+      (subst (λ (l : List PowerCall). Counts a.scene c.scene (calls units p.meant + calls units q.meant) l (falls (p.meant ++ q.meant) (p.steps ++ q.steps) (p.replies ++ q.replies)))
       (sym (plans-append w p.meant p.steps p.replies p.world q.meant q.replies p.run))
-      (subst (λ n. Counts w a.scene c.scene (length p.meant + length q.meant) (plans p.meant p.replies ++ plans q.meant q.replies) n)
+      (subst (λ n. Counts a.scene c.scene (calls units p.meant + calls units q.meant) (plans p.meant p.replies ++ plans q.meant q.replies) n)
       (sym (falls-append w p.meant p.steps p.replies p.world q.meant q.steps q.replies p.run))
-      (Counts-then w p.world a.scene b.scene c.scene _ _ _ _ _ _ (keeps_base w p.meant p.steps p.replies p.world p.run) p.counts q.counts)));
+      (Counts-then a.scene b.scene c.scene _ _ _ _ _ _ p.counts (subst (λ n. Counts b.scene c.scene (calls n q.meant) (plans q.meant q.replies) (falls q.meant q.steps q.replies)) same q.counts))));
 }
 
 pub Progress-then : (a b c : Now) (xs ys : List (List ℕ)) → Progress a b xs → Progress b c ys → Progress a c (xs ++ ys)
@@ -63,14 +66,14 @@ Progress-silent now line silent = λ w stands. record {
   run = refl;
   wrote = Appends-none now.taken;
   stands = stands;
-  counts = Counts-none w now.scene;
+  counts = Counts-none now.scene;
 }
 
-one_line : (w : World) (a b : Scene) (p : List PowerCall) (f : ℕ) (lines : ℕ) → lines ≡ 1 → Counts w a b 1 p f → Counts w a b lines (p ++ []) (f + 0)
-one_line w a b p f lines one h = record {
+one_line : (a b : Scene) (p : List PowerCall) (f most : ℕ) → Counts a b most p f → Counts a b (most + 0) (p ++ []) (f + 0)
+one_line a b p f most h = record {
   rose = let up = h.rose in omega arith;
   plan_is = h.plan_is ∙ ap (λ (l : List PowerCall). a.status.plan ++ l) (sym (append-nil p));
-  few = subst (λ n. b.status.calls ≤ a.status.calls + n * (16 * w.base.units + 256)) (sym one) h.few;
+  few = let few = h.few in omega arith;
 }
 
 -- and one that has
@@ -86,7 +89,7 @@ Progress-line a b line meant reply has means answers wrote = λ w stands.
       run = (did.world, did.does, refl);
       wrote = subst (λ (l : List ℕ). Appends a.taken b.taken l) (sym (append-nil (reply_line reply))) wrote;
       stands = did.stands;
-      counts = one_line w a.scene b.scene (plan_of meant reply) (falls_of meant did.step reply) (length (meant ∷ [])) (omega arith) did.counts;
+      counts = one_line a.scene b.scene (plan_of meant reply) (falls_of meant did.step reply) (calls_of w.base.units meant) did.counts;
     }
 
 -- ---- a run that ends early

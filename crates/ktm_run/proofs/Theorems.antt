@@ -1,6 +1,6 @@
 -- From the lines that were answered to what a run comes to.
 use Rattle.std.specs.Prelude.{IfSome, IsSomeAnd}
-use Rattle.std.proofs.Common.{◌≡◌, ◌≢◌, ◌⊎◌, inl, inr, ℕ, ◌+◌, ◌*◌, ◌<◌, ◌≤◌, true, false, List, [], ◌∷◌, ◌++◌, length, take, Option, Some, None, refl, sym, ◌∙◌, ap, subst, arith, add-mul}
+use Rattle.std.proofs.Common.{◌≡◌, ◌≢◌, ◌⊎◌, inl, inr, ℕ, ◌+◌, ◌*◌, ◌<◌, ◌≤◌, true, false, List, [], ◌∷◌, ◌++◌, length, take, Option, Some, None, refl, sym, ◌∙◌, ap, subst, arith}
 use Rattle.std.proofs.lemmas.List.{append-nil}
 use Rattle.std.proofs.KnownBytes.{Keeps-refl}
 use Rattle.std.specs.Io.KnownBytes.{Consumes, IsAtEnd, Keeps}
@@ -27,15 +27,12 @@ use Rattle.ktm_world.specs.Logs.{is_up}
 use Rattle.ktm_world.specs.Outcome.{is_full}
 use Rattle.ktm_world.specs.World.{World, opened, own_group}
 
-few_lines : (a b c n x : ℕ) → b ≤ a + (0 + 4) * x → c ≤ b + n * x → c ≤ a + (n + 4) * x
-few_lines a b c n x h k = rw (add-mul n 4 x) (omega arith)
-
 pub all_counts : (base : Durable) (room : ℕ) (old : DiskStatus) (first last : Scene) (n : ℕ) (plan : List PowerCall) (fell : ℕ) → RunCounts base.units old first.status 0 [] 0
-    → Counts (opened base room []) first last n plan fell → RunCounts base.units old last.status n plan fell
+    → Counts first last n plan fell → RunCounts base.units old last.status n plan fell
 all_counts base room old first last n plan fell opening counts = record {
   rose = omega (arith, opening.rose, counts.rose);
   plan_is = counts.plan_is ∙ ap (λ (l : List PowerCall). l ++ plan) (opening.plan_is ∙ append-nil old.plan);
-  few = few_lines old.calls first.status.calls last.status.calls n (16 * base.units + 256) opening.few counts.few;
+  few = omega (arith, opening.few, counts.few);
 }
 
 -- what is read is one of the images that may be left
@@ -49,14 +46,14 @@ moment_at now = record { taken = now.taken; disk = now.scene.disk; status = now.
 -- ---- a line at which a run ended
 
 module _ (w : World) (at new : Now) (line : List ℕ) (lengths : IfSome new.scene.disk HasLengths) where
-  line_counts : (n : ℕ) (plan : List PowerCall) (fell : ℕ) → Counts w at.scene new.scene n plan fell → LineCounts w.base.units at.scene.status new.scene.status n plan fell
+  line_counts : (n : ℕ) (plan : List PowerCall) (fell : ℕ) → Counts at.scene new.scene n plan fell → LineCounts at.scene.status new.scene.status n plan fell
   line_counts n plan fell counts = record { rose = counts.rose; plan_is = counts.plan_is; few = counts.few }
 
-  unanswered_counts : Counts w at.scene new.scene 1 [] 0 ⊎ ((pick : ℕ) × Means line (Some (Restart pick)) × (is_up w.power ≡ false) × Counts w at.scene new.scene 1 (Power pick ∷ []) 0)
-      → LineCounts w.base.units at.scene.status new.scene.status 1 [] 0
-      ⊎ ((pick : ℕ) × Means line (Some (Restart pick)) × (is_up w.power ≡ false) × LineCounts w.base.units at.scene.status new.scene.status 1 (Power pick ∷ []) 0)
-  unanswered_counts (inl none) = inl (line_counts 1 [] 0 none)
-  unanswered_counts (inr (pick, mean, off, some)) = inr (pick, mean, off, line_counts 1 (Power pick ∷ []) 0 some)
+  unanswered_counts : Counts at.scene new.scene 0 [] 0 ⊎ ((pick : ℕ) × Means line (Some (Restart pick)) × (is_up w.power ≡ false) × Counts at.scene new.scene (8 * w.base.units + 68) (Power pick ∷ []) 0)
+      → LineCounts at.scene.status new.scene.status 0 [] 0
+      ⊎ ((pick : ℕ) × Means line (Some (Restart pick)) × (is_up w.power ≡ false) × LineCounts at.scene.status new.scene.status (8 * w.base.units + 68) (Power pick ∷ []) 0)
+  unanswered_counts (inl none) = inl (line_counts 0 [] 0 none)
+  unanswered_counts (inr (pick, mean, off, some)) = inr (pick, mean, off, line_counts (8 * w.base.units + 68) (Power pick ∷ []) 0 some)
 
   broke_of : Broke w at new line → Unanswered w (moment_at at) (moment_at new) line ⊎ HalfWritten w (moment_at at) (moment_at new) line
   broke_of (inl (wrote, unanswered)) = inl (record {
@@ -73,7 +70,7 @@ module _ (w : World) (at new : Now) (line : List ℕ) (lengths : IfSome new.scen
         world = did.world;
         does = did.does;
         wrote = half.wrote;
-        counts = line_counts 1 _ _ did.counts;
+        counts = line_counts _ _ _ did.counts;
         holds = holds_of new.scene.disk did.world lengths half.leaves;
       })
 

@@ -1,4 +1,4 @@
--- What the lines of a script ask of the disk's power, and how often they take the machine down.
+-- What the lines of a script ask of the disk and its power, and how often they take the machine down.
 use Rattle.std.specs.Prelude.{ℕ, ◌+◌, ◌-◌, ◌*◌, ◌^◌, ◌≤◌, min, Bool, true, false, List, [], ◌∷◌, ◌++◌, Option, Some, None, if◌then◌else◌}
 use Rattle.ktm_base.specs.declared.power.PowerCall.{PowerCall}
 use Rattle.ktm_base.specs.declared.power.PowerCall.TheVariants.{Arm, Off, Power}
@@ -58,6 +58,21 @@ falls (line ∷ lines) (step ∷ steps) (reply ∷ replies) = falls_of line step
 abbrev pub RoseBy : ℕ → ℕ → ℕ → Type 0
 RoseBy n before now = min (before + n) (2 ^ 64 - 1) ≤ now
 
--- the most device calls of one line, on an image of so many units
-abbrev pub most_calls : ℕ → ℕ
-most_calls units = 16 * units + 256
+-- the most device calls of a line, on an image of so many units: a call of a process records with four, a restart reads the image and
+-- records that it started, and no other line makes any
+abbrev pub calls_of : ℕ → Option Line → ℕ
+calls_of units None = 0
+calls_of units (Some (Process process command)) = 4
+calls_of units (Some (Tick ms)) = 0
+calls_of units (Some (Cut calls)) = 0
+calls_of units (Some Crash) = 0
+calls_of units (Some (Restart pick)) = 8 * units + 68
+
+-- the most device calls of lines
+abbrev pub calls : ℕ → List (Option Line) → ℕ
+calls units [] = 0
+calls units (line ∷ lines) = calls_of units line + calls units lines
+
+-- the most device calls of the opening, which may make a new image
+abbrev pub opening_calls : ℕ → ℕ
+opening_calls units = 16 * units + 133

@@ -6,7 +6,7 @@ use Rattle.ktm_base.specs.declared.power.PowerCall.{PowerCall}
 use Rattle.ktm_base.specs.declared.power.PowerCall.TheVariants.{Power}
 use Rattle.ktm_base.specs.Disk.{DiskState, DiskStatus, HasLengths}
 use Rattle.ktm_kernel.specs.Stands.{KernelState, KernelAt, LeavesStates}
-use Rattle.ktm_run.specs.Plan.{plan_of, plans, falls_of, falls, RoseBy, most_calls}
+use Rattle.ktm_run.specs.Plan.{plan_of, plans, falls_of, falls, RoseBy, calls_of, calls}
 use Rattle.ktm_run.specs.Script.{has_reply, Means, MeanAll, AppendsPart, reply_line, written_replies}
 use Rattle.ktm_types.specs.declared.command.Line.{Line}
 use Rattle.ktm_types.specs.declared.command.Line.TheVariants.{Restart}
@@ -34,11 +34,11 @@ scene_of machine disk status = record { machine = machine; disk = disk; status =
 abbrev pub point : KernelState → Option DiskState → DiskStatus → Option (List ℕ) → Now
 point machine disk status taken = record { scene = scene_of machine disk status; taken = taken }
 
--- between two scenes of a world's run, so many lines were executed that had this plan and took the disk down so often
-pub record Counts (w : World) (old new : Scene) (lines : ℕ) (plan : List PowerCall) (fell : ℕ) : Type 0 where
+-- between two scenes lines were executed that may make so many device calls, had this plan and took the disk down so often
+pub record Counts (old new : Scene) (most : ℕ) (plan : List PowerCall) (fell : ℕ) : Type 0 where
   pub rose : RoseBy fell old.status.downs new.status.downs
   pub plan_is : new.status.plan ≡ old.status.plan ++ plan
-  pub few : new.status.calls ≤ old.status.calls + lines * most_calls w.base.units
+  pub few : new.status.calls ≤ old.status.calls + most
 
 -- a line came to this reply, by a step to a world for which the machine then stands
 pub record Did (w : World) (old new : Scene) (line : Option Line) (reply : Reply) : Type 0 where
@@ -46,7 +46,7 @@ pub record Did (w : World) (old new : Scene) (line : Option Line) (reply : Reply
   pub world : World
   pub does : Does w line step reply world
   pub stands : KernelAt new.machine new.disk world
-  pub counts : Counts w old new 1 (plan_of line reply) (falls_of line step reply)
+  pub counts : Counts old new (calls_of w.base.units line) (plan_of line reply) (falls_of line step reply)
 
 -- for every world that the machine stands for
 abbrev pub Answers : Scene → Scene → Option Line → Reply → Type 0
@@ -55,7 +55,8 @@ Answers old new line reply = (w : World) → KernelAt old.machine old.disk w →
 -- a line was not executed, or it was a restart that found no memory: what may be left is of the same world
 pub record Unanswered (w : World) (old new : Scene) (line : List ℕ) : Type 0 where
   pub leaves : IsSomeAnd new.disk (LeavesStates w)
-  pub counts : Counts w old new 1 [] 0 ⊎ ((pick : ℕ) × Means line (Some (Restart pick)) × (is_up w.power ≡ false) × Counts w old new 1 (Power pick ∷ []) 0)
+  pub counts : Counts old new 0 [] 0
+      ⊎ ((pick : ℕ) × Means line (Some (Restart pick)) × (is_up w.power ≡ false) × Counts old new (calls_of w.base.units (Some (Restart pick))) (Power pick ∷ []) 0)
 
 -- the lines came by a transcript to a world for which the machine then stands, and their replies were written
 pub record Ran (w : World) (old new : Now) (lines : List (List ℕ)) : Type 0 where
@@ -67,7 +68,7 @@ pub record Ran (w : World) (old new : Now) (lines : List (List ℕ)) : Type 0 wh
   pub run : Transcript w meant steps replies world
   pub wrote : Appends old.taken new.taken (written_replies replies)
   pub stands : KernelAt new.scene.machine new.scene.disk world
-  pub counts : Counts w old.scene new.scene (length meant) (plans meant replies) (falls meant steps replies)
+  pub counts : Counts old.scene new.scene (calls w.base.units meant) (plans meant replies) (falls meant steps replies)
 
 -- so many lines went on from one moment to the next, for every world that the machine stands for
 abbrev pub Progress : Now → Now → List (List ℕ) → Type 0

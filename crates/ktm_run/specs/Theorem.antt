@@ -14,7 +14,7 @@ use Rattle.ktm_world.specs.OneOutcome.{HasOneOutcome, tellings}
 use Rattle.ktm_world.specs.Transcript.{Does, Transcript, Step}
 use Rattle.ktm_world.specs.World.{World, opened, own_group, possible_logs}
 use Rattle.ktm_run.specs.Early.{Outside, Untouched}
-use Rattle.ktm_run.specs.Plan.{plan_of, plans, falls_of, falls, RoseBy, most_calls}
+use Rattle.ktm_run.specs.Plan.{plan_of, plans, falls_of, falls, RoseBy, calls_of, calls, opening_calls}
 use Rattle.ktm_run.specs.Script.{has_reply, cut_lines, lines_from, MayExecute, Means, MeanAll, AppendsPart, reply_line, written_replies}
 use Rattle.ktm_run.specs.declared.status.Status.{Status}
 use Rattle.ktm_run.specs.declared.status.Status.TheVariants.{Done, Usage, SourceFault, SinkFault, NoMemory, BadImage, DiskFault, ScriptTooLong, LogFull}
@@ -62,17 +62,17 @@ pub record Moment : Type 0 where
 abbrev pub moment_of : Outside → Moment
 moment_of o = record { taken = o.taken; disk = o.disk; status = o.status }
 
--- the disk's counts over so many lines that had this plan and took the disk down so often, the opening among them
-pub record RunCounts (units : ℕ) (old new : DiskStatus) (lines : ℕ) (plan : List PowerCall) (fell : ℕ) : Type 0 where
+-- the disk's counts over an opening and lines that may make so many device calls, had this plan and took the disk down so often
+pub record RunCounts (units : ℕ) (old new : DiskStatus) (most : ℕ) (plan : List PowerCall) (fell : ℕ) : Type 0 where
   pub rose : RoseBy fell old.downs new.downs
   pub plan_is : new.plan ≡ old.plan ++ plan
-  pub few : new.calls ≤ old.calls + (lines + 4) * most_calls units
+  pub few : new.calls ≤ old.calls + (opening_calls units + most)
 
--- and over so many lines of a run that was opened before
-pub record LineCounts (units : ℕ) (old new : DiskStatus) (lines : ℕ) (plan : List PowerCall) (fell : ℕ) : Type 0 where
+-- and over a line of a run that was opened before
+pub record LineCounts (old new : DiskStatus) (most : ℕ) (plan : List PowerCall) (fell : ℕ) : Type 0 where
   pub rose : RoseBy fell old.downs new.downs
   pub plan_is : new.plan ≡ old.plan ++ plan
-  pub few : new.calls ≤ old.calls + lines * most_calls units
+  pub few : new.calls ≤ old.calls + most
 
 -- lines of a script were answered by a run that began so: their replies are those of a transcript, and were written, each in a
 -- line of its own
@@ -93,7 +93,7 @@ pub record Replied (base : Durable) (room : ℕ) (old new : Moment) (lines : Lis
   pub wrote : Appends old.taken new.taken (written_replies replies)
   -- the interrupted lines and the crashes that were answered are at most as many as the disk went down, the plan grew by that of
   -- the lines, and there were so few device calls
-  pub counts : RunCounts base.units old.status new.status (length meant) (plans meant replies) (falls meant steps replies)
+  pub counts : RunCounts base.units old.status new.status (calls base.units meant) (plans meant replies) (falls meant steps replies)
   -- the disk holds the state of a possible log of the world
   pub holds : IsSomeAnd new.disk (HoldsStates world)
 
@@ -121,8 +121,8 @@ pub record EndedBetween (base : Durable) (room : ℕ) (old new : Outside) (scrip
 pub record Unanswered (w : World) (old new : Moment) (line : List ℕ) : Type 0 where
   pub wrote : Appends old.taken new.taken []
   pub holds : IsSomeAnd new.disk (HoldsStates w)
-  pub counts : LineCounts w.base.units old.status new.status 1 [] 0
-      ⊎ ((pick : ℕ) × Means line (Some (Restart pick)) × (is_up w.power ≡ false) × LineCounts w.base.units old.status new.status 1 (Power pick ∷ []) 0)
+  pub counts : LineCounts old.status new.status 0 [] 0
+      ⊎ ((pick : ℕ) × Means line (Some (Restart pick)) × (is_up w.power ≡ false) × LineCounts old.status new.status (calls_of w.base.units (Some (Restart pick))) (Power pick ∷ []) 0)
 
 -- a line was answered, and a part of its reply was written
 pub record HalfWritten (w : World) (old new : Moment) (line : List ℕ) : Type 0 where
@@ -133,7 +133,7 @@ pub record HalfWritten (w : World) (old new : Moment) (line : List ℕ) : Type 0
   pub world : World
   pub does : Does w meant step reply world
   pub wrote : AppendsPart old.taken new.taken (reply_line reply)
-  pub counts : LineCounts w.base.units old.status new.status 1 (plan_of meant reply) (falls_of meant step reply)
+  pub counts : LineCounts old.status new.status (calls_of w.base.units meant) (plan_of meant reply) (falls_of meant step reply)
   pub holds : IsSomeAnd new.disk (HoldsStates world)
 
 -- the script so far: its first lines were answered, and at the next one the run ended
