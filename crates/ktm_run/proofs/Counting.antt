@@ -9,7 +9,6 @@ use Rattle.ktm_types.specs.declared.command.Line.{Line}
 use Rattle.ktm_types.specs.declared.command.Line.TheVariants.{Tick, Cut, Crash, Restart, Process}
 use Rattle.ktm_types.specs.declared.reply.Reply.{Reply}
 use Rattle.ktm_types.specs.declared.reply.Reply.TheVariants.{Refused, Done}
-use Rattle.ktm_world.specs.Durable.{Durable}
 use Rattle.ktm_world.specs.Transcript.{Step, answered, interrupted, found, full, IsAnswered, CallDoes, CrashDoes, StartDoes, RestartDoes, Does, Transcript}
 use Rattle.ktm_world.specs.Outcome.{Outcome}
 use Rattle.ktm_world.specs.World.{World}

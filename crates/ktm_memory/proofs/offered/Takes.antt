@@ -1,5 +1,5 @@
 -- Which calls may take memory: from a command to its call, and from the call to what is made of it.
-use Rattle.std.proofs.Common.{◌≡◌, ◌&&◌, ◌||◌, ℕ, not, cond, Bool, true, false, List, [], ◌∷◌, ◌++◌, Option, Some, None, is_none, refl, sym, ◌∙◌, ap, subst}
+use Rattle.std.proofs.Common.{◌≡◌, ◌&&◌, ◌||◌, ℕ, not, cond, Bool, true, false, List, [], ◌∷◌, ◌++◌, Option, Some, None, is_none, refl, sym, ◌∙◌, ap}
 use Rattle.std.proofs.Math.Bool.{and-false, and-true}
 use Rattle.ktm_base.specs.declared.id.Id.{Id}
 use Rattle.ktm_base.specs.declared.id.Label.{Label}
@@ -9,7 +9,6 @@ use Rattle.ktm_base.specs.declared.refusal.Refusal.TheVariants.{InvalidParameter
 use Rattle.ktm_types.specs.declared.command.Command.{Command}
 use Rattle.ktm_types.specs.declared.command.Command.TheVariants.{CommitTransaction, CreateTransaction, DuplicateHandle, KvGet, KvList, KvSet, KvUnset, OpenTransaction, SetEndOfFile, WriteFile}
 use Rattle.ktm_types.specs.declared.command.View.{View}
-use Rattle.ktm_types.specs.declared.object.Object.{Object}
 use Rattle.ktm_types.specs.declared.object.Transaction.{Transaction}
 use Rattle.ktm_world.specs.Decide.{events_of, with_room}
 use Rattle.ktm_world.specs.FileCalls.{get_size, set_end, write_file}

@@ -1,16 +1,10 @@
-use Rattle.std.specs.Prelude.{IfSome, IsSomeAnd}
-use Rattle.std.proofs.Common.{Err, ◌≡◌, ℕ, List, true, false, ◌+◌, ◌-◌, ◌*◌, refl, ap, subst, sym, ◌∙◌, arith}
+use Rattle.std.specs.Prelude.{IfSome}
+use Rattle.std.proofs.Common.{Err, ◌≡◌, false, ◌+◌, ◌-◌, ◌*◌, refl, ap, subst, sym, ◌∙◌, arith}
 use Rattle.ktm_base.specs.declared.limits.TheConstants.{MOST_UNITS}
 use Rattle.ktm_base.proofs.offered.Images.{calls_law}
 use Rattle.ktm_base.proofs.offered.ToldSteps.{IfSome-map}
-use Rattle.ktm_journal.specs.Bad.{IsBadAt}
-use Rattle.ktm_journal.specs.Image.{IsFormatted, JournalAt, LeavesGroupOrNot, StandsFor}
-use Rattle.ktm_world.specs.Durable.{Durable}
-use Rattle.ktm_world.specs.Logs.{Group}
-use Rattle.ktm_world.specs.Outcome.{is_full}
-use Rattle.ktm_world.specs.World.{own_group}
+use Rattle.ktm_journal.specs.Image.{IsFormatted}
 use Rattle.ktm_kernel.specs.declared.restart.RestartFault.TheVariants.{Down as RestartDown, Bad, Full as RestartFull}
-use Rattle.ktm_kernel.specs.Restarts.{HoldsBoth, LeavesOwnOrNot, is_full_for_own}
 use Rattle.ktm_log.specs.declared.area.Area.{Area}
 use Rattle.ktm_kernel.proofs.Restarts.{found, next_applies, unwritten_leaves, journal_at, found_grammatical, is_full as full_is, started, cut_off, fresh_ready, unrecorded_down, unrecorded_full, unrecorded_good, unrecorded_calls, unrecorded_other}
 use Rattle.ktm_kernel.proofs.kernel.Kernel.restart.Goals as goal

@@ -1,4 +1,4 @@
-use Rattle.std.proofs.Common.{◌≡◌, ℕ, Err, Some, refl, ap, subst, sym, ◌∙◌}
+use Rattle.std.proofs.Common.{◌≡◌, ℕ, Err, Some, ap, subst, sym, ◌∙◌}
 use Rattle.ktm_types.specs.declared.command.Line.TheVariants.{Restart}
 use Rattle.ktm_types.specs.declared.reply.Reply.TheVariants.{Restarted}
 use Rattle.ktm_memory.specs.Memory.{MemoryState, held, now_of}
