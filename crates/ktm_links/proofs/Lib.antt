@@ -1,4 +1,5 @@
 mod Blocks
+mod Compared
 mod Found
 mod InOrder
 mod Linked

@@ -1,14 +1,16 @@
 -- What a key names, by the slab and by the list.
-use Rattle.std.proofs.Common.{◌≡◌, ℕ, ◌+◌, ◌<◌, List, [], ◌∷◌, ◌++◌, Option, Some, None, eqb, refl, sym, ap, ◌∙◌, inl, inr}
+use Rattle.std.proofs.Common.{◌≡◌, ℕ, ◌+◌, ◌-◌, ◌^◌, min, ◌<◌, List, [], ◌∷◌, ◌++◌, Option, Some, None, is_some, cond, eqb, refl, sym, ap, ◌∙◌, inl, inr, arith}
 use Rattle.std.proofs.lemmas.Bool.{and_from, eq-eqb}
 use Rattle.std.proofs.lemmas.Option.{same_Some}
-use Rattle.slab.specs.Slab.{Slab, get, slab_len, ContainsKey, Updates}
+use Rattle.std.proofs.lemmas.List.Sums.{sum_by-set}
+use Rattle.slab.specs.Slab.{Slab, get, slab_len, with_value as with_entry, ContainsKey, Updates}
+use Rattle.slab.proofs.SlabLemmas.{ContainsKey-within, Updates-with_value}
 use Rattle.ktm_links.specs.declared.list.Key.{Key}
 use Rattle.ktm_links.specs.declared.entry.Entry.{Entry}
-use Rattle.ktm_links.specs.Items.{Item, item, value_at, with_value, without}
-use Rattle.ktm_links.specs.Links.{first_place, last_place, entry_of, Segment, HasPlace, HasDistinctPlaces, IsBelow, IsLinked}
-use Rattle.ktm_links.specs.Entry.{SetsAfter, SetsBefore, SetsValue, beside_or, value_of}
-use Rattle.ktm_links.proofs.Segments.{HasPlace-cases, Segment-present, Segment-append, HasPlace-append, distinct_parts, revalued, unlinked}
+use Rattle.ktm_links.specs.Items.{Item, Listed, item, value_at, with_value, without}
+use Rattle.ktm_links.specs.Links.{first_place, last_place, entry_of, walk, Segment, HasPlace, HasDistinctPlaces, IsBelow, IsLinked}
+use Rattle.ktm_links.specs.Entry.{SetsAfter, SetsBefore, SetsValue, beside_or}
+use Rattle.ktm_links.proofs.Segments.{HasPlace-cases, Segment-present, Segment-append, HasPlace-append, distinct_parts, revalued, unlinked, walk-linked}
 use Rattle.ktm_links.proofs.offered.Keys.{other_place, other_generation, value_at-same, value_at-other, IsSplit}
 
 module _ {T : Type 0} where
@@ -91,14 +93,44 @@ module _ {T : Type 0} where
       rw at.rest
       (unlinked s s1 s2 s3 head tail next at.left (item key at.value) at.right e (rw at.is at linked) is removed len1 after len2 before len3)
 
-  pub valued_was : (s : Slab (Entry T)) (head tail : Option ℕ) (next : ℕ) (xs : List (Item T)) (key : Key) (was : T) → IsSplit xs key
-      → IsLinked s head tail next xs → value_of (get s key.place) ≡ Some was → value_at xs key ≡ Some was
-  valued_was s head tail next xs key was at linked is = at.found ∙ sym (ap value_of (entry_at s head tail next xs key linked at)) ∙ is
+  -- another value at the place of an entry
+  sets_value : (s : Slab (Entry T)) (place : ℕ) (e : Entry T) (w : T) → get s place ≡ Some e → SetsValue s (with_entry s place (record e { value = w })) place w
+  sets_value s place e w is =
+      let updates = Updates-with_value s place (record e { value = w }) (rw is refl) in
+      record {
+        changed = λ found same. updates.changed ∙ ap (λ (x : Entry T). Some (record x { value = w })) (same_Some e found (sym is ∙ same));
+        others = updates.others;
+      }
 
-  pub valued_key : (s new : Slab (Entry T)) (head tail : Option ℕ) (next : ℕ) (xs : List (Item T)) (key : Key) (v : T) → IsSplit xs key
-      → IsLinked s head tail next xs → SetsValue s new key.place v → slab_len new ≡ slab_len s → IsLinked new head tail next (with_value xs key v)
-  valued_key s new head tail next xs key v at linked sets len =
-      rw (at.other v) (revalued s new head tail next at.left key at.value v at.right (rw at.is at linked) sets len)
+  pub same_len : (s : Slab (Entry T)) (place : ℕ) (e : Entry T) (new : Entry T) → get s place ≡ Some e → slab_len (with_entry s place new) ≡ slab_len s
+  same_len s place e new is =
+      let sums : slab_len (with_entry s place new) + 1 ≡ slab_len s + 1 =
+      ap (λ (o : Option (Entry T)). slab_len (with_entry s place new) + cond (is_some o) 1 0) (sym is)
+      ∙ sum_by-set (λ (o : Option (Entry T)). cond (is_some o) 1 0) s.slots place (Some new) None (ContainsKey-within s place (rw is refl)) in
+      omega (arith, sums)
+
+  pub valued_key : (s : Slab (Entry T)) (head tail : Option ℕ) (next : ℕ) (xs : List (Item T)) (key : Key) (e : Entry T) (w : T) → IsSplit xs key
+      → IsLinked s head tail next xs → get s key.place ≡ Some e
+      → IsLinked (with_entry s key.place (record e { value = w })) head tail next (with_value xs key w)
+  valued_key s head tail next xs key e w at linked is =
+      rw (at.other w)
+      (revalued s _ head tail next at.left key at.value w at.right (rw at.is at linked) (sets_value s key.place e w is) (same_len s key.place e _ is))
+
+  pub listed_valued : (s : Slab (Entry T)) (head tail : Option ℕ) (next : ℕ) (xs : List (Item T)) (key : Key) (e : Entry T) (w : T) → IsSplit xs key
+      → IsLinked s head tail next xs → get s key.place ≡ Some e
+      → ◌≡◌ {A = Listed T}
+      (record {
+        items = walk (with_entry s key.place (record e { value = w })) (slab_len (with_entry s key.place (record e { value = w }))) head;
+        next = next;
+        spare = min (s.capacity - slab_len (with_entry s key.place (record e { value = w }))) (2 ^ 64 - 1 - next);
+      })
+      (record { items = with_value xs key w; next = next; spare = min (s.capacity - slab_len s) (2 ^ 64 - 1 - next) })
+  listed_valued s head tail next xs key e w at linked is =
+      let new : Slab (Entry T) = with_entry s key.place (record e { value = w }) in
+      ap (λ items. record { items = items; next = next; spare = min (s.capacity - slab_len new) (2 ^ 64 - 1 - next) })
+      (walk-linked new head tail next (with_value xs key w) (valued_key s head tail next xs key e w at linked is))
+      ∙ ap (λ len. record { items = with_value xs key w; next = next; spare = min (s.capacity - len) (2 ^ 64 - 1 - next) })
+      (same_len s key.place e (record e { value = w }) is)
 
   pub value_at-removed : (xs : List (Item T)) (key : Key) → HasDistinctPlaces xs → IsSplit xs key → value_at (without xs key) key ≡ None
   value_at-removed xs key distinct at =

@@ -24,11 +24,6 @@ module _ {T : Type 0} where
     pub changed : (p : ℕ) → at ≡ Some p → get new p ≡ with_before before (get old p)
     pub others : (q : ℕ) → at ≢ Some q → get new q ≡ get old q
 
-  -- the value of an entry
-  abbrev pub value_of : Option (Entry T) → Option T
-  value_of None = None
-  value_of (Some e) = Some e.value
-
   -- the entry at the place has this value, and all else is as it was
   pub record SetsValue (old new : Slab (Entry T)) (at : ℕ) (value : T) : Type 0 where
     pub changed : (e : Entry T) → get old at ≡ Some e → get new at ≡ Some (record e { value = value })

@@ -2,6 +2,7 @@ pub mod Blocks
 pub mod Entry
 pub mod Indexed
 pub mod Items
+pub mod Lends
 pub mod Links
 pub mod Mapped
 pub mod Numbers

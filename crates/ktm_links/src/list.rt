@@ -1,13 +1,15 @@
 // A list in order.
-ghost use Rattle.std.specs.Prelude.{◌≡◌, ◌≢◌, ℕ, ◌+◌, ◌-◌, ◌^◌, ◌≤◌, ◌<◌, ◌++◌, ◌∷◌, [], min, None, length, option_copied, OnSome, IfSome, IfNone, IfOk, IfErr, IsOk, OnOk, OnErr, Some, is_some};
+ghost use Rattle.std.specs.Prelude.{◌≡◌, ◌≢◌, ℕ, ◌+◌, ◌-◌, ◌^◌, ◌≤◌, ◌<◌, ◌++◌, ◌∷◌, [], min, None, length, option_copied, OnSome, IfSome, IfNone, IfOk, IfErr, IsOk, OnOk, OnErr, Some, is_some, true};
+ghost use Rattle.std.specs.Option.{option_copied_mut};
 ghost use Rattle.ktm_links.specs.Items.{item, value_at, with_value, without, first_key, first_value, rest, IsSpent, KeepsSpent};
 ghost use Rattle.ktm_links.specs.declared.list.Key.{Key};
 
-use crate::entry::{Entry, beside_or, set_after, set_before, set_value};
+use crate::entry::{Entry, beside_or, set_after, set_before};
 use ktm_base::NoMemory;
 use slab::Slab;
 use std::alloc::Global;
 use std::marker::Model;
+use std::mem;
 
 /// Which value of a list: where it stands, and a number that no other value of the list ever has.
 #[derive(Clone, Copy)]
@@ -47,6 +49,9 @@ impl<T> Model for List<T> {
 }
 
 impl<T> List<T> {
+    ghost use Rattle.std.specs.Borrow.{sem};
+    ghost use Rattle.ktm_links.specs.Lends.{lends_get, lends_value};
+
     /// A list of nothing.
     pub fn new(alloc: Global) -> Self
         ensures items { result.items ≡ [] }
@@ -182,6 +187,27 @@ impl<T> List<T> {
         Key { place, generation }
     }
 
+    // The value that the key names, for writing.
+    fn value_mut(&mut self, key: Key) -> &mut T
+        requires { is_some (value_at self.old.items key) ≡ true }
+        ensures* writes_back { sem 𝓛 (lends_value T.row self.entry key result) }
+        ensures value { Some result.now ≡ value_at self.old.items key }
+    {
+        &mut self.entries[key.place].value
+    }
+
+    /// The value that the key names, for writing.
+    pub fn get_mut(&mut self, key: Key) -> Option<&mut T>
+        ensures* writes_back { sem 𝓛 (lends_get T.row self.entry key result) }
+        ensures value { option_copied_mut result ≡ value_at self.old.items key }
+    {
+        if self.contains(key) {
+            Some(self.value_mut(key))
+        } else {
+            None
+        }
+    }
+
     /// Puts a value under the key in place of the one that it hands out; the value comes back where the key names none.
     pub fn replace(&mut self, key: Key, value: T) -> Result<T, T>
         ensures was { IfOk result (λ was. value_at self.old.items key ≡ Some was) }
@@ -197,10 +223,10 @@ impl<T> List<T> {
         ensures others { (k : Key) → k ≢ key → value_at self.new.items k ≡ value_at self.old.items k }
         ensures spent { KeepsSpent self.old self.new }
     {
-        if !self.contains(key) {
-            return Err(value);
+        match self.get_mut(key) {
+            Some(place) => Ok(mem::replace(place, value)),
+            None => Err(value),
         }
-        Ok(set_value(&mut self.entries, key.place, value))
     }
 
     /// Removes the value that the key names.

@@ -3,7 +3,7 @@ ghost use Rattle.std.specs.Prelude.{◌≡◌, ◌≤◌, None, Err, IfOk, IfErr
 ghost use Rattle.std.specs.List.Sorted.{IsBinarySearchResult, IsSearchInRange, IsPartitionPoint};
 ghost use Rattle.std.specs.declared.cmp.Ordering.TheVariants.{Less, Greater};
 ghost use Rattle.ktm_links.specs.Blocks.{flat, index_in, index_of, AreUsed, IsGap, IsSpot};
-ghost use Rattle.ktm_links.specs.Mapped.{key_at};
+ghost use Rattle.ktm_links.specs.Mapped.{key_at, name_cmp};
 ghost use Rattle.ktm_links.specs.Order.{entries_of, last_order, order_at, IsFirstNotBelow, IsInOrder};
 
 use crate::block::{Block, Spot};
@@ -12,12 +12,24 @@ use crate::name::Name;
 use crate::named::Named;
 use std::cmp::Ordering;
 
+// Which of two names comes first, byte by byte. Most names are short, and differ early.
+fn compare(a: &[u8], b: &[u8]) -> Ordering
+    ensures { result ≡ name_cmp a.now b.now }
+{
+    for at in 0..a.len().min(b.len()) {
+        if a[at] != b[at] {
+            return a[at].cmp(&b[at]);
+        }
+    }
+    a.len().cmp(&b.len())
+}
+
 // How the name of a value stands to this one.
 fn order_of<K: Name, T>(values: &List<Named<K, T>>, key: Key, name: &[u8]) -> Ordering
     ensures { result ≡ order_at values.now.items name.now key }
 {
     match values.get(key) {
-        Some(named) => named.name().cmp(name),
+        Some(named) => compare(named.name(), name),
         None => Ordering::Less,
     }
 }

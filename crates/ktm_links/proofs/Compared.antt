@@ -1,0 +1,64 @@
+-- Lemmas on names that are compared byte by byte.
+use Rattle.std.proofs.Common.{◌≡◌, ℕ, zero, suc, ◌+◌, ◌<◌, min, List, [], ◌∷◌, length, get_or, drop, refl, sym, ap, ◌∙◌, arith}
+use Rattle.std.specs.declared.cmp.Ordering.{Ordering}
+use Rattle.std.specs.declared.cmp.Ordering.TheVariants.{Less, Equal, Greater}
+use Rattle.std.specs.Ordering.{nat_cmp, ordering_then}
+use Rattle.std.proofs.lemmas.Cmp.{ranked}
+use Rattle.std.proofs.lemmas.List.{at_drop_more}
+use Rattle.ktm_links.specs.Mapped.{name_cmp}
+
+-- the next bytes decide, or the rest does
+next_bytes : (xs ys : List ℕ) (i : ℕ) → i < length xs → i < length ys
+    → name_cmp (drop i xs) (drop i ys) ≡ ordering_then (nat_cmp (get_or xs i 0) (get_or ys i 0)) (name_cmp (drop (i + 1) xs) (drop (i + 1) ys))
+next_bytes xs ys i inside within =
+    at_drop_more (λ l. name_cmp l (drop i ys)) xs i 0 inside ∙ at_drop_more (λ l. name_cmp (get_or xs i 0 ∷ drop (i + 1) xs) l) ys i 0 within
+
+pub by_differing : (xs ys : List ℕ) (i : ℕ) (o : Ordering) → i < length xs → i < length ys → (get_or xs i 0 ≡ get_or ys i 0 → ⊥)
+    → o ≡ nat_cmp (get_or xs i 0) (get_or ys i 0) → name_cmp (drop i xs) (drop i ys) ≡ o
+by_differing xs ys i o inside within differs is =
+    next_bytes xs ys i inside within ∙ ap (λ o. ordering_then o (name_cmp (drop (i + 1) xs) (drop (i + 1) ys))) (sym is) ∙ decided o is
+  where
+    decided : (o : Ordering) → o ≡ nat_cmp (get_or xs i 0) (get_or ys i 0) → ordering_then o (name_cmp (drop (i + 1) xs) (drop (i + 1) ys)) ≡ o
+    decided Less is = refl
+    decided Equal is = absurd (differs (ranked (get_or xs i 0) (get_or ys i 0) Equal is))
+    decided Greater is = refl
+
+pub behind_same : (xs ys : List ℕ) (i : ℕ) → i < length xs → i < length ys → get_or xs i 0 ≡ get_or ys i 0
+    → name_cmp (drop i xs) (drop i ys) ≡ name_cmp (drop (i + 1) xs) (drop (i + 1) ys)
+behind_same xs ys i inside within same = next_bytes xs ys i inside within ∙ tied (nat_cmp (get_or xs i 0) (get_or ys i 0)) refl
+  where
+    tied : (o : Ordering) → o ≡ nat_cmp (get_or xs i 0) (get_or ys i 0)
+        → ordering_then o (name_cmp (drop (i + 1) xs) (drop (i + 1) ys)) ≡ name_cmp (drop (i + 1) xs) (drop (i + 1) ys)
+    tied Less is = absurd (let below : get_or xs i 0 < get_or ys i 0 = ranked (get_or xs i 0) (get_or ys i 0) Less is in omega (arith, below, same))
+    tied Equal is = refl
+    tied Greater is = absurd (let above : get_or ys i 0 < get_or xs i 0 = ranked (get_or xs i 0) (get_or ys i 0) Greater is in omega (arith, above, same))
+
+below : (a b : ℕ) (o : Ordering) → o ≡ nat_cmp a b → a < b → Less ≡ o
+below a b Less is less = refl
+below a b Equal is less = absurd (let same : a ≡ b = ranked a b Equal is in omega (arith, less, same))
+below a b Greater is less = absurd (let above : b < a = ranked a b Greater is in omega (arith, less, above))
+
+level : (a b : ℕ) (o : Ordering) → o ≡ nat_cmp a b → a ≡ b → Equal ≡ o
+level a b Less is same = absurd (let less : a < b = ranked a b Less is in omega (arith, same, less))
+level a b Equal is same = refl
+level a b Greater is same = absurd (let above : b < a = ranked a b Greater is in omega (arith, same, above))
+
+above : (a b : ℕ) (o : Ordering) → o ≡ nat_cmp a b → b < a → Greater ≡ o
+above a b Less is more = absurd (let less : a < b = ranked a b Less is in omega (arith, more, less))
+above a b Equal is more = absurd (let same : a ≡ b = ranked a b Equal is in omega (arith, more, same))
+above a b Greater is more = refl
+
+-- the rest of two names, of which one has ended after so many bytes
+ended : (xs ys : List ℕ) (n a b before : ℕ) → n ≡ min (length xs) (length ys) → a ≡ length xs + before → b ≡ length ys + before
+    → name_cmp (drop n xs) (drop n ys) ≡ nat_cmp a b
+ended [] [] zero a b before is first second = level a b (nat_cmp a b) refl (omega (arith, first, second))
+ended [] (y ∷ ys) zero a b before is first second = below a b (nat_cmp a b) refl (omega (arith, first, second))
+ended (x ∷ xs) [] zero a b before is first second = above a b (nat_cmp a b) refl (omega (arith, first, second))
+ended (x ∷ xs) (y ∷ ys) zero a b before is first second = absurd (omega (arith, is))
+ended [] ys (suc n) a b before is first second = absurd (omega (arith, is))
+ended (x ∷ xs) [] (suc n) a b before is first second = absurd (omega (arith, is))
+ended (x ∷ xs) (y ∷ ys) (suc n) a b before is first second =
+    ended xs ys n a b (suc before) (omega (arith, is)) (omega (arith, first)) (omega (arith, second))
+
+pub by_lengths : (xs ys : List ℕ) (n : ℕ) → n ≡ min (length xs) (length ys) → name_cmp (drop n xs) (drop n ys) ≡ nat_cmp (length xs) (length ys)
+by_lengths xs ys n is = ended xs ys n (length xs) (length ys) 0 is (omega arith) (omega arith)
