@@ -120,6 +120,13 @@ impl Stored {
         }
     }
 
+    /// How many bytes the file has; a directory has none.
+    pub(crate) fn size(&self) -> u64
+        ensures { result ≡ length (bytes_or_none self.now.node.content) }
+    {
+        self.bytes().len() as u64
+    }
+
     pub(crate) fn version(&self) -> u64
         ensures { result ≡ self.now.version }
     {

@@ -2,6 +2,7 @@
 ghost use Rattle.std.specs.Prelude.{◌≡◌, ◌+◌, ◌-◌, ◌^◌, ◌<◌, ◌≤◌, ℕ, [], None, Some, true, is_some, length, OnOk, IsOk, IfOk, IfSome, IfNone, All, fold, ◌≢◌};
 ghost use Rattle.std.specs.Option.{option_map};
 ghost use Rattle.ktm_base.specs.Names.{IsName};
+ghost use Rattle.ktm_base.specs.Reading.{IsRead};
 ghost use Rattle.ktm_types.specs.declared.change.Change.TheVariants.{Make, Put, Cut, Move, Drop};
 ghost use Rattle.ktm_links.specs.Mapped.{Begins, IsNotBelow};
 ghost use Rattle.ktm_world.specs.Changes.{applies, bytes_in, changed, changed_all, new_content, node_of};
@@ -17,7 +18,7 @@ use crate::entry::{Entries, Entry, NodeRef};
 use crate::name::{ChildName, after_child, child_name, number_bytes};
 use crate::nodes::Nodes;
 use crate::stored::Stored;
-use ktm_base::{Bytes, MOST_NAME_BYTES, NoMemory, Text};
+use ktm_base::{Bytes, MOST_NAME_BYTES, NoMemory, Text, read_at};
 use ktm_links::{Chains, Name};
 use ktm_types::{Change, Contents, Node, NodeKind};
 use std::alloc::Global;
@@ -171,6 +172,23 @@ impl Tree {
             Some(node) => node.bytes(),
             None => &[],
         }
+    }
+
+    /// How many bytes a file has.
+    pub fn size(&self, file: u64) -> u64
+        ensures { result ≡ length (bytes_of (tree_of self.now) file) }
+    {
+        match self.nodes.get(file) {
+            Some(node) => node.size(),
+            None => 0,
+        }
+    }
+
+    /// Reads bytes of a file from the offset on, and says how many.
+    pub fn read(&self, file: u64, offset: u64, into: &mut [u8]) -> usize
+        ensures { IsRead (bytes_of (tree_of self.now) file) offset into.old into.new result }
+    {
+        read_at(self.content(file), offset, into)
     }
 
     /// How often the bytes of a file were changed since the restart.
