@@ -1,11 +1,12 @@
 // The bytes of versions that are no longer the last one.
 ghost use Rattle.std.specs.Prelude.{◌≡◌, ◌<◌, ◌≤◌, ◌+◌, ◌^◌, [], filter, find, length, not, None, IsOk, OnOk, option_copied};
 ghost use Rattle.std.specs.Option.{option_map};
+ghost use Rattle.ktm_base.specs.Reading.{IsReadIf};
 ghost use Rattle.ktm_world.specs.Tree.{units_of};
 ghost use Rattle.txf_versions.specs.VersionsState.{is_version, older_units, version_units, with_older};
 
 use crate::name::{VersionName, version_name};
-use ktm_base::{Bytes, NoMemory, UNIT_BYTES};
+use ktm_base::{Bytes, NoMemory, UNIT_BYTES, read_if};
 use ktm_links::Chains;
 use std::alloc::Global;
 use std::marker::Model;
@@ -67,6 +68,29 @@ impl Kept {
             },
             None => None,
         }
+    }
+
+    /// How many bytes the version has, if they are here.
+    pub(crate) fn size(&self, file: u64, version: u64) -> Option<u64>
+        ensures { result ≡ option_map (λ v. length v.bytes) (find (is_version file version) self.now.older) }
+    {
+        match self.bytes(file, version) {
+            Some(bytes) => Some(bytes.len() as u64),
+            None => None,
+        }
+    }
+
+    /// Reads bytes of the version from the offset on, if they are here, and says how many.
+    pub(crate) fn read(
+        &self,
+        file: u64,
+        version: u64,
+        offset: u64,
+        into: &mut [u8],
+    ) -> Option<usize>
+        ensures { IsReadIf (option_map (λ v. v.bytes) (find (is_version file version) self.now.older)) offset into.old into.new result }
+    {
+        read_if(self.bytes(file, version), offset, into)
     }
 
     /// The units of all bytes that are here.

@@ -2,6 +2,7 @@
 ghost use Rattle.std.specs.Prelude.{◌≡◌, ℕ, ◌<◌, ◌≤◌, ◌+◌, ◌^◌, ◌++◌, ◌∷◌, ◌==◌, ◌&&◌, [], filter, find, length, true, false, None, Some, IsOk, OnOk, OnSome, option_copied};
 ghost use Rattle.std.specs.List.{list_any};
 ghost use Rattle.std.specs.Option.{option_map};
+ghost use Rattle.ktm_base.specs.Reading.{IsReadIf};
 ghost use Rattle.ktm_world.specs.Tree.{units_of};
 ghost use Rattle.txf_versions.specs.VersionsState.{is_held, is_open_of, is_own, is_pinned, is_version, older_units, with_older, without_transaction, AreHeld};
 
@@ -74,6 +75,20 @@ impl Versions {
         ensures pinned { OnSome result (is_pinned self.now.opens file version ≡ true) }
     {
         self.kept.bytes(file, version)
+    }
+
+    /// How many bytes a version has that is no longer the last one, if they were kept.
+    pub fn older_size(&self, file: u64, version: u64) -> Option<u64>
+        ensures { result ≡ option_map (λ v. length v.bytes) (find (is_version file version) self.now.older) }
+    {
+        self.kept.size(file, version)
+    }
+
+    /// Reads bytes of such a version from the offset on, if they were kept, and says how many.
+    pub fn read_older(&self, file: u64, version: u64, offset: u64, into: &mut [u8]) -> Option<usize>
+        ensures { IsReadIf (option_map (λ v. v.bytes) (find (is_version file version) self.now.older)) offset into.old into.new result }
+    {
+        self.kept.read(file, version, offset, into)
     }
 
     /// The units of 4,096 bytes that the kept bytes take, those of each version rounded up.
