@@ -1,7 +1,8 @@
 // What a transaction changed.
 ghost use Rattle.std.specs.Prelude.{◌≡◌, ◌<◌, ◌≤◌, ◌^◌, ◌+◌, [], true, length, not, IsOk, OnOk, OnErr, IfNone, ◌++◌, option_to_list};
 ghost use Rattle.std.specs.List.{list_all};
-ghost use Rattle.std.specs.Option.{option_copied};
+ghost use Rattle.std.specs.Option.{option_copied, option_map};
+ghost use Rattle.ktm_base.specs.Reading.{IsReadIf};
 ghost use Rattle.txf_overlay.specs.Written.{HasBytes, IsRising, bytes_at, bytes_or, first_from, total_units, with_bytes};
 ghost use Rattle.txf_overlay.specs.OverlayState.{is_of_names, own_of};
 ghost use Rattle.ktm_world.specs.Changes.{has_changes, has_made, nodes_made};
@@ -11,7 +12,7 @@ use crate::node::{Nodes, seen};
 use crate::written::{
     Files, WrittenFile, bytes_of, close, file_behind, file_from, open, take_file,
 };
-use ktm_base::NoMemory;
+use ktm_base::{NoMemory, read_if};
 use ktm_links::Chains;
 use ktm_types::Change;
 use std::alloc::Global;
@@ -127,6 +128,23 @@ impl Overlay {
         ensures { option_copied result ≡ bytes_at self.now.written file }
     {
         bytes_of(&self.files, file)
+    }
+
+    /// How many bytes a file has that it wrote.
+    pub fn size(&self, file: u64) -> Option<u64>
+        ensures { result ≡ option_map (λ bytes. length bytes) (bytes_at self.now.written file) }
+    {
+        match self.bytes(file) {
+            Some(bytes) => Some(bytes.len() as u64),
+            None => None,
+        }
+    }
+
+    /// Reads bytes of a file that it wrote from the offset on, and says how many.
+    pub fn read(&self, file: u64, offset: u64, into: &mut [u8]) -> Option<usize>
+        ensures { IsReadIf (bytes_at self.now.written file) offset into.old into.new result }
+    {
+        read_if(self.bytes(file), offset, into)
     }
 
     /// How many nodes there are that it made and did not drop.
