@@ -10,7 +10,7 @@ use Rattle.ktm_log.specs.declared.area.Area.{Area}
 use Rattle.ktm_log.specs.Log.{area_bytes}
 use Rattle.ktm_log.proofs.Parts.{not_covered, same_part, written_part, get_or-area, length-area}
 use Rattle.ktm_log.proofs.Frames.{first_at, closed_at}
-use Rattle.ktm_journal.specs.Image.{IsFormatted, HoldsLog, empty_snapshot, image_len, log_area}
+use Rattle.ktm_journal.specs.Image.{IsFormatted, IsImage, empty_snapshot, image_len, log_area}
 use Rattle.ktm_journal.specs.Format.{IsHeader, IsLaid, SettledBoth}
 
 length-empty_snapshot : length empty_snapshot ≡ 44
@@ -109,20 +109,16 @@ headed units image h a b least most was header settled =
     )
 
 -- a new image has no group
-holds_none : (units image : ℕ) (bytes : List ℕ) → IsLaid units bytes → IsFormatted units image bytes → HoldsLog units image [] bytes
+holds_none : (units image : ℕ) (bytes : List ℕ) → IsLaid units bytes → IsFormatted units image bytes → IsImage units image [] bytes
 holds_none units image bytes laid formatted =
     let within : (log_area units).at + (log_area units).len ≤ length bytes = omega (arith, laid.long) in
     let shut = get_or-area (log_area units) bytes 0 (omega arith) ∙ ap (λ n. get_or bytes n 0) (omega arith) ∙ byte_at bytes (log_area units).at 0 laid.gate in
     record {
-      is = record {
-        formatted = formatted;
-        payloads = [];
-        groups = tt;
-        frames = record { frames = tt; gate = closed_at (area_bytes (log_area units) bytes) 0 (omega (arith, length-area (log_area units) bytes within)) (λ e. absurd (omega (arith, shut, e))) };
-      };
-      built = refl;
-      applies = refl;
+      formatted = formatted;
+      payloads = [];
+      groups = tt;
+      frames = record { frames = tt; gate = closed_at (area_bytes (log_area units) bytes) 0 (omega (arith, length-area (log_area units) bytes within)) (λ e. absurd (omega (arith, shut, e))) };
     }
 
-pub new_image : (units image : ℕ) (s : DiskState) → IsSafe s × IsLaid units s.seen × IsFormatted units image s.seen → IsSafe s × HoldsLog units image [] s.seen
+pub new_image : (units image : ℕ) (s : DiskState) → IsSafe s × IsLaid units s.seen × IsFormatted units image s.seen → IsSafe s × IsImage units image [] s.seen
 new_image units image s put = (put.0, holds_none units image s.seen put.1 put.2)

@@ -1,11 +1,5 @@
-pub mod Images
-pub mod Known
-pub mod Formats
-pub mod Loads
-pub mod Folds
-pub mod LogLoads
-pub mod Spelled
-pub mod OneImage
-pub mod Groups
-pub mod GoodLogs
-mod Past
+mod Known
+mod Formats
+mod Headers
+mod Opened
+pub mod offered

@@ -1,41 +1,18 @@
--- Bytes that are no image that stands for a state, and where it shows.
-use Rattle.std.specs.Prelude.{◌≡◌, ◌≢◌, ◌⊎◌, ℕ, ◌+◌, ◌&&◌, false, IsTrue, List, drop, Result, Ok, Err, Bool, true}
-use Rattle.ktm_log.specs.Log.{IsFrame, IsTorn, BeginsWith, area_bytes, end_of}
-use Rattle.ktm_forms.specs.Built.{is_built_group, is_built_log}
-use Rattle.ktm_world.specs.Logs.{Group}
-use Rattle.ktm_world.specs.Durable.{Durable, empty_state, stand, events_apply, log_applies}
-use Rattle.ktm_types.specs.EventGrammar.{IsGroupOf}
-use Rattle.ktm_types.specs.Sizes.{log_size}
+-- Bytes that begin no image, and where it shows.
+use Rattle.std.specs.Prelude.{◌≡◌, ◌≢◌, ◌⊎◌, ℕ, false, List, Result, Ok, Err, Bool, true}
 use Rattle.ktm_journal.specs.declared.fault.LoadFault.{LoadFault}
 use Rattle.ktm_journal.specs.declared.fault.LoadFault.TheVariants.{Down, Bad, NoMemory}
-use Rattle.ktm_journal.specs.Image.{IsHeaded, IsFormatted, HoldGroups, empty_snapshot, snapshot_of, log_area}
+use Rattle.ktm_journal.specs.Image.{IsHeaded, empty_snapshot, snapshot_of}
 
 -- there is no header, or the bytes are too short for it
 abbrev pub HasNoHeader : List ℕ → Type 0
 HasNoHeader bytes = (units image : ℕ) → ¬ IsHeaded units image bytes
 
--- a payload that is no group that is built and applies to the state
-abbrev pub IsBadPayload : Durable → List ℕ → Type 0
-IsBadPayload state payload = (events : Group) → IsGroupOf events payload → (is_built_group events && events_apply state events) ≡ false
-
--- behind these groups, which are built and apply, stands an open gate whose frame is cut short, or whose payload is bad
-pub record IsBadFrame (units image : ℕ) (log : List Group) (bytes : List ℕ) : Type 0 where
-  pub formatted : IsFormatted units image bytes
-  pub payloads : List (List ℕ)
-  pub groups : HoldGroups log payloads
-  pub built : IsTrue (is_built_log log)
-  pub applies : IsTrue (log_applies (empty_state units image) log)
-  pub frames : BeginsWith payloads (area_bytes (log_area units) bytes)
-  pub bad : IsTorn (drop (end_of payloads) (area_bytes (log_area units) bytes))
-      ⊎ ((payload : List ℕ) × IsFrame payload (drop (end_of payloads) (area_bytes (log_area units) bytes)) × IsBadPayload (stand (empty_state units image) log) payload)
-
--- the bytes are bad at this offset: at 0 without a header, at 4,096 with a snapshot other than the empty one, or else at the
--- gate of the first bad frame
-abbrev pub IsBadAt : List ℕ → ℕ → Type 0
-IsBadAt bytes offset =
+-- no image begins here for what stands at this offset: at 0 without a header, at 4,096 with a snapshot other than the empty one
+abbrev pub IsUnformattedAt : List ℕ → ℕ → Type 0
+IsUnformattedAt bytes offset =
     (HasNoHeader bytes × (offset ≡ 0))
     ⊎ ((units : ℕ) × (image : ℕ) × IsHeaded units image bytes × (snapshot_of bytes ≢ empty_snapshot) × (offset ≡ 4096))
-    ⊎ ((units : ℕ) × (image : ℕ) × (log : List Group) × IsBadFrame units image log bytes × (offset ≡ (log_area units).at + log_size log))
 
 -- did a load find the disk down
 abbrev pub load_went_down : {T : Type 0} → Result T LoadFault → Bool

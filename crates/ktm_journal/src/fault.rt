@@ -1,4 +1,4 @@
-// Why a journal was not opened.
+// Why an image was not loaded.
 use thiserror::Error;
 
 /// Why an image was not loaded.
@@ -7,7 +7,7 @@ pub enum LoadFault {
     /// The disk has no power.
     #[error("the disk has no power")]
     Down,
-    /// The bytes are no image of a state, for what stands at this offset: 0 for the length and the header, 4,096 for the
+    /// The bytes are no image, for what stands at this offset: 0 for the length and the header, 4,096 for the
     /// snapshot, or the gate of the first bad frame.
     #[error("bad image at {0}")]
     Bad(u64),

@@ -4,27 +4,20 @@ ghost use Rattle.ktm_base.specs.declared.limits.TheConstants.{LEAST_UNITS, MOST_
 ghost use Rattle.ktm_base.specs.Told.{Goes};
 ghost use Rattle.ktm_base.specs.Disk.{DeviceCalls, IsSafe, OnlyReads};
 ghost use Rattle.ktm_log.specs.Fault.{append_went_down};
-ghost use Rattle.ktm_forms.specs.Built.{IsBuiltState};
 ghost use Rattle.ktm_world.specs.Logs.{Group};
-ghost use Rattle.ktm_states.specs.GoodState.{IsGoodState};
 ghost use Rattle.ktm_world.specs.Outcome.{is_full};
 ghost use Rattle.ktm_types.specs.Sizes.{area_len, event_size, frame_size};
 ghost use Rattle.ktm_event.specs.Kept.{Holds};
-ghost use Rattle.ktm_journal.specs.Image.{AreInLog, AreSpelled, HoldsLog, IsFormatted, IsHeaded, JournalAt, LeavesGroupOrNot, StandsFor, log_area};
-ghost use Rattle.ktm_journal.specs.Bad.{IsBadAt, load_went_down};
+ghost use Rattle.ktm_journal.specs.Image.{IsFormatted, IsImage, JournalAt, LeavesGroupOrNot, log_area};
+ghost use Rattle.ktm_journal.specs.Bad.{load_went_down};
 ghost use Rattle.ktm_journal.specs.Format.{Anything};
-ghost use Rattle.ktm_journal.specs.Load.{ComesTo};
-ghost use Rattle.ktm_log.specs.Log.{end_of, payloads_in};
-ghost use Rattle.ktm_world.specs.Durable.{empty_state};
+ghost use Rattle.ktm_log.specs.Log.{IsBadLog, IsLog, area_bytes, end_of, payloads_in};
 
-use crate::LoadFault;
-use crate::durable::Durable;
 use crate::image::{area_len, lay, log_area, put_header};
-use crate::load::{Header, read_form, replay};
+use crate::{Header, LoadFault};
 use ktm_base::{Disk, Down};
 use ktm_event::Events;
 use ktm_log::{AppendFault, Log, LogFault};
-use std::alloc::Global;
 use std::marker::Model;
 
 // How many bytes a frame takes beside its events: a gate, a length of four bytes, and a count of four.
@@ -51,57 +44,6 @@ impl Model for Journal {
     ghost invariant = { λ j. (j.units ≤ MOST_UNITS) × (j.log.area ≡ log_area j.units) × (5 * j.events ≤ j.log.end) };
 }
 
-/// A journal that was loaded, and the durable state that its image stands for.
-#[derive(Drop)]
-pub struct Loaded {
-    pub journal: Journal,
-    pub state: Durable,
-}
-
-// Reads the log behind this header, and makes of the state of a new image what the log says.
-fn replay_log<D: Disk>(
-    alloc: Global,
-    disk: &mut D,
-    header: Header,
-    buffer: &mut Vec<u8>,
-    state: &mut Durable,
-) -> Result<Log, LoadFault>
-    requires least { LEAST_UNITS ≤ header.units }
-    requires most { header.units ≤ MOST_UNITS }
-    requires formatted { IfSome (D.told disk.old) (λ s. IsFormatted header.units header.image s.seen) }
-    requires empty { state.old ≡ empty_state header.units header.image }
-    ensures area { IfOk result (λ log. log.area ≡ log_area header.units) }
-    ensures end { IfOk result (λ log. log.end ≡ end_of (payloads_in buffer.new.items)) }
-    ensures inside { IfOk result (λ log. log.end < log.area.len) }
-    ensures room { IfOk result (λ log. log.area.len ≤ vec_capacity buffer.new) }
-    ensures kept { vec_capacity buffer.old ≤ vec_capacity buffer.new }
-    ensures comes { OnOk result (ComesTo header.units header.image (payloads_in buffer.new.items) state.new) }
-    ensures good { OnOk result (IsGoodState state.new) }
-    ensures stands { OnOk result (IfSome (D.told disk.old) (λ s. StandsFor state.new s.seen)) }
-    ensures journal { IfOk result (λ end. (events : ℕ) (log : List Group) → IsSomeAnd (D.told disk.old) (λ s. IsSafe s × HoldsLog header.units header.image log s.seen)
-        → IsSomeAnd (D.told disk.new) (JournalAt (record { units = header.units; image = header.image; log = end; events = events }) log)) }
-    ensures spelled { OnOk result ((log : List Group) → IsSomeAnd (D.told disk.old) (λ s. HoldsLog header.units header.image log s.seen) → AreSpelled log) }
-    ensures bad { (offset : ℕ) → IsErrOf result (LoadFault.Bad offset) → IfSome (D.told disk.old) (λ s. IsBadAt s.seen offset) }
-    ensures reads { OnlyReads (2 * header.units + 16) (D.told disk.old) (D.told disk.new) (D.status disk.old) (D.status disk.new) (load_went_down result) }
-    ensures up { OnOk result ((D.status disk.new).is_down ≡ false) }
-    ensures up_bad { (offset : ℕ) → IsErrOf result (LoadFault.Bad offset) → (D.status disk.new).is_down ≡ false }
-{
-    match Log::scan(disk, log_area(header.units), buffer) {
-        Ok(log) => match replay(alloc, header, buffer.as_slice(), state) {
-            Ok(()) => Ok(log),
-            Err(fault) => Err(fault),
-        },
-        Err(LogFault::Bad(offset)) => {
-            if let Err(fault) = replay(alloc, header, buffer.as_slice(), state) {
-                return Err(fault);
-            }
-            Err(LoadFault::Bad(offset))
-        }
-        Err(LogFault::Down) => Err(LoadFault::Down),
-        Err(LogFault::NoMemory) => Err(LoadFault::NoMemory),
-    }
-}
-
 impl Journal {
     /// Makes the disk a new image, whatever it held. It takes no memory. A format that the power ended leaves an image that
     /// may stand for nothing.
@@ -109,7 +51,7 @@ impl Journal {
         requires from { LEAST_UNITS ≤ units }
         requires to { units ≤ MOST_UNITS }
         requires pending { (D.status disk.old).pending ≡ 0 }
-        ensures ok { OnOk result (Goes (λ old new. IsSafe new × HoldsLog units image [] new.seen) (D.told disk.old) (D.told disk.new)) }
+        ensures ok { OnOk result (Goes (λ old new. IsSafe new × IsImage units image [] new.seen) (D.told disk.old) (D.told disk.new)) }
         ensures down { OnErr result (Goes Anything (D.told disk.old) (D.told disk.new)) }
         ensures pending { OnOk result ((D.status disk.new).pending ≡ 0) }
         ensures up { OnOk result ((D.status disk.new).is_down ≡ false) }
@@ -124,87 +66,52 @@ impl Journal {
         Ok(())
     }
 
-    /// Reads the image of a disk, and gives its journal with the state that it stands for. It writes nothing. The log is read
-    /// into the buffer, which is made as long as the log's area, and afterwards has room for whatever can be appended.
-    pub fn load<D: Disk>(
-        alloc: Global,
-        disk: &mut D,
-        buffer: &mut Vec<u8>,
-    ) -> Result<Loaded, LoadFault>
-        ensures units { IfOk result (λ loaded. (loaded.journal.units ≡ loaded.state.units) × (LEAST_UNITS ≤ loaded.state.units) × (loaded.state.units ≤ MOST_UNITS)) }
-        ensures image { IfOk result (λ loaded. loaded.journal.image ≡ loaded.state.image) }
-        ensures number { IfOk result (λ loaded. loaded.state.image < 2 ^ 16) }
-        ensures area { IfOk result (λ loaded. loaded.journal.log.area ≡ log_area loaded.state.units) }
-        ensures keys { IfOk result (λ loaded. length loaded.state.keys ≤ loaded.state.units) }
-        ensures built { IfOk result (λ loaded. IsBuiltState loaded.state) }
-        ensures good { IfOk result (λ loaded. IsGoodState loaded.state) }
-        ensures events { IfOk result (λ loaded. AreInLog loaded.state loaded.journal.log.end) }
-        ensures counted { IfOk result (λ loaded. loaded.journal.events ≡ loaded.state.events) }
-        ensures inside { IfOk result (λ loaded. loaded.journal.log.end < loaded.journal.log.area.len) }
-        ensures room { IfOk result (λ loaded. loaded.journal.log.area.len ≤ vec_capacity buffer.new) }
-        ensures kept { vec_capacity buffer.old ≤ vec_capacity buffer.new }
-        ensures stands { IfOk result (λ loaded. IfSome (D.told disk.old) (λ s. StandsFor loaded.state s.seen)) }
-        ensures formatted { IfOk result (λ loaded. IfSome (D.told disk.new) (λ s. IsFormatted loaded.journal.units loaded.journal.image s.seen)) }
-        ensures journal { IfOk result (λ loaded. (log : List Group) → IsSomeAnd (D.told disk.old) (λ s. IsSafe s × HoldsLog loaded.state.units loaded.state.image log s.seen)
-            → IsSomeAnd (D.told disk.new) (JournalAt loaded.journal log)) }
-        ensures spelled { IfOk result (λ loaded. (log : List Group) → IsSomeAnd (D.told disk.old) (λ s. HoldsLog loaded.state.units loaded.state.image log s.seen) → AreSpelled log) }
-        ensures bad { (offset : ℕ) → IsErrOf result (LoadFault.Bad offset) → IfSome (D.told disk.old) (λ s. IsBadAt s.seen offset) }
-        ensures reads { OnlyReads (8 * MOST_UNITS + 64) (D.told disk.old) (D.told disk.new) (D.status disk.old) (D.status disk.new) (load_went_down result) }
-        ensures up { OnOk result ((D.status disk.new).is_down ≡ false) }
-        ensures up_bad { (offset : ℕ) → IsErrOf result (LoadFault.Bad offset) → (D.status disk.new).is_down ≡ false }
-        ensures few { (units image : ℕ) → IsSomeAnd (D.told disk.old) (λ s. IsHeaded units image s.seen) → (D.status disk.new).calls ≤ (D.status disk.old).calls + (8 * units + 64) }
-    {
-        let header = match read_form(disk) {
-            Ok(header) => header,
-            Err(fault) => return Err(fault),
-        };
-        Journal::read_log(alloc, disk, header, buffer)
-    }
-
-    // Reads the log behind this header.
-    fn read_log<D: Disk>(
-        alloc: Global,
+    /// Reads the log behind this header into the buffer, which is made as long as the log's area, and afterwards has room for
+    /// whatever can be appended. It writes nothing. The payloads stay in the buffer, where `first_payload` of `ktm_log` finds
+    /// them; where a frame is torn, those before it. No event is counted so far (`count_from`).
+    pub fn open<D: Disk>(
         disk: &mut D,
         header: Header,
         buffer: &mut Vec<u8>,
-    ) -> Result<Loaded, LoadFault>
+    ) -> Result<Journal, LoadFault>
         requires least { LEAST_UNITS ≤ header.units }
         requires most { header.units ≤ MOST_UNITS }
         requires formatted { IfSome (D.told disk.old) (λ s. IsFormatted header.units header.image s.seen) }
-        ensures units { IfOk result (λ loaded. (loaded.journal.units ≡ header.units) × (loaded.state.units ≡ header.units)) }
-        ensures image { IfOk result (λ loaded. (loaded.journal.image ≡ header.image) × (loaded.state.image ≡ header.image)) }
-        ensures number { IfOk result (λ loaded. loaded.state.image < 2 ^ 16) }
-        ensures area { IfOk result (λ loaded. loaded.journal.log.area ≡ log_area header.units) }
-        ensures keys { IfOk result (λ loaded. length loaded.state.keys ≤ loaded.state.units) }
-        ensures built { IfOk result (λ loaded. IsBuiltState loaded.state) }
-        ensures good { IfOk result (λ loaded. IsGoodState loaded.state) }
-        ensures events { IfOk result (λ loaded. AreInLog loaded.state loaded.journal.log.end) }
-        ensures counted { IfOk result (λ loaded. loaded.journal.events ≡ loaded.state.events) }
-        ensures inside { IfOk result (λ loaded. loaded.journal.log.end < loaded.journal.log.area.len) }
-        ensures room { IfOk result (λ loaded. loaded.journal.log.area.len ≤ vec_capacity buffer.new) }
+        ensures units { IfOk result (λ journal. journal.units ≡ header.units) }
+        ensures image { IfOk result (λ journal. journal.image ≡ header.image) }
+        ensures area { IfOk result (λ journal. journal.log.area ≡ log_area header.units) }
+        ensures end { IfOk result (λ journal. journal.log.end ≡ end_of (payloads_in buffer.new.items)) }
+        ensures inside { IfOk result (λ journal. journal.log.end < journal.log.area.len) }
+        ensures room { IfOk result (λ journal. journal.log.area.len ≤ vec_capacity buffer.new) }
         ensures kept { vec_capacity buffer.old ≤ vec_capacity buffer.new }
-        ensures stands { IfOk result (λ loaded. IfSome (D.told disk.old) (λ s. StandsFor loaded.state s.seen)) }
-        ensures journal { IfOk result (λ loaded. (log : List Group) → IsSomeAnd (D.told disk.old) (λ s. IsSafe s × HoldsLog header.units header.image log s.seen)
-            → IsSomeAnd (D.told disk.new) (JournalAt loaded.journal log)) }
-        ensures spelled { IfOk result (λ loaded. (log : List Group) → IsSomeAnd (D.told disk.old) (λ s. HoldsLog header.units header.image log s.seen) → AreSpelled log) }
-        ensures bad { (offset : ℕ) → IsErrOf result (LoadFault.Bad offset) → IfSome (D.told disk.old) (λ s. IsBadAt s.seen offset) }
+        ensures log { OnOk result (IfSome (D.told disk.old) (λ s. IsLog (payloads_in buffer.new.items) (area_bytes (log_area header.units) s.seen))) }
+        ensures journal { IfOk result (λ journal. (log : List Group) → IsSomeAnd (D.told disk.old) (λ s. IsSafe s × IsImage header.units header.image log s.seen)
+            → IsSomeAnd (D.told disk.new) (JournalAt journal log)) }
+        ensures bad { (offset : ℕ) → IsErrOf result (LoadFault.Bad offset) → (offset ≡ (log_area header.units).at + end_of (payloads_in buffer.new.items))
+            × IfSome (D.told disk.old) (λ s. IsBadLog (payloads_in buffer.new.items) (area_bytes (log_area header.units) s.seen)) }
         ensures reads { OnlyReads (2 * header.units + 16) (D.told disk.old) (D.told disk.new) (D.status disk.old) (D.status disk.new) (load_went_down result) }
         ensures up { OnOk result ((D.status disk.new).is_down ≡ false) }
         ensures up_bad { (offset : ℕ) → IsErrOf result (LoadFault.Bad offset) → (D.status disk.new).is_down ≡ false }
     {
-        let mut state = Durable::empty(alloc, header.units, header.image);
-        match replay_log(alloc, disk, header, buffer, &mut state) {
-            Ok(log) => Ok(Loaded {
-                journal: Journal {
-                    units: header.units,
-                    image: header.image,
-                    log,
-                    events: state.events(),
-                },
-                state,
+        match Log::scan(disk, log_area(header.units), buffer) {
+            Ok(log) => Ok(Journal {
+                units: header.units,
+                image: header.image,
+                log,
+                events: 0,
             }),
-            Err(fault) => Err(fault),
+            Err(LogFault::Bad(offset)) => Err(LoadFault::Bad(offset)),
+            Err(LogFault::Down) => Err(LoadFault::Down),
+            Err(LogFault::NoMemory) => Err(LoadFault::NoMemory),
         }
+    }
+
+    /// Counts events from so many on, which are in the log.
+    pub fn count_from(&mut self, events: u64)
+        requires { 5 * events ≤ self.old.log.end }
+        ensures { self.new ≡ record self.old { events = events } }
+    {
+        self.events = events;
     }
 
     /// Records events as one group: once it is answered no loss of power takes it. It takes no memory and copies nothing, and
@@ -261,7 +168,7 @@ impl Journal {
         area_len(self.units) as usize - FRAME
     }
 
-    /// How many events were ever recorded.
+    /// How many events were ever recorded: as many as it was told to count from, and those that were appended since.
     pub fn events(&self) -> u64
         ensures { result ≡ self.now.events }
     {

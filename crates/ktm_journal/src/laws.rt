@@ -2,9 +2,7 @@
 ghost use Rattle.std.specs.Prelude.{◌≡◌, ℕ, ◌-◌, List};
 ghost use Rattle.ktm_base.specs.Disk.{DiskState, MayLeave};
 ghost use Rattle.ktm_world.specs.Logs.{Group};
-ghost use Rattle.ktm_world.specs.Durable.{Durable};
-ghost use Rattle.ktm_journal.specs.Image.{HoldsLog, IsImage, JournalAt, JournalState, StandsFor, left_after};
-ghost use Rattle.ktm_journal.specs.Bad.{IsBadAt};
+ghost use Rattle.ktm_journal.specs.Image.{IsImage, JournalAt, JournalState, left_after};
 
 /// Of a journal that is answered a loss of power takes nothing.
 pub fn law_of_what_is_left()
@@ -14,25 +12,4 @@ pub fn law_of_what_is_left()
 /// What a journal has left is what its groups leave of the log's area.
 pub fn law_of_what_is_free()
     ensures { (j : JournalState) (log : List Group) (s : DiskState) → JournalAt j log s → j.log.area.len - j.log.end ≡ left_after j.units log }
-{}
-
-/// Bytes hold one log at most, of one size and number.
-pub fn law_of_one_log()
-    ensures { (units more_units image more_image : ℕ) (log more : List Group) (bytes : List ℕ) → HoldsLog units image log bytes → HoldsLog more_units more_image more bytes
-        → (units ≡ more_units) × (image ≡ more_image) × (log ≡ more) }
-{}
-
-/// Bytes stand for one state at most.
-pub fn law_of_states()
-    ensures { (a b : Durable) (bytes : List ℕ) → StandsFor a bytes → StandsFor b bytes → a ≡ b }
-{}
-
-/// Bytes that stand for a state are bad nowhere.
-pub fn law_of_bad_images()
-    ensures { (state : Durable) (bytes : List ℕ) (offset : ℕ) → StandsFor state bytes → IsBadAt bytes offset → ⊥ }
-{}
-
-/// Bytes are bad at one place at most.
-pub fn law_of_bad_places()
-    ensures { (a b : ℕ) (bytes : List ℕ) → IsBadAt bytes a → IsBadAt bytes b → a ≡ b }
 {}

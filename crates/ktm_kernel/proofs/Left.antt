@@ -6,8 +6,9 @@ use Rattle.std.proofs.lemmas.List.Folds.{list_all-append}
 use Rattle.std.specs.Prelude.{Contains, IsTrue, IsSomeAnd}
 use Rattle.ktm_base.specs.Disk.{DiskState}
 use Rattle.ktm_base.proofs.offered.ToldSteps.{IsSomeAnd-map}
-use Rattle.ktm_journal.specs.Image.{JournalState, JournalAt, HoldsLog, StandsFor}
-use Rattle.ktm_journal.proofs.Images.{what_is_left}
+use Rattle.ktm_journal.specs.Image.{JournalState, JournalAt}
+use Rattle.ktm_restart.specs.Logs.{HoldsLog, StandsFor}
+use Rattle.ktm_journal.proofs.offered.Images.{what_is_left}
 use Rattle.ktm_world.specs.Durable.{Durable, empty_state, stand, log_applies}
 use Rattle.ktm_world.specs.World.{World, possible_logs}
 use Rattle.ktm_forms.specs.Built.{is_built_group, is_built_log}

@@ -11,9 +11,10 @@ use Rattle.ktm_base.proofs.offered.Images.{safe_law}
 use Rattle.ktm_base.proofs.offered.ToldSteps.{IsSomeAnd-map}
 use Rattle.ktm_log.specs.declared.area.Area.{Area}
 use Rattle.ktm_log.specs.Log.{LogState}
-use Rattle.ktm_journal.specs.Image.{AreInLog, AreSpelled, JournalState, JournalAt, IsImage, HoldsLog, IsFormatted, StandsFor, LeavesGroupOrNot, left_after, log_area}
-use Rattle.ktm_journal.proofs.LogLoads.{journal_left}
-use Rattle.ktm_journal.proofs.OneImage.{one_image}
+use Rattle.ktm_restart.specs.Logs.{AreInLog, AreSpelled, HoldsLog, StandsFor}
+use Rattle.ktm_journal.specs.Image.{JournalState, JournalAt, IsImage, IsFormatted, LeavesGroupOrNot, left_after, log_area}
+use Rattle.ktm_journal.proofs.offered.GroupSizes.{journal_left}
+use Rattle.ktm_restart.proofs.offered.OneState.{one_held}
 use Rattle.ktm_event.specs.Kept.{EventsState, Holds}
 use Rattle.ktm_types.specs.declared.event.Event.{Event}
 use Rattle.ktm_types.specs.declared.event.Event.TheVariants.{Boot}
@@ -68,7 +69,7 @@ pub record IsFound (units image : ℕ) (before log : List Group) (state : Durabl
 
 found_in : (units image : ℕ) (before log : List Group) (state : Durable) (bytes : List ℕ) → StandsFor state bytes → HoldsLog units image (before ++ log) bytes → IsFound units image before log state
 found_in units image before log state bytes stands holds =
-    let (u, i, l) = one_image state.units units state.image image stands.log (before ++ log) bytes stands.holds holds in
+    let (u, i, l) = one_held state.units units state.image image stands.log (before ++ log) bytes stands.holds holds in
     record {
       units_are = u;
       image_is = i;

@@ -6,9 +6,10 @@ use Rattle.ktm_base.specs.declared.refusal.Refusal.TheVariants.{MachineDown, Log
 use Rattle.ktm_base.specs.Disk.{DiskState}
 use Rattle.ktm_base.proofs.offered.Images.{safe_law, power_law as images_power_law}
 use Rattle.ktm_base.proofs.offered.ToldSteps.{IsSomeAnd-map, IsSomeAnd-step}
-use Rattle.ktm_journal.specs.Bad.{IsBadAt}
-use Rattle.ktm_journal.specs.Image.{IsHeaded, HoldsLog}
-use Rattle.ktm_journal.proofs.OneImage.{not_bad}
+use Rattle.ktm_restart.specs.Bad.{IsBadAt}
+use Rattle.ktm_journal.specs.Image.{IsHeaded}
+use Rattle.ktm_restart.specs.Logs.{HoldsLog}
+use Rattle.ktm_restart.proofs.offered.OneState.{not_bad}
 use Rattle.ktm_types.specs.declared.command.Line.TheVariants.{Restart}
 use Rattle.ktm_types.specs.declared.reply.Reply.{Reply}
 use Rattle.ktm_types.specs.declared.reply.Reply.TheVariants.{BadImage, Refused, Restarted}

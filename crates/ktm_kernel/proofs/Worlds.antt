@@ -7,8 +7,9 @@ use Rattle.ktm_base.specs.declared.id.Pid.{Pid}
 use Rattle.ktm_base.specs.declared.refusal.Refusal.TheVariants.{MachineDown}
 use Rattle.ktm_base.specs.Disk.{DiskState}
 use Rattle.ktm_base.proofs.offered.ToldSteps.{IsSomeAnd-map}
-use Rattle.ktm_journal.specs.Image.{JournalState, JournalAt, IsImage, HoldsLog}
-use Rattle.ktm_journal.proofs.Images.{what_is_left}
+use Rattle.ktm_journal.specs.Image.{JournalState, JournalAt, IsImage}
+use Rattle.ktm_restart.specs.Logs.{HoldsLog}
+use Rattle.ktm_journal.proofs.offered.Images.{what_is_left}
 use Rattle.ktm_types.specs.declared.command.Command.{Command}
 use Rattle.ktm_types.specs.declared.command.Line.TheVariants.{Crash}
 use Rattle.ktm_types.specs.declared.event.Event.{Event}

@@ -1,7 +1,8 @@
 -- What a restart makes of a disk that holds groups.
 use Rattle.std.specs.Prelude.{◌≡◌, ◌⊎◌, ℕ, ◌-◌, Bool, true, false, List, [], ◌∷◌, ◌++◌, Option, Some, None, Result, Ok, Err}
 use Rattle.ktm_base.specs.Disk.{DiskState, MayLeave, IsSafe}
-use Rattle.ktm_journal.specs.Image.{HoldsLog, left_after}
+use Rattle.ktm_restart.specs.Logs.{HoldsLog}
+use Rattle.ktm_journal.specs.Image.{left_after}
 use Rattle.ktm_world.specs.Durable.{Durable, empty_state, stand}
 use Rattle.ktm_world.specs.Outcome.{is_full}
 use Rattle.ktm_types.specs.Sizes.{log_size}

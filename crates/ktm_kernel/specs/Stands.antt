@@ -3,7 +3,8 @@ use Rattle.std.specs.Prelude.{◌≡◌, ℕ, Bool, true, false, List, ◌++◌,
 use Rattle.ktm_base.specs.Disk.{DiskState, DiskStatus, MayLeave, IsSafe}
 use Rattle.ktm_base.specs.Power.{Restored, NotRestored}
 use Rattle.ktm_base.specs.Told.{Goes}
-use Rattle.ktm_journal.specs.Image.{JournalState, JournalAt, HoldsLog, IsFormatted, StandsFor, left_after}
+use Rattle.ktm_journal.specs.Image.{JournalState, JournalAt, IsFormatted, left_after}
+use Rattle.ktm_restart.specs.Logs.{HoldsLog, StandsFor}
 use Rattle.ktm_types.specs.declared.command.Line.{Line}
 use Rattle.ktm_types.specs.declared.reply.Reply.{Reply}
 use Rattle.ktm_world.specs.Present.{Present}

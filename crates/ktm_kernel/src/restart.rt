@@ -7,10 +7,11 @@ ghost use Rattle.ktm_base.specs.declared.refusal.Refusal.TheVariants.{MachineDow
 ghost use Rattle.ktm_types.specs.declared.command.Line.TheVariants.{Restart};
 ghost use Rattle.ktm_types.specs.declared.reply.Reply.TheVariants.{Refused};
 ghost use Rattle.ktm_base.specs.Disk.{DeviceCalls};
-ghost use Rattle.ktm_journal.specs.Bad.{IsBadAt};
+ghost use Rattle.ktm_restart.specs.Bad.{IsBadAt};
 ghost use Rattle.ktm_built.specs.Standing.{fresh};
 ghost use Rattle.ktm_forms.specs.Built.{IsBuiltState};
-ghost use Rattle.ktm_journal.specs.Image.{IsFormatted, IsHeaded, JournalAt, LeavesGroupOrNot, StandsFor};
+ghost use Rattle.ktm_journal.specs.Image.{IsFormatted, IsHeaded, JournalAt, LeavesGroupOrNot};
+ghost use Rattle.ktm_restart.specs.Logs.{StandsFor};
 ghost use Rattle.ktm_types.specs.Sizes.{area_len, frame_size};
 ghost use Rattle.ktm_states.specs.GoodState.{IsGoodState};
 ghost use Rattle.ktm_world.specs.Durable.{Durable as DurableState};
@@ -26,8 +27,9 @@ use crate::kernel::Kernel;
 use ktm_base::{Disk, NoMemory, Refusal};
 use ktm_built::{law_of_fresh, law_of_standing};
 use ktm_event::Events;
-use ktm_journal::{AppendFault, Durable, Journal, LoadFault, Loaded};
+use ktm_journal::{AppendFault, Journal, LoadFault};
 use ktm_memory::Memory;
+use ktm_restart::{Durable, Loaded, load};
 use ktm_states::{law_of_good_states, law_of_grammar};
 use ktm_types::{Event, Reply};
 use std::alloc::Global;
@@ -200,7 +202,7 @@ impl Kernel {
         law_of_standing();
         law_of_good_states();
         law_of_grammar();
-        let Loaded { mut journal, state } = match Journal::load(alloc, disk, buffer) {
+        let Loaded { mut journal, state } = match load(alloc, disk, buffer) {
             Ok(loaded) => loaded,
             Err(LoadFault::Down) => return Err(RestartFault::Down),
             Err(LoadFault::Bad(offset)) => return Err(RestartFault::Bad(offset)),

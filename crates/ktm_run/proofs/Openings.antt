@@ -7,9 +7,10 @@ use Rattle.ktm_base.specs.Disk.{DiskState, DiskStatus, DeviceCalls, MayLeave, Is
 use Rattle.ktm_base.specs.Told.{Goes}
 use Rattle.ktm_base.proofs.offered.Images.{safe_law}
 use Rattle.ktm_base.proofs.offered.ToldSteps.{IsSomeAnd-map, IsSomeAnd-step}
-use Rattle.ktm_journal.specs.Bad.{IsBadAt}
-use Rattle.ktm_journal.specs.Image.{HoldsLog, IsHeaded, StandsFor, left_after}
-use Rattle.ktm_journal.proofs.OneImage.{not_bad}
+use Rattle.ktm_restart.specs.Bad.{IsBadAt}
+use Rattle.ktm_restart.specs.Logs.{HoldsLog, StandsFor}
+use Rattle.ktm_journal.specs.Image.{IsHeaded, left_after}
+use Rattle.ktm_restart.proofs.offered.OneState.{not_bad}
 use Rattle.ktm_kernel.specs.Restarts.{HoldsBoth, LeavesOwnOrNot, Started, base_of, is_full_for_own}
 use Rattle.ktm_kernel.specs.Stands.{KernelState, KernelAt}
 use Rattle.ktm_kernel.specs.declared.restart.RestartFault.{RestartFault}

@@ -4,7 +4,7 @@ use Rattle.std.specs.Io.KnownBytes.{Appends, Keeps}
 use Rattle.ktm_base.specs.Count.{Rose}
 use Rattle.ktm_base.specs.Disk.{DiskState, DiskStatus}
 use Rattle.ktm_base.specs.Told.{Goes}
-use Rattle.ktm_journal.specs.Bad.{IsBadAt}
+use Rattle.ktm_restart.specs.Bad.{IsBadAt}
 use Rattle.ktm_run.specs.Form.{usage_line, bad_image_line}
 use Rattle.ktm_run.specs.Opening.{Prepared}
 use Rattle.ktm_run.specs.Script.{AppendsPart}

@@ -2,7 +2,7 @@
 use Rattle.std.specs.Prelude.{◌≡◌, ◌⊎◌, ◌<◌, [], length}
 use Rattle.ktm_base.specs.declared.limits.TheConstants.{NEW_UNITS}
 use Rattle.ktm_base.specs.Disk.{DiskState, IsSafe}
-use Rattle.ktm_journal.specs.Image.{HoldsLog}
+use Rattle.ktm_restart.specs.Logs.{HoldsLog}
 use Rattle.ktm_kernel.specs.declared.restart.RestartFault.{RestartFault}
 use Rattle.ktm_kernel.specs.declared.restart.RestartFault.TheVariants as kernel
 use Rattle.ktm_run.specs.declared.fault.OpenFault.{OpenFault}

@@ -6,7 +6,8 @@ use Rattle.ktm_base.specs.declared.limits.TheConstants.{NEW_UNITS, MOST_SCRIPT_B
 use Rattle.ktm_base.specs.declared.power.PowerCall.{PowerCall}
 use Rattle.ktm_base.specs.declared.power.PowerCall.TheVariants.{Power}
 use Rattle.ktm_base.specs.Disk.{DiskState, DiskStatus, MayLeave, IsSafe}
-use Rattle.ktm_journal.specs.Image.{HoldsLog, StandsFor, left_after}
+use Rattle.ktm_restart.specs.Logs.{HoldsLog, StandsFor}
+use Rattle.ktm_journal.specs.Image.{left_after}
 use Rattle.ktm_kernel.specs.Stands.{LeavesStates}
 use Rattle.ktm_world.specs.Durable.{Durable, empty_state, stand}
 use Rattle.ktm_world.specs.Lawful.{IsLawful}

@@ -3,7 +3,7 @@ ghost use Rattle.std.specs.Prelude.{◌≡◌, ◌⊎◌, ◌+◌, ◌*◌, ◌<
 ghost use Rattle.ktm_base.specs.declared.limits.TheConstants.{MOST_UNITS};
 ghost use Rattle.ktm_base.specs.Disk.{DeviceCalls, MayLeave};
 ghost use Rattle.ktm_base.specs.Told.{Goes};
-ghost use Rattle.ktm_journal.specs.Bad.{IsBadAt};
+ghost use Rattle.ktm_restart.specs.Bad.{IsBadAt};
 ghost use Rattle.ktm_kernel.specs.Stands.{KernelAt, IsReady};
 ghost use Rattle.ktm_run.specs.Opening.{Prepared, open_fault_of};
 ghost use Rattle.ktm_run.specs.Theorem.{Begins, BeginsAs, LeavesOpening, RunCounts};

@@ -1,4 +1,4 @@
-use Rattle.ktm_journal.proofs.Images.{what_is_left}
+use Rattle.ktm_journal.proofs.offered.Images.{what_is_left}
 use Rattle.ktm_journal.proofs.laws.law_of_what_is_left.Goals as goal
 
 pub returns : goal.returns

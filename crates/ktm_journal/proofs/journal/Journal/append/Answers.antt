@@ -1,6 +1,6 @@
 use Rattle.std.proofs.Common.{arith}
 use Rattle.ktm_journal.specs.Image.{JournalState}
-use Rattle.ktm_journal.proofs.Images.{full_law, stays_formatted, group_added, group_or_not}
+use Rattle.ktm_journal.proofs.offered.Images.{full_law, stays_formatted, group_added, group_or_not}
 use Rattle.ktm_journal.proofs.journal.Journal.append.Goals as goal
 
 pub returns-in-Err-clause-full : goal.returns-in-Err-clause-full

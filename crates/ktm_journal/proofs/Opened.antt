@@ -1,0 +1,23 @@
+-- What a log that was read says of the journal.
+use Rattle.std.specs.Prelude.{IsSomeAnd}
+use Rattle.std.proofs.Common.{◌≡◌, ℕ, Option, None, Some, List, sym, ◌∙◌, subst}
+use Rattle.ktm_base.specs.Disk.{DiskState, IsSafe}
+use Rattle.ktm_log.specs.declared.area.Area.{Area}
+use Rattle.ktm_log.specs.Log.{LogState, Rests, area_bytes, IsLog}
+use Rattle.ktm_world.specs.Logs.{Group}
+use Rattle.ktm_journal.specs.Image.{IsImage, JournalAt, log_area}
+use Rattle.ktm_journal.proofs.offered.OneImage.{image_payloads}
+
+-- the journal of whichever log the image holds
+pub journal_told : (units image count : ℕ) (area : Area) (l : LogState) (payloads : List (List ℕ)) (o n : Option DiskState) → area ≡ log_area units → l.area ≡ area → n ≡ o → (IsSomeAnd o IsSafe → IsSomeAnd n (Rests area payloads l.end))
+    → (log : List Group) → IsSomeAnd o (λ s. IsSafe s × IsImage units image log s.seen) → IsSomeAnd n (JournalAt (record { units = units; image = image; log = l; events = count }) log)
+journal_told units image count area l payloads None n at same_area same rests log holds = absurd holds
+journal_told units image count area l payloads (Some s) n at same_area same rests log holds =
+    let resting : Rests area payloads l.end s = subst (λ t. IsSomeAnd t (Rests area payloads l.end)) same (rests holds.0) in
+    subst (λ t. IsSomeAnd t (JournalAt (record { units = units; image = image; log = l; events = count }) log)) (sym same) (record {
+      area = same_area ∙ at;
+      formatted = holds.1.formatted;
+      payloads = payloads;
+      groups = image_payloads units image log payloads s.seen holds.1 (subst (λ (a : Area). IsLog payloads (area_bytes a s.seen)) at resting.log);
+      rests = subst (λ (a : Area). Rests a payloads l.end s) (sym same_area) resting;
+    })

@@ -1,9 +1,0 @@
-use Rattle.std.proofs.Common.{◌-◌, length}
-use Rattle.ktm_journal.proofs.Folds.{Folded}
-use Rattle.ktm_journal.proofs.load.replay.Given as goal
-
-abbrev pub invariant-loop-payload : goal.invariant-loop-payload
-invariant-loop-payload l = Folded l.fn.header.units l.fn.header.image l.bytes l.at l.state
-
-abbrev pub decreases-loop-payload : goal.decreases-loop-payload
-decreases-loop-payload l = length l.bytes - l.at

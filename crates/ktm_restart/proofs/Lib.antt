@@ -1,0 +1,7 @@
+mod Past
+mod Groups
+mod GoodLogs
+mod Spelled
+mod Folds
+mod LogLoads
+pub mod offered

@@ -1,0 +1,135 @@
+-- Bytes hold one log at most and stand for one state, or they are bad at one place.
+use Rattle.std.proofs.Common.{◌≡◌, inl, inr, ℕ, ◌+◌, true, IsTrue, List, [], ◌∷◌, ◌++◌, drop, refl, sym, ◌∙◌, ap, subst}
+use Rattle.std.proofs.lemmas.Bool.{and_from, and_parts}
+use Rattle.std.proofs.lemmas.List.Folds.{list_all-append}
+use Rattle.ktm_log.specs.Log.{BeginsWith, IsFrame, IsClosed, area_bytes, end_of}
+use Rattle.ktm_log.proofs.Frames.{begins-split}
+use Rattle.ktm_log.proofs.GoodOrBad.{begins_compare, one_frame, torn_is_no_frame}
+use Rattle.ktm_forms.specs.Built.{is_built_group, is_built_log}
+use Rattle.ktm_world.specs.Logs.{Group}
+use Rattle.ktm_world.specs.Durable.{Durable, empty_state, stand, events_apply, log_applies}
+use Rattle.ktm_types.specs.EventGrammar.{IsGroupOf}
+use Rattle.ktm_types.specs.Sizes.{log_size}
+use Rattle.ktm_world.proofs.offered.Durables.{log_applies-append}
+use Rattle.ktm_journal.specs.Image.{HoldGroups, IsImage, log_area}
+use Rattle.ktm_journal.proofs.offered.OneImage.{one_groups, one_header, one_image}
+use Rattle.ktm_restart.specs.Logs.{HoldsLog, StandsFor}
+use Rattle.ktm_restart.specs.Bad.{IsBadFrame, IsBadAt}
+
+-- a new image holds a log of no group
+pub new_log : (units image : ℕ) (bytes : List ℕ) → IsImage units image [] bytes → HoldsLog units image [] bytes
+new_log units image bytes is = record { is = is; built = refl; applies = refl }
+
+-- bytes hold one log at most
+pub one_held : (u v i j : ℕ) (log more : List Group) (bytes : List ℕ) → HoldsLog u i log bytes → HoldsLog v j more bytes → (u ≡ v) × (i ≡ j) × (log ≡ more)
+one_held u v i j log more bytes left right = one_image u v i j log more bytes left.is right.is
+
+-- and stand for one state
+pub one_state : (a b : Durable) (bytes : List ℕ) → StandsFor a bytes → StandsFor b bytes → a ≡ b
+one_state a b bytes left right =
+    let (units, image, log) = one_held a.units b.units a.image b.image left.log right.log bytes left.holds right.holds in
+    left.comes_to ∙ ap (λ n. stand (empty_state n a.image) left.log) units ∙ ap (λ n. stand (empty_state b.units n) left.log) image
+    ∙ ap (λ (l : List Group). stand (empty_state b.units b.image) l) log ∙ sym right.comes_to
+
+-- a group behind others, and those
+pub record IsSplit (log : List Group) (qs : List (List ℕ)) (p : List ℕ) : Type 0 where
+  pub front : List Group
+  pub events : Group
+  pub more : List Group
+  pub is : log ≡ front ++ events ∷ more
+  pub groups : HoldGroups front qs
+  pub group : IsGroupOf events p
+
+split_groups : (log : List Group) (qs rest : List (List ℕ)) (p : List ℕ) → HoldGroups log (qs ++ p ∷ rest) → IsSplit log qs p
+split_groups [] [] rest p hold = absurd hold
+split_groups [] (q ∷ qs) rest p hold = absurd hold
+split_groups (g ∷ log) [] rest p hold = record { front = []; events = g; more = log; is = refl; groups = tt; group = hold.0 }
+split_groups (g ∷ log) (q ∷ qs) rest p hold =
+    let behind = split_groups log qs rest p hold.1 in
+    record {
+      front = g ∷ behind.front;
+      events = behind.events;
+      more = behind.more;
+      is = ap (λ (l : List Group). g ∷ l) behind.is;
+      groups = (hold.0, behind.groups);
+      group = behind.group;
+    }
+
+-- of groups that apply each applies behind those before it
+applies_behind : (base : Durable) (front more : List Group) (events : Group) → IsTrue (log_applies base (front ++ events ∷ more)) → events_apply (stand base front) events ≡ true
+applies_behind base front more events applies =
+    (and_parts _ _ (and_parts _ _ (sym (log_applies-append base front (events ∷ more)) ∙ applies)).1).0
+
+-- of built groups each is built
+built_within : (front more : List Group) (events : Group) → IsTrue (is_built_log (front ++ events ∷ more)) → is_built_group events ≡ true
+built_within front more events built = (and_parts _ _ (and_parts _ _ (sym (list_all-append is_built_group front (events ∷ more)) ∙ built)).1).0
+
+module _ (units image : ℕ) (log : List Group) (bytes : List ℕ) (bad : IsBadFrame units image log bytes) where
+  -- where the bad frame is no log goes on
+  not_longer : (more : List Group) (ps rest : List (List ℕ)) (r : List ℕ) → HoldGroups more ps → IsTrue (is_built_log more) → IsTrue (log_applies (empty_state units image) more)
+      → BeginsWith ps (area_bytes (log_area units) bytes) → ps ≡ bad.payloads ++ r ∷ rest → ⊥
+  not_longer more ps rest r groups built applies begins is =
+      let base = empty_state units image in
+      let at = drop (end_of bad.payloads) (area_bytes (log_area units) bytes) in
+      let frame : IsFrame r at = (begins-split bad.payloads rest r _ (subst (λ (l : List (List ℕ)). BeginsWith l (area_bytes (log_area units) bytes)) is begins)).1 in
+      let split = split_groups more bad.payloads rest r (subst (λ (l : List (List ℕ)). HoldGroups more l) is groups) in
+      let good = applies_behind base split.front split.more split.events (subst (λ (l : List Group). IsTrue (log_applies base l)) split.is applies) in
+      let here = subst (λ (l : List Group). events_apply (stand base l) split.events ≡ true) (one_groups split.front log bad.payloads split.groups bad.groups) good in
+      let made = built_within split.front split.more split.events (subst (λ (l : List Group). IsTrue (is_built_log l)) split.is built) in
+      let both = and_from (is_built_group split.events) (events_apply (stand base log) split.events) made here in
+      elim bad.bad [
+        | inl torn ↦ torn_is_no_frame r at frame torn
+        | inr (p, other, is_bad) ↦ absurd (cc (both, is_bad split.events (subst (λ (x : List ℕ). IsGroupOf split.events x) (one_frame r p at frame other) split.group)))
+      ]
+
+  -- and its gate is open
+  no_end : IsClosed (drop (end_of bad.payloads) (area_bytes (log_area units) bytes)) → ⊥
+  no_end closed = elim bad.bad [ inl torn ↦ closed.closed torn.open_gate | inr (p, frame, is_bad) ↦ closed.closed frame.open_gate ]
+
+  no_log : (more : List Group) → HoldsLog units image more bytes → ⊥
+  no_log more holds =
+      let ps = holds.is.payloads in
+      let b = area_bytes (log_area units) bytes in
+      elim (begins_compare ps bad.payloads b holds.is.frames.frames bad.frames) [
+        | inl (r, rest, is) ↦ not_longer more ps rest r holds.is.groups holds.built holds.applies holds.is.frames.frames is
+        | inr (inl same) ↦ no_end (subst (λ (l : List (List ℕ)). IsClosed (drop (end_of l) b)) same holds.is.frames.gate)
+        | inr (inr (r, rest, is)) ↦ holds.is.frames.gate.closed (begins-split ps rest r b (subst (λ (l : List (List ℕ)). BeginsWith l b) is bad.frames)).1.open_gate
+      ]
+
+pub not_bad : (state : Durable) (bytes : List ℕ) (offset : ℕ) → StandsFor state bytes → IsBadAt bytes offset → ⊥
+not_bad state bytes offset stands bad = elim bad [
+  | inl (inl (none, at)) ↦ none state.units state.image stands.holds.is.formatted.headed
+  | inl (inr (units, image, headed, other, at)) ↦ other stands.holds.is.formatted.snapshot
+  | inr (units, image, log, frame, at) ↦
+      let (u, i) = one_header state.units units state.image image bytes stands.holds.is.formatted.headed frame.formatted.headed in
+      no_log units image log bytes frame stands.log (subst (λ n. HoldsLog n image stands.log bytes) u (subst (λ n. HoldsLog state.units n stands.log bytes) i stands.holds))
+]
+
+one_bad_frame : (u i : ℕ) (log more : List Group) (bytes : List ℕ) → IsBadFrame u i log bytes → IsBadFrame u i more bytes → log ≡ more
+one_bad_frame u i log more bytes left right = elim (begins_compare left.payloads right.payloads (area_bytes (log_area u) bytes) left.frames right.frames) [
+  | inl (r, rest, is) ↦ absurd (not_longer u i more bytes right log left.payloads rest r left.groups left.built left.applies left.frames is)
+  | inr (inl same) ↦ one_groups log more right.payloads (subst (λ (ps : List (List ℕ)). HoldGroups log ps) same left.groups) right.groups
+  | inr (inr (r, rest, is)) ↦ absurd (not_longer u i log bytes left more right.payloads rest r right.groups right.built right.applies right.frames is)
+]
+
+pub one_bad_place : (a b : ℕ) (bytes : List ℕ) → IsBadAt bytes a → IsBadAt bytes b → a ≡ b
+one_bad_place a b bytes left right = elim left [
+  | inl (inl (none, here)) ↦ elim right [
+    | inl (inl (neither, there)) ↦ here ∙ sym there
+    | inl (inr (v, j, headed, other, there)) ↦ absurd (none v j headed)
+    | inr (v, j, more, frame, there) ↦ absurd (none v j frame.formatted.headed)
+  ]
+  | inl (inr (u, i, headed, other, here)) ↦ elim right [
+    | inl (inl (none, there)) ↦ absurd (none u i headed)
+    | inl (inr (v, j, header, another, there)) ↦ here ∙ sym there
+    | inr (v, j, more, frame, there) ↦ absurd (other frame.formatted.snapshot)
+  ]
+  | inr (u, i, log, bad, here) ↦ elim right [
+    | inl (inl (none, there)) ↦ absurd (none u i bad.formatted.headed)
+    | inl (inr (v, j, header, other, there)) ↦ absurd (other bad.formatted.snapshot)
+    | inr (v, j, more, frame, there) ↦
+        let (units, image) = one_header u v i j bytes bad.formatted.headed frame.formatted.headed in
+        let same = one_bad_frame v j log more bytes (subst (λ n. IsBadFrame n j log bytes) units (subst (λ n. IsBadFrame u n log bytes) image bad)) frame in
+        here ∙ ap (λ n. (log_area n).at + log_size log) units ∙ ap (λ (l : List Group). (log_area v).at + log_size l) same ∙ sym there
+  ]
+]

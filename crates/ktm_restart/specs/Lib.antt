@@ -1,0 +1,5 @@
+pub mod Logs
+pub mod Bad
+pub mod Load
+pub mod Replayed
+pub mod Waiting

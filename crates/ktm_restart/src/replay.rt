@@ -1,0 +1,187 @@
+// Reading an image, and what its log comes to.
+ghost use Rattle.std.specs.Prelude.{IsErrOf, ◌≡◌, ◌&&◌, ℕ, ◌+◌, ◌*◌, ◌^◌, ◌<◌, ◌≤◌, List, length, Ok, IfOk, IfSome, IsSomeAnd, OnOk, IsTrue, false, true, vec_capacity};
+ghost use Rattle.ktm_base.specs.declared.limits.TheConstants.{LEAST_UNITS, MOST_UNITS};
+ghost use Rattle.ktm_base.specs.Bytes.{AreBytes};
+ghost use Rattle.ktm_base.specs.Disk.{IsSafe, OnlyReads};
+ghost use Rattle.ktm_log.specs.Log.{end_of, payloads_in};
+ghost use Rattle.ktm_world.specs.Durable.{Durable, after_events, empty_state, events_apply};
+ghost use Rattle.ktm_forms.specs.Built.{IsBuiltState, is_built_group};
+ghost use Rattle.ktm_world.specs.Logs.{Group};
+ghost use Rattle.ktm_states.specs.GoodState.{IsGoodState};
+ghost use Rattle.ktm_types.specs.EventGrammar.{IsGroupOf};
+ghost use Rattle.ktm_journal.specs.Image.{IsFormatted, IsHeaded, JournalAt, log_area};
+ghost use Rattle.ktm_journal.specs.Bad.{load_went_down};
+ghost use Rattle.ktm_restart.specs.Logs.{AreInLog, AreSpelled, HoldsLog, StandsFor};
+ghost use Rattle.ktm_restart.specs.Bad.{IsBadAt, IsBadPayload};
+ghost use Rattle.ktm_restart.specs.Load.{ComesTo, IsFirstBad};
+
+use crate::durable::Durable;
+use ktm_base::{Disk, NoMemory};
+use ktm_event::{EventFault, read_group};
+use ktm_journal::{Header, Journal, LoadFault};
+use ktm_log::first_payload;
+use ktm_states::{law_of_good_states, law_of_grammar};
+use std::alloc::Global;
+
+/// A journal that was loaded, and the durable state that its image stands for.
+#[derive(Drop)]
+pub struct Loaded {
+    pub journal: Journal,
+    pub state: Durable,
+}
+
+// Makes of the state what a payload says, if it is a built group that applies.
+fn apply(alloc: Global, state: &mut Durable, payload: &[u8]) -> Result<bool, NoMemory>
+    ensures good { result ≡ Ok true → (events : Group) × IsGroupOf events payload.now × IsTrue (is_built_group events && events_apply state.old events) × (state.new ≡ after_events state.old events) }
+    ensures bad { result ≡ Ok false → IsBadPayload state.old payload.now }
+{
+    match read_group(alloc, payload) {
+        Ok(events) => state.apply_group(events),
+        Err(EventFault::NotAnEvent) => Ok(false),
+        Err(EventFault::NoMemory) => Err(NoMemory),
+    }
+}
+
+// Makes of the state of a new image what the payloads of its log say, which are read where they lie in its bytes.
+fn replay(alloc: Global, header: Header, bytes: &[u8], state: &mut Durable) -> Result<(), LoadFault>
+    requires least { LEAST_UNITS ≤ header.units }
+    requires most { header.units ≤ MOST_UNITS }
+    requires empty { state.old ≡ empty_state header.units header.image }
+    ensures good { OnOk result (ComesTo header.units header.image (payloads_in bytes.now) state.new) }
+    ensures sound { OnOk result (IsGoodState state.new) }
+    ensures read { AreBytes bytes.now }
+    ensures bad { (offset : ℕ) → IsErrOf result (LoadFault.Bad offset) → IsFirstBad header.units header.image (payloads_in bytes.now) offset }
+    ensures up { load_went_down result ≡ false }
+{
+    let mut at = 0;
+    while let Some(payload) = first_payload(&bytes[at..]) {
+        match apply(alloc, state, payload) {
+            Ok(true) => at += payload.len() + 5,
+            Ok(false) => return Err(LoadFault::Bad(header.log_at() + at as u64)),
+            Err(NoMemory) => return Err(LoadFault::NoMemory),
+        }
+    }
+    law_of_grammar();
+    law_of_good_states();
+    Ok(())
+}
+
+// Reads the log behind this header, and makes of the state of a new image what the log says.
+fn replay_log<D: Disk>(
+    alloc: Global,
+    disk: &mut D,
+    header: Header,
+    buffer: &mut Vec<u8>,
+    state: &mut Durable,
+) -> Result<Journal, LoadFault>
+    requires least { LEAST_UNITS ≤ header.units }
+    requires most { header.units ≤ MOST_UNITS }
+    requires formatted { IfSome (D.told disk.old) (λ s. IsFormatted header.units header.image s.seen) }
+    requires empty { state.old ≡ empty_state header.units header.image }
+    ensures units { IfOk result (λ journal. journal.units ≡ header.units) }
+    ensures image { IfOk result (λ journal. journal.image ≡ header.image) }
+    ensures area { IfOk result (λ journal. journal.log.area ≡ log_area header.units) }
+    ensures end { IfOk result (λ journal. journal.log.end ≡ end_of (payloads_in buffer.new.items)) }
+    ensures inside { IfOk result (λ journal. journal.log.end < journal.log.area.len) }
+    ensures room { IfOk result (λ journal. journal.log.area.len ≤ vec_capacity buffer.new) }
+    ensures kept { vec_capacity buffer.old ≤ vec_capacity buffer.new }
+    ensures comes { OnOk result (ComesTo header.units header.image (payloads_in buffer.new.items) state.new) }
+    ensures good { OnOk result (IsGoodState state.new) }
+    ensures stands { OnOk result (IfSome (D.told disk.old) (λ s. StandsFor state.new s.seen)) }
+    ensures journal { IfOk result (λ journal. (log : List Group) → IsSomeAnd (D.told disk.old) (λ s. IsSafe s × HoldsLog header.units header.image log s.seen)
+        → IsSomeAnd (D.told disk.new) (JournalAt journal log)) }
+    ensures spelled { OnOk result ((log : List Group) → IsSomeAnd (D.told disk.old) (λ s. HoldsLog header.units header.image log s.seen) → AreSpelled log) }
+    ensures bad { (offset : ℕ) → IsErrOf result (LoadFault.Bad offset) → IfSome (D.told disk.old) (λ s. IsBadAt s.seen offset) }
+    ensures reads { OnlyReads (2 * header.units + 16) (D.told disk.old) (D.told disk.new) (D.status disk.old) (D.status disk.new) (load_went_down result) }
+    ensures up { OnOk result ((D.status disk.new).is_down ≡ false) }
+    ensures up_bad { (offset : ℕ) → IsErrOf result (LoadFault.Bad offset) → (D.status disk.new).is_down ≡ false }
+{
+    match Journal::open(disk, header, buffer) {
+        Ok(journal) => match replay(alloc, header, buffer.as_slice(), state) {
+            Ok(()) => Ok(journal),
+            Err(fault) => Err(fault),
+        },
+        Err(LoadFault::Bad(offset)) => {
+            if let Err(fault) = replay(alloc, header, buffer.as_slice(), state) {
+                return Err(fault);
+            }
+            Err(LoadFault::Bad(offset))
+        }
+        Err(LoadFault::Down) => Err(LoadFault::Down),
+        Err(LoadFault::NoMemory) => Err(LoadFault::NoMemory),
+    }
+}
+
+// Reads the log behind this header, and gives its journal with the state that it comes to.
+fn load_log<D: Disk>(
+    alloc: Global,
+    disk: &mut D,
+    header: Header,
+    buffer: &mut Vec<u8>,
+) -> Result<Loaded, LoadFault>
+    requires least { LEAST_UNITS ≤ header.units }
+    requires most { header.units ≤ MOST_UNITS }
+    requires formatted { IfSome (D.told disk.old) (λ s. IsFormatted header.units header.image s.seen) }
+    ensures units { IfOk result (λ loaded. (loaded.journal.units ≡ header.units) × (loaded.state.units ≡ header.units)) }
+    ensures image { IfOk result (λ loaded. (loaded.journal.image ≡ header.image) × (loaded.state.image ≡ header.image)) }
+    ensures number { IfOk result (λ loaded. loaded.state.image < 2 ^ 16) }
+    ensures area { IfOk result (λ loaded. loaded.journal.log.area ≡ log_area header.units) }
+    ensures keys { IfOk result (λ loaded. length loaded.state.keys ≤ loaded.state.units) }
+    ensures built { IfOk result (λ loaded. IsBuiltState loaded.state) }
+    ensures good { IfOk result (λ loaded. IsGoodState loaded.state) }
+    ensures events { IfOk result (λ loaded. AreInLog loaded.state loaded.journal.log.end) }
+    ensures counted { IfOk result (λ loaded. loaded.journal.events ≡ loaded.state.events) }
+    ensures inside { IfOk result (λ loaded. loaded.journal.log.end < loaded.journal.log.area.len) }
+    ensures room { IfOk result (λ loaded. loaded.journal.log.area.len ≤ vec_capacity buffer.new) }
+    ensures kept { vec_capacity buffer.old ≤ vec_capacity buffer.new }
+    ensures stands { IfOk result (λ loaded. IfSome (D.told disk.old) (λ s. StandsFor loaded.state s.seen)) }
+    ensures journal { IfOk result (λ loaded. (log : List Group) → IsSomeAnd (D.told disk.old) (λ s. IsSafe s × HoldsLog header.units header.image log s.seen)
+        → IsSomeAnd (D.told disk.new) (JournalAt loaded.journal log)) }
+    ensures spelled { IfOk result (λ loaded. (log : List Group) → IsSomeAnd (D.told disk.old) (λ s. HoldsLog header.units header.image log s.seen) → AreSpelled log) }
+    ensures bad { (offset : ℕ) → IsErrOf result (LoadFault.Bad offset) → IfSome (D.told disk.old) (λ s. IsBadAt s.seen offset) }
+    ensures reads { OnlyReads (2 * header.units + 16) (D.told disk.old) (D.told disk.new) (D.status disk.old) (D.status disk.new) (load_went_down result) }
+    ensures up { OnOk result ((D.status disk.new).is_down ≡ false) }
+    ensures up_bad { (offset : ℕ) → IsErrOf result (LoadFault.Bad offset) → (D.status disk.new).is_down ≡ false }
+{
+    let mut state = Durable::empty(alloc, header.units, header.image);
+    match replay_log(alloc, disk, header, buffer, &mut state) {
+        Ok(mut journal) => {
+            journal.count_from(state.events());
+            Ok(Loaded { journal, state })
+        }
+        Err(fault) => Err(fault),
+    }
+}
+
+/// Reads the image of a disk, and gives its journal with the state that it stands for. It writes nothing. The log is read
+/// into the buffer, which is made as long as the log's area, and afterwards has room for whatever can be appended.
+pub fn load<D: Disk>(alloc: Global, disk: &mut D, buffer: &mut Vec<u8>) -> Result<Loaded, LoadFault>
+    ensures units { IfOk result (λ loaded. (loaded.journal.units ≡ loaded.state.units) × (LEAST_UNITS ≤ loaded.state.units) × (loaded.state.units ≤ MOST_UNITS)) }
+    ensures image { IfOk result (λ loaded. loaded.journal.image ≡ loaded.state.image) }
+    ensures number { IfOk result (λ loaded. loaded.state.image < 2 ^ 16) }
+    ensures area { IfOk result (λ loaded. loaded.journal.log.area ≡ log_area loaded.state.units) }
+    ensures keys { IfOk result (λ loaded. length loaded.state.keys ≤ loaded.state.units) }
+    ensures built { IfOk result (λ loaded. IsBuiltState loaded.state) }
+    ensures good { IfOk result (λ loaded. IsGoodState loaded.state) }
+    ensures events { IfOk result (λ loaded. AreInLog loaded.state loaded.journal.log.end) }
+    ensures counted { IfOk result (λ loaded. loaded.journal.events ≡ loaded.state.events) }
+    ensures inside { IfOk result (λ loaded. loaded.journal.log.end < loaded.journal.log.area.len) }
+    ensures room { IfOk result (λ loaded. loaded.journal.log.area.len ≤ vec_capacity buffer.new) }
+    ensures kept { vec_capacity buffer.old ≤ vec_capacity buffer.new }
+    ensures stands { IfOk result (λ loaded. IfSome (D.told disk.old) (λ s. StandsFor loaded.state s.seen)) }
+    ensures formatted { IfOk result (λ loaded. IfSome (D.told disk.new) (λ s. IsFormatted loaded.journal.units loaded.journal.image s.seen)) }
+    ensures journal { IfOk result (λ loaded. (log : List Group) → IsSomeAnd (D.told disk.old) (λ s. IsSafe s × HoldsLog loaded.state.units loaded.state.image log s.seen)
+        → IsSomeAnd (D.told disk.new) (JournalAt loaded.journal log)) }
+    ensures spelled { IfOk result (λ loaded. (log : List Group) → IsSomeAnd (D.told disk.old) (λ s. HoldsLog loaded.state.units loaded.state.image log s.seen) → AreSpelled log) }
+    ensures bad { (offset : ℕ) → IsErrOf result (LoadFault.Bad offset) → IfSome (D.told disk.old) (λ s. IsBadAt s.seen offset) }
+    ensures reads { OnlyReads (8 * MOST_UNITS + 64) (D.told disk.old) (D.told disk.new) (D.status disk.old) (D.status disk.new) (load_went_down result) }
+    ensures up { OnOk result ((D.status disk.new).is_down ≡ false) }
+    ensures up_bad { (offset : ℕ) → IsErrOf result (LoadFault.Bad offset) → (D.status disk.new).is_down ≡ false }
+    ensures few { (units image : ℕ) → IsSomeAnd (D.told disk.old) (λ s. IsHeaded units image s.seen) → (D.status disk.new).calls ≤ (D.status disk.old).calls + (8 * units + 64) }
+{
+    let header = match Header::read(disk) {
+        Ok(header) => header,
+        Err(fault) => return Err(fault),
+    };
+    load_log(alloc, disk, header, buffer)
+}
