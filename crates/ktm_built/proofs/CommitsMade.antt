@@ -38,7 +38,7 @@ use Rattle.txf_laws.proofs.offered.CommitsOfOthers.{All-by, made-in, undecided-e
 use Rattle.txf_laws.proofs.offered.Reservations.{own-apply, own_changes-by}
 use Rattle.txf_laws.proofs.offered.Tables.{same_id-sym}
 use Rattle.ktm_owned.proofs.offered.Undecided.{undecided-from}
-use Rattle.txf_volume.specs.Commit.{AreUnopened, LeavesOthers}
+use Rattle.txf_laws.specs.FileEffects.{AreUnopened, LeavesOthers}
 use Rattle.ktm_built.specs.Files.{MayCommitNow}
 use Rattle.ktm_built.specs.Forms.{changes_of, commit_outcome, settings_of}
 use Rattle.ktm_built.specs.Laws.{FormsLaw, NamedLaw}

@@ -15,8 +15,7 @@ use Rattle.ktm_world.specs.World.{World, after, present}
 use Rattle.ktm_world.proofs.offered.Durables.{stand-units}
 use Rattle.ktm_laws.specs.Running.{IsRunning, LawfulWorldsLaw}
 use Rattle.ktm_records.proofs.offered.NoMore.{fits-within}
-use Rattle.txf_volume.specs.Commit.{AreVersionsFew}
-use Rattle.txf_volume.specs.Writes.{CanBeCounted}
+use Rattle.txf_laws.specs.FileEffects.{AreVersionsFew, CanBeCounted}
 use Rattle.ktm_built.specs.Standing.{IsStanding}
 use Rattle.ktm_built.proofs.Versions.{counted_works}
 

@@ -34,9 +34,7 @@ use Rattle.txf_laws.proofs.offered.Diamonds.{none-from}
 use Rattle.ktm_courses.proofs.offered.Moves.{find-found}
 use Rattle.txf_laws.proofs.offered.CommitsOfOthers.{All-by, undecided-entry, next-free}
 use Rattle.ktm_owned.proofs.offered.SeenFiles.{below-next}
-use Rattle.txf_calls.specs.Fits.{IsOrderly}
-use Rattle.txf_volume.specs.Plain.{IsPlainChange, IsPlainOpen, LeavesOwn}
-use Rattle.txf_volume.specs.Writes.{CanBeCounted}
+use Rattle.txf_laws.specs.FileEffects.{IsOrderly, IsPlainChange, IsPlainOpen, LeavesOwn, CanBeCounted}
 use Rattle.ktm_built.specs.Files.{IsOnCommitted, MayMake}
 use Rattle.ktm_built.specs.Laws.{FormsLaw}
 use Rattle.ktm_built.specs.Standing.{IsStanding}

@@ -11,7 +11,7 @@ use Rattle.ktm_records.specs.FileCallsMade.{FileCallsLaw, file_call}
 use Rattle.txf_laws.specs.Reservations.{ReservationsLaw}
 use Rattle.ktm_laws.specs.Running.{LawfulWorldsLaw}
 use Rattle.ktm_records.specs.Spelling.{SpellingLaw}
-use Rattle.txf_calls.specs.Fits.{IsOrderly}
+use Rattle.txf_laws.specs.FileEffects.{IsOrderly}
 use Rattle.ktm_built.specs.Files.{IsOnCommitted, MayCommitNow, MayMake}
 use Rattle.ktm_built.specs.Forms.{changes_of, settings_of}
 use Rattle.ktm_built.specs.Laws.{FilesLaw, FormsLaw, NamedLaw}

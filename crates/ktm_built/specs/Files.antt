@@ -13,10 +13,7 @@ use Rattle.ktm_world.specs.Files.{OpenFile}
 use Rattle.ktm_world.specs.Outcome.{is_full}
 use Rattle.ktm_world.specs.Present.{Present}
 use Rattle.ktm_world.specs.Tree.{is_file}
-use Rattle.txf_volume.specs.Commit.{AreUnopened, AreVersionsFew, LeavesOthers}
-use Rattle.txf_volume.specs.Plain.{IsPlain, LeavesOwn}
-use Rattle.txf_volume.specs.Transacted.{IsPlanOf}
-use Rattle.txf_volume.specs.Writes.{CanBeCounted}
+use Rattle.txf_laws.specs.FileEffects.{AreUnopened, AreVersionsFew, LeavesOthers, IsPlain, LeavesOwn, IsPlanOf, CanBeCounted}
 use Rattle.ktm_built.specs.Forms.{changes_of, settings_of}
 
 -- what a plain call comes to can be made and recorded

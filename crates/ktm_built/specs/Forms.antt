@@ -32,7 +32,7 @@ use Rattle.ktm_types.specs.Sizes.{log_size}
 use Rattle.ktm_world.specs.Transactions.{transaction_at, change_at, is_active}
 use Rattle.ktm_world.specs.TransactionCalls.{new_id, is_due, with_clock}
 use Rattle.txf_laws.specs.Reservations.{files_committed}
-use Rattle.txf_volume.specs.Transacted.{forgotten}
+use Rattle.txf_laws.specs.FileEffects.{forgotten}
 
 -- ---- calls that record nothing
 

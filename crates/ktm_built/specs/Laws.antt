@@ -38,7 +38,7 @@ use Rattle.ktm_records.specs.FileCallsMade.{file_call}
 use Rattle.ktm_states.specs.GoodState.{IsGoodState}
 use Rattle.ktm_laws.specs.Running.{IsRoomy, is_log_grammatical}
 use Rattle.ktm_courses.specs.SoundCourse.{IsSoundCourse}
-use Rattle.txf_calls.specs.Fits.{IsOrderly}
+use Rattle.txf_laws.specs.FileEffects.{IsOrderly}
 use Rattle.ktm_built.specs.Files.{IsOnCommitted, MayCommitNow, MayMake}
 use Rattle.ktm_built.specs.Forms.{ComesTo, with_transaction, commit_outcome, with_commit, with_rollback, with_bound, with_files, with_handle_closed, with_opened, with_process_gone, with_tick, changes_of, settings_of}
 use Rattle.ktm_built.specs.Standing.{IsBuiltNow, IsStandingNow, IsStanding, fresh}

@@ -28,10 +28,10 @@ use Rattle.ktm_built.specs.Standing.{IsBuiltNow}
 use Rattle.ktm_built.proofs.offered.Forms.{forms_law}
 use Rattle.txf_laws.specs.Reservations.{files_committed}
 use Rattle.txf_overlay.specs.OverlayState.{is_of_names}
-use Rattle.txf_volume.specs.Commit.{AreUnopened, AreVersionsFew, LeavesOthers, MayCommit, names_in}
+use Rattle.txf_laws.specs.FileEffects.{AreUnopened, AreVersionsFew, LeavesOthers, CanBeCounted}
+use Rattle.txf_volume.specs.Commit.{MayCommit, names_in}
 use Rattle.txf_volume.specs.Held.{FilesHeld, files_of, overlay_in}
 use Rattle.txf_volume.proofs.Seen.{changes_in, own_changes-held}
-use Rattle.txf_volume.specs.Writes.{CanBeCounted}
 use Rattle.ktm_memory.specs.Memory.{CanCommit, MemoryState}
 use Rattle.ktm_memory.specs.Takes.{has_work}
 use Rattle.ktm_world.specs.Phases.{has_settings}

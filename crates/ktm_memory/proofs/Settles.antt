@@ -21,7 +21,7 @@ use Rattle.ktm_world.specs.Transactions.{change_at, is_active, same_id, transact
 use Rattle.ktm_world.specs.Tree.{Tree}
 use Rattle.txf_laws.specs.Reservations.{files_committed}
 use Rattle.txf_laws.proofs.offered.Reservations.{tree-of}
-use Rattle.txf_volume.specs.Transacted.{forgotten}
+use Rattle.txf_laws.specs.FileEffects.{forgotten}
 use Rattle.ktm_built.specs.Forms.{ended_aborted, ended_committed, is_of_both, with_commit_made, with_file_closed, with_handle_gone, with_rollback, with_rollback_if_active}
 use Rattle.ktm_journal.specs.Image.{JournalState}
 use Rattle.ktm_memory.specs.Memory.{Held, MemoryState, held, now_of, with_bound_to}

@@ -27,10 +27,10 @@ use Rattle.ktm_world.specs.Present.{Present, Transactions}
 use Rattle.ktm_world.specs.TransactionCalls.{no_transaction_left}
 use Rattle.ktm_world.specs.Transactions.{is_live, transaction_at}
 use Rattle.kv_rm.specs.KvState.{KvState}
-use Rattle.txf_volume.specs.Commit.{AreUnopened, AreVersionsFew, LeavesOthers, MayCommit}
+use Rattle.txf_laws.specs.FileEffects.{AreUnopened, AreVersionsFew, LeavesOthers, IsPlain, LeavesOwn, CanBeCounted}
+use Rattle.txf_volume.specs.Commit.{MayCommit}
 use Rattle.txf_volume.specs.Held.{FilesHeld, files_of}
-use Rattle.txf_volume.specs.Plain.{IsPlain, IsReady, LeavesOwn}
-use Rattle.txf_volume.specs.Writes.{CanBeCounted}
+use Rattle.txf_volume.specs.Plain.{IsReady}
 use Rattle.ktm_memory.specs.declared.settlement.Settlement.{Settlement}
 use Rattle.ktm_memory.specs.declared.settlement.Settlement.TheVariants.{Nothing, Create, Plain, Commit, Rollback, Bind, Duplicate, Close, Exit, Tick}
 

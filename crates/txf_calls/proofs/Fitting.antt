@@ -13,7 +13,8 @@ use Rattle.ktm_world.specs.FileCalls.{emptying, empties, first_opening, set_end,
 use Rattle.ktm_world.specs.FileOutcome.{FileOutcome}
 use Rattle.ktm_world.specs.Files.{FilesNow, OpenFile, first_open_of, own_changes, tree_seen}
 use Rattle.ktm_world.specs.Tree.{is_file, numbers_rise}
-use Rattle.txf_calls.specs.Fits.{FitsChange, IsFit, IsOnFile, IsOrderly, opens_file}
+use Rattle.txf_laws.specs.FileEffects.{IsOrderly}
+use Rattle.txf_calls.specs.Fits.{FitsChange, IsFit, IsOnFile, opens_file}
 use Rattle.txf_calls.specs.Found.{has_file}
 use Rattle.txf_calls.proofs.Numbered.{had-before, only-file}
 

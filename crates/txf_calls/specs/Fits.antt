@@ -7,7 +7,7 @@ use Rattle.ktm_world.specs.Changes.{changes_bytes, is_drop, is_make, node_of}
 use Rattle.ktm_world.specs.Conflicts.{writes}
 use Rattle.ktm_world.specs.FileOutcome.{FileOutcome}
 use Rattle.ktm_world.specs.Files.{FilesNow, FirstOpen, OpenFile}
-use Rattle.ktm_world.specs.Tree.{Tree, is_file, node_at, numbers_rise}
+use Rattle.ktm_world.specs.Tree.{Tree, is_file, node_at}
 use Rattle.txf_calls.specs.Views.{open_of}
 use Rattle.txf_calls.specs.declared.call.FileCall.{FileCall}
 use Rattle.txf_calls.specs.declared.call.FileCall.TheVariants.{Write, SetEnd}
@@ -38,12 +38,6 @@ pub record IsFit (files : FilesNow) (who : Option Id) (o : FileOutcome) : Type 0
   pub first : opens_file files.tree o.first ≡ true
 
 -- ---- what callers show
-
--- the numbers of committed nodes rise, and that of the next node is a new one: no committed node has it, and nobody first opened it
-pub record IsOrderly (files : FilesNow) : Type 0 where
-  pub rise : numbers_rise files.tree ≡ true
-  pub free : node_at files.tree files.table.next_node ≡ None
-  pub fresh : list_any (λ o. o.file == files.table.next_node) files.first_opens ≡ false
 
 -- a plain open file that may be written is on a committed file
 abbrev pub IsOnFile : FilesNow → OpenFile → Type 0

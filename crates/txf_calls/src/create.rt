@@ -6,7 +6,7 @@ ghost use Rattle.ktm_world.specs.Conflicts.{writes};
 ghost use Rattle.ktm_world.specs.FileCalls.{Whereabouts as There, at_node, create_at, empties, emptying, first_opening, free, is_truncate_existing, new_open};
 ghost use Rattle.ktm_world.specs.Files.{tree_seen};
 ghost use Rattle.txf_calls.specs.Calls.{file_outcome};
-ghost use Rattle.txf_calls.specs.Fits.{IsOrderly};
+ghost use Rattle.txf_laws.specs.FileEffects.{IsOrderly};
 ghost use Rattle.txf_calls.specs.Found.{IsFound, has_file};
 ghost use Rattle.txf_calls.specs.Steps.{checked, taken};
 ghost use Rattle.txf_calls.specs.There.{create_there};

@@ -4,7 +4,7 @@ ghost use Rattle.ktm_base.specs.declared.limits.TheConstants.{MOST_NAME_BYTES};
 ghost use Rattle.ktm_world.specs.FileCalls.{Whereabouts as There, free};
 ghost use Rattle.ktm_world.specs.Files.{tree_seen};
 ghost use Rattle.txf_calls.specs.Calls.{file_outcome};
-ghost use Rattle.txf_calls.specs.Fits.{IsOrderly};
+ghost use Rattle.txf_laws.specs.FileEffects.{IsOrderly};
 ghost use Rattle.txf_calls.specs.Found.{IsFound};
 ghost use Rattle.txf_calls.specs.There.{make_there};
 ghost use Rattle.txf_calls.specs.declared.call.FileCall.TheVariants.{MakeDirectory};

@@ -1,7 +1,8 @@
 // Each call by its form.
 ghost use Rattle.std.specs.Prelude.{◌≡◌, false, IfOk, IsOk};
 ghost use Rattle.txf_calls.specs.Calls.{file_outcome, takes_memory};
-ghost use Rattle.txf_calls.specs.Fits.{IsOrderly, MayBeUsed};
+ghost use Rattle.txf_laws.specs.FileEffects.{IsOrderly};
+ghost use Rattle.txf_calls.specs.Fits.{MayBeUsed};
 
 use crate::call::{FileCall, Room};
 use crate::create::{Modes, create};

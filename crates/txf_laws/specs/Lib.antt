@@ -1,6 +1,7 @@
 pub mod Contents
 pub mod Diamond
 pub mod Elements
+pub mod FileEffects
 pub mod FinalChanges
 pub mod FirstOpening
 pub mod Footprint

@@ -30,12 +30,12 @@ use Rattle.txf_tree.specs.TreeState.{tree_of, versions_of}
 use Rattle.txf_versions.specs.VersionsState.{VersionsState, AreHeld, fixes, is_pinned, is_version, without_transaction}
 use Rattle.txf_versions.specs.declared.kept.Older.{Older}
 use Rattle.txf_versions.specs.declared.opened.Opened.{Opened}
-use Rattle.txf_volume.specs.Commit.{names_in, AreUnopened, AreVersionsFew, LeavesOthers, MayCommit}
+use Rattle.txf_laws.specs.FileEffects.{AreUnopened, AreVersionsFew, LeavesOthers, CanBeCounted}
+use Rattle.txf_volume.specs.Commit.{names_in, MayCommit}
 use Rattle.txf_volume.specs.Making.{firsts_of, is_fresh, parts, units_older, AreMade, AreRight, CanTake}
 use Rattle.txf_volume.specs.Held.{FilesHeld, OwnHeld, changes_held, files_of, first_held, overlay_in, own_held, without_own, tree_units}
 use Rattle.txf_volume.specs.Ties.{AreTied, IsKeptOpen, IsOver, held_by_two, names_held, nodes_held, units_held}
 use Rattle.txf_laws.specs.SoundFiles.{changed_by_two}
-use Rattle.txf_volume.specs.Writes.{CanBeCounted}
 use Rattle.txf_volume.proofs.CommitKept.{older-of}
 use Rattle.txf_laws.specs.Elements.{IsIn, each_pair}
 use Rattle.txf_laws.proofs.offered.Elements.{IsIn-filter, list_all-from, list_any-at, list_any-from}

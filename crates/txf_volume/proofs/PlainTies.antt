@@ -25,7 +25,8 @@ use Rattle.txf_reserve.specs.ReserveState.{IsSameHold, holds_in}
 use Rattle.txf_tree.specs.TreeState.{TreeState, tree_of, versions_of}
 use Rattle.txf_versions.specs.VersionsState.{AreHeld, VersionsState, older_units}
 use Rattle.txf_volume.specs.Held.{FilesHeld, OwnHeld, changes_held, files_of, first_held, own_held, tree_units}
-use Rattle.txf_volume.specs.Plain.{CanBeKept, IsLeftOver, IsPlainChange, KeepsEnded, LeavesOwn}
+use Rattle.txf_laws.specs.FileEffects.{IsPlainChange, LeavesOwn}
+use Rattle.txf_volume.specs.Plain.{CanBeKept, IsLeftOver, KeepsEnded}
 use Rattle.txf_volume.specs.Ties.{AreTied, IsKeptOpen, IsOver}
 use Rattle.txf_calls.specs.Fits.{Suits}
 use Rattle.txf_volume.specs.Uses.{gain, kept, loss}

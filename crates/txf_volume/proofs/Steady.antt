@@ -26,7 +26,7 @@ use Rattle.txf_volume.specs.Held.{FilesHeld, OwnHeld, changes_held, files_of, fi
 use Rattle.txf_volume.specs.Ties.{AreFew, AreTied, IsKeptOpen, IsOver, held_by_two, is_last, names_held, nodes_held, units_held}
 use Rattle.txf_laws.specs.SoundFiles.{changed_by_two, files_rise}
 use Rattle.txf_volume.specs.Uses.{IsSteady}
-use Rattle.txf_volume.specs.Writes.{CanBeCounted}
+use Rattle.txf_laws.specs.FileEffects.{CanBeCounted}
 use Rattle.txf_laws.specs.Elements.{IsIn, each_pair}
 use Rattle.txf_laws.proofs.offered.Elements.{list_all-at}
 use Rattle.txf_laws.proofs.offered.CommitsOfOthers.{All-in}

@@ -25,10 +25,10 @@ use Rattle.txf_versions.specs.declared.opened.Opened.{Opened}
 use Rattle.txf_volume.specs.Held.{FilesHeld, OwnHeld, changes_held, files_of, first_held, own_held}
 use Rattle.txf_volume.specs.OwnParts.{bare_own}
 use Rattle.txf_volume.specs.Ties.{AreTied, IsKeptOpen, IsOver, held_by_two, names_held, nodes_held, units_held}
-use Rattle.txf_volume.specs.Transacted.{IsNotOpened, IsPlanOf, changed_by, first_opened, opened_by}
+use Rattle.txf_laws.specs.FileEffects.{IsNotOpened, IsPlanOf, CanBeCounted}
+use Rattle.txf_volume.specs.Transacted.{changed_by, first_opened, opened_by}
 use Rattle.txf_calls.specs.Fits.{opens_file}
 use Rattle.txf_volume.specs.Uses.{IsSteady}
-use Rattle.txf_volume.specs.Writes.{CanBeCounted}
 use Rattle.txf_laws.specs.Elements.{IsIn, each_pair}
 use Rattle.txf_laws.proofs.offered.Elements.{list_any-at}
 use Rattle.txf_laws.proofs.offered.CommitsOfOthers.{All-by, All-in}

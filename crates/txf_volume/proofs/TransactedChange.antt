@@ -28,7 +28,7 @@ use Rattle.txf_tree.specs.TreeState.{tree_of, versions_of}
 use Rattle.txf_volume.specs.Held.{FilesHeld, OwnHeld, files_of, overlay_in, own_held}
 use Rattle.txf_volume.specs.OwnParts.{HoldsToo, IsChangedIn, or_unchanged, starts, unchanged, with_overlay, written_next}
 use Rattle.txf_volume.specs.Ties.{AreFew, AreTied, IsOver, held_by_two, units_held}
-use Rattle.txf_volume.specs.Writes.{CanBeCounted}
+use Rattle.txf_laws.specs.FileEffects.{CanBeCounted}
 use Rattle.txf_laws.specs.Elements.{IsIn, each_pair}
 use Rattle.txf_laws.proofs.offered.CommitsOfOthers.{All-by, All-in}
 use Rattle.txf_laws.proofs.offered.NormalForms.{written-final}

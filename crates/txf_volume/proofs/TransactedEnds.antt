@@ -19,7 +19,7 @@ use Rattle.txf_versions.specs.declared.kept.Older.{Older}
 use Rattle.txf_versions.specs.declared.opened.Opened.{Opened}
 use Rattle.txf_volume.specs.Held.{FilesHeld, OwnHeld, files_of, first_held, own_held, without_own}
 use Rattle.txf_volume.specs.Ties.{AreTied, IsKeptOpen, IsOver, held_by_two, names_held, nodes_held, units_held}
-use Rattle.txf_volume.specs.Transacted.{forgotten}
+use Rattle.txf_laws.specs.FileEffects.{forgotten}
 use Rattle.txf_laws.specs.Elements.{IsIn, each_pair}
 use Rattle.txf_laws.proofs.offered.Elements.{IsIn-filter, list_any-from}
 use Rattle.txf_laws.proofs.offered.CommitsOfOthers.{All-by, All-in}

@@ -1,4 +1,3 @@
-pub mod Writes
 pub mod Uses
 pub mod Held
 pub mod Ties

@@ -13,7 +13,7 @@ use Rattle.txf_tree.specs.TreeState.{TreeState, tree_of, versions_of}
 use Rattle.txf_versions.specs.VersionsState.{VersionsState, is_pinned, is_version, older_units}
 use Rattle.txf_versions.specs.declared.opened.Opened.{Opened}
 use Rattle.txf_volume.specs.Held.{first_held, tree_units}
-use Rattle.txf_volume.specs.Commit.{AreVersionsFew}
+use Rattle.txf_laws.specs.FileEffects.{AreVersionsFew}
 use Rattle.txf_volume.specs.Ties.{IsKeptOpen}
 
 -- ---- the parts that a commit changes

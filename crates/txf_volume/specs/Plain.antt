@@ -1,12 +1,9 @@
 -- What a plain call needs, and what it makes of the parts of the files in memory.
-use Rattle.std.specs.Prelude.{◌≡◌, ℕ, ◌+◌, ◌-◌, ◌<◌, ◌^◌, ◌==◌, ◌&&◌, Bool, true, false, List, [], find, Option, Some, None, is_some, All, IfSome, if◌then◌else◌}
-use Rattle.std.specs.List.{list_any}
-use Rattle.txf_laws.specs.Reservations.{IsLeft}
+use Rattle.std.specs.Prelude.{◌≡◌, ℕ, ◌+◌, ◌<◌, ◌^◌, ◌==◌, ◌&&◌, Bool, true, List, [], find, Option, Some, None, is_some, All, IfSome, if◌then◌else◌}
 use Rattle.ktm_types.specs.declared.change.Change.{Change}
-use Rattle.ktm_world.specs.Changes.{applies, changes_apply, changed, changes_bytes, is_make, node_of}
+use Rattle.ktm_world.specs.Changes.{changes_apply, changed, changes_bytes, node_of}
 use Rattle.ktm_world.specs.Committed.{version_of}
 use Rattle.ktm_world.specs.FileOutcome.{FileOutcome}
-use Rattle.ktm_world.specs.Files.{FilesNow, OpenFile, OwnChanges}
 use Rattle.ktm_world.specs.Holds.{holds_by}
 use Rattle.ktm_world.specs.Tree.{Tree, bytes_of, units_of}
 use Rattle.txf_overlay.specs.OverlayState.{OverlayState, own_of}
@@ -17,29 +14,6 @@ use Rattle.txf_versions.specs.declared.opened.Opened.{Opened}
 use Rattle.txf_volume.specs.Held.{FilesHeld}
 use Rattle.txf_volume.specs.Ties.{is_last}
 use Rattle.txf_volume.specs.Uses.{ends}
-
--- ---- what a plain call is
-
--- its change applies to what is committed; the number of a node that it makes is in no first open; and versions do not come to their end
-pub record IsPlainChange (files : FilesNow) (change : Change) : Type 0 where
-  pub does_apply : applies files.tree change ≡ true
-  pub fresh : is_make change ≡ true → list_any (λ o. o.file == node_of change) files.first_opens ≡ false
-  pub few : version_of files.versions (node_of change) < 2 ^ 64 - 2
-
--- a file that it opens is a plain one, and has the next number
-pub record IsPlainOpen (files : FilesNow) (o : OpenFile) : Type 0 where
-  pub plain : o.transaction ≡ None
-  pub next : o.number ≡ files.table.last_open + 1
-  pub few : o.number < 2 ^ 32
-
--- a change and an open file of a plain call
-pub record IsPlain (files : FilesNow) (o : FileOutcome) : Type 0 where
-  pub change : IfSome o.change (IsPlainChange files)
-  pub opened : IfSome o.opened (IsPlainOpen files)
-
--- each transaction that changed anything has what it had
-abbrev pub LeavesOwn : FilesNow → FilesNow → Type 0
-LeavesOwn files after = All (λ (o : OwnChanges). IsLeft files after o.transaction) files.table.own
 
 -- ---- what it needs
 

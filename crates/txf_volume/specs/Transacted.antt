@@ -1,22 +1,15 @@
 -- What a call of a transaction makes of the files in memory, and what its end does.
-use Rattle.std.specs.Prelude.{◌≡◌, ℕ, ◌+◌, ◌<◌, ◌≤◌, ◌^◌, true, not, List, [], ◌∷◌, ◌++◌, filter, length, Option, Some, None}
+use Rattle.std.specs.Prelude.{ℕ, ◌+◌, ◌≤◌, List, [], ◌∷◌, ◌++◌, length, Option, Some, None}
 use Rattle.ktm_base.specs.declared.id.Id.{Id}
 use Rattle.txf_laws.specs.OwnChange.{owned}
 use Rattle.ktm_types.specs.declared.change.Change.{Change}
 use Rattle.ktm_types.specs.declared.change.Change.TheVariants.{Put, Cut}
-use Rattle.ktm_world.specs.Changes.{applies, bytes_in}
-use Rattle.ktm_world.specs.FileOutcome.{FileOutcome, files_after, with_open}
-use Rattle.ktm_world.specs.Files.{FilesNow, FileTable, OpenFile, committed_files, first_open, first_open_of, tree_seen, without_transaction}
-use Rattle.ktm_world.specs.Transactions.{same_id}
-use Rattle.ktm_world.specs.Tree.{is_file}
+use Rattle.ktm_world.specs.Changes.{bytes_in}
+use Rattle.ktm_world.specs.FileOutcome.{with_open}
+use Rattle.ktm_world.specs.Files.{FilesNow, OpenFile, committed_files, first_open}
 use Rattle.txf_overlay.specs.OverlayState.{OverlayState}
 use Rattle.txf_overlay.specs.Written.{HasBytes}
 use Rattle.txf_volume.specs.Held.{FilesHeld, OwnHeld, overlay_in}
-use Rattle.txf_volume.specs.Writes.{CanBeCounted}
-
--- the files without what the transaction changed, first opened and has open
-abbrev pub forgotten : FilesNow → Id → FilesNow
-forgotten files id = record files { first_opens = filter (λ o. not (same_id o.transaction id)) files.first_opens; table = without_transaction files.table id }
 
 -- the files once the transaction has made a change, if it makes one
 abbrev pub changed_by : FilesNow → Id → Option Change → FilesNow
@@ -31,23 +24,6 @@ first_opened files id (Some file) = record files { first_opens = files.first_ope
 -- the files once one is open, if one is opened
 abbrev pub opened_by : FilesNow → Option OpenFile → FilesNow
 opened_by files o = record files { table = with_open files.table o }
-
--- a committed file that the transaction has not opened yet
-pub record IsNotOpened (files : FilesNow) (id : Id) (file : ℕ) : Type 0 where
-  pub new : first_open_of files.first_opens id file ≡ None
-  pub committed : is_file files.tree file ≡ true
-
--- an open file with the next number
-pub record IsNextOpen (table : FileTable) (o : OpenFile) : Type 0 where
-  pub number : o.number ≡ table.last_open + 1
-  pub few : o.number < 2 ^ 32
-
--- a call of the transaction comes to this: its change applies to what it sees, what it opens was not opened, and what is in use then can be counted
-pub record IsPlanOf (files : FilesNow) (id : Id) (o : FileOutcome) : Type 0 where
-  pub change : (c : Change) → o.change ≡ Some c → applies (tree_seen files (Some id)) c ≡ true
-  pub first : (file : ℕ) → o.first ≡ Some file → IsNotOpened files id file
-  pub opened : (x : OpenFile) → o.opened ≡ Some x → IsNextOpen files.table x
-  pub counted : CanBeCounted (files_after files (Some id) o)
 
 -- there is room for one more open file, first open and change held
 pub record HasRoom (h : FilesHeld) : Type 0 where

@@ -6,10 +6,10 @@ ghost use Rattle.ktm_world.specs.Files.{own_changes};
 ghost use Rattle.ktm_world.specs.Tree.{units_of};
 ghost use Rattle.txf_overlay.specs.OverlayState.{final_of, own_of};
 ghost use Rattle.std.specs.List.{flat_map};
-ghost use Rattle.txf_volume.specs.Commit.{AreUnopened, AreVersionsFew, LeavesOthers, MayCommit};
+ghost use Rattle.txf_laws.specs.FileEffects.{AreUnopened, AreVersionsFew, LeavesOthers, CanBeCounted};
+ghost use Rattle.txf_volume.specs.Commit.{MayCommit};
 ghost use Rattle.txf_volume.specs.Making.{parts, AreMade, AreRight, CanName, CanReplace, CanTake};
 ghost use Rattle.txf_volume.specs.Held.{files_of};
-ghost use Rattle.txf_volume.specs.Writes.{CanBeCounted};
 
 use crate::change::units_in;
 use crate::files::{Files, end_version, law_of_older};

@@ -10,9 +10,9 @@ ghost use Rattle.txf_calls.specs.declared.call.OpenFile.{OpenFile as Kept};
 ghost use Rattle.txf_tree.specs.TreeState.{fits, tree_of, versions_of};
 ghost use Rattle.txf_versions.specs.VersionsState.{is_pinned};
 ghost use Rattle.txf_volume.specs.Held.{files_of, tree_units};
-ghost use Rattle.txf_volume.specs.Plain.{copied_for, CanBeKept, IsLeftOver, IsPlain, IsPlainChange, IsPlainOpen, IsReady, KeepsEnded, LeavesOwn};
+ghost use Rattle.txf_laws.specs.FileEffects.{IsPlain, IsPlainChange, IsPlainOpen, LeavesOwn, CanBeCounted};
+ghost use Rattle.txf_volume.specs.Plain.{copied_for, CanBeKept, IsLeftOver, IsReady, KeepsEnded};
 ghost use Rattle.txf_volume.specs.Ties.{IsKeptOpen};
-ghost use Rattle.txf_volume.specs.Writes.{CanBeCounted};
 
 use crate::change::{gain, loss};
 use crate::files::{Files, end_version, law_of_older};

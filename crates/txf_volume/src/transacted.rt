@@ -9,9 +9,9 @@ ghost use Rattle.ktm_world.specs.Files.{tree_seen};
 ghost use Rattle.txf_calls.specs.Views.{open_of};
 ghost use Rattle.txf_calls.specs.declared.call.OpenFile.{OpenFile as Kept};
 ghost use Rattle.txf_volume.specs.Held.{files_of, without_own};
-ghost use Rattle.txf_volume.specs.Transacted.{changed_by, first_opened, forgotten, opened_by, CanOwn, HasRoom, IsNextOpen, IsNotOpened, IsPlanOf};
+ghost use Rattle.txf_laws.specs.FileEffects.{forgotten, IsNextOpen, IsNotOpened, IsPlanOf, CanBeCounted};
+ghost use Rattle.txf_volume.specs.Transacted.{changed_by, first_opened, opened_by, CanOwn, HasRoom};
 ghost use Rattle.txf_volume.specs.Uses.{IsSteady};
-ghost use Rattle.txf_volume.specs.Writes.{CanBeCounted};
 
 use crate::files::{Files, fixed_bytes};
 use crate::own::Own;

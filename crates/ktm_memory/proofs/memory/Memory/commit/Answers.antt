@@ -1,5 +1,5 @@
 use Rattle.std.proofs.Common.{subst, sym}
-use Rattle.txf_volume.specs.Commit.{LeavesOthers}
+use Rattle.txf_laws.specs.FileEffects.{LeavesOthers}
 use Rattle.txf_volume.specs.Held.{files_of}
 use Rattle.ktm_memory.specs.Memory.{held}
 use Rattle.ktm_memory.proofs.Settles.{committed}

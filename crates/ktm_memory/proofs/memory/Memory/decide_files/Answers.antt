@@ -2,7 +2,7 @@ use Rattle.std.proofs.Common.{ap, sym, subst, ◌∙◌}
 use Rattle.ktm_built.specs.Files.{MayMake}
 use Rattle.ktm_world.specs.FileOutcome.{FileOutcome}
 use Rattle.ktm_world.specs.Outcome.{only_reply}
-use Rattle.txf_calls.specs.Fits.{IsOrderly}
+use Rattle.txf_laws.specs.FileEffects.{IsOrderly}
 use Rattle.txf_volume.specs.Held.{files_of}
 use Rattle.ktm_memory.specs.Decided.{CanAnswer, Decides}
 use Rattle.ktm_memory.specs.Memory.{held, now_of}

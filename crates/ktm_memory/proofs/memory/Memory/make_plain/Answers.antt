@@ -1,7 +1,7 @@
 use Rattle.std.proofs.Common.{None, subst, sym}
 use Rattle.ktm_world.specs.FileOutcome.{files_after}
 use Rattle.txf_volume.specs.Held.{files_of}
-use Rattle.txf_volume.specs.Plain.{LeavesOwn}
+use Rattle.txf_laws.specs.FileEffects.{LeavesOwn}
 use Rattle.ktm_memory.proofs.memory.Memory.make_plain.Goals as goal
 
 pub settle-requires-clause-left : goal.settle-requires-clause-left

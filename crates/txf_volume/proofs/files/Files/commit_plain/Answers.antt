@@ -2,7 +2,8 @@ use Rattle.std.proofs.Common.{None, All, sym, ◌∙◌, ap, subst}
 use Rattle.ktm_world.specs.FileOutcome.{changing, files_after}
 use Rattle.txf_tree.specs.TreeState.{tree_of}
 use Rattle.txf_volume.specs.Held.{FilesHeld, OwnHeld, files_of}
-use Rattle.txf_volume.specs.Plain.{IsLeftOver, IsPlainChange}
+use Rattle.txf_laws.specs.FileEffects.{IsPlainChange}
+use Rattle.txf_volume.specs.Plain.{IsLeftOver}
 use Rattle.txf_volume.specs.contracts.files.Files.{the_view}
 use Rattle.txf_volume.proofs.PlainTies.{files-then, tied-then}
 use Rattle.txf_volume.proofs.files.Files.commit_plain.Goals as goal

@@ -1,6 +1,6 @@
 use Rattle.std.proofs.Common.{sym, subst}
 use Rattle.txf_volume.specs.Held.{FilesHeld, files_of}
-use Rattle.txf_volume.specs.Transacted.{IsNotOpened}
+use Rattle.txf_laws.specs.FileEffects.{IsNotOpened}
 use Rattle.txf_volume.proofs.TransactedCalls.{no-older, not-kept, not-opened}
 use Rattle.txf_volume.proofs.files.Files.fix.Goals as goal
 

@@ -4,7 +4,7 @@ use Rattle.ktm_world.specs.FileOutcome.{FileOutcome}
 use Rattle.std.proofs.Common.{Option}
 use Rattle.txf_volume.specs.Held.{files_of}
 use Rattle.txf_volume.specs.Transacted.{changed_by}
-use Rattle.txf_volume.specs.Writes.{CanBeCounted}
+use Rattle.txf_laws.specs.FileEffects.{CanBeCounted}
 use Rattle.txf_volume.proofs.TransactedCalls.{change-counted}
 use Rattle.txf_volume.proofs.files.Files.keep.Goals as goal
 

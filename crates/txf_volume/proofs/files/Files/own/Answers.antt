@@ -3,7 +3,7 @@ use Rattle.txf_laws.specs.OwnChange.{owned}
 use Rattle.ktm_world.specs.Changes.{applies}
 use Rattle.ktm_world.specs.Files.{tree_seen}
 use Rattle.txf_volume.specs.Held.{FilesHeld, files_of}
-use Rattle.txf_volume.specs.Writes.{CanBeCounted}
+use Rattle.txf_laws.specs.FileEffects.{CanBeCounted}
 use Rattle.txf_volume.proofs.TransactedCalls.{files-bare, tied-bare}
 use Rattle.txf_volume.proofs.TransactedChange.{made-files, made-tied, seen-is, units-few}
 use Rattle.txf_volume.proofs.files.Files.own.Goals as goal

@@ -3,7 +3,7 @@ use Rattle.ktm_types.specs.declared.change.Change.{Change}
 use Rattle.ktm_world.specs.Files.{FilesNow}
 use Rattle.txf_volume.specs.Held.{files_of}
 use Rattle.txf_volume.specs.Transacted.{changed_by}
-use Rattle.txf_volume.specs.Writes.{CanBeCounted}
+use Rattle.txf_laws.specs.FileEffects.{CanBeCounted}
 use Rattle.txf_volume.proofs.files.Files.own_if.Goals as goal
 
 pub own-requires-clause-counted : goal.own-requires-clause-counted

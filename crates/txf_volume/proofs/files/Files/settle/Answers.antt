@@ -3,7 +3,7 @@ use Rattle.ktm_types.specs.declared.change.Change.{Change}
 use Rattle.ktm_world.specs.FileOutcome.{FileOutcome}
 use Rattle.txf_versions.specs.VersionsState.{AreHeld}
 use Rattle.txf_volume.specs.Held.{FilesHeld, files_of}
-use Rattle.txf_volume.specs.Plain.{IsPlainChange}
+use Rattle.txf_laws.specs.FileEffects.{IsPlainChange}
 use Rattle.txf_volume.specs.Ties.{AreTied}
 use Rattle.txf_volume.proofs.PlainTies.{few-kept, few-units, left-over}
 use Rattle.txf_volume.proofs.files.Files.settle.Goals as goal
