@@ -1,8 +1,10 @@
 // The calls on an open file.
 ghost use Rattle.std.specs.Prelude.{◌≡◌, ◌∷◌, [], IfOk, take, drop};
+ghost use Rattle.ktm_base.specs.Reading.{IsRead};
 ghost use Rattle.ktm_base.specs.declared.refusal.Refusal.TheVariants.{DiskFull};
 ghost use Rattle.ktm_world.specs.FileCalls.{set_end, write_file};
 ghost use Rattle.ktm_world.specs.FileOutcome.{FileRoom, lacks_disk};
+ghost use Rattle.ktm_world.specs.Files.{bytes_seen};
 ghost use Rattle.ktm_world.specs.Outcome.{first_refusal};
 ghost use Rattle.txf_calls.specs.Calls.{file_outcome, unless_refused};
 ghost use Rattle.txf_calls.specs.Fits.{IsFit, IsOnFile};
@@ -38,14 +40,28 @@ fn within_disk<V: Volume>(volume: &V, who: Option<Id>, plan: Plan, room: &Room) 
     unless_refused(refusal, plan)
 }
 
-// Those from an offset on, at most so many.
-fn part(bytes: &[u8], offset: u64, length: u64) -> &[u8]
-    ensures { result.now ≡ take length (drop offset bytes.now) }
+// Reads bytes of a file from an offset on over those of a buffer.
+fn read_into<V: Volume>(volume: &V, file: OpenFile, offset: u64, into: &mut Vec<u8>) -> usize
+    ensures { IsRead (bytes_seen (V.files volume.now) file.transaction file.node) offset into.old.items into.new.items result }
 {
-    let from = offset.min(bytes.len() as u64) as usize;
-    let rest = &bytes[from..];
-    let to = length.min(rest.len() as u64) as usize;
-    &rest[..to]
+    volume.read(file.transaction, file.node, offset, into)
+}
+
+// The bytes of a file from an offset on, at most so many. It takes the memory for those alone.
+fn bytes_from<V: Volume>(
+    alloc: Global,
+    volume: &V,
+    file: OpenFile,
+    offset: u64,
+    length: u64,
+) -> Result<Bytes, NoMemory>
+    ensures { IfOk result (λ bytes. bytes ≡ take length (drop offset (bytes_seen (V.files volume.now) file.transaction file.node))) }
+{
+    let size = volume.size(file.transaction, file.node);
+    let many = length.min(size.saturating_sub(offset)) as usize;
+    let mut bytes = vec![in alloc; 0; many]?;
+    read_into(volume, file, offset, &mut bytes);
+    Ok(Bytes::new(bytes))
 }
 
 /// Reads at most so many bytes from an offset on.
@@ -65,9 +81,8 @@ pub(crate) fn read<V: Volume>(
     if !reads(file.access) {
         return Ok(Plan::refused(Refusal::AccessDenied));
     }
-    let bytes = part(volume.bytes(file.transaction, file.node), offset, length);
-    let contents = Bytes::new(bytes.to_vec(alloc)?);
-    Ok(Plan::answering(Reply::Contents(contents)))
+    let bytes = bytes_from(alloc, volume, file, offset, length)?;
+    Ok(Plan::answering(Reply::Contents(bytes)))
 }
 
 // Puts bytes; none change nothing.
@@ -141,8 +156,7 @@ pub(crate) fn set_end<V: Volume>(
 pub(crate) fn size<V: Volume>(volume: &V, file: OpenFile) -> Plan
     ensures { (room : FileRoom) (who : _) → result ≡ file_outcome (V.files volume.now) room who (Size file) }
 {
-    let bytes = volume.bytes(file.transaction, file.node);
-    Plan::answering(Reply::Size(bytes.len() as u64))
+    Plan::answering(Reply::Size(volume.size(file.transaction, file.node)))
 }
 
 /// Makes sure that what was written is safe: each plain change is, before it is answered.

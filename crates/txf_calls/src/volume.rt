@@ -1,6 +1,7 @@
 // What the calls ask of the files.
-ghost use Rattle.std.specs.Prelude.{◌≡◌, ◌∷◌, [], IfOk, Some, true, is_some, map};
+ghost use Rattle.std.specs.Prelude.{◌≡◌, ◌∷◌, [], IfOk, Some, true, is_some, length, map};
 ghost use Rattle.std.specs.Option.{option_map};
+ghost use Rattle.ktm_base.specs.Reading.{IsRead};
 ghost use Rattle.ktm_base.specs.declared.refusal.Refusal.TheVariants.{SharingViolation, TransactionalConflict};
 ghost use Rattle.ktm_world.specs.Conflicts.{conflicts};
 ghost use Rattle.ktm_world.specs.FileCalls.{entries, first_opening, listed};
@@ -50,9 +51,13 @@ pub trait Volume {
     ) -> Result<TextList, NoMemory>
         ensures { IfOk result (λ names. names ≡ map listed (entries (tree_seen (files self.now) who) (Some directory) pattern.now.last)) };
 
-    /// The bytes of a file that the caller sees.
-    fn bytes(&self, who: Option<Id>, file: u64) -> &[u8]
-        ensures { result.now ≡ bytes_seen (files self.now) who file };
+    /// How many bytes a file has that the caller sees.
+    fn size(&self, who: Option<Id>, file: u64) -> u64
+        ensures { result ≡ length (bytes_seen (files self.now) who file) };
+
+    /// Reads bytes of a file that the caller sees from the offset on, and says how many.
+    fn read(&self, who: Option<Id>, file: u64, offset: u64, into: &mut [u8]) -> usize
+        ensures { IsRead (bytes_seen (files self.now) who file) offset into.old into.new result };
 
     /// Does an open of the file make it the caller's first one: it is a transaction, and neither made the file nor opened it
     /// before.

@@ -1,6 +1,7 @@
 // The files in memory.
-ghost use Rattle.std.specs.Prelude.{◌≡◌, ◌+◌, ◌<◌, ◌^◌, [], IfSome, None, Some, find, true};
+ghost use Rattle.std.specs.Prelude.{◌≡◌, ◌+◌, ◌<◌, ◌^◌, [], IfSome, None, Some, find, length, true};
 ghost use Rattle.std.specs.Option.{option_copied};
+ghost use Rattle.ktm_base.specs.Reading.{IsRead};
 ghost use Rattle.ktm_world.specs.Files.{bytes_seen, first_open_of, fixed_bytes};
 ghost use Rattle.ktm_world.specs.Tree.{units_of, IsWellFormed};
 ghost use Rattle.txf_tree.specs.TreeState.{tree_of, versions_of};
@@ -11,7 +12,7 @@ ghost use Rattle.txf_volume.specs.Ties.{IsOver};
 ghost use Rattle.txf_volume.specs.Held.{files_begun, files_of, overlay_in, tree_units, version_bytes, FilesHeld};
 
 use crate::own::{Own, overlay_of};
-use ktm_base::{Bytes, Id};
+use ktm_base::{Bytes, Id, read_at};
 use std::alloc::Global;
 use std::marker::Model;
 use txf_opens::Opens;
@@ -154,5 +155,19 @@ impl Files {
             Some(overlay) => self.bytes_over(overlay, transaction, file),
             None => fixed_bytes(&self.tree, &self.versions, transaction, file),
         }
+    }
+
+    // How many bytes a file has that a transaction sees.
+    pub(crate) fn size_in(&self, transaction: Id, file: u64) -> u64
+        ensures { result ≡ length (bytes_seen (files_of self.now) (Some transaction) file) }
+    {
+        self.bytes_in(transaction, file).len() as u64
+    }
+
+    // Reads bytes of a file that a transaction sees from the offset on, and says how many.
+    pub(crate) fn read_in(&self, transaction: Id, file: u64, offset: u64, into: &mut [u8]) -> usize
+        ensures { IsRead (bytes_seen (files_of self.now) (Some transaction) file) offset into.old into.new result }
+    {
+        read_at(self.bytes_in(transaction, file), offset, into)
     }
 }

@@ -46,10 +46,17 @@ impl Volume for Files {
         matching_names(alloc, &entries, pattern)
     }
 
-    fn bytes(&self, who: Option<Id>, file: u64) -> &[u8] {
+    fn size(&self, who: Option<Id>, file: u64) -> u64 {
         match who {
-            Some(transaction) => self.bytes_in(transaction, file),
-            None => self.tree.content(file),
+            Some(transaction) => self.size_in(transaction, file),
+            None => self.tree.size(file),
+        }
+    }
+
+    fn read(&self, who: Option<Id>, file: u64, offset: u64, into: &mut [u8]) -> usize {
+        match who {
+            Some(transaction) => self.read_in(transaction, file, offset, into),
+            None => self.tree.read(file, offset, into),
         }
     }
 
