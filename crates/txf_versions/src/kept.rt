@@ -72,7 +72,7 @@ impl Kept {
 
     /// How many bytes the version has, if they are here.
     pub(crate) fn size(&self, file: u64, version: u64) -> Option<u64>
-        ensures { result ≡ option_map (λ v. length v.bytes) (find (is_version file version) self.now.older) }
+        ensures { result ≡ option_map (λ bytes. length bytes) (option_map (λ v. v.bytes) (find (is_version file version) self.now.older)) }
     {
         match self.bytes(file, version) {
             Some(bytes) => Some(bytes.len() as u64),

@@ -79,7 +79,7 @@ impl Versions {
 
     /// How many bytes a version has that is no longer the last one, if they were kept.
     pub fn older_size(&self, file: u64, version: u64) -> Option<u64>
-        ensures { result ≡ option_map (λ v. length v.bytes) (find (is_version file version) self.now.older) }
+        ensures { result ≡ option_map (λ bytes. length bytes) (option_map (λ v. v.bytes) (find (is_version file version) self.now.older)) }
     {
         self.kept.size(file, version)
     }

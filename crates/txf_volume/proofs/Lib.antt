@@ -15,6 +15,7 @@ pub mod Counted
 pub mod Sights
 pub mod Beginning
 pub mod Folding
+pub mod Reading
 pub mod Recording
 pub mod TransactedEnds
 pub mod TransactedChange

@@ -1,5 +1,5 @@
 // What a change adds to the units of its file, and takes from them.
-ghost use Rattle.std.specs.Prelude.{◌≡◌, ◌<◌, ◌+◌, ◌/◌, ◌^◌};
+ghost use Rattle.std.specs.Prelude.{◌≡◌, ◌<◌, ◌+◌, ◌/◌, ◌^◌, ℕ, List, length};
 ghost use Rattle.txf_volume.specs.Uses.{ends, gain, loss};
 
 use ktm_types::Change;
@@ -21,9 +21,9 @@ pub(crate) fn units_in(len: u128) -> u128
     (len + 4095) / 4096
 }
 
-/// The units that a change gives its file, which had these bytes.
-pub(crate) fn gain(bytes: &[u8], change: &Change) -> u128
-    ensures gain { result ≡ gain bytes.now change.now }
+/// The units that a change gives its file, which had so many bytes.
+pub(crate) fn gain(size: u64, change: &Change) -> u128
+    ensures gain { (bytes : List ℕ) → size ≡ length bytes → result ≡ gain bytes change.now }
     ensures few { result < 2 ^ 66 }
 {
     match change {
@@ -33,20 +33,20 @@ pub(crate) fn gain(bytes: &[u8], change: &Change) -> u128
             ..
         } => {
             let end = *offset as u128 + bytes_in(contents).len() as u128;
-            units_in(end.max(bytes.len() as u128))
+            units_in(end.max(size as u128))
         }
-        Change::Cut { size, .. } => units_in(*size as u128),
+        Change::Cut { size: cut, .. } => units_in(*cut as u128),
         _ => 0,
     }
 }
 
-/// The units that these bytes had, where the change ends them.
-pub(crate) fn loss(bytes: &[u8], change: &Change) -> u128
-    ensures loss { result ≡ loss bytes.now change.now }
+/// The units that so many bytes had, where the change ends them.
+pub(crate) fn loss(size: u64, change: &Change) -> u128
+    ensures loss { (bytes : List ℕ) → size ≡ length bytes → result ≡ loss bytes change.now }
     ensures few { result < 2 ^ 66 }
 {
     if ends(change) {
-        units_in(bytes.len() as u128)
+        units_in(size as u128)
     } else {
         0
     }

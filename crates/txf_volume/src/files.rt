@@ -79,6 +79,33 @@ fn version_bytes<'a>(tree: &'a Tree, versions: &'a Versions, file: u64, version:
     }
 }
 
+// How many bytes a version of a file has.
+fn version_size(tree: &Tree, versions: &Versions, file: u64, version: u64) -> u64
+    ensures { result ≡ length (version_bytes (tree_of tree.now) versions.now.older file version) }
+{
+    match versions.older_size(file, version) {
+        Some(size) => size,
+        None => tree.size(file),
+    }
+}
+
+// Reads bytes of a version of a file from the offset on, and says how many.
+fn read_version(
+    tree: &Tree,
+    versions: &Versions,
+    file: u64,
+    version: u64,
+    offset: u64,
+    into: &mut [u8],
+) -> usize
+    ensures { IsRead (version_bytes (tree_of tree.now) versions.now.older file version) offset into.old into.new result }
+{
+    match versions.read_older(file, version, offset, into) {
+        Some(many) => many,
+        None => tree.read(file, offset, into),
+    }
+}
+
 /// The bytes of a file that a transaction found as it first opened it, or else the last committed ones.
 pub(crate) fn fixed_bytes<'a>(
     tree: &'a Tree,
@@ -91,6 +118,33 @@ pub(crate) fn fixed_bytes<'a>(
     match versions.first_open(transaction, file) {
         Some(version) => version_bytes(tree, versions, file, version),
         None => tree.content(file),
+    }
+}
+
+// How many bytes a transaction found in a file as it first opened it, or else how many are committed.
+fn fixed_size(tree: &Tree, versions: &Versions, transaction: Id, file: u64) -> u64
+    ensures { (h : FilesHeld) → h.tree ≡ tree.now → h.versions ≡ versions.now → result ≡ length (fixed_bytes (files_of h) file (first_open_of (files_of h).first_opens transaction file)) }
+{
+    match versions.first_open(transaction, file) {
+        Some(version) => version_size(tree, versions, file, version),
+        None => tree.size(file),
+    }
+}
+
+// Reads some of those bytes from the offset on, and says how many.
+fn read_fixed(
+    tree: &Tree,
+    versions: &Versions,
+    transaction: Id,
+    file: u64,
+    offset: u64,
+    into: &mut [u8],
+) -> usize
+    ensures { (h : FilesHeld) → h.tree ≡ tree.now → h.versions ≡ versions.now → IsRead (fixed_bytes (files_of h) file (first_open_of (files_of h).first_opens transaction file)) offset into.old into.new result }
+{
+    match versions.first_open(transaction, file) {
+        Some(version) => read_version(tree, versions, file, version, offset, into),
+        None => tree.read(file, offset, into),
     }
 }
 
@@ -134,26 +188,16 @@ impl Files {
         overlay_of(&self.overlays, transaction)
     }
 
-    // The bytes of a file that a transaction sees where it has changed something.
-    fn bytes_over<'a>(&'a self, overlay: &'a Overlay, transaction: Id, file: u64) -> &'a [u8]
+    // How many bytes a file has that a transaction sees where it has changed something.
+    fn size_over(&self, overlay: &Overlay, transaction: Id, file: u64) -> u64
         requires there { overlay_in self.now.overlays transaction ≡ Some overlay.now }
         requires own { IsOwn overlay.now }
-        ensures { result.now ≡ bytes_seen (files_of self.now) (Some transaction) file }
+        ensures { result ≡ length (bytes_seen (files_of self.now) (Some transaction) file) }
     {
-        match overlay.bytes(file) {
-            Some(bytes) => bytes,
-            None if overlay.has_made(file) => &[],
-            None => fixed_bytes(&self.tree, &self.versions, transaction, file),
-        }
-    }
-
-    // The bytes of a file that a transaction sees.
-    pub(crate) fn bytes_in(&self, transaction: Id, file: u64) -> &[u8]
-        ensures { result.now ≡ bytes_seen (files_of self.now) (Some transaction) file }
-    {
-        match self.overlay(transaction) {
-            Some(overlay) => self.bytes_over(overlay, transaction, file),
-            None => fixed_bytes(&self.tree, &self.versions, transaction, file),
+        match overlay.size(file) {
+            Some(size) => size,
+            None if overlay.has_made(file) => 0,
+            None => fixed_size(&self.tree, &self.versions, transaction, file),
         }
     }
 
@@ -161,13 +205,39 @@ impl Files {
     pub(crate) fn size_in(&self, transaction: Id, file: u64) -> u64
         ensures { result ≡ length (bytes_seen (files_of self.now) (Some transaction) file) }
     {
-        self.bytes_in(transaction, file).len() as u64
+        match self.overlay(transaction) {
+            Some(overlay) => self.size_over(overlay, transaction, file),
+            None => fixed_size(&self.tree, &self.versions, transaction, file),
+        }
+    }
+
+    // Reads bytes of a file that a transaction sees where it has changed something, and says how many.
+    fn read_over(
+        &self,
+        overlay: &Overlay,
+        transaction: Id,
+        file: u64,
+        offset: u64,
+        into: &mut [u8],
+    ) -> usize
+        requires there { overlay_in self.now.overlays transaction ≡ Some overlay.now }
+        requires own { IsOwn overlay.now }
+        ensures { IsRead (bytes_seen (files_of self.now) (Some transaction) file) offset into.old into.new result }
+    {
+        match overlay.read(file, offset, into) {
+            Some(many) => many,
+            None if overlay.has_made(file) => read_at(&[], offset, into),
+            None => read_fixed(&self.tree, &self.versions, transaction, file, offset, into),
+        }
     }
 
     // Reads bytes of a file that a transaction sees from the offset on, and says how many.
     pub(crate) fn read_in(&self, transaction: Id, file: u64, offset: u64, into: &mut [u8]) -> usize
         ensures { IsRead (bytes_seen (files_of self.now) (Some transaction) file) offset into.old into.new result }
     {
-        read_at(self.bytes_in(transaction, file), offset, into)
+        match self.overlay(transaction) {
+            Some(overlay) => self.read_over(overlay, transaction, file, offset, into),
+            None => read_fixed(&self.tree, &self.versions, transaction, file, offset, into),
+        }
     }
 }

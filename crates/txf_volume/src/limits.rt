@@ -1,5 +1,5 @@
 // Whether a call would pass a limit.
-ghost use Rattle.std.specs.Prelude.{◌≡◌, ◌<◌, ◌^◌, ◌+◌, ◌≤◌, ◌==◌, ◌&&◌, ◌||◌, Option, Some, None, true, false, is_some, nat_lt};
+ghost use Rattle.std.specs.Prelude.{◌≡◌, ◌<◌, ◌^◌, ◌+◌, ◌≤◌, ◌==◌, ◌&&◌, ◌||◌, Option, Some, None, true, false, is_some, length, nat_lt};
 ghost use Rattle.ktm_base.specs.declared.id.Id.{Id};
 ghost use Rattle.ktm_world.specs.Changes.{is_drop, node_of};
 ghost use Rattle.ktm_world.specs.FileOutcome.{FileOutcome, files_after, next_node_after};
@@ -94,22 +94,22 @@ impl Files {
     {
         let file = node_of(change);
         if self.versions.is_pinned(file, self.tree.version(file)) {
-            loss(self.tree.content(file), change)
+            loss(self.tree.size(file), change)
         } else {
             0
         }
     }
 
-    // The bytes that a transaction has of its own of a file.
-    fn own_bytes(&self, transaction: Id, file: u64) -> &[u8]
-        ensures { result.now ≡ own_bytes (files_of self.now) transaction file }
+    // How many bytes a transaction has of its own of a file.
+    fn own_size(&self, transaction: Id, file: u64) -> u64
+        ensures { result ≡ length (own_bytes (files_of self.now) transaction file) }
     {
         match self.overlay(transaction) {
-            Some(overlay) => match overlay.bytes(file) {
-                Some(bytes) => bytes,
-                None => &[],
+            Some(overlay) => match overlay.size(file) {
+                Some(size) => size,
+                None => 0,
             },
-            None => &[],
+            None => 0,
         }
     }
 
@@ -118,7 +118,7 @@ impl Files {
         requires { Suits (tree_of self.now.tree) (files_of self.now).first_opens change.now }
         ensures { (o : FileOutcome) → o.change ≡ Some change.now → result ≡ units_used (files_after (files_of self.now) None o) }
     {
-        let was = self.tree.content(node_of(change));
+        let was = self.tree.size(node_of(change));
         self.units_used() + gain(was, change) + self.kept(change) - loss(was, change)
     }
 
@@ -127,8 +127,8 @@ impl Files {
         ensures { (o : FileOutcome) → o.change ≡ Some change.now → opens_file (tree_of self.now.tree) o.first ≡ true → result ≡ units_used (files_after (files_of self.now) (Some transaction) o) }
     {
         let file = node_of(change);
-        let added = gain(self.bytes_in(transaction, file), change);
-        self.units_used() + added - loss(self.own_bytes(transaction, file), change)
+        let added = gain(self.size_in(transaction, file), change);
+        self.units_used() + added - loss(self.own_size(transaction, file), change)
     }
 
     // The units in use once a call has settled.

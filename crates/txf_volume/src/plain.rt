@@ -48,7 +48,7 @@ fn units_after(tree: &Tree, units: u64, change: &Change) -> u64
     requires few { tree_units (changed (tree_of tree.now) change.now) < 2 ^ 64 }
     ensures { result ≡ tree_units (changed (tree_of tree.now) change.now) }
 {
-    let was = tree.content(node_of(change));
+    let was = tree.size(node_of(change));
     (units as u128 + gain(was, change) - loss(was, change)) as u64
 }
 

@@ -7,7 +7,7 @@ use Rattle.txf_volume.proofs.files.Files.kept.Goals as goal
 pub returns-then-is_pinned-clause-kept : goal.returns-then-is_pinned-clause-kept
 returns-then-is_pinned-clause-kept c =
     rw (← c.self.view_is)
-    (c.loss.ensures.loss ∙ ap (λ b. loss b c.args.change.now) c.content.ensures
+    (c.loss.ensures.loss _ c.size.ensures
     ∙ sym (kept-is (the_view c.self.inside) c.args.change.now c.node_of-file.result c.version.result c.node_of-file.ensures c.version.ensures true (c.if-is_pinned.ensures)))
 
 pub returns-else-is_pinned-clause-kept : goal.returns-else-is_pinned-clause-kept

@@ -1,4 +1,11 @@
+use Rattle.std.proofs.Common.{sym, ◌∙◌, ap}
+use Rattle.std.specs.Option.{option_copied}
+use Rattle.txf_volume.specs.Held.{FilesHeld}
+use Rattle.txf_volume.proofs.Seen.{seen-none}
 use Rattle.txf_volume.proofs.files.Files.read_in.Goals as goal
 
-pub returns : goal.returns
-returns c = rw c.bytes_in.ensures at c.read_at.ensures
+pub returns-in-None : goal.returns-in-None
+returns-in-None c =
+    let read =
+    c.read_fixed.ensures c.args.self.now (ap (λ (h : FilesHeld). h.tree) (sym c.self.view_is)) (ap (λ (h : FilesHeld). h.versions) (sym c.self.view_is)) in
+    rw (seen-none c.args.self.now c.args.transaction c.args.file (sym c.overlay.ensures.overlay ∙ ap option_copied c.in-None.is)) read
