@@ -1,6 +1,6 @@
 -- Lemmas on the size of bytes that may not be there, and on what is read of them.
 use Rattle.std.proofs.Common.{◌≡◌, ℕ, List, length, Option, Some, None, refl}
-use Rattle.std.proofs.lemmas.Option.{none-some, same_Some}
+use Rattle.std.proofs.lemmas.Option.{same_Some}
 use Rattle.std.specs.Option.{option_map}
 use Rattle.ktm_base.specs.Reading.{IsRead, IsReadIf}
 use Rattle.txf_overlay.specs.Written.{bytes_or}

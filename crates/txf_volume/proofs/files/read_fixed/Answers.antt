@@ -1,10 +1,7 @@
 use Rattle.std.proofs.Common.{Some, None, find, sym, ◌∙◌, ap}
 use Rattle.std.specs.Option.{option_map}
-use Rattle.ktm_world.specs.Tree.{bytes_of}
-use Rattle.txf_tree.specs.TreeState.{TreeState, tree_of}
 use Rattle.txf_versions.specs.VersionsState.{VersionsState, is_open_of}
 use Rattle.txf_versions.specs.declared.opened.Opened.{Opened}
-use Rattle.txf_volume.specs.Held.{version_bytes}
 use Rattle.txf_volume.proofs.Seen.{fixed-version}
 use Rattle.txf_volume.proofs.files.read_fixed.Goals as goal
 

@@ -1,5 +1,4 @@
-use Rattle.std.proofs.Common.{true, false, sym, ◌∙◌, ap}
-use Rattle.txf_volume.specs.Uses.{loss}
+use Rattle.std.proofs.Common.{true, false, sym, ◌∙◌}
 use Rattle.txf_volume.specs.contracts.files.Files.{the_view}
 use Rattle.txf_volume.proofs.Counted.{kept-is}
 use Rattle.txf_volume.proofs.files.Files.kept.Goals as goal
