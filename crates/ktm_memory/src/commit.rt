@@ -1,5 +1,5 @@
 // Recording what a commit or a plain call has to record, where the log has room for it.
-ghost use Rattle.std.specs.Prelude.{◌≡◌, ◌↔◌, ◌+◌, ◌-◌, ◌<◌, ◌≤◌, ◌^◌, ◌∷◌, ◌++◌, min, not, true, false, None, Some, [], All, IfOk, IfSome, IsOk, IsTrue, OnErr, filter, length, sum_by};
+ghost use Rattle.std.specs.Prelude.{◌≡◌, ◌↔◌, ◌+◌, ◌-◌, ◌<◌, ◌≤◌, ◌^◌, ◌∷◌, ◌++◌, not, true, false, None, Some, [], All, IfOk, IfSome, IsOk, OnErr, filter, length};
 ghost use Rattle.std.specs.List.{list_all};
 ghost use Rattle.ktm_event.specs.Kept.{Holds};
 ghost use Rattle.ktm_event.specs.Spelling.{IsSpellableEvent, IsSpellableId};

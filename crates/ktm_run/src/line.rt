@@ -1,5 +1,5 @@
 // A line of a script.
-ghost use Rattle.std.specs.Prelude.{◌≡◌, ◌≤◌, ◌++◌, ◌∷◌, [], true, ℕ, List, IfOk, OnOk, OnErr, IsErrOf, vec_capacity};
+ghost use Rattle.std.specs.Prelude.{◌≡◌, ◌≤◌, ◌++◌, ◌∷◌, [], true, ℕ, List, OnOk, OnErr, IsErrOf, vec_capacity};
 ghost use Rattle.ktm_base.specs.Count.{Rose};
 ghost use Rattle.ktm_kernel.specs.Stands.{KernelAt, IsReady};
 ghost use Rattle.ktm_run.specs.Progress.{Progress, Broke, Stops, point};
