@@ -123,8 +123,8 @@ impl Overlay {
         }
     }
 
-    /// All bytes of a file that it wrote.
-    pub fn bytes(&self, file: u64) -> Option<&[u8]>
+    // All bytes of a file that it wrote.
+    fn bytes(&self, file: u64) -> Option<&[u8]>
         ensures { option_copied result ≡ bytes_at self.now.written file }
     {
         bytes_of(&self.files, file)
