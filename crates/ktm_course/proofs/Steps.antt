@@ -1,0 +1,97 @@
+-- Steps one after another.
+use Rattle.std.proofs.Common.{◌≡◌, ◌+◌, ℕ, suc, Bool, true, false, ◌==◌, not, List, [], ◌∷◌, ◌++◌, All, length, sum_by, None, cond, refl, sym, ◌∙◌, ap, subst, append_assoc, arith}
+use Rattle.std.proofs.lemmas.Bool.{eqb-true, false_from_ne_true}
+use Rattle.std.specs.List.{AllByRecursion, list_any}
+use Rattle.std.proofs.lemmas.List.Elements.{recursion_from_All, All-from_recursion}
+use Rattle.std.proofs.lemmas.List.Sums.{sum_by-append}
+use Rattle.ktm_event.specs.Spelling.{IsSpellableEvent}
+use Rattle.ktm_event.specs.Work.{bytes_changes, changes_of}
+use Rattle.ktm_event.specs.declared.work.FileBytes.{FileBytes}
+use Rattle.ktm_types.specs.declared.change.Change.{Change}
+use Rattle.ktm_types.specs.declared.object.Phase.{Phase}
+use Rattle.ktm_types.specs.declared.object.Transaction.{Transaction}
+use Rattle.ktm_types.specs.declared.object.TransactionOutcome.{TransactionOutcome}
+use Rattle.ktm_world.specs.Changes.{has_changes}
+use Rattle.ktm_world.specs.Enlistments.{is_unfinished, with_enlistments}
+use Rattle.ktm_course.specs.Moved.{IsAlone}
+use Rattle.ktm_types.specs.Sizes.{event_size}
+use Rattle.ktm_types.specs.declared.event.Event.{Event}
+use Rattle.ktm_world.specs.Phases.{Course, ended, ended_if_finished, is_its_superior, unchanged}
+use Rattle.ktm_phase.specs.declared.step.Step.{Step}
+use Rattle.ktm_phase.specs.declared.step.Step.TheVariants.{Record, Tell, Ask, Enter, Decide, End, EndWhereFinished}
+use Rattle.ktm_phase.specs.Run.{Basis, events_of, is_recorded_by}
+use Rattle.ktm_course.specs.Recorded.{recorded_after, steps_events}
+
+-- the basis once these steps are recorded
+abbrev then_basis : List Step → Basis → Basis
+then_basis steps b = record b { is_recorded = recorded_after steps b }
+
+-- what steps and then others record
+pub both_record : (xs ys : List Step) (b : Basis) → steps_events (xs ++ ys) b ≡ steps_events xs b ++ steps_events ys (then_basis xs b)
+both_record [] ys b = refl
+both_record (Record fact ∷ xs) ys b =
+    ap (λ (es : List Event). events_of None fact b ++ es) (both_record xs ys (record b { is_recorded = is_recorded_by None fact b }))
+    ∙ sym (append_assoc (events_of None fact b) _ _)
+both_record (Step.Commit ∷ xs) ys b = both_record xs ys b
+both_record (Tell who kind ∷ xs) ys b = both_record xs ys b
+both_record (Ask who kind owed ∷ xs) ys b = both_record xs ys b
+both_record (Step.Change answer ∷ xs) ys b = both_record xs ys b
+both_record (Enter phase ∷ xs) ys b = both_record xs ys b
+both_record (Decide outcome ∷ xs) ys b = both_record xs ys b
+both_record (End outcome ∷ xs) ys b = both_record xs ys b
+both_record (EndWhereFinished outcome ∷ xs) ys b = both_record xs ys b
+
+-- the first step, and then the others
+pub first_records : (step : Step) (steps left : List Step) (b : Basis) → left ≡ step ∷ steps
+    → steps_events left b ≡ steps_events (step ∷ []) b ++ steps_events steps (then_basis (step ∷ []) b)
+first_records step steps left b is = ap (λ (l : List Step). steps_events l b) is ∙ both_record (step ∷ []) steps b
+
+pub first_spelled : (some others : List Event) → All IsSpellableEvent (some ++ others) → All IsSpellableEvent some × All IsSpellableEvent others
+first_spelled some others all = let both = parts some (recursion_from_All IsSpellableEvent (some ++ others) all) in (All-from_recursion IsSpellableEvent some both.0, All-from_recursion IsSpellableEvent others both.1)
+  where
+    parts : (es : List Event) → AllByRecursion IsSpellableEvent (es ++ others) → AllByRecursion IsSpellableEvent es × AllByRecursion IsSpellableEvent others
+    parts [] all = (tt, all)
+    parts (e ∷ es) all = let rest = parts es all.1 in ((all.0, rest.0), rest.1)
+
+pub sizes_both : (some others : List Event) → sum_by event_size (some ++ others) ≡ sum_by event_size some + sum_by event_size others
+sizes_both some others = sum_by-append event_size some others
+
+-- ---- a step that ends the transaction
+
+pub ended_alone : (c : Course) (t : Transaction) (has_files has_keys : Bool) (outcome : TransactionOutcome) → IsAlone c t has_files has_keys
+    → IsAlone (ended c outcome) (record t { phase = Phase.Ended; outcome = outcome }) has_files has_keys
+unfolding ended
+ended_alone c t has_files has_keys outcome alone = record {
+  transaction = ap (λ (u : Transaction). record u { phase = Phase.Ended; outcome = outcome }) alone.transaction;
+  enlistments = ap (with_enlistments (is_its_superior c) unchanged) alone.enlistments;
+  files = alone.files;
+  keys = alone.keys;
+}
+
+-- ---- the parts
+
+some_there : (n : ℕ) → (suc n == 0) ≡ false
+some_there n = false_from_ne_true (suc n == 0) (λ empty. absurd (omega (arith, eqb-true (suc n) 0 empty)))
+
+-- by whether it changed names
+pub by_names : (names : List Change) (files : List FileBytes) (none : Bool) → none ≡ (length names == 0) → none ≡ false → not none ≡ has_changes (changes_of names files)
+by_names [] files none is some = absurd (cc)
+by_names (n ∷ ns) files none is some = ap not some
+
+-- and else by whether it wrote files
+pub by_files : (names : List Change) (files : List FileBytes) (none unwritten : Bool) → none ≡ (length names == 0) → none ≡ true → unwritten ≡ (length files == 0) → not unwritten ≡ has_changes (changes_of names files)
+by_files (n ∷ ns) files none unwritten is all written = let there = some_there (length ns) in absurd (cc)
+by_files [] [] none unwritten is all written = ap not written
+by_files [] (f ∷ fs) none unwritten is all written =
+    ap not (written ∙ some_there (length fs)) ∙ sym (some_bytes f.file f.bytes.now _)
+  where
+    some_bytes : (file : ℕ) (bytes : List ℕ) (rest : List Change) → has_changes (bytes_changes file bytes ++ rest) ≡ true
+    some_bytes file [] rest = refl
+    some_bytes file (b ∷ bs) rest = refl
+
+-- a step after which it has ended where nobody is unfinished
+pub finished_alone : (c : Course) (t : Transaction) (has_files has_keys : Bool) (outcome : TransactionOutcome) → IsAlone c t has_files has_keys
+    → IsAlone (ended_if_finished c outcome) (record t { phase = Phase.Ended; outcome = outcome }) has_files has_keys
+finished_alone c t has_files has_keys outcome alone =
+    subst (λ (b : Bool). IsAlone (cond b c (ended c outcome)) (record t { phase = Phase.Ended; outcome = outcome }) has_files has_keys) (sym (ap (list_any (is_unfinished c.transaction.id)) alone.enlistments))
+    (ended_alone c t has_files has_keys outcome alone)
