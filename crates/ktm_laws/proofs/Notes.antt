@@ -1,5 +1,4 @@
 -- What a command tells by notifications is so, and stays so.
-use Rattle.std.specs.Prelude.{if◌then◌else◌}
 use Rattle.std.proofs.Common.{◌≡◌, ℕ, zero, suc, not, Bool, true, false, List, [], ◌∷◌, ◌++◌, map, filter, drop, Option, Some, None, refl, sym, ◌∙◌, ap, subst, inl, inr, ◌⊎◌}
 use Rattle.std.proofs.lemmas.Bool.{true≢false}
 use Rattle.std.proofs.lemmas.Option.{none-some}
@@ -25,7 +24,7 @@ use Rattle.ktm_types.specs.declared.reply.Reply.{Reply}
 use Rattle.ktm_types.specs.declared.reply.Reply.TheVariants.{Refused, Done}
 use Rattle.ktm_world.specs.Decide.{decide, caller, command_effect, refusal_of, with_room, of_files, opening, on_file, bound_file, events_of}
 use Rattle.ktm_world.specs.Durable.{Durable, after_events, stand}
-use Rattle.ktm_world.specs.Enlistments.{Enlistment, Manager, Note, Sent, is_superior, has_id, notes_for, taken_count}
+use Rattle.ktm_world.specs.Enlistments.{Enlistment, Manager, Note, Sent, has_id, notes_for, taken_count}
 use Rattle.ktm_world.specs.FileCalls.{create_file, delete_file, create_directory, remove_directory, move_file, find_files}
 use Rattle.ktm_world.specs.FileOutcome.{FileOutcome}
 use Rattle.ktm_world.specs.Files.{OpenFile, own_changes}
@@ -202,7 +201,7 @@ module _ (x : Present) (sound : IsSoundCourse x) where
   abbrev names : List (Id × Id)
   names = map naming x.transactions.enlistments
 
-  pub says-begun : (t : Transaction) (caller : Option Id) → Says names t.id None (course_of x t caller)
+  pub says-begun : (t : Transaction) (caller : Option Enlistment) → Says names t.id None (course_of x t caller)
   says-begun t caller = record { id = refl; named = refl; about = λ s none. absurd none; tells = λ s none. absurd none; events = λ puts. refl }
 
   honest-arrived : (t : Transaction) (d : Course) (reply : Reply) (before : Option Bool) (to : Bool) → IsIn t x.transactions.items → Ends names t.id before to d → list_all is_no_boot d.events ≡ true → IsHonest x (arrived x d reply)
@@ -243,7 +242,7 @@ module _ (x : Present) (sound : IsSoundCourse x) where
           ]
 
   -- where a course has arrived of which this was told, or nothing but a reply comes
-  pub comes-step : (t : Transaction) (caller : Option Id) (f : Course → Course) (reply : Reply) (to : Bool) → IsIn t x.transactions.items → Steps f → Ends names t.id (told_outcome t.outcome) to (f (course_of x t caller))
+  pub comes-step : (t : Transaction) (caller : Option Enlistment) (f : Course → Course) (reply : Reply) (to : Bool) → IsIn t x.transactions.items → Steps f → Ends names t.id (told_outcome t.outcome) to (f (course_of x t caller))
       → Comes x (arrived x (f (course_of x t caller)) reply)
   comes-step t caller f reply to there steps ends =
       let c = course_of x t caller in
@@ -276,18 +275,18 @@ module _ (x : Present) (sound : IsSoundCourse x) where
   comes-answering None f to there steps telling = inl (Done, refl)
   comes-answering (Some e) f to there steps telling = go (transaction_in x e) refl
     where
-      go : (o : Option Transaction) → transaction_in x e ≡ o → Comes x (goes_on x e o (if is_superior e then Some e.id else None) f)
+      go : (o : Option Transaction) → transaction_in x e ≡ o → Comes x (goes_on x e o f)
       go None is = inl (Done, refl)
       go (Some t) is =
           let found = transaction_at-found x.transactions.items e.transaction t is in
-          let who : Option Id = if is_superior e then Some e.id else None in
+          let who : Option Enlistment = Some e in
           comes-step t who (λ c. f c e) Done to found.0 (steps e)
           (telling names t.id (course_of x t who) e (only-one e t (there e refl) found.1) (outcome-at t found.0) (says-begun t who))
 
-  comes-aborted : (t : Transaction) (caller : Option Id) (reply : Reply) → IsIn t x.transactions.items → Comes x (aborted_by x t caller reply)
+  comes-aborted : (t : Transaction) (caller : Option Enlistment) (reply : Reply) → IsIn t x.transactions.items → Comes x (aborted_by x t caller reply)
   comes-aborted t caller reply there = comes-step t caller aborting reply false there aborting-is (aborting-ends names t.id (course_of x t caller) (says-begun t caller))
 
-  honest-aborted : (t : Transaction) (caller : Option Id) (reply : Reply) → IsIn t x.transactions.items → IsHonest x (aborted_by x t caller reply)
+  honest-aborted : (t : Transaction) (caller : Option Enlistment) (reply : Reply) → IsIn t x.transactions.items → IsHonest x (aborted_by x t caller reply)
   honest-aborted t caller reply there = honest-comes _ (comes-aborted t caller reply there)
 
   -- ---- calls on files and keys

@@ -31,7 +31,7 @@ use Rattle.ktm_types.specs.declared.options.ShareMode.{ShareMode}
 use Rattle.ktm_types.specs.declared.reply.Reply.{Reply}
 use Rattle.ktm_types.specs.declared.reply.Reply.TheVariants.{Refused, Done, Committed, Pending, Notification}
 use Rattle.ktm_world.specs.Decide.{decide, caller, command_tests, command_effect, refusal_of, with_room, of_files, opening, on_file, on_file_tests, own_tests, bound_file}
-use Rattle.ktm_world.specs.Enlistments.{Enlistment, Manager, Note, is_ended, is_superior}
+use Rattle.ktm_world.specs.Enlistments.{Enlistment, Manager, Note, is_ended}
 use Rattle.ktm_world.specs.FileCalls.{create_act, create_at, create_file, create_file_tests, read_file, read_file_tests, write_file, write_file_tests, set_end, set_end_tests, get_size, flush_file, delete_act, drop_at, delete_file, delete_file_tests, make_act, make_at, create_directory, create_directory_tests, remove_act, remove_directory, remove_directory_tests, move_act, move_at, move_file, move_file_tests, find_files, find_files_tests, find_path, conflict_test, write_access_test, Whereabouts, no_path, no_way, free, at_root, at_node}
 use Rattle.ktm_world.specs.FileOutcome.{FileOutcome, FileRoom}
 use Rattle.ktm_world.specs.Files.{FilesNow, OpenFile, tree_seen}
@@ -117,9 +117,9 @@ silent-answering : (x : Present) (o : Option Enlistment) (f : Course → Enlistm
 silent-answering x None f = silent-done x
 silent-answering x (Some e) f = go (transaction_in x e)
   where
-    go : (t : Option Transaction) → Silent (goes_on x e t (if is_superior e then Some e.id else None) f)
+    go : (t : Option Transaction) → Silent (goes_on x e t f)
     go None = silent-done x
-    go (Some t) = let who : Option Id = if is_superior e then Some e.id else None in silent-arrived x (f (course_of x t who) e) Done refl refl
+    go (Some t) = let who : Option Enlistment = Some e in silent-arrived x (f (course_of x t who) e) Done refl refl
 
 silent-opening : (x : Present) (process : Pid) (label : Label) (who : Option Id) (o : FileOutcome) → told_of_named o.reply ≡ None → is_note o.reply ≡ false → Silent (opening x process label who o)
 silent-opening x process label who o told plain = go o.opened

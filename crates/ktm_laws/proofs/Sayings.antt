@@ -13,8 +13,9 @@ use Rattle.ktm_types.specs.declared.object.Phase.{Phase}
 use Rattle.ktm_types.specs.declared.object.Phase.TheVariants.{Requested, PrePreparing, PrePrepared, Preparing, SinglePhase, Held, InDoubt, Committing, Aborting, Ended}
 use Rattle.ktm_types.specs.declared.object.TransactionOutcome.{TransactionOutcome}
 use Rattle.ktm_types.specs.declared.object.TransactionOutcome.TheVariants.{Committed, Aborted}
+use Rattle.ktm_types.specs.declared.step.Owed.{Owed}
 use Rattle.ktm_world.specs.Changes.{has_changes}
-use Rattle.ktm_world.specs.Enlistments.{Enlistment, Sent, pre_prepare, prepare, commit, rollback, is_superior, asks_pre_prepare, allows_one_phase, takes_part, is_unfinished, is_durable_at, with_enlistments, has_id, tell}
+use Rattle.ktm_world.specs.Enlistments.{Enlistment, Sent, is_superior, asks_pre_prepare, allows_one_phase, takes_part, is_unfinished, is_durable_at, with_enlistments, has_id, tell}
 use Rattle.ktm_world.specs.OneOutcome.{told_by, told_outcome}
 use Rattle.ktm_world.specs.Phases.{Course, has_settings, event_if, telling, recording, recorded, in_phase, decided, owing, unchanged, enlistment_part, finished, recovering, superior, some_enlistment, participants, work_of, someone_owes, is_single_phase, is_its_superior, is_caller, end_notice, ended, ended_if_finished, committing, aborting, ready_parts, readied, held_or_committing, all_ready, preparing, single, one_phase, one_participant, prepare_alone, to_prepare, pre_prepared, to_pre_prepare, to_commit, when_none_owes, changing_one, ready_of_enlistment, pre_prepare_answered, prepare_answered, without_its_answer, read_only_answered, single_phase_rejected, commit_answered, rollback_answered, recovered as recovered_by, recovered_in}
 use Rattle.ktm_world.specs.Transactions.{same_id}
@@ -164,10 +165,10 @@ module _ (names : List (Id × Id)) (own : Id) where
       let events = first ++ second ++ third in
       let noted = record (recording c events) { works = c.works ++ work_of c } in
       let test = λ (e : Enlistment). takes_part c.transaction.id e && e.is_prepared && e.is_recovered in
-      let sent = telling noted test Notify.Commit (owing commit) in
+      let sent = telling noted test Notify.Commit (owing Owed.Commit) in
       let d = in_phase (decided sent Committed) Committing in
       let tells : S (Some true) d = like (Some true) sent d refl refl refl refl refl
-      (tells-on (Some true) noted test Notify.Commit (owing commit) (λ e there is. part-own c.transaction.id e (and_parts (takes_part c.transaction.id e) e.is_prepared (and_parts (takes_part c.transaction.id e && e.is_prepared) e.is_recovered is).0).0)
+      (tells-on (Some true) noted test Notify.Commit (owing Owed.Commit) (λ e there is. part-own c.transaction.id e (and_parts (takes_part c.transaction.id e) e.is_prepared (and_parts (takes_part c.transaction.id e && e.is_prepared) e.is_recovered is).0).0)
       (λ e. refl) (inr refl)
       (like (Some true) (recording c events) noted refl refl refl refl refl (records (Some true) c events
       (λ some. puts-both (first ++ second) third (puts-both first second (puts-if c.transaction.is_recorded (Event.Decide c.transaction.id) refl) (puts-if (has_changes c.changes) (Event.Done c.transaction.id DonePart.Files) refl))
@@ -180,13 +181,13 @@ module _ (names : List (Id × Id)) (own : Id) where
       let id = c.transaction.id in
       let undone = recording c (event_if c.transaction.is_recorded (Event.Undo id)) in
       let test = λ (e : Enlistment). takes_part id e && e.is_recovered in
-      let sent = telling undone test Notify.Rollback (owing rollback) in
+      let sent = telling undone test Notify.Rollback (owing Owed.Rollback) in
       let above = λ (e : Enlistment). is_its_superior c e && not (is_caller c e) in
       let all = telling sent above Notify.Rollback unchanged in
       let d = in_phase (decided all Aborted) Aborting in
       let tells : S (Some false) d = like (Some false) all d refl refl refl refl refl
       (tells-on (Some false) sent above Notify.Rollback unchanged (λ e there is. superior-own c e (and_parts (is_its_superior c e) (not (is_caller c e)) is).0) (λ e. refl) (inr refl)
-      (tells-on (Some false) undone test Notify.Rollback (owing rollback) (λ e there is. part-own id e (and_parts (takes_part id e) e.is_recovered is).0) (λ e. refl) (inr refl)
+      (tells-on (Some false) undone test Notify.Rollback (owing Owed.Rollback) (λ e there is. part-own id e (and_parts (takes_part id e) e.is_recovered is).0) (λ e. refl) (inr refl)
       (records (Some false) c _ (λ some. puts-if c.transaction.is_recorded (Event.Undo id) refl) (any (Some false) c says)))) in
       if_finished-ends (told c) false d Aborted refl refl (record { kind = Some false; says = tells; so = λ k e. e; outcome = inr refl }) tells
 
@@ -220,8 +221,8 @@ module _ (names : List (Id × Id)) (own : Id) where
 
   preparing-ends : (c : Course) → S None c → E (told c) true (preparing c)
   preparing-ends c says =
-      let asked = in_phase (telling c (takes_part c.transaction.id) Notify.Prepare (owing prepare)) Preparing in
-      let after = asks c (takes_part c.transaction.id) Notify.Prepare (owing prepare) Preparing (part-own c.transaction.id) (λ e. refl) refl says in
+      let asked = in_phase (telling c (takes_part c.transaction.id) Notify.Prepare (owing Owed.Prepare)) Preparing in
+      let after = asks c (takes_part c.transaction.id) Notify.Prepare (owing Owed.Prepare) Preparing (part-own c.transaction.id) (λ e. refl) refl says in
       if_cases (λ d. E (told c) true d) (some_enlistment c (λ e. true)) asked (all_ready asked) (λ some. on-its-way (told c) true asked after refl) (λ none. all_ready-ends asked after)
 
   single-ends : (c : Course) (part : Part) → (list_all puts_some c.changes ≡ true → puts_all (Event.Single c.transaction.id part) ≡ true) → S None c → E (told c) true (single c part)
@@ -231,7 +232,7 @@ module _ (names : List (Id × Id)) (own : Id) where
 
   one_phase-ends : (c : Course) → S None c → E (told c) true (one_phase c)
   one_phase-ends c says = if_cases (λ d. E (told c) true d) (some_enlistment c allows_one_phase) _ (preparing c)
-      (λ some. on-its-way (told c) true _ (asks c (takes_part c.transaction.id) Notify.SinglePhaseCommit (owing commit) SinglePhase (part-own c.transaction.id) (λ e. refl) refl says) refl)
+      (λ some. on-its-way (told c) true _ (asks c (takes_part c.transaction.id) Notify.SinglePhaseCommit (owing Owed.Commit) SinglePhase (part-own c.transaction.id) (λ e. refl) refl says) refl)
       (λ none. preparing-ends c says)
 
   one_participant-ends : (c : Course) → S None c → E (told c) true (one_participant c)
@@ -255,7 +256,7 @@ module _ (names : List (Id × Id)) (own : Id) where
   pub to_pre_prepare-ends : (c : Course) → S None c → E (told c) true (to_pre_prepare c)
   unfolding to_pre_prepare
   to_pre_prepare-ends c says = if_cases (λ d. E (told c) true d) (some_enlistment c asks_pre_prepare) _ (pre_prepared c)
-      (λ some. on-its-way (told c) true _ (asks c (λ e. takes_part c.transaction.id e && asks_pre_prepare e) Notify.PrePrepare (owing pre_prepare) PrePreparing
+      (λ some. on-its-way (told c) true _ (asks c (λ e. takes_part c.transaction.id e && asks_pre_prepare e) Notify.PrePrepare (owing Owed.PrePrepare) PrePreparing
       (λ e is. part-own c.transaction.id e (and_parts (takes_part c.transaction.id e) (asks_pre_prepare e) is).0) (λ e. refl) refl says) refl)
       (λ none. pre_prepared-ends c says)
 
@@ -331,9 +332,9 @@ module _ (names : List (Id × Id)) (own : Id) where
   pub single_phase_rejected-ends : (c : Course) (e : Enlistment) → Only e → S None c → E (told c) true (single_phase_rejected c e)
   unfolding single_phase_rejected
   single_phase_rejected-ends c e only says =
-      let sent = telling c (has_id e.id) Notify.Prepare (owing prepare) in
+      let sent = telling c (has_id e.id) Notify.Prepare (owing Owed.Prepare) in
       on-its-way (told c) true (in_phase sent Preparing) (like None sent (in_phase sent Preparing) refl refl refl refl refl
-      (tells-on None c (has_id e.id) Notify.Prepare (owing prepare) (only-own c None e only says) (λ e. refl) (inl refl) says)) refl
+      (tells-on None c (has_id e.id) Notify.Prepare (owing Owed.Prepare) (only-own c None e only says) (λ e. refl) (inl refl) says)) refl
 
   recovered_in-ends : (phase : Phase) (c : Course) (e : Enlistment) → Only e → is_outcome_of phase c.transaction ≡ true → S None c → E (told c) true (recovered_in phase c e)
   recovered_in-ends InDoubt c e only is says = on-its-way (told c) true _ (tells-on None c (has_id e.id) Notify.Indoubt unchanged (only-own c None e only says) (λ e. refl) (inl refl) says) refl
@@ -341,7 +342,7 @@ module _ (names : List (Id × Id)) (own : Id) where
       let known : told c ≡ Some true = ap told_outcome (sym (committed-outcome c.transaction is)) in
       record {
         kind = Some true;
-        says = tells-on (Some true) c (has_id e.id) Notify.Commit (owing commit) (only-own c None e only says) (λ e. refl) (inr refl) (any (Some true) c says);
+        says = tells-on (Some true) c (has_id e.id) Notify.Commit (owing Owed.Commit) (only-own c None e only says) (λ e. refl) (inr refl) (any (Some true) c says);
         so = λ k same. known ∙ same;
         outcome = inl refl;
       }
@@ -349,7 +350,7 @@ module _ (names : List (Id × Id)) (own : Id) where
       let known : told c ≡ Some false = ap told_outcome (sym (aborted-outcome c.transaction is)) in
       record {
         kind = Some false;
-        says = tells-on (Some false) c (has_id e.id) Notify.Rollback (owing rollback) (only-own c None e only says) (λ e. refl) (inr refl) (any (Some false) c says);
+        says = tells-on (Some false) c (has_id e.id) Notify.Rollback (owing Owed.Rollback) (only-own c None e only says) (λ e. refl) (inr refl) (any (Some false) c says);
         so = λ k same. known ∙ same;
         outcome = inl refl;
       }

@@ -31,11 +31,12 @@ use Rattle.ktm_types.specs.declared.options.EnlistmentKind.{EnlistmentKind}
 use Rattle.ktm_types.specs.declared.options.ShareMode.{ShareMode}
 use Rattle.ktm_types.specs.declared.reply.Reply.{Reply}
 use Rattle.ktm_types.specs.declared.reply.Reply.TheVariants.{Refused, Done}
+use Rattle.ktm_types.specs.declared.step.Owed.{Owed}
 use Rattle.ktm_world.specs.Changes.{applies, changes_apply, is_make, node_of, changes_bytes}
 use Rattle.ktm_world.specs.Committed.{Work}
 use Rattle.ktm_world.specs.Conflicts.{writes}
 use Rattle.ktm_world.specs.Decide.{decide, caller, transacted, command_tests, command_effect, refusal_of, with_room, of_files, opening, on_file, on_file_tests, own_tests, bound_file}
-use Rattle.ktm_world.specs.Enlistments.{Enlistment, Manager, rollback, is_unfinished, takes_part}
+use Rattle.ktm_world.specs.Enlistments.{Enlistment, Manager, is_unfinished, takes_part}
 use Rattle.ktm_world.specs.FileCalls.{Whereabouts, no_path, no_way, free, at_root, at_node, find_path, empties, create_at, create_file, create_file_tests, read_file, write_file, write_file_tests, set_end, set_end_tests, get_size, flush_file, drop_at, delete_file, delete_file_tests, make_at, create_directory, create_directory_tests, remove_directory, remove_directory_tests, move_at, move_file, move_file_tests, find_files}
 use Rattle.ktm_world.specs.FileOutcome.{FileOutcome, answering, changing}
 use Rattle.ktm_world.specs.Files.{FirstOpen, OpenFile, OwnChanges, own_changes, FilesNow}
@@ -119,7 +120,7 @@ unfolding aborting
 aborting-same c =
     let id = c.transaction.id in
     let undone = recording c (event_if c.transaction.is_recorded (Undo id)) in
-    let told = telling undone (λ e. takes_part id e && e.is_recovered) Notify.Rollback (owing rollback) in
+    let told = telling undone (λ e. takes_part id e && e.is_recovered) Notify.Rollback (owing Owed.Rollback) in
     let all_told = telling told (λ e. is_its_superior c e && not (is_caller c e)) Notify.Rollback unchanged in
     ended-same (in_phase (decided all_told TransactionOutcome.Aborted) Aborting) TransactionOutcome.Aborted
 

@@ -15,6 +15,7 @@ use Rattle.ktm_types.specs.declared.object.Phase.TheVariants.{Active, Ended}
 use Rattle.ktm_types.specs.declared.object.Transaction.{Transaction}
 use Rattle.ktm_types.specs.declared.reply.Reply.{Reply}
 use Rattle.ktm_types.specs.declared.reply.Reply.TheVariants.{Done}
+use Rattle.ktm_world.specs.Enlistments.{Enlistment}
 use Rattle.ktm_world.specs.Committed.{with_work}
 use Rattle.ktm_world.specs.Durable.{after_events}
 use Rattle.ktm_world.specs.Files.{FilesNow, FirstOpen, first_open, own_changes}
@@ -138,7 +139,7 @@ module _ (lists : ListsLaw) (formed : FormedLaw) where
 
   -- ---- courses, and time
 
-  pub course-spends : (x : Present) (t : Transaction) (caller : Option Id) (f : Course → Course) (reply : Course → Reply) → IsIn t x.transactions.items → transaction_at x.transactions.items t.id ≡ Some t → is_live t ≡ true
+  pub course-spends : (x : Present) (t : Transaction) (caller : Option Enlistment) (f : Course → Course) (reply : Course → Reply) → IsIn t x.transactions.items → transaction_at x.transactions.items t.id ≡ Some t → is_live t ≡ true
       → Steps f → ((c : Course) → Fades c (f c)) → Spends x (arrived x (f (course_of x t caller)) (reply (f (course_of x t caller))))
   course-spends x t caller f reply there found live steps fades =
       let c = f (course_of x t caller) in

@@ -14,7 +14,7 @@ use Rattle.ktm_types.specs.declared.recorded.Stage.{Stage}
 use Rattle.ktm_types.specs.declared.reply.Reply.{Reply}
 use Rattle.ktm_types.specs.declared.reply.Reply.TheVariants.{Done}
 use Rattle.ktm_world.specs.Durable.{Recorded, changes_of, settings_of, is_decided, is_ready, recorded_or_new, superior_ids}
-use Rattle.ktm_world.specs.Enlistments.{Enlistment, is_durable_at, is_superior, is_unfinished, superior_of, takes_part}
+use Rattle.ktm_world.specs.Enlistments.{Enlistment, is_durable_at, is_unfinished, superior_of, takes_part}
 use Rattle.ktm_world.specs.Files.{own_changes}
 use Rattle.ktm_world.specs.Keys.{own_settings}
 use Rattle.ktm_world.specs.Lawful.{Agrees, Summary, is_held_stage, stage_in, summary_in, summary_now, summary_of, superior_now, undecided}
@@ -179,18 +179,18 @@ module _ (lists : ListsLaw) (x : Present) (course : IsSoundCourse x) (good : IsG
   holds-arrived d reply holds = subst (λ es. limits_hold x.recorded es ≡ true) (sym (arrival x d reply).events) holds
 
   pub holds-answering : (o : Option Enlistment) (f : Course → Enlistment → Course)
-      → ((e : Enlistment) → o ≡ Some e → (t : Transaction) (caller : Option Id) → transaction_in x e ≡ Some t → IsIn t x.transactions.items → same_id e.transaction t.id ≡ true → limits_hold x.recorded (f (course_of x t caller) e).events ≡ true)
+      → ((e : Enlistment) → o ≡ Some e → (t : Transaction) (caller : Option Enlistment) → transaction_in x e ≡ Some t → IsIn t x.transactions.items → same_id e.transaction t.id ≡ true → limits_hold x.recorded (f (course_of x t caller) e).events ≡ true)
       → HoldsOut (answering x o f)
   holds-answering None f holds = refl
   holds-answering (Some e) f holds = go (transaction_in x e) refl
     where
-      go : (t : Option Transaction) → transaction_in x e ≡ t → HoldsOut (goes_on x e t (if is_superior e then Some e.id else None) f)
+      go : (t : Option Transaction) → transaction_in x e ≡ t → HoldsOut (goes_on x e t f)
       go None found = refl
       go (Some t) found =
           let at = transaction_at-found x.transactions.items e.transaction t found in
-          holds-arrived (f (course_of x t (if is_superior e then Some e.id else None)) e) Done (holds e refl t (if is_superior e then Some e.id else None) found at.0 (same_id-from e.transaction t.id (sym at.1)))
+          holds-arrived (f (course_of x t (Some e)) e) Done (holds e refl t (Some e) found at.0 (same_id-from e.transaction t.id (sym at.1)))
 
-  module _ (t : Transaction) (there : IsIn t x.transactions.items) (caller : Option Id) where
+  module _ (t : Transaction) (there : IsIn t x.transactions.items) (caller : Option Enlistment) where
     waits-there : is_undecided t ≡ true → IsIn t (undecided x)
     waits-there waits = IsIn-kept (λ (v : Transaction). is_undecided v && not (is_of v.id None)) x.transactions.items t there (and_from _ _ waits refl)
 

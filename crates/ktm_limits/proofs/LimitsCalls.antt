@@ -17,9 +17,10 @@ use Rattle.ktm_types.specs.declared.options.Durability.{Durability}
 use Rattle.ktm_types.specs.declared.options.EnlistmentKind.{EnlistmentKind}
 use Rattle.ktm_types.specs.declared.reply.Reply.{Reply}
 use Rattle.ktm_types.specs.declared.reply.Reply.TheVariants.{Done}
+use Rattle.ktm_types.specs.declared.step.Owed.{Owed}
 use Rattle.ktm_world.specs.Committed.{committed_with}
 use Rattle.ktm_world.specs.Decide.{of_keys, transacted, caller}
-use Rattle.ktm_world.specs.Enlistments.{Enlistment, Manager, Owed, pre_prepare, prepare, commit, rollback, is_ended, is_live_enlistment, is_live_in, is_superior, owes_pre_prepare, owes_prepare, owes_commit, owes_rollback, has_id, with_enlistments}
+use Rattle.ktm_world.specs.Enlistments.{Enlistment, Manager, is_ended, is_live_enlistment, is_live_in, is_superior, owes_pre_prepare, owes_prepare, owes_commit, owes_rollback, has_id, with_enlistments}
 use Rattle.ktm_world.specs.Files.{FilesNow}
 use Rattle.ktm_world.specs.FileUses.{units_used, nodes_used, file_changes_waiting}
 use Rattle.ktm_world.specs.HandleCalls.{bind_to, duplicate_handle, duplicate_handle_tests}
@@ -328,7 +329,7 @@ module _ (lists : ListsLaw) (formed : FormedLaw) (x : Present) (course : IsSound
   pub stays-spent : (o : Outcome) → Spends lists formed x o → Stays x o
   stays-spent o spends = record { fits = no_more-fits x (apply x o) (spends.less order sound fixed) fits; fixed = fixed-after lists formed x o spends.goes.opens }
 
-  stays-course : (t : Transaction) (caller : Option Id) (f : Course → Course) (reply : Course → Reply) → IsIn t x.transactions.items → is_live t ≡ true → Steps f → ((c : Course) → Fades c (f c))
+  stays-course : (t : Transaction) (caller : Option Enlistment) (f : Course → Course) (reply : Course → Reply) → IsIn t x.transactions.items → is_live t ≡ true → Steps f → ((c : Course) → Fades c (f c))
       → Stays x (arrived x (f (course_of x t caller)) (reply (f (course_of x t caller))))
   stays-course t caller f reply there live steps fades =
       stays-spent _ (course-spends lists formed x t caller f reply there (transaction_at-there x.transactions.items course.transactions_rise t there) live steps fades)
@@ -351,11 +352,11 @@ module _ (lists : ListsLaw) (formed : FormedLaw) (x : Present) (course : IsSound
   stays-answering None f live steps fades = stays-reply x fits Done
   stays-answering (Some e) f live steps fades = go (transaction_in x e) refl
     where
-      go : (t : Option Transaction) → transaction_in x e ≡ t → Stays x (goes_on x e t (if is_superior e then Some e.id else None) f)
+      go : (t : Option Transaction) → transaction_in x e ≡ t → Stays x (goes_on x e t f)
       go None found = stays-reply x fits Done
       go (Some t) found =
           let at = transaction_at-found x.transactions.items e.transaction t found in
-          stays-course t (if is_superior e then Some e.id else None) (λ c. f c e) (λ c. Done) at.0 (live e refl t found at.0 (same_id-from e.transaction t.id (sym at.1))) (steps e) (fades e)
+          stays-course t (Some e) (λ c. f c e) (λ c. Done) at.0 (live e refl t found at.0 (same_id-from e.transaction t.id (sym at.1))) (steps e) (fades e)
 
   -- an enlistment is as the phase of its transaction asks
   as-asked : (e : Enlistment) → IsIn e x.transactions.enlistments → (t : Transaction) → IsIn t x.transactions.items → same_id e.transaction t.id ≡ true → is_enlistment_as t.phase e ≡ true
@@ -401,19 +402,19 @@ module _ (lists : ListsLaw) (formed : FormedLaw) (x : Present) (course : IsSound
 
   module _ (o : Option Enlistment) (there : (e : Enlistment) → o ≡ Some e → IsIn e x.transactions.enlistments) where
     pub stays-pre_prepare_complete : Passes (enlistment_tests o owes_pre_prepare) → Stays x (answering x o pre_prepare_answered)
-    stays-pre_prepare_complete tests = stays-answering o pre_prepare_answered (λ e is t found in_ts own. owing-live e (there e is) pre_prepare (owed-pre_prepare e (enlistment-allowed o owes_pre_prepare e is tests)) t in_ts own)
+    stays-pre_prepare_complete tests = stays-answering o pre_prepare_answered (λ e is t found in_ts own. owing-live e (there e is) Owed.PrePrepare (owed-pre_prepare e (enlistment-allowed o owes_pre_prepare e is tests)) t in_ts own)
         (λ e t cs ss c is. pre_prepare_answered-is t cs ss c e is) (λ e c. fades-pre_prepare_answered c e)
 
     pub stays-prepare_complete : Passes (enlistment_tests o owes_prepare) → Stays x (answering x o prepare_answered)
-    stays-prepare_complete tests = stays-answering o prepare_answered (λ e is t found in_ts own. owing-live e (there e is) prepare (owed-prepare e (enlistment-allowed o owes_prepare e is tests)) t in_ts own)
+    stays-prepare_complete tests = stays-answering o prepare_answered (λ e is t found in_ts own. owing-live e (there e is) Owed.Prepare (owed-prepare e (enlistment-allowed o owes_prepare e is tests)) t in_ts own)
         (λ e t cs ss c is. prepare_answered-is t cs ss c e is) (λ e c. fades-prepare_answered c e)
 
     pub stays-commit_complete : Passes (enlistment_tests o owes_commit) → Stays x (answering x o commit_answered)
-    stays-commit_complete tests = stays-answering o commit_answered (λ e is t found in_ts own. owing-live e (there e is) commit (owed-commit e (enlistment-allowed o owes_commit e is tests)) t in_ts own)
+    stays-commit_complete tests = stays-answering o commit_answered (λ e is t found in_ts own. owing-live e (there e is) Owed.Commit (owed-commit e (enlistment-allowed o owes_commit e is tests)) t in_ts own)
         (λ e t cs ss c is. commit_answered-is t cs ss c e is) (λ e c. fades-commit_answered c e)
 
     pub stays-rollback_complete : Passes (enlistment_tests o owes_rollback) → Stays x (answering x o rollback_answered)
-    stays-rollback_complete tests = stays-answering o rollback_answered (λ e is t found in_ts own. owing-live e (there e is) rollback (owed-rollback e (enlistment-allowed o owes_rollback e is tests)) t in_ts own)
+    stays-rollback_complete tests = stays-answering o rollback_answered (λ e is t found in_ts own. owing-live e (there e is) Owed.Rollback (owed-rollback e (enlistment-allowed o owes_rollback e is tests)) t in_ts own)
         (λ e t cs ss c is. rollback_answered-is t cs ss c e is) (λ e c. fades-rollback_answered c e)
 
     pub stays-read_only : Passes (enlistment_tests o (may_vote x)) → Stays x (answering x o read_only_answered)

@@ -25,9 +25,10 @@ use Rattle.ktm_types.specs.declared.options.EnlistmentKind.{EnlistmentKind}
 use Rattle.ktm_types.specs.declared.recorded.Stage.{Stage}
 use Rattle.ktm_types.specs.declared.reply.Reply.{Reply}
 use Rattle.ktm_types.specs.declared.reply.Reply.TheVariants.{Contents as Bytes, Done, Refused, Size}
+use Rattle.ktm_types.specs.declared.step.Owed.{Owed}
 use Rattle.ktm_world.specs.Decide.{of_files, opening, bound_file, on_file, caller, command_tests, command_effect, decide, events_of, refusal_of, with_room}
 use Rattle.ktm_world.specs.Durable.{Durable, after_event, after_events, fact_of, is_within_limits, without_recorded}
-use Rattle.ktm_world.specs.Enlistments.{Enlistment, Manager, Owed, pre_prepare, prepare, commit, is_superior, is_unfinished, owes_commit, owes_pre_prepare, owes_prepare}
+use Rattle.ktm_world.specs.Enlistments.{Enlistment, Manager, is_superior, is_unfinished, owes_commit, owes_pre_prepare, owes_prepare}
 use Rattle.ktm_world.specs.FileCalls.{create_file, create_file_tests, read_file, write_file, set_end, get_size, flush_file, delete_file, create_directory, remove_directory, move_file, find_files}
 use Rattle.ktm_world.specs.FileOutcome.{FileOutcome}
 use Rattle.ktm_world.specs.Files.{OpenFile, bytes_seen}
@@ -93,7 +94,7 @@ undos-hold (e ∷ es) s undos limits = let parts = and_parts (is_undo e) (list_a
 undoes-then : (x : Present) (o : Outcome) (next : Present → Outcome) → Undoes o → ((y : Present) → Undoes (next y)) → Undoes (and_then x o next)
 undoes-then x o next first second = list_all-append is_undo o.events (next (apply x o)).events ∙ and_from _ _ first (second (apply x o))
 
-undoes-aborted : (x : Present) (t : Transaction) (caller : Option Id) (reply : Reply) → Undoes (aborted_by x t caller reply)
+undoes-aborted : (x : Present) (t : Transaction) (caller : Option Enlistment) (reply : Reply) → Undoes (aborted_by x t caller reply)
 undoes-aborted x t caller reply =
     subst (λ es. list_all is_undo es ≡ true) (sym ((arrival x (aborting (course_of x t caller)) reply).events ∙ (aborting-undone (course_of x t caller)).events)) (go t.is_recorded)
   where
@@ -325,18 +326,18 @@ module _ (agreeing : AgreeingLaw) (keeping : FilesKeptLaw) (lists : ListsLaw) (f
   quiet o f same = holds-answering lists x kept.sound.course kept.good kept.agrees kept.sound.files fits o f (λ e is t caller found at own. subst (λ es. limits_hold x.recorded es ≡ true) (sym (same (course_of x t caller) e)) refl)
 
   module _ (o : Option Enlistment) (there : (e : Enlistment) → o ≡ Some e → IsIn e x.transactions.enlistments) where
-    owing : (e : Enlistment) → o ≡ Some e → (t : Transaction) (caller : Option Id) → IsIn t x.transactions.items → same_id e.transaction t.id ≡ true → (owed : Owed) → e.owes ≡ Some owed → answer_in t.phase ≡ Some owed
+    owing : (e : Enlistment) → o ≡ Some e → (t : Transaction) (caller : Option Enlistment) → IsIn t x.transactions.items → same_id e.transaction t.id ≡ true → (owed : Owed) → e.owes ≡ Some owed → answer_in t.phase ≡ Some owed
     owing e is t caller at own owed owes = phase-owing x.recorded.boots (course_of x t caller) (stands-now x t caller kept.sound.course at) (brought-now x t caller kept.sound.course) kept.sound.course.enlistments_rise e (there e is) own owed owes
 
     pre_prepares : Passes (enlistment_tests o owes_pre_prepare) → Holds (answering x o pre_prepare_answered)
     pre_prepares tests = holds-answering lists x kept.sound.course kept.good kept.agrees kept.sound.files fits o pre_prepare_answered (λ e is t caller found at own.
-        pre_prepare_answered-events lists x kept.sound.course kept.good kept.agrees kept.sound.files fits t at caller (ap stage_in (is-pre_preparing t.phase (owing e is t caller at own pre_prepare (owed-pre_prepare e (enlistment-allowed o owes_pre_prepare e is tests))))) e)
+        pre_prepare_answered-events lists x kept.sound.course kept.good kept.agrees kept.sound.files fits t at caller (ap stage_in (is-pre_preparing t.phase (owing e is t caller at own Owed.PrePrepare (owed-pre_prepare e (enlistment-allowed o owes_pre_prepare e is tests))))) e)
 
     prepares : Passes (enlistment_tests o owes_prepare) → Holds (answering x o prepare_answered)
     prepares tests = holds-answering lists x kept.sound.course kept.good kept.agrees kept.sound.files fits o prepare_answered (λ e is t caller found at own.
         let owes = enlistment-allowed o owes_prepare e is tests in
-        let phase = is-preparing t.phase (owing e is t caller at own prepare (owed-prepare e owes)) in
-        let part = takes_part-owing x.recorded.boots (course_of x t caller) (stands-now x t caller kept.sound.course at) (brought-now x t caller kept.sound.course) kept.sound.course.enlistments_rise e (there e is) own prepare (owed-prepare e owes) in
+        let phase = is-preparing t.phase (owing e is t caller at own Owed.Prepare (owed-prepare e owes)) in
+        let part = takes_part-owing x.recorded.boots (course_of x t caller) (stands-now x t caller kept.sound.course at) (brought-now x t caller kept.sound.course) kept.sound.course.enlistments_rise e (there e is) own Owed.Prepare (owed-prepare e owes) in
         let stands = (stands-now x t caller kept.sound.course at).stand.parts e (there e is) part in
         elim (preparing-parts e (subst (λ p. is_part_as p e ≡ true) phase stands)) [
           | inl waits ↦ absurd (true≢false (sym (waiting-parts e waits).0 ∙ ap is_none (owed-prepare e owes)))
@@ -349,7 +350,7 @@ module _ (agreeing : AgreeingLaw) (keeping : FilesKeptLaw) (lists : ListsLaw) (f
 
     has_committed : Passes (enlistment_tests o owes_commit) → Holds (answering x o commit_answered)
     has_committed tests = holds-answering lists x kept.sound.course kept.good kept.agrees kept.sound.files fits o commit_answered (λ e is t caller found at own.
-        commit_answered-events lists x kept.sound.course kept.good kept.agrees kept.sound.files fits t at caller e (is-committing t.phase (owing e is t caller at own commit (owed-commit e (enlistment-allowed o owes_commit e is tests)))))
+        commit_answered-events lists x kept.sound.course kept.good kept.agrees kept.sound.files fits t at caller e (is-committing t.phase (owing e is t caller at own Owed.Commit (owed-commit e (enlistment-allowed o owes_commit e is tests)))))
 
     asks_pre_prepare : Passes (superior_tests x o before_pre_prepare) → Holds (answering x o (λ c e. to_pre_prepare c))
     asks_pre_prepare tests = holds-answering lists x kept.sound.course kept.good kept.agrees kept.sound.files fits o (λ c e. to_pre_prepare c) (λ e is t caller found at own.

@@ -13,9 +13,10 @@ use Rattle.ktm_types.specs.declared.object.Phase.{Phase}
 use Rattle.ktm_types.specs.declared.object.Phase.TheVariants.{PrePreparing, Preparing, SinglePhase}
 use Rattle.ktm_types.specs.declared.object.Transaction.{Transaction}
 use Rattle.ktm_types.specs.declared.object.TransactionOutcome.{TransactionOutcome}
+use Rattle.ktm_types.specs.declared.step.Owed.{Owed}
 use Rattle.ktm_world.specs.Changes.{has_changes}
 use Rattle.ktm_world.specs.Durable.{Durable, after_event, after_events, fact_of, is_within_limits}
-use Rattle.ktm_world.specs.Enlistments.{Enlistment, allows_one_phase, asks_pre_prepare, commit, is_durable_at, takes_part, is_superior, is_unfinished, superior_of}
+use Rattle.ktm_world.specs.Enlistments.{Enlistment, allows_one_phase, asks_pre_prepare, is_durable_at, takes_part, is_superior, is_unfinished, superior_of}
 use Rattle.ktm_world.specs.Files.{own_changes}
 use Rattle.ktm_world.specs.Keys.{OwnSettings, own_settings}
 use Rattle.ktm_world.specs.Lawful.{Agrees, undecided}
@@ -179,7 +180,7 @@ module _ (lists : ListsLaw) (x : Present) (agrees : Agrees x) (sound : IsSoundFi
   holds-committing c n m going few none =
       let id = c.transaction.id in
       let told = telling (record (recording c (event_if c.transaction.is_recorded (Event.Decide id) ++ event_if (has_changes c.changes) (Event.Done id DonePart.Files) ++ event_if (has_settings c.settings) (Event.Done id DonePart.Keys)))
-      { works = c.works ++ work_of c }) (λ e. takes_part id e && e.is_prepared && e.is_recovered) Notify.Commit (owing commit) in
+      { works = c.works ++ work_of c }) (λ e. takes_part id e && e.is_prepared && e.is_recovered) Notify.Commit (owing Owed.Commit) in
       holds-if_finished (in_phase (decided told TransactionOutcome.Committed) Phase.Committing) TransactionOutcome.Committed (holds-append c.events _ x.recorded going.holds
       (subst (λ id. limits_hold (after_events x.recorded c.events) (event_if c.transaction.is_recorded (Event.Decide id) ++ event_if (has_changes c.changes) (Event.Done id DonePart.Files) ++ event_if (has_settings c.settings) (Event.Done id DonePart.Keys)) ≡ true)
       (sym going.id) (decided-events (after_events x.recorded c.events) n m going.along few c.transaction.is_recorded (has_changes c.changes) (has_settings c.settings) none)))

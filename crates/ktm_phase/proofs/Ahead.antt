@@ -3,11 +3,11 @@ use Rattle.std.specs.Prelude.{if◌then◌else◌}
 use Rattle.std.proofs.Common.{◌≡◌, Bool, true, false, List, [], ◌∷◌, ◌++◌, Option, Some, None, refl, sym, ◌∙◌, ap, append_assoc, append-nil}
 use Rattle.std.specs.List.{list_any}
 use Rattle.ktm_types.specs.declared.object.TransactionOutcome.{TransactionOutcome}
+use Rattle.ktm_types.specs.declared.step.Answered.{Answered}
+use Rattle.ktm_types.specs.declared.step.Step.{Step}
 use Rattle.ktm_world.specs.Enlistments.{Enlistment, has_id, is_unfinished}
 use Rattle.ktm_world.specs.Phases.{Course, ended, is_its_superior, owing, unchanged}
-use Rattle.ktm_phase.specs.declared.step.Answered.{Answered}
-use Rattle.ktm_phase.specs.declared.step.Step.{Step}
-use Rattle.ktm_phase.specs.Run.{answer_to, answered, carried, basis, events_ahead, events_of, is_meant, run}
+use Rattle.ktm_world.specs.Steps.{answered, carried, changing, basis, events_ahead, events_of, is_meant, run}
 use Rattle.ktm_phase.proofs.Lasting.{basis-with, lasting-answered}
 
 basis-ended : (c : Course) (outcome : TransactionOutcome) → basis (ended c outcome) ≡ basis c
@@ -26,30 +26,29 @@ still-either : (b : Bool) (c d e : Course) → Still c d → Still c e → Still
 still-either true c d e first second = first
 still-either false c d e first second = second
 
-module _ (by : Option Enlistment) where
-  Ahead : List Step → Course → Type 0
-  Ahead steps c = (run by steps c).events ≡ c.events ++ events_ahead by steps (basis c)
+Ahead : List Step → Course → Type 0
+Ahead steps c = (run steps c).events ≡ c.events ++ events_ahead steps (basis c)
 
-  goes-on : (steps : List Step) (c d : Course) → Still c d → Ahead steps d → (run by steps d).events ≡ c.events ++ events_ahead by steps (basis c)
-  unfolding Ahead
-  goes-on steps c d still ahead = ahead ∙ ap (λ es. es ++ events_ahead by steps (basis d)) still.1 ∙ ap (λ b. c.events ++ events_ahead by steps b) still.0
+goes-on : (steps : List Step) (c d : Course) → Still c d → Ahead steps d → (run steps d).events ≡ c.events ++ events_ahead steps (basis c)
+unfolding Ahead
+goes-on steps c d still ahead = ahead ∙ ap (λ es. es ++ events_ahead steps (basis d)) still.1 ∙ ap (λ b. c.events ++ events_ahead steps b) still.0
 
-still-change : (by : Option Enlistment) (answer : Answered) (c : Course) → Still c (carried by (Step.Change answer) c)
-still-change None answer c = (refl, refl)
-still-change (Some e) answer c = (basis-with (answered answer) (lasting-answered answer) (has_id e.id) c, refl)
+still-change : (answer : Answered) (c : Course) (e : Option Enlistment) → Still c (changing c e (answered answer))
+still-change answer c None = (refl, refl)
+still-change answer c (Some e) = (basis-with (answered answer) (lasting-answered answer) (has_id e.id) c, refl)
 
 -- carried out, they record what they were to
-pub events-ahead : (by : Option Enlistment) (steps : List Step) (c : Course) → (run by steps c).events ≡ c.events ++ events_ahead by steps (basis c)
+pub events-ahead : (steps : List Step) (c : Course) → (run steps c).events ≡ c.events ++ events_ahead steps (basis c)
 unfolding Ahead
-events-ahead by [] c = sym (append-nil c.events)
-events-ahead by (Step.Record fact ∷ steps) c = events-ahead by steps (carried by (Step.Record fact) c) ∙ append_assoc c.events (events_of by fact (basis c)) _
-events-ahead by (Step.Tell who kind ∷ steps) c = goes-on by steps c (carried by (Step.Tell who kind) c) (basis-with unchanged (λ e. refl) (is_meant by who c) c, refl) (events-ahead by steps (carried by (Step.Tell who kind) c))
-events-ahead by (Step.Ask who kind owed ∷ steps) c = goes-on by steps c (carried by (Step.Ask who kind owed) c) (basis-with (owing (answer_to owed)) (λ e. refl) (is_meant by who c) c, refl) (events-ahead by steps (carried by (Step.Ask who kind owed) c))
-events-ahead by (Step.Change answer ∷ steps) c = goes-on by steps c (carried by (Step.Change answer) c) (still-change by answer c) (events-ahead by steps (carried by (Step.Change answer) c))
-events-ahead by (Step.End outcome ∷ steps) c = goes-on by steps c (ended c outcome) (basis-ended c outcome, events-ended c outcome) (events-ahead by steps (ended c outcome))
-events-ahead by (Step.EndWhereFinished outcome ∷ steps) c = goes-on by steps c (carried by (Step.EndWhereFinished outcome) c)
+events-ahead [] c = sym (append-nil c.events)
+events-ahead (Step.Record fact ∷ steps) c = events-ahead steps (carried (Step.Record fact) c) ∙ append_assoc c.events (events_of fact (basis c)) _
+events-ahead (Step.Tell who kind ∷ steps) c = goes-on steps c (carried (Step.Tell who kind) c) (basis-with unchanged (λ e. refl) (is_meant who c) c, refl) (events-ahead steps (carried (Step.Tell who kind) c))
+events-ahead (Step.Ask who kind owed ∷ steps) c = goes-on steps c (carried (Step.Ask who kind owed) c) (basis-with (owing owed) (λ e. refl) (is_meant who c) c, refl) (events-ahead steps (carried (Step.Ask who kind owed) c))
+events-ahead (Step.Change answer ∷ steps) c = goes-on steps c (carried (Step.Change answer) c) (still-change answer c c.caller) (events-ahead steps (carried (Step.Change answer) c))
+events-ahead (Step.End outcome ∷ steps) c = goes-on steps c (ended c outcome) (basis-ended c outcome, events-ended c outcome) (events-ahead steps (ended c outcome))
+events-ahead (Step.EndWhereFinished outcome ∷ steps) c = goes-on steps c (carried (Step.EndWhereFinished outcome) c)
     (still-either (list_any (is_unfinished c.transaction.id) c.enlistments) c c (ended c outcome) (refl, refl) (basis-ended c outcome, events-ended c outcome))
-    (events-ahead by steps (carried by (Step.EndWhereFinished outcome) c))
-events-ahead by (Step.Commit ∷ steps) c = events-ahead by steps (carried by Step.Commit c)
-events-ahead by (Step.Enter phase ∷ steps) c = events-ahead by steps (carried by (Step.Enter phase) c)
-events-ahead by (Step.Decide outcome ∷ steps) c = events-ahead by steps (carried by (Step.Decide outcome) c)
+    (events-ahead steps (carried (Step.EndWhereFinished outcome) c))
+events-ahead (Step.Commit ∷ steps) c = events-ahead steps (carried Step.Commit c)
+events-ahead (Step.Enter phase ∷ steps) c = events-ahead steps (carried (Step.Enter phase) c)
+events-ahead (Step.Decide outcome ∷ steps) c = events-ahead steps (carried (Step.Decide outcome) c)

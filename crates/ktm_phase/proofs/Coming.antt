@@ -6,15 +6,14 @@ use Rattle.ktm_base.specs.declared.refusal.Refusal.{Refusal}
 use Rattle.ktm_base.specs.declared.refusal.Refusal.TheVariants.{EnlistmentNotSuperior, TransactionRequestNotValid}
 use Rattle.ktm_types.specs.declared.object.Phase.{Phase}
 use Rattle.ktm_types.specs.declared.object.Phase.TheVariants.{SinglePhase, Committing, Aborting, Ended}
-use Rattle.ktm_world.specs.Enlistments.{Enlistment, Owed as Answer, pre_prepare, prepare, commit, rollback, is_open_for_votes, is_superior}
+use Rattle.ktm_types.specs.declared.input.PhaseInput.{PhaseInput}
+use Rattle.ktm_types.specs.declared.step.Owed.{Owed}
+use Rattle.ktm_world.specs.Enlistments.{Enlistment, is_open_for_votes, is_superior}
 use Rattle.ktm_world.specs.TransactionCalls.{before_pre_prepare, before_prepare, is_voting, lets_superior_roll_back, waits_for_superior}
 use Rattle.ktm_phase.specs.declared.enlistment.Vote.{Vote}
-use Rattle.ktm_phase.specs.declared.phase.PhaseInput.{PhaseInput}
-use Rattle.ktm_phase.specs.declared.step.Owed.{Owed}
 use Rattle.ktm_phase.specs.declared.superior.SuperiorCall.{SuperiorCall}
 use Rattle.ktm_phase.specs.Outcomes.{IsKnownIn, IsOwedIn, MayBe, MayCome, is_asked_in}
 use Rattle.ktm_phase.specs.Replies.{allows, commanded, if_allowed, input_by, input_of, lets, may_recover, may_vote, owes, recovered, replied}
-use Rattle.ktm_phase.specs.Run.{answer_to}
 
 same_input : (a b : PhaseInput) (r : Result PhaseInput Refusal) → r ≡ Ok a → r ≡ Ok b → a ≡ b
 same_input a b r first second = cc
@@ -41,22 +40,22 @@ undecided test committing aborting ended Ended known is by = absurd (true≢fals
 undecided test committing aborting ended _ known is by = by
 
 -- an answer that is owed is waited for
-asked : (owed : Owed) (e : Enlistment) (o : Option Answer) (phase : Phase) → owes owed (record e { owes = o }) ≡ true → IsOwedIn phase o → is_asked_in phase (answer_to owed) ≡ true
-asked Owed.PrePrepare e (Some pre_prepare) phase is fits = fits
+asked : (owed : Owed) (e : Enlistment) (o : Option Owed) (phase : Phase) → owes owed (record e { owes = o }) ≡ true → IsOwedIn phase o → is_asked_in phase owed ≡ true
+asked Owed.PrePrepare e (Some Owed.PrePrepare) phase is fits = fits
 asked Owed.PrePrepare e _ phase is fits = absurd (true≢false (sym is))
-asked Owed.Prepare e (Some prepare) phase is fits = fits
+asked Owed.Prepare e (Some Owed.Prepare) phase is fits = fits
 asked Owed.Prepare e _ phase is fits = absurd (true≢false (sym is))
-asked Owed.Commit e (Some commit) phase is fits = fits
+asked Owed.Commit e (Some Owed.Commit) phase is fits = fits
 asked Owed.Commit e _ phase is fits = absurd (true≢false (sym is))
-asked Owed.Rollback e (Some rollback) phase is fits = fits
+asked Owed.Rollback e (Some Owed.Rollback) phase is fits = fits
 asked Owed.Rollback e _ phase is fits = absurd (true≢false (sym is))
 
-known-at-commit : (phase : Phase) (known : Option Bool) → is_asked_in phase commit ≡ true → IsKnownIn phase known → MayBe known (Some true)
+known-at-commit : (phase : Phase) (known : Option Bool) → is_asked_in phase Owed.Commit ≡ true → IsKnownIn phase known → MayBe known (Some true)
 known-at-commit SinglePhase known is by = inl by
 known-at-commit Committing known is by = inr by
 known-at-commit _ known is by = absurd (true≢false (sym is))
 
-known-at-rollback : (phase : Phase) (known : Option Bool) → is_asked_in phase rollback ≡ true → IsKnownIn phase known → MayBe known (Some false)
+known-at-rollback : (phase : Phase) (known : Option Bool) → is_asked_in phase Owed.Rollback ≡ true → IsKnownIn phase known → MayBe known (Some false)
 known-at-rollback Aborting known is by = inr by
 known-at-rollback _ known is by = absurd (true≢false (sym is))
 
@@ -69,8 +68,8 @@ module _ (phase : Phase) (known : Option Bool) (by : IsKnownIn phase known) wher
   rolling-back e false may = voting e may
 
   replying : (e : Enlistment) (vote : Vote) → IsOwedIn phase e.owes → allows phase e vote ≡ true → MayCome known phase (input_of e vote)
-  replying e Vote.PrePrepareComplete fits may = undecided (λ phase. is_asked_in phase pre_prepare) refl refl refl phase known (asked Owed.PrePrepare e e.owes phase may fits) by
-  replying e Vote.PrepareComplete fits may = undecided (λ phase. is_asked_in phase prepare) refl refl refl phase known (asked Owed.Prepare e e.owes phase may fits) by
+  replying e Vote.PrePrepareComplete fits may = undecided (λ phase. is_asked_in phase Owed.PrePrepare) refl refl refl phase known (asked Owed.PrePrepare e e.owes phase may fits) by
+  replying e Vote.PrepareComplete fits may = undecided (λ phase. is_asked_in phase Owed.Prepare) refl refl refl phase known (asked Owed.Prepare e e.owes phase may fits) by
   replying e Vote.ReadOnly fits may = voting e may
   replying e Vote.SinglePhaseReject fits may = tt
   replying e Vote.CommitComplete fits may = known-at-commit phase known (asked Owed.Commit e e.owes phase may fits) by

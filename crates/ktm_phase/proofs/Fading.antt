@@ -5,12 +5,12 @@ use Rattle.std.proofs.lemmas.List.{map-id}
 use Rattle.std.proofs.lemmas.Simd.{map-map}
 use Rattle.std.specs.List.{list_any}
 use Rattle.ktm_types.specs.declared.object.TransactionOutcome.{TransactionOutcome}
+use Rattle.ktm_types.specs.declared.step.Answered.{Answered}
+use Rattle.ktm_types.specs.declared.step.Answered.TheVariants.{PrePrepared, Prepared, ReadOnly, Finished, Recovered}
+use Rattle.ktm_types.specs.declared.step.Step.{Step}
 use Rattle.ktm_world.specs.Enlistments.{Enlistment, has_id, is_unfinished, with_enlistments}
 use Rattle.ktm_world.specs.Phases.{Course, ended, is_its_superior, owing, unchanged}
-use Rattle.ktm_phase.specs.declared.step.Answered.{Answered}
-use Rattle.ktm_phase.specs.declared.step.Answered.TheVariants.{PrePrepared, Prepared, ReadOnly, Finished, Recovered}
-use Rattle.ktm_phase.specs.declared.step.Step.{Step}
-use Rattle.ktm_phase.specs.Run.{answer_to, answered, carried, is_meant, run}
+use Rattle.ktm_world.specs.Steps.{answered, carried, changing, is_meant, run}
 use Rattle.ktm_phase.specs.Fading.{Fades, FadingLaw, GoesOn}
 use Rattle.ktm_phase.specs.Procedures.{IsRun}
 use Rattle.ktm_phase.proofs.Table.{of_runs}
@@ -66,21 +66,24 @@ fades-ended c outcome = fades-with (is_its_superior c) unchanged c (ended c outc
 
 -- ---- steps
 
-fades-step : (by : Option Enlistment) (step : Step) (c : Course) → Fades c (carried by step c)
-fades-step by (Step.Tell who kind) c = fades-with (is_meant by who c) unchanged c _ refl stays
-fades-step by (Step.Ask who kind owed) c = fades-with (is_meant by who c) (owing (answer_to owed)) c _ refl (λ e. record { lasts = refl; read_only = λ is. is; prepared = λ is. is; finished = λ is. is; recovered = λ is. is })
-fades-step None (Step.Change answer) c = fades-same c c refl
-fades-step (Some e) (Step.Change answer) c = fades-with (has_id e.id) (answered answer) c _ refl (goes-answered answer)
-fades-step by (Step.End outcome) c = fades-ended c outcome
-fades-step by (Step.EndWhereFinished outcome) c = fades-either c c (ended c outcome) (list_any (is_unfinished c.transaction.id) c.enlistments) (fades-same c c refl) (fades-ended c outcome)
-fades-step by _ c = fades-same c _ refl
+fades-changing : (answer : Answered) (c : Course) (e : Option Enlistment) → Fades c (changing c e (answered answer))
+fades-changing answer c None = fades-same c c refl
+fades-changing answer c (Some e) = fades-with (has_id e.id) (answered answer) c _ refl (goes-answered answer)
 
-fades-run : (by : Option Enlistment) (steps : List Step) (c : Course) → Fades c (run by steps c)
-fades-run by [] c = fades-same c c refl
-fades-run by (step ∷ steps) c = fades-then c _ _ (fades-step by step c) (fades-run by steps (carried by step c))
+fades-step : (step : Step) (c : Course) → Fades c (carried step c)
+fades-step (Step.Tell who kind) c = fades-with (is_meant who c) unchanged c _ refl stays
+fades-step (Step.Ask who kind owed) c = fades-with (is_meant who c) (owing owed) c _ refl (λ e. record { lasts = refl; read_only = λ is. is; prepared = λ is. is; finished = λ is. is; recovered = λ is. is })
+fades-step (Step.Change answer) c = fades-changing answer c c.caller
+fades-step (Step.End outcome) c = fades-ended c outcome
+fades-step (Step.EndWhereFinished outcome) c = fades-either c c (ended c outcome) (list_any (is_unfinished c.transaction.id) c.enlistments) (fades-same c c refl) (fades-ended c outcome)
+fades-step _ c = fades-same c _ refl
+
+fades-run : (steps : List Step) (c : Course) → Fades c (run steps c)
+fades-run [] c = fades-same c c refl
+fades-run (step ∷ steps) c = fades-then c _ _ (fades-step step c) (fades-run steps (carried step c))
 
 fades-ran : (c d : Course) → IsRun c d → Fades c d
-fades-ran c d ran = subst (Fades c) ran.is (fades-run ran.by ran.steps c)
+fades-ran c d ran = subst (Fades c) ran.is (fades-run ran.steps c)
 
 pub fading_law : FadingLaw
 fading_law = record { steps = fades-run; procedures = of_runs Fades fades-ran }

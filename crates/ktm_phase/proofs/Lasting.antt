@@ -3,12 +3,12 @@ use Rattle.std.specs.Prelude.{if◌then◌else◌}
 use Rattle.std.proofs.Common.{◌≡◌, ◌&&◌, Bool, true, false, List, [], ◌∷◌, map, Option, Some, None, is_some, refl, sym, ◌∙◌, ap, inl, inr}
 use Rattle.std.proofs.lemmas.Bool.{cases_Bool}
 use Rattle.ktm_base.specs.declared.id.Id.{Id}
+use Rattle.ktm_types.specs.declared.step.Answered.{Answered}
+use Rattle.ktm_types.specs.declared.step.Answered.TheVariants.{PrePrepared, Prepared, ReadOnly, Finished, Recovered}
 use Rattle.ktm_world.specs.Enlistments.{Enlistment, is_superior, superior_of, with_enlistments}
 use Rattle.ktm_world.specs.Phases.{Course, superior}
 use Rattle.ktm_world.specs.Transactions.{same_id}
-use Rattle.ktm_phase.specs.declared.step.Answered.{Answered}
-use Rattle.ktm_phase.specs.declared.step.Answered.TheVariants.{PrePrepared, Prepared, ReadOnly, Finished, Recovered}
-use Rattle.ktm_phase.specs.Run.{answered, basis, lasting, lasting_of}
+use Rattle.ktm_world.specs.Steps.{answered, basis, lasting, lasting_of}
 
 -- a change that keeps what lasts keeps the superior
 superior-kept : (id : Id) (f : Enlistment → Enlistment) → ((e : Enlistment) → lasting (f e) ≡ lasting e) → (es : List Enlistment) → lasting_of (superior_of (map f es) id) ≡ lasting_of (superior_of es id)

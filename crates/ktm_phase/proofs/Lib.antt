@@ -1,5 +1,6 @@
 mod Counts
 mod Lasting
+mod Superiors
 mod Table
 mod Ahead
 mod Fading

@@ -7,18 +7,18 @@ use Rattle.ktm_base.specs.declared.notify.Notify.{Notify}
 use Rattle.ktm_types.specs.declared.object.Phase.{Phase}
 use Rattle.ktm_types.specs.declared.object.Phase.TheVariants.{PrePreparing, Preparing, SinglePhase, Committing, Aborting, Ended}
 use Rattle.ktm_types.specs.declared.object.TransactionOutcome.{TransactionOutcome}
+use Rattle.ktm_types.specs.declared.input.PhaseInput.{PhaseInput}
+use Rattle.ktm_types.specs.declared.input.Seen.{Seen}
+use Rattle.ktm_types.specs.declared.step.Answered.{Answered}
+use Rattle.ktm_types.specs.declared.step.Fact.{Fact}
+use Rattle.ktm_types.specs.declared.step.Step.{Step}
+use Rattle.ktm_types.specs.declared.step.Step.TheVariants.{Record, Change}
 use Rattle.ktm_world.specs.Enlistments.{Enlistment, Sent, is_superior, is_unfinished, tell}
 use Rattle.ktm_world.specs.OneOutcome.{told_outcome}
 use Rattle.ktm_world.specs.Phases.{Course, decided, end_notice, ended, in_phase, is_its_superior, is_single_phase, owing, someone_owes, telling, unchanged}
-use Rattle.ktm_phase.specs.declared.phase.PhaseInput.{PhaseInput}
-use Rattle.ktm_phase.specs.declared.phase.Seen.{Seen}
-use Rattle.ktm_phase.specs.declared.step.Answered.{Answered}
-use Rattle.ktm_phase.specs.declared.step.Fact.{Fact}
-use Rattle.ktm_phase.specs.declared.step.Step.{Step}
-use Rattle.ktm_phase.specs.declared.step.Step.TheVariants.{Record, Change}
+use Rattle.ktm_world.specs.Rows.{aborts, all_readies, commit_completes, commits, commits_one, proceeds, proceeds_without, is_last, participants, pre_prepare_completes, pre_prepares, prepare_completes, prepares, prepares_all, prepares_alone, read_onlies, recovers, recovers_superior, requests, rollback_completes, row, tells_in, without}
+use Rattle.ktm_world.specs.Steps.{answered, carried, changing, is_meant, run, seen}
 use Rattle.ktm_phase.specs.Outcomes.{AreTrue, IsKnownIn, KeepsTrue, MayBe, MayCome, OutcomeLaw, StaysTrue, TellsOnly, known}
-use Rattle.ktm_phase.specs.Rows.{aborts, all_readies, commit_completes, commits, commits_one, proceeds, proceeds_without, is_last, participants, pre_prepare_completes, pre_prepares, prepare_completes, prepares, prepares_all, prepares_alone, read_onlies, recovers, recovers_superior, requests, rollback_completes, row, tells_in, without}
-use Rattle.ktm_phase.specs.Run.{answer_to, carried, is_meant, run, seen}
 use Rattle.ktm_phase.specs.Procedures.{IsRun}
 use Rattle.ktm_phase.proofs.Coming.{command-may-come, recovery-may-come, reply-may-come}
 use Rattle.ktm_phase.proofs.Table.{once, runs_law}
@@ -66,22 +66,25 @@ either : (P : Course → Type 0) (b : Bool) (d e : Course) → P d → P e → P
 either P true d e first second = first
 either P false d e first second = second
 
-stays-true : (by : Option Enlistment) (k : Option Bool) (steps : List Step) (c : Course) → known c ≡ k → Tells k c → AreTrue k steps → StaysTrue k (run by steps c)
-stays-true by k [] c is tells ok = record { tells = subst (λ j. Tells j c) (sym is) tells; stays = inr (sym is) }
-stays-true by k (Step.Tell who kind ∷ steps) c is tells ok = stays-true by k steps (carried by (Step.Tell who kind) c) is (tells-more k c (is_meant by who c) kind unchanged ok.0 tells) ok.1
-stays-true by k (Step.Ask who kind owed ∷ steps) c is tells ok = stays-true by k steps (carried by (Step.Ask who kind owed) c) is (tells-more k c (is_meant by who c) kind (owing (answer_to owed)) ok.0 tells) ok.1
-stays-true by k (Step.Decide outcome ∷ steps) c is tells ok =
-    then-true k (told_outcome outcome) _ ok.0 (stays-true by (told_outcome outcome) steps (decided c outcome) refl (tells-wider k (told_outcome outcome) c ok.0 tells) ok.1)
-stays-true by k (Step.End outcome ∷ steps) c is tells ok =
-    then-true k (told_outcome outcome) _ ok.0 (stays-true by (told_outcome outcome) steps (ended c outcome) (ended-known c outcome) (ended-tells k c outcome ok.0 ok.1 tells) ok.2)
-stays-true by k (Step.EndWhereFinished outcome ∷ steps) c is tells ok = either (λ d. StaysTrue k (run by steps d)) (list_any (is_unfinished c.transaction.id) c.enlistments) c (ended c outcome)
-    (stays-true by k steps c is tells ok.2)
-    (then-true k (told_outcome outcome) _ ok.0 (stays-true by (told_outcome outcome) steps (ended c outcome) (ended-known c outcome) (ended-tells k c outcome ok.0 ok.1 tells) ok.3))
-stays-true by k (Step.Record fact ∷ steps) c is tells ok = stays-true by k steps (carried by (Step.Record fact) c) is tells ok
-stays-true by k (Step.Commit ∷ steps) c is tells ok = stays-true by k steps (carried by Step.Commit c) is tells ok
-stays-true by k (Step.Enter phase ∷ steps) c is tells ok = stays-true by k steps (carried by (Step.Enter phase) c) is tells ok
-stays-true None k (Step.Change answer ∷ steps) c is tells ok = stays-true None k steps c is tells ok
-stays-true (Some e) k (Step.Change answer ∷ steps) c is tells ok = stays-true (Some e) k steps (carried (Some e) (Step.Change answer) c) is tells ok
+changed-tells : (k : Option Bool) (c : Course) (e : Option Enlistment) (f : Enlistment → Enlistment) → known c ≡ k → Tells k c → (known (changing c e f) ≡ k) × Tells k (changing c e f)
+changed-tells k c None f is tells = (is, tells)
+changed-tells k c (Some e) f is tells = (is, tells)
+
+stays-true : (k : Option Bool) (steps : List Step) (c : Course) → known c ≡ k → Tells k c → AreTrue k steps → StaysTrue k (run steps c)
+stays-true k [] c is tells ok = record { tells = subst (λ j. Tells j c) (sym is) tells; stays = inr (sym is) }
+stays-true k (Step.Tell who kind ∷ steps) c is tells ok = stays-true k steps (carried (Step.Tell who kind) c) is (tells-more k c (is_meant who c) kind unchanged ok.0 tells) ok.1
+stays-true k (Step.Ask who kind owed ∷ steps) c is tells ok = stays-true k steps (carried (Step.Ask who kind owed) c) is (tells-more k c (is_meant who c) kind (owing owed) ok.0 tells) ok.1
+stays-true k (Step.Decide outcome ∷ steps) c is tells ok =
+    then-true k (told_outcome outcome) _ ok.0 (stays-true (told_outcome outcome) steps (decided c outcome) refl (tells-wider k (told_outcome outcome) c ok.0 tells) ok.1)
+stays-true k (Step.End outcome ∷ steps) c is tells ok =
+    then-true k (told_outcome outcome) _ ok.0 (stays-true (told_outcome outcome) steps (ended c outcome) (ended-known c outcome) (ended-tells k c outcome ok.0 ok.1 tells) ok.2)
+stays-true k (Step.EndWhereFinished outcome ∷ steps) c is tells ok = either (λ d. StaysTrue k (run steps d)) (list_any (is_unfinished c.transaction.id) c.enlistments) c (ended c outcome)
+    (stays-true k steps c is tells ok.2)
+    (then-true k (told_outcome outcome) _ ok.0 (stays-true (told_outcome outcome) steps (ended c outcome) (ended-known c outcome) (ended-tells k c outcome ok.0 ok.1 tells) ok.3))
+stays-true k (Step.Record fact ∷ steps) c is tells ok = stays-true k steps (carried (Step.Record fact) c) is tells ok
+stays-true k (Step.Commit ∷ steps) c is tells ok = stays-true k steps (carried Step.Commit c) is tells ok
+stays-true k (Step.Enter phase ∷ steps) c is tells ok = stays-true k steps (carried (Step.Enter phase) c) is tells ok
+stays-true k (Step.Change answer ∷ steps) c is tells ok = let same = changed-tells k c c.caller (answered answer) is tells in stays-true k steps (carried (Step.Change answer) c) same.0 same.1 ok
 
 -- ---- rows
 
@@ -162,23 +165,23 @@ true-row s PhaseInput.RecoverSuperior k is = (inl refl, tt)
 
 -- ---- procedures
 
-keeps-steps : (by : Option Enlistment) (steps : List Step) (c : Course) → AreTrue (known c) steps → KeepsTrue c (run by steps c)
-keeps-steps by steps c ok tells = stays-true by (known c) steps c refl tells ok
+keeps-steps : (steps : List Step) (c : Course) → AreTrue (known c) steps → KeepsTrue c (run steps c)
+keeps-steps steps c ok tells = stays-true (known c) steps c refl tells ok
 
 keeps-run : (c d : Course) (ran : IsRun c d) → AreTrue (known c) ran.steps → KeepsTrue c d
-keeps-run c d ran ok = subst (KeepsTrue c) ran.is (keeps-steps ran.by ran.steps c ok)
+keeps-run c d ran ok = subst (KeepsTrue c) ran.is (keeps-steps ran.steps c ok)
 
 keeps-first : (c d : Course) (ran : IsRun c d) → known c ≡ None → AreTrue None ran.steps → KeepsTrue c d
 keeps-first c d ran is ok = keeps-run c d ran (at-none (known c) ran.steps is ok)
 
-true-once : (c : Course) (e : Enlistment) (first : List Step) (steps : Seen → List Step) → ((s : Seen) → AreTrue None (steps s)) → ((next : List Step) → AreTrue None next → AreTrue None (first ++ next)) → AreTrue None (once c e first steps)
-true-once c e first steps each before = let d = run (Some e) first c in before _ (true-where None (not (someone_owes d)) (steps (seen d)) (each (seen d)))
+true-once : (c : Course) (first : List Step) (steps : Seen → List Step) → ((s : Seen) → AreTrue None (steps s)) → ((next : List Step) → AreTrue None next → AreTrue None (first ++ next)) → AreTrue None (once c first steps)
+true-once c first steps each before = let d = run first c in before _ (true-where None (not (someone_owes d)) (steps (seen d)) (each (seen d)))
 
 pub outcome_law : OutcomeLaw
 unfolding runs_law
 outcome_law = record {
   steps = keeps-steps;
-  rows = λ by s input c may. keeps-steps by (row s input) c (true-row s input (known c) may);
+  rows = λ s input c may. keeps-steps (row s input) c (true-row s input (known c) may);
   replies = λ phase known e vote input by fits came. reply-may-come phase known by e vote input fits came;
   superiors = λ phase known e call input by came. command-may-come phase known by e call input came;
   recoveries = λ phase known e input by came. recovery-may-come phase known by e input came;
@@ -189,12 +192,12 @@ outcome_law = record {
   pre_prepared = λ c is. keeps-first c _ (runs_law.pre_prepared c) is (true-proceeds (seen c));
   to_pre_prepare = λ c is. keeps-first c _ (runs_law.to_pre_prepare c) is (true-pre_prepares (seen c));
   to_commit = λ c is. keeps-first c _ (runs_law.to_commit c) is (true-requests (seen c));
-  pre_prepare_answered = λ c e is. keeps-first c _ (runs_law.pre_prepare_answered c e) is (true-once c e (Change Answered.PrePrepared ∷ []) proceeds true-proceeds (λ next ok. ok));
-  prepare_answered = λ c e is. keeps-first c _ (runs_law.prepare_answered c e) is (true-once c e (Change Answered.Prepared ∷ Record Fact.Ready ∷ []) all_readies true-all_readies (λ next ok. ok));
-  read_only_answered = λ c e is. keeps-first c _ (runs_law.read_only_answered c e) is (true-if None (is_some e.owes) (once c e (Change Answered.ReadOnly ∷ []) (proceeds_without c.transaction.phase)) (Change Answered.ReadOnly ∷ [])
-      (true-once c e (Change Answered.ReadOnly ∷ []) (proceeds_without c.transaction.phase) (true-proceeds_without c.transaction.phase) (λ next ok. ok)) tt);
-  single_phase_rejected = λ c e. keeps-run c _ (runs_law.single_phase_rejected c e) (inl refl, tt);
-  commit_answered = λ c e may. keeps-run c _ (runs_law.commit_answered c e) (true-commit_completes (known c) c.transaction.phase may);
-  rollback_answered = λ c e may. keeps-run c _ (runs_law.rollback_answered c e) (true-rollback_completes (known c) may);
-  recovered = λ c e is. keeps-run c _ (runs_law.recovered c e) (true-if (known c) (is_superior e) recovers_superior (recovers c.transaction.phase) (inl refl, tt) (true-tells_in (known c) c.transaction.phase is));
+  pre_prepare_answered = λ c e calls is. keeps-first c _ (runs_law.pre_prepare_answered c e calls) is (true-once c (Change Answered.PrePrepared ∷ []) proceeds true-proceeds (λ next ok. ok));
+  prepare_answered = λ c e calls is. keeps-first c _ (runs_law.prepare_answered c e calls) is (true-once c (Change Answered.Prepared ∷ Record Fact.Ready ∷ []) all_readies true-all_readies (λ next ok. ok));
+  read_only_answered = λ c e calls is. keeps-first c _ (runs_law.read_only_answered c e calls) is (true-if None (is_some e.owes) (once c (Change Answered.ReadOnly ∷ []) (proceeds_without c.transaction.phase)) (Change Answered.ReadOnly ∷ [])
+      (true-once c (Change Answered.ReadOnly ∷ []) (proceeds_without c.transaction.phase) (true-proceeds_without c.transaction.phase) (λ next ok. ok)) tt);
+  single_phase_rejected = λ c e calls. keeps-run c _ (runs_law.single_phase_rejected c e calls) (inl refl, tt);
+  commit_answered = λ c e calls may. keeps-run c _ (runs_law.commit_answered c e calls) (true-commit_completes (known c) c.transaction.phase may);
+  rollback_answered = λ c e calls may. keeps-run c _ (runs_law.rollback_answered c e calls) (true-rollback_completes (known c) may);
+  recovered = λ c e calls is. keeps-run c _ (runs_law.recovered c e calls) (true-if (known c) (is_superior e) recovers_superior (recovers c.transaction.phase) (inl refl, tt) (true-tells_in (known c) c.transaction.phase is));
 }

@@ -1,6 +1,6 @@
 -- The steps of each row do what the procedure of the model does.
 use Rattle.std.specs.Prelude.{if◌then◌else◌}
-use Rattle.std.proofs.Common.{◌≡◌, ℕ, zero, suc, ◌==◌, ◌&&◌, ◌||◌, not, Bool, true, false, List, [], ◌∷◌, ◌++◌, filter, map, Option, Some, None, is_some, refl, sym, ◌∙◌, ap, append_assoc, append-nil, inl, inr}
+use Rattle.std.proofs.Common.{◌≡◌, ℕ, zero, suc, ◌==◌, ◌&&◌, ◌||◌, not, Bool, true, false, List, [], ◌∷◌, ◌++◌, filter, map, Option, Some, None, is_some, refl, sym, ◌∙◌, ap, subst, append_assoc, append-nil, inl, inr}
 use Rattle.std.proofs.lemmas.Bool.{cases_Bool, true≢false}
 use Rattle.std.specs.List.{list_any}
 use Rattle.ktm_base.specs.declared.notify.Notify.{Notify}
@@ -10,36 +10,38 @@ use Rattle.ktm_types.specs.declared.event.Part.{Part}
 use Rattle.ktm_types.specs.declared.object.Phase.{Phase}
 use Rattle.ktm_types.specs.declared.object.Phase.TheVariants.{PrePreparing, Preparing, SinglePhase, InDoubt, Held, Committing, Aborting}
 use Rattle.ktm_types.specs.declared.object.TransactionOutcome.TheVariants.{Committed}
+use Rattle.ktm_types.specs.declared.input.Seen.{Seen}
+use Rattle.ktm_types.specs.declared.step.Answered.{Answered}
+use Rattle.ktm_types.specs.declared.step.Fact.{Fact}
+use Rattle.ktm_types.specs.declared.step.Owed.{Owed}
+use Rattle.ktm_types.specs.declared.step.Step.{Step}
+use Rattle.ktm_types.specs.declared.step.Step.TheVariants.{Record, Change}
+use Rattle.ktm_types.specs.declared.step.Who.{Who}
 use Rattle.ktm_world.specs.Changes.{has_changes}
-use Rattle.ktm_world.specs.Enlistments.{Enlistment, allows_one_phase, asks_pre_prepare, commit, has_id, is_durable_at, is_superior, prepare, takes_part, tell, with_enlistments}
+use Rattle.ktm_world.specs.Enlistments.{Enlistment, allows_one_phase, asks_pre_prepare, has_id, is_durable_at, is_superior, takes_part, tell, with_enlistments}
 use Rattle.ktm_world.specs.Phases.{Course, aborting, all_ready, changing_one, commit_answered, committing, decided, ended, ended_if_finished, enlistment_part, event_if, finished, has_settings, held_or_committing, in_phase, is_its_superior, is_single_phase, one_participant, owing, pre_prepare_answered, pre_prepared, prepare_alone, prepare_answered, preparing, read_only_answered, readied, ready_of_enlistment, recorded, recording, recovered, recovered_in, recovering, rollback_answered, single_phase_rejected, some_enlistment, someone_owes, superior, telling, to_commit, to_pre_prepare, to_prepare, unchanged, when_none_owes, without_its_answer, work_of}
-use Rattle.ktm_phase.specs.declared.phase.Seen.{Seen}
-use Rattle.ktm_phase.specs.declared.step.Answered.{Answered}
-use Rattle.ktm_phase.specs.declared.step.Fact.{Fact}
-use Rattle.ktm_phase.specs.declared.step.Step.{Step}
-use Rattle.ktm_phase.specs.declared.step.Step.TheVariants.{Record, Change}
-use Rattle.ktm_phase.specs.declared.step.Who.{Who}
+use Rattle.ktm_world.specs.Rows.{aborts, all_readies, commit_completes, commits, commits_one, proceeds, proceeds_without, holds_or_commits, is_last, participants, pre_prepare_completes, pre_prepares, prepare_completes, prepares, prepares_all, prepares_alone, read_onlies, recovers, recovers_superior, rejects_one_phase, requests, rollback_completes, tells_in, without}
+use Rattle.ktm_world.specs.Steps.{answered, counted, held_event, lasting_of, run, seen, share_of}
 use Rattle.ktm_phase.specs.Laws.{IsPart, RowsLaw}
-use Rattle.ktm_phase.specs.Rows.{aborts, all_readies, commit_completes, commits, commits_one, proceeds, proceeds_without, holds_or_commits, is_last, participants, pre_prepare_completes, pre_prepares, prepare_completes, prepares, prepares_all, prepares_alone, read_onlies, recovers, recovers_superior, rejects_one_phase, requests, rollback_completes, tells_in, without}
-use Rattle.ktm_phase.specs.Run.{answered, counted, held_event, lasting_of, run, seen, share_of}
 use Rattle.ktm_phase.specs.Procedures.{AreProcedures, IsRun}
 use Rattle.ktm_phase.proofs.Counts.{any-counted, owed-less, participants-counted, seen-left, seen-settled}
+use Rattle.ktm_phase.proofs.Superiors.{tells-superior}
 use Rattle.ktm_phase.proofs.Lasting.{has_superior-kept, lasting-answered, superior-with}
 
 -- ---- lists of which one is chosen
 
-run-cases : (by : Option Enlistment) (b : Bool) (xs ys : List Step) (c d e : Course) → (b ≡ true → run by xs c ≡ d) → (b ≡ false → run by ys c ≡ e) → run by (if b then xs else ys) c ≡ (if b then d else e)
-run-cases by true xs ys c d e first second = first refl
-run-cases by false xs ys c d e first second = second refl
+run-cases : (b : Bool) (xs ys : List Step) (c d e : Course) → (b ≡ true → run xs c ≡ d) → (b ≡ false → run ys c ≡ e) → run (if b then xs else ys) c ≡ (if b then d else e)
+run-cases true xs ys c d e first second = first refl
+run-cases false xs ys c d e first second = second refl
 
-run-if : (by : Option Enlistment) (b : Bool) (xs ys : List Step) (c d e : Course) → run by xs c ≡ d → run by ys c ≡ e → run by (if b then xs else ys) c ≡ (if b then d else e)
-run-if by b xs ys c d e first second = run-cases by b xs ys c d e (λ is. first) (λ is. second)
+run-if : (b : Bool) (xs ys : List Step) (c d e : Course) → run xs c ≡ d → run ys c ≡ e → run (if b then xs else ys) c ≡ (if b then d else e)
+run-if b xs ys c d e first second = run-cases b xs ys c d e (λ is. first) (λ is. second)
 
 -- the same, by a count and by whether there is any
-run-any : (by : Option Enlistment) (n : ℕ) (some : Bool) (xs ys : List Step) (c d e : Course) → some ≡ not (n == 0) → (some ≡ false → run by xs c ≡ e) → run by ys c ≡ d → run by (if n == 0 then xs else ys) c ≡ (if some then d else e)
-run-any by n some xs ys c d e is first second = flip (n == 0) is
+run-any : (n : ℕ) (some : Bool) (xs ys : List Step) (c d e : Course) → some ≡ not (n == 0) → (some ≡ false → run xs c ≡ e) → run ys c ≡ d → run (if n == 0 then xs else ys) c ≡ (if some then d else e)
+run-any n some xs ys c d e is first second = flip (n == 0) is
   where
-    flip : (b : Bool) → some ≡ not b → run by (if b then xs else ys) c ≡ (if some then d else e)
+    flip : (b : Bool) → some ≡ not b → run (if b then xs else ys) c ≡ (if some then d else e)
     flip true not = first not ∙ sym (ap (λ b. if b then d else e) not)
     flip false not = second ∙ sym (ap (λ b. if b then d else e) not)
 
@@ -52,113 +54,123 @@ with-none test f (e ∷ es) none = elim (cases_Bool (test e)) [
   | inr other ↦ let rest = with-none test f es (let none' = rw other at none in none') in rw other (ap (λ fs. e ∷ fs) rest.0, rest.1)
 ]
 
-module _ (by : Option Enlistment) where
-  -- ---- the end
+-- ---- the end
 
-  pub commits-run : (c : Course) → run by commits c ≡ committing c
-  unfolding committing
-  commits-run c =
-      let id = c.transaction.id in
-      let a = event_if c.transaction.is_recorded (Event.Decide id) in
-      let b = event_if (has_changes c.changes) (Event.Done id DonePart.Files) in
-      let d = event_if (has_settings c.settings) (Event.Done id DonePart.Keys) in
-      ap (λ es. ended_if_finished (in_phase (decided (telling (record c { events = es; works = c.works ++ work_of c }) (λ e. takes_part id e && e.is_prepared && e.is_recovered) Notify.Commit (owing commit)) Committed) Committing) Committed)
-      (ap (λ es. es ++ d) (append_assoc c.events a b) ∙ append_assoc c.events (a ++ b) d)
+pub commits-run : (c : Course) → run commits c ≡ committing c
+unfolding committing
+commits-run c =
+    let id = c.transaction.id in
+    let a = event_if c.transaction.is_recorded (Event.Decide id) in
+    let b = event_if (has_changes c.changes) (Event.Done id DonePart.Files) in
+    let d = event_if (has_settings c.settings) (Event.Done id DonePart.Keys) in
+    ap (λ es. ended_if_finished (in_phase (decided (telling (record c { events = es; works = c.works ++ work_of c }) (λ e. takes_part id e && e.is_prepared && e.is_recovered) Notify.Commit (owing Owed.Commit)) Committed) Committing) Committed)
+    (ap (λ es. es ++ d) (append_assoc c.events a b) ∙ append_assoc c.events (a ++ b) d)
 
-  pub aborts-run : (c : Course) → run by aborts c ≡ aborting c
-  unfolding aborting
-  aborts-run c = refl
+pub aborts-run : (c : Course) → run aborts c ≡ aborting c
+unfolding aborting
+aborts-run c = refl
 
-  -- ---- all are prepared
+-- ---- all are prepared
 
-  holds-at : (c : Course) (o : Option Enlistment) → superior c ≡ o
-      → run by (if is_some o then Record Fact.Held ∷ Step.Tell Who.Superior Notify.PrepareComplete ∷ Step.Enter Held ∷ [] else (if participants (seen c) == 0 then Step.End Committed ∷ [] else commits)) c ≡ held_or_committing c o
-  holds-at c (Some e) is = ap (λ o. in_phase (telling (record (recording c (held_event c.transaction.id (lasting_of o))) { transaction = record c.transaction { is_recorded = is_some (lasting_of o) || c.transaction.is_recorded } }) (is_its_superior c) Notify.PrepareComplete unchanged) Held) is
-  holds-at c None is = run-if by (participants (seen c) == 0) (Step.End Committed ∷ []) commits c (ended c Committed) (committing c) refl (commits-run c) ∙ ap (λ n. if n == 0 then ended c Committed else committing c) (participants-counted c)
+holds-at : (c : Course) (o : Option Enlistment) → superior c ≡ o
+    → run (if is_some o then Record Fact.Held ∷ Step.Tell Who.Superior Notify.PrepareComplete ∷ Step.Enter Held ∷ [] else (if participants (seen c) == 0 then Step.End Committed ∷ [] else commits)) c ≡ held_or_committing c o
+holds-at c (Some e) is = ap (λ o. in_phase (telling (record (recording c (held_event c.transaction.id (lasting_of o))) { transaction = record c.transaction { is_recorded = is_some (lasting_of o) || c.transaction.is_recorded } }) (is_its_superior c) Notify.PrepareComplete unchanged) Held) is
+holds-at c None is = run-if (participants (seen c) == 0) (Step.End Committed ∷ []) commits c (ended c Committed) (committing c) refl (commits-run c) ∙ ap (λ n. if n == 0 then ended c Committed else committing c) (participants-counted c)
 
-  pub all_readies-run : (c : Course) → run by (all_readies (seen c)) c ≡ all_ready c
-  unfolding all_ready
-  all_readies-run c =
-      let a = event_if (has_changes c.changes) (Event.Ready c.transaction.id (Part.Changes c.changes)) in
-      let b = event_if (has_settings c.settings) (Event.Ready c.transaction.id (Part.Settings c.settings)) in
-      ap (λ es. run by (holds_or_commits (seen c)) (record (readied c) { events = es })) (append_assoc c.events a b) ∙ holds-at (readied c) (superior c) refl
+pub all_readies-run : (c : Course) → run (all_readies (seen c)) c ≡ all_ready c
+unfolding all_ready
+all_readies-run c =
+    let a = event_if (has_changes c.changes) (Event.Ready c.transaction.id (Part.Changes c.changes)) in
+    let b = event_if (has_settings c.settings) (Event.Ready c.transaction.id (Part.Settings c.settings)) in
+    ap (λ es. run (holds_or_commits (seen c)) (record (readied c) { events = es })) (append_assoc c.events a b) ∙ holds-at (readied c) (superior c) refl
 
-  -- ---- preparing
+-- ---- preparing
 
-  all_ready-in : (c : Course) (phase : Phase) → all_ready (in_phase c phase) ≡ all_ready c
-  unfolding all_ready committing ended
-  all_ready-in c phase = held-in (superior c)
-    where
-      held-in : (o : Option Enlistment) → held_or_committing (readied (in_phase c phase)) o ≡ held_or_committing (readied c) o
-      held-in (Some e) = refl
-      held-in None = refl
+all_ready-in : (c : Course) (phase : Phase) → all_ready (in_phase c phase) ≡ all_ready c
+unfolding all_ready committing ended
+all_ready-in c phase = held-in (superior c)
+  where
+    held-in : (o : Option Enlistment) → held_or_committing (readied (in_phase c phase)) o ≡ held_or_committing (readied c) o
+    held-in (Some e) = refl
+    held-in None = refl
 
-  pub prepares_all-run : (c : Course) → run by (prepares_all (seen c)) c ≡ preparing c
-  prepares_all-run c = run-any by (counted c (λ e. true)) (some_enlistment c (λ e. true)) _ _ c _ _ (any-counted _ c.enlistments) (λ none. all_readies-run c ∙ sym (ap all_ready (asks-nobody none) ∙ all_ready-in c Preparing)) refl
-    where
-      asks-nobody : some_enlistment c (λ e. true) ≡ false → in_phase (telling c (takes_part c.transaction.id) Notify.Prepare (owing prepare)) Preparing ≡ in_phase c Preparing
-      asks-nobody none =
-          let nobody = with-none (takes_part c.transaction.id) (owing prepare) c.enlistments none in
-          ap (λ es. in_phase (record c { sent = c.sent ++ map (tell Notify.Prepare) (filter (takes_part c.transaction.id) c.enlistments); enlistments = es }) Preparing) nobody.0
-          ∙ ap (λ es. in_phase (record c { sent = c.sent ++ map (tell Notify.Prepare) es }) Preparing) nobody.1
-          ∙ ap (λ xs. in_phase (record c { sent = xs }) Preparing) (append-nil c.sent)
+pub prepares_all-run : (c : Course) → run (prepares_all (seen c)) c ≡ preparing c
+prepares_all-run c = run-any (counted c (λ e. true)) (some_enlistment c (λ e. true)) _ _ c _ _ (any-counted _ c.enlistments) (λ none. all_readies-run c ∙ sym (ap all_ready (asks-nobody none) ∙ all_ready-in c Preparing)) refl
+  where
+    asks-nobody : some_enlistment c (λ e. true) ≡ false → in_phase (telling c (takes_part c.transaction.id) Notify.Prepare (owing Owed.Prepare)) Preparing ≡ in_phase c Preparing
+    asks-nobody none =
+        let nobody = with-none (takes_part c.transaction.id) (owing Owed.Prepare) c.enlistments none in
+        ap (λ es. in_phase (record c { sent = c.sent ++ map (tell Notify.Prepare) (filter (takes_part c.transaction.id) c.enlistments); enlistments = es }) Preparing) nobody.0
+        ∙ ap (λ es. in_phase (record c { sent = c.sent ++ map (tell Notify.Prepare) es }) Preparing) nobody.1
+        ∙ ap (λ xs. in_phase (record c { sent = xs }) Preparing) (append-nil c.sent)
 
-  commits_one-run : (c : Course) → run by (commits_one (seen c)) c ≡ one_participant c
-  commits_one-run c = run-if by (has_changes c.changes) _ _ c _ _ refl (run-if by (has_settings c.settings) _ _ c _ _ refl (run-any by (counted c allows_one_phase) (some_enlistment c allows_one_phase) _ _ c _ _ (any-counted _ c.enlistments) (λ none. prepares_all-run c) refl))
+commits_one-run : (c : Course) → run (commits_one (seen c)) c ≡ one_participant c
+commits_one-run c = run-if (has_changes c.changes) _ _ c _ _ refl (run-if (has_settings c.settings) _ _ c _ _ refl (run-any (counted c allows_one_phase) (some_enlistment c allows_one_phase) _ _ c _ _ (any-counted _ c.enlistments) (λ none. prepares_all-run c) refl))
 
-  prepares_alone-run : (c : Course) (n : ℕ) → run by (prepares_alone (seen c) n) c ≡ prepare_alone c n
-  prepares_alone-run c zero = refl
-  prepares_alone-run c (suc zero) = commits_one-run c
-  prepares_alone-run c (suc (suc more)) = prepares_all-run c
+prepares_alone-run : (c : Course) (n : ℕ) → run (prepares_alone (seen c) n) c ≡ prepare_alone c n
+prepares_alone-run c zero = refl
+prepares_alone-run c (suc zero) = commits_one-run c
+prepares_alone-run c (suc (suc more)) = prepares_all-run c
 
-  pub prepares-run : (c : Course) → run by (prepares (seen c)) c ≡ to_prepare c
-  unfolding to_prepare
-  prepares-run c = run-if by (is_some (superior c)) _ _ c _ _ (prepares_all-run c) (prepares_alone-run c (participants (seen c)) ∙ ap (prepare_alone c) (participants-counted c))
+pub prepares-run : (c : Course) → run (prepares (seen c)) c ≡ to_prepare c
+unfolding to_prepare
+prepares-run c = run-if (is_some (superior c)) _ _ c _ _ (prepares_all-run c) (prepares_alone-run c (participants (seen c)) ∙ ap (prepare_alone c) (participants-counted c))
 
-  -- ---- pre-preparing
+-- ---- pre-preparing
 
-  pub proceeds-run : (c : Course) → run by (proceeds (seen c)) c ≡ pre_prepared c
-  unfolding pre_prepared
-  proceeds-run c = run-if by (is_some (superior c)) _ _ c _ _ refl (prepares-run c)
+pub proceeds-run : (c : Course) → run (proceeds (seen c)) c ≡ pre_prepared c
+unfolding pre_prepared
+proceeds-run c = run-if (is_some (superior c)) _ _ c _ _ refl (prepares-run c)
 
-  pub pre_prepares-run : (c : Course) → run by (pre_prepares (seen c)) c ≡ to_pre_prepare c
-  unfolding to_pre_prepare
-  pre_prepares-run c = run-any by (counted c asks_pre_prepare) (some_enlistment c asks_pre_prepare) _ _ c _ _ (any-counted _ c.enlistments) (λ none. proceeds-run c) refl
+pub pre_prepares-run : (c : Course) → run (pre_prepares (seen c)) c ≡ to_pre_prepare c
+unfolding to_pre_prepare
+pre_prepares-run c = run-any (counted c asks_pre_prepare) (some_enlistment c asks_pre_prepare) _ _ c _ _ (any-counted _ c.enlistments) (λ none. proceeds-run c) refl
 
-  pub requests-run : (c : Course) → run by (requests (seen c)) c ≡ to_commit c
-  unfolding to_commit
-  requests-run c = run-if by (is_some (superior c)) _ _ c _ _ refl (pre_prepares-run c)
+pub requests-run : (c : Course) → run (requests (seen c)) c ≡ to_commit c
+unfolding to_commit
+requests-run c = run-if (is_some (superior c)) _ _ c _ _ refl (pre_prepares-run c)
 
 -- ---- answers
 
+-- the course where this enlistment makes the call
+abbrev by : Course → Enlistment → Course
+by c e = record c { caller = Some e }
+
+-- what holds where it makes the call
+of-caller : (P : Course → Type 0) (c : Course) (e : Enlistment) → c.caller ≡ Some e → P (by c e) → P c
+of-caller P c e calls holds = subst (λ o. P (record c { caller = o })) (sym calls) holds
+
 -- where this was the last one that owed an answer it goes on
-on-where_last : (by : Option Enlistment) (last : Bool) (steps : List Step) (c : Course) (next : Course → Course) → someone_owes c ≡ not last → run by steps c ≡ next c → run by (if last then steps else []) c ≡ when_none_owes c next
-on-where_last by true steps c next owes goes = goes ∙ sym (ap (λ b. if b then c else next c) owes)
-on-where_last by false steps c next owes goes = sym (ap (λ b. if b then c else next c) owes)
+on-where_last : (last : Bool) (steps : List Step) (c : Course) (next : Course → Course) → someone_owes c ≡ not last → run steps c ≡ next c → run (if last then steps else []) c ≡ when_none_owes c next
+on-where_last true steps c next owes goes = goes ∙ sym (ap (λ b. if b then c else next c) owes)
+on-where_last false steps c next owes goes = sym (ap (λ b. if b then c else next c) owes)
 
-proceeds_without-run : (by : Option Enlistment) (phase : Phase) (c : Course) → run by (proceeds_without phase (seen c)) c ≡ without_its_answer phase c
-proceeds_without-run by PrePreparing c = proceeds-run by c
-proceeds_without-run by Preparing c = all_readies-run by c
-proceeds_without-run by SinglePhase c = refl
-proceeds_without-run by _ c = refl
+proceeds_without-run : (phase : Phase) (c : Course) → run (proceeds_without phase (seen c)) c ≡ without_its_answer phase c
+proceeds_without-run PrePreparing c = proceeds-run c
+proceeds_without-run Preparing c = all_readies-run c
+proceeds_without-run SinglePhase c = refl
+proceeds_without-run _ c = refl
 
-ready-run : (c : Course) (e : Enlistment) → run (Some e) (Record Fact.Ready ∷ []) c ≡ ready_of_enlistment c e
+ready-run : (c : Course) (e : Enlistment) → run (Record Fact.Ready ∷ []) (by c e) ≡ ready_of_enlistment (by c e) e
 ready-run c e = at (is_durable_at c.managers e.manager)
   where
-    at : (durable : Bool) → record (recording c (event_if durable (Event.Ready c.transaction.id (enlistment_part e)))) { transaction = record c.transaction { is_recorded = durable || c.transaction.is_recorded } }
-        ≡ (if durable then recorded (recording c (Event.Ready c.transaction.id (enlistment_part e) ∷ [])) else c)
+    at : (durable : Bool) → record (recording (by c e) (event_if durable (Event.Ready c.transaction.id (enlistment_part e)))) { transaction = record c.transaction { is_recorded = durable || c.transaction.is_recorded } }
+        ≡ (if durable then recorded (recording (by c e) (Event.Ready c.transaction.id (enlistment_part e) ∷ [])) else by c e)
     at true = refl
-    at false = ap (λ es. record c { events = es }) (append-nil c.events)
+    at false = ap (λ es. record (by c e) { events = es }) (append-nil c.events)
 
 -- it goes on where nobody owes an answer then
-on-where_none_owes : (by : Option Enlistment) (steps : List Step) (c : Course) (next : Course → Course) → run by steps c ≡ next c → run by (if not (someone_owes c) then steps else []) c ≡ when_none_owes c next
-on-where_none_owes by steps c next goes = on-where_last by (not (someone_owes c)) steps c next (sym (not_not (someone_owes c))) goes
+on-where_none_owes : (steps : List Step) (c : Course) (next : Course → Course) → run steps c ≡ next c → run (if not (someone_owes c) then steps else []) c ≡ when_none_owes c next
+on-where_none_owes steps c next goes = on-where_last (not (someone_owes c)) steps c next (sym (not_not (someone_owes c))) goes
   where
     not_not : (b : Bool) → not (not b) ≡ b
     not_not true = refl
     not_not false = refl
 
-module _ (c : Course) (e : Enlistment) (is : IsPart c e) where
+module _ (before : Course) (e : Enlistment) (is : IsPart (by before e) e) where
+  abbrev c : Course
+  c = by before e
+
   -- once it has answered so
   next : Answered → Course
   next answer = changing_one c e.id (answered answer)
@@ -175,23 +187,23 @@ module _ (c : Course) (e : Enlistment) (is : IsPart c e) where
   unfolding next
   seen-without = seen-left c e is (answered Answered.ReadOnly) refl ∙ (λ i. record (without (share_of e) (seen c)) { has_superior = superior-next Answered.ReadOnly i })
 
-  pub pre_prepare_completes-run : is_some e.owes ≡ true → run (Some e) (pre_prepare_completes (seen c)) c ≡ pre_prepare_answered c e
+  pub pre_prepare_completes-run : is_some e.owes ≡ true → run (pre_prepare_completes (seen c)) c ≡ pre_prepare_answered c e
   unfolding pre_prepare_answered next
   pre_prepare_completes-run owed =
       let d = changing_one c e.id (answered Answered.PrePrepared) in
-      on-where_last (Some e) (is_last (seen c)) (proceeds (seen c)) d pre_prepared (owed-less c e is (answered Answered.PrePrepared) owed refl)
-      (ap (λ s. run (Some e) (proceeds s) d) (sym (seen-next Answered.PrePrepared refl)) ∙ proceeds-run (Some e) d)
+      on-where_last (is_last (seen c)) (proceeds (seen c)) d pre_prepared (owed-less c e is (answered Answered.PrePrepared) owed refl)
+      (ap (λ s. run (proceeds s) d) (sym (seen-next Answered.PrePrepared refl)) ∙ proceeds-run d)
 
-  pub prepare_completes-run : is_some e.owes ≡ true → run (Some e) (prepare_completes (seen c)) c ≡ prepare_answered c e
+  pub prepare_completes-run : is_some e.owes ≡ true → run (prepare_completes (seen c)) c ≡ prepare_answered c e
   unfolding prepare_answered next
   prepare_completes-run owed =
       let changed = changing_one c e.id (answered Answered.Prepared) in
-      let d = run (Some e) (Record Fact.Ready ∷ []) changed in
-      on-where_last (Some e) (is_last (seen c)) (all_readies (seen c)) d all_ready (owed-less c e is (answered Answered.Prepared) owed refl)
-      (ap (λ s. run (Some e) (all_readies s) d) (sym (seen-next Answered.Prepared refl)) ∙ all_readies-run (Some e) d)
+      let d = run (Record Fact.Ready ∷ []) changed in
+      on-where_last (is_last (seen c)) (all_readies (seen c)) d all_ready (owed-less c e is (answered Answered.Prepared) owed refl)
+      (ap (λ s. run (all_readies s) d) (sym (seen-next Answered.Prepared refl)) ∙ all_readies-run d)
       ∙ ap (λ d. when_none_owes d all_ready) (ready-run changed e)
 
-  pub read_onlies-run : run (Some e) (read_onlies (seen c) (share_of e)) c ≡ read_only_answered c e
+  pub read_onlies-run : run (read_onlies (seen c) (share_of e)) c ≡ read_only_answered c e
   unfolding read_only_answered next
   read_onlies-run = where_owed (is_some e.owes) refl
     where
@@ -201,35 +213,35 @@ module _ (c : Course) (e : Enlistment) (is : IsPart c e) where
       steps : List Step
       steps = proceeds_without c.transaction.phase (without (share_of e) (seen c))
 
-      where_owed : (o : Bool) → is_some e.owes ≡ o → run (Some e) (if o && is_last (seen c) then steps else []) left ≡ (if o then when_none_owes left (without_its_answer c.transaction.phase) else left)
+      where_owed : (o : Bool) → is_some e.owes ≡ o → run (if o && is_last (seen c) then steps else []) left ≡ (if o then when_none_owes left (without_its_answer c.transaction.phase) else left)
       where_owed true owed =
-          on-where_last (Some e) (is_last (seen c)) steps left (without_its_answer c.transaction.phase) (owed-less c e is (answered Answered.ReadOnly) owed refl)
-          (ap (λ s. run (Some e) (proceeds_without c.transaction.phase s) left) (sym seen-without) ∙ proceeds_without-run (Some e) c.transaction.phase left)
+          on-where_last (is_last (seen c)) steps left (without_its_answer c.transaction.phase) (owed-less c e is (answered Answered.ReadOnly) owed refl)
+          (ap (λ s. run (proceeds_without c.transaction.phase s) left) (sym seen-without) ∙ proceeds_without-run c.transaction.phase left)
       where_owed false owed = refl
 
-pub rejects_one_phase-run : (c : Course) (e : Enlistment) → run (Some e) rejects_one_phase c ≡ single_phase_rejected c e
+pub rejects_one_phase-run : (c : Course) (e : Enlistment) → run rejects_one_phase (by c e) ≡ single_phase_rejected (by c e) e
 unfolding single_phase_rejected
 rejects_one_phase-run c e = refl
 
-pub commit_completes-run : (c : Course) (e : Enlistment) → run (Some e) (commit_completes c.transaction.phase) c ≡ commit_answered c e
+pub commit_completes-run : (c : Course) (e : Enlistment) → run (commit_completes c.transaction.phase) (by c e) ≡ commit_answered (by c e) e
 unfolding commit_answered
-commit_completes-run c e = run-if (Some e) (is_single_phase c.transaction.phase) _ _ (finished c e) _ _ refl refl
+commit_completes-run c e = run-if (is_single_phase c.transaction.phase) _ _ (finished (by c e) e) _ _ refl refl
 
-pub rollback_completes-run : (c : Course) (e : Enlistment) → run (Some e) rollback_completes c ≡ rollback_answered c e
+pub rollback_completes-run : (c : Course) (e : Enlistment) → run rollback_completes (by c e) ≡ rollback_answered (by c e) e
 unfolding rollback_answered
 rollback_completes-run c e = refl
 
-tells_in-run : (phase : Phase) (c : Course) (e : Enlistment) → run (Some e) (tells_in phase) c ≡ recovered_in phase c e
+tells_in-run : (phase : Phase) (c : Course) (e : Enlistment) → run (tells_in phase) (by c e) ≡ recovered_in phase (by c e) e
 tells_in-run InDoubt c e = refl
 tells_in-run Committing c e = refl
 tells_in-run Aborting c e = refl
 tells_in-run _ c e = refl
 
-pub recovers-run : (c : Course) (e : Enlistment) → is_superior e ≡ false → run (Some e) (recovers c.transaction.phase) c ≡ recovered c e
+pub recovers-run : (c : Course) (e : Enlistment) → is_superior e ≡ false → run (recovers c.transaction.phase) (by c e) ≡ recovered (by c e) e
 unfolding recovered
 recovers-run c e other = rw other (tells_in-run c.transaction.phase (recovering c e) e)
 
-pub recovers_superior-run : (c : Course) (e : Enlistment) → is_superior e ≡ true → run (Some e) recovers_superior c ≡ recovered c e
+pub recovers_superior-run : (c : Course) (e : Enlistment) → is_superior e ≡ true → run recovers_superior (by c e) ≡ recovered (by c e) e
 unfolding recovered
 recovers_superior-run c e is = rw is refl
 
@@ -244,66 +256,80 @@ rows_law = record {
   proceeds = proceeds-run;
   pre_prepares = pre_prepares-run;
   requests = requests-run;
-  pre_prepare_completes = pre_prepare_completes-run;
-  prepare_completes = prepare_completes-run;
-  read_onlies = read_onlies-run;
-  rejects_one_phase = rejects_one_phase-run;
-  commit_completes = commit_completes-run;
-  rollback_completes = rollback_completes-run;
-  recovers = recovers-run;
-  recovers_superior = recovers_superior-run;
+  pre_prepare_completes = λ c e calls. of-caller (λ c. IsPart c e → is_some e.owes ≡ true → run (pre_prepare_completes (seen c)) c ≡ pre_prepare_answered c e) c e calls (pre_prepare_completes-run c e);
+  prepare_completes = λ c e calls. of-caller (λ c. IsPart c e → is_some e.owes ≡ true → run (prepare_completes (seen c)) c ≡ prepare_answered c e) c e calls (prepare_completes-run c e);
+  read_onlies = λ c e calls. of-caller (λ c. IsPart c e → run (read_onlies (seen c) (share_of e)) c ≡ read_only_answered c e) c e calls (read_onlies-run c e);
+  rejects_one_phase = λ c e calls. of-caller (λ c. run rejects_one_phase c ≡ single_phase_rejected c e) c e calls (rejects_one_phase-run c e);
+  commit_completes = λ c e calls. of-caller (λ c. run (commit_completes c.transaction.phase) c ≡ commit_answered c e) c e calls (commit_completes-run c e);
+  rollback_completes = λ c e calls. of-caller (λ c. run rollback_completes c ≡ rollback_answered c e) c e calls (rollback_completes-run c e);
+  recovers = λ c e calls. of-caller (λ c. is_superior e ≡ false → run (recovers c.transaction.phase) c ≡ recovered c e) c e calls (recovers-run c e);
+  recovers_superior = λ c e calls. of-caller (λ c. is_superior e ≡ true → run recovers_superior c ≡ recovered c e) c e calls (recovers_superior-run c e);
+  tells_superior = tells-superior;
 }
 
 -- the steps of an answer, by who owes once it counts
-abbrev pub once : Course → Enlistment → List Step → (Seen → List Step) → List Step
-once c e first steps = let d = run (Some e) first c in first ++ (if not (someone_owes d) then steps (seen d) else [])
+abbrev pub once : Course → List Step → (Seen → List Step) → List Step
+once c first steps = let d = run first c in first ++ (if not (someone_owes d) then steps (seen d) else [])
 
-pub pre_prepare_answered-run : (c : Course) (e : Enlistment) → run (Some e) (once c e (Change Answered.PrePrepared ∷ []) proceeds) c ≡ pre_prepare_answered c e
+pub pre_prepare_answered-run : (c : Course) (e : Enlistment) → run (once (by c e) (Change Answered.PrePrepared ∷ []) proceeds) (by c e) ≡ pre_prepare_answered (by c e) e
 unfolding pre_prepare_answered
-pre_prepare_answered-run c e = let d = changing_one c e.id (answered Answered.PrePrepared) in on-where_none_owes (Some e) (proceeds (seen d)) d pre_prepared (proceeds-run (Some e) d)
+pre_prepare_answered-run c e = let d = changing_one (by c e) e.id (answered Answered.PrePrepared) in on-where_none_owes (proceeds (seen d)) d pre_prepared (proceeds-run d)
 
-pub prepare_answered-run : (c : Course) (e : Enlistment) → run (Some e) (once c e (Change Answered.Prepared ∷ Record Fact.Ready ∷ []) all_readies) c ≡ prepare_answered c e
+pub prepare_answered-run : (c : Course) (e : Enlistment) → run (once (by c e) (Change Answered.Prepared ∷ Record Fact.Ready ∷ []) all_readies) (by c e) ≡ prepare_answered (by c e) e
 unfolding prepare_answered
 prepare_answered-run c e =
-    let changed = changing_one c e.id (answered Answered.Prepared) in
-    let d = run (Some e) (Record Fact.Ready ∷ []) changed in
-    on-where_none_owes (Some e) (all_readies (seen d)) d all_ready (all_readies-run (Some e) d) ∙ ap (λ d. when_none_owes d all_ready) (ready-run changed e)
+    let changed = changing_one (by c e) e.id (answered Answered.Prepared) in
+    let d = run (Record Fact.Ready ∷ []) changed in
+    on-where_none_owes (all_readies (seen d)) d all_ready (all_readies-run d) ∙ ap (λ d. when_none_owes d all_ready) (ready-run changed e)
 
 -- the steps of an enlistment that takes part no more
 abbrev pub leaving : Course → Enlistment → List Step
-leaving c e = let left = Change Answered.ReadOnly ∷ [] in if is_some e.owes then once c e left (proceeds_without c.transaction.phase) else left
+leaving c e = let left = Change Answered.ReadOnly ∷ [] in if is_some e.owes then once c left (proceeds_without c.transaction.phase) else left
 
-pub read_only_answered-run : (c : Course) (e : Enlistment) → run (Some e) (leaving c e) c ≡ read_only_answered c e
+pub read_only_answered-run : (c : Course) (e : Enlistment) → run (leaving (by c e) e) (by c e) ≡ read_only_answered (by c e) e
 unfolding read_only_answered
 read_only_answered-run c e =
-    let d = changing_one c e.id (answered Answered.ReadOnly) in
-    run-if (Some e) (is_some e.owes) _ _ c _ d
-    (on-where_none_owes (Some e) (proceeds_without c.transaction.phase (seen d)) d (without_its_answer c.transaction.phase) (proceeds_without-run (Some e) c.transaction.phase d)) refl
+    let d = changing_one (by c e) e.id (answered Answered.ReadOnly) in
+    run-if (is_some e.owes) _ _ (by c e) _ d
+    (on-where_none_owes (proceeds_without c.transaction.phase (seen d)) d (without_its_answer c.transaction.phase) (proceeds_without-run c.transaction.phase d)) refl
 
 -- the steps of an enlistment that recovers
 abbrev pub recovering_in : Phase → Bool → List Step
 recovering_in phase is_superior = if is_superior then recovers_superior else recovers phase
 
-pub recovered-run : (c : Course) (e : Enlistment) → run (Some e) (recovering_in c.transaction.phase (is_superior e)) c ≡ recovered c e
+pub recovered-run : (c : Course) (e : Enlistment) → run (recovering_in c.transaction.phase (is_superior e)) (by c e) ≡ recovered (by c e) e
 unfolding recovered
-recovered-run c e = run-if (Some e) (is_superior e) recovers_superior (recovers c.transaction.phase) c _ _ refl (tells_in-run c.transaction.phase (recovering c e) e)
+recovered-run c e = run-if (is_superior e) recovers_superior (recovers c.transaction.phase) (by c e) _ _ refl (tells_in-run c.transaction.phase (recovering c e) e)
+
+-- an answer is a run of these steps where the enlistment makes the call
+pub answer-run : (steps : Course → List Step) (answer : Course → Enlistment → Course) (c : Course) (e : Enlistment) → c.caller ≡ Some e → run (steps (by c e)) (by c e) ≡ answer (by c e) e → run (steps c) c ≡ answer c e
+answer-run steps answer c e calls is = of-caller (λ c. run (steps c) c ≡ answer c e) c e calls is
 
 unfoldable pub runs_law : AreProcedures IsRun
 runs_law = record {
-  committing = λ c. record { by = None; steps = commits; is = commits-run None c };
-  aborting = λ c. record { by = None; steps = aborts; is = aborts-run None c };
-  all_ready = λ c. record { by = None; steps = all_readies (seen c); is = all_readies-run None c };
-  to_prepare = λ c. record { by = None; steps = prepares (seen c); is = prepares-run None c };
-  pre_prepared = λ c. record { by = None; steps = proceeds (seen c); is = proceeds-run None c };
-  to_pre_prepare = λ c. record { by = None; steps = pre_prepares (seen c); is = pre_prepares-run None c };
-  to_commit = λ c. record { by = None; steps = requests (seen c); is = requests-run None c };
-  pre_prepare_answered = λ c e. record { by = Some e; steps = once c e (Change Answered.PrePrepared ∷ []) proceeds; is = pre_prepare_answered-run c e };
-  prepare_answered = λ c e. record { by = Some e; steps = once c e (Change Answered.Prepared ∷ Record Fact.Ready ∷ []) all_readies; is = prepare_answered-run c e };
-  read_only_answered = λ c e. record { by = Some e; steps = leaving c e; is = read_only_answered-run c e };
-  single_phase_rejected = λ c e. record { by = Some e; steps = rejects_one_phase; is = rejects_one_phase-run c e };
-  commit_answered = λ c e. record { by = Some e; steps = commit_completes c.transaction.phase; is = commit_completes-run c e };
-  rollback_answered = λ c e. record { by = Some e; steps = rollback_completes; is = rollback_completes-run c e };
-  recovered = λ c e. record { by = Some e; steps = recovering_in c.transaction.phase (is_superior e); is = recovered-run c e };
+  committing = λ c. record { steps = commits; is = commits-run c };
+  aborting = λ c. record { steps = aborts; is = aborts-run c };
+  all_ready = λ c. record { steps = all_readies (seen c); is = all_readies-run c };
+  to_prepare = λ c. record { steps = prepares (seen c); is = prepares-run c };
+  pre_prepared = λ c. record { steps = proceeds (seen c); is = proceeds-run c };
+  to_pre_prepare = λ c. record { steps = pre_prepares (seen c); is = pre_prepares-run c };
+  to_commit = λ c. record { steps = requests (seen c); is = requests-run c };
+  pre_prepare_answered = λ c e calls. record {
+    steps = once c (Change Answered.PrePrepared ∷ []) proceeds;
+    is = answer-run (λ c. once c (Change Answered.PrePrepared ∷ []) proceeds) pre_prepare_answered c e calls (pre_prepare_answered-run c e);
+  };
+  prepare_answered = λ c e calls. record {
+    steps = once c (Change Answered.Prepared ∷ Record Fact.Ready ∷ []) all_readies;
+    is = answer-run (λ c. once c (Change Answered.Prepared ∷ Record Fact.Ready ∷ []) all_readies) prepare_answered c e calls (prepare_answered-run c e);
+  };
+  read_only_answered = λ c e calls. record { steps = leaving c e; is = answer-run (λ c. leaving c e) read_only_answered c e calls (read_only_answered-run c e) };
+  single_phase_rejected = λ c e calls. record { steps = rejects_one_phase; is = answer-run (λ c. rejects_one_phase) single_phase_rejected c e calls (rejects_one_phase-run c e) };
+  commit_answered = λ c e calls. record { steps = commit_completes c.transaction.phase; is = answer-run (λ c. commit_completes c.transaction.phase) commit_answered c e calls (commit_completes-run c e) };
+  rollback_answered = λ c e calls. record { steps = rollback_completes; is = answer-run (λ c. rollback_completes) rollback_answered c e calls (rollback_completes-run c e) };
+  recovered = λ c e calls. record {
+    steps = recovering_in c.transaction.phase (is_superior e);
+    is = answer-run (λ c. recovering_in c.transaction.phase (is_superior e)) recovered c e calls (recovered-run c e);
+  };
 }
 
 -- what holds of every run holds of every procedure
@@ -316,11 +342,11 @@ of_runs R each = record {
   pre_prepared = λ c. each c _ (runs_law.pre_prepared c);
   to_pre_prepare = λ c. each c _ (runs_law.to_pre_prepare c);
   to_commit = λ c. each c _ (runs_law.to_commit c);
-  pre_prepare_answered = λ c e. each c _ (runs_law.pre_prepare_answered c e);
-  prepare_answered = λ c e. each c _ (runs_law.prepare_answered c e);
-  read_only_answered = λ c e. each c _ (runs_law.read_only_answered c e);
-  single_phase_rejected = λ c e. each c _ (runs_law.single_phase_rejected c e);
-  commit_answered = λ c e. each c _ (runs_law.commit_answered c e);
-  rollback_answered = λ c e. each c _ (runs_law.rollback_answered c e);
-  recovered = λ c e. each c _ (runs_law.recovered c e);
+  pre_prepare_answered = λ c e calls. each c _ (runs_law.pre_prepare_answered c e calls);
+  prepare_answered = λ c e calls. each c _ (runs_law.prepare_answered c e calls);
+  read_only_answered = λ c e calls. each c _ (runs_law.read_only_answered c e calls);
+  single_phase_rejected = λ c e calls. each c _ (runs_law.single_phase_rejected c e calls);
+  commit_answered = λ c e calls. each c _ (runs_law.commit_answered c e calls);
+  rollback_answered = λ c e calls. each c _ (runs_law.rollback_answered c e calls);
+  recovered = λ c e calls. each c _ (runs_law.recovered c e calls);
 }

@@ -1,10 +1,10 @@
 -- No enlistment comes back to life on the way.
-use Rattle.std.specs.Prelude.{◌≡◌, true, List, map, Option}
+use Rattle.std.specs.Prelude.{◌≡◌, true, List, map}
+use Rattle.ktm_types.specs.declared.step.Step.{Step}
 use Rattle.ktm_world.specs.Enlistments.{Enlistment}
 use Rattle.ktm_world.specs.Phases.{Course}
-use Rattle.ktm_phase.specs.declared.step.Step.{Step}
+use Rattle.ktm_world.specs.Steps.{lasting, run}
 use Rattle.ktm_phase.specs.Procedures.{AreProcedures}
-use Rattle.ktm_phase.specs.Run.{lasting, run}
 
 -- what lasts of an enlistment is as it was, and it is read-only, prepared, finished and recovered where it was
 pub record GoesOn (e f : Enlistment) : Type 0 where
@@ -22,5 +22,5 @@ pub record Fades (c d : Course) : Type 0 where
 
 -- so it is by steps, and by each procedure
 pub record FadingLaw : Type 0 where
-  pub steps : (by : Option Enlistment) (steps : List Step) (c : Course) → Fades c (run by steps c)
+  pub steps : (steps : List Step) (c : Course) → Fades c (run steps c)
   pub procedures : AreProcedures Fades

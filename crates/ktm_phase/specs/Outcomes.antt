@@ -2,17 +2,18 @@
 use Rattle.std.specs.Prelude.{◌≡◌, ⊤, ◌⊎◌, Bool, true, false, List, [], ◌∷◌, All, Option, Some, None, Ok}
 use Rattle.ktm_base.specs.declared.notify.Notify.{Notify}
 use Rattle.ktm_types.specs.declared.object.Phase.{Phase}
-use Rattle.ktm_world.specs.Enlistments.{Enlistment, Owed as Answer, Sent, pre_prepare, prepare, commit, rollback}
+use Rattle.ktm_types.specs.declared.input.PhaseInput.{PhaseInput}
+use Rattle.ktm_types.specs.declared.input.Seen.{Seen}
+use Rattle.ktm_types.specs.declared.step.Owed.{Owed}
+use Rattle.ktm_types.specs.declared.step.Step.{Step}
+use Rattle.ktm_world.specs.Enlistments.{Enlistment, Sent}
 use Rattle.ktm_world.specs.OneOutcome.{told_by, told_outcome}
 use Rattle.ktm_world.specs.Phases.{Course, aborting, all_ready, commit_answered, committing, end_notice, pre_prepare_answered, pre_prepared, prepare_answered, read_only_answered, recovered as recovered_by, rollback_answered, single_phase_rejected, to_commit, to_pre_prepare, to_prepare}
+use Rattle.ktm_world.specs.Rows.{row}
+use Rattle.ktm_world.specs.Steps.{run}
 use Rattle.ktm_phase.specs.declared.enlistment.Vote.{Vote}
-use Rattle.ktm_phase.specs.declared.phase.PhaseInput.{PhaseInput}
-use Rattle.ktm_phase.specs.declared.phase.Seen.{Seen}
-use Rattle.ktm_phase.specs.declared.step.Step.{Step}
 use Rattle.ktm_phase.specs.declared.superior.SuperiorCall.{SuperiorCall}
 use Rattle.ktm_phase.specs.Replies.{commanded, recovered, replied}
-use Rattle.ktm_phase.specs.Rows.{row}
-use Rattle.ktm_phase.specs.Run.{run}
 
 -- ---- what is known of an outcome: nothing, that it is a commit, or that it is none
 
@@ -60,16 +61,16 @@ IsKnownIn Phase.Ended known = ⊤
 IsKnownIn _ known = known ≡ None
 
 -- is this answer waited for in this phase
-abbrev pub is_asked_in : Phase → Answer → Bool
-is_asked_in Phase.PrePreparing pre_prepare = true
-is_asked_in Phase.Preparing prepare = true
-is_asked_in Phase.SinglePhase commit = true
-is_asked_in Phase.Committing commit = true
-is_asked_in Phase.Aborting rollback = true
+abbrev pub is_asked_in : Phase → Owed → Bool
+is_asked_in Phase.PrePreparing Owed.PrePrepare = true
+is_asked_in Phase.Preparing Owed.Prepare = true
+is_asked_in Phase.SinglePhase Owed.Commit = true
+is_asked_in Phase.Committing Owed.Commit = true
+is_asked_in Phase.Aborting Owed.Rollback = true
 is_asked_in _ _ = false
 
 -- the answer that is owed, if one is, is waited for in this phase
-abbrev pub IsOwedIn : Phase → Option Answer → Type 0
+abbrev pub IsOwedIn : Phase → Option Owed → Type 0
 IsOwedIn phase None = ⊤
 IsOwedIn phase (Some answer) = is_asked_in phase answer ≡ true
 
@@ -89,9 +90,9 @@ KeepsTrue c d = IsTrue c → StaysTrue (known c) d
 -- what is told is so, and nothing takes back an outcome that is known
 pub record OutcomeLaw : Type 0 where
   -- by steps that tell and decide nothing else
-  pub steps : (by : Option Enlistment) (steps : List Step) (c : Course) → AreTrue (known c) steps → KeepsTrue c (run by steps c)
+  pub steps : (steps : List Step) (c : Course) → AreTrue (known c) steps → KeepsTrue c (run steps c)
   -- by the row of what may come
-  pub rows : (by : Option Enlistment) (s : Seen) (input : PhaseInput) (c : Course) → MayCome (known c) s.phase input → KeepsTrue c (run by (row s input) c)
+  pub rows : (s : Seen) (input : PhaseInput) (c : Course) → MayCome (known c) s.phase input → KeepsTrue c (run (row s input) c)
   -- and so may all that is allowed, where the enlistment owes nothing but what is waited for
   pub replies : (phase : Phase) (known : Option Bool) (e : Enlistment) (vote : Vote) (input : PhaseInput) → IsKnownIn phase known → IsOwedIn phase e.owes → replied phase e vote ≡ Ok input → MayCome known phase input
   pub superiors : (phase : Phase) (known : Option Bool) (e : Enlistment) (call : SuperiorCall) (input : PhaseInput) → IsKnownIn phase known → commanded phase e call ≡ Ok input → MayCome known phase input
@@ -104,11 +105,11 @@ pub record OutcomeLaw : Type 0 where
   pub pre_prepared : (c : Course) → known c ≡ None → KeepsTrue c (pre_prepared c)
   pub to_pre_prepare : (c : Course) → known c ≡ None → KeepsTrue c (to_pre_prepare c)
   pub to_commit : (c : Course) → known c ≡ None → KeepsTrue c (to_commit c)
-  pub pre_prepare_answered : (c : Course) (e : Enlistment) → known c ≡ None → KeepsTrue c (pre_prepare_answered c e)
-  pub prepare_answered : (c : Course) (e : Enlistment) → known c ≡ None → KeepsTrue c (prepare_answered c e)
-  pub read_only_answered : (c : Course) (e : Enlistment) → known c ≡ None → KeepsTrue c (read_only_answered c e)
+  pub pre_prepare_answered : (c : Course) (e : Enlistment) → c.caller ≡ Some e → known c ≡ None → KeepsTrue c (pre_prepare_answered c e)
+  pub prepare_answered : (c : Course) (e : Enlistment) → c.caller ≡ Some e → known c ≡ None → KeepsTrue c (prepare_answered c e)
+  pub read_only_answered : (c : Course) (e : Enlistment) → c.caller ≡ Some e → known c ≡ None → KeepsTrue c (read_only_answered c e)
   -- and the others
-  pub single_phase_rejected : (c : Course) (e : Enlistment) → KeepsTrue c (single_phase_rejected c e)
-  pub commit_answered : (c : Course) (e : Enlistment) → MayBe (known c) (Some true) → KeepsTrue c (commit_answered c e)
-  pub rollback_answered : (c : Course) (e : Enlistment) → MayBe (known c) (Some false) → KeepsTrue c (rollback_answered c e)
-  pub recovered : (c : Course) (e : Enlistment) → IsKnownIn c.transaction.phase (known c) → KeepsTrue c (recovered_by c e)
+  pub single_phase_rejected : (c : Course) (e : Enlistment) → c.caller ≡ Some e → KeepsTrue c (single_phase_rejected c e)
+  pub commit_answered : (c : Course) (e : Enlistment) → c.caller ≡ Some e → MayBe (known c) (Some true) → KeepsTrue c (commit_answered c e)
+  pub rollback_answered : (c : Course) (e : Enlistment) → c.caller ≡ Some e → MayBe (known c) (Some false) → KeepsTrue c (rollback_answered c e)
+  pub recovered : (c : Course) (e : Enlistment) → c.caller ≡ Some e → IsKnownIn c.transaction.phase (known c) → KeepsTrue c (recovered_by c e)

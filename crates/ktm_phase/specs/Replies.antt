@@ -5,15 +5,15 @@ use Rattle.ktm_base.specs.declared.refusal.Refusal.TheVariants.{EnlistmentNotSup
 use Rattle.ktm_types.specs.declared.object.Phase.{Phase}
 use Rattle.ktm_types.specs.declared.object.Phase.TheVariants.{InDoubt}
 use Rattle.ktm_types.specs.declared.object.Transaction.{Transaction}
+use Rattle.ktm_types.specs.declared.input.PhaseInput.{PhaseInput}
+use Rattle.ktm_types.specs.declared.step.Owed.{Owed}
 use Rattle.ktm_world.specs.Enlistments.{Enlistment, is_open_for_votes, is_superior, owes_commit, owes_pre_prepare, owes_prepare, owes_rollback}
 use Rattle.ktm_world.specs.Phases.{is_single_phase}
 use Rattle.ktm_world.specs.TransactionCalls.{before_pre_prepare, before_prepare, is_voting, lets_superior_roll_back, waits_for_superior}
 use Rattle.ktm_world.specs.Transactions.{is_undecided}
+use Rattle.ktm_world.specs.Steps.{share_of}
 use Rattle.ktm_phase.specs.declared.enlistment.Vote.{Vote}
-use Rattle.ktm_phase.specs.declared.phase.PhaseInput.{PhaseInput}
-use Rattle.ktm_phase.specs.declared.step.Owed.{Owed}
 use Rattle.ktm_phase.specs.declared.superior.SuperiorCall.{SuperiorCall}
-use Rattle.ktm_phase.specs.Run.{share_of}
 
 -- ---- replies
 

@@ -1,15 +1,16 @@
 // An enlistment, and which replies its state and the phase of its transaction allow.
 ghost use Rattle.std.specs.Prelude.{◌≡◌};
-ghost use Rattle.ktm_world.specs.Enlistments.{asks_pre_prepare, is_live_in, is_superior};
+ghost use Rattle.ktm_world.specs.Enlistments.{asks_pre_prepare, is_given, is_live_in, is_superior};
 ghost use Rattle.ktm_world.specs.Phases.{owing};
+ghost use Rattle.ktm_world.specs.Steps.{answered, is_one_of, share_of};
 ghost use Rattle.ktm_phase.specs.Replies.{allows, input_of, may_set_information, may_vote, owes, recovered, replied};
-ghost use Rattle.ktm_phase.specs.Run.{answer_to, answered, is_given, is_one_of, share_of};
 
 use crate::allowed::{is_in_doubt, is_voting, lets_superior_roll_back, waits_for_superior};
-use crate::phase::{PhaseInput, Share};
-use crate::step::{Answered, Owed, Who};
+use crate::phase::if_allowed;
 use ktm_base::{Bytes, Id, Refusal};
-use ktm_types::{EnlistmentKind, Phase, Transaction, TransactionOutcome};
+use ktm_types::{
+    Answered, EnlistmentKind, Owed, Phase, PhaseInput, Share, Transaction, TransactionOutcome, Who,
+};
 use std::marker::Model;
 
 /// What a resource manager has to do with a transaction.
@@ -35,7 +36,6 @@ pub struct Enlistment {
 
 impl Model for Enlistment {
     ghost use Rattle.ktm_world.specs.Enlistments.{Enlistment};
-    ghost use Rattle.ktm_phase.specs.Run.{answer_owed};
 
     ghost Value = { Enlistment };
 
@@ -44,7 +44,7 @@ impl Model for Enlistment {
       manager = e.manager;
       transaction = e.transaction;
       kind = e.kind;
-      owes = answer_owed e.owes;
+      owes = e.owes;
       is_read_only = e.is_read_only;
       is_prepared = e.is_prepared;
       is_finished = e.is_finished;
@@ -77,7 +77,7 @@ impl Enlistment {
     pub fn reply(&self, phase: Phase, vote: Vote) -> Result<PhaseInput, Refusal>
         ensures { result ≡ replied phase self.now vote }
     {
-        self.input(vote).if_allowed(self.allows(phase, vote))
+        if_allowed(self.allows(phase, vote), self.input(vote))
     }
 
     /// What RecoverEnlistment comes to, where it is allowed in this phase of the transaction.
@@ -87,9 +87,9 @@ impl Enlistment {
         let is_superior = self.is_superior();
         let is_allowed = !self.is_recovered && (!is_superior || is_in_doubt(phase));
         if is_superior {
-            PhaseInput::RecoverSuperior.if_allowed(is_allowed)
+            if_allowed(is_allowed, PhaseInput::RecoverSuperior)
         } else {
-            PhaseInput::Recover.if_allowed(is_allowed)
+            if_allowed(is_allowed, PhaseInput::Recover)
         }
     }
 
@@ -132,15 +132,9 @@ impl Enlistment {
         }
     }
 
-    /// Whether it is one of these, of this transaction, with the superior that called and the enlistment that answers.
-    pub fn is_one_of(
-        &self,
-        who: Who,
-        transaction: Id,
-        caller: Option<Id>,
-        answering: Option<Id>,
-    ) -> bool
-        ensures { result ≡ is_one_of transaction caller answering who self.now }
+    /// Whether it is one of these, of this transaction, where this enlistment calls.
+    pub fn is_one_of(&self, who: Who, transaction: Id, caller: Option<Id>) -> bool
+        ensures { result ≡ is_one_of transaction caller who self.now }
     {
         let is_own = self.transaction == transaction;
         let is_part = is_own && !self.is_superior() && !self.is_read_only;
@@ -151,13 +145,13 @@ impl Enlistment {
             Who::Recovered => is_part && self.is_recovered,
             Who::Superior => is_own && self.is_superior(),
             Who::OtherSuperior => is_own && self.is_superior() && !self.is_given(caller),
-            Who::Answering => self.is_given(answering),
+            Who::Caller => self.is_given(caller),
         }
     }
 
     /// It owes an answer to this from now on.
     pub fn ask(&mut self, owed: Owed)
-        ensures { self.new ≡ owing (answer_to owed) self.old }
+        ensures { self.new ≡ owing owed self.old }
     {
         self.owes = Some(owed);
     }

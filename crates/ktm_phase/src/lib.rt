@@ -7,13 +7,11 @@ mod enlistment;
 mod laws;
 mod phase;
 mod rows;
-mod step;
 mod superior;
 
 pub use enlistment::{Enlistment, Vote};
 pub use laws::{
     law_of_calls, law_of_events_ahead, law_of_fading, law_of_outcomes, law_of_rows, law_of_runs,
 };
-pub use phase::{PhaseInput, Seen, Share};
-pub use step::{Answered, Fact, Owed, Step, Steps, Who};
+pub use phase::{Steps, step};
 pub use superior::SuperiorCall;

@@ -1,12 +1,11 @@
 // The phase table: what happens by each procedure and each answer.
 ghost use Rattle.std.specs.Prelude.{◌≡◌, ◌≤◌, ◌++◌};
 ghost use Rattle.arrayvec.specs.ArrayVec.{array_vec_len};
-ghost use Rattle.ktm_phase.specs.Rows.{aborts, all_readies, commit_completes, commits, commits_one, proceeds, proceeds_without, pre_prepare_completes, pre_prepares, prepare_completes, prepares, prepares_all, read_onlies, recovers, recovers_superior, rejects_one_phase, requests, rollback_completes};
+ghost use Rattle.ktm_world.specs.Rows.{aborts, all_readies, commit_completes, commits, commits_one, proceeds, proceeds_without, pre_prepare_completes, pre_prepares, prepare_completes, prepares, prepares_all, read_onlies, recovers, recovers_superior, rejects_one_phase, requests, rollback_completes};
 
-use crate::phase::{Seen, Share};
-use crate::step::{Answered, Fact, Owed, Step, Steps, Who};
+use crate::phase::{Steps, is_last, participants, without};
 use ktm_base::Notify;
-use ktm_types::{Phase, TransactionOutcome};
+use ktm_types::{Answered, Fact, Owed, Phase, Seen, Share, Step, TransactionOutcome, Who};
 
 /// It commits.
 pub fn commit(steps: &mut Steps)
@@ -47,7 +46,7 @@ pub fn all_ready(s: &Seen, steps: &mut Steps)
         steps.push(Step::Record(Fact::Held));
         steps.push(Step::Tell(Who::Superior, Notify::PrepareComplete));
         steps.push(Step::Enter(Phase::Held));
-    } else if s.participants() == 0 {
+    } else if participants(s) == 0 {
         steps.push(Step::End(TransactionOutcome::Committed));
     } else {
         commit(steps);
@@ -96,7 +95,7 @@ pub fn prepare(s: &Seen, steps: &mut Steps)
     if s.has_superior {
         prepare_all(s, steps);
     } else {
-        match s.participants() {
+        match participants(s) {
             0 => steps.push(Step::End(TransactionOutcome::Committed)),
             1 => commit_one(s, steps),
             _ => prepare_all(s, steps),
@@ -149,7 +148,7 @@ pub fn pre_prepare_complete(s: &Seen, steps: &mut Steps)
     ensures items { steps.new.items ≡ steps.old.items ++ pre_prepare_completes s.now }
 {
     steps.push(Step::Change(Answered::PrePrepared));
-    if s.is_last() {
+    if is_last(s) {
         proceed(s, steps);
     }
 }
@@ -161,7 +160,7 @@ pub fn prepare_complete(s: &Seen, steps: &mut Steps)
 {
     steps.push(Step::Change(Answered::Prepared));
     steps.push(Step::Record(Fact::Ready));
-    if s.is_last() {
+    if is_last(s) {
         all_ready(s, steps);
     }
 }
@@ -185,8 +184,8 @@ pub fn read_only(s: &Seen, share: Share, steps: &mut Steps)
     ensures items { steps.new.items ≡ steps.old.items ++ read_onlies s.now share }
 {
     steps.push(Step::Change(Answered::ReadOnly));
-    if share.owes && s.is_last() {
-        proceed_without(&s.without(share), steps);
+    if share.owes && is_last(s) {
+        proceed_without(&without(s, share), steps);
     }
 }
 
@@ -195,7 +194,7 @@ pub fn reject_one_phase(steps: &mut Steps)
     requires room { array_vec_len steps.old ≤ 4 }
     ensures items { steps.new.items ≡ steps.old.items ++ rejects_one_phase }
 {
-    steps.push(Step::Ask(Who::Answering, Notify::Prepare, Owed::Prepare));
+    steps.push(Step::Ask(Who::Caller, Notify::Prepare, Owed::Prepare));
     steps.push(Step::Enter(Phase::Preparing));
 }
 
@@ -230,12 +229,12 @@ pub fn recover(phase: Phase, steps: &mut Steps)
 {
     steps.push(Step::Change(Answered::Recovered));
     match phase {
-        Phase::InDoubt => steps.push(Step::Tell(Who::Answering, Notify::Indoubt)),
+        Phase::InDoubt => steps.push(Step::Tell(Who::Caller, Notify::Indoubt)),
         Phase::Committing => {
-            steps.push(Step::Ask(Who::Answering, Notify::Commit, Owed::Commit));
+            steps.push(Step::Ask(Who::Caller, Notify::Commit, Owed::Commit));
         }
         Phase::Aborting => {
-            steps.push(Step::Ask(Who::Answering, Notify::Rollback, Owed::Rollback));
+            steps.push(Step::Ask(Who::Caller, Notify::Rollback, Owed::Rollback));
         }
         _ => {}
     }
@@ -247,5 +246,5 @@ pub fn recover_superior(steps: &mut Steps)
     ensures items { steps.new.items ≡ steps.old.items ++ recovers_superior }
 {
     steps.push(Step::Change(Answered::Recovered));
-    steps.push(Step::Tell(Who::Answering, Notify::RecoverQuery));
+    steps.push(Step::Tell(Who::Caller, Notify::RecoverQuery));
 }

@@ -4,9 +4,9 @@ ghost use Rattle.ktm_phase.specs.Replies.{commanded, lets, input_by};
 
 use crate::allowed::{before_pre_prepare, before_prepare, waits_for_superior};
 use crate::enlistment::Enlistment;
-use crate::phase::PhaseInput;
+use crate::phase::if_allowed;
 use ktm_base::Refusal;
-use ktm_types::Phase;
+use ktm_types::{Phase, PhaseInput};
 
 /// A call that only a superior may make.
 #[derive(Clone, Copy)]
@@ -25,7 +25,7 @@ impl SuperiorCall {
         ensures { result ≡ commanded phase e.now self }
     {
         if e.is_superior() {
-            self.input().if_allowed(self.is_let(phase))
+            if_allowed(self.is_let(phase), self.input())
         } else {
             Err(Refusal::EnlistmentNotSuperior)
         }

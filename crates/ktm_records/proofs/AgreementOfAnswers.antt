@@ -9,8 +9,9 @@ use Rattle.ktm_types.specs.declared.object.Phase.TheVariants.{Active, Requested,
 use Rattle.ktm_types.specs.declared.object.Transaction.{Transaction}
 use Rattle.ktm_types.specs.declared.object.TransactionOutcome.TheVariants.{Committed as CommittedOutcome}
 use Rattle.ktm_types.specs.declared.recorded.Stage.{Stage}
+use Rattle.ktm_types.specs.declared.step.Owed.{Owed}
 use Rattle.ktm_world.specs.Durable.{Recorded}
-use Rattle.ktm_world.specs.Enlistments.{Enlistment, Manager, allows_one_phase, has_id, is_durable_at, is_open_for_votes, is_superior, owes_commit, owes_pre_prepare, owes_prepare, pre_prepare, takes_part}
+use Rattle.ktm_world.specs.Enlistments.{Enlistment, Manager, allows_one_phase, has_id, is_durable_at, is_open_for_votes, is_superior, owes_commit, owes_pre_prepare, owes_prepare, takes_part}
 use Rattle.ktm_world.specs.Lawful.{stage_in}
 use Rattle.ktm_world.specs.Phases.{Course, all_ready, changing_one, ended, enlistment_part, pre_prepare_answered, pre_prepared, prepare_answered, read_only_answered, recorded, recording, someone_owes, to_commit, to_pre_prepare, to_prepare, when_none_owes, without_its_answer}
 use Rattle.ktm_world.specs.Present.{Present}
@@ -71,7 +72,7 @@ prepares-none : (x : Present) (before behind : List Recorded) (c : Course) (o : 
 prepares-none x before behind c None other prepares = prepares
 prepares-none x before behind c (Some r) other prepares = absurd (true≢false (sym prepares.has ∙ other))
 
-module _ (x : Present) (sound : IsSoundCourse x) (files : IsSoundFiles x) (good : IsGoodState x.recorded) (agreed : Agreed x) (t : Transaction) (there : IsIn t x.transactions.items) (caller : Option Id) where
+module _ (x : Present) (sound : IsSoundCourse x) (files : IsSoundFiles x) (good : IsGoodState x.recorded) (agreed : Agreed x) (t : Transaction) (there : IsIn t x.transactions.items) (caller : Option Enlistment) where
   abbrev c : Course
   c = course_of x t caller
 
@@ -149,7 +150,7 @@ module _ (x : Present) (sound : IsSoundCourse x) (files : IsSoundFiles x) (good 
         d = changing_one c e.id answered
 
         phase : t.phase ≡ PrePreparing
-        phase = is-pre_preparing t.phase (phase-owing boot c stands brought rises e in_es own pre_prepare (owed-pre_prepare e owes))
+        phase = is-pre_preparing t.phase (phase-owing boot c stands brought rises e in_es own Owed.PrePrepare (owed-pre_prepare e owes))
 
         now : Prepares x before behind d None
         now = readies-alike x before behind c t.phase d.enlistments d.sent [] [] None (enlistments-alike c (has_id e.id) answered (λ g. record { back = refl; kind = refl; read_only = refl; prepared = refl; finished = refl }))

@@ -1,7 +1,6 @@
 -- What was recorded agrees with what is so now after every command, and after time.
 use Rattle.std.proofs.Common.{◌≡◌, ℕ, Bool, true, false, List, [], ◌∷◌, Option, Some, None, refl, sym, ap, subst, not, ◌++◌, arith, ◌&&◌}
 use Rattle.std.proofs.lemmas.Bool.{and_parts, not-true, true≢false}
-use Rattle.std.specs.Prelude.{if◌then◌else◌}
 use Rattle.ktm_base.specs.declared.id.Id.{Id}
 use Rattle.ktm_base.specs.declared.id.Label.{Label}
 use Rattle.ktm_base.specs.declared.id.Pid.{Pid}
@@ -16,8 +15,9 @@ use Rattle.ktm_types.specs.declared.recorded.Stage.{Stage}
 use Rattle.ktm_types.specs.declared.object.Transaction.{Transaction}
 use Rattle.ktm_types.specs.declared.reply.Reply.{Reply}
 use Rattle.ktm_types.specs.declared.reply.Reply.TheVariants.{Done, Refused}
+use Rattle.ktm_types.specs.declared.step.Owed.{Owed}
 use Rattle.ktm_world.specs.Decide.{bound_file, caller, command_effect, command_tests, decide, of_files, of_keys, on_file, opening, with_room}
-use Rattle.ktm_world.specs.Enlistments.{Enlistment, Manager, is_superior, owes_commit, owes_rollback, rollback, is_open_for_votes, owes_pre_prepare, owes_prepare}
+use Rattle.ktm_world.specs.Enlistments.{Enlistment, Manager, is_superior, owes_commit, owes_rollback, is_open_for_votes, owes_pre_prepare, owes_prepare}
 use Rattle.ktm_world.specs.FileCalls.{create_file, read_file, write_file, set_end, get_size, flush_file, delete_file, create_directory, remove_directory, move_file, find_files}
 use Rattle.ktm_world.specs.FileOutcome.{FileOutcome}
 use Rattle.ktm_world.specs.Files.{OpenFile}
@@ -97,17 +97,14 @@ module _ (x : Present) (sound : IsSoundCourse x) (agreed : Agreed x) where
 
   -- the transaction of an enlistment goes on by this step, by which it agreed
   answers : (o : Option Enlistment) (step : Course → Enlistment → Course)
-      → ((e : Enlistment) → o ≡ Some e → (t : Transaction) (caller : Option Id) → IsIn t x.transactions.items → same_id e.transaction t.id ≡ true → transaction_in x e ≡ Some t → Agreed (apply x (arrived x (step (course_of x t caller) e) Done)))
+      → ((e : Enlistment) → o ≡ Some e → (t : Transaction) (caller : Option Enlistment) → IsIn t x.transactions.items → same_id e.transaction t.id ≡ true → transaction_in x e ≡ Some t → Agreed (apply x (arrived x (step (course_of x t caller) e) Done)))
       → Agreed (apply x (answering x o step))
   answers None step each = replies Done
   answers (Some e) step each = go (transaction_in x e) refl
     where
-      caller-of : Option Id
-      caller-of = if is_superior e then Some e.id else None
-
-      go : (o : Option Transaction) → transaction_in x e ≡ o → Agreed (apply x (goes_on x e o caller-of step))
+      go : (o : Option Transaction) → transaction_in x e ≡ o → Agreed (apply x (goes_on x e o step))
       go None is = replies Done
-      go (Some t) is = let found = transaction_at-found x.transactions.items e.transaction t is in each e refl t caller-of found.0 (same_id-from e.transaction t.id (sym found.1)) is
+      go (Some t) is = let found = transaction_at-found x.transactions.items e.transaction t is in each e refl t (Some e) found.0 (same_id-from e.transaction t.id (sym found.1)) is
 
   module _ (o : Option Enlistment) (there : (e : Enlistment) → o ≡ Some e → IsIn e x.transactions.enlistments) where
     rolled-by : Passes (enlistment_tests o (may_roll_back_by x)) → Agreed (apply x (answering x o (λ c e. aborting c)))
@@ -121,7 +118,7 @@ module _ (x : Present) (sound : IsSoundCourse x) (agreed : Agreed x) where
         let stands = stands-now x t caller sound at in
         let brought = brought-now x t caller sound in
         agreed-silent x t caller (rollback_answered c e) Done sound agreed at (arrives-rollback_answered x.recorded.boots c stands brought sound.enlistments_rise e (there e is) own owes)
-        (silent-rollback_answered c e (is-aborting t.phase (phase-owing x.recorded.boots c stands brought sound.enlistments_rise e (there e is) own rollback (owed-rollback e owes)))))
+        (silent-rollback_answered c e (is-aborting t.phase (phase-owing x.recorded.boots c stands brought sound.enlistments_rise e (there e is) own Owed.Rollback (owed-rollback e owes)))))
 
     rejected : Passes (enlistment_tests o (may_reject_one_phase x)) → Agreed (apply x (answering x o single_phase_rejected))
     rejected tests = answers o single_phase_rejected (λ e is t caller at own found.
@@ -201,7 +198,7 @@ module _ (x : Present) (sound : IsSoundCourse x) (agreed : Agreed x) where
 
     -- the transaction of an enlistment goes on by this step, to where it is sound and agrees
     goes : (o : Option Enlistment) (step : Course → Enlistment → Course)
-        → ((e : Enlistment) → o ≡ Some e → (t : Transaction) (caller : Option Id) (at : IsIn t x.transactions.items) → same_id e.transaction t.id ≡ true → transaction_in x e ≡ Some t
+        → ((e : Enlistment) → o ≡ Some e → (t : Transaction) (caller : Option Enlistment) (at : IsIn t x.transactions.items) → same_id e.transaction t.id ≡ true → transaction_in x e ≡ Some t
         → Arrives x.recorded.boots (course_of x t caller) (step (course_of x t caller) e) × Follows x t.id (was x sound t at agreed.agrees).before (was x sound t at agreed.agrees).behind (step (course_of x t caller) e))
         → Agreed (apply x (answering x o step))
     goes o step each = answers o step (λ e is t caller at own found.

@@ -16,10 +16,11 @@ use Rattle.ktm_types.specs.declared.object.Phase.TheVariants.{Committing}
 use Rattle.ktm_types.specs.declared.object.TransactionOutcome.TheVariants.{Committed as CommittedOutcome}
 use Rattle.ktm_types.specs.declared.recorded.Stage.{Stage}
 use Rattle.ktm_types.specs.declared.recorded.RecordedPart.{RecordedPart}
+use Rattle.ktm_types.specs.declared.step.Owed.{Owed}
 use Rattle.ktm_world.specs.Changes.{changed_all, has_changes}
 use Rattle.ktm_world.specs.Committed.{Committed, committed_with, with_work}
 use Rattle.ktm_world.specs.Durable.{Durable, Recorded, after_event, after_events, changes_in, emptied_part, settings_in}
-use Rattle.ktm_world.specs.Enlistments.{Enlistment, commit, takes_part}
+use Rattle.ktm_world.specs.Enlistments.{Enlistment, takes_part}
 use Rattle.ktm_world.specs.Keys.{OwnSettings, stored_all}
 use Rattle.ktm_world.specs.Lawful.{superior_now}
 use Rattle.ktm_world.specs.Outcome.{committed_now}
@@ -115,10 +116,10 @@ committing-committed c =
     decided_course = record (recording c (deciding c.transaction.id c.transaction.is_recorded (has_changes c.changes) (has_settings c.settings))) { works = c.works ++ work_of c }
 
     d : Course
-    d = in_phase (decided (telling decided_course (is_told c) Notify.Commit (owing commit)) CommittedOutcome) Committing
+    d = in_phase (decided (telling decided_course (is_told c) Notify.Commit (owing Owed.Commit)) CommittedOutcome) Committing
 
     same : course_in d (Some Stage.Decided) ≡ course_in c (Some Stage.Decided)
-    same = in-alike c (λ e. if is_told c e then owing commit e else e) d.sent (alike-stepped (is_told c) (owing commit) (λ e. record { back = refl; kind = refl; read_only = refl; prepared = refl; finished = refl })) (Some Stage.Decided)
+    same = in-alike c (λ e. if is_told c e then owing Owed.Commit e else e) d.sent (alike-stepped (is_told c) (owing Owed.Commit) (λ e. record { back = refl; kind = refl; read_only = refl; prepared = refl; finished = refl })) (Some Stage.Decided)
 
 -- what it commits
 works-tree : (c : Course) (committed : Committed) → (committed_with committed (work_of c)).tree ≡ changed_all committed.tree c.changes

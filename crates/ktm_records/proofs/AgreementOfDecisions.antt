@@ -13,8 +13,9 @@ use Rattle.ktm_types.specs.declared.object.Transaction.{Transaction}
 use Rattle.ktm_types.specs.declared.object.TransactionOutcome.TheVariants.{Committed as CommittedOutcome}
 use Rattle.ktm_types.specs.declared.recorded.RecordedPart.{RecordedPart}
 use Rattle.ktm_types.specs.declared.recorded.Stage.{Stage}
+use Rattle.ktm_types.specs.declared.step.Owed.{Owed}
 use Rattle.ktm_world.specs.Durable.{Recorded, changes_in, changes_of, has_undone, is_decided, is_part_of, is_sole, settings_in, settings_of}
-use Rattle.ktm_world.specs.Enlistments.{Enlistment, commit, has_id, is_durable_at, is_superior, owes_commit, takes_part}
+use Rattle.ktm_world.specs.Enlistments.{Enlistment, has_id, is_durable_at, is_superior, owes_commit, takes_part}
 use Rattle.ktm_world.specs.Lawful.{Summary, brought_back, stage_in, stays, summary_of, superior_now}
 use Rattle.ktm_world.specs.Outcome.{committed_now}
 use Rattle.ktm_world.specs.Phases.{Course, commit_answered, committing, ended, ended_if_finished, event_if, finished, in_phase, is_single_phase, recording, superior}
@@ -76,7 +77,7 @@ undone-parts r decided carried well p there = go p.part refl
     go (Changes cs) is = none DonePart.Files (not-true _ (and_parts (not (has_undone DonePart.Files r)) (not (has_undone DonePart.Keys r)) both).0) (ap (is_part_of DonePart.Files) is)
     go (Settings ss) is = none DonePart.Keys (not-true _ (and_parts (not (has_undone DonePart.Files r)) (not (has_undone DonePart.Keys r)) both).1) (ap (is_part_of DonePart.Keys) is)
 
-module _ (x : Present) (sound : IsSoundCourse x) (files : IsSoundFiles x) (good : IsGoodState x.recorded) (agreed : Agreed x) (t : Transaction) (there : IsIn t x.transactions.items) (caller : Option Id) where
+module _ (x : Present) (sound : IsSoundCourse x) (files : IsSoundFiles x) (good : IsGoodState x.recorded) (agreed : Agreed x) (t : Transaction) (there : IsIn t x.transactions.items) (caller : Option Enlistment) where
   abbrev c : Course
   c = course_of x t caller
 
@@ -131,7 +132,7 @@ module _ (x : Present) (sound : IsSoundCourse x) (files : IsSoundFiles x) (good 
     brought = brought-now x t caller sound
 
     part : takes_part t.id e ≡ true
-    part = takes_part-owing boot c stands brought rises e in_es own commit (owed-commit e owes)
+    part = takes_part-owing boot c stands brought rises e in_es own Owed.Commit (owed-commit e owes)
 
     -- it owes nothing, and has finished
     abbrev done_now : Enlistment → Enlistment
@@ -149,7 +150,7 @@ module _ (x : Present) (sound : IsSoundCourse x) (files : IsSoundFiles x) (good 
       at = stands-in boot c Committing phase stands
 
       fits : (e.is_prepared ≡ true) × (e.is_finished ≡ false)
-      fits = let both = and_parts e.is_prepared _ ((at.stand).parts e in_es part) in (both.0, (until-owed owes_commit e commit (owed-commit e owes) both.1).2)
+      fits = let both = and_parts e.is_prepared _ ((at.stand).parts e in_es part) in (both.0, (until-owed owes_commit e Owed.Commit (owed-commit e owes) both.1).2)
 
       -- what it records
       abbrev done_events : List Event
@@ -312,4 +313,4 @@ module _ (x : Present) (sound : IsSoundCourse x) (files : IsSoundFiles x) (good 
         (λ several. elim committing-or [ inr phase ↦ absurd (true≢false (sym (ap is_single_phase phase) ∙ several)) | inl phase ↦ follows-done phase ])
       where
         committing-or : (t.phase ≡ Committing) ⊎ (t.phase ≡ SinglePhase)
-        committing-or = is-committing t.phase (phase-owing boot c stands brought rises e in_es own commit (owed-commit e owes))
+        committing-or = is-committing t.phase (phase-owing boot c stands brought rises e in_es own Owed.Commit (owed-commit e owes))

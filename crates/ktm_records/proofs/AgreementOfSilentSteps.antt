@@ -11,7 +11,8 @@ use Rattle.ktm_types.specs.declared.object.Transaction.{Transaction}
 use Rattle.ktm_types.specs.declared.object.TransactionOutcome.TheVariants.{Aborted}
 use Rattle.ktm_types.specs.declared.recorded.Stage.{Stage}
 use Rattle.ktm_types.specs.declared.reply.Reply.{Reply}
-use Rattle.ktm_world.specs.Enlistments.{Enlistment, Sent, commit, has_id, is_durable_at, is_superior, is_unfinished, rollback, superior_of, takes_part, with_enlistments}
+use Rattle.ktm_types.specs.declared.step.Owed.{Owed}
+use Rattle.ktm_world.specs.Enlistments.{Enlistment, Sent, has_id, is_durable_at, is_superior, is_unfinished, superior_of, takes_part, with_enlistments}
 use Rattle.ktm_world.specs.Lawful.{brought_back, is_held_stage, stage_in, stays, superior_now}
 use Rattle.ktm_world.specs.Outcome.{apply}
 use Rattle.ktm_world.specs.Phases.{Course, recovering, ended, finished, owing, recovered, recovered_in, rollback_answered, single_phase_rejected, telling, unchanged}
@@ -33,7 +34,7 @@ pub record IsSilent (c d : Course) : Type 0 where
   pub works : d.works ≡ c.works
   pub summaries : course_summaries d ≡ course_summaries c
 
-pub agreed-silent : (x : Present) (t : Transaction) (caller : Option Id) (d : Course) (reply : Reply) (sound : IsSoundCourse x) (agreed : Agreed x) (there : IsIn t x.transactions.items) → Arrives x.recorded.boots (course_of x t caller) d
+pub agreed-silent : (x : Present) (t : Transaction) (caller : Option Enlistment) (d : Course) (reply : Reply) (sound : IsSoundCourse x) (agreed : Agreed x) (there : IsIn t x.transactions.items) → Arrives x.recorded.boots (course_of x t caller) d
     → IsSilent (course_of x t caller) d → Agreed (apply x (arrived x d reply))
 agreed-silent x t caller d reply sound agreed there arrives silent =
     let had = was x sound t there agreed.agrees in
@@ -154,6 +155,6 @@ silent-recovered c e = if_cases (λ x. IsSilent c x) (is_superior e) (telling d 
 
     in-phase : (phase : Phase) → IsSilent c (recovered_in phase d e)
     in-phase InDoubt = told Notify.Indoubt unchanged (λ f. alike-same f)
-    in-phase Committing = told Notify.Commit (owing commit) (λ f. record { back = refl; kind = refl; read_only = refl; prepared = refl; finished = refl })
-    in-phase Aborting = told Notify.Rollback (owing rollback) (λ f. record { back = refl; kind = refl; read_only = refl; prepared = refl; finished = refl })
+    in-phase Committing = told Notify.Commit (owing Owed.Commit) (λ f. record { back = refl; kind = refl; read_only = refl; prepared = refl; finished = refl })
+    in-phase Aborting = told Notify.Rollback (owing Owed.Rollback) (λ f. record { back = refl; kind = refl; read_only = refl; prepared = refl; finished = refl })
     in-phase _ = back

@@ -9,10 +9,11 @@ use Rattle.ktm_types.specs.declared.event.Part.{Part}
 use Rattle.ktm_types.specs.declared.object.Phase.{Phase}
 use Rattle.ktm_types.specs.declared.object.Phase.TheVariants.{PrePreparing, PrePrepared, Preparing, Requested, SinglePhase}
 use Rattle.ktm_types.specs.declared.object.TransactionOutcome.TheVariants.{Committed as CommittedOutcome}
+use Rattle.ktm_types.specs.declared.step.Owed.{Owed}
 use Rattle.ktm_world.specs.Changes.{changed_all, has_changes}
 use Rattle.ktm_world.specs.Committed.{committed_with}
 use Rattle.ktm_world.specs.Durable.{Recorded, after_events, changes_in, settings_in}
-use Rattle.ktm_world.specs.Enlistments.{allows_one_phase, asks_pre_prepare, commit, pre_prepare, prepare, takes_part}
+use Rattle.ktm_world.specs.Enlistments.{allows_one_phase, asks_pre_prepare, takes_part}
 use Rattle.ktm_world.specs.Keys.{stored_all}
 use Rattle.ktm_world.specs.Outcome.{committed_now}
 use Rattle.ktm_world.specs.Phases.{Course, all_ready, ended, has_settings, in_phase, is_its_superior, one_if, one_participant, one_phase, owing, participants, pre_prepared, prepare_alone, preparing, single, some_enlistment, superior, telling, to_commit, to_pre_prepare, to_prepare, unchanged, work_of}
@@ -42,11 +43,11 @@ module _ (x : Present) (before behind : List Recorded) (c : Course) (prepares : 
 
   -- all are asked to prepare
   abbrev asked : Course
-  asked = in_phase (telling c (takes_part id) Notify.Prepare (owing prepare)) Preparing
+  asked = in_phase (telling c (takes_part id) Notify.Prepare (owing Owed.Prepare)) Preparing
 
   prepares-asked : Prepares x before behind asked None
   prepares-asked = readies-alike x before behind c Preparing asked.enlistments asked.sent [] [] None
-      (enlistments-alike c (takes_part id) (owing prepare) (λ e. record { back = refl; kind = refl; read_only = refl; prepared = refl; finished = refl })) prepares
+      (enlistments-alike c (takes_part id) (owing Owed.Prepare) (λ e. record { back = refl; kind = refl; read_only = refl; prepared = refl; finished = refl })) prepares
 
   pub follows-to_be_prepared : Follows x id before behind (preparing c)
   follows-to_be_prepared = if_cases (λ d. Follows x id before behind d) (some_enlistment c (λ e. true)) asked (all_ready asked)
@@ -66,7 +67,7 @@ module _ (x : Present) (before behind : List Recorded) (c : Course) (prepares : 
 
   -- its one participant is asked to commit in one phase
   abbrev in_one_phase : Course
-  in_one_phase = in_phase (telling c (takes_part id) Notify.SinglePhaseCommit (owing commit)) SinglePhase
+  in_one_phase = in_phase (telling c (takes_part id) Notify.SinglePhaseCommit (owing Owed.Commit)) SinglePhase
 
   follows-one_phase : Follows x id before behind (one_phase c)
   follows-one_phase = if_cases (λ d. Follows x id before behind d) (some_enlistment c allows_one_phase) in_one_phase (preparing c)
@@ -102,7 +103,7 @@ module _ (x : Present) (before behind : List Recorded) (c : Course) (prepares : 
 
   -- those that ask for it are to pre-prepare
   abbrev pre_preparing : Course
-  pre_preparing = in_phase (telling c (λ e. takes_part id e && asks_pre_prepare e) Notify.PrePrepare (owing pre_prepare)) PrePreparing
+  pre_preparing = in_phase (telling c (λ e. takes_part id e && asks_pre_prepare e) Notify.PrePrepare (owing Owed.PrePrepare)) PrePreparing
 
   pub follows-to_pre_prepare : Follows x id before behind (to_pre_prepare c)
   unfolding to_pre_prepare

@@ -1,5 +1,4 @@
 -- What the calls on transactions and enlistments record applies, but for the limits.
-use Rattle.std.specs.Prelude.{if◌then◌else◌}
 use Rattle.std.proofs.Common.{◌≡◌, ◌&&◌, not, Bool, true, false, nat_lt, List, Option, Some, None, refl, sym, ◌∙◌, ap, subst, inl, inr}
 use Rattle.std.proofs.lemmas.Bool.{and_from, and_parts, not-true, not_from_false, or_cases, true≢false, false_from_ne_true}
 use Rattle.std.proofs.lemmas.Option.{none-some, same_Some}
@@ -10,8 +9,9 @@ use Rattle.ktm_types.specs.declared.object.Transaction.{Transaction}
 use Rattle.ktm_types.specs.declared.object.TransactionOutcome.TheVariants.{Aborted}
 use Rattle.ktm_types.specs.declared.recorded.Stage.{Stage}
 use Rattle.ktm_types.specs.declared.reply.Reply.TheVariants.{Done}
+use Rattle.ktm_types.specs.declared.step.Owed.{Owed}
 use Rattle.ktm_world.specs.Durable.{is_new_enlistment, is_ready}
-use Rattle.ktm_world.specs.Enlistments.{Enlistment, Manager, commit, pre_prepare, is_durable_at, is_open_for_votes, is_superior, owes_commit, owes_pre_prepare, owes_prepare, takes_part}
+use Rattle.ktm_world.specs.Enlistments.{Enlistment, Manager, is_durable_at, is_open_for_votes, is_superior, owes_commit, owes_pre_prepare, owes_prepare, takes_part}
 use Rattle.ktm_world.specs.Labels.{transaction_tests}
 use Rattle.ktm_world.specs.Lawful.{stage_in}
 use Rattle.ktm_world.specs.Phases.{Course, aborting, commit_answered, committing, finished, is_single_phase, pre_prepare_answered, prepare_answered, read_only_answered, recovered, rollback_answered, single_phase_rejected, to_commit, to_pre_prepare, to_prepare}
@@ -82,7 +82,7 @@ held-waiting _ waits = absurd (true≢false (sym waits))
 module _ (x : Present) (kept : IsKept x) where
   -- ---- a transaction on its way
 
-  module _ (t : Transaction) (there : IsIn t x.transactions.items) (caller : Option Id) where
+  module _ (t : Transaction) (there : IsIn t x.transactions.items) (caller : Option Enlistment) where
     stands : Stands x.recorded.boots (course_of x t caller)
     stands = stands-now x t caller kept.sound.course there
 
@@ -130,25 +130,22 @@ module _ (x : Present) (kept : IsKept x) where
   -- ---- calls of enlistments
 
   answers : (o : Option Enlistment) (step : Course → Enlistment → Course)
-      → ((e : Enlistment) → o ≡ Some e → (t : Transaction) (caller : Option Id) → IsIn t x.transactions.items → same_id e.transaction t.id ≡ true → transaction_in x e ≡ Some t → facts_apply x.recorded (step (course_of x t caller) e).events ≡ true)
+      → ((e : Enlistment) → o ≡ Some e → (t : Transaction) (caller : Option Enlistment) → IsIn t x.transactions.items → same_id e.transaction t.id ≡ true → transaction_in x e ≡ Some t → facts_apply x.recorded (step (course_of x t caller) e).events ≡ true)
       → FactsOf x (answering x o step)
   answers None step each = refl
   answers (Some e) step each = go (transaction_in x e) refl
     where
-      caller-of : Option Id
-      caller-of = if is_superior e then Some e.id else None
-
-      go : (o : Option Transaction) → transaction_in x e ≡ o → FactsOf x (goes_on x e o caller-of step)
+      go : (o : Option Transaction) → transaction_in x e ≡ o → FactsOf x (goes_on x e o step)
       go None is = refl
       go (Some t) is =
           let found = transaction_at-found x.transactions.items e.transaction t is in
-          ap (facts_apply x.recorded) (arrival x (step (course_of x t caller-of) e) Done).events ∙ each e refl t caller-of found.0 (same_id-from e.transaction t.id (sym found.1)) is
+          ap (facts_apply x.recorded) (arrival x (step (course_of x t (Some e)) e) Done).events ∙ each e refl t (Some e) found.0 (same_id-from e.transaction t.id (sym found.1)) is
 
   module _ (o : Option Enlistment) (in_es : (e : Enlistment) → o ≡ Some e → IsIn e x.transactions.enlistments) where
     pub facts-pre_prepare_complete : Passes (enlistment_tests o owes_pre_prepare) → FactsOf x (answering x o pre_prepare_answered)
     facts-pre_prepare_complete tests = answers o pre_prepare_answered (λ e is t caller at own found.
         let owes = enlistment-allowed o owes_pre_prepare e is tests in
-        let phase = is-pre_preparing t.phase (phase-owing x.recorded.boots (course_of x t caller) (stands t at caller) (brought-now x t caller kept.sound.course) kept.sound.course.enlistments_rise e (in_es e is) own pre_prepare (owed-pre_prepare e owes)) in
+        let phase = is-pre_preparing t.phase (phase-owing x.recorded.boots (course_of x t caller) (stands t at caller) (brought-now x t caller kept.sound.course) kept.sound.course.enlistments_rise e (in_es e is) own Owed.PrePrepare (owed-pre_prepare e owes)) in
         let early = subst Early (sym phase) early-pre_preparing in
         facts-pre_prepare_answered x.recorded (course_of x t caller) e (is-early t at caller early) (is-unrecorded t at caller early))
 
@@ -179,16 +176,16 @@ module _ (x : Present) (kept : IsKept x) where
         let brought = brought-now x t caller kept.sound.course in
         let rise = kept.sound.course.enlistments_rise in
         let owed = owed-commit e (enlistment-allowed o owes_commit e is tests) in
-        let part = takes_part-owing x.recorded.boots c (stands t at caller) brought rise e (in_es e is) own commit owed in
-        facts-commit_answered x.recorded c e refl (λ several durable. elim (is-committing t.phase (phase-owing x.recorded.boots c (stands t at caller) brought rise e (in_es e is) own commit owed)) [
+        let part = takes_part-owing x.recorded.boots c (stands t at caller) brought rise e (in_es e is) own Owed.Commit owed in
+        facts-commit_answered x.recorded c e refl (λ several durable. elim (is-committing t.phase (phase-owing x.recorded.boots c (stands t at caller) brought rise e (in_es e is) own Owed.Commit owed)) [
           | inr single ↦ absurd (true≢false (ap is_single_phase (sym single) ∙ several))
           | inl phase ↦
               let both = and_parts e.is_prepared (owes_until_finished owes_commit e) (subst (λ p. is_part_as p e ≡ true) phase (((stands t at caller).stand).parts e (in_es e is) part)) in
-              let unfinished = (until-owed owes_commit e commit owed both.1).2 in
+              let unfinished = (until-owed owes_commit e Owed.Commit owed both.1).2 in
               can-finish x kept t at caller (recorded-committing t at caller phase e (in_es e is) part durable unfinished) (ap stage_in phase) e (in_es e is) part durable both.0 unfinished
         ]))
       where
-        recorded-committing : (t : Transaction) (at : IsIn t x.transactions.items) (caller : Option Id) → t.phase ≡ Committing → (e : Enlistment) → IsIn e x.transactions.enlistments → takes_part t.id e ≡ true → is_durable_at x.managers e.manager ≡ true
+        recorded-committing : (t : Transaction) (at : IsIn t x.transactions.items) (caller : Option Enlistment) → t.phase ≡ Committing → (e : Enlistment) → IsIn e x.transactions.enlistments → takes_part t.id e ≡ true → is_durable_at x.managers e.manager ≡ true
             → e.is_finished ≡ false → t.is_recorded ≡ true
         recorded-committing t at caller phase e there part durable unfinished =
             elim (or_cases t.is_recorded (not (has_durable_part x.managers x.transactions.enlistments t.id (λ e. not e.is_finished))) (subst (λ p. is_recorded_as p x.managers x.transactions.enlistments t.id t.is_recorded ≡ true) phase (is-recorded t at caller))) [

@@ -13,9 +13,10 @@ use Rattle.ktm_types.specs.declared.event.Part.TheVariants.{Changes, Settings}
 use Rattle.ktm_types.specs.declared.object.Phase.{Phase}
 use Rattle.ktm_types.specs.declared.object.TransactionOutcome.{TransactionOutcome}
 use Rattle.ktm_types.specs.declared.object.TransactionOutcome.TheVariants.{Committed}
+use Rattle.ktm_types.specs.declared.step.Owed.{Owed}
 use Rattle.ktm_world.specs.Changes.{has_changes}
 use Rattle.ktm_world.specs.Durable.{Durable, Recorded, after_event, after_events, fact_applies, has_part, is_new_enlistment, is_ready, is_sole, may_get_ready, part_applies, recorded_at, recorded_or_new}
-use Rattle.ktm_world.specs.Enlistments.{Enlistment, Owed, Sent, commit, is_superior, has_id, is_durable_at, is_unfinished, allows_one_phase, asks_pre_prepare, prepare, takes_part, with_enlistments}
+use Rattle.ktm_world.specs.Enlistments.{Enlistment, Sent, is_superior, has_id, is_durable_at, is_unfinished, allows_one_phase, asks_pre_prepare, takes_part, with_enlistments}
 use Rattle.ktm_world.specs.Phases.{Course, all_ready, changing_one, commit_answered, committing, decided, ended, ended_if_finished, enlistment_part, event_if, finished, has_settings, held_or_committing, in_phase, is_its_superior, is_single_phase, one_participant, one_phase, owing, participants, pre_prepare_answered, pre_prepared, prepare_alone, prepare_answered, preparing, read_only_answered, readied, ready_of_enlistment, ready_parts, recorded, recording, single, some_enlistment, someone_owes, superior, telling, to_commit, to_pre_prepare, to_prepare, when_none_owes, without_its_answer, work_of}
 use Rattle.ktm_world.specs.Transactions.{same_id}
 use Rattle.txf_laws.specs.Elements.{IsIn}
@@ -44,7 +45,7 @@ commits c = event_if c.transaction.is_recorded (Event.Decide c.transaction.id) +
 
 -- and what it is then, before it may have ended
 abbrev commits_so : Course → Course
-commits_so c = in_phase (decided (telling (record (recording c (commits c)) { works = c.works ++ work_of c }) (λ e. takes_part c.transaction.id e && e.is_prepared && e.is_recovered) Notify.Commit (owing commit)) Committed) Phase.Committing
+commits_so c = in_phase (decided (telling (record (recording c (commits c)) { works = c.works ++ work_of c }) (λ e. takes_part c.transaction.id e && e.is_prepared && e.is_recovered) Notify.Commit (owing Owed.Commit)) Committed) Phase.Committing
 
 pub facts-committing : (s : Durable) (c : Course) → facts_apply s c.events ≡ true → CanDecide (after_events s c.events) c → facts_apply s (committing c).events ≡ true
 unfolding committing
@@ -204,9 +205,9 @@ module _ (s : Durable) where
 
   pub facts-preparing : (c : Course) → IsOn s c → Facts (preparing c)
   facts-preparing c on =
-      let asked = in_phase (telling c (takes_part c.transaction.id) Notify.Prepare (owing prepare)) Phase.Preparing in
+      let asked = in_phase (telling c (takes_part c.transaction.id) Notify.Prepare (owing Owed.Prepare)) Phase.Preparing in
       if_cases (λ (d : Course). facts_apply s d.events ≡ true) (some_enlistment c (λ e. true)) asked (all_ready asked) (λ some. on.facts)
-      (λ none. facts-all_ready asked (told-on c Phase.Preparing (takes_part c.transaction.id) (owing prepare) _ (λ e. (alike-owing prepare e).same) on))
+      (λ none. facts-all_ready asked (told-on c Phase.Preparing (takes_part c.transaction.id) (owing Owed.Prepare) _ (λ e. (alike-owing Owed.Prepare e).same) on))
 
   -- ---- of a transaction that the log does not have
 
@@ -225,7 +226,7 @@ module _ (s : Durable) where
         (λ files. facts-single c (Changes c.changes) on none-yet refl ((on.may).files files))
         (λ no_files. if_cases (λ (d : Course). facts_apply s d.events ≡ true) (has_settings c.settings) (single c (Settings c.settings)) (one_phase c)
         (λ keys. facts-single c (Settings c.settings) on none-yet refl ((on.may).keys keys))
-        (λ no_keys. if_cases (λ (d : Course). facts_apply s d.events ≡ true) (some_enlistment c allows_one_phase) (in_phase (telling c (takes_part c.transaction.id) Notify.SinglePhaseCommit (owing commit)) Phase.SinglePhase) (preparing c)
+        (λ no_keys. if_cases (λ (d : Course). facts_apply s d.events ≡ true) (some_enlistment c allows_one_phase) (in_phase (telling c (takes_part c.transaction.id) Notify.SinglePhaseCommit (owing Owed.Commit)) Phase.SinglePhase) (preparing c)
         (λ some. on.facts) (λ none. facts-preparing c on)))
 
     facts-alone : (n : ℕ) → Facts (prepare_alone c n)

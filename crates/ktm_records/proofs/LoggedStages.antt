@@ -70,7 +70,7 @@ some-settings : (ss : OwnSettings) → has_settings ss ≡ true → not (length 
 some-settings [] some = absurd (true≢false (sym some))
 some-settings (setting ∷ ss) some = length-some setting ss
 
-module _ (x : Present) (kept : IsKept x) (t : Transaction) (there : IsIn t x.transactions.items) (caller : Option Id) where
+module _ (x : Present) (kept : IsKept x) (t : Transaction) (there : IsIn t x.transactions.items) (caller : Option Enlistment) where
   abbrev c : Course
   c = course_of x t caller
 

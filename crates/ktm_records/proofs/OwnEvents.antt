@@ -14,8 +14,9 @@ use Rattle.ktm_types.specs.declared.event.Part.TheVariants.{Enlistment as Enlist
 use Rattle.ktm_types.specs.declared.object.Phase.{Phase}
 use Rattle.ktm_types.specs.declared.object.TransactionOutcome.{TransactionOutcome}
 use Rattle.ktm_types.specs.declared.object.TransactionOutcome.TheVariants.{Committed, Aborted}
+use Rattle.ktm_types.specs.declared.step.Owed.{Owed}
 use Rattle.ktm_world.specs.Changes.{has_changes}
-use Rattle.ktm_world.specs.Enlistments.{Enlistment, allows_one_phase, asks_pre_prepare, commit, has_id, is_durable_at, is_superior, is_unfinished, prepare, takes_part}
+use Rattle.ktm_world.specs.Enlistments.{Enlistment, allows_one_phase, asks_pre_prepare, has_id, is_durable_at, is_superior, is_unfinished, takes_part}
 use Rattle.ktm_world.specs.Keys.{OwnSettings}
 use Rattle.ktm_world.specs.Phases.{Course, all_ready, changing_one, commit_answered, committing, decided, ended, ended_if_finished, enlistment_part, event_if, finished, has_settings, held_or_committing, in_phase, is_single_phase, one_participant, one_phase, owing, participants, pre_prepare_answered, pre_prepared, prepare_alone, prepare_answered, preparing, read_only_answered, readied, ready_of_enlistment, recorded, recording, recovered, recovered_in, recovering, rollback_answered, single, single_phase_rejected, some_enlistment, someone_owes, superior, telling, to_commit, to_pre_prepare, to_prepare, unchanged, when_none_owes, without_its_answer, work_of}
 use Rattle.ktm_courses.proofs.offered.Moves.{if_cases}
@@ -102,7 +103,7 @@ module _ (Files : List Change → Type 0) (Keys : OwnSettings → Type 0) where
       let a = event_if c.transaction.is_recorded (Event.Decide id) in
       let b = event_if (has_changes c.changes) (Event.Done id DonePart.Files) in
       let d = event_if (has_settings c.settings) (Event.Done id DonePart.Keys) in
-      let told = telling (record (recording c (a ++ b ++ d)) { works = c.works ++ work_of c }) (λ e. takes_part id e && e.is_prepared && e.is_recovered) Notify.Commit (owing commit) in
+      let told = telling (record (recording c (a ++ b ++ d)) { works = c.works ++ work_of c }) (λ e. takes_part id e && e.is_prepared && e.is_recovered) Notify.Commit (owing Owed.Commit) in
       if_finished-has (n + 3) (in_phase (decided told Committed) Phase.Committing) Committed (add n 3 c _ (a ++ b ++ d) refl refl refl
       (all-append IsOwnEvent (a ++ b) d (all-append IsOwnEvent a b (own-if c.transaction.is_recorded (Event.Decide id) tt) (own-if (has_changes c.changes) (Event.Done id DonePart.Files) tt)) (own-if (has_settings c.settings) (Event.Done id DonePart.Keys) tt))
       (let first = length-append a b in let all = length-append (a ++ b) d in let la = few-if c.transaction.is_recorded (Event.Decide id) in let lb = few-if (has_changes c.changes) (Event.Done id DonePart.Files) in let ld = few-if (has_settings c.settings) (Event.Done id DonePart.Keys) in omega (arith, first, all, la, lb, ld))
@@ -124,7 +125,7 @@ module _ (Files : List Change → Type 0) (Keys : OwnSettings → Type 0) where
 
   preparing-has : (n : ℕ) (c : Course) → Has n c → Has (n + 5) (preparing c)
   preparing-has n c has =
-      let asked = in_phase (telling c (takes_part c.transaction.id) Notify.Prepare (owing prepare)) Phase.Preparing in
+      let asked = in_phase (telling c (takes_part c.transaction.id) Notify.Prepare (owing Owed.Prepare)) Phase.Preparing in
       let has' = same n c asked refl refl refl has in
       either (n + 5) (some_enlistment c (λ e. true)) asked (all_ready asked) (more n (n + 5) asked (omega arith) has') (all_ready-has n asked has')
 
@@ -135,7 +136,7 @@ module _ (Files : List Change → Type 0) (Keys : OwnSettings → Type 0) where
 
   one_phase-has : (n : ℕ) (c : Course) → Has n c → Has (n + 5) (one_phase c)
   one_phase-has n c has =
-      let told = in_phase (telling c (takes_part c.transaction.id) Notify.SinglePhaseCommit (owing commit)) Phase.SinglePhase in
+      let told = in_phase (telling c (takes_part c.transaction.id) Notify.SinglePhaseCommit (owing Owed.Commit)) Phase.SinglePhase in
       either (n + 5) (some_enlistment c allows_one_phase) told (preparing c) (more n (n + 5) told (omega arith) (same n c told refl refl refl has)) (preparing-has n c has)
 
   one_participant-has : (n : ℕ) (c : Course) → Has n c → Has (n + 5) (one_participant c)

@@ -27,7 +27,7 @@ use Rattle.ktm_types.specs.declared.reply.Reply.{Reply}
 use Rattle.ktm_types.specs.declared.reply.Reply.TheVariants.{Done, Refused}
 use Rattle.ktm_types.specs.Values.{IsCommand, IsText}
 use Rattle.ktm_world.specs.Decide.{bound_file, caller, command_effect, command_tests, decide, events_of, of_files, of_keys, on_file, on_file_tests, opening, own_tests, with_room}
-use Rattle.ktm_world.specs.Enlistments.{Enlistment, Manager, is_superior}
+use Rattle.ktm_world.specs.Enlistments.{Enlistment, Manager}
 use Rattle.ktm_world.specs.FileCalls.{Whereabouts, no_path, no_way, free, at_root, at_node, create_at, create_directory, create_file, delete_file, drop_at, empties, find_files, find_path, flush_file, get_size, make_at, move_at, move_file, read_file, remove_directory, set_end, write_file, write_file_tests}
 use Rattle.ktm_world.specs.FileOutcome.{FileOutcome}
 use Rattle.ktm_world.specs.Files.{OpenFile, own_changes, tree_seen}
@@ -82,7 +82,7 @@ rolls-same x o own none = record { texts = subst Texts (sym own); undos = subst 
 rolls-reply : (x : Present) (reply : Reply) → Rolls x (only_reply x reply)
 rolls-reply x reply = rolls-same x (only_reply x reply) refl refl
 
-rolls-back : (x : Present) (t : Transaction) (caller : Option Id) (reply : Reply) → Rolls x (arrived x (aborting (course_of x t caller)) reply)
+rolls-back : (x : Present) (t : Transaction) (caller : Option Enlistment) (reply : Reply) → Rolls x (arrived x (aborting (course_of x t caller)) reply)
 rolls-back x t caller reply = record {
   texts = texts-arrived x (aborting (course_of x t caller)) reply;
   undos = subst (AllByRecursion IsUndo) (sym ((arrival x (aborting (course_of x t caller)) reply).events ∙ (aborting-undone (course_of x t caller)).events)) (undo t.is_recorded);
@@ -174,7 +174,7 @@ module _ (Files : List Change → Type 0) (Keys : OwnSettings → Type 0) where
   does-reply x reply = does-same x (only_reply x reply) refl refl
 
   module _ (x : Present) (owned : Owned x) where
-    begun : (t : Transaction) (caller : Option Id) → Has Files Keys 0 (course_of x t caller)
+    begun : (t : Transaction) (caller : Option Enlistment) → Has Files Keys 0 (course_of x t caller)
     begun t caller = record { changes = owned.files t.id; settings = owned.keys t.id; events = tt; few = omega arith }
 
     does-arrived : (n : ℕ) (d : Course) (reply : Reply) → n ≤ 6 → Has Files Keys n d → Does x (arrived x d reply)
@@ -191,13 +191,13 @@ module _ (Files : List Change → Type 0) (Keys : OwnSettings → Type 0) where
     does-rollback None = does-reply x Done
     does-rollback (Some t) = does-rolled x _ (rolls-back x t None Done)
 
-    does-going : (o : Option Enlistment) (step : Course → Enlistment → Course) → ((e : Enlistment) (t : Transaction) (caller : Option Id) → Does x (arrived x (step (course_of x t caller) e) Done)) → Does x (answering x o step)
+    does-going : (o : Option Enlistment) (step : Course → Enlistment → Course) → ((e : Enlistment) (t : Transaction) (caller : Option Enlistment) → Does x (arrived x (step (course_of x t caller) e) Done)) → Does x (answering x o step)
     does-going None step each = does-reply x Done
     does-going (Some e) step each = go (transaction_in x e)
       where
-        go : (o : Option Transaction) → Does x (goes_on x e o (if is_superior e then Some e.id else None) step)
+        go : (o : Option Transaction) → Does x (goes_on x e o step)
         go None = does-reply x Done
-        go (Some t) = each e t (if is_superior e then Some e.id else None)
+        go (Some t) = each e t (Some e)
 
     does-answering : (n : ℕ) (o : Option Enlistment) (step : Course → Enlistment → Course) → n ≤ 6 → ((c : Course) (e : Enlistment) → Has Files Keys 0 c → Has Files Keys n (step c e)) → Does x (answering x o step)
     does-answering n o step less steps = does-going o step (λ e t caller. does-arrived n (step (course_of x t caller) e) Done less (steps (course_of x t caller) e (begun t caller)))

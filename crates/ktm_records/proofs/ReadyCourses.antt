@@ -136,7 +136,7 @@ abbrev pub Prepares : Present → List Recorded → List Recorded → Course →
 Prepares x before behind c o = Readies x before behind c [] [] o
 
 -- at first
-module _ (x : Present) (sound : IsSoundCourse x) (files : IsSoundFiles x) (good : IsGoodState x.recorded) (agreed : Agreed x) (t : Transaction) (there : IsIn t x.transactions.items) (caller : Option Id) where
+module _ (x : Present) (sound : IsSoundCourse x) (files : IsSoundFiles x) (good : IsGoodState x.recorded) (agreed : Agreed x) (t : Transaction) (there : IsIn t x.transactions.items) (caller : Option Enlistment) where
   abbrev c : Course
   c = course_of x t caller
 

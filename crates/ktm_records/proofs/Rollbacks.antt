@@ -2,7 +2,6 @@
 use Rattle.std.specs.Prelude.{if◌then◌else◌}
 use Rattle.std.proofs.Common.{◌≡◌, ◌+◌, ◌<◌, ◌^◌, ◌&&◌, ◌||◌, not, Bool, true, false, [], ◌∷◌, Option, Some, refl, sym, ◌∙◌, ap, subst, inl}
 use Rattle.std.proofs.lemmas.Bool.{and_from, lt-ltb, not_from_false, true≢false}
-use Rattle.ktm_base.specs.declared.id.Id.{Id}
 use Rattle.ktm_types.specs.declared.event.Event.{Event}
 use Rattle.ktm_types.specs.declared.object.Phase.{Phase}
 use Rattle.ktm_types.specs.declared.object.Transaction.{Transaction}
@@ -10,6 +9,7 @@ use Rattle.ktm_types.specs.declared.object.TransactionOutcome.{TransactionOutcom
 use Rattle.ktm_types.specs.declared.object.TransactionOutcome.TheVariants.{Undetermined, Committed, Aborted}
 use Rattle.ktm_types.specs.declared.recorded.Stage.{Stage}
 use Rattle.ktm_types.specs.declared.reply.Reply.{Reply}
+use Rattle.ktm_world.specs.Enlistments.{Enlistment}
 use Rattle.ktm_world.specs.Durable.{Recorded, events_apply, is_decided, without_recorded}
 use Rattle.ktm_world.specs.Lawful.{Agrees, Summary, stage_in, summary_of}
 use Rattle.ktm_world.specs.Phases.{Course, aborting, event_if}
@@ -51,7 +51,7 @@ waits t undecided Phase.Held is = record { stage = Stage.Held; stands = refl; wa
 waits t undecided Phase.InDoubt is = record { stage = Stage.Held; stands = refl; waiting = refl }
 waits t undecided _ is = record { stage = Stage.Ready; stands = refl; waiting = refl }
 
-module _ (x : Present) (t : Transaction) (caller : Option Id) (sound : IsSoundCourse x) (good : IsGoodState x.recorded) (agrees : Agrees x) (there : IsIn t x.transactions.items) (undecided : is_undecided t ≡ true)
+module _ (x : Present) (t : Transaction) (caller : Option Enlistment) (sound : IsSoundCourse x) (good : IsGoodState x.recorded) (agrees : Agrees x) (there : IsIn t x.transactions.items) (undecided : is_undecided t ≡ true)
     (few : x.recorded.events + 1 < 2 ^ 63) where
   abbrev c : Course
   c = course_of x t caller

@@ -1,7 +1,6 @@
 -- What rollbacks record applies, but for the limits: one, those at the end of a process, and those as time passes.
 use Rattle.std.proofs.Common.{◌≡◌, ℕ, ◌&&◌, not, true, false, List, [], ◌∷◌, Option, Some, None, refl, sym, ◌∙◌, ap, subst, inl}
 use Rattle.std.proofs.lemmas.Bool.{and_from, and_parts, not_from_false, true≢false}
-use Rattle.ktm_base.specs.declared.id.Id.{Id}
 use Rattle.ktm_base.specs.declared.id.Label.{Label}
 use Rattle.ktm_base.specs.declared.id.Pid.{Pid}
 use Rattle.ktm_types.specs.declared.event.Event.{Event}
@@ -11,6 +10,7 @@ use Rattle.ktm_types.specs.declared.object.Transaction.{Transaction}
 use Rattle.ktm_types.specs.declared.recorded.Stage.{Stage}
 use Rattle.ktm_types.specs.declared.reply.Reply.{Reply}
 use Rattle.ktm_types.specs.declared.reply.Reply.TheVariants.{Done}
+use Rattle.ktm_world.specs.Enlistments.{Enlistment}
 use Rattle.ktm_world.specs.Durable.{Recorded, is_decided}
 use Rattle.ktm_world.specs.HandleCalls.{abort_active, close_handle, closed_in_turn, exit, handle_gone, has_handle, labels_of, last_handle_gone, without_handle}
 use Rattle.ktm_world.specs.Handles.{object_at}
@@ -46,7 +46,7 @@ FactsOf x o = facts_apply x.recorded o.events ≡ true
 
 module _ (x : Present) (sound : IsSoundCourse x) (agrees : Agrees x) (t : Transaction) (there : IsIn t x.transactions.items) where
   -- an undecided transaction that the log has may be undone
-  undo-fact : is_undecided t ≡ true → (caller : Option Id) (reply : Reply) → FactsOf x (aborted_by x t caller reply)
+  undo-fact : is_undecided t ≡ true → (caller : Option Enlistment) (reply : Reply) → FactsOf x (aborted_by x t caller reply)
   undo-fact undecided caller reply =
       ap (facts_apply x.recorded) ((arrival x (aborting (course_of x t caller)) reply).events ∙ (aborting-undone (course_of x t caller)).events)
       ∙ facts-if x.recorded t.is_recorded (Event.Undo t.id) (λ recorded.
@@ -62,7 +62,7 @@ module _ (x : Present) (sound : IsSoundCourse x) (agrees : Agrees x) (t : Transa
       stays-in Stage.Held is = refl
       stays-in Stage.Decided is = absurd (true≢false is)
 
-  pub facts-aborted_by : can_roll_back t.phase ≡ true → (caller : Option Id) (reply : Reply) → FactsOf x (aborted_by x t caller reply)
+  pub facts-aborted_by : can_roll_back t.phase ≡ true → (caller : Option Enlistment) (reply : Reply) → FactsOf x (aborted_by x t caller reply)
   facts-aborted_by can = undo-fact (undecided-rolls t can (list_all-at (λ t. is_outcome_of t.phase t) x.transactions.items sound.outcomes t there))
 
 -- ---- several, one after another

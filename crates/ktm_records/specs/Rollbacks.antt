@@ -1,8 +1,8 @@
 -- What a rollback records applies.
 use Rattle.std.specs.Prelude.{◌≡◌, ◌+◌, ◌<◌, ◌^◌, true, Option}
-use Rattle.ktm_base.specs.declared.id.Id.{Id}
 use Rattle.ktm_types.specs.declared.object.Transaction.{Transaction}
 use Rattle.ktm_types.specs.declared.reply.Reply.{Reply}
+use Rattle.ktm_world.specs.Enlistments.{Enlistment}
 use Rattle.ktm_world.specs.Durable.{events_apply}
 use Rattle.ktm_world.specs.Lawful.{Agrees}
 use Rattle.ktm_world.specs.Present.{Present}
@@ -14,5 +14,5 @@ use Rattle.ktm_courses.specs.SoundCourse.{IsSoundCourse}
 
 -- where what was recorded is good and agrees with what is so now, and this is sound, what the rollback of an undecided transaction records applies, before the count of events ends
 abbrev pub RollbacksLaw : Type 0
-RollbacksLaw = (x : Present) (t : Transaction) (caller : Option Id) (reply : Reply) → IsSoundCourse x → IsGoodState x.recorded → Agrees x → IsIn t x.transactions.items → is_undecided t ≡ true → x.recorded.events + 1 < 2 ^ 63
+RollbacksLaw = (x : Present) (t : Transaction) (caller : Option Enlistment) (reply : Reply) → IsSoundCourse x → IsGoodState x.recorded → Agrees x → IsIn t x.transactions.items → is_undecided t ≡ true → x.recorded.events + 1 < 2 ^ 63
     → events_apply x.recorded (aborted_by x t caller reply).events ≡ true

@@ -1,5 +1,5 @@
 -- Enlistments, resource managers and their notifications.
-use Rattle.std.specs.Prelude.{ℕ, ◌&&◌, ◌||◌, not, Bool, true, false, List, map, filter, find, Option, Some, if◌then◌else◌}
+use Rattle.std.specs.Prelude.{ℕ, ◌&&◌, ◌||◌, not, Bool, true, false, List, map, filter, find, Option, Some, None, if◌then◌else◌}
 use Rattle.std.specs.List.{list_any}
 use Rattle.ktm_base.specs.declared.id.Id.{Id}
 use Rattle.ktm_base.specs.declared.notify.Notify.{Notify}
@@ -7,14 +7,8 @@ use Rattle.ktm_types.specs.declared.object.Phase.{Phase}
 use Rattle.ktm_types.specs.declared.object.Phase.TheVariants.{Ended}
 use Rattle.ktm_types.specs.declared.object.Transaction.{Transaction}
 use Rattle.ktm_types.specs.declared.options.EnlistmentKind.{EnlistmentKind}
+use Rattle.ktm_types.specs.declared.step.Owed.{Owed}
 use Rattle.ktm_world.specs.Transactions.{same_id, is_of}
-
--- what an enlistment owes an answer to
-pub data Owed : Type 0 where
-  pre_prepare : Owed
-  prepare : Owed
-  commit : Owed
-  rollback : Owed
 
 -- what a resource manager has to do with a transaction
 pub record Enlistment : Type 0 where
@@ -66,19 +60,19 @@ allows_one_phase e = elim e.kind as (λ _. Bool) [ EnlistmentKind.SinglePhase �
 
 -- does it owe an answer to PREPREPARE
 abbrev pub owes_pre_prepare : Enlistment → Bool
-owes_pre_prepare e = elim e.owes as (λ _. Bool) [ Some pre_prepare ↦ true | _ ↦ false ]
+owes_pre_prepare e = elim e.owes as (λ _. Bool) [ Some Owed.PrePrepare ↦ true | _ ↦ false ]
 
 -- does it owe an answer to PREPARE
 abbrev pub owes_prepare : Enlistment → Bool
-owes_prepare e = elim e.owes as (λ _. Bool) [ Some prepare ↦ true | _ ↦ false ]
+owes_prepare e = elim e.owes as (λ _. Bool) [ Some Owed.Prepare ↦ true | _ ↦ false ]
 
 -- does it owe an answer to COMMIT, or to SINGLE_PHASE_COMMIT
 abbrev pub owes_commit : Enlistment → Bool
-owes_commit e = elim e.owes as (λ _. Bool) [ Some commit ↦ true | _ ↦ false ]
+owes_commit e = elim e.owes as (λ _. Bool) [ Some Owed.Commit ↦ true | _ ↦ false ]
 
 -- does it owe an answer to ROLLBACK
 abbrev pub owes_rollback : Enlistment → Bool
-owes_rollback e = elim e.owes as (λ _. Bool) [ Some rollback ↦ true | _ ↦ false ]
+owes_rollback e = elim e.owes as (λ _. Bool) [ Some Owed.Rollback ↦ true | _ ↦ false ]
 
 -- an ordinary enlistment of the transaction, which is any but the superior
 abbrev pub is_ordinary : Id → Enlistment → Bool
@@ -103,6 +97,15 @@ superior_of es id = find (λ e. same_id e.transaction id && is_superior e) es
 -- is it the enlistment with this Id
 abbrev pub has_id : Id → Enlistment → Bool
 has_id id e = same_id e.id id
+
+-- is it the one with this Id, if there is one
+abbrev pub is_given : Option Id → Enlistment → Bool
+is_given given e = elim given as (λ _. Bool) [ Some id ↦ has_id id e | None ↦ false ]
+
+-- the Id of an enlistment, if there is one
+abbrev pub id_of : Option Enlistment → Option Id
+id_of None = None
+id_of (Some e) = Some e.id
 
 -- the enlistment with this Id
 abbrev pub enlistment_at : List Enlistment → Id → Option Enlistment

@@ -20,6 +20,8 @@ pub mod Labels
 pub mod FileCalls
 pub mod KeyCalls
 pub mod Phases
+pub mod Rows
+pub mod Steps
 pub mod TransactionCalls
 pub mod HandleCalls
 pub mod Decide

@@ -12,10 +12,11 @@ use Rattle.ktm_types.specs.declared.object.Phase.TheVariants.{Requested, PrePrep
 use Rattle.ktm_types.specs.declared.object.Transaction.{Transaction}
 use Rattle.ktm_types.specs.declared.object.TransactionOutcome.{TransactionOutcome}
 use Rattle.ktm_types.specs.declared.object.TransactionOutcome.TheVariants.{Committed, Aborted}
+use Rattle.ktm_types.specs.declared.step.Owed.{Owed}
 use Rattle.ktm_world.specs.Keys.{OwnSettings}
 use Rattle.ktm_world.specs.Transactions.{same_id}
 use Rattle.ktm_world.specs.Committed.{Work}
-use Rattle.ktm_world.specs.Enlistments.{Owed, pre_prepare, prepare, commit, rollback, Enlistment, Sent, Manager, is_superior, asks_pre_prepare, allows_one_phase, takes_part, is_unfinished, is_durable_at, with_enlistments, superior_of, has_id, tell}
+use Rattle.ktm_world.specs.Enlistments.{Enlistment, Sent, Manager, is_superior, asks_pre_prepare, allows_one_phase, takes_part, is_unfinished, is_durable_at, with_enlistments, superior_of, has_id, is_given, id_of, tell}
 use Rattle.ktm_world.specs.Changes.{has_changes}
 
 -- a transaction on its way, with all that one command does to it
@@ -26,8 +27,8 @@ pub record Course : Type 0 where
   -- what it has to commit, which no procedure changes
   pub changes : List Change
   pub settings : OwnSettings
-  -- the superior that made the call, if one did
-  pub caller : Option Id
+  -- the enlistment that made the call, if one did
+  pub caller : Option Enlistment
   -- what was done so far
   pub sent : List Sent
   pub events : List Event
@@ -128,12 +129,12 @@ committing c =
     ++ event_if (has_changes c.changes) (Event.Done id DonePart.Files)
     ++ event_if (has_settings c.settings) (Event.Done id DonePart.Keys)))
     { works = c.works ++ work_of c })
-    (λ e. takes_part id e && e.is_prepared && e.is_recovered) Notify.Commit (owing commit) in
+    (λ e. takes_part id e && e.is_prepared && e.is_recovered) Notify.Commit (owing Owed.Commit) in
     ended_if_finished (in_phase (decided told Committed) Committing) Committed
 
--- is the enlistment the superior that made the call
+-- is the enlistment the one that made the call
 abbrev pub is_caller : Course → Enlistment → Bool
-is_caller c e = elim c.caller as (λ _. Bool) [ Some id ↦ same_id e.id id | None ↦ false ]
+is_caller c e = is_given (id_of c.caller) e
 
 -- it rolls back: that is recorded where the log has a Ready or a Held of it, and its enlistments are told, the superior last unless it
 -- asked for it
@@ -141,7 +142,7 @@ unfoldable pub aborting : Course → Course
 aborting c =
     let id = c.transaction.id in
     let undone = recording c (event_if c.transaction.is_recorded (Event.Undo id)) in
-    let told = telling undone (λ e. takes_part id e && e.is_recovered) Notify.Rollback (owing rollback) in
+    let told = telling undone (λ e. takes_part id e && e.is_recovered) Notify.Rollback (owing Owed.Rollback) in
     let all_told = telling told (λ e. is_its_superior c e && not (is_caller c e)) Notify.Rollback unchanged in
     ended_if_finished (in_phase (decided all_told Aborted) Aborting) Aborted
 
@@ -172,7 +173,7 @@ all_ready c = held_or_committing (readied c) (superior c)
 -- all that take part are asked to prepare
 abbrev pub preparing : Course → Course
 preparing c =
-    let asked = in_phase (telling c (takes_part c.transaction.id) Notify.Prepare (owing prepare)) Preparing in
+    let asked = in_phase (telling c (takes_part c.transaction.id) Notify.Prepare (owing Owed.Prepare)) Preparing in
     if some_enlistment c (λ e. true) then asked else all_ready asked
 
 -- the files or the keys alone commit by one event
@@ -183,7 +184,7 @@ single c part = ended (record (recording c (Event.Single c.transaction.id part �
 abbrev pub one_phase : Course → Course
 one_phase c =
     if some_enlistment c allows_one_phase
-    then in_phase (telling c (takes_part c.transaction.id) Notify.SinglePhaseCommit (owing commit)) SinglePhase
+    then in_phase (telling c (takes_part c.transaction.id) Notify.SinglePhaseCommit (owing Owed.Commit)) SinglePhase
     else preparing c
 
 -- one participant alone
@@ -212,7 +213,7 @@ pre_prepared c = if is_some (superior c) then in_phase (telling c (is_its_superi
 unfoldable pub to_pre_prepare : Course → Course
 to_pre_prepare c =
     if some_enlistment c asks_pre_prepare
-    then in_phase (telling c (λ e. takes_part c.transaction.id e && asks_pre_prepare e) Notify.PrePrepare (owing pre_prepare)) PrePreparing
+    then in_phase (telling c (λ e. takes_part c.transaction.id e && asks_pre_prepare e) Notify.PrePrepare (owing Owed.PrePrepare)) PrePreparing
     else pre_prepared c
 
 -- a commit was asked for: its superior is told, or it begins
@@ -265,7 +266,7 @@ read_only_answered c e =
 
 -- one phase is not for it: it is asked to prepare
 unfoldable pub single_phase_rejected : Course → Enlistment → Course
-single_phase_rejected c e = in_phase (telling c (has_id e.id) Notify.Prepare (owing prepare)) Preparing
+single_phase_rejected c e = in_phase (telling c (has_id e.id) Notify.Prepare (owing Owed.Prepare)) Preparing
 
 -- an enlistment has finished, and owes nothing
 abbrev pub finished : Course → Enlistment → Course
@@ -295,8 +296,8 @@ recovering c e = changing_one c e.id (λ e. record e { is_recovered = true })
 -- the enlistment is told how its transaction stands in this phase
 abbrev pub recovered_in : Phase → Course → Enlistment → Course
 recovered_in InDoubt c e = telling c (has_id e.id) Notify.Indoubt unchanged
-recovered_in Committing c e = telling c (has_id e.id) Notify.Commit (owing commit)
-recovered_in Aborting c e = telling c (has_id e.id) Notify.Rollback (owing rollback)
+recovered_in Committing c e = telling c (has_id e.id) Notify.Commit (owing Owed.Commit)
+recovered_in Aborting c e = telling c (has_id e.id) Notify.Rollback (owing Owed.Rollback)
 recovered_in _ c e = c
 
 -- an enlistment recovers: a superior is asked to decide, and another one is told how its transaction stands

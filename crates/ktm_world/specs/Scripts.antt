@@ -1,5 +1,5 @@
 -- Scripts and what the model answers, for worked examples.
-use Rattle.std.specs.Prelude.{◌≡◌, ℕ, ◌+◌, ◌*◌, List, [], ◌∷◌, length, map, Option, Some, None, if◌then◌else◌}
+use Rattle.std.specs.Prelude.{◌≡◌, ℕ, List, [], ◌∷◌, length, map, Option, Some, None, if◌then◌else◌}
 use Rattle.ktm_base.specs.declared.limits.TheConstants.{NEW_UNITS}
 use Rattle.ktm_base.specs.declared.id.Label.{Label}
 use Rattle.ktm_base.specs.declared.id.ObjectKind.{ObjectKind}

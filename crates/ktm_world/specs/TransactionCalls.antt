@@ -34,8 +34,8 @@ use Rattle.ktm_world.specs.Present.{Present, Transactions}
 
 -- ---- a transaction's course, and what it comes to
 
--- the transaction as it is now, with what it has to commit, and the superior that makes the call, if one does
-abbrev pub course_of : Present → Transaction → Option Id → Course
+-- the transaction as it is now, with what it has to commit, and the enlistment that makes the call, if one does
+abbrev pub course_of : Present → Transaction → Option Enlistment → Course
 course_of x t caller = record {
   transaction = t;
   enlistments = x.transactions.enlistments;
@@ -149,11 +149,11 @@ commit_transaction x t = commit_of x t
 abbrev pub may_roll_back : Transaction → Bool
 may_roll_back t = elim t.phase as (λ _. Bool) [ Active ↦ true | Requested ↦ true | PrePreparing ↦ true | PrePrepared ↦ true | Preparing ↦ true | _ ↦ false ]
 
--- a transaction rolls back
-abbrev pub aborted_by : Present → Transaction → Option Id → Reply → Outcome
+-- a transaction rolls back, by this enlistment, if one asks for it
+abbrev pub aborted_by : Present → Transaction → Option Enlistment → Reply → Outcome
 aborted_by x t caller reply = arrived x (aborting (course_of x t caller)) reply
 
--- a transaction rolls back, with no superior as the caller
+-- a transaction rolls back, and no enlistment asks for it
 abbrev pub rollback_of : Present → Option Transaction → Outcome
 rollback_of x None = only_reply x Done
 rollback_of x (Some t) = aborted_by x t None Done
@@ -431,14 +431,14 @@ superior_tests x e allowed =
 -- ---- what a call of an enlistment does
 
 -- a transaction goes on by this step of an enlistment
-abbrev pub goes_on : Present → Enlistment → Option Transaction → Option Id → (Course → Enlistment → Course) → Outcome
-goes_on x e None caller step = only_reply x Done
-goes_on x e (Some t) caller step = arrived x (step (course_of x t caller) e) Done
+abbrev pub goes_on : Present → Enlistment → Option Transaction → (Course → Enlistment → Course) → Outcome
+goes_on x e None step = only_reply x Done
+goes_on x e (Some t) step = arrived x (step (course_of x t (Some e)) e) Done
 
 -- the enlistment's transaction goes on by this step
 abbrev pub answering : Present → Option Enlistment → (Course → Enlistment → Course) → Outcome
 answering x None step = only_reply x Done
-answering x (Some e) step = goes_on x e (transaction_in x e) (if is_superior e then Some e.id else None) step
+answering x (Some e) step = goes_on x e (transaction_in x e) step
 
 -- PrePrepareComplete: the enlistment has pre-prepared
 unfoldable pub pre_prepare_complete : Present → Option Enlistment → Outcome

@@ -136,7 +136,7 @@ told-note es s told = subst (λ (o : Option Id). is_note_of es s.manager (record
     (and_from _ _ (not_from_false _ told.kind) (list_any-from (λ (e : Enlistment). same_id e.id (told.enlistment).id && same_id e.manager s.manager) es told.enlistment told.there
     (and_from _ _ (same_id-from (told.enlistment).id (told.enlistment).id refl) (same_id-from (told.enlistment).manager s.manager (sym told.manager)))))
 
-pub stands-now : (x : Present) (t : Transaction) (caller : Option Id) → IsSoundCourse x → IsIn t (x.transactions).items → Stands (x.recorded).boots (course_of x t caller)
+pub stands-now : (x : Present) (t : Transaction) (caller : Option Enlistment) → IsSoundCourse x → IsIn t (x.transactions).items → Stands (x.recorded).boots (course_of x t caller)
 stands-now x t caller sound there = record {
   outcome = list_all-at (λ (t : Transaction). is_outcome_of t.phase t) (x.transactions).items sound.outcomes t there;
   boots = list_all-at (is_of_its_boot (x.recorded).boots) (x.transactions).items sound.boots t there;
@@ -147,14 +147,14 @@ stands-now x t caller sound there = record {
   recorded = list_all-at (is_recorded_as_asked x.managers (x.transactions).enlistments) (x.transactions).items sound.recorded t there;
 }
 
-pub brought-now : (x : Present) (t : Transaction) (caller : Option Id) → IsSoundCourse x → (e : Enlistment) → IsIn e (course_of x t caller).enlistments → is_unrecovered_well (x.recorded).boots (course_of x t caller).managers e ≡ true
+pub brought-now : (x : Present) (t : Transaction) (caller : Option Enlistment) → IsSoundCourse x → (e : Enlistment) → IsIn e (course_of x t caller).enlistments → is_unrecovered_well (x.recorded).boots (course_of x t caller).managers e ≡ true
 brought-now x t caller sound e there = list_all-at (is_unrecovered_well (x.recorded).boots x.managers) (x.transactions).enlistments sound.unrecovered e there
 
 -- the transactions once a course has come so far
 abbrev pub with_course : Present → Course → Present
 with_course x d = record x { transactions = record x.transactions { items = changed_to (x.transactions).items d.transaction; enlistments = d.enlistments } }
 
-module _ (x : Present) (sound : IsSoundCourse x) (t : Transaction) (there : IsIn t (x.transactions).items) (caller : Option Id) (d : Course) (arrives : Arrives (x.recorded).boots (course_of x t caller) d) where
+module _ (x : Present) (sound : IsSoundCourse x) (t : Transaction) (there : IsIn t (x.transactions).items) (caller : Option Enlistment) (d : Course) (arrives : Arrives (x.recorded).boots (course_of x t caller) d) where
   abbrev moved : Moved (course_of x t caller) d
   moved = arrives.moved
 

@@ -1,5 +1,4 @@
 -- The calls on transactions and enlistments that are there: what each comes to is sound.
-use Rattle.std.specs.Prelude.{if◌then◌else◌}
 use Rattle.std.proofs.Common.{◌≡◌, ℕ, ◌&&◌, not, Bool, true, false, List, [], ◌∷◌, map, filter, Option, Some, None, refl, sym, ◌∙◌, ap, subst, inl, inr}
 use Rattle.std.specs.Prelude.{option_and_then}
 use Rattle.std.proofs.lemmas.Bool.{cases_Bool, and_parts, and_from, or_left, true≢false, not-true}
@@ -100,7 +99,7 @@ single-phase _ is = absurd (true≢false (sym is))
 
 -- ---- transactions
 
-module _ (x : Present) (sound : IsSoundCourse x) (t : Transaction) (there : IsIn t (x.transactions).items) (caller : Option Id) where
+module _ (x : Present) (sound : IsSoundCourse x) (t : Transaction) (there : IsIn t (x.transactions).items) (caller : Option Enlistment) where
   abbrev boot : ℕ
   boot = (x.recorded).boots
 
@@ -167,18 +166,18 @@ goes-undecided n a b arrives is = record { arrives = arrives; known = undecided-
 
 -- a transaction goes on by what an enlistment answers
 abbrev pub Answers : Present → (Course → Enlistment → Course) → Enlistment → Type 0
-Answers x step e = (t : Transaction) (caller : Option Id) → IsIn t (x.transactions).items → same_id e.transaction t.id ≡ true → transaction_in x e ≡ Some t → Goes (x.recorded).boots (course_of x t caller) (step (course_of x t caller) e)
+Answers x step e = (t : Transaction) (caller : Option Enlistment) → IsIn t (x.transactions).items → same_id e.transaction t.id ≡ true → transaction_in x e ≡ Some t → Goes (x.recorded).boots (course_of x t caller) (step (course_of x t caller) e)
 
-sound-goes_on : (x : Present) (e : Enlistment) (o : Option Transaction) (caller : Option Id) (step : Course → Enlistment → Course) → IsSoundCourse x → transaction_in x e ≡ o → Answers x step e → IsSoundOutcome x (goes_on x e o caller step)
-sound-goes_on x e None caller step sound is answers = sound-only_reply x Done sound
-sound-goes_on x e (Some t) caller step sound is answers =
+sound-goes_on : (x : Present) (e : Enlistment) (o : Option Transaction) (step : Course → Enlistment → Course) → IsSoundCourse x → transaction_in x e ≡ o → Answers x step e → IsSoundOutcome x (goes_on x e o step)
+sound-goes_on x e None step sound is answers = sound-only_reply x Done sound
+sound-goes_on x e (Some t) step sound is answers =
     let found = transaction_at-found (x.transactions).items e.transaction t is in
-    let goes = answers t caller found.0 (same_id-from e.transaction t.id (sym found.1)) is in
-    sound-arrived x t caller (step (course_of x t caller) e) Done sound found.0 (goes.arrives) (goes.known)
+    let goes = answers t (Some e) found.0 (same_id-from e.transaction t.id (sym found.1)) is in
+    sound-arrived x t (Some e) (step (course_of x t (Some e)) e) Done sound found.0 (goes.arrives) (goes.known)
 
 pub sound-answering : (x : Present) (o : Option Enlistment) (step : Course → Enlistment → Course) → IsSoundCourse x → ((e : Enlistment) → o ≡ Some e → Answers x step e) → IsSoundOutcome x (answering x o step)
 sound-answering x None step sound answers = sound-only_reply x Done sound
-sound-answering x (Some e) step sound answers = sound-goes_on x e (transaction_in x e) (if is_superior e then Some e.id else None) step sound refl (answers e refl)
+sound-answering x (Some e) step sound answers = sound-goes_on x e (transaction_in x e) step sound refl (answers e refl)
 
 pub enlistment-allowed : (o : Option Enlistment) (allowed : Enlistment → Bool) (e : Enlistment) → o ≡ Some e → Passes (enlistment_tests o allowed) → allowed e ≡ true
 enlistment-allowed o allowed e is tests =
@@ -196,7 +195,7 @@ phase-passed x test e t is passes = subst (λ (o : Option Transaction). holds_of
 
 module _ (x : Present) (sound : IsSoundCourse x) (o : Option Enlistment) (there : (e : Enlistment) → o ≡ Some e → IsIn e (x.transactions).enlistments) where
   -- a call that is made while the outcome is not known, as the phase tells
-  goes : (t : Transaction) (caller : Option Id) → IsIn t (x.transactions).items → (d : Course) → Arrives (x.recorded).boots (course_of x t caller) d → can_roll_back t.phase ≡ true → Goes (x.recorded).boots (course_of x t caller) d
+  goes : (t : Transaction) (caller : Option Enlistment) → IsIn t (x.transactions).items → (d : Course) → Arrives (x.recorded).boots (course_of x t caller) d → can_roll_back t.phase ≡ true → Goes (x.recorded).boots (course_of x t caller) d
   goes t caller at d arrives can = goes-undecided (x.recorded).boots (course_of x t caller) d arrives (undecided-rolls t can (stands-now x t caller sound at).outcome)
 
   pub sound-pre_prepare_complete : Passes (enlistment_tests o owes_pre_prepare) → IsSoundOutcome x (answering x o pre_prepare_answered)

@@ -8,7 +8,8 @@ use Rattle.ktm_types.specs.declared.event.Part.{Part}
 use Rattle.ktm_types.specs.declared.object.Phase.{Phase}
 use Rattle.ktm_types.specs.declared.object.Phase.TheVariants.{Requested, PrePreparing, PrePrepared, Preparing, SinglePhase, Ended}
 use Rattle.ktm_types.specs.declared.object.TransactionOutcome.TheVariants.{Committed}
-use Rattle.ktm_world.specs.Enlistments.{Enlistment, Owed, pre_prepare, prepare, commit, asks_pre_prepare, allows_one_phase, takes_part, is_durable_at, superior_of}
+use Rattle.ktm_types.specs.declared.step.Owed.{Owed}
+use Rattle.ktm_world.specs.Enlistments.{Enlistment, asks_pre_prepare, allows_one_phase, takes_part, is_durable_at, superior_of}
 use Rattle.ktm_world.specs.Phases.{Course, in_phase, recording, telling, owing, unchanged, superior, is_its_superior, some_enlistment, has_settings, one_if, taking_part, participants, work_of, all_ready, preparing, single, one_phase, one_participant, prepare_alone, to_prepare, pre_prepared, to_pre_prepare, to_commit, is_single_phase}
 use Rattle.ktm_world.specs.Transactions.{is_undecided}
 use Rattle.ktm_world.specs.Changes.{has_changes}
@@ -72,18 +73,18 @@ module _ (boot : ℕ) (c : Course) (fresh : Fresh boot c) where
   -- ---- all are asked to prepare
 
   abbrev c_asked : Course
-  c_asked = in_phase (telling c take_part Notify.Prepare (owing prepare)) Preparing
+  c_asked = in_phase (telling c take_part Notify.Prepare (owing Owed.Prepare)) Preparing
 
   asked-moved : Moved c c_asked
-  asked-moved = Moved-then (moved-telling c take_part Notify.Prepare (owing prepare) refl (changes-parts take_part prepare (λ e is. is)))
-      (moved-transaction (telling c take_part Notify.Prepare (owing prepare)) c_asked.transaction refl refl refl)
+  asked-moved = Moved-then (moved-telling c take_part Notify.Prepare (owing Owed.Prepare) refl (changes-parts take_part Owed.Prepare (λ e is. is)))
+      (moved-transaction (telling c take_part Notify.Prepare (owing Owed.Prepare)) c_asked.transaction refl refl refl)
 
   -- none of them is prepared
   asked-none : has_durable_part c.managers c_asked.enlistments (c.transaction).id (λ e. e.is_prepared) ≡ false
   asked-none = none-from _ c_asked.enlistments (λ e there. unprepared e (cases_Bool (takes_part (c.transaction).id e)) there)
     where
       stand : Stand c_asked.enlistments (c.transaction).id (λ e. not e.is_prepared)
-      stand = Stand-with c.enlistments (c.transaction).id is_idle (λ e. not e.is_prepared) take_part (owing prepare) fresh.stand (λ e there is. is) (alike-owing prepare)
+      stand = Stand-with c.enlistments (c.transaction).id is_idle (λ e. not e.is_prepared) take_part (owing Owed.Prepare) fresh.stand (λ e there is. is) (alike-owing Owed.Prepare)
           (λ e there part idle is. not_from_false _ (idle-parts e idle).1) (λ e there part idle silent. absurd (true≢false (sym part ∙ silent)))
 
       unprepared : (e : Enlistment) → (takes_part (c.transaction).id e ≡ true) ⊎ (takes_part (c.transaction).id e ≡ false) → IsIn e c_asked.enlistments
@@ -92,7 +93,7 @@ module _ (boot : ℕ) (c : Course) (fresh : Fresh boot c) where
       unprepared e (inr other) there = rw other refl
 
   asked-stand : Stand c_asked.enlistments (c.transaction).id (is_part_as Preparing)
-  asked-stand = Stand-with c.enlistments (c.transaction).id is_idle (is_part_as Preparing) take_part (owing prepare) fresh.stand (λ e there is. is) (alike-owing prepare)
+  asked-stand = Stand-with c.enlistments (c.transaction).id is_idle (is_part_as Preparing) take_part (owing Owed.Prepare) fresh.stand (λ e there is. is) (alike-owing Owed.Prepare)
       (λ e there part idle is. rw ((idle-parts e idle).1, (idle-parts e idle).2) refl) (λ e there part idle silent. absurd (true≢false (sym part ∙ silent)))
 
   pub arrives-preparing : Arrives boot c (preparing c)
@@ -107,7 +108,7 @@ module _ (boot : ℕ) (c : Course) (fresh : Fresh boot c) where
           awaited =
               let one = list_any-at _ c.enlistments some in
               let part = (and_parts (takes_part (c.transaction).id one.0) true one.2).0 in
-              list_any-from _ c_asked.enlistments (stepped take_part (owing prepare) one.0) (IsIn-map (stepped take_part (owing prepare)) one.0 c.enlistments one.1)
+              list_any-from _ c_asked.enlistments (stepped take_part (owing Owed.Prepare) one.0) (IsIn-map (stepped take_part (owing Owed.Prepare)) one.0 c.enlistments one.1)
               (rw part (rw part refl));
           alone = refl;
           recorded = rw asked-none (not_from_false _ fresh.unrecorded);
@@ -122,9 +123,9 @@ module _ (boot : ℕ) (c : Course) (fresh : Fresh boot c) where
     where
       nobody : some_enlistment c (λ e. true) ≡ false → (e : Enlistment) → IsIn e c_asked.enlistments → takes_part (c.transaction).id e ≡ true → ⊥
       nobody none e there part =
-          let from = IsIn-unmap (stepped take_part (owing prepare)) e c.enlistments there in
+          let from = IsIn-unmap (stepped take_part (owing Owed.Prepare)) e c.enlistments there in
           let part' : takes_part (c.transaction).id from.0 ≡ true =
-          sym (if_cases (λ x. takes_part (c.transaction).id x ≡ takes_part (c.transaction).id from.0) (take_part from.0) (owing prepare from.0) from.0 (λ is. refl) (λ is. refl))
+          sym (if_cases (λ x. takes_part (c.transaction).id x ≡ takes_part (c.transaction).id from.0) (take_part from.0) (owing Owed.Prepare from.0) from.0 (λ is. refl) (λ is. refl))
           ∙ ap (takes_part (c.transaction).id) from.1 ∙ part in
           true≢false (sym (and_from _ _ part' refl) ∙ none-at _ c.enlistments none from.0 from.2)
 
@@ -137,7 +138,7 @@ module _ (boot : ℕ) (c : Course) (fresh : Fresh boot c) where
       (arrives-ended boot d Committed refl (rw fresh.here refl) (Stand-nobody c.enlistments (c.transaction).id is_idle (is_part_as Ended) fresh.stand (no-parts c none)))
 
   abbrev c_single : Course
-  c_single = in_phase (telling c take_part Notify.SinglePhaseCommit (owing commit)) SinglePhase
+  c_single = in_phase (telling c take_part Notify.SinglePhaseCommit (owing Owed.Commit)) SinglePhase
 
   pub arrives-one_phase : length (taking_part c) ≡ 1 → has_changes c.changes ≡ false → has_settings c.settings ≡ false → is_some (superior c) ≡ false → Arrives boot c (one_phase c)
   arrives-one_phase one changes settings alone = if_cases (λ d. Arrives boot c d) (some_enlistment c allows_one_phase) c_single (preparing c)
@@ -145,20 +146,20 @@ module _ (boot : ℕ) (c : Course) (fresh : Fresh boot c) where
       let first = list_any-at _ c.enlistments some in
       let parts = and_parts (takes_part (c.transaction).id first.0) (allows_one_phase first.0) first.2 in
       record {
-        moved = Moved-then (moved-telling c take_part Notify.SinglePhaseCommit (owing commit) refl (changes-parts take_part commit (λ e is. is)))
-            (moved-transaction (telling c take_part Notify.SinglePhaseCommit (owing commit)) c_single.transaction refl refl refl);
+        moved = Moved-then (moved-telling c take_part Notify.SinglePhaseCommit (owing Owed.Commit) refl (changes-parts take_part Owed.Commit (λ e is. is)))
+            (moved-transaction (telling c take_part Notify.SinglePhaseCommit (owing Owed.Commit)) c_single.transaction refl refl refl);
         stands = record {
           outcome = fresh.undecided;
           boots = rw fresh.here refl;
-          superior = not_from_false _ (superior-with (c.transaction).id (stepped take_part (owing commit))
-              (λ e. if_cases (λ x. IsSame e x) (take_part e) (owing commit e) e (λ is. (alike-owing commit e).same) (λ is. IsSame-refl e)) c.enlistments ∙ alone);
-          stand = Stand-with c.enlistments (c.transaction).id is_idle (is_part_as SinglePhase) take_part (owing commit) fresh.stand (λ e there is. is) (alike-owing commit)
+          superior = not_from_false _ (superior-with (c.transaction).id (stepped take_part (owing Owed.Commit))
+              (λ e. if_cases (λ x. IsSame e x) (take_part e) (owing Owed.Commit e) e (λ is. (alike-owing Owed.Commit e).same) (λ is. IsSame-refl e)) c.enlistments ∙ alone);
+          stand = Stand-with c.enlistments (c.transaction).id is_idle (is_part_as SinglePhase) take_part (owing Owed.Commit) fresh.stand (λ e there is. is) (alike-owing Owed.Commit)
               (λ e there part idle is.
               let allows : allows_one_phase e ≡ true = subst (λ x. allows_one_phase x ≡ true) (only-one c.enlistments (c.transaction).id one first.0 e first.1 there parts.0 part) parts.1 in
               rw ((idle-parts e idle).1, (idle-parts e idle).2) allows)
               (λ e there part idle silent. absurd (true≢false (sym part ∙ silent)));
           awaited = eq-eqb (count_by take_part c_single.enlistments) 1
-              (sym (length-filter take_part c_single.enlistments) ∙ filter-with take_part take_part (owing commit) (λ e. refl) c.enlistments ∙ one);
+              (sym (length-filter take_part c_single.enlistments) ∙ filter-with take_part take_part (owing Owed.Commit) (λ e. refl) c.enlistments ∙ one);
           alone = and_from _ _ (not_from_false _ changes) (not_from_false _ settings);
           recorded = not_from_false _ fresh.unrecorded;
         };
@@ -203,26 +204,26 @@ module _ (boot : ℕ) (c : Course) (fresh : Fresh boot c) where
   ask e = takes_part (c.transaction).id e && asks_pre_prepare e
 
   abbrev c_pre_preparing : Course
-  c_pre_preparing = in_phase (telling c ask Notify.PrePrepare (owing pre_prepare)) PrePreparing
+  c_pre_preparing = in_phase (telling c ask Notify.PrePrepare (owing Owed.PrePrepare)) PrePreparing
 
   pub arrives-to_pre_prepare : Arrives boot c (to_pre_prepare c)
   unfolding to_pre_prepare
   arrives-to_pre_prepare = if_cases (λ d. Arrives boot c d) (some_enlistment c asks_pre_prepare) c_pre_preparing (pre_prepared c)
       (λ some. record {
-        moved = Moved-then (moved-telling c ask Notify.PrePrepare (owing pre_prepare) refl (changes-parts ask pre_prepare (λ e is. (and_parts (takes_part (c.transaction).id e) (asks_pre_prepare e) is).0)))
-            (moved-transaction (telling c ask Notify.PrePrepare (owing pre_prepare)) c_pre_preparing.transaction refl refl refl);
+        moved = Moved-then (moved-telling c ask Notify.PrePrepare (owing Owed.PrePrepare) refl (changes-parts ask Owed.PrePrepare (λ e is. (and_parts (takes_part (c.transaction).id e) (asks_pre_prepare e) is).0)))
+            (moved-transaction (telling c ask Notify.PrePrepare (owing Owed.PrePrepare)) c_pre_preparing.transaction refl refl refl);
         stands = record {
           outcome = fresh.undecided;
           boots = rw fresh.here refl;
           superior = refl;
-          stand = Stand-with c.enlistments (c.transaction).id is_idle (is_part_as PrePreparing) ask (owing pre_prepare) fresh.stand
-              (λ e there is. (and_parts (takes_part (c.transaction).id e) (asks_pre_prepare e) is).0) (alike-owing pre_prepare)
+          stand = Stand-with c.enlistments (c.transaction).id is_idle (is_part_as PrePreparing) ask (owing Owed.PrePrepare) fresh.stand
+              (λ e there is. (and_parts (takes_part (c.transaction).id e) (asks_pre_prepare e) is).0) (alike-owing Owed.PrePrepare)
               (λ e there part idle is. rw ((idle-parts e idle).1, (idle-parts e idle).2) (and_parts (takes_part (c.transaction).id e) (asks_pre_prepare e) is).1)
               (λ e there part idle silent. rw ((idle-parts e idle).0, (idle-parts e idle).1, (idle-parts e idle).2) refl);
           awaited =
               let one = list_any-at _ c.enlistments some in
               let part = (and_parts (takes_part (c.transaction).id one.0) (asks_pre_prepare one.0) one.2).0 in
-              list_any-from _ c_pre_preparing.enlistments (stepped ask (owing pre_prepare) one.0) (IsIn-map (stepped ask (owing pre_prepare)) one.0 c.enlistments one.1)
+              list_any-from _ c_pre_preparing.enlistments (stepped ask (owing Owed.PrePrepare) one.0) (IsIn-map (stepped ask (owing Owed.PrePrepare)) one.0 c.enlistments one.1)
               (rw one.2 (rw part refl));
           alone = refl;
           recorded = not_from_false _ fresh.unrecorded;

@@ -12,7 +12,8 @@ use Rattle.ktm_types.specs.declared.object.Phase.{Phase}
 use Rattle.ktm_types.specs.declared.object.Phase.TheVariants.{Active, Requested, PrePreparing, PrePrepared, Preparing, SinglePhase, Held, InDoubt, Committing, Aborting, Ended}
 use Rattle.ktm_types.specs.declared.object.Transaction.{Transaction}
 use Rattle.ktm_types.specs.declared.object.TransactionOutcome.{TransactionOutcome}
-use Rattle.ktm_world.specs.Enlistments.{has_id, Sent, Enlistment, Manager, Owed, pre_prepare, prepare, commit, rollback, is_superior, is_open_for_votes, asks_pre_prepare, allows_one_phase, owes_pre_prepare, owes_prepare, owes_commit, owes_rollback, takes_part, is_unfinished, is_durable_at, with_enlistments, superior_of}
+use Rattle.ktm_types.specs.declared.step.Owed.{Owed}
+use Rattle.ktm_world.specs.Enlistments.{has_id, Sent, Enlistment, Manager, is_superior, is_open_for_votes, asks_pre_prepare, allows_one_phase, owes_pre_prepare, owes_prepare, owes_commit, owes_rollback, takes_part, is_unfinished, is_durable_at, with_enlistments, superior_of}
 use Rattle.ktm_world.specs.Phases.{Course, changing_one, someone_owes, when_none_owes, pre_prepare_answered, enlistment_part, prepare_answered, without_its_answer, recovered as recovered_by, read_only_answered, single_phase_rejected, finished, is_single_phase, commit_answered, rollback_answered, recovering, recovered_in, in_phase, recording, telling, owing, unchanged, superior, ended, ended_if_finished, event_if, aborting, all_ready, pre_prepared}
 use Rattle.ktm_world.specs.Transactions.{same_id, is_undecided}
 use Rattle.txf_laws.specs.Elements.{IsIn, each_pair}
@@ -35,41 +36,41 @@ RiseEnlistments es = each_pair (λ (e f : Enlistment). is_before e.id f.id) es �
 
 -- ---- what is owed
 
-pub owed-pre_prepare : (e : Enlistment) → owes_pre_prepare e ≡ true → e.owes ≡ Some pre_prepare
+pub owed-pre_prepare : (e : Enlistment) → owes_pre_prepare e ≡ true → e.owes ≡ Some Owed.PrePrepare
 owed-pre_prepare e = go e.owes
   where
-    go : (o : Option Owed) → owes_pre_prepare (record e { owes = o }) ≡ true → o ≡ Some pre_prepare
-    go (Some pre_prepare) is = refl
+    go : (o : Option Owed) → owes_pre_prepare (record e { owes = o }) ≡ true → o ≡ Some Owed.PrePrepare
+    go (Some Owed.PrePrepare) is = refl
     go _ is = absurd (true≢false (sym is))
 
-pub owed-prepare : (e : Enlistment) → owes_prepare e ≡ true → e.owes ≡ Some prepare
+pub owed-prepare : (e : Enlistment) → owes_prepare e ≡ true → e.owes ≡ Some Owed.Prepare
 owed-prepare e = go e.owes
   where
-    go : (o : Option Owed) → owes_prepare (record e { owes = o }) ≡ true → o ≡ Some prepare
-    go (Some prepare) is = refl
+    go : (o : Option Owed) → owes_prepare (record e { owes = o }) ≡ true → o ≡ Some Owed.Prepare
+    go (Some Owed.Prepare) is = refl
     go _ is = absurd (true≢false (sym is))
 
-pub owed-commit : (e : Enlistment) → owes_commit e ≡ true → e.owes ≡ Some commit
+pub owed-commit : (e : Enlistment) → owes_commit e ≡ true → e.owes ≡ Some Owed.Commit
 owed-commit e = go e.owes
   where
-    go : (o : Option Owed) → owes_commit (record e { owes = o }) ≡ true → o ≡ Some commit
-    go (Some commit) is = refl
+    go : (o : Option Owed) → owes_commit (record e { owes = o }) ≡ true → o ≡ Some Owed.Commit
+    go (Some Owed.Commit) is = refl
     go _ is = absurd (true≢false (sym is))
 
-pub owed-rollback : (e : Enlistment) → owes_rollback e ≡ true → e.owes ≡ Some rollback
+pub owed-rollback : (e : Enlistment) → owes_rollback e ≡ true → e.owes ≡ Some Owed.Rollback
 owed-rollback e = go e.owes
   where
-    go : (o : Option Owed) → owes_rollback (record e { owes = o }) ≡ true → o ≡ Some rollback
-    go (Some rollback) is = refl
+    go : (o : Option Owed) → owes_rollback (record e { owes = o }) ≡ true → o ≡ Some Owed.Rollback
+    go (Some Owed.Rollback) is = refl
     go _ is = absurd (true≢false (sym is))
 
 -- the answer that is waited for in a phase
 pub answer_in : Phase → Option Owed
-answer_in PrePreparing = Some pre_prepare
-answer_in Preparing = Some prepare
-answer_in SinglePhase = Some commit
-answer_in Committing = Some commit
-answer_in Aborting = Some rollback
+answer_in PrePreparing = Some Owed.PrePrepare
+answer_in Preparing = Some Owed.Prepare
+answer_in SinglePhase = Some Owed.Commit
+answer_in Committing = Some Owed.Commit
+answer_in Aborting = Some Owed.Rollback
 answer_in _ = None
 
 none-of : (o : Option Owed) → is_some o ≡ false → is_none o ≡ true
@@ -116,23 +117,23 @@ answer-of SinglePhase e owed is part =
 answer-of Committing e owed is part = owed-commit e (until-owed owes_commit e owed is (and_parts e.is_prepared (owes_until_finished owes_commit e) part).1).0
 answer-of Aborting e owed is part = owed-rollback e (until-owed owes_rollback e owed is part).0
 
-pub is-pre_preparing : (phase : Phase) → answer_in phase ≡ Some pre_prepare → phase ≡ PrePreparing
+pub is-pre_preparing : (phase : Phase) → answer_in phase ≡ Some Owed.PrePrepare → phase ≡ PrePreparing
 unfolding answer_in
 is-pre_preparing PrePreparing is = refl
 is-pre_preparing _ is = absurd cc
 
-pub is-preparing : (phase : Phase) → answer_in phase ≡ Some prepare → phase ≡ Preparing
+pub is-preparing : (phase : Phase) → answer_in phase ≡ Some Owed.Prepare → phase ≡ Preparing
 unfolding answer_in
 is-preparing Preparing is = refl
 is-preparing _ is = absurd cc
 
-pub is-committing : (phase : Phase) → answer_in phase ≡ Some commit → (phase ≡ Committing) ⊎ (phase ≡ SinglePhase)
+pub is-committing : (phase : Phase) → answer_in phase ≡ Some Owed.Commit → (phase ≡ Committing) ⊎ (phase ≡ SinglePhase)
 unfolding answer_in
 is-committing Committing is = inl refl
 is-committing SinglePhase is = inr refl
 is-committing _ is = absurd cc
 
-pub is-aborting : (phase : Phase) → answer_in phase ≡ Some rollback → phase ≡ Aborting
+pub is-aborting : (phase : Phase) → answer_in phase ≡ Some Owed.Rollback → phase ≡ Aborting
 unfolding answer_in
 is-aborting Aborting is = refl
 is-aborting _ is = absurd cc
@@ -273,10 +274,10 @@ module _ (boot : ℕ) (c : Course) (stands : Stands boot c) (brought : (e : Enli
   -- what it owes tells whether the outcome is known
   pub undecided-pre_prepare : owes_pre_prepare e ≡ true → is_undecided c.transaction ≡ true
   undecided-pre_prepare owes = undecided-rolls c.transaction
-      (subst (λ p. can_roll_back p ≡ true) (sym (is-pre_preparing (c.transaction).phase (phase-owing pre_prepare (owed-pre_prepare e owes)))) refl) stands.outcome
+      (subst (λ p. can_roll_back p ≡ true) (sym (is-pre_preparing (c.transaction).phase (phase-owing Owed.PrePrepare (owed-pre_prepare e owes)))) refl) stands.outcome
 
   pub undecided-prepare : owes_prepare e ≡ true → is_undecided c.transaction ≡ true
-  undecided-prepare owes = undecided-rolls c.transaction (subst (λ p. can_roll_back p ≡ true) (sym (is-preparing (c.transaction).phase (phase-owing prepare (owed-prepare e owes)))) refl) stands.outcome
+  undecided-prepare owes = undecided-rolls c.transaction (subst (λ p. can_roll_back p ≡ true) (sym (is-preparing (c.transaction).phase (phase-owing Owed.Prepare (owed-prepare e owes)))) refl) stands.outcome
 
   -- an end that is known already
   if_finished-known : (d : Course) (outcome : TransactionOutcome) → (d.transaction).outcome ≡ (c.transaction).outcome → outcome ≡ (c.transaction).outcome → ((ended_if_finished d outcome).transaction).outcome ≡ (c.transaction).outcome
@@ -285,7 +286,7 @@ module _ (boot : ℕ) (c : Course) (stands : Stands boot c) (brought : (e : Enli
 
   pub known-commit_answered : owes_commit e ≡ true → is_undecided c.transaction ≡ false → ((commit_answered c e).transaction).outcome ≡ (c.transaction).outcome
   unfolding commit_answered ended
-  known-commit_answered owes known = elim (is-committing (c.transaction).phase (phase-owing commit (owed-commit e owes))) [
+  known-commit_answered owes known = elim (is-committing (c.transaction).phase (phase-owing Owed.Commit (owed-commit e owes))) [
     | inr phase ↦ absurd (true≢false (sym (undecided-rolls c.transaction (subst (λ p. can_roll_back p ≡ true) (sym phase) refl) stands.outcome) ∙ known))
     | inl phase ↦
         let is : TransactionOutcome.Committed ≡ (c.transaction).outcome = committed-outcome c.transaction (stands-in boot c Committing phase stands).outcome in
@@ -297,7 +298,7 @@ module _ (boot : ℕ) (c : Course) (stands : Stands boot c) (brought : (e : Enli
   pub known-rollback_answered : owes_rollback e ≡ true → ((rollback_answered c e).transaction).outcome ≡ (c.transaction).outcome
   unfolding rollback_answered
   known-rollback_answered owes = if_finished-known (finished c e) TransactionOutcome.Aborted refl
-      (aborted-outcome c.transaction (stands-in boot c Aborting (is-aborting (c.transaction).phase (phase-owing rollback (owed-rollback e owes))) stands).outcome)
+      (aborted-outcome c.transaction (stands-in boot c Aborting (is-aborting (c.transaction).phase (phase-owing Owed.Rollback (owed-rollback e owes))) stands).outcome)
 
   pub known-recovered : ((recovered_by c e).transaction).outcome ≡ (c.transaction).outcome
   unfolding recovered_by
@@ -348,20 +349,20 @@ module _ (boot : ℕ) (c : Course) (stands : Stands boot c) (brought : (e : Enli
       idle-from x fits (none-owed c_answered none x there' part)))
       (unrecovered-moved c c_answered boot moved brought))))
     where
-      is : e.owes ≡ Some pre_prepare
+      is : e.owes ≡ Some Owed.PrePrepare
       is = owed-pre_prepare e owes
 
       phase : (c.transaction).phase ≡ PrePreparing
-      phase = is-pre_preparing (c.transaction).phase (phase-owing pre_prepare is)
+      phase = is-pre_preparing (c.transaction).phase (phase-owing Owed.PrePrepare is)
 
       at : Stands boot (in_phase c PrePreparing)
       at = stands-in boot c PrePreparing phase stands
 
       moved : Moved c c_answered
-      moved = moved-one answered (λ x. (alike-answered x).same) (recovered-owing pre_prepare is)
+      moved = moved-one answered (λ x. (alike-answered x).same) (recovered-owing Owed.PrePrepare is)
 
       stand : Stand c_answered.enlistments (c.transaction).id (is_part_as PrePreparing)
-      stand = stand-one (is_part_as PrePreparing) (is_part_as PrePreparing) answered at.stand (takes_part-owing pre_prepare is) alike-answered
+      stand = stand-one (is_part_as PrePreparing) (is_part_as PrePreparing) answered at.stand (takes_part-owing Owed.PrePrepare is) alike-answered
           (λ fits. and_from _ _ (and_parts (not e.is_prepared && not e.is_finished) (is_none e.owes || (owes_pre_prepare e && asks_pre_prepare e)) fits).0 refl) (λ x there' part fits other. fits)
 
   -- ---- PrepareComplete
@@ -378,21 +379,21 @@ module _ (boot : ℕ) (c : Course) (stands : Stands boot c) (brought : (e : Enli
   c_prepared events recorded' = record c { enlistments = with_enlistments (has_id e.id) prepared c.enlistments; events = events; transaction = record c.transaction { is_recorded = recorded' } }
 
   module _ (owes : owes_prepare e ≡ true) where
-    is_prepare : e.owes ≡ Some prepare
+    is_prepare : e.owes ≡ Some Owed.Prepare
     is_prepare = owed-prepare e owes
 
     pub phase_preparing : (c.transaction).phase ≡ Preparing
-    phase_preparing = is-preparing (c.transaction).phase (phase-owing prepare is_prepare)
+    phase_preparing = is-preparing (c.transaction).phase (phase-owing Owed.Prepare is_prepare)
 
     at_preparing : Stands boot (in_phase c Preparing)
     at_preparing = stands-in boot c Preparing phase_preparing stands
 
     pub part_preparing : takes_part (c.transaction).id e ≡ true
-    part_preparing = takes_part-owing prepare is_prepare
+    part_preparing = takes_part-owing Owed.Prepare is_prepare
 
     -- it was not prepared before
     pub unprepared : (e.is_prepared ≡ false) × (owes_prepare e ≡ true) × (e.is_finished ≡ false)
-    unprepared = elim (preparing-parts e ((at_preparing.stand).parts e there part_preparing)) [ inl waits ↦ absurd (owes_none e prepare is_prepare (waiting-parts e waits).0) | inr parts ↦ parts ]
+    unprepared = elim (preparing-parts e ((at_preparing.stand).parts e there part_preparing)) [ inl waits ↦ absurd (owes_none e Owed.Prepare is_prepare (waiting-parts e waits).0) | inr parts ↦ parts ]
 
     stand_prepared : Stand (with_enlistments (has_id e.id) prepared c.enlistments) (c.transaction).id (is_part_as Preparing)
     stand_prepared = stand-one (is_part_as Preparing) (is_part_as Preparing) prepared at_preparing.stand part_preparing alike-prepared
@@ -423,13 +424,13 @@ module _ (boot : ℕ) (c : Course) (stands : Stands boot c) (brought : (e : Enli
           undecided = at_preparing.outcome;
           stand = Stand-as d.enlistments (c.transaction).id (is_part_as Preparing) is_waiting stand_prepared (λ x there' part fits. elim (preparing-parts x fits) [
             | inl waits ↦ waits
-            | inr owing' ↦ absurd (owes_none x prepare (owed-prepare x owing'.1) (none-owed d none x there' part))
+            | inr owing' ↦ absurd (owes_none x Owed.Prepare (owed-prepare x owing'.1) (none-owed d none x there' part))
           ]);
           recorded = λ some. elim (if_parts _ recorded' (not recorded') right) [ inl both ↦ both.1 | inr both ↦ absurd (true≢false (sym some ∙ both.0)) ];
         })))
 
     prepared-moved : Moved c (changing_one c e.id prepared)
-    prepared-moved = moved-one prepared (λ x. (alike-prepared x).same) (recovered-owing prepare is_prepare)
+    prepared-moved = moved-one prepared (λ x. (alike-prepared x).same) (recovered-owing Owed.Prepare is_prepare)
 
     pub arrives-prepare_answered : Arrives boot c (prepare_answered c e)
     unfolding prepare_answered
@@ -521,7 +522,7 @@ module _ (boot : ℕ) (c : Course) (stands : Stands boot c) (brought : (e : Enli
     awaited_left SinglePhase voting' none fits awaited =
         let three = and_parts (owes_commit e && not e.is_prepared && not e.is_finished) (allows_one_phase e) fits in
         let two = and_parts (owes_commit e && not e.is_prepared) (not e.is_finished) three.0 in
-        absurd (owes_none e commit (owed-commit e (and_parts (owes_commit e) (not e.is_prepared) two.0).0) none)
+        absurd (owes_none e Owed.Commit (owed-commit e (and_parts (owes_commit e) (not e.is_prepared) two.0).0) none)
     awaited_left Committing voting' none fits awaited = absurd (true≢false (sym voting'))
     awaited_left Aborting voting' none fits awaited = absurd (true≢false (sym voting'))
     awaited_left _ voting' none fits awaited = refl
@@ -571,7 +572,7 @@ module _ (boot : ℕ) (c : Course) (stands : Stands boot c) (brought : (e : Enli
           undecided = at.outcome;
           stand = Stand-as c_left.enlistments (c.transaction).id (is_part_as Preparing) is_waiting (stand_left (is_part_as Preparing) at.stand) (λ x there' part fits. elim (preparing-parts x fits) [
             | inl waits ↦ waits
-            | inr owing' ↦ absurd (owes_none x prepare (owed-prepare x owing'.1) (none-owed c_left none x there' part))
+            | inr owing' ↦ absurd (owes_none x Owed.Prepare (owed-prepare x owing'.1) (none-owed c_left none x there' part))
           ]);
           recorded = λ some. elim (if_parts _ (c.transaction).is_recorded (not (c.transaction).is_recorded) at.recorded) [ inl both ↦ both.1 | inr both ↦ absurd (true≢false (sym some ∙ durable_left ∙ both.0)) ];
         })))
@@ -605,7 +606,7 @@ module _ (boot : ℕ) (c : Course) (stands : Stands boot c) (brought : (e : Enli
     at_single = stands-in boot c SinglePhase phase stands
 
     part_single : takes_part (c.transaction).id e ≡ true
-    part_single = takes_part-owing commit (owed-commit e owes)
+    part_single = takes_part-owing Owed.Commit (owed-commit e owes)
 
     it_single : (x : Enlistment) → IsIn x c.enlistments → takes_part (c.transaction).id x ≡ true → e ≡ x
     it_single x there' part = only-one c.enlistments (c.transaction).id (length-filter (takes_part (c.transaction).id) c.enlistments ∙ eqb-true _ 1 at_single.awaited) e x there there' part_single part
@@ -617,13 +618,13 @@ module _ (boot : ℕ) (c : Course) (stands : Stands boot c) (brought : (e : Enli
         (not-true _ (and_parts (owes_commit x) (not x.is_prepared) two.0).1, not-true _ two.1)
 
     abbrev c_rejected : Course
-    c_rejected = in_phase (telling c (has_id e.id) Notify.Prepare (owing prepare)) Preparing
+    c_rejected = in_phase (telling c (has_id e.id) Notify.Prepare (owing Owed.Prepare)) Preparing
 
     rejected-none : has_durable_part c.managers c_rejected.enlistments (c.transaction).id (λ x. x.is_prepared) ≡ false
     rejected-none = none-from _ c_rejected.enlistments (λ x there'. one x there' (cases_Bool (takes_part (c.transaction).id x)))
       where
         stand : Stand c_rejected.enlistments (c.transaction).id (λ x. not x.is_prepared)
-        stand = stand-one (is_part_as SinglePhase) (λ x. not x.is_prepared) (owing prepare) at_single.stand part_single (alike-owing prepare)
+        stand = stand-one (is_part_as SinglePhase) (λ x. not x.is_prepared) (owing Owed.Prepare) at_single.stand part_single (alike-owing Owed.Prepare)
             (λ fits. not_from_false _ (single-parts e fits).0) (λ x there' part fits other. not_from_false _ (single-parts x fits).0)
 
         one : (x : Enlistment) → IsIn x c_rejected.enlistments → (takes_part (c.transaction).id x ≡ true) ⊎ (takes_part (c.transaction).id x ≡ false) → (takes_part (c.transaction).id x && (x.is_prepared && is_durable_at c.managers x.manager)) ≡ false
@@ -633,17 +634,17 @@ module _ (boot : ℕ) (c : Course) (stands : Stands boot c) (brought : (e : Enli
     pub arrives-single_phase_rejected : Arrives boot c (single_phase_rejected c e)
     unfolding single_phase_rejected
     arrives-single_phase_rejected = record {
-      moved = Moved-then (moved-telling c (has_id e.id) Notify.Prepare (owing prepare) refl (changes-one (owing prepare) (λ x. (alike-owing prepare x).same) (recovered-owing commit (owed-commit e owes))))
-          (moved-transaction (telling c (has_id e.id) Notify.Prepare (owing prepare)) c_rejected.transaction refl refl refl);
+      moved = Moved-then (moved-telling c (has_id e.id) Notify.Prepare (owing Owed.Prepare) refl (changes-one (owing Owed.Prepare) (λ x. (alike-owing Owed.Prepare x).same) (recovered-owing Owed.Commit (owed-commit e owes))))
+          (moved-transaction (telling c (has_id e.id) Notify.Prepare (owing Owed.Prepare)) c_rejected.transaction refl refl refl);
       stands = record {
         outcome = at_single.outcome;
         boots = rw (here-from boot (in_phase c SinglePhase).transaction refl at_single.boots) refl;
         superior = refl;
-        stand = stand-one (is_part_as SinglePhase) (is_part_as Preparing) (owing prepare) at_single.stand part_single (alike-owing prepare)
+        stand = stand-one (is_part_as SinglePhase) (is_part_as Preparing) (owing Owed.Prepare) at_single.stand part_single (alike-owing Owed.Prepare)
             (λ fits. rw ((single-parts e fits).0, (single-parts e fits).1) refl)
             (λ x there' part fits other. absurd (true≢false (sym it-itself ∙ ap (has_id e.id) (it_single x there' part) ∙ other)));
-        awaited = list_any-from (λ x. takes_part (c.transaction).id x && is_some x.owes) c_rejected.enlistments (stepped (has_id e.id) (owing prepare) e)
-            (IsIn-map (stepped (has_id e.id) (owing prepare)) e c.enlistments there) (rw it-itself (and_from _ _ part_single refl));
+        awaited = list_any-from (λ x. takes_part (c.transaction).id x && is_some x.owes) c_rejected.enlistments (stepped (has_id e.id) (owing Owed.Prepare) e)
+            (IsIn-map (stepped (has_id e.id) (owing Owed.Prepare)) e c.enlistments there) (rw it-itself (and_from _ _ part_single refl));
         alone = refl;
         recorded = rw rejected-none at_single.recorded;
       };
@@ -662,7 +663,7 @@ module _ (boot : ℕ) (c : Course) (stands : Stands boot c) (brought : (e : Enli
   finished-moved owed is = moved-one finished' (λ x. (alike-finished x).same) (recovered-owing owed is)
 
   module _ (owes : owes_commit e ≡ true) where
-    is_commit : e.owes ≡ Some commit
+    is_commit : e.owes ≡ Some Owed.Commit
     is_commit = owed-commit e owes
 
     -- what it records
@@ -676,7 +677,7 @@ module _ (boot : ℕ) (c : Course) (stands : Stands boot c) (brought : (e : Enli
 
     -- it was one of many
     one-committed : (c.transaction).phase ≡ Committing → Stands boot (in_phase c Committing) → Arrives boot c (ended_if_finished (recording (finished c e) done_event) TransactionOutcome.Committed)
-    one-committed phase at = arrives-then boot (Moved-then (finished-moved commit is_commit) (moved-recording (finished c e) _ c.works (AreOwn-if (finished c e) (is_durable_at c.managers e.manager) (Event.Done (c.transaction).id (DonePart.Enlistment e.id)) refl (λ id is. knows-moved c (finished c e) (finished-moved commit is_commit) id (knows-two id is)))))
+    one-committed phase at = arrives-then boot (Moved-then (finished-moved Owed.Commit is_commit) (moved-recording (finished c e) _ c.works (AreOwn-if (finished c e) (is_durable_at c.managers e.manager) (Event.Done (c.transaction).id (DonePart.Enlistment e.id)) refl (λ id is. knows-moved c (finished c e) (finished-moved Owed.Commit is_commit) id (knows-two id is)))))
         (arrives-if_finished boot (recording (finished c e) done_event) TransactionOutcome.Committed (is_part_as Committing) refl (is_backed-from boot c.transaction stands.boots) stand
         (λ x fits over. over-part owes_commit x (and_parts x.is_prepared _ fits).1 over)
         (λ some. stands-back boot (recording (finished c e) done_event) Committing phase (record {
@@ -693,7 +694,7 @@ module _ (boot : ℕ) (c : Course) (stands : Stands boot c) (brought : (e : Enli
         })))
       where
         stand : Stand (with_enlistments (has_id e.id) finished' c.enlistments) (c.transaction).id (is_part_as Committing)
-        stand = stand-one (is_part_as Committing) (is_part_as Committing) finished' at.stand (takes_part-owing commit is_commit) alike-finished
+        stand = stand-one (is_part_as Committing) (is_part_as Committing) finished' at.stand (takes_part-owing Owed.Commit is_commit) alike-finished
             (λ fits. and_from _ _ (and_parts e.is_prepared _ fits).0 (rw (and_right e.is_recovered false refl) refl)) (λ x there' part fits other. fits)
 
         fewer : has_durable_part c.managers c.enlistments (c.transaction).id (λ x. not x.is_finished) ≡ false → has_durable_part c.managers (with_enlistments (has_id e.id) finished' c.enlistments) (c.transaction).id (λ x. not x.is_finished) ≡ false
@@ -707,13 +708,13 @@ module _ (boot : ℕ) (c : Course) (stands : Stands boot c) (brought : (e : Enli
     unfolding commit_answered
     arrives-commit_answered = if_cases (λ d. Arrives boot c d) (is_single_phase (c.transaction).phase) (ended (finished c e) TransactionOutcome.Committed)
         (ended_if_finished (recording (finished c e) done_event) TransactionOutcome.Committed)
-        (λ single. elim (is-committing (c.transaction).phase (phase-owing commit is_commit)) [
+        (λ single. elim (is-committing (c.transaction).phase (phase-owing Owed.Commit is_commit)) [
           | inl phase ↦ absurd (true≢false (sym single ∙ ap is_single_phase phase))
-          | inr phase ↦ arrives-then boot (finished-moved commit is_commit) (arrives-ended boot (finished c e) TransactionOutcome.Committed refl (is_backed-from boot c.transaction stands.boots)
-              (stand-one (is_part_as SinglePhase) (is_part_as Ended) finished' (stands-in boot c SinglePhase phase stands).stand (takes_part-owing commit is_commit) alike-finished (λ fits. refl)
+          | inr phase ↦ arrives-then boot (finished-moved Owed.Commit is_commit) (arrives-ended boot (finished c e) TransactionOutcome.Committed refl (is_backed-from boot c.transaction stands.boots)
+              (stand-one (is_part_as SinglePhase) (is_part_as Ended) finished' (stands-in boot c SinglePhase phase stands).stand (takes_part-owing Owed.Commit is_commit) alike-finished (λ fits. refl)
               (λ x there' part fits other. absurd (true≢false (sym it-itself ∙ ap (has_id e.id) (it_single phase owes x there' part) ∙ other)))))
         ])
-        (λ several. elim (is-committing (c.transaction).phase (phase-owing commit is_commit)) [
+        (λ several. elim (is-committing (c.transaction).phase (phase-owing Owed.Commit is_commit)) [
           | inr phase ↦ absurd (true≢false (sym (ap is_single_phase phase) ∙ several))
           | inl phase ↦ one-committed phase (stands-in boot c Committing phase stands)
         ])
@@ -722,11 +723,11 @@ module _ (boot : ℕ) (c : Course) (stands : Stands boot c) (brought : (e : Enli
   unfolding rollback_answered
   arrives-rollback_answered owes =
       let is = owed-rollback e owes in
-      let phase = is-aborting (c.transaction).phase (phase-owing rollback is) in
+      let phase = is-aborting (c.transaction).phase (phase-owing Owed.Rollback is) in
       let at = stands-in boot c Aborting phase stands in
-      let stand = stand-one (is_part_as Aborting) (is_part_as Aborting) finished' at.stand (takes_part-owing rollback is) alike-finished
+      let stand = stand-one (is_part_as Aborting) (is_part_as Aborting) finished' at.stand (takes_part-owing Owed.Rollback is) alike-finished
       (λ fits. rw (and_right e.is_recovered false refl) refl) (λ x there' part fits other. fits) in
-      arrives-then boot (finished-moved rollback is) (arrives-if_finished boot (finished c e) TransactionOutcome.Aborted (is_part_as Aborting) refl (is_backed-from boot c.transaction stands.boots) stand
+      arrives-then boot (finished-moved Owed.Rollback is) (arrives-if_finished boot (finished c e) TransactionOutcome.Aborted (is_part_as Aborting) refl (is_backed-from boot c.transaction stands.boots) stand
       (λ x fits over. over-part owes_rollback x fits over)
       (λ some. stands-back boot (finished c e) Aborting phase (record { outcome = at.outcome; boots = at.boots; superior = refl; stand = stand; awaited = some; alone = refl; recorded = refl })))
 
@@ -857,31 +858,31 @@ module _ (boot : ℕ) (c : Course) (stands : Stands boot c) (brought : (e : Enli
     recovered-in InDoubt is ordinary = arrives-told Notify.Indoubt refl (subst (λ p. Stand c_back.enlistments (c.transaction).id (is_part_as p)) (sym is) (phase-back InDoubt (stands-in boot c InDoubt is stands).stand (λ fits. fits)))
     recovered-in Committing is ordinary =
         let at = stands-in boot c Committing is stands in
-        let d = telling c_back (has_id e.id) Notify.Commit (owing commit) in
+        let d = telling c_back (has_id e.id) Notify.Commit (owing Owed.Commit) in
         record {
-          moved = Moved-then moved-back (moved-telling c_back (has_id e.id) Notify.Commit (owing commit) refl (changes-back (owing commit) (λ x. (alike-owing commit x).same) refl));
+          moved = Moved-then moved-back (moved-telling c_back (has_id e.id) Notify.Commit (owing Owed.Commit) refl (changes-back (owing Owed.Commit) (λ x. (alike-owing Owed.Commit x).same) refl));
           stands = stands-back boot d Committing is (record {
             outcome = at.outcome;
             boots = at.boots;
             superior = refl;
-            stand = stand-told Committing commit at.stand ordinary (λ x prepared' unfinished recovered'. rw (prepared', recovered', unfinished) refl);
-            awaited = list_any-with (is_unfinished (c.transaction).id) (has_id e.id) (owing commit) (λ x. refl) c_back.enlistments ∙ awaited-back Committing ∙ at.awaited;
+            stand = stand-told Committing Owed.Commit at.stand ordinary (λ x prepared' unfinished recovered'. rw (prepared', recovered', unfinished) refl);
+            awaited = list_any-with (is_unfinished (c.transaction).id) (has_id e.id) (owing Owed.Commit) (λ x. refl) c_back.enlistments ∙ awaited-back Committing ∙ at.awaited;
             alone = refl;
-            recorded = ap (λ b. (c.transaction).is_recorded || not b) (list_any-with (λ x. takes_part (c.transaction).id x && (not x.is_finished && is_durable_at c.managers x.manager)) (has_id e.id) (owing commit) (λ x. refl) c_back.enlistments)
+            recorded = ap (λ b. (c.transaction).is_recorded || not b) (list_any-with (λ x. takes_part (c.transaction).id x && (not x.is_finished && is_durable_at c.managers x.manager)) (has_id e.id) (owing Owed.Commit) (λ x. refl) c_back.enlistments)
                 ∙ recorded-back Committing (c.transaction).is_recorded ∙ at.recorded;
           });
         }
     recovered-in Aborting is ordinary =
         let at = stands-in boot c Aborting is stands in
-        let d = telling c_back (has_id e.id) Notify.Rollback (owing rollback) in
+        let d = telling c_back (has_id e.id) Notify.Rollback (owing Owed.Rollback) in
         record {
-          moved = Moved-then moved-back (moved-telling c_back (has_id e.id) Notify.Rollback (owing rollback) refl (changes-back (owing rollback) (λ x. (alike-owing rollback x).same) refl));
+          moved = Moved-then moved-back (moved-telling c_back (has_id e.id) Notify.Rollback (owing Owed.Rollback) refl (changes-back (owing Owed.Rollback) (λ x. (alike-owing Owed.Rollback x).same) refl));
           stands = stands-back boot d Aborting is (record {
             outcome = at.outcome;
             boots = at.boots;
             superior = refl;
-            stand = stand-told Aborting rollback at.stand ordinary (λ x prepared' unfinished recovered'. rw (recovered', unfinished) refl);
-            awaited = list_any-with (is_unfinished (c.transaction).id) (has_id e.id) (owing rollback) (λ x. refl) c_back.enlistments ∙ awaited-back Aborting ∙ at.awaited;
+            stand = stand-told Aborting Owed.Rollback at.stand ordinary (λ x prepared' unfinished recovered'. rw (recovered', unfinished) refl);
+            awaited = list_any-with (is_unfinished (c.transaction).id) (has_id e.id) (owing Owed.Rollback) (λ x. refl) c_back.enlistments ∙ awaited-back Aborting ∙ at.awaited;
             alone = refl;
             recorded = refl;
           });

@@ -187,7 +187,7 @@ undecided-one _ t one is = absurd (true≢false (sym one))
 object-counted : (boot last : ℕ) (id : Id) → is_counted boot last id ≡ true → is_of_object id ≡ true
 object-counted boot last id is = let parts = counted-parts boot last id is in and_from _ _ (and_from _ _ parts.0 parts.2) parts.3
 
-object-known : (x : Present) (t : Transaction) (caller : Option Id) → IsSoundCourse x → IsIn t (x.transactions).items → (id : Id) → Knows (course_of x t caller) id → is_of_object id ≡ true
+object-known : (x : Present) (t : Transaction) (caller : Option Enlistment) → IsSoundCourse x → IsIn t (x.transactions).items → (id : Id) → Knows (course_of x t caller) id → is_of_object id ≡ true
 object-known x t caller sound there id (inl is) = subst (λ id. is_of_object id ≡ true) (sym is)
     (object-counted _ _ t.id (list_all-at (λ (t : Transaction). is_counted (x.recorded).boots (x.transactions).last_transaction t.id) (x.transactions).items sound.transactions_counted t there))
 object-known x t caller sound there id (inr (e, in_es, inl is)) = subst (λ id. is_of_object id ≡ true) (sym is)
@@ -197,7 +197,7 @@ object-known x t caller sound there id (inr (e, in_es, inr is)) =
     subst (λ id. is_of_object id ≡ true) (same_id-equal (m.0).id e.manager m.2 ∙ sym is)
     (object-counted _ _ (m.0).id (list_all-at (λ (m : Manager). is_counted (x.recorded).boots (x.transactions).last_manager m.id) x.managers sound.managers_counted m.0 m.1))
 
-pub sound-arrived : (x : Present) (t : Transaction) (caller : Option Id) (d : Course) (reply : Reply) → IsSoundCourse x → IsIn t (x.transactions).items → Arrives (x.recorded).boots (course_of x t caller) d
+pub sound-arrived : (x : Present) (t : Transaction) (caller : Option Enlistment) (d : Course) (reply : Reply) → IsSoundCourse x → IsIn t (x.transactions).items → Arrives (x.recorded).boots (course_of x t caller) d
     → (is_undecided t ≡ false → (d.transaction).outcome ≡ t.outcome) → IsSoundOutcome x (arrived x d reply)
 sound-arrived x t caller d reply sound there arrives known =
     if_cases (λ o. IsSoundOutcome x o) (is_undecided d.transaction) on_its_way _

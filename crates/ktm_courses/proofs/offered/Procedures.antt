@@ -11,7 +11,8 @@ use Rattle.ktm_types.specs.declared.object.Phase.TheVariants.{Held, Committing, 
 use Rattle.ktm_types.specs.declared.object.Transaction.{Transaction}
 use Rattle.ktm_types.specs.declared.object.TransactionOutcome.{TransactionOutcome}
 use Rattle.ktm_types.specs.declared.object.TransactionOutcome.TheVariants.{Undetermined, Committed, Aborted}
-use Rattle.ktm_world.specs.Enlistments.{Enlistment, Manager, Owed, commit, rollback, is_superior, owes_commit, owes_rollback, takes_part, is_unfinished, is_durable_at, with_enlistments, superior_of}
+use Rattle.ktm_types.specs.declared.step.Owed.{Owed}
+use Rattle.ktm_world.specs.Enlistments.{Enlistment, Manager, is_superior, owes_commit, owes_rollback, takes_part, is_unfinished, is_durable_at, with_enlistments, superior_of}
 use Rattle.ktm_world.specs.Phases.{Course, in_phase, decided, recording, recorded, telling, owing, unchanged, superior, is_its_superior, has_settings, taking_part, participants, end_notice, ended, ended_if_finished, work_of, event_if, committing, is_caller, aborting, ready_parts, readied, held_or_committing, all_ready, is_single_phase}
 use Rattle.ktm_world.specs.Transactions.{same_id, is_committed, is_aborted, is_undecided}
 use Rattle.ktm_world.specs.Changes.{has_changes}
@@ -217,7 +218,7 @@ module _ (boot : ℕ) (c : Course) (can : CanCommit boot c) where
       ++ event_if (has_settings c.settings) (Event.Done (c.transaction).id DonePart.Keys))) { works = c.works ++ work_of c }
 
   abbrev c_committing : Course
-  c_committing = in_phase (decided (telling c_decided to_commit_now Notify.Commit (owing commit)) Committed) Committing
+  c_committing = in_phase (decided (telling c_decided to_commit_now Notify.Commit (owing Owed.Commit)) Committed) Committing
 
   commit-parts : (e : Enlistment) → to_commit_now e ≡ true → (takes_part (c.transaction).id e ≡ true) × (e.is_prepared ≡ true) × (e.is_recovered ≡ true)
   commit-parts e is =
@@ -231,16 +232,16 @@ module _ (boot : ℕ) (c : Course) (can : CanCommit boot c) where
       (moved-recording c _ (c.works ++ work_of c) (AreOwn-append
       (AreOwn-append (AreOwn-if c (c.transaction).is_recorded (Event.Decide (c.transaction).id) refl (knows-own c)) (AreOwn-if c (has_changes c.changes) (Event.Done (c.transaction).id DonePart.Files) refl (knows-own c)))
       (AreOwn-if c (has_settings c.settings) (Event.Done (c.transaction).id DonePart.Keys) refl (knows-own c))))
-      (moved-telling c_decided to_commit_now Notify.Commit (owing commit) refl (record {
+      (moved-telling c_decided to_commit_now Notify.Commit (owing Owed.Commit) refl (record {
         own = λ e there is. (part-parts (c.transaction).id e (commit-parts e is).0).0;
-        same = λ e. (alike-owing commit e).same;
+        same = λ e. (alike-owing Owed.Commit e).same;
         recovered = λ e there is. inr (commit-parts e is).2;
       })))
-      (moved-transaction (telling c_decided to_commit_now Notify.Commit (owing commit)) c_committing.transaction refl refl refl)
+      (moved-transaction (telling c_decided to_commit_now Notify.Commit (owing Owed.Commit)) c_committing.transaction refl refl refl)
 
   committing-stand : Stand c_committing.enlistments (c.transaction).id (is_part_as Committing)
-  committing-stand = Stand-with c.enlistments (c.transaction).id is_waiting (is_part_as Committing) to_commit_now (owing commit) can.stand
-      (λ e there is. (commit-parts e is).0) (alike-owing commit)
+  committing-stand = Stand-with c.enlistments (c.transaction).id is_waiting (is_part_as Committing) to_commit_now (owing Owed.Commit) can.stand
+      (λ e there is. (commit-parts e is).0) (alike-owing Owed.Commit)
       (λ e there part waits is. rw ((commit-parts e is).1, (commit-parts e is).2, (waiting-parts e waits).2) refl)
       (λ e there part waits silent. elim (and_cases (takes_part (c.transaction).id e && e.is_prepared) e.is_recovered silent) [
         | inl first ↦ absurd (true≢false (sym (and_from _ _ part (waiting-parts e waits).1) ∙ first))
@@ -259,7 +260,7 @@ module _ (boot : ℕ) (c : Course) (can : CanCommit boot c) where
         awaited = some;
         alone = refl;
         recorded = subst (λ b. ((c.transaction).is_recorded || not b) ≡ true)
-            (sym (list_any-with (λ e. takes_part (c.transaction).id e && (not e.is_finished && is_durable_at c.managers e.manager)) to_commit_now (owing commit) (λ e. refl) c.enlistments)) can.recorded;
+            (sym (list_any-with (λ e. takes_part (c.transaction).id e && (not e.is_finished && is_durable_at c.managers e.manager)) to_commit_now (owing Owed.Commit) (λ e. refl) c.enlistments)) can.recorded;
       }))
 
 -- ---- it rolls back
@@ -281,7 +282,7 @@ module _ (boot : ℕ) (c : Course) (backed : is_backed boot c.transaction ≡ tr
   c_undone = recording c (event_if (c.transaction).is_recorded (Event.Undo (c.transaction).id))
 
   abbrev c_told : Course
-  c_told = telling c_undone to_roll_back Notify.Rollback (owing rollback)
+  c_told = telling c_undone to_roll_back Notify.Rollback (owing Owed.Rollback)
 
   abbrev c_aborting : Course
   c_aborting = in_phase (decided (telling c_told to_tell Notify.Rollback unchanged) Aborted) Aborting
@@ -290,9 +291,9 @@ module _ (boot : ℕ) (c : Course) (backed : is_backed boot c.transaction ≡ tr
   aborting-moved = Moved-then
       (Moved-then
       (Moved-then (moved-recording c _ c.works (AreOwn-if c (c.transaction).is_recorded (Event.Undo (c.transaction).id) refl (knows-own c)))
-      (moved-telling c_undone to_roll_back Notify.Rollback (owing rollback) refl (record {
+      (moved-telling c_undone to_roll_back Notify.Rollback (owing Owed.Rollback) refl (record {
         own = λ e there is. (part-parts (c.transaction).id e (and_parts (takes_part (c.transaction).id e) e.is_recovered is).0).0;
-        same = λ e. (alike-owing rollback e).same;
+        same = λ e. (alike-owing Owed.Rollback e).same;
         recovered = λ e there is. inr (and_parts (takes_part (c.transaction).id e) e.is_recovered is).1;
       })))
       (moved-telling c_told to_tell Notify.Rollback unchanged refl (changes-none c_told to_tell (λ e there is.
@@ -301,8 +302,8 @@ module _ (boot : ℕ) (c : Course) (backed : is_backed boot c.transaction ≡ tr
 
   aborting-stand : Stand c_aborting.enlistments (c.transaction).id (is_part_as Aborting)
   aborting-stand = subst (λ es. Stand es (c.transaction).id (is_part_as Aborting)) (sym (with-unchanged to_tell c_told.enlistments))
-      (Stand-with c.enlistments (c.transaction).id may_be_told (is_part_as Aborting) to_roll_back (owing rollback) stand
-      (λ e there is. (and_parts (takes_part (c.transaction).id e) e.is_recovered is).0) (alike-owing rollback)
+      (Stand-with c.enlistments (c.transaction).id may_be_told (is_part_as Aborting) to_roll_back (owing Owed.Rollback) stand
+      (λ e there is. (and_parts (takes_part (c.transaction).id e) e.is_recovered is).0) (alike-owing Owed.Rollback)
       (λ e there part may is. rw ((and_parts (takes_part (c.transaction).id e) e.is_recovered is).1, not-true _ (and_parts (not e.is_finished) _ may).0) refl)
       (λ e there part may silent. elim (and_cases (takes_part (c.transaction).id e) e.is_recovered silent) [
         | inl other ↦ absurd (true≢false (sym part ∙ other))

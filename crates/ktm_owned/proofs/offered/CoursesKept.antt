@@ -11,8 +11,9 @@ use Rattle.ktm_types.specs.declared.event.Part.{Part}
 use Rattle.ktm_types.specs.declared.object.Phase.{Phase}
 use Rattle.ktm_types.specs.declared.object.Transaction.{Transaction}
 use Rattle.ktm_types.specs.declared.object.TransactionOutcome.{TransactionOutcome}
+use Rattle.ktm_types.specs.declared.step.Owed.{Owed}
 use Rattle.ktm_world.specs.Committed.{Work}
-use Rattle.ktm_world.specs.Enlistments.{Enlistment, commit, prepare, is_unfinished, is_superior, is_durable_at, allows_one_phase, asks_pre_prepare, takes_part}
+use Rattle.ktm_world.specs.Enlistments.{Enlistment, is_unfinished, is_superior, is_durable_at, allows_one_phase, asks_pre_prepare, takes_part}
 use Rattle.ktm_world.specs.Keys.{OwnSettings}
 use Rattle.ktm_world.specs.Transactions.{is_undecided}
 use Rattle.ktm_world.specs.Phases.{Course, event_if, telling, recording, recorded, in_phase, decided, owing, enlistment_part, finished, superior, some_enlistment, participants, has_settings, work_of, someone_owes, is_single_phase, ended, ended_if_finished, committing, aborting, readied, held_or_committing, all_ready, preparing, single, one_phase, one_participant, prepare_alone, to_prepare, pre_prepared, to_pre_prepare, to_commit, when_none_owes, changing_one, ready_of_enlistment, pre_prepare_answered, prepare_answered, without_its_answer, read_only_answered, single_phase_rejected, commit_answered, rollback_answered, recovered, recovered_in}
@@ -165,7 +166,7 @@ module _ (t : Transaction) (cs : List Change) (ss : OwnSettings) where
       let decision = event_if c.transaction.is_recorded (Event.Decide id) in
       let files = event_if (has_changes c.changes) (Event.Done id DonePart.Files) in
       let keys = event_if (has_settings c.settings) (Event.Done id DonePart.Keys) in
-      let told = telling (record (recording c (decision ++ files ++ keys)) { works = c.works ++ work_of c }) (λ e. takes_part id e && e.is_prepared && e.is_recovered) Notify.Commit (owing commit) in
+      let told = telling (record (recording c (decision ++ files ++ keys)) { works = c.works ++ work_of c }) (λ e. takes_part id e && e.is_prepared && e.is_recovered) Notify.Commit (owing Owed.Commit) in
       ended_if_finished-is (in_phase (decided told TransactionOutcome.Committed) Phase.Committing) TransactionOutcome.Committed refl
       (decided-is told _ refl refl refl refl refl refl (works-on c told (decision ++ files ++ keys) refl refl refl refl refl
       (both-fine (decision ++ files) keys (both-fine decision files (if-fine c.transaction.is_recorded (Event.Decide id) refl) (if-fine (has_changes c.changes) (Event.Done id DonePart.Files) refl)) (if-fine (has_settings c.settings) (Event.Done id DonePart.Keys) refl)) is))
@@ -191,7 +192,7 @@ module _ (t : Transaction) (cs : List Change) (ss : OwnSettings) where
 
   preparing-is : (c : Course) → Begun c → Is (preparing c)
   preparing-is c is =
-      let asked = in_phase (telling c (takes_part c.transaction.id) Notify.Prepare (owing prepare)) Phase.Preparing in
+      let asked = in_phase (telling c (takes_part c.transaction.id) Notify.Prepare (owing Owed.Prepare)) Phase.Preparing in
       let begun = quiet c asked refl refl refl refl refl refl is in
       either (some_enlistment c (λ e. true)) asked (all_ready asked) (begun-is asked begun) (all_ready-is asked begun)
 

@@ -16,7 +16,7 @@ use Rattle.ktm_types.specs.declared.options.EnlistmentKind.{EnlistmentKind}
 use Rattle.ktm_types.specs.declared.reply.Reply.{Reply}
 use Rattle.ktm_types.specs.declared.reply.Reply.TheVariants.{Done, Refused}
 use Rattle.ktm_world.specs.Decide.{of_files, on_file, opening, caller, transacted, refusal_of, command_tests, command_effect, with_room}
-use Rattle.ktm_world.specs.Enlistments.{Enlistment, Manager, is_superior}
+use Rattle.ktm_world.specs.Enlistments.{Enlistment, Manager}
 use Rattle.ktm_world.specs.FileCalls.{read_file, get_size, flush_file, find_files, create_file, create_file_tests, delete_file, delete_file_tests, create_directory, create_directory_tests, remove_directory, remove_directory_tests, move_file, move_file_tests}
 use Rattle.ktm_world.specs.Files.{OpenFile}
 use Rattle.ktm_world.specs.HandleCalls.{exit, close_handle, duplicate_handle, bind_to}
@@ -60,16 +60,16 @@ module _ (lists : ListsLaw) (formed : FormedLaw) where
   by : (x : Present) (o : Outcome) → Goes lists formed x o → Keeps x o
   by x o goes order sound = (goes.keeps order sound).1
 
-  step : (x : Present) (t : Transaction) (caller : Option Id) (f : Course → Course) (reply : Course → Reply) → IsIn t x.transactions.items → Steps f → Keeps x (arrived x (f (course_of x t caller)) (reply (f (course_of x t caller))))
+  step : (x : Present) (t : Transaction) (caller : Option Enlistment) (f : Course → Course) (reply : Course → Reply) → IsIn t x.transactions.items → Steps f → Keeps x (arrived x (f (course_of x t caller)) (reply (f (course_of x t caller))))
   step x t caller f reply there steps = by x _ (course-goes lists formed x t caller f reply there steps)
 
   answers : (x : Present) (e : Option Enlistment) (f : Course → Enlistment → Course) → ((e : Enlistment) → Steps (λ c. f c e)) → Keeps x (answering x e f)
   answers x None f steps = replies lists formed x Done
   answers x (Some e) f steps = go (transaction_in x e) refl
     where
-      go : (t : Option Transaction) → transaction_in x e ≡ t → Keeps x (goes_on x e t (if is_superior e then Some e.id else None) f)
+      go : (t : Option Transaction) → transaction_in x e ≡ t → Keeps x (goes_on x e t f)
       go None found = replies lists formed x Done
-      go (Some t) found = step x t (if is_superior e then Some e.id else None) (λ c. f c e) (λ c. Done) (transaction_at-in x.transactions.items e.transaction t found) (steps e)
+      go (Some t) found = step x t (Some e) (λ c. f c e) (λ c. Done) (transaction_at-in x.transactions.items e.transaction t found) (steps e)
 
   -- the transaction that a label names is there
   named-there : (x : Present) (process : Pid) (label : Label) (t : Transaction) → transaction_named x process label ≡ Some t → IsIn t x.transactions.items

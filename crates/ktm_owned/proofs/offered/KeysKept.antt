@@ -22,7 +22,7 @@ use Rattle.ktm_types.specs.declared.reply.Reply.{Reply}
 use Rattle.ktm_types.specs.declared.reply.Reply.TheVariants.{Done, Refused}
 use Rattle.ktm_world.specs.Committed.{Committed, Work, with_work, committed_with}
 use Rattle.ktm_world.specs.Decide.{of_files, opening, bound_file, on_file, caller, refusal_of, command_effect, command_tests, with_room}
-use Rattle.ktm_world.specs.Enlistments.{Enlistment, Manager, is_superior}
+use Rattle.ktm_world.specs.Enlistments.{Enlistment, Manager}
 use Rattle.ktm_world.specs.FileCalls.{create_file, read_file, write_file, set_end, get_size, flush_file, delete_file, create_directory, remove_directory, move_file, find_files}
 use Rattle.ktm_world.specs.FileOutcome.{FileOutcome, works_of}
 use Rattle.ktm_world.specs.Files.{OpenFile, own_changes, without_transaction}
@@ -167,10 +167,10 @@ arrived-keeps x t changes c reply is sound = released-sound (is_undecided c.tran
       good = store.1;
     }
 
-course-begun : (x : Present) (t : Transaction) (caller : Option Id) → IsBegun t (own_changes x.files.table.own t.id) (own_settings x.keys.own t.id) (course_of x t caller)
+course-begun : (x : Present) (t : Transaction) (caller : Option Enlistment) → IsBegun t (own_changes x.files.table.own t.id) (own_settings x.keys.own t.id) (course_of x t caller)
 course-begun x t caller = record { id = refl; changes = refl; settings = refl; works = refl; events = refl; outcome = refl }
 
-step-keeps : (x : Present) (t : Transaction) (caller : Option Id) (f : Course → Course) (reply : Course → Reply) → Steps f → Keeps x (arrived x (f (course_of x t caller)) (reply (f (course_of x t caller))))
+step-keeps : (x : Present) (t : Transaction) (caller : Option Enlistment) (f : Course → Course) (reply : Course → Reply) → Steps f → Keeps x (arrived x (f (course_of x t caller)) (reply (f (course_of x t caller))))
 step-keeps x t caller f reply steps =
     arrived-keeps x t (own_changes x.files.table.own t.id) (f (course_of x t caller)) (reply (f (course_of x t caller)))
     (steps t (own_changes x.files.table.own t.id) (own_settings x.keys.own t.id) (course_of x t caller) (course-begun x t caller))
@@ -179,9 +179,9 @@ answering-keeps : (x : Present) (e : Option Enlistment) (step : Course → Enlis
 answering-keeps x None step steps = only_reply-keeps x Done
 answering-keeps x (Some e) step steps = go (transaction_in x e)
   where
-    go : (t : Option Transaction) → Keeps x (goes_on x e t (if is_superior e then Some e.id else None) step)
+    go : (t : Option Transaction) → Keeps x (goes_on x e t step)
     go None = only_reply-keeps x Done
-    go (Some t) = step-keeps x t (if is_superior e then Some e.id else None) (λ c. step c e) (λ c. Done) (steps e)
+    go (Some t) = step-keeps x t (Some e) (λ c. step c e) (λ c. Done) (steps e)
 
 aborted_by-keeps : (x : Present) (t : Transaction) → Keeps x (aborted_by x t None Done)
 aborted_by-keeps x t = step-keeps x t None aborting (λ c. Done) aborting-is

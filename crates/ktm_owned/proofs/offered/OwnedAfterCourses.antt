@@ -10,6 +10,7 @@ use Rattle.ktm_types.specs.declared.change.Change.{Change}
 use Rattle.ktm_types.specs.declared.object.Transaction.{Transaction}
 use Rattle.ktm_types.specs.declared.reply.Reply.{Reply}
 use Rattle.ktm_types.specs.declared.reply.Reply.TheVariants.{Done}
+use Rattle.ktm_world.specs.Enlistments.{Enlistment}
 use Rattle.ktm_world.specs.Committed.{Work, with_change, with_work, committed_with}
 use Rattle.ktm_world.specs.Durable.{Durable, after_event, after_events}
 use Rattle.ktm_world.specs.Files.{FirstOpen, OpenFile, OwnChanges, first_open, own_changes, committed_files, without_transaction}
@@ -216,7 +217,7 @@ module _ (lists : ListsLaw) (formed : FormedLaw) where
   one-opens true o p first second = first
   one-opens false o p first second = second
 
-  pub course-goes : (x : Present) (t : Transaction) (caller : Option Id) (f : Course → Course) (reply : Course → Reply) → IsIn t x.transactions.items → Steps f → Goes x (arrived x (f (course_of x t caller)) (reply (f (course_of x t caller))))
+  pub course-goes : (x : Present) (t : Transaction) (caller : Option Enlistment) (f : Course → Course) (reply : Course → Reply) → IsIn t x.transactions.items → Steps f → Goes x (arrived x (f (course_of x t caller)) (reply (f (course_of x t caller))))
   course-goes x t caller f reply there steps =
       let ss = own_settings x.keys.own t.id in
       let c = f (course_of x t caller) in

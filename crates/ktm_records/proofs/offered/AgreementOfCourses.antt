@@ -107,7 +107,7 @@ abbrev pub course_summaries : Course → List Summary
 course_summaries c = if c.transaction.is_recorded then course_in c (stage_in c.transaction.phase) else []
 
 -- the log has to have of a transaction what it has to have of its course
-pub begun : (x : Present) (t : Transaction) (caller : Option Id) → summaries x t ≡ course_summaries (course_of x t caller)
+pub begun : (x : Present) (t : Transaction) (caller : Option Enlistment) → summaries x t ≡ course_summaries (course_of x t caller)
 begun x t caller = elim (cases_Bool t.is_recorded) [ inl recorded ↦ rw recorded (go (stage_in t.phase)) | inr other ↦ rw other refl ]
   where
     go : (o : Option Stage) → summary_in x t o ≡ course_in (course_of x t caller) o
@@ -247,7 +247,7 @@ module _ (x : Present) (sound : IsSoundCourse x) (agreed : Agreed x) (t : Transa
   pub carried-itself : (r : Recorded) → IsIn r (if_there had.o) → is_carried_out r ≡ true
   carried-itself r is = list_all-at is_carried_out x.recorded.transactions agreed.carried r (was-in x t at had r is)
 
-  module _ (caller : Option Id) (d : Course) (moved : Moved (course_of x t caller) d) where
+  module _ (caller : Option Enlistment) (d : Course) (moved : Moved (course_of x t caller) d) where
     -- what only another transaction's enlistments pass, those pass that passed it
     stays-of : (u : Transaction) → same_id u.id t.id ≡ false → (test : Enlistment → Bool) → ((e : Enlistment) → same_id e.transaction u.id ≡ false → test e ≡ false) → (e : Enlistment) → IsIn e x.transactions.enlistments
         → ((test (moved.step e) ≡ false) × (test e ≡ false)) ⊎ (moved.step e ≡ e)

@@ -1,14 +1,14 @@
 -- What was recorded agrees with what is so now after a transaction has rolled back.
 use Rattle.std.proofs.Common.{◌≡◌, Bool, true, false, [], ◌∷◌, ◌++◌, Option, None, refl, sym, ◌∙◌, ap, ◌&&◌, not}
 use Rattle.std.specs.List.{list_any}
-use Rattle.ktm_base.specs.declared.id.Id.{Id}
 use Rattle.ktm_base.specs.declared.notify.Notify.{Notify}
 use Rattle.ktm_types.specs.declared.event.Event.{Event}
 use Rattle.ktm_types.specs.declared.object.Phase.TheVariants.{Aborting}
 use Rattle.ktm_types.specs.declared.object.Transaction.{Transaction}
 use Rattle.ktm_types.specs.declared.object.TransactionOutcome.TheVariants.{Aborted}
 use Rattle.ktm_types.specs.declared.reply.Reply.{Reply}
-use Rattle.ktm_world.specs.Enlistments.{is_unfinished, rollback, takes_part}
+use Rattle.ktm_types.specs.declared.step.Owed.{Owed}
+use Rattle.ktm_world.specs.Enlistments.{Enlistment, is_unfinished, takes_part}
 use Rattle.ktm_world.specs.Lawful.{stage_in}
 use Rattle.ktm_world.specs.Outcome.{apply, committed_now}
 use Rattle.ktm_world.specs.Phases.{Course, aborting, decided, ended, event_if, in_phase, is_caller, is_its_superior, owing, recording, telling, unchanged}
@@ -33,7 +33,7 @@ pub record HasUndone (c d : Course) : Type 0 where
 abbrev told : Course → Course
 told c =
     let undone = recording c (event_if c.transaction.is_recorded (Event.Undo c.transaction.id)) in
-    telling (telling undone (λ e. takes_part c.transaction.id e && e.is_recovered) Notify.Rollback (owing rollback)) (λ e. is_its_superior c e && not (is_caller c e)) Notify.Rollback unchanged
+    telling (telling undone (λ e. takes_part c.transaction.id e && e.is_recovered) Notify.Rollback (owing Owed.Rollback)) (λ e. is_its_superior c e && not (is_caller c e)) Notify.Rollback unchanged
 
 pub aborting-undone : (c : Course) → HasUndone c (aborting c)
 unfolding aborting ended
@@ -41,7 +41,7 @@ aborting-undone c =
     let d = in_phase (decided (told c) Aborted) Aborting in
     if_cases (λ d. HasUndone c d) (list_any (is_unfinished d.transaction.id) d.enlistments) d (ended d Aborted) (λ some. record { events = refl; works = refl; stage = refl }) (λ none. record { events = refl; works = refl; stage = refl })
 
-module _ (x : Present) (sound : IsSoundCourse x) (agreed : Agreed x) (t : Transaction) (there : IsIn t x.transactions.items) (caller : Option Id) where
+module _ (x : Present) (sound : IsSoundCourse x) (agreed : Agreed x) (t : Transaction) (there : IsIn t x.transactions.items) (caller : Option Enlistment) where
   abbrev c : Course
   c = course_of x t caller
 

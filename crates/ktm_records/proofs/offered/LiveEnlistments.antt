@@ -11,8 +11,9 @@ use Rattle.ktm_types.specs.declared.object.Phase.{Phase}
 use Rattle.ktm_types.specs.declared.object.Phase.TheVariants.{PrePreparing, Preparing, SinglePhase, InDoubt, Committing, Aborting, Ended}
 use Rattle.ktm_types.specs.declared.object.Transaction.{Transaction}
 use Rattle.ktm_types.specs.declared.object.TransactionOutcome.{TransactionOutcome}
+use Rattle.ktm_types.specs.declared.step.Owed.{Owed}
 use Rattle.ktm_world.specs.Changes.{has_changes}
-use Rattle.ktm_world.specs.Enlistments.{Enlistment, Owed, pre_prepare, commit, prepare, rollback, allows_one_phase, asks_pre_prepare, has_id, is_ended, is_live_enlistment, is_live_in, is_superior, is_unfinished, is_durable_at, takes_part, with_enlistments}
+use Rattle.ktm_world.specs.Enlistments.{Enlistment, allows_one_phase, asks_pre_prepare, has_id, is_ended, is_live_enlistment, is_live_in, is_superior, is_unfinished, is_durable_at, takes_part, with_enlistments}
 use Rattle.ktm_world.specs.Phases.{Course, aborting, all_ready, committing, commit_answered, ended, ended_if_finished, has_settings, held_or_committing, one_phase, one_participant, owing, participants, pre_prepare_answered, pre_prepared, prepare_alone, prepare_answered, preparing, read_only_answered, ready_of_enlistment, changing_one, recovered, recovered_in, recovering, rollback_answered, single_phase_rejected, some_enlistment, someone_owes, superior, to_commit, to_pre_prepare, to_prepare, is_single_phase, unchanged, when_none_owes, without_its_answer, readied}
 use Rattle.ktm_world.specs.Transactions.{change_at, is_live, same_id, transaction_at}
 use Rattle.txf_laws.specs.Elements.{IsIn}
@@ -89,11 +90,11 @@ fades-if_finished c d outcome fades = either c (list_any (is_unfinished d.transa
 
 pub fades-committing : (c : Course) → Fades c (committing c)
 unfolding committing
-fades-committing c = fades-if_finished c _ TransactionOutcome.Committed (fade-owing _ commit c.enlistments)
+fades-committing c = fades-if_finished c _ TransactionOutcome.Committed (fade-owing _ Owed.Commit c.enlistments)
 
 pub fades-aborting : (c : Course) → Fades c (aborting c)
 unfolding aborting
-fades-aborting c = fades-if_finished c _ TransactionOutcome.Aborted (fade-then c.enlistments _ _ (fade-owing (λ e. takes_part c.transaction.id e && e.is_recovered) rollback c.enlistments) (fade-told _ _))
+fades-aborting c = fades-if_finished c _ TransactionOutcome.Aborted (fade-then c.enlistments _ _ (fade-owing (λ e. takes_part c.transaction.id e && e.is_recovered) Owed.Rollback c.enlistments) (fade-told _ _))
 
 fades-held : (c : Course) (e : Option Enlistment) → Fades c (held_or_committing c e)
 fades-held c (Some e) = fade-told _ c.enlistments
@@ -105,11 +106,11 @@ fades-all_ready c = fades-held (readied c) (superior c)
 
 fades-preparing : (c : Course) → Fades c (preparing c)
 fades-preparing c =
-    either c (some_enlistment c (λ e. true)) _ _ (fade-owing (takes_part c.transaction.id) prepare c.enlistments)
-    (fade-then c.enlistments _ _ (fade-owing (takes_part c.transaction.id) prepare c.enlistments) (fades-all_ready _))
+    either c (some_enlistment c (λ e. true)) _ _ (fade-owing (takes_part c.transaction.id) Owed.Prepare c.enlistments)
+    (fade-then c.enlistments _ _ (fade-owing (takes_part c.transaction.id) Owed.Prepare c.enlistments) (fades-all_ready _))
 
 fades-one_phase : (c : Course) → Fades c (one_phase c)
-fades-one_phase c = either c (some_enlistment c allows_one_phase) _ (preparing c) (fade-owing (takes_part c.transaction.id) commit c.enlistments) (fades-preparing c)
+fades-one_phase c = either c (some_enlistment c allows_one_phase) _ (preparing c) (fade-owing (takes_part c.transaction.id) Owed.Commit c.enlistments) (fades-preparing c)
 
 fades-one_participant : (c : Course) → Fades c (one_participant c)
 fades-one_participant c = either c (has_changes c.changes) _ _ (fades-ended _ TransactionOutcome.Committed) (either c (has_settings c.settings) _ (one_phase c) (fades-ended _ TransactionOutcome.Committed) (fades-one_phase c))
@@ -129,7 +130,7 @@ fades-pre_prepared c = either c (is_some (superior c)) _ (to_prepare c) (fade-to
 
 pub fades-to_pre_prepare : (c : Course) → Fades c (to_pre_prepare c)
 unfolding to_pre_prepare
-fades-to_pre_prepare c = either c (some_enlistment c asks_pre_prepare) _ (pre_prepared c) (fade-owing _ pre_prepare c.enlistments) (fades-pre_prepared c)
+fades-to_pre_prepare c = either c (some_enlistment c asks_pre_prepare) _ (pre_prepared c) (fade-owing _ Owed.PrePrepare c.enlistments) (fades-pre_prepared c)
 
 pub fades-to_commit : (c : Course) → Fades c (to_commit c)
 unfolding to_commit
@@ -169,7 +170,7 @@ fades-read_only_answered c e =
 
 pub fades-single_phase_rejected : (c : Course) (e : Enlistment) → Fades c (single_phase_rejected c e)
 unfolding single_phase_rejected
-fades-single_phase_rejected c e = fade-owing _ prepare c.enlistments
+fades-single_phase_rejected c e = fade-owing _ Owed.Prepare c.enlistments
 
 fades-finished : (c : Course) (id : Id) → Fades c (changing_one c id (λ e. record e { owes = None; is_finished = true }))
 fades-finished c id = fades-one c id (λ e. record e { owes = None; is_finished = true }) (λ e. record { transaction = refl; kind = refl; read_only = λ is. is; finished = λ is. refl })
@@ -188,8 +189,8 @@ fades-rollback_answered c e = fades-if_finished c _ TransactionOutcome.Aborted (
 
 fades-recovered_in : (phase : Phase) (c : Course) (e : Enlistment) → Fades c (recovered_in phase c e)
 fades-recovered_in InDoubt c e = fade-told _ c.enlistments
-fades-recovered_in Committing c e = fade-owing _ commit c.enlistments
-fades-recovered_in Aborting c e = fade-owing _ rollback c.enlistments
+fades-recovered_in Committing c e = fade-owing _ Owed.Commit c.enlistments
+fades-recovered_in Aborting c e = fade-owing _ Owed.Rollback c.enlistments
 fades-recovered_in _ c e = fade-stays c.enlistments
 
 pub fades-recovered : (c : Course) (e : Enlistment) → Fades c (recovered c e)

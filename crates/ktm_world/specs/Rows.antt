@@ -4,16 +4,16 @@ use Rattle.ktm_base.specs.declared.notify.Notify.{Notify}
 use Rattle.ktm_types.specs.declared.object.Phase.{Phase}
 use Rattle.ktm_types.specs.declared.object.Phase.TheVariants.{PrePreparing, Preparing, SinglePhase, InDoubt, Committing, Aborting}
 use Rattle.ktm_types.specs.declared.object.TransactionOutcome.TheVariants.{Committed, Aborted}
+use Rattle.ktm_types.specs.declared.input.PhaseInput.{PhaseInput}
+use Rattle.ktm_types.specs.declared.input.Seen.{Seen}
+use Rattle.ktm_types.specs.declared.input.Share.{Share}
+use Rattle.ktm_types.specs.declared.step.Answered.{Answered}
+use Rattle.ktm_types.specs.declared.step.Fact.{Fact}
+use Rattle.ktm_types.specs.declared.step.Owed.{Owed}
+use Rattle.ktm_types.specs.declared.step.Step.{Step}
+use Rattle.ktm_types.specs.declared.step.Step.TheVariants.{Record, Tell, Ask, Change, Enter, Decide, End, EndWhereFinished}
+use Rattle.ktm_types.specs.declared.step.Who.{Who}
 use Rattle.ktm_world.specs.Phases.{is_single_phase, one_if}
-use Rattle.ktm_phase.specs.declared.phase.PhaseInput.{PhaseInput}
-use Rattle.ktm_phase.specs.declared.phase.Seen.{Seen}
-use Rattle.ktm_phase.specs.declared.phase.Share.{Share}
-use Rattle.ktm_phase.specs.declared.step.Answered.{Answered}
-use Rattle.ktm_phase.specs.declared.step.Fact.{Fact}
-use Rattle.ktm_phase.specs.declared.step.Owed.{Owed}
-use Rattle.ktm_phase.specs.declared.step.Step.{Step}
-use Rattle.ktm_phase.specs.declared.step.Step.TheVariants.{Record, Tell, Ask, Change, Enter, Decide, End, EndWhereFinished}
-use Rattle.ktm_phase.specs.declared.step.Who.{Who}
 
 -- how many participants there are: enlistments, the files and the keys
 abbrev pub participants : Seen → ℕ
@@ -114,7 +114,7 @@ read_onlies s share = Change Answered.ReadOnly ∷ (if share.owes && is_last s t
 
 -- SinglePhaseReject: the enlistment is asked to prepare
 abbrev pub rejects_one_phase : List Step
-rejects_one_phase = Ask Who.Answering Notify.Prepare Owed.Prepare ∷ Enter Phase.Preparing ∷ []
+rejects_one_phase = Ask Who.Caller Notify.Prepare Owed.Prepare ∷ Enter Phase.Preparing ∷ []
 
 -- CommitComplete, in this phase: where one enlistment commits in one phase it has ended, and else where nobody is unfinished
 abbrev pub commit_completes : Phase → List Step
@@ -126,9 +126,9 @@ rollback_completes = Change Answered.Finished ∷ EndWhereFinished Aborted ∷ [
 
 -- what an ordinary enlistment that recovers is told in this phase
 abbrev pub tells_in : Phase → List Step
-tells_in InDoubt = Tell Who.Answering Notify.Indoubt ∷ []
-tells_in Committing = Ask Who.Answering Notify.Commit Owed.Commit ∷ []
-tells_in Aborting = Ask Who.Answering Notify.Rollback Owed.Rollback ∷ []
+tells_in InDoubt = Tell Who.Caller Notify.Indoubt ∷ []
+tells_in Committing = Ask Who.Caller Notify.Commit Owed.Commit ∷ []
+tells_in Aborting = Ask Who.Caller Notify.Rollback Owed.Rollback ∷ []
 tells_in _ = []
 
 -- RecoverEnlistment of an ordinary enlistment, in this phase
@@ -137,7 +137,7 @@ recovers phase = Change Answered.Recovered ∷ tells_in phase
 
 -- RecoverEnlistment of a superior, which is asked to decide
 abbrev pub recovers_superior : List Step
-recovers_superior = Change Answered.Recovered ∷ Tell Who.Answering Notify.RecoverQuery ∷ []
+recovers_superior = Change Answered.Recovered ∷ Tell Who.Caller Notify.RecoverQuery ∷ []
 
 -- the row of what comes
 abbrev pub row : Seen → PhaseInput → List Step

@@ -1,7 +1,6 @@
 // The steps by which a transaction goes on, which are data.
-use arrayvec::ArrayVec;
+use crate::object::{Phase, TransactionOutcome};
 use ktm_base::Notify;
-use ktm_types::{Phase, TransactionOutcome};
 
 /// Which enlistments of the transaction.
 #[derive(Clone, Copy)]
@@ -18,8 +17,8 @@ pub enum Who {
     Superior,
     /// Its superior, unless it made the call.
     OtherSuperior,
-    /// The one that answers.
-    Answering,
+    /// The one that makes the call.
+    Caller,
 }
 
 /// The notification that an enlistment owes an answer to.
@@ -32,7 +31,7 @@ pub enum Owed {
     Rollback,
 }
 
-/// What becomes of the one that answers. But for the last it owes nothing then.
+/// What becomes of the enlistment that makes the call. But for the last it owes nothing then.
 #[derive(Clone, Copy)]
 pub enum Answered {
     PrePrepared,
@@ -49,7 +48,7 @@ pub enum Fact {
     ReadyFiles,
     /// The keys are prepared, where they take part.
     ReadyKeys,
-    /// The one that answers is prepared, where its resource manager is durable.
+    /// The one that makes the call is prepared, where its resource manager is durable.
     Ready,
     /// The transaction waits for its superior, where it has one.
     Held,
@@ -61,7 +60,7 @@ pub enum Fact {
     DoneFiles,
     /// The keys are done, where they take part.
     DoneKeys,
-    /// The one that answers is done, where its resource manager is durable.
+    /// The one that makes the call is done, where its resource manager is durable.
     Done,
     /// The files alone commit.
     SingleFiles,
@@ -81,7 +80,7 @@ pub enum Step {
     Tell(Who, Notify),
     /// These are told this, and owe an answer.
     Ask(Who, Notify, Owed),
-    /// The one that answers is changed.
+    /// The one that makes the call is changed.
     Change(Answered),
     /// The transaction is in this phase from now on.
     Enter(Phase),
@@ -92,6 +91,3 @@ pub enum Step {
     /// The same, where nobody is unfinished.
     EndWhereFinished(TransactionOutcome),
 }
-
-/// The steps of one call, in order.
-pub type Steps = ArrayVec<Step, 12>;
