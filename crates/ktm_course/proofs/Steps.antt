@@ -17,9 +17,9 @@ use Rattle.ktm_course.specs.Moved.{IsAlone}
 use Rattle.ktm_types.specs.Sizes.{event_size}
 use Rattle.ktm_types.specs.declared.event.Event.{Event}
 use Rattle.ktm_world.specs.Phases.{Course, ended, ended_if_finished, is_its_superior, unchanged}
-use Rattle.ktm_phase.specs.declared.step.Step.{Step}
-use Rattle.ktm_phase.specs.declared.step.Step.TheVariants.{Record, Tell, Ask, Enter, Decide, End, EndWhereFinished}
-use Rattle.ktm_phase.specs.Run.{Basis, events_of, is_recorded_by}
+use Rattle.ktm_types.specs.declared.step.Step.{Step}
+use Rattle.ktm_types.specs.declared.step.Step.TheVariants.{Record, Tell, Ask, Enter, Decide, End, EndWhereFinished}
+use Rattle.ktm_world.specs.Steps.{Basis, events_of, is_recorded_by}
 use Rattle.ktm_course.specs.Recorded.{recorded_after, steps_events}
 
 -- the basis once these steps are recorded
@@ -30,8 +30,8 @@ then_basis steps b = record b { is_recorded = recorded_after steps b }
 pub both_record : (xs ys : List Step) (b : Basis) → steps_events (xs ++ ys) b ≡ steps_events xs b ++ steps_events ys (then_basis xs b)
 both_record [] ys b = refl
 both_record (Record fact ∷ xs) ys b =
-    ap (λ (es : List Event). events_of None fact b ++ es) (both_record xs ys (record b { is_recorded = is_recorded_by None fact b }))
-    ∙ sym (append_assoc (events_of None fact b) _ _)
+    ap (λ (es : List Event). events_of fact b ++ es) (both_record xs ys (record b { is_recorded = is_recorded_by fact b }))
+    ∙ sym (append_assoc (events_of fact b) _ _)
 both_record (Step.Commit ∷ xs) ys b = both_record xs ys b
 both_record (Tell who kind ∷ xs) ys b = both_record xs ys b
 both_record (Ask who kind owed ∷ xs) ys b = both_record xs ys b
@@ -64,6 +64,7 @@ unfolding ended
 ended_alone c t has_files has_keys outcome alone = record {
   transaction = ap (λ (u : Transaction). record u { phase = Phase.Ended; outcome = outcome }) alone.transaction;
   enlistments = ap (with_enlistments (is_its_superior c) unchanged) alone.enlistments;
+  caller = alone.caller;
   files = alone.files;
   keys = alone.keys;
 }

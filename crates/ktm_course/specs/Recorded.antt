@@ -6,9 +6,9 @@ use Rattle.ktm_types.specs.declared.event.Event.{Event}
 use Rattle.ktm_course.specs.declared.parts.Entry.{Entry}
 use Rattle.ktm_course.specs.declared.parts.Entry.TheVariants.{Work, Decide, Undo, Done}
 use Rattle.ktm_course.specs.declared.parts.Parts.{Parts}
-use Rattle.ktm_phase.specs.declared.step.Step.{Step}
-use Rattle.ktm_phase.specs.declared.step.Step.TheVariants.{Record}
-use Rattle.ktm_phase.specs.Run.{Basis, events_ahead, is_recorded_by}
+use Rattle.ktm_types.specs.declared.step.Step.{Step}
+use Rattle.ktm_types.specs.declared.step.Step.TheVariants.{Record}
+use Rattle.ktm_world.specs.Steps.{Basis, events_ahead, is_recorded_by}
 
 -- what it records from
 abbrev pub basis_of : Id → Bool → Parts → Basis
@@ -19,16 +19,17 @@ basis_of id is_recorded parts = record {
   settings = parts.settings.now;
   managers = [];
   superior = None;
+  caller = None;
 }
 
 -- what its steps record
 abbrev pub steps_events : List Step → Basis → List Event
-steps_events steps b = events_ahead None steps b
+steps_events steps b = events_ahead steps b
 
 -- has the log a Ready or a Held of it, once its steps are recorded
 abbrev pub recorded_after : List Step → Basis → Bool
 recorded_after [] b = b.is_recorded
-recorded_after (Record fact ∷ steps) b = recorded_after steps (record b { is_recorded = is_recorded_by None fact b })
+recorded_after (Record fact ∷ steps) b = recorded_after steps (record b { is_recorded = is_recorded_by fact b })
 recorded_after (_ ∷ steps) b = recorded_after steps b
 
 -- the event of an entry

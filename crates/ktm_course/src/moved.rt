@@ -3,10 +3,10 @@ ghost use Rattle.std.specs.Prelude.{◌≡◌, None};
 ghost use Rattle.std.specs.List.{list_any};
 ghost use Rattle.ktm_course.specs.Moved.{IsAlone, is_commit};
 ghost use Rattle.ktm_types.specs.declared.object.Phase.{Phase};
-ghost use Rattle.ktm_phase.specs.Run.{carried, run};
+ghost use Rattle.ktm_world.specs.Steps.{carried, run};
 ghost use Rattle.ktm_world.specs.Phases.{Course};
 
-use ktm_phase::{Fact, Step};
+use ktm_types::{Fact, Step};
 use ktm_types::{Phase, Transaction, TransactionOutcome};
 
 // Is this the step by which the files and the keys commit.
@@ -39,7 +39,7 @@ fn ended(t: Transaction, outcome: TransactionOutcome) -> Transaction
 
 // The transaction after one step.
 fn after_step(t: Transaction, has_files: bool, has_keys: bool, step: &Step) -> Transaction
-    ensures { (c : Course) → IsAlone c t has_files has_keys → IsAlone (carried None step.now c) result has_files has_keys }
+    ensures { (c : Course) → IsAlone c t has_files has_keys → IsAlone (carried step.now c) result has_files has_keys }
 {
     match *step {
         Step::Record(Fact::ReadyFiles) => Transaction {
@@ -60,7 +60,7 @@ fn after_step(t: Transaction, has_files: bool, has_keys: bool, step: &Step) -> T
 
 /// The transaction once its steps are carried out. The flags say whether the files and the keys take part.
 pub fn after(t: Transaction, has_files: bool, has_keys: bool, steps: &[Step]) -> Transaction
-    ensures { (c : Course) → IsAlone c t has_files has_keys → IsAlone (run None steps.now c) result has_files has_keys }
+    ensures { (c : Course) → IsAlone c t has_files has_keys → IsAlone (run steps.now c) result has_files has_keys }
 {
     let mut then = t;
     for step in steps {

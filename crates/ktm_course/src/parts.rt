@@ -4,7 +4,7 @@ ghost use Rattle.ktm_course.specs.Recorded.{basis_of, entries, entry_event, reco
 ghost use Rattle.ktm_event.specs.Kept.{Holds};
 ghost use Rattle.ktm_event.specs.Spelling.{IsSpellableEvent};
 ghost use Rattle.ktm_event.specs.Work.{changes_of};
-ghost use Rattle.ktm_phase.specs.Run.{events_of, is_recorded_by};
+ghost use Rattle.ktm_world.specs.Steps.{events_of, is_recorded_by};
 ghost use Rattle.ktm_types.specs.Sizes.{event_size};
 ghost use Rattle.ktm_base.specs.declared.id.Id.{Id as OfTransaction};
 ghost use Rattle.ktm_types.specs.declared.event.Event.{Event as Recorded};
@@ -13,7 +13,7 @@ ghost use Rattle.ktm_world.specs.Phases.{has_settings};
 
 use ktm_base::Id;
 use ktm_event::{Events, FileBytes, Stage, Work, event_size, work_size};
-use ktm_phase::{Fact, Step};
+use ktm_types::{Fact, Step};
 use ktm_types::{Change, DonePart, Event, Setting};
 
 /// The parts that the files and the keys have in a transaction.
@@ -83,7 +83,7 @@ impl Parts<'_> {
 
     // What is recorded by a fact, if anything is.
     fn entry(&self, fact: Fact, is_recorded: bool) -> Option<Entry<'_>>
-        ensures { (id : OfTransaction) → entries id result ≡ events_of None fact (basis_of id is_recorded self.now) }
+        ensures { (id : OfTransaction) → entries id result ≡ events_of fact (basis_of id is_recorded self.now) }
     {
         let changes = Work::Changes {
             names: self.names,
@@ -105,7 +105,7 @@ impl Parts<'_> {
 
     // Has the log a Ready once a fact is recorded.
     fn is_recorded_by(&self, fact: Fact, is_recorded: bool) -> bool
-        ensures { (id : OfTransaction) → result ≡ is_recorded_by None fact (basis_of id is_recorded self.now) }
+        ensures { (id : OfTransaction) → result ≡ is_recorded_by fact (basis_of id is_recorded self.now) }
     {
         match fact {
             Fact::ReadyFiles => is_recorded || self.has_changes(),

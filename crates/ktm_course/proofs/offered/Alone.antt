@@ -1,14 +1,14 @@
 -- What steps make of a course without enlistments.
-use Rattle.std.proofs.Common.{◌≡◌, Bool, true, false, cond, List, [], ◌∷◌, ◌++◌, Option, None, append-nil, append_assoc, filter, map, refl, sym, ◌∙◌, ap}
+use Rattle.std.proofs.Common.{◌≡◌, Bool, true, false, cond, List, [], ◌∷◌, ◌++◌, Option, Some, None, append-nil, append_assoc, filter, map, refl, sym, ◌∙◌, ap}
 use Rattle.std.specs.List.{flat_map, list_any}
 use Rattle.ktm_types.specs.declared.object.TransactionOutcome.{TransactionOutcome}
 use Rattle.ktm_world.specs.Committed.{Work}
-use Rattle.ktm_world.specs.Enlistments.{Enlistment, Sent, is_unfinished, tell, with_enlistments}
+use Rattle.ktm_world.specs.Enlistments.{Enlistment, has_id, is_unfinished, tell, with_enlistments}
 use Rattle.ktm_base.specs.declared.notify.Notify.{Notify}
 use Rattle.ktm_world.specs.Phases.{Course, end_notice, ended, ended_if_finished, is_its_superior, telling, unchanged, work_of}
-use Rattle.ktm_phase.specs.declared.step.Step.{Step}
-use Rattle.ktm_phase.specs.declared.step.Step.TheVariants.{Record, Tell, Ask, Enter, Decide, End, EndWhereFinished}
-use Rattle.ktm_phase.specs.Run.{answer_to, carried, is_meant, run}
+use Rattle.ktm_types.specs.declared.step.Step.{Step}
+use Rattle.ktm_types.specs.declared.step.Step.TheVariants.{Record, Tell, Ask, Enter, Decide, End, EndWhereFinished}
+use Rattle.ktm_world.specs.Steps.{answered, carried, changing, is_meant, run}
 use Rattle.ktm_world.specs.Phases.{owing}
 use Rattle.ktm_course.specs.Moved.{is_commit}
 
@@ -21,10 +21,10 @@ abbrev pub works_by : List Step → Course → List Work
 works_by steps c = flat_map (λ step. committed_by step c) steps
 
 -- a course goes on without enlistments: nobody is told anything, these works are committed, and it stays the same transaction's
-pub record GoesOn (c d : Course) (works : List Work) : Type 0 where
+pub record GoesOn (c d : Course) (more : List Work) : Type 0 where
   pub enlistments : d.enlistments ≡ []
   pub sent : d.sent ≡ c.sent
-  pub works : d.works ≡ c.works ++ works
+  pub works : d.works ≡ c.works ++ more
   pub id : d.transaction.id ≡ c.transaction.id
   pub work : work_of d ≡ work_of c
 
@@ -50,16 +50,20 @@ ends c outcome none = record {
 stays : (c : Course) → c.enlistments ≡ [] → GoesOn c c []
 stays c none = record { enlistments = none; sent = refl; works = sym (append-nil c.works); id = refl; work = refl }
 
+changes_none : (c : Course) (caller : Option Enlistment) (f : Enlistment → Enlistment) → c.enlistments ≡ [] → GoesOn c (changing c caller f) []
+changes_none c None f none = stays c none
+changes_none c (Some e) f none = record { enlistments = ap (with_enlistments (has_id e.id) f) none; sent = refl; works = sym (append-nil c.works); id = refl; work = refl }
+
 either : (b : Bool) (c d e : Course) → GoesOn c d [] → GoesOn c e [] → GoesOn c (cond b d e) []
 either true c d e first second = first
 either false c d e first second = second
 
-step_goes_on : (step : Step) (c : Course) → c.enlistments ≡ [] → GoesOn c (carried None step c) (committed_by step c)
+step_goes_on : (step : Step) (c : Course) → c.enlistments ≡ [] → GoesOn c (carried step c) (committed_by step c)
 step_goes_on (Record fact) c none = record { enlistments = none; sent = refl; works = sym (append-nil c.works); id = refl; work = refl }
 step_goes_on Step.Commit c none = record { enlistments = none; sent = refl; works = refl; id = refl; work = refl }
-step_goes_on (Tell who kind) c none = tells_none c (is_meant None who c) kind unchanged none
-step_goes_on (Ask who kind owed) c none = tells_none c (is_meant None who c) kind (owing (answer_to owed)) none
-step_goes_on (Step.Change answer) c none = stays c none
+step_goes_on (Tell who kind) c none = tells_none c (is_meant who c) kind unchanged none
+step_goes_on (Ask who kind owed) c none = tells_none c (is_meant who c) kind (owing owed) none
+step_goes_on (Step.Change answer) c none = changes_none c c.caller (answered answer) none
 step_goes_on (Enter phase) c none = record { enlistments = none; sent = refl; works = sym (append-nil c.works); id = refl; work = refl }
 step_goes_on (Decide outcome) c none = record { enlistments = none; sent = refl; works = sym (append-nil c.works); id = refl; work = refl }
 step_goes_on (End outcome) c none = ends c outcome none
@@ -71,10 +75,10 @@ same_works [] c d same = refl
 same_works (step ∷ steps) c d same = ap (λ (works : List Work). cond (is_commit step) works [] ++ works_by steps d) same ∙ ap (λ (works : List Work). committed_by step c ++ works) (same_works steps c d same)
 
 -- carried out without enlistments, steps tell nobody and commit what they commit
-pub goes_on : (steps : List Step) (c : Course) → c.enlistments ≡ [] → GoesOn c (run None steps c) (works_by steps c)
+pub goes_on : (steps : List Step) (c : Course) → c.enlistments ≡ [] → GoesOn c (run steps c) (works_by steps c)
 goes_on [] c none = stays c none
 goes_on (step ∷ steps) c none =
-    let d = carried None step c in
+    let d = carried step c in
     let first = step_goes_on step c none in
     let rest = goes_on steps d first.enlistments in
     record {

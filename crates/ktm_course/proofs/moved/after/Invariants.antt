@@ -1,5 +1,5 @@
 use Rattle.std.proofs.Common.{◌≡◌, [], None, drop}
-use Rattle.ktm_phase.specs.Run.{run}
+use Rattle.ktm_world.specs.Steps.{run}
 use Rattle.ktm_world.specs.Changes.{has_changes}
 use Rattle.ktm_world.specs.Phases.{Course, has_settings}
 use Rattle.ktm_course.specs.Moved.{IsAlone}
@@ -7,4 +7,4 @@ use Rattle.ktm_course.proofs.moved.after.Given as goal
 
 -- with the steps that are left, all are carried out
 abbrev pub invariant-loop-step : goal.invariant-loop-step
-invariant-loop-step l = (c : Course) → IsAlone c l.fn.t l.has_files l.has_keys → (d : Course) × IsAlone d l.then l.has_files l.has_keys × (run None (drop l.step-index l.steps) d ≡ run None l.steps c)
+invariant-loop-step l = (c : Course) → IsAlone c l.fn.t l.has_files l.has_keys → (d : Course) × IsAlone d l.then l.has_files l.has_keys × (run (drop l.step-index l.steps) d ≡ run l.steps c)

@@ -2,8 +2,8 @@ use Rattle.std.proofs.Common.{◌≡◌, ◌+◌, ◌∷◌, [], ◌++◌, All, 
 use Rattle.std.proofs.lemmas.List.{drop_all, drop_more}
 use Rattle.ktm_event.specs.Kept.{Holds}
 use Rattle.ktm_event.specs.Spelling.{IsSpellableEvent}
-use Rattle.ktm_phase.specs.declared.step.Fact.{Fact}
-use Rattle.ktm_phase.specs.declared.step.Step.{Step}
+use Rattle.ktm_types.specs.declared.step.Fact.{Fact}
+use Rattle.ktm_types.specs.declared.step.Step.{Step}
 use Rattle.ktm_types.specs.Sizes.{event_size}
 use Rattle.ktm_types.specs.declared.event.Event.{Event}
 use Rattle.ktm_course.specs.Recorded.{basis_of, recorded_after, steps_events}

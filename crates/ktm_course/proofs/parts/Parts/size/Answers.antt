@@ -1,6 +1,6 @@
 use Rattle.std.proofs.Common.{◌≡◌, ◌+◌, ◌-◌, ◌^◌, List, arith, ap, min, sum_by, sym, ◌∙◌}
 use Rattle.std.proofs.lemmas.List.{drop_all}
-use Rattle.ktm_phase.specs.declared.step.Step.{Step}
+use Rattle.ktm_types.specs.declared.step.Step.{Step}
 use Rattle.ktm_types.specs.Sizes.{event_size}
 use Rattle.ktm_course.specs.Recorded.{basis_of, steps_events}
 use Rattle.ktm_course.proofs.parts.Parts.size.Goals as goal
