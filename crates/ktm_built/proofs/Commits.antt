@@ -67,17 +67,17 @@ then_committed x t changes settings = committed_with (committed_now x) (commit_w
 abbrev files_then : Present → List Change → Committed
 files_then x changes = fold with_change (committed_files x.files []) changes
 
-tree_committed : (x : Present) (t : Transaction) (changes : List Change) (settings : OwnSettings) → (then_committed x t changes settings).tree ≡ (files_then x changes).tree
+pub tree_committed : (x : Present) (t : Transaction) (changes : List Change) (settings : OwnSettings) → (then_committed x t changes settings).tree ≡ (files_then x changes).tree
 tree_committed x t [] [] = refl
 tree_committed x t [] (s ∷ ss) = refl
 tree_committed x t (c ∷ cs) settings = tree-store (c ∷ cs) (committed_now x) (committed_files x.files []) refl refl
 
-versions_committed : (x : Present) (t : Transaction) (changes : List Change) (settings : OwnSettings) → (then_committed x t changes settings).versions ≡ (files_then x changes).versions
+pub versions_committed : (x : Present) (t : Transaction) (changes : List Change) (settings : OwnSettings) → (then_committed x t changes settings).versions ≡ (files_then x changes).versions
 versions_committed x t [] [] = refl
 versions_committed x t [] (s ∷ ss) = refl
 versions_committed x t (c ∷ cs) settings = versions-store (c ∷ cs) (committed_now x) (committed_files x.files []) refl refl
 
-store_committed : (x : Present) (t : Transaction) (changes : List Change) (settings : OwnSettings) → (then_committed x t changes settings).store ≡ stored_all x.keys.store settings
+pub store_committed : (x : Present) (t : Transaction) (changes : List Change) (settings : OwnSettings) → (then_committed x t changes settings).store ≡ stored_all x.keys.store settings
 store_committed x t [] [] = refl
 store_committed x t [] (s ∷ ss) = refl
 store_committed x t (c ∷ cs) settings = refl

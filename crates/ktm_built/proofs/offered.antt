@@ -1,6 +1,7 @@
 -- Lemmas that other crates cite.
 pub mod Found
 pub mod Quiet
+pub mod Courses
 pub mod Forms
 pub mod Distinct
 pub mod Timeouts

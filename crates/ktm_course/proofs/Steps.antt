@@ -1,5 +1,5 @@
 -- Steps one after another.
-use Rattle.std.proofs.Common.{◌≡◌, ◌+◌, ℕ, suc, Bool, true, false, ◌==◌, not, List, [], ◌∷◌, ◌++◌, All, length, sum_by, None, cond, refl, sym, ◌∙◌, ap, subst, append_assoc, arith}
+use Rattle.std.proofs.Common.{◌≡◌, ◌+◌, ℕ, suc, Bool, true, false, ◌==◌, not, List, [], ◌∷◌, ◌++◌, All, length, sum_by, cond, refl, sym, ◌∙◌, ap, subst, append_assoc, arith}
 use Rattle.std.proofs.lemmas.Bool.{eqb-true, false_from_ne_true}
 use Rattle.std.specs.List.{AllByRecursion, list_any}
 use Rattle.std.proofs.lemmas.List.Elements.{recursion_from_All, All-from_recursion}

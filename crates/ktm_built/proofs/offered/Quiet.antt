@@ -136,6 +136,10 @@ aborted_is x t reply built found live =
     by_alone (λ (y : Present). aborted_by y t None reply ≡ rolled_back y t reply) x built (subst (λ (u : Transaction). aborted_by (alone x) u None reply ≡ rolled_back (alone x) u reply) unrecorded (aborted_alone x t reply))
     ∙ ap (λ (items : List Transaction). record (quiet x reply (t.id ∷ []) (with_rollback x t)) { transactions = record x.transactions { items = items } }) (change_at-found ended_aborted x.transactions.items t.id t found)
 
+-- the first opens where none end
+pub opens_all : (opens : List FirstOpen) → opens_left [] (opens ++ []) ≡ opens
+opens_all opens = ap (opens_left []) (append-nil opens) ∙ filter-true opens
+
 -- the first opens of one transaction end
 pub opens_but : (id : Id) (opens : List FirstOpen) → opens_left (id ∷ []) opens ≡ filter (λ f. not (same_id f.transaction id)) opens
 opens_but id opens i = filter (λ (f : FirstOpen). not (or-false (same_id f.transaction id) i)) opens

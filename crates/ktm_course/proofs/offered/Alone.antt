@@ -1,81 +1,60 @@
 -- What steps make of a course without enlistments.
-use Rattle.std.proofs.Common.{◌≡◌, Bool, true, false, cond, List, [], ◌∷◌, ◌++◌, Option, Some, None, append-nil, append_assoc, filter, map, refl, sym, ◌∙◌, ap}
-use Rattle.std.specs.List.{flat_map, list_any}
+use Rattle.std.proofs.Common.{◌≡◌, Bool, true, false, cond, List, [], ◌∷◌, ◌++◌, Option, Some, None, append-nil, filter, map, refl, ◌∙◌, ap}
+use Rattle.std.specs.List.{list_any}
 use Rattle.ktm_types.specs.declared.object.TransactionOutcome.{TransactionOutcome}
-use Rattle.ktm_world.specs.Committed.{Work}
 use Rattle.ktm_world.specs.Enlistments.{Enlistment, has_id, is_unfinished, tell, with_enlistments}
 use Rattle.ktm_base.specs.declared.notify.Notify.{Notify}
-use Rattle.ktm_world.specs.Phases.{Course, end_notice, ended, ended_if_finished, is_its_superior, telling, unchanged, work_of}
+use Rattle.ktm_world.specs.Phases.{Course, end_notice, ended, is_its_superior, telling, unchanged}
 use Rattle.ktm_types.specs.declared.step.Step.{Step}
 use Rattle.ktm_types.specs.declared.step.Step.TheVariants.{Record, Tell, Ask, Enter, Decide, End, EndWhereFinished}
 use Rattle.ktm_world.specs.Steps.{answered, carried, changing, is_meant, run}
 use Rattle.ktm_world.specs.Phases.{owing}
-use Rattle.ktm_course.specs.Moved.{is_commit}
 
--- what this step commits
-abbrev committed_by : Step → Course → List Work
-committed_by step c = cond (is_commit step) (work_of c) []
-
--- what these steps commit
-abbrev pub works_by : List Step → Course → List Work
-works_by steps c = flat_map (λ step. committed_by step c) steps
-
--- a course goes on without enlistments: nobody is told anything, these works are committed, and it stays the same transaction's
-pub record GoesOn (c d : Course) (more : List Work) : Type 0 where
+-- a course goes on without enlistments: nobody is told anything, and it stays the same transaction's
+pub record GoesOn (c d : Course) : Type 0 where
   pub enlistments : d.enlistments ≡ []
   pub sent : d.sent ≡ c.sent
-  pub works : d.works ≡ c.works ++ more
   pub id : d.transaction.id ≡ c.transaction.id
-  pub work : work_of d ≡ work_of c
 
-tells_none : (c : Course) (test : Enlistment → Bool) (kind : Notify) (f : Enlistment → Enlistment) → c.enlistments ≡ [] → GoesOn c (telling c test kind f) []
+tells_none : (c : Course) (test : Enlistment → Bool) (kind : Notify) (f : Enlistment → Enlistment) → c.enlistments ≡ [] → GoesOn c (telling c test kind f)
 tells_none c test kind f none = record {
   enlistments = ap (with_enlistments test f) none;
   sent = ap (λ (es : List Enlistment). c.sent ++ map (tell kind) (filter test es)) none ∙ append-nil c.sent;
-  works = sym (append-nil c.works);
   id = refl;
-  work = refl;
 }
 
-ends : (c : Course) (outcome : TransactionOutcome) → c.enlistments ≡ [] → GoesOn c (ended c outcome) []
+ends : (c : Course) (outcome : TransactionOutcome) → c.enlistments ≡ [] → GoesOn c (ended c outcome)
 unfolding ended
 ends c outcome none = record {
   enlistments = ap (with_enlistments (is_its_superior c) unchanged) none;
   sent = ap (λ (es : List Enlistment). c.sent ++ map (tell (end_notice outcome)) (filter (is_its_superior c) es)) none ∙ append-nil c.sent;
-  works = sym (append-nil c.works);
   id = refl;
-  work = refl;
 }
 
-stays : (c : Course) → c.enlistments ≡ [] → GoesOn c c []
-stays c none = record { enlistments = none; sent = refl; works = sym (append-nil c.works); id = refl; work = refl }
+stays : (c : Course) → c.enlistments ≡ [] → GoesOn c c
+stays c none = record { enlistments = none; sent = refl; id = refl }
 
-changes_none : (c : Course) (caller : Option Enlistment) (f : Enlistment → Enlistment) → c.enlistments ≡ [] → GoesOn c (changing c caller f) []
+changes_none : (c : Course) (caller : Option Enlistment) (f : Enlistment → Enlistment) → c.enlistments ≡ [] → GoesOn c (changing c caller f)
 changes_none c None f none = stays c none
-changes_none c (Some e) f none = record { enlistments = ap (with_enlistments (has_id e.id) f) none; sent = refl; works = sym (append-nil c.works); id = refl; work = refl }
+changes_none c (Some e) f none = record { enlistments = ap (with_enlistments (has_id e.id) f) none; sent = refl; id = refl }
 
-either : (b : Bool) (c d e : Course) → GoesOn c d [] → GoesOn c e [] → GoesOn c (cond b d e) []
+either : (b : Bool) (c d e : Course) → GoesOn c d → GoesOn c e → GoesOn c (cond b d e)
 either true c d e first second = first
 either false c d e first second = second
 
-step_goes_on : (step : Step) (c : Course) → c.enlistments ≡ [] → GoesOn c (carried step c) (committed_by step c)
-step_goes_on (Record fact) c none = record { enlistments = none; sent = refl; works = sym (append-nil c.works); id = refl; work = refl }
-step_goes_on Step.Commit c none = record { enlistments = none; sent = refl; works = refl; id = refl; work = refl }
+step_goes_on : (step : Step) (c : Course) → c.enlistments ≡ [] → GoesOn c (carried step c)
+step_goes_on (Record fact) c none = record { enlistments = none; sent = refl; id = refl }
+step_goes_on Step.Commit c none = record { enlistments = none; sent = refl; id = refl }
 step_goes_on (Tell who kind) c none = tells_none c (is_meant who c) kind unchanged none
 step_goes_on (Ask who kind owed) c none = tells_none c (is_meant who c) kind (owing owed) none
 step_goes_on (Step.Change answer) c none = changes_none c c.caller (answered answer) none
-step_goes_on (Enter phase) c none = record { enlistments = none; sent = refl; works = sym (append-nil c.works); id = refl; work = refl }
-step_goes_on (Decide outcome) c none = record { enlistments = none; sent = refl; works = sym (append-nil c.works); id = refl; work = refl }
+step_goes_on (Enter phase) c none = record { enlistments = none; sent = refl; id = refl }
+step_goes_on (Decide outcome) c none = record { enlistments = none; sent = refl; id = refl }
 step_goes_on (End outcome) c none = ends c outcome none
 step_goes_on (EndWhereFinished outcome) c none = either (list_any (is_unfinished c.transaction.id) c.enlistments) c c (ended c outcome) (stays c none) (ends c outcome none)
 
--- one work, as it is of a course that goes on
-same_works : (steps : List Step) (c d : Course) → work_of d ≡ work_of c → works_by steps d ≡ works_by steps c
-same_works [] c d same = refl
-same_works (step ∷ steps) c d same = ap (λ (works : List Work). cond (is_commit step) works [] ++ works_by steps d) same ∙ ap (λ (works : List Work). committed_by step c ++ works) (same_works steps c d same)
-
--- carried out without enlistments, steps tell nobody and commit what they commit
-pub goes_on : (steps : List Step) (c : Course) → c.enlistments ≡ [] → GoesOn c (run steps c) (works_by steps c)
+-- carried out without enlistments, steps tell nobody
+pub goes_on : (steps : List Step) (c : Course) → c.enlistments ≡ [] → GoesOn c (run steps c)
 goes_on [] c none = stays c none
 goes_on (step ∷ steps) c none =
     let d = carried step c in
@@ -84,8 +63,5 @@ goes_on (step ∷ steps) c none =
     record {
       enlistments = rest.enlistments;
       sent = rest.sent ∙ first.sent;
-      works = rest.works ∙ ap (λ (works : List Work). works ++ works_by steps d) first.works ∙ append_assoc c.works (committed_by step c) (works_by steps d)
-          ∙ ap (λ (works : List Work). c.works ++ (committed_by step c ++ works)) (same_works steps c d first.work);
       id = rest.id ∙ first.id;
-      work = rest.work ∙ first.work;
     }

@@ -1,7 +1,6 @@
-use Rattle.std.proofs.Common.{◌≡◌, [], None, drop}
+use Rattle.std.proofs.Common.{◌≡◌, drop}
 use Rattle.ktm_world.specs.Steps.{run}
-use Rattle.ktm_world.specs.Changes.{has_changes}
-use Rattle.ktm_world.specs.Phases.{Course, has_settings}
+use Rattle.ktm_world.specs.Phases.{Course}
 use Rattle.ktm_course.specs.Moved.{IsAlone}
 use Rattle.ktm_course.proofs.moved.after.Given as goal
 

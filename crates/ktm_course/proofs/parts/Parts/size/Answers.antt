@@ -1,4 +1,4 @@
-use Rattle.std.proofs.Common.{◌≡◌, ◌+◌, ◌-◌, ◌^◌, List, arith, ap, min, sum_by, sym, ◌∙◌}
+use Rattle.std.proofs.Common.{◌+◌, ◌-◌, ◌^◌, List, arith, ap, min, sum_by, sym, ◌∙◌}
 use Rattle.std.proofs.lemmas.List.{drop_all}
 use Rattle.ktm_types.specs.declared.step.Step.{Step}
 use Rattle.ktm_types.specs.Sizes.{event_size}
