@@ -1,5 +1,5 @@
 -- What the calls that are built come to, where there are transactions, files and keys alone.
-use Rattle.std.specs.Prelude.{◌≡◌, ℕ, ◌+◌, ◌-◌, ◌&&◌, ◌||◌, Bool, true, false, List, [], ◌∷◌, ◌++◌, length, fold, Option, Some, None, if◌then◌else◌}
+use Rattle.std.specs.Prelude.{◌≡◌, ℕ, ◌+◌, ◌-◌, ◌&&◌, ◌||◌, Bool, false, List, [], ◌∷◌, ◌++◌, length, fold, Option, Some, None, if◌then◌else◌}
 use Rattle.ktm_base.specs.declared.id.Id.{Id}
 use Rattle.ktm_base.specs.declared.id.Label.{Label}
 use Rattle.ktm_base.specs.declared.id.Pid.{Pid}
@@ -29,7 +29,7 @@ use Rattle.ktm_world.specs.Outcome.{Outcome, apply, only_reply}
 use Rattle.ktm_world.specs.Phases.{has_settings}
 use Rattle.ktm_world.specs.Present.{Present}
 use Rattle.ktm_types.specs.Sizes.{log_size}
-use Rattle.ktm_world.specs.Transactions.{transaction_at, change_at, is_active, is_undecided}
+use Rattle.ktm_world.specs.Transactions.{transaction_at, change_at, is_active}
 use Rattle.ktm_world.specs.TransactionCalls.{new_id, is_due, with_clock}
 use Rattle.txf_laws.specs.Reservations.{files_committed}
 use Rattle.txf_laws.specs.FileEffects.{forgotten}
@@ -145,30 +145,6 @@ with_commit_made x t = record x {
 -- what is so once a transaction has committed
 abbrev pub with_commit : Present → Transaction → Present
 with_commit x t = with_group (with_commit_made x t) (commit_events t.id (changes_of x t) (settings_of x t))
-
--- ---- a transaction that moves
-
--- the transaction is this from now on
-abbrev pub with_changed : Present → Transaction → Transaction → Present
-with_changed x t then' = record x { transactions = record x.transactions { items = change_at x.transactions.items t.id (λ u. then') } }
-
--- what it changed, opened and set is gone
-abbrev pub with_forgotten : Present → Transaction → Present
-with_forgotten x t = record x { files = forgotten x.files t.id; keys = record x.keys { own = without_own x.keys.own t.id } }
-
--- what it changed and set is committed
-abbrev pub with_committed : Present → Transaction → Present
-with_committed x t = record x {
-  recorded = recorded_by x.recorded (changes_of x t) (settings_of x t);
-  files = files_committed x.files t.id;
-  keys = record { store = stored_all x.keys.store (settings_of x t); own = without_own x.keys.own t.id };
-}
-
--- the transaction is this from now on, and nobody is told, but for the group in the log: where it commits its work is committed, and where
--- its outcome is known it holds nothing
-abbrev pub with_moved : Present → Transaction → Transaction → Bool → Present
-with_moved x t then' true = with_changed (with_committed x t) t then'
-with_moved x t then' false = if is_undecided then' then with_changed x t then' else with_changed (with_forgotten x t) t then'
 
 -- ---- RollbackTransaction
 

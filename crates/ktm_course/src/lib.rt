@@ -5,5 +5,5 @@
 mod moved;
 mod parts;
 
-pub use moved::{after, commits};
+pub use moved::{after, commits, is_undecided};
 pub use parts::Parts;

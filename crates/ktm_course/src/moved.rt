@@ -5,6 +5,7 @@ ghost use Rattle.ktm_course.specs.Moved.{IsAlone, is_commit};
 ghost use Rattle.ktm_types.specs.declared.object.Phase.{Phase};
 ghost use Rattle.ktm_world.specs.Steps.{carried, run};
 ghost use Rattle.ktm_world.specs.Phases.{Course};
+ghost use Rattle.ktm_world.specs.Transactions.{is_undecided};
 
 use ktm_types::{Fact, Step};
 use ktm_types::{Phase, Transaction, TransactionOutcome};
@@ -34,6 +35,16 @@ fn ended(t: Transaction, outcome: TransactionOutcome) -> Transaction
         phase: Phase::Ended,
         outcome,
         ..t
+    }
+}
+
+/// Is the outcome of the transaction not known yet.
+pub fn is_undecided(t: &Transaction) -> bool
+    ensures { result ≡ is_undecided t.now }
+{
+    match t.outcome {
+        TransactionOutcome::Undetermined => true,
+        TransactionOutcome::Committed | TransactionOutcome::Aborted => false,
     }
 }
 

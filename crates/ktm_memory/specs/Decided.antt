@@ -13,18 +13,24 @@ use Rattle.ktm_world.specs.FileOutcome.{FileOutcome}
 use Rattle.ktm_world.specs.Outcome.{Outcome, apply, is_full}
 use Rattle.ktm_memory.specs.declared.settlement.Decision.{Decision}
 use Rattle.ktm_memory.specs.declared.settlement.Settlement.{Settlement}
-use Rattle.ktm_memory.specs.declared.settlement.Settlement.TheVariants.{Nothing, Bind}
+use Rattle.ktm_memory.specs.declared.settlement.Settlement.TheVariants.{Nothing, Handles}
+use Rattle.ktm_memory.specs.declared.settlement.Labels.TheVariants.{Bind}
 use Rattle.txf_calls.specs.declared.call.OpenFile.{OpenFile}
-use Rattle.ktm_memory.specs.Memory.{Held, MemoryState, MaySettle, held, logged, now_of, settled}
+use Rattle.ktm_built.specs.Standing.{IsBuiltNow}
+use Rattle.ktm_memory.specs.Memory.{Held, MemoryState, MaySettle, held, now_of, present_of}
+use Rattle.ktm_memory.specs.Settled.{left_to_do}
 
--- the reply and the events are those of the outcome; once they are recorded and memory has settled, what is so is what the outcome makes of
--- what was so; until then nothing that is recorded has changed in memory
+-- the reply and the events are those of the outcome; what is left to do once they are recorded comes to what the outcome makes of what was so;
+-- until then nothing that is recorded has changed in memory
 pub record Decides (old : Held) (o : Outcome) (reply : Reply) (then : Settlement) (events : EventsState) (new : MemoryState) : Type 0 where
   pub says : reply ≡ o.reply
   pub records : Holds events o.events
   pub room : is_full (now_of old).machine.left o.events ≡ false
   pub journal : new.journal ≡ old.journal
-  pub comes_to : settled (now_of (logged (held new) o.events)) then ≡ apply (now_of old) o
+  -- what is left to do has these events, and comes to what the outcome comes to
+  pub group : (left_to_do (present_of new) then).events ≡ o.events
+  pub comes_to : apply (present_of new) (left_to_do (present_of new) then) ≡ apply (now_of old) o
+  pub built : IsBuiltNow (present_of new)
   pub may : MaySettle new then
   pub waits : o.events ≢ [] → held new ≡ old
   -- what records something is not refused
@@ -41,5 +47,5 @@ CanAnswer who o = events_of who o.change ≢ [] → (refusal : Refusal) → o.re
 
 -- what is left to do where a file was opened: its label is bound to it
 abbrev pub bind_opened : Pid → Option Label → Option OpenFile → Settlement
-bind_opened process (Some label) (Some file) = Bind process label (FileObject file.number)
+bind_opened process (Some label) (Some file) = Handles process (Bind label (FileObject file.number))
 bind_opened process label opened = Nothing

@@ -3,7 +3,11 @@ use Rattle.std.specs.Prelude.{◌≡◌, ℕ, ◌+◌, ◌-◌, ◌≤◌, Bool,
 use Rattle.ktm_base.specs.declared.limits.TheConstants.{MOST_UNITS, MOST_LIVE}
 use Rattle.ktm_base.specs.declared.id.Label.{Label}
 use Rattle.ktm_base.specs.declared.id.Pid.{Pid}
-use Rattle.ktm_built.specs.Forms.{handles_with, with_bound, with_commit_made, with_files_made, with_handle_closed, with_process_gone, with_rollback, with_tick, with_transaction}
+use Rattle.ktm_base.specs.declared.id.Id.{Id}
+use Rattle.ktm_built.specs.Courses.{LeadsOn}
+use Rattle.ktm_course.specs.Moved.{is_commit}
+use Rattle.ktm_types.specs.declared.step.Step.{Step}
+use Rattle.std.specs.List.{list_any}
 use Rattle.ktm_event.specs.Kept.{EventsState}
 use Rattle.ktm_journal.specs.Image.{JournalState}
 use Rattle.ktm_types.specs.Sizes.{area_len, frame_size, log_size}
@@ -32,7 +36,9 @@ use Rattle.txf_volume.specs.Commit.{MayCommit}
 use Rattle.txf_volume.specs.Held.{FilesHeld, files_of}
 use Rattle.txf_volume.specs.Plain.{IsReady}
 use Rattle.ktm_memory.specs.declared.settlement.Settlement.{Settlement}
-use Rattle.ktm_memory.specs.declared.settlement.Settlement.TheVariants.{Nothing, Create, Plain, Commit, Rollback, Bind, Duplicate, Close, Exit, Tick}
+use Rattle.ktm_memory.specs.declared.settlement.Settlement.TheVariants.{Nothing, Begin, Change, Course, Handles, Pass}
+use Rattle.ktm_memory.specs.declared.settlement.Labels.{Labels}
+use Rattle.ktm_memory.specs.declared.settlement.Labels.TheVariants.{Bind, Duplicate, Unbind, UnbindAll}
 
 -- what each layer shows
 pub record MemoryState : Type 0 where
@@ -91,57 +97,43 @@ pub record CanMakePlain (files : FilesNow) (o : FileOutcome) : Type 0 where
   pub counted : CanBeCounted (files_after files None o)
 
 -- what the transaction changed and set can be committed, and the memory for it is there
-pub record CanCommit (m : MemoryState) (t : Transaction) : Type 0 where
-  pub keys : length (own_settings m.keys.keys.own t.id) ≤ m.keys.room
-  pub files : MayCommit m.files t.id
-  pub applies : changes_apply (files_of m.files).tree (own_changes (files_of m.files).table.own t.id) ≡ true
-  pub left : LeavesOthers (files_of m.files) t.id
-  pub unopened : AreUnopened (files_of m.files) t.id
-  pub counted : CanBeCounted (files_committed (files_of m.files) t.id)
+pub record CanCommit (m : MemoryState) (id : Id) : Type 0 where
+  pub keys : length (own_settings m.keys.keys.own id) ≤ m.keys.room
+  pub files : MayCommit m.files id
+  pub applies : changes_apply (files_of m.files).tree (own_changes (files_of m.files).table.own id) ≡ true
+  pub left : LeavesOthers (files_of m.files) id
+  pub unopened : AreUnopened (files_of m.files) id
+  pub counted : CanBeCounted (files_committed (files_of m.files) id)
   pub few : AreVersionsFew (files_of m.files).versions
+
+-- the transaction is there, the log has what memory comes to by the steps, whatever it had before, and what they commit can be committed
+pub record CanGoOn (m : MemoryState) (t : Transaction) (steps : List Step) : Type 0 where
+  pub there : transaction_at m.tm.now.items t.id ≡ Some t
+  pub leads : (j : JournalState) → LeadsOn (now_of (record (held m) { journal = j })) t steps
+  pub commits : list_any is_commit steps ≡ true → CanCommit m t.id
 
 -- a label that is to be bound to a file that is opened is free, and there is room for it
 abbrev pub MayBind : MemoryState → Pid → Option Label → Option OpenFile → Type 0
 MayBind m process (Some label) (Some file) = (1 ≤ m.handles.spare) × (object_at (handles_of m.handles) process label ≡ None)
 MayBind m process label opened = Unit {0}
 
+-- the labels can be bound as they are to be
+abbrev pub MayHandle : MemoryState → Pid → Labels → Type 0
+MayHandle m process (Bind label object) = (1 ≤ m.handles.spare) × (object_at (handles_of m.handles) process label ≡ None)
+MayHandle m process (Duplicate label from source) =
+    (1 ≤ m.handles.spare) × (object_at (handles_of m.handles) process label ≡ None) × (is_some (object_at (handles_of m.handles) from source) ≡ true)
+MayHandle m process (Unbind label) = Unit {0}
+MayHandle m process UnbindAll = Unit {0}
+
 -- memory has the room that the settlement takes, and it can be made
 abbrev pub MaySettle : MemoryState → Settlement → Type 0
 MaySettle m Nothing = Unit {0}
-MaySettle m (Create process label timeout) =
+MaySettle m (Begin process label timeout) =
     (1 ≤ m.tm.room) × (1 ≤ m.handles.spare) × (no_transaction_left m.tm.now ≡ false) × (object_at (handles_of m.handles) process label ≡ None)
-MaySettle m (Plain process label plan ready) = CanMakePlain (files_of m.files) plan × IsReady m.files plan ready × MayBind m process label plan.opened
-MaySettle m (Commit t) = CanCommit m t × (transaction_at m.tm.now.items t.id ≡ Some t)
-MaySettle m (Rollback t) = transaction_at m.tm.now.items t.id ≡ Some t
-MaySettle m (Bind process label object) = (1 ≤ m.handles.spare) × (object_at (handles_of m.handles) process label ≡ None)
-MaySettle m (Duplicate process label from source) =
-    (1 ≤ m.handles.spare) × (object_at (handles_of m.handles) process label ≡ None) × (is_some (object_at (handles_of m.handles) from source) ≡ true)
-MaySettle m (Close process label) = Unit {0}
-MaySettle m (Exit process) = Unit {0}
-MaySettle m (Tick ms) = (each_pair (λ (t u : Transaction). is_before t.id u.id) m.tm.now.items ≡ true) × (count_by is_live m.tm.now.items ≤ MOST_LIVE)
-
--- the label is bound to the object, if there is one
-abbrev pub with_bound_to : Present → Pid → Label → Option Object → Present
-with_bound_to x process label None = x
-with_bound_to x process label (Some object) = with_bound x process label object
-
--- the handles once the label, if there is one, is bound to the file that is opened, if one is
-abbrev pub handles_then : List Handle → Pid → Option Label → Option OpenFile → List Handle
-handles_then handles process None opened = handles
-handles_then handles process (Some label) opened = handles_with handles process label opened
-
--- what is so once it is made
-abbrev pub settled : Present → Settlement → Present
-settled x Nothing = x
-settled x (Create process label timeout) = with_transaction x process label timeout
-settled x (Plain process label plan ready) = record (with_files_made x None plan) { handles = handles_then x.handles process label plan.opened }
-settled x (Commit t) = with_commit_made x t
-settled x (Rollback t) = with_rollback x t
-settled x (Bind process label object) = with_bound x process label object
-settled x (Duplicate process label from source) = with_bound_to x process label (object_at x.handles from source)
-settled x (Close process label) = with_handle_closed x process label
-settled x (Exit process) = with_process_gone x process
-settled x (Tick ms) = with_tick x ms
+MaySettle m (Change process label plan ready) = CanMakePlain (files_of m.files) plan × IsReady m.files plan ready × MayBind m process label plan.opened
+MaySettle m (Course t steps) = CanGoOn m t steps.items
+MaySettle m (Handles process labels) = MayHandle m process labels
+MaySettle m (Pass ms) = (each_pair (λ (t u : Transaction). is_before t.id u.id) m.tm.now.items ≡ true) × (count_by is_live m.tm.now.items ≤ MOST_LIVE)
 
 -- the list has room for each group that the log has room for, in an image of a size that there is
 pub record IsRoomy (j : JournalState) (events : EventsState) : Type 0 where

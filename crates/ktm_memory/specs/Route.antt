@@ -8,7 +8,8 @@ use Rattle.ktm_types.specs.declared.command.Command.TheVariants.{CreateFile, Cre
 use Rattle.ktm_types.specs.declared.object.Object.{Object}
 use Rattle.ktm_types.specs.declared.reply.Reply.TheVariants.{Refused}
 use Rattle.ktm_forms.specs.Built.{is_built_command}
-use Rattle.ktm_world.specs.Decide.{of_files, of_keys, opening, with_room}
+use Rattle.ktm_world.specs.Decide.{of_keys, with_room}
+use Rattle.ktm_memory.specs.Opening.{files_outcome}
 use Rattle.ktm_world.specs.Labels.{file_number, holds_of, invalid_handle, is_dead}
 use Rattle.ktm_world.specs.HandleCalls.{close_handle, duplicate_handle, exit}
 use Rattle.ktm_world.specs.Outcome.{Outcome, first_refusal, is_full, only_reply, refuse_or, within_log}
@@ -36,11 +37,6 @@ use Rattle.ktm_memory.specs.declared.decide.Asked.TheVariants.{Call, Tick}
 use Rattle.ktm_memory.specs.Takes.{routed_takes_memory, takes_memory}
 use Rattle.ktm_memory.specs.declared.route.Routed.{Routed}
 use Rattle.ktm_memory.specs.declared.route.Routed.TheVariants.{Create, Bind, Duplicate, Commit, Rollback, Information, Close, Exit, Keys, Files}
-
--- what a call on files makes of the machine: the label, if there is one, is bound to the file that it opens
-abbrev pub files_outcome : Present → Pid → Option Id → Option Label → FileOutcome → Outcome
-files_outcome x process who None o = of_files x who o
-files_outcome x process who (Some label) o = opening x process label who o
 
 -- what the call comes to, once its labels are known
 abbrev pub outcome_of : Present → Pid → Routed → Outcome

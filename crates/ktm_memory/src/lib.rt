@@ -3,6 +3,7 @@
 #![tactic(auto)]
 
 mod commit;
+mod course;
 mod decide;
 mod file_routes;
 mod files;
@@ -16,4 +17,4 @@ mod transaction_routes;
 
 pub use decide::Asked;
 pub use memory::Memory;
-pub use settlement::{Decision, Settlement};
+pub use settlement::{Decision, Labels, Settlement};

@@ -1,44 +1,26 @@
 // Doing what is left to do once the events of a command are recorded. It takes no memory.
-ghost use Rattle.std.specs.Prelude.{◌≡◌, ◌<◌, ◌^◌, not, true, Some};
-ghost use Rattle.ktm_built.specs.Forms.{ended_aborted, ended_committed, is_of_both, with_handle_closed, with_handle_gone, with_process_gone, with_rollback, with_rollback_if_active, with_tick};
-ghost use Rattle.ktm_memory.specs.declared.settlement.Settlement.TheVariants.{Create, Plain, Commit, Tick};
-ghost use Rattle.ktm_memory.specs.Memory.{MaySettle, present_of, settled};
+ghost use Rattle.std.specs.Prelude.{◌≡◌, ◌<◌, ◌^◌, [], not, true, Some};
+ghost use Rattle.ktm_built.specs.Forms.{with_handle_closed, with_handle_gone, with_process_gone, with_rollback_if_active, with_tick, with_transaction};
+ghost use Rattle.ktm_built.specs.Standing.{IsBuiltNow};
+ghost use Rattle.ktm_journal.specs.Image.{JournalState};
+ghost use Rattle.ktm_memory.specs.declared.settlement.Settlement.TheVariants.{Begin, Change as PlainChange, Handles as OfHandles, Pass};
+ghost use Rattle.ktm_memory.specs.Memory.{MaySettle, present_of};
+ghost use Rattle.ktm_memory.specs.Settled.{IsLeftOf, before, left_to_do, with_change_made, with_labels};
 ghost use Rattle.ktm_object.specs.Table.{handles_of};
 ghost use Rattle.ktm_types.specs.declared.change.Change.{Change as Made};
 ghost use Rattle.ktm_world.specs.Changes.{is_make, node_of};
 ghost use Rattle.ktm_world.specs.FileOutcome.{next_node_after};
 ghost use Rattle.ktm_world.specs.HandleCalls.{has_handle};
+ghost use Rattle.ktm_world.specs.Outcome.{apply};
 ghost use Rattle.ktm_world.specs.Transactions.{transaction_at};
 
 use crate::memory::Memory;
-use crate::settlement::Settlement;
+use crate::settlement::{Labels, Settlement};
 use ktm_base::{Id, Label, Pid};
 use ktm_object::Closed;
-use ktm_types::{Change, Object, Phase, Transaction, TransactionOutcome};
+use ktm_types::{Change, Object, Phase};
 use txf_calls::Plan;
 use txf_volume::Ready;
-
-// The transaction once it has committed, and all are told; the log has its parts where it had both.
-fn committed(t: Transaction, both: bool) -> Transaction
-    ensures { result ≡ ended_committed both t }
-{
-    Transaction {
-        phase: Phase::Ended,
-        outcome: TransactionOutcome::Committed,
-        is_recorded: t.is_recorded || both,
-        ..t
-    }
-}
-
-fn aborted(t: Transaction) -> Transaction
-    ensures { result ≡ ended_aborted t }
-{
-    Transaction {
-        phase: Phase::Ended,
-        outcome: TransactionOutcome::Aborted,
-        ..t
-    }
-}
 
 // The number of the next node, once a plain call has made its change.
 fn next_after(next: u64, change: &Option<Change>) -> u64
@@ -55,22 +37,12 @@ fn next_after(next: u64, change: &Option<Change>) -> u64
 }
 
 impl Memory {
-    // The transaction has ended, and what it changed and set is forgotten.
-    fn roll_back(&mut self, t: Transaction)
-        requires { transaction_at self.old.tm.now.items t.id ≡ Some t }
-        ensures now { present_of self.new ≡ with_rollback (present_of self.old) t }
-        ensures journal { self.new.journal ≡ self.old.journal }
-        ensures handles { self.new.handles ≡ self.old.handles }
-    {
-        self.tm.arrive(aborted(t));
-        self.files.forget(t.id);
-        self.keys.forget(t.id);
-    }
-
     // The transaction rolls back, if it is active.
     fn roll_back_if_active(&mut self, id: Id)
+        requires none { self.old.tm.now.enlistments ≡ [] }
         ensures now { present_of self.new ≡ with_rollback_if_active (present_of self.old) (transaction_at self.old.tm.now.items id) }
         ensures journal { self.new.journal ≡ self.old.journal }
+        ensures none { self.new.tm.now.enlistments ≡ [] }
         ensures handles { self.new.handles ≡ self.old.handles }
     {
         let Some(t) = self.tm.find(id) else {
@@ -85,9 +57,11 @@ impl Memory {
     // What depended on a handle that is closed ends, where it was the last one: an active transaction rolls back, and a
     // file is closed.
     fn let_go(&mut self, closed: Closed)
-        requires { closed.is_last ≡ not (has_handle (handles_of self.old.handles) closed.object) }
+        requires none { self.old.tm.now.enlistments ≡ [] }
+        requires last { closed.is_last ≡ not (has_handle (handles_of self.old.handles) closed.object) }
         ensures now { present_of self.new ≡ with_handle_gone (present_of self.old) (Some closed.object) }
         ensures journal { self.new.journal ≡ self.old.journal }
+        ensures none { self.new.tm.now.enlistments ≡ [] }
         ensures handles { self.new.handles ≡ self.old.handles }
     {
         if !closed.is_last {
@@ -102,8 +76,10 @@ impl Memory {
 
     // The label is unbound.
     fn close(&mut self, process: Pid, label: Label)
+        requires none { self.old.tm.now.enlistments ≡ [] }
         ensures now { present_of self.new ≡ with_handle_closed (present_of self.old) process label }
         ensures journal { self.new.journal ≡ self.old.journal }
+        ensures none { self.new.tm.now.enlistments ≡ [] }
     {
         if let Some(closed) = self.handles.close(process, label) {
             self.let_go(closed);
@@ -112,8 +88,10 @@ impl Memory {
 
     // All labels of the process are unbound.
     fn exit(&mut self, process: Pid)
+        requires none { self.old.tm.now.enlistments ≡ [] }
         ensures now { present_of self.new ≡ with_process_gone (present_of self.old) process }
         ensures journal { self.new.journal ≡ self.old.journal }
+        ensures none { self.new.tm.now.enlistments ≡ [] }
     {
         while let Some(closed) = self.handles.exit_next(process) {
             self.let_go(closed);
@@ -122,7 +100,8 @@ impl Memory {
 
     // So many milliseconds pass. Each live transaction that is due then rolls back, in order of creation.
     fn tick(&mut self, ms: u32)
-        requires { MaySettle self.old (Tick ms) }
+        requires none { self.old.tm.now.enlistments ≡ [] }
+        requires may { MaySettle self.old (Pass ms) }
         ensures now { present_of self.new ≡ with_tick (present_of self.old) ms }
         ensures journal { self.new.journal ≡ self.old.journal }
     {
@@ -138,9 +117,9 @@ impl Memory {
     }
 
     // A plain call has changed the files, and its label is bound to the file that it opened.
-    fn make_plain(&mut self, process: Pid, label: Option<Label>, plan: Plan, ready: Ready)
-        requires { MaySettle self.old (Plain process label plan ready) }
-        ensures now { present_of self.new ≡ settled (present_of self.old) (Plain process label plan ready) }
+    fn change(&mut self, process: Pid, label: Option<Label>, plan: Plan, ready: Ready)
+        requires { MaySettle self.old (PlainChange process label plan ready) }
+        ensures now { present_of self.new ≡ with_change_made (present_of self.old) process label plan }
         ensures journal { self.new.journal ≡ self.old.journal }
     {
         let opened = plan.opened;
@@ -152,30 +131,10 @@ impl Memory {
         }
     }
 
-    // Has the transaction both changed files and set keys.
-    fn is_of_both(&self, t: Transaction) -> bool
-        ensures { result ≡ is_of_both (present_of self.now) t }
-    {
-        self.files.has_changes(t.id) && self.keys.has_settings(t.id)
-    }
-
-    // The transaction has ended, and what it changed and set is committed.
-    fn commit(&mut self, t: Transaction)
-        requires { MaySettle self.old (Commit t) }
-        ensures now { present_of self.new ≡ settled (present_of self.old) (Commit t) }
-        ensures journal { self.new.journal ≡ self.old.journal }
-    {
-        let both = self.is_of_both(t);
-        self.next_node = self.files.next_after(t.id, self.next_node);
-        self.tm.arrive(committed(t, both));
-        self.files.commit(t.id);
-        self.keys.commit(t.id);
-    }
-
     // A transaction with the next number begins, and the label is bound to it.
-    fn create(&mut self, process: Pid, label: Label, timeout: u32)
-        requires { MaySettle self.old (Create process label timeout) }
-        ensures now { present_of self.new ≡ settled (present_of self.old) (Create process label timeout) }
+    fn begin(&mut self, process: Pid, label: Label, timeout: u32)
+        requires { MaySettle self.old (Begin process label timeout) }
+        ensures now { present_of self.new ≡ with_transaction (present_of self.old) process label timeout }
         ensures journal { self.new.journal ≡ self.old.journal }
     {
         let id = self.tm.create(timeout);
@@ -183,41 +142,50 @@ impl Memory {
             .insert(process, label, Object::Transaction(id), None);
     }
 
-    /// Does what was left to do.
-    pub fn settle(&mut self, settlement: Settlement)
-        requires { MaySettle self.old settlement }
-        ensures now { present_of self.new ≡ settled (present_of self.old) settlement }
+    // Labels of the process are bound or unbound.
+    fn handle(&mut self, process: Pid, labels: Labels)
+        requires none { self.old.tm.now.enlistments ≡ [] }
+        requires may { MaySettle self.old (OfHandles process labels) }
+        ensures now { present_of self.new ≡ with_labels (present_of self.old) process labels }
         ensures journal { self.new.journal ≡ self.old.journal }
     {
-        match settlement {
-            Settlement::Nothing => {}
-            Settlement::Create {
-                process,
-                label,
-                timeout,
-            } => self.create(process, label, timeout),
-            Settlement::Plain {
-                process,
-                label,
-                plan,
-                ready,
-            } => self.make_plain(process, label, plan, ready),
-            Settlement::Commit(t) => self.commit(t),
-            Settlement::Rollback(t) => self.roll_back(t),
-            Settlement::Bind {
-                process,
-                label,
-                object,
-            } => self.handles.insert(process, label, object, None),
-            Settlement::Duplicate {
-                process,
+        match labels {
+            Labels::Bind { label, object } => self.handles.insert(process, label, object, None),
+            Labels::Duplicate {
                 label,
                 from,
                 source,
             } => self.handles.duplicate(process, label, from, source),
-            Settlement::Close { process, label } => self.close(process, label),
-            Settlement::Exit(process) => self.exit(process),
-            Settlement::Tick(ms) => self.tick(ms),
+            Labels::Unbind(label) => self.close(process, label),
+            Labels::UnbindAll => self.exit(process),
+        }
+    }
+
+    /// Does what was left to do, once its events are in the journal.
+    pub fn settle(&mut self, settlement: Settlement)
+        requires built { IsBuiltNow (present_of self.old) }
+        requires may { MaySettle self.old settlement }
+        ensures now { (j : JournalState) → IsLeftOf self.old j settlement → present_of self.new ≡ apply (before self.old j) (left_to_do (before self.old j) settlement) }
+        ensures journal { self.new.journal ≡ self.old.journal }
+    {
+        match settlement {
+            Settlement::Nothing => {}
+            Settlement::Begin {
+                process,
+                label,
+                timeout,
+            } => self.begin(process, label, timeout),
+            Settlement::Change {
+                process,
+                label,
+                plan,
+                ready,
+            } => self.change(process, label, plan, ready),
+            Settlement::Course { transaction, steps } => {
+                self.carry_out(transaction, steps.as_slice())
+            }
+            Settlement::Handles { process, labels } => self.handle(process, labels),
+            Settlement::Pass(ms) => self.tick(ms),
         }
     }
 }

@@ -4,53 +4,54 @@ ghost use Rattle.ktm_memory.specs.declared.settlement.Settlement.TheVariants.{No
 ghost use Rattle.ktm_types.specs.declared.reply.Reply.TheVariants.{Done};
 
 use ktm_base::{Label, Pid};
+use ktm_phase::Steps;
 use ktm_types::{Object, Reply, Transaction};
 use txf_calls::Plan;
 use txf_volume::Ready;
+
+/// What becomes of the labels of a process.
+#[derive(Drop)]
+pub enum Labels {
+    /// The label is bound to the object.
+    Bind { label: Label, object: Object },
+    /// The label is bound to what a label of a process names.
+    Duplicate {
+        label: Label,
+        from: Pid,
+        source: Label,
+    },
+    /// The label is unbound; an active transaction rolls back that has no other handle, and a file is closed that has none.
+    Unbind(Label),
+    /// So it is with each label, by rising label.
+    UnbindAll,
+}
 
 /// What is left to do in memory once the events of a command are recorded. It takes no memory.
 #[derive(Drop)]
 pub enum Settlement {
     Nothing,
     /// A transaction with the next number begins, and the label is bound to it.
-    Create {
+    Begin {
         process: Pid,
         label: Label,
         timeout: u32,
     },
-    /// A plain call changes the files, and the label is bound to the file that it opens.
-    Plain {
+    /// The files are changed as a plain call has it, and the label is bound to the file that it opens.
+    Change {
         process: Pid,
         label: Option<Label>,
         plan: Plan,
         ready: Ready,
     },
-    /// The transaction commits: it has ended, and what it changed and set is committed.
-    Commit(Transaction),
-    /// The transaction rolls back: it has ended, and what it changed and set is forgotten.
-    Rollback(Transaction),
-    /// The label is bound to the object.
-    Bind {
-        process: Pid,
-        label: Label,
-        object: Object,
+    /// The transaction goes on by these steps.
+    Course {
+        transaction: Transaction,
+        steps: Steps,
     },
-    /// The label is bound to what a label of a process names.
-    Duplicate {
-        process: Pid,
-        label: Label,
-        from: Pid,
-        source: Label,
-    },
-    /// The label is unbound; an active transaction rolls back that has no other handle, and a file is closed that has none.
-    Close {
-        process: Pid,
-        label: Label,
-    },
-    /// So it is with each label of the process, by rising label.
-    Exit(Pid),
+    /// Labels of the process are bound or unbound.
+    Handles { process: Pid, labels: Labels },
     /// So many milliseconds pass, and the transactions that are due then roll back.
-    Tick(u32),
+    Pass(u32),
 }
 
 /// A command that was decided.

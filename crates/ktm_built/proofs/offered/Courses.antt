@@ -22,7 +22,8 @@ use Rattle.ktm_world.specs.Present.{Present}
 use Rattle.ktm_world.specs.Steps.{basis, events_ahead, run}
 use Rattle.ktm_world.specs.Transactions.{change_at, is_undecided}
 use Rattle.ktm_world.specs.TransactionCalls.{arrived, course_of, released}
-use Rattle.ktm_built.specs.Forms.{changes_of, commit_works, ended_aborted, recorded_by, settings_of, with_changed, with_committed, with_forgotten, with_group, with_moved}
+use Rattle.ktm_built.specs.Forms.{changes_of, commit_works, ended_aborted, recorded_by, settings_of, with_group}
+use Rattle.ktm_built.specs.Courses.{IsKnown, IsLogged, LeadsOn, works_if, with_changed, with_committed, with_forgotten, with_moved}
 use Rattle.txf_laws.specs.FileEffects.{forgotten}
 use Rattle.ktm_world.specs.Rows.{aborts, row}
 use Rattle.ktm_world.specs.Steps.{seen}
@@ -45,18 +46,6 @@ use Rattle.ktm_built.proofs.offered.Quiet.{opens_but, opens_left, opens_all}
 -- a course that has come to this transaction, these events and these works
 abbrev pub come_to : Present → Transaction → Transaction → List Event → List Work → Course
 come_to x t then' events works = record (course_of x t None) { transaction = then'; events = events; works = works }
-
--- what the changes and settings commit, if they do
-abbrev pub works_if : Bool → Present → Transaction → List Work
-works_if commits x t = cond commits (work_of (course_of x t None)) []
-
--- what the log has then of changes and settings, if they commit
-abbrev pub recorded_if : Bool → Present → Transaction → Durable → Durable
-recorded_if commits x t s = cond commits (recorded_by s (changes_of x t) (settings_of x t)) s
-
--- the log has what memory comes to
-abbrev pub IsLogged : Present → Transaction → Bool → List Event → Type 0
-IsLogged x t commits events = after_events x.recorded events ≡ record (recorded_if commits x t x.recorded) { events = x.recorded.events + length events }
 
 -- by whether its outcome is known it is left with what it holds
 abbrev released_by : Bool → Course → Outcome → Outcome
@@ -123,10 +112,6 @@ committed_alone x t then' events reply same logged i =
 
 -- ---- by what commits and what is known
 
--- what commits is known
-abbrev pub IsKnown : Bool → Transaction → Type 0
-IsKnown commits then' = commits ≡ true → is_undecided then' ≡ false
-
 works_are : (id : Id) (cs : List Change) (ss : OwnSettings)
     → cond (has_changes cs || has_settings ss) (record { transaction = Some id; changes = cs; settings = ss } ∷ []) [] ≡ commit_works id cs ss
 works_are id [] [] = refl
@@ -171,12 +156,6 @@ carried_out x t then' has_files has_keys commits steps reply built alone works =
     ∙ ap (λ (es : List Enlistment). shape then' es c.works c.sent) (alone.enlistments ∙ sym built.enlistments)
     ∙ ap (λ (ws : List Work). shape then' x.transactions.enlistments ws c.sent) works
     ∙ ap (λ (sent : List Sent). shape then' x.transactions.enlistments (works_if commits x t) sent) on.sent
-
--- the steps lead the transaction to a known outcome where they commit, and the log has what memory comes to
-pub record LeadsOn (x : Present) (t : Transaction) (steps : List Step) : Type 0 where
-  pub known : IsKnown (list_any is_commit steps) (run steps (course_of x t None)).transaction
-  pub works : (run steps (course_of x t None)).works ≡ works_if (list_any is_commit steps) x t
-  pub logged : IsLogged x t (list_any is_commit steps) (run steps (course_of x t None)).events
 
 -- what is so once they are carried out
 pub led_on : (x : Present) (t then' : Transaction) (has_files has_keys : Bool) (steps : List Step) (reply : Reply) → IsBuiltNow x → IsAlone (run steps (course_of x t None)) then' has_files has_keys → LeadsOn x t steps
