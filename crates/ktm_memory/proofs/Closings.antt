@@ -10,7 +10,6 @@ use Rattle.ktm_types.specs.declared.object.Object.{Object}
 use Rattle.ktm_world.specs.HandleCalls.{has_handle, labels_of, without_handle}
 use Rattle.ktm_world.specs.Handles.{object_at}
 use Rattle.ktm_world.specs.Present.{Present}
-use Rattle.ktm_journal.specs.Image.{JournalState}
 use Rattle.ktm_memory.specs.Memory.{Held, now_of}
 use Rattle.ktm_built.specs.Forms.{with_handle_closed, with_handle_gone, with_process_gone, with_unbound}
 
@@ -43,10 +42,10 @@ pub closed_one : (x : Present) (process : Pid) (label : Label) (closed : Closed)
 closed_one x process label closed is = ap (with_handle_gone (with_unbound x process label)) (sym is.named)
 
 -- the same of memory, whose handles are so then
-pub closed_held : (j : JournalState) (h : Held) (process : Pid) (label : Label) (closed : Closed) (handles : List Handle) → handles ≡ without_handle h.handles process label → IsClosed h.handles process label closed
-    → with_handle_gone (now_of j (record h { handles = handles })) (Some closed.object) ≡ with_handle_closed (now_of j h) process label
-closed_held j h process label closed handles left is =
-    ap (λ (hs : List Handle). with_handle_gone (now_of j (record h { handles = hs })) (Some closed.object)) left ∙ closed_one (now_of j h) process label closed is
+pub closed_held : (h : Held) (process : Pid) (label : Label) (closed : Closed) (handles : List Handle) → handles ≡ without_handle h.handles process label → IsClosed h.handles process label closed
+    → with_handle_gone (now_of (record h { handles = handles })) (Some closed.object) ≡ with_handle_closed (now_of h) process label
+closed_held h process label closed handles left is =
+    ap (λ (hs : List Handle). with_handle_gone (now_of (record h { handles = hs })) (Some closed.object)) left ∙ closed_one (now_of h) process label closed is
 
 -- there was no handle
 pub closed_none : (x : Present) (process : Pid) (label : Label) → object_at x.handles process label ≡ None → with_unbound x process label ≡ with_handle_closed x process label

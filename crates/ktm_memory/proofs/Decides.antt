@@ -6,7 +6,6 @@ use Rattle.ktm_base.specs.declared.id.ObjectKind.{ObjectKind}
 use Rattle.ktm_base.specs.declared.id.Pid.{Pid}
 use Rattle.ktm_base.specs.Guid.{guid_of}
 use Rattle.ktm_event.specs.Kept.{EventsState, Holds}
-use Rattle.ktm_journal.specs.Image.{JournalState}
 use Rattle.ktm_tm.specs.TmState.{next_id}
 use Rattle.ktm_types.specs.declared.event.Event.{Event}
 use Rattle.ktm_types.specs.declared.object.Object.{Object}
@@ -36,24 +35,25 @@ use Rattle.ktm_memory.proofs.Routes.{up_or}
 use Rattle.ktm_memory.specs.Decided.{Decides}
 use Rattle.ktm_records.proofs.offered.NoMore.{fits-within}
 use Rattle.ktm_memory.proofs.offered.Standing.{built, kept}
-use Rattle.ktm_memory.specs.Memory.{CanCommit, Held, MemoryState, MaySettle, appended, held, now_of, settled, with_bound_to}
+use Rattle.ktm_memory.specs.Memory.{CanCommit, Held, MaySettle, MemoryState, held, logged, now_of, present_of, settled, with_bound_to}
 
--- no events change nothing of the journal
-pub nothing_appended : (j : JournalState) (h : Held) → now_of (appended j []) h ≡ now_of j h
-nothing_appended j h =
-    ap (λ (n : ℕ). now_of (record j { events = n; log = record j.log { end = j.log.end + 0 } }) h) (omega arith)
-    ∙ ap (λ (n : ℕ). now_of (record j { log = record j.log { end = n } }) h) (omega arith)
+-- no events change nothing of what is so now
+pub nothing_logged : (h : Held) → now_of (logged h []) ≡ now_of h
+nothing_logged h =
+    ap (λ (n : ℕ). now_of (record h { journal = record h.journal { events = n; log = record h.journal.log { end = h.journal.log.end + 0 } } })) (omega arith)
+    ∙ ap (λ (n : ℕ). now_of (record h { journal = record h.journal { log = record h.journal.log { end = n } } })) (omega arith)
 
 -- ---- what records nothing
 
 -- what is left to do comes to what the outcome comes to
-pub quiet_decided : (j : JournalState) (h : Held) (n : MemoryState) (o : Outcome) (reply : Reply) (y : Present) (then : Settlement) (events : EventsState) → ComesTo (now_of j h) o reply y
-    → settled (now_of j h) then ≡ y → held n ≡ h → MaySettle n then → Holds events [] → Decides j h o reply then events n
-quiet_decided j h n o reply y then events comes is same may holds = record {
+pub quiet_decided : (h : Held) (n : MemoryState) (o : Outcome) (reply : Reply) (y : Present) (then : Settlement) (events : EventsState) → ComesTo (now_of h) o reply y
+    → settled (now_of h) then ≡ y → held n ≡ h → MaySettle n then → Holds events [] → Decides h o reply then events n
+quiet_decided h n o reply y then events comes is same may holds = record {
   says = sym comes.replies;
   records = subst (Holds events) (sym comes.records) holds;
-  room = ap (is_full (j.log.area.len - j.log.end)) comes.records;
-  comes_to = ap (λ (es : List Event). settled (now_of (appended j es) (held n)) then) comes.records ∙ ap (λ x. settled x then) (nothing_appended j (held n) ∙ ap (now_of j) same) ∙ is ∙ sym comes.leaves;
+  room = ap (is_full (now_of h).machine.left) comes.records;
+  journal = ap (λ (g : Held). g.journal) same;
+  comes_to = ap (λ (es : List Event). settled (now_of (logged (held n) es)) then) comes.records ∙ ap (λ x. settled x then) (nothing_logged (held n) ∙ ap now_of same) ∙ is ∙ sym comes.leaves;
   may = may;
   waits = λ some. absurd (some comes.records);
   answers = λ some. absurd (some comes.records);
@@ -63,26 +63,27 @@ only_comes : (x : Present) (reply : Reply) → IsBuiltNow x → ComesTo x (only_
 only_comes x reply built = record { replies = refl; records = refl; commits = refl; goes_on = refl; leaves = forms_law.replies x reply built }
 
 -- a reply, and nothing left to do
-pub only_decided : (j : JournalState) (m : MemoryState) (o : Outcome) (reply : Reply) (events : EventsState) → IsBuiltNow (now_of j (held m)) → o ≡ only_reply (now_of j (held m)) reply → Holds events []
-    → Decides j (held m) o reply Nothing events m
-only_decided j m o reply events built is holds =
-    subst (λ o. Decides j (held m) o reply Nothing events m) (sym is) (quiet_decided j (held m) m (only_reply (now_of j (held m)) reply) reply (now_of j (held m)) Nothing events (only_comes (now_of j (held m)) reply built) refl refl tt holds)
+pub only_decided : (m : MemoryState) (o : Outcome) (reply : Reply) (events : EventsState) → IsBuiltNow (present_of m) → o ≡ only_reply (present_of m) reply → Holds events []
+    → Decides (held m) o reply Nothing events m
+only_decided m o reply events built is holds =
+    subst (λ o. Decides (held m) o reply Nothing events m) (sym is) (quiet_decided (held m) m (only_reply (present_of m) reply) reply (present_of m) Nothing events (only_comes (present_of m) reply built) refl refl tt holds)
 
 -- ---- calls on keys
 
 -- the room that the keys have
-pub room_is : (j : JournalState) (h : Held) (keys changes waiting : ℕ) → keys ≡ j.units → waiting ≡ file_changes_waiting h.files → changes ≡ j.units - waiting → record { keys = keys; changes = changes } ≡ key_room (now_of j h)
+pub room_is : (h : Held) (keys changes waiting : ℕ) → keys ≡ h.journal.units → waiting ≡ file_changes_waiting h.files → changes ≡ h.journal.units - waiting → record { keys = keys; changes = changes } ≡ key_room (now_of h)
 unfolding key_room
-room_is j h keys changes waiting keys_are waits changes_are = rw (keys_are, changes_are, waits) refl
+room_is h keys changes waiting keys_are waits changes_are = rw (keys_are, changes_are, waits) refl
 
-pub keys_decided : (j : JournalState) (h : Held) (n : MemoryState) (o : KeyOutcome) (reply : Reply) (events : EventsState) → IsBuiltNow (now_of j h) → reply ≡ o.reply
+pub keys_decided : (h : Held) (n : MemoryState) (o : KeyOutcome) (reply : Reply) (events : EventsState) → IsBuiltNow (now_of h) → reply ≡ o.reply
     → held n ≡ record h { keys = record h.keys { own = o.own } } → Holds events []
-    → Decides j h (of_keys (now_of j h) o) reply Nothing events n
-keys_decided j h n o reply events built says same holds = record {
+    → Decides h (of_keys (now_of h) o) reply Nothing events n
+keys_decided h n o reply events built says same holds = record {
   says = says;
   records = holds;
   room = refl;
-  comes_to = nothing_appended j (held n) ∙ ap (now_of j) same ∙ sym (ap (λ (x : Present). record x { keys = record x.keys { own = o.own } }) (forms_law.replies (now_of j h) o.reply built));
+  journal = ap (λ (g : Held). g.journal) same;
+  comes_to = nothing_logged (held n) ∙ ap now_of same ∙ sym (ap (λ (x : Present). record x { keys = record x.keys { own = o.own } }) (forms_law.replies (now_of h) o.reply built));
   may = tt;
   waits = λ some. absurd (some refl);
   answers = λ some. absurd (some refl);
@@ -97,12 +98,12 @@ information_is x t reply is = ap (only_reply x) (sym is)
 -- ---- time
 
 -- what is to be for the passing of time
-pub tick_decided : (j : JournalState) (m : MemoryState) (ms : ℕ) (events : EventsState) → m.is_up ≡ true → IsStandingNow (now_of j (held m)) → Holds events []
-    → Decides j (held m) (asked_outcome (now_of j (held m)) (Asked.Tick ms)) Done (Tick ms) events m
-tick_decided j m ms events up standing holds =
-    let x = now_of j (held m) in
-    subst (λ o. Decides j (held m) o Done (Tick ms) events m) (sym (up_or x [] (tick x ms) up))
-    (quiet_decided j (held m) m (tick x ms) Done (with_tick x ms) (Tick ms) events (forms_law.waits x ms (built x standing)) refl refl
+pub tick_decided : (m : MemoryState) (ms : ℕ) (events : EventsState) → m.is_up ≡ true → IsStandingNow (present_of m) → Holds events []
+    → Decides (held m) (asked_outcome (present_of m) (Asked.Tick ms)) Done (Tick ms) events m
+tick_decided m ms events up standing holds =
+    let x = present_of m in
+    subst (λ o. Decides (held m) o Done (Tick ms) events m) (sym (up_or x [] (tick x ms) up))
+    (quiet_decided (held m) m (tick x ms) Done (with_tick x ms) (Tick ms) events (forms_law.waits x ms (built x standing)) refl refl
     ((kept x standing).sound.course.transactions_rise, (fits-within x (kept x standing).within).live) holds)
 
 -- ---- CreateTransaction
@@ -112,20 +113,20 @@ pub create_comes : (x : Present) (process : Pid) (label : Label) (timeout : ℕ)
 unfolding create_transaction
 create_comes x process label timeout built = record { replies = refl; records = refl; commits = refl; goes_on = refl; leaves = forms_law.creates x process label timeout built }
 
-pub create_decided : (j : JournalState) (h : Held) (n : MemoryState) (process : Pid) (label : Label) (timeout : ℕ) (reply : Reply) (events : EventsState) → IsBuiltNow (now_of j h)
-    → reply ≡ (create_transaction (now_of j h) process label timeout).reply → held n ≡ h → MaySettle n (Create process label timeout) → Holds events []
-    → (o : Outcome) → o ≡ create_transaction (now_of j h) process label timeout → Decides j h o reply (Create process label timeout) events n
-create_decided j h n process label timeout reply events built says same may holds o is =
-    let made = create_transaction (now_of j h) process label timeout in
-    subst (λ o. Decides j h o reply (Create process label timeout) events n) (sym is)
-    (subst (λ r. Decides j h made r (Create process label timeout) events n) (sym says)
-    (quiet_decided j h n made made.reply (with_transaction (now_of j h) process label timeout) (Create process label timeout) events (create_comes (now_of j h) process label timeout built) refl same may holds))
+pub create_decided : (h : Held) (n : MemoryState) (process : Pid) (label : Label) (timeout : ℕ) (reply : Reply) (events : EventsState) → IsBuiltNow (now_of h)
+    → reply ≡ (create_transaction (now_of h) process label timeout).reply → held n ≡ h → MaySettle n (Create process label timeout) → Holds events []
+    → (o : Outcome) → o ≡ create_transaction (now_of h) process label timeout → Decides h o reply (Create process label timeout) events n
+create_decided h n process label timeout reply events built says same may holds o is =
+    let made = create_transaction (now_of h) process label timeout in
+    subst (λ o. Decides h o reply (Create process label timeout) events n) (sym is)
+    (subst (λ r. Decides h made r (Create process label timeout) events n) (sym says)
+    (quiet_decided h n made made.reply (with_transaction (now_of h) process label timeout) (Create process label timeout) events (create_comes (now_of h) process label timeout built) refl same may holds))
 
 -- the reply tells the GUID of that Id
-pub create_says : (j : JournalState) (h : Held) (process : Pid) (label : Label) (timeout : ℕ) (guid : List ℕ) (image : ℕ) (id : Id)
-    → guid ≡ guid_of ObjectKind.Transaction image id → image ≡ j.image → id ≡ next_id h.boot h.transactions → Guid guid ≡ (create_transaction (now_of j h) process label timeout).reply
+pub create_says : (h : Held) (process : Pid) (label : Label) (timeout : ℕ) (guid : List ℕ) (image : ℕ) (id : Id)
+    → guid ≡ guid_of ObjectKind.Transaction image id → image ≡ h.journal.image → id ≡ next_id h.boot h.transactions → Guid guid ≡ (create_transaction (now_of h) process label timeout).reply
 unfolding create_transaction
-create_says j h process label timeout guid image id is image_is id_is = rw (is, image_is, id_is) refl
+create_says h process label timeout guid image id is image_is id_is = rw (is, image_is, id_is) refl
 
 -- ---- labels
 
@@ -150,18 +151,19 @@ duplicated_comes x process label from source built there = go (object_at x.handl
 
 -- ---- CommitTransaction
 
-pub commit_decided : (j : JournalState) (h : Held) (n : MemoryState) (t : Transaction) (events : EventsState) → IsBuiltNow (now_of j h) → transaction_at h.transactions.items t.id ≡ Some t
-    → held n ≡ h → CanCommit n t → Holds events (commit_events t.id (changes_of (now_of j h) t) (settings_of (now_of j h) t))
-    → is_full (j.log.area.len - j.log.end) (commit_events t.id (changes_of (now_of j h) t) (settings_of (now_of j h) t)) ≡ false
-    → Decides j h (commit_transaction (now_of j h) (Some t)) Committed (Commit t) events n
-commit_decided j h n t events built there same may holds room = record {
+pub commit_decided : (h : Held) (n : MemoryState) (t : Transaction) (events : EventsState) → IsBuiltNow (now_of h) → transaction_at h.transactions.items t.id ≡ Some t
+    → held n ≡ h → CanCommit n t → Holds events (commit_events t.id (changes_of (now_of h) t) (settings_of (now_of h) t))
+    → is_full (now_of h).machine.left (commit_events t.id (changes_of (now_of h) t) (settings_of (now_of h) t)) ≡ false
+    → Decides h (commit_transaction (now_of h) (Some t)) Committed (Commit t) events n
+commit_decided h n t events built there same may holds room = record {
   says = ap (λ (o : Outcome). o.reply) (sym is);
   records = subst (λ (es : List Event). Holds events es) (ap (λ (o : Outcome). o.events) (sym is)) holds;
-  room = subst (λ (es : List Event). is_full (j.log.area.len - j.log.end) es ≡ false) (ap (λ (o : Outcome). o.events) (sym is)) room;
+  room = subst (λ (es : List Event). is_full (now_of h).machine.left es ≡ false) (ap (λ (o : Outcome). o.events) (sym is)) room;
+  journal = ap (λ (g : Held). g.journal) same;
   comes_to =
-      ap (λ (es : List Event). settled (now_of (appended j es) (held n)) (Commit t)) (ap (λ (o : Outcome). o.events) is)
-      ∙ ap (λ g. settled (now_of (appended j events_then) g) (Commit t)) same
-      ∙ ap (λ (left : ℕ). record (settled (now_of (appended j events_then) h) (Commit t)) { machine = record { is_up = h.is_up; left = left } }) (omega arith)
+      ap (λ (es : List Event). settled (now_of (logged (held n) es)) (Commit t)) (ap (λ (o : Outcome). o.events) is)
+      ∙ ap (λ g. settled (now_of (logged g events_then)) (Commit t)) same
+      ∙ ap (λ (left : ℕ). record (settled (now_of (logged h events_then)) (Commit t)) { machine = record { is_up = h.is_up; left = left } }) (omega arith)
       ∙ sym (forms_law.commits x t built there);
   may = (may, subst (λ g. transaction_at g.transactions.items t.id ≡ Some t) (sym same) there);
   waits = λ some. same;
@@ -169,7 +171,7 @@ commit_decided j h n t events built there same may holds room = record {
 }
   where
     x : Present
-    x = now_of j h
+    x = now_of h
 
     events_then : List Event
     events_then = commit_events t.id (changes_of x t) (settings_of x t)

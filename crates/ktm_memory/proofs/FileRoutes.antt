@@ -33,8 +33,6 @@ use Rattle.txf_calls.specs.Views.{open_of}
 use Rattle.txf_calls.specs.declared.call.FileCall.{FileCall}
 use Rattle.txf_calls.specs.declared.call.FileCall.TheVariants.{Create, Read, Write, SetEnd, Size, Flush, Delete, MakeDirectory, RemoveDirectory as Remove, Move, Find}
 use Rattle.txf_calls.specs.declared.call.OpenFile.{OpenFile as Kept}
-use Rattle.ktm_journal.specs.Image.{JournalState}
-use Rattle.ktm_memory.specs.Memory.{Held, now_of}
 use Rattle.ktm_memory.specs.Route.{IsFreeLabel, IsRouted, Routes, files_outcome}
 use Rattle.ktm_memory.specs.Takes.{early_tests, effect_takes_memory, files_take_memory, has_log_room, is_quiet, takes_memory}
 use Rattle.ktm_memory.specs.declared.route.Routed.{Routed}
@@ -244,29 +242,29 @@ module _ (x : Present) (process : Pid) (up : x.machine.is_up ≡ true) (law : Fi
 
 -- ---- by what came of the labels
 
-module _ (j : JournalState) (h : Held) (process : Pid) (command : Command) where
+module _ (x : Present) (process : Pid) (command : Command) where
   -- a refusal is handed on
-  pub handed_on : (r : Result Routed Refusal) (refusal : Refusal) → IsErrAnd r (λ given. given ≡ refusal) → with_room (now_of j h) process command ≡ only_reply (now_of j h) (Refused refusal) → Routes j h process command r
+  pub handed_on : (r : Result Routed Refusal) (refusal : Refusal) → IsErrAnd r (λ given. given ≡ refusal) → with_room x process command ≡ only_reply x (Refused refusal) → Routes x process command r
   handed_on (Ok given) refusal is comes = absurd is
-  handed_on (Err given) refusal is comes = comes ∙ ap (λ r. only_reply (now_of j h) (Refused r)) (sym is)
+  handed_on (Err given) refusal is comes = comes ∙ ap (λ r. only_reply x (Refused r)) (sym is)
 
   -- that of a file that is to be opened
   pub opening_routes : (who : Option Id) (label : Label) (call : FileCall) (r : Result Routed Refusal)
-      → IfOk r (λ routed. (routed ≡ Files who (Some label) call) × (object_at h.handles process label ≡ None)) → IfErr r (λ refusal. (refusal ≡ InvalidParameter) × (is_some (object_at h.handles process label) ≡ true))
-      → (object_at h.handles process label ≡ None → IsRouted (now_of j h) process command (Files who (Some label) call))
-      → ((refusal : Refusal) → (refusal ≡ InvalidParameter) × (is_bound (now_of j h) process label ≡ true) → with_room (now_of j h) process command ≡ only_reply (now_of j h) (Refused refusal))
-      → Routes j h process command r
-  opening_routes who label call (Ok given) (is, free) err passes refuses = subst (IsRouted (now_of j h) process command) (sym is) (passes free)
+      → IfOk r (λ routed. (routed ≡ Files who (Some label) call) × (object_at x.handles process label ≡ None)) → IfErr r (λ refusal. (refusal ≡ InvalidParameter) × (is_some (object_at x.handles process label) ≡ true))
+      → (object_at x.handles process label ≡ None → IsRouted x process command (Files who (Some label) call))
+      → ((refusal : Refusal) → (refusal ≡ InvalidParameter) × (is_bound x process label ≡ true) → with_room x process command ≡ only_reply x (Refused refusal))
+      → Routes x process command r
+  opening_routes who label call (Ok given) (is, free) err passes refuses = subst (IsRouted x process command) (sym is) (passes free)
   opening_routes who label call (Err refusal) ok bound passes refuses = refuses refusal bound
 
   -- that of a transaction
   pub transacted_routes : (label : Label) (call : FileCall) (more : List (Bool × Refusal)) (r : Result Routed Refusal)
-      → IfOk r (λ routed. (j : JournalState) → (t : Transaction) × (transaction_named (now_of j h) process label ≡ Some t) × (first_refusal (transaction_tests (Some t)) ≡ None) × (routed ≡ Files (Some t.id) None call))
-      → IfErr r (λ refusal. (j : JournalState) → first_refusal (transaction_tests (transaction_named (now_of j h) process label)) ≡ Some refusal)
-      → h.is_up ≡ true → command_tests (now_of j h) process command ≡ transaction_tests (transaction_named (now_of j h) process label) ++ more
-      → ((t : Transaction) → transaction_named (now_of j h) process label ≡ Some t → first_refusal (transaction_tests (Some t)) ≡ None → IsRouted (now_of j h) process command (Files (Some t.id) None call))
-      → Routes j h process command r
+      → IfOk r (λ routed. (t : Transaction) × (transaction_named x process label ≡ Some t) × (first_refusal (transaction_tests (Some t)) ≡ None) × (routed ≡ Files (Some t.id) None call))
+      → IfErr r (λ refusal. first_refusal (transaction_tests (transaction_named x process label)) ≡ Some refusal)
+      → x.machine.is_up ≡ true → command_tests x process command ≡ transaction_tests (transaction_named x process label) ++ more
+      → ((t : Transaction) → transaction_named x process label ≡ Some t → first_refusal (transaction_tests (Some t)) ≡ None → IsRouted x process command (Files (Some t.id) None call))
+      → Routes x process command r
   transacted_routes label call more (Ok given) ok err up begins passes =
-      let (t, named, passed, is) = ok j in subst (IsRouted (now_of j h) process command) (sym is) (passes t named passed)
+      let (t, named, passed, is) = ok in subst (IsRouted x process command) (sym is) (passes t named passed)
   transacted_routes label call more (Err refusal) ok err up begins passes =
-      refused_first (now_of j h) process command (transaction_tests (transaction_named (now_of j h) process label)) more refusal up begins (err j)
+      refused_first x process command (transaction_tests (transaction_named x process label)) more refusal up begins err

@@ -8,7 +8,6 @@ use Rattle.ktm_base.specs.declared.id.Label.{Label}
 use Rattle.ktm_base.specs.declared.id.Pid.{Pid}
 use Rattle.ktm_base.specs.declared.refusal.Refusal.{Refusal}
 use Rattle.ktm_event.specs.Kept.{EventsState, Holds}
-use Rattle.ktm_journal.specs.Image.{JournalState}
 use Rattle.ktm_types.specs.declared.change.Change.{Change}
 use Rattle.ktm_types.specs.declared.event.Event.{Event}
 use Rattle.ktm_types.specs.declared.reply.Reply.{Reply}
@@ -31,10 +30,10 @@ use Rattle.ktm_built.proofs.offered.Forms.{forms_law}
 use Rattle.ktm_memory.specs.declared.settlement.Settlement.{Settlement}
 use Rattle.ktm_memory.specs.declared.settlement.Settlement.TheVariants.{Plain}
 use Rattle.ktm_memory.specs.Decided.{CanAnswer, Decides, bind_opened}
-use Rattle.ktm_memory.specs.Memory.{CanMakePlain, Held, MayBind, MemoryState, MaySettle, appended, handles_then, held, now_of, settled}
+use Rattle.ktm_memory.specs.Memory.{CanMakePlain, Held, MayBind, MaySettle, MemoryState, handles_then, held, logged, now_of, present_of, settled}
 use Rattle.ktm_memory.specs.Route.{IsFreeLabel, IsReadyCall, files_outcome}
 use Rattle.ktm_memory.specs.Takes.{is_quiet}
-use Rattle.ktm_memory.proofs.Decides.{nothing_appended}
+use Rattle.ktm_memory.proofs.Decides.{nothing_logged}
 use Rattle.txf_calls.specs.Calls.{file_effect, file_outcome, file_tests, unless_refused}
 use Rattle.txf_calls.specs.Views.{open_of}
 use Rattle.txf_calls.specs.declared.call.FileCall.{FileCall}
@@ -44,10 +43,10 @@ use Rattle.txf_volume.specs.Plain.{IsReady}
 
 -- ---- the room that the files have
 
-pub file_room_is : (j : JournalState) (h : Held) (handles changes units unset : ℕ) → handles ≡ MOST_HANDLES - length h.handles → unset ≡ keys_unset h.keys → units ≡ j.units → changes ≡ j.units - unset
-    → record { handles = handles; changes = changes; units = units } ≡ file_room (now_of j h)
+pub file_room_is : (h : Held) (handles changes units unset : ℕ) → handles ≡ MOST_HANDLES - length h.handles → unset ≡ keys_unset h.keys → units ≡ h.journal.units → changes ≡ h.journal.units - unset
+    → record { handles = handles; changes = changes; units = units } ≡ file_room (now_of h)
 unfolding file_room
-file_room_is j h handles changes units unset handles_are unset_are units_are changes_are = rw (handles_are, changes_are, unset_are, units_are) refl
+file_room_is h handles changes units unset handles_are unset_are units_are changes_are = rw (handles_are, changes_are, unset_are, units_are) refl
 
 -- ---- what an outcome of files answers and records
 
@@ -76,41 +75,42 @@ left_by x process who (Some l) o built = forms_law.opens x process l who o built
 -- ---- labels for what is opened
 
 -- there is room for the label of a file that is opened, and the label is free
-pub may_bind : (j : JournalState) (m : MemoryState) (process : Pid) (label : Option Label) (opened : Option Kept) → (is_some opened ≡ true → 1 ≤ m.handles.spare) → IsFreeLabel (now_of j (held m)) process label
+pub may_bind : (m : MemoryState) (process : Pid) (label : Option Label) (opened : Option Kept) → (is_some opened ≡ true → 1 ≤ m.handles.spare) → IsFreeLabel (present_of m) process label
     → MaySettle m (bind_opened process label opened)
-may_bind j m process None opened room unbound = tt
-may_bind j m process (Some l) None room unbound = tt
-may_bind j m process (Some l) (Some file) room unbound = (room refl, unbound)
+may_bind m process None opened room unbound = tt
+may_bind m process (Some l) None room unbound = tt
+may_bind m process (Some l) (Some file) room unbound = (room refl, unbound)
 
-may_bind_plain : (j : JournalState) (m : MemoryState) (process : Pid) (label : Option Label) (opened : Option Kept) → (is_some opened ≡ true → 1 ≤ m.handles.spare) → IsFreeLabel (now_of j (held m)) process label
+may_bind_plain : (m : MemoryState) (process : Pid) (label : Option Label) (opened : Option Kept) → (is_some opened ≡ true → 1 ≤ m.handles.spare) → IsFreeLabel (present_of m) process label
     → MayBind m process label (option_map open_of opened)
-may_bind_plain j m process None opened room unbound = tt
-may_bind_plain j m process (Some l) None room unbound = tt
-may_bind_plain j m process (Some l) (Some file) room unbound = (room refl, unbound)
+may_bind_plain m process None opened room unbound = tt
+may_bind_plain m process (Some l) None room unbound = tt
+may_bind_plain m process (Some l) (Some file) room unbound = (room refl, unbound)
 
 -- ---- a plain call
 
 -- the call can be made, whatever it answers
-pub may_settle : (j : JournalState) (h : Held) (n : MemoryState) (process : Pid) (label : Option Label) (o : FileOutcome) (opened : Option Kept) (copy : Option (List ℕ)) → held n ≡ h → MayMakePlain (now_of j h) o
-    → IsReady n.files o copy → option_map open_of opened ≡ o.opened → (is_some opened ≡ true → 1 ≤ n.handles.spare) → IsFreeLabel (now_of j h) process label → MaySettle n (Plain process label (record o { reply = Done }) copy)
-may_settle j h n process label o opened copy same may ready is room unbound = (
+pub may_settle : (h : Held) (n : MemoryState) (process : Pid) (label : Option Label) (o : FileOutcome) (opened : Option Kept) (copy : Option (List ℕ)) → held n ≡ h → MayMakePlain (now_of h) o
+    → IsReady n.files o copy → option_map open_of opened ≡ o.opened → (is_some opened ≡ true → 1 ≤ n.handles.spare) → IsFreeLabel (now_of h) process label → MaySettle n (Plain process label (record o { reply = Done }) copy)
+may_settle h n process label o opened copy same may ready is room unbound = (
   subst (λ (files : FilesNow). CanMakePlain files (record o { reply = Done })) (ap (λ g. g.files) (sym same)) (record { plain = record { change = may.plain.change; opened = may.plain.opened }; left = may.left; counted = may.counted }),
   record { change = ready.change; opened = ready.opened; copy_is = ready.copy_is },
-  subst (λ (file : Option OpenFile). MayBind n process label file) is (may_bind_plain j n process label opened room (subst (λ (g : Held). IsFreeLabel (now_of j g) process label) (sym same) unbound)),
+  subst (λ (file : Option OpenFile). MayBind n process label file) is (may_bind_plain n process label opened room (subst (λ (g : Held). IsFreeLabel (now_of g) process label) (sym same) unbound)),
 )
 
-pub plain_decided : (j : JournalState) (h : Held) (n : MemoryState) (process : Pid) (label : Option Label) (o : FileOutcome) (reply : Reply) (plan : FileOutcome) (copy : Option (List ℕ)) (events : EventsState) → IsBuiltNow (now_of j h)
+pub plain_decided : (h : Held) (n : MemoryState) (process : Pid) (label : Option Label) (o : FileOutcome) (reply : Reply) (plan : FileOutcome) (copy : Option (List ℕ)) (events : EventsState) → IsBuiltNow (now_of h)
     → reply ≡ o.reply → plan ≡ record o { reply = Done } → held n ≡ h → MaySettle n (Plain process label (record o { reply = Done }) copy) → Holds events (events_of None o.change)
-    → is_full (j.log.area.len - j.log.end) (events_of None o.change) ≡ false → CanAnswer None o → Decides j h (files_outcome (now_of j h) process None label o) reply (Plain process label plan copy) events n
-plain_decided j h n process label o reply plan copy events built says is same may holds room answers = record {
+    → is_full (now_of h).machine.left (events_of None o.change) ≡ false → CanAnswer None o → Decides h (files_outcome (now_of h) process None label o) reply (Plain process label plan copy) events n
+plain_decided h n process label o reply plan copy events built says is same may holds room answers = record {
   says = says ∙ sym (reply_of x process None label o);
   records = subst (λ (es : List Event). Holds events es) (sym are) holds;
-  room = subst (λ (es : List Event). is_full (j.log.area.len - j.log.end) es ≡ false) (sym are) room;
+  room = subst (λ (es : List Event). is_full (now_of h).machine.left es ≡ false) (sym are) room;
+  journal = ap (λ (g : Held). g.journal) same;
   comes_to =
-      ap (λ (p : FileOutcome). settled (now_of (appended j (files_outcome x process None label o).events) (held n)) (Plain process label p copy)) is
-      ∙ ap (λ (es : List Event). settled (now_of (appended j es) (held n)) then) are
-      ∙ ap (λ g. settled (now_of (appended j (events_of None o.change)) g) then) same
-      ∙ ap (λ (left : ℕ). record (settled (now_of (appended j (events_of None o.change)) h) then) { machine = record { is_up = h.is_up; left = left } }) (omega arith)
+      ap (λ (p : FileOutcome). settled (now_of (logged (held n) (files_outcome x process None label o).events)) (Plain process label p copy)) is
+      ∙ ap (λ (es : List Event). settled (now_of (logged (held n) es)) then) are
+      ∙ ap (λ g. settled (now_of (logged g (events_of None o.change))) then) same
+      ∙ ap (λ (left : ℕ). record (settled (now_of (logged h (events_of None o.change))) then) { machine = record { is_up = h.is_up; left = left } }) (omega arith)
       ∙ sym (left_by x process None label o built);
   may = subst (λ (p : FileOutcome). MaySettle n (Plain process label p copy)) (sym is) may;
   waits = λ some. same;
@@ -118,7 +118,7 @@ plain_decided j h n process label o reply plan copy events built says is same ma
 }
   where
     x : Present
-    x = now_of j h
+    x = now_of h
 
     then : Settlement
     then = Plain process label (record o { reply = Done }) copy
@@ -138,16 +138,17 @@ bound x process (Some l) (Some file) = refl
 grouped : (x : Present) → with_group x [] ≡ x
 grouped x = ap (λ (left : ℕ). record x { machine = record x.machine { left = left }; recorded = record x.recorded { events = x.recorded.events + 0 } }) (omega arith) ∙ ap (λ (n : ℕ). record x { recorded = record x.recorded { events = n } }) (omega arith)
 
-pub own_decided : (j : JournalState) (h : Held) (n : MemoryState) (process : Pid) (id : Id) (label : Option Label) (o : FileOutcome) (opened : Option Kept) (events : EventsState) → IsBuiltNow (now_of j h)
+pub own_decided : (h : Held) (n : MemoryState) (process : Pid) (id : Id) (label : Option Label) (o : FileOutcome) (opened : Option Kept) (events : EventsState) → IsBuiltNow (now_of h)
     → held n ≡ record h { files = files_after h.files (Some id) o } → option_map open_of opened ≡ o.opened → MaySettle n (bind_opened process label opened) → Holds events []
-    → Decides j h (files_outcome (now_of j h) process (Some id) label o) o.reply (bind_opened process label opened) events n
-own_decided j h n process id label o opened events built same opens may holds = record {
+    → Decides h (files_outcome (now_of h) process (Some id) label o) o.reply (bind_opened process label opened) events n
+own_decided h n process id label o opened events built same opens may holds = record {
   says = sym (reply_of x process (Some id) label o);
   records = subst (λ (es : List Event). Holds events es) (sym are) holds;
-  room = ap (is_full (j.log.area.len - j.log.end)) are;
+  room = ap (is_full (now_of h).machine.left) are;
+  journal = ap (λ (g : Held). g.journal) same;
   comes_to =
-      ap (λ (es : List Event). settled (now_of (appended j es) (held n)) (bind_opened process label opened)) are
-      ∙ ap (λ y. settled y (bind_opened process label opened)) (nothing_appended j (held n) ∙ ap (now_of j) same)
+      ap (λ (es : List Event). settled (now_of (logged (held n) es)) (bind_opened process label opened)) are
+      ∙ ap (λ y. settled y (bind_opened process label opened)) (nothing_logged (held n) ∙ ap now_of same)
       ∙ bound (record x { files = files_after h.files (Some id) o }) process label opened
       ∙ ap (λ (file : Option OpenFile). record x { files = files_after h.files (Some id) o; handles = handles_then x.handles process label file }) opens
       ∙ sym (ap (λ (y : Present). record y { handles = handles_then x.handles process label o.opened }) (grouped (record x { files = files_after h.files (Some id) o })))
@@ -158,7 +159,7 @@ own_decided j h n process id label o opened events built same opens may holds = 
 }
   where
     x : Present
-    x = now_of j h
+    x = now_of h
 
     are : (files_outcome x process (Some id) label o).events ≡ []
     are = events_in x process (Some id) label o
@@ -235,9 +236,9 @@ effect_answers files who (Move source target) refusal e = moved (find_path (tree
 effect_answers files who (Find searched) refusal e = absurd (cc)
 
 -- a call comes to this, by what is so now
-pub planned : (j : JournalState) (h : Held) (files : FilesNow) (room : FileRoom) (who : Option Id) (call : FileCall) (plan : FileOutcome) → plan ≡ file_outcome files room who call → room ≡ file_room (now_of j h) → files ≡ h.files
-    → plan ≡ file_outcome h.files (file_room (now_of j h)) who call
-planned j h files room who call plan is room_is files_are = is ∙ ap (λ r. file_outcome files r who call) room_is ∙ ap (λ f. file_outcome f (file_room (now_of j h)) who call) files_are
+pub planned : (h : Held) (files : FilesNow) (room : FileRoom) (who : Option Id) (call : FileCall) (plan : FileOutcome) → plan ≡ file_outcome files room who call → room ≡ file_room (now_of h) → files ≡ h.files
+    → plan ≡ file_outcome h.files (file_room (now_of h)) who call
+planned h files room who call plan is room_is files_are = is ∙ ap (λ r. file_outcome files r who call) room_is ∙ ap (λ f. file_outcome f (file_room (now_of h)) who call) files_are
 
 -- a call that changes something was not refused
 goes_through : (files : FilesNow) (room : FileRoom) (who : Option Id) (call : FileCall) (o : FileOutcome) → o ≡ file_outcome files room who call → is_quiet o ≡ false

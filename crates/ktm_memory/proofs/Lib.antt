@@ -4,6 +4,7 @@ mod FileRoutes
 mod Decides
 mod FilesDecided
 mod CommitGroups
+mod Records
 mod Closings
 mod Ticks
 mod Settles

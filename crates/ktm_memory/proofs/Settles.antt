@@ -23,8 +23,7 @@ use Rattle.txf_laws.specs.Reservations.{files_committed}
 use Rattle.txf_laws.proofs.offered.Reservations.{tree-of}
 use Rattle.txf_laws.specs.FileEffects.{forgotten}
 use Rattle.ktm_built.specs.Forms.{ended_aborted, ended_committed, is_of_both, with_commit_made, with_file_closed, with_handle_gone, with_rollback, with_rollback_if_active}
-use Rattle.ktm_journal.specs.Image.{JournalState}
-use Rattle.ktm_memory.specs.Memory.{Held, MemoryState, held, now_of, with_bound_to}
+use Rattle.ktm_memory.specs.Memory.{Held, MemoryState, now_of, present_of, with_bound_to}
 
 -- ---- a transaction that ends
 
@@ -40,34 +39,34 @@ changed_as_found (x ∷ xs) t f is = elim (cases_Bool (same_id x.id t.id)) [
     some_same e = cc
 
 -- it has rolled back
-pub rolled_back : (j : JournalState) (h : Held) (t : Transaction) (files : FilesNow) → files ≡ forgotten h.files t.id → transaction_at h.transactions.items t.id ≡ Some t
-    → now_of j (record h { transactions = record h.transactions { items = change_at h.transactions.items t.id (λ other. ended_aborted t) }; files = files; keys = record h.keys { own = without_own h.keys.own t.id } })
-    ≡ with_rollback (now_of j h) t
-rolled_back j h t files are there =
+pub rolled_back : (h : Held) (t : Transaction) (files : FilesNow) → files ≡ forgotten h.files t.id → transaction_at h.transactions.items t.id ≡ Some t
+    → now_of (record h { transactions = record h.transactions { items = change_at h.transactions.items t.id (λ other. ended_aborted t) }; files = files; keys = record h.keys { own = without_own h.keys.own t.id } })
+    ≡ with_rollback (now_of h) t
+rolled_back h t files are there =
     let keys = record h.keys { own = without_own h.keys.own t.id } in
-    ap (λ (fs : FilesNow). now_of j (record h { transactions = record h.transactions { items = change_at h.transactions.items t.id (λ other. ended_aborted t) }; files = fs; keys = keys })) are
-    ∙ ap (λ (ts : List Transaction). now_of j (record h { transactions = record h.transactions { items = ts }; files = forgotten h.files t.id; keys = keys })) (changed_as_found h.transactions.items t ended_aborted there)
+    ap (λ (fs : FilesNow). now_of (record h { transactions = record h.transactions { items = change_at h.transactions.items t.id (λ other. ended_aborted t) }; files = fs; keys = keys })) are
+    ∙ ap (λ (ts : List Transaction). now_of (record h { transactions = record h.transactions { items = ts }; files = forgotten h.files t.id; keys = keys })) (changed_as_found h.transactions.items t ended_aborted there)
 
 -- which transactions there are then
-pub items_then : (m n : MemoryState) (t : Transaction) → ((j : JournalState) → now_of j (held n) ≡ with_rollback (now_of j (held m)) t) → n.tm.now.items ≡ change_at m.tm.now.items t.id ended_aborted
-items_then m n t rolled = ap (λ x. x.transactions.items) (rolled (record { units = 0; image = 0; log = record { area = record { at = 0; len = 0 }; end = 0 }; events = 0 }))
+pub items_then : (m n : MemoryState) (t : Transaction) → present_of n ≡ with_rollback (present_of m) t → n.tm.now.items ≡ change_at m.tm.now.items t.id ended_aborted
+items_then m n t rolled = ap (λ x. x.transactions.items) rolled
 
 -- it has committed: what is recorded has the tree of the files and the store of the keys
-pub committed : (j : JournalState) (h : Held) (t : Transaction) (both : Bool) (files : FilesNow) → both ≡ is_of_both (now_of j h) t → files ≡ files_committed h.files t.id → transaction_at h.transactions.items t.id ≡ Some t
-    → now_of j (record h {
+pub committed : (h : Held) (t : Transaction) (both : Bool) (files : FilesNow) → both ≡ is_of_both (now_of h) t → files ≡ files_committed h.files t.id → transaction_at h.transactions.items t.id ≡ Some t
+    → now_of (record h {
       transactions = record h.transactions { items = change_at h.transactions.items t.id (λ other. ended_committed both t) };
       files = files;
       next_node = next_after_all h.next_node (own_changes h.files.table.own t.id);
       keys = record { store = stored_all h.keys.store (own_settings h.keys.own t.id); own = without_own h.keys.own t.id };
     })
-    ≡ with_commit_made (now_of j h) t
-committed j h t both files is are there =
-    let made = with_commit_made (now_of j h) t in
+    ≡ with_commit_made (now_of h) t
+committed h t both files is are there =
+    let made = with_commit_made (now_of h) t in
     let then : List Transaction → Tree → FilesNow → Present = λ items tree files. record made { recorded = record made.recorded { tree = tree }; transactions = record h.transactions { items = items }; files = files } in
     let tree = (files_committed h.files t.id).tree in
     ap (λ (fs : FilesNow). then (change_at h.transactions.items t.id (λ other. ended_committed both t)) fs.tree fs) are
     ∙ ap (λ (b : Bool). then (change_at h.transactions.items t.id (λ other. ended_committed b t)) tree made.files) is
-    ∙ ap (λ (ts : List Transaction). then ts tree made.files) (changed_as_found h.transactions.items t (ended_committed (is_of_both (now_of j h) t)) there)
+    ∙ ap (λ (ts : List Transaction). then ts tree made.files) (changed_as_found h.transactions.items t (ended_committed (is_of_both (now_of h) t)) there)
     ∙ ap (λ (tree : Tree). then made.transactions.items tree made.files) (tree-of (own_changes h.files.table.own t.id) (committed_files h.files []))
 
 -- ---- an active transaction rolls back
@@ -112,8 +111,8 @@ others_name x (EnlistmentObject id) last other is = refl
 others_name x (FileObject number) last other is = sym (ap (λ b. cond b x (with_file_closed x number)) (true_from_not last (has_handle x.handles (FileObject number)) other is))
 
 -- the file is closed
-pub file_closed : (j : JournalState) (h : Held) (number : ℕ) (files : FilesNow) → files ≡ record h.files { table = closed_file h.files.table number } → now_of j (record h { files = files }) ≡ with_file_closed (now_of j h) number
-file_closed j h number files are = ap (λ (fs : FilesNow). now_of j (record h { files = fs })) are
+pub file_closed : (h : Held) (number : ℕ) (files : FilesNow) → files ≡ record h.files { table = closed_file h.files.table number } → now_of (record h { files = files }) ≡ with_file_closed (now_of h) number
+file_closed h number files are = ap (λ (fs : FilesNow). now_of (record h { files = fs })) are
 
 -- none names the transaction
 pub none_names_transaction : (x : Present) (object : Object) (id : Id) (last : Bool) → object ≡ TransactionObject id → not last ≡ false → last ≡ not (has_handle x.handles object)

@@ -37,6 +37,7 @@ use Rattle.ktm_memory.specs.declared.settlement.Settlement.TheVariants.{Nothing,
 -- what each layer shows
 pub record MemoryState : Type 0 where
   pub is_up : Bool
+  pub journal : JournalState
   pub handles : HandleTable
   pub tm : TmState
   pub files : FilesHeld
@@ -47,6 +48,7 @@ pub record MemoryState : Type 0 where
 -- the same, but for the room that each layer has
 pub record Held : Type 0 where
   pub is_up : Bool
+  pub journal : JournalState
   pub handles : List Handle
   pub boot : ℕ
   pub transactions : Transactions
@@ -56,13 +58,13 @@ pub record Held : Type 0 where
 
 -- what the layers hold
 abbrev pub held : MemoryState → Held
-held m = record { is_up = m.is_up; handles = handles_of m.handles; boot = m.tm.boot; transactions = m.tm.now; files = files_of m.files; next_node = m.next_node; keys = m.keys.keys }
+held m = record { is_up = m.is_up; journal = m.journal; handles = handles_of m.handles; boot = m.tm.boot; transactions = m.tm.now; files = files_of m.files; next_node = m.next_node; keys = m.keys.keys }
 
--- what is so now, by what memory and the journal have of it; no resource managers and enlistments are built yet
-abbrev pub now_of : JournalState → Held → Present
-now_of j h = record {
-  machine = record { is_up = h.is_up; left = j.log.area.len - j.log.end };
-  recorded = built_state j.units j.image j.events h.boot h.next_node h.files.tree h.keys.store;
+-- what is so now, by what the layers hold of it; no resource managers and enlistments are built yet
+abbrev pub now_of : Held → Present
+now_of h = record {
+  machine = record { is_up = h.is_up; left = h.journal.log.area.len - h.journal.log.end };
+  recorded = built_state h.journal.units h.journal.image h.journal.events h.boot h.next_node h.files.tree h.keys.store;
   transactions = h.transactions;
   managers = [];
   files = h.files;
@@ -70,9 +72,17 @@ now_of j h = record {
   handles = h.handles;
 }
 
+-- what is so now, by what memory holds
+abbrev pub present_of : MemoryState → Present
+present_of m = now_of (held m)
+
 -- the journal with a group more, where there are events
 abbrev pub appended : JournalState → List Event → JournalState
 appended j events = record j { events = j.events + length events; log = record j.log { end = j.log.end + log_size (as_groups events) } }
+
+-- the same, its journal with a group more, where there are events
+abbrev pub logged : Held → List Event → Held
+logged h events = record h { journal = appended h.journal events }
 
 -- the files can be changed and opened as a plain call comes to
 pub record CanMakePlain (files : FilesNow) (o : FileOutcome) : Type 0 where

@@ -3,7 +3,6 @@ use Rattle.std.specs.Prelude.{◌≡◌, not, Bool, true, false, List, [], ◌�
 use Rattle.ktm_base.specs.declared.id.Pid.{Pid}
 use Rattle.ktm_base.specs.declared.refusal.Refusal.{Refusal}
 use Rattle.ktm_base.specs.declared.refusal.Refusal.TheVariants.{HandleNoLongerValid, MachineDown}
-use Rattle.ktm_journal.specs.Image.{JournalState}
 use Rattle.ktm_types.specs.declared.command.Command.{Command}
 use Rattle.ktm_types.specs.declared.command.Command.TheVariants.{CreateFile, CreateFileTransacted, ReadFile, WriteFile, SetEndOfFile, GetFileSizeEx, FlushFileBuffers, DeleteFile, CreateDirectory, RemoveDirectory, MoveFile, DeleteFileTransacted, CreateDirectoryTransacted, RemoveDirectoryTransacted, MoveFileTransacted, FindFiles, FindFilesTransacted}
 use Rattle.ktm_types.specs.declared.object.Object.{Object}
@@ -32,7 +31,6 @@ use Rattle.txf_calls.specs.Calls.{file_effect, file_outcome, file_tests}
 use Rattle.txf_calls.specs.Fits.{MayBeUsed}
 use Rattle.txf_calls.specs.declared.call.FileCall.{FileCall}
 use Rattle.ktm_world.specs.Transactions.{transaction_at}
-use Rattle.ktm_memory.specs.Memory.{Held, now_of}
 use Rattle.ktm_memory.specs.declared.decide.Asked.{Asked}
 use Rattle.ktm_memory.specs.declared.decide.Asked.TheVariants.{Call, Tick}
 use Rattle.ktm_memory.specs.Takes.{routed_takes_memory, takes_memory}
@@ -91,9 +89,9 @@ IsRouted x process command routed =
     (with_room x process command ≡ outcome_of x process routed) × IsReadyFor x process routed × (takes_memory x process command ≡ routed_takes_memory x routed)
 
 -- a command is routed to a call, or comes to a refusal
-abbrev pub Routes : JournalState → Held → Pid → Command → Result Routed Refusal → Type 0
-Routes j h process command (Ok routed) = IsRouted (now_of j h) process command routed
-Routes j h process command (Err refusal) = with_room (now_of j h) process command ≡ only_reply (now_of j h) (Refused refusal)
+abbrev pub Routes : Present → Pid → Command → Result Routed Refusal → Type 0
+Routes x process command (Ok routed) = IsRouted x process command routed
+Routes x process command (Err refusal) = with_room x process command ≡ only_reply x (Refused refusal)
 
 -- is the command one on an open file
 abbrev pub is_on_open_file : Command → Bool

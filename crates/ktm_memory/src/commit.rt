@@ -9,7 +9,7 @@ ghost use Rattle.ktm_forms.specs.Commits.{commit_events, parts_events};
 ghost use Rattle.ktm_types.specs.Sizes.{event_size};
 ghost use Rattle.ktm_built.specs.Forms.{changes_of};
 ghost use Rattle.ktm_memory.specs.Decided.{DecidesIf};
-ghost use Rattle.ktm_memory.specs.Memory.{IsRoomy, held, now_of};
+ghost use Rattle.ktm_memory.specs.Memory.{IsRoomy, held, present_of};
 ghost use Rattle.ktm_memory.specs.Route.{IsReadyCommit};
 ghost use Rattle.ktm_built.specs.Standing.{IsStandingNow};
 ghost use Rattle.ktm_types.specs.declared.change.Change.{Change as Made};
@@ -234,27 +234,33 @@ impl Memory {
     /// An active transaction commits: what it changed and set is one group, where the log has room for it.
     pub(crate) fn decide_commit(
         &mut self,
-        journal: &Journal,
         t: Transaction,
         events: &mut Events,
     ) -> Result<Option<Decision>, NoMemory>
         requires up { self.old.is_up ≡ true }
-        requires standing { IsStandingNow (now_of journal.now (held self.old)) }
+        requires standing { IsStandingNow (present_of self.old) }
         requires there { transaction_at self.old.tm.now.items t.id ≡ Some t }
-        requires ready { IsReadyCommit (now_of journal.now (held self.old)) t }
+        requires ready { IsReadyCommit (present_of self.old) t }
         requires empty { Holds events.old [] }
-        requires roomy { IsRoomy journal.now events.old }
-        ensures ok { IfOk result (λ d. DecidesIf journal.now (held self.old) (commit_transaction (now_of journal.now (held self.old)) (Some t)) d events.new self.new) }
+        requires roomy { IsRoomy self.old.journal events.old }
+        ensures ok { IfOk result (λ d. DecidesIf (held self.old) (commit_transaction (present_of self.old) (Some t)) d events.new self.new) }
         ensures room { events.new.room ≡ events.old.room }
         ensures no_memory { OnErr result (held self.new ≡ held self.old) }
         // it gives up only where the keys, the files, or the list of the files that it wrote have to take memory
         ensures enough { length (own_settings self.old.keys.keys.own t.id) ≤ self.old.keys.room → MayCommit self.old.files t.id
-            → list_all is_of_names (changes_of (now_of journal.now (held self.old)) t) ≡ true → IsOk result }
+            → list_all is_of_names (changes_of (present_of self.old) t) ≡ true → IsOk result }
     {
         self.keys.reserve(t.id)?;
         self.files.prepare_commit(t.id)?;
         let written = self.files.written(t.id)?;
-        if !record_commit(journal, events, &self.files, &written, &self.keys, t.id) {
+        if !record_commit(
+            &self.journal,
+            events,
+            &self.files,
+            &written,
+            &self.keys,
+            t.id,
+        ) {
             return Ok(None);
         }
         Ok(Some(Decision {

@@ -4,7 +4,7 @@ ghost use Rattle.ktm_built.specs.Forms.{ComesTo};
 ghost use Rattle.ktm_built.specs.Standing.{IsBuiltNow, IsStandingNow};
 ghost use Rattle.ktm_event.specs.Kept.{EventsState, Holds};
 ghost use Rattle.ktm_memory.specs.Decided.{Decides, DecidesIf};
-ghost use Rattle.ktm_memory.specs.Memory.{Held, IsRoomy, MaySettle, MemoryState, held, now_of, settled};
+ghost use Rattle.ktm_memory.specs.Memory.{IsRoomy, MaySettle, MemoryState, held, present_of, settled};
 ghost use Rattle.ktm_memory.specs.Route.{asked_outcome, outcome_of, IsBuiltAsked, IsReadyFor};
 ghost use Rattle.ktm_memory.specs.Takes.{asked_takes_memory, routed_takes_memory, takes_memory};
 ghost use Rattle.ktm_memory.specs.declared.route.Routed.TheVariants.{Create};
@@ -24,7 +24,6 @@ use crate::route::Routed;
 use crate::settlement::{Decision, Settlement};
 use ktm_base::{Id, Label, NoMemory, ObjectKind, Pid, Refusal, guid};
 use ktm_event::Events;
-use ktm_journal::Journal;
 use ktm_tm::state_of;
 use ktm_types::{Command, Reply, Transaction};
 use kv_rm::KvCall;
@@ -39,33 +38,32 @@ pub enum Asked {
     Tick(u32),
 }
 
-// How a transaction stands.
-fn information(journal: &Journal, t: &Transaction) -> Reply
-    ensures { (h : Held) → result ≡ information_of (now_of journal.now h) (Some t.now) }
-{
-    Reply::Information {
-        transaction: guid(ObjectKind::Transaction, journal.image(), t.id),
-        state: state_of(t),
-        outcome: t.outcome,
-    }
-}
-
 impl Memory {
+    // How a transaction stands.
+    fn information(&self, t: &Transaction) -> Reply
+        ensures { result ≡ information_of (present_of self.now) (Some t.now) }
+    {
+        Reply::Information {
+            transaction: guid(ObjectKind::Transaction, self.journal.image(), t.id),
+            state: state_of(t),
+            outcome: t.outcome,
+        }
+    }
+
     // A transaction is to begin, if there is room for it and its handle.
     fn decide_create(
         &mut self,
-        journal: &Journal,
         process: Pid,
         label: Label,
         timeout: u32,
     ) -> Result<Decision, NoMemory>
         requires up { self.old.is_up ≡ true }
-        requires standing { IsStandingNow (now_of journal.now (held self.old)) }
+        requires standing { IsStandingNow (present_of self.old) }
         requires free { object_at (handles_of self.old.handles) process label ≡ None }
-        ensures ok { IfOk result (λ d. (events : _) → Holds events [] → Decides journal.now (held self.old) (outcome_of (now_of journal.now (held self.old)) process (Create label timeout)) d.reply d.settlement events self.new) }
+        ensures ok { IfOk result (λ d. (events : _) → Holds events [] → Decides (held self.old) (outcome_of (present_of self.old) process (Create label timeout)) d.reply d.settlement events self.new) }
         ensures no_memory { OnErr result (held self.new ≡ held self.old) }
         ensures spare { 1 ≤ self.old.tm.room → 1 ≤ self.old.handles.spare → IsOk result }
-        ensures enough { routed_takes_memory (now_of journal.now (held self.old)) (Create label timeout) ≡ false → IsOk result }
+        ensures enough { routed_takes_memory (present_of self.old) (Create label timeout) ≡ false → IsOk result }
     {
         if self.handles.is_full() || self.tm.is_full() {
             return Ok(Decision::only(Reply::Refused(Refusal::NotEnoughQuota)));
@@ -74,7 +72,7 @@ impl Memory {
         self.handles.reserve(1)?;
         let id = self.tm.next_id();
         Ok(Decision {
-            reply: Reply::Guid(guid(ObjectKind::Transaction, journal.image(), id)),
+            reply: Reply::Guid(guid(ObjectKind::Transaction, self.journal.image(), id)),
             settlement: Settlement::Create {
                 process,
                 label,
@@ -84,17 +82,13 @@ impl Memory {
     }
 
     // A label is to be bound by this settlement, if there is room for a handle more.
-    fn decide_handle(
-        &mut self,
-        journal: &Journal,
-        settlement: Settlement,
-    ) -> Result<Decision, NoMemory>
-        requires built { IsBuiltNow (now_of journal.now (held self.old)) }
+    fn decide_handle(&mut self, settlement: Settlement) -> Result<Decision, NoMemory>
+        requires built { IsBuiltNow (present_of self.old) }
         requires may { (m : MemoryState) → held m ≡ held self.old → 1 ≤ m.handles.spare → MaySettle m settlement }
-        ensures ok { IfOk result (λ d. (o : Outcome) → ComesTo (now_of journal.now (held self.old)) o Done (settled (now_of journal.now (held self.old)) settlement)
-            → (events : EventsState) → Holds events [] → Decides journal.now (held self.old) (refuse_or (now_of journal.now (held self.old)) (first_refusal (handle_test (now_of journal.now (held self.old)) ∷ [])) o) d.reply d.settlement events self.new) }
+        ensures ok { IfOk result (λ d. (o : Outcome) → ComesTo (present_of self.old) o Done (settled (present_of self.old) settlement)
+            → (events : EventsState) → Holds events [] → Decides (held self.old) (refuse_or (present_of self.old) (first_refusal (handle_test (present_of self.old) ∷ [])) o) d.reply d.settlement events self.new) }
         ensures no_memory { OnErr result (held self.new ≡ held self.old) }
-        ensures enough { is_none (first_refusal (handle_test (now_of journal.now (held self.old)) ∷ [])) ≡ false → IsOk result }
+        ensures enough { is_none (first_refusal (handle_test (present_of self.old) ∷ [])) ≡ false → IsOk result }
         ensures spare { 1 ≤ self.old.handles.spare → IsOk result }
     {
         if self.handles.is_full() {
@@ -105,18 +99,13 @@ impl Memory {
     }
 
     // A call on keys is decided.
-    fn decide_keys(
-        &mut self,
-        journal: &Journal,
-        who: Option<Id>,
-        call: KvCall,
-    ) -> Result<Decision, NoMemory>
-        requires built { IsBuiltNow (now_of journal.now (held self.old)) }
-        ensures ok { IfOk result (λ d. (events : EventsState) → Holds events [] → Decides journal.now (held self.old) (of_keys (now_of journal.now (held self.old)) (key_outcome self.old.keys.keys (key_room (now_of journal.now (held self.old))) who call)) d.reply d.settlement events self.new) }
+    fn decide_keys(&mut self, who: Option<Id>, call: KvCall) -> Result<Decision, NoMemory>
+        requires built { IsBuiltNow (present_of self.old) }
+        ensures ok { IfOk result (λ d. (events : EventsState) → Holds events [] → Decides (held self.old) (of_keys (present_of self.old) (key_outcome self.old.keys.keys (key_room (present_of self.old)) who call)) d.reply d.settlement events self.new) }
         ensures no_memory { OnErr result (held self.new ≡ held self.old) }
-        ensures enough { is_refused (key_outcome self.old.keys.keys (key_room (now_of journal.now (held self.old))) who call).reply ≡ true → IsOk result }
+        ensures enough { is_refused (key_outcome self.old.keys.keys (key_room (present_of self.old)) who call).reply ≡ true → IsOk result }
     {
-        let room = self.key_room(journal);
+        let room = self.key_room();
         Ok(Decision::only(self.keys.call(who, call, room)?))
     }
 
@@ -124,24 +113,23 @@ impl Memory {
     fn decide_routed(
         &mut self,
         alloc: Global,
-        journal: &Journal,
         process: Pid,
         routed: Routed,
         events: &mut Events,
     ) -> Result<Option<Decision>, NoMemory>
         requires up { self.old.is_up ≡ true }
-        requires standing { IsStandingNow (now_of journal.now (held self.old)) }
-        requires ready { IsReadyFor (now_of journal.now (held self.old)) process routed }
+        requires standing { IsStandingNow (present_of self.old) }
+        requires ready { IsReadyFor (present_of self.old) process routed }
         requires empty { Holds events.old [] }
-        requires roomy { IsRoomy journal.now events.old }
-        ensures ok { IfOk result (λ d. DecidesIf journal.now (held self.old) (outcome_of (now_of journal.now (held self.old)) process routed) d events.new self.new) }
+        requires roomy { IsRoomy self.old.journal events.old }
+        ensures ok { IfOk result (λ d. DecidesIf (held self.old) (outcome_of (present_of self.old) process routed) d events.new self.new) }
         ensures room { events.new.room ≡ events.old.room }
         ensures no_memory { OnErr result (held self.new ≡ held self.old) }
-        ensures enough { routed_takes_memory (now_of journal.now (held self.old)) routed ≡ false → IsOk result }
+        ensures enough { routed_takes_memory (present_of self.old) routed ≡ false → IsOk result }
     {
         match routed {
             Routed::Create { label, timeout } => Ok(Some(self.decide_create(
-                journal, process, label, timeout,
+                process, label, timeout,
             )?)),
             Routed::Bind { label, object } => {
                 let settlement = Settlement::Bind {
@@ -149,7 +137,7 @@ impl Memory {
                     label,
                     object,
                 };
-                Ok(Some(self.decide_handle(journal, settlement)?))
+                Ok(Some(self.decide_handle(settlement)?))
             }
             Routed::Duplicate {
                 label,
@@ -162,16 +150,16 @@ impl Memory {
                     from,
                     source,
                 };
-                Ok(Some(self.decide_handle(journal, settlement)?))
+                Ok(Some(self.decide_handle(settlement)?))
             }
-            Routed::Commit(t) => self.decide_commit(journal, t, events),
+            Routed::Commit(t) => self.decide_commit(t, events),
             Routed::Rollback(t) => Ok(Some(Decision::done(Settlement::Rollback(t)))),
-            Routed::Information(t) => Ok(Some(Decision::only(information(journal, &t)))),
+            Routed::Information(t) => Ok(Some(Decision::only(self.information(&t)))),
             Routed::Close(label) => Ok(Some(Decision::done(Settlement::Close { process, label }))),
             Routed::Exit => Ok(Some(Decision::done(Settlement::Exit(process)))),
-            Routed::Keys { who, call } => Ok(Some(self.decide_keys(journal, who, call)?)),
+            Routed::Keys { who, call } => Ok(Some(self.decide_keys(who, call)?)),
             Routed::Files { who, label, call } => {
-                self.decide_files(alloc, journal, process, who, label, call, events)
+                self.decide_files(alloc, process, who, label, call, events)
             }
         }
     }
@@ -180,7 +168,6 @@ impl Memory {
     fn decide_call(
         &mut self,
         alloc: Global,
-        journal: &Journal,
         process: Pid,
         command: Command,
         events: &mut Events,
@@ -188,16 +175,16 @@ impl Memory {
         requires up { self.old.is_up ≡ true }
         requires command { IsCommand command }
         requires built { is_built_command command ≡ true }
-        requires standing { IsStandingNow (now_of journal.now (held self.old)) }
+        requires standing { IsStandingNow (present_of self.old) }
         requires empty { Holds events.old [] }
-        requires roomy { IsRoomy journal.now events.old }
-        ensures ok { IfOk result (λ d. DecidesIf journal.now (held self.old) (with_room (now_of journal.now (held self.old)) process command) d events.new self.new) }
+        requires roomy { IsRoomy self.old.journal events.old }
+        ensures ok { IfOk result (λ d. DecidesIf (held self.old) (with_room (present_of self.old) process command) d events.new self.new) }
         ensures room { events.new.room ≡ events.old.room }
         ensures no_memory { OnErr result (held self.new ≡ held self.old) }
-        ensures enough { takes_memory (now_of journal.now (held self.old)) process command ≡ false → IsOk result }
+        ensures enough { takes_memory (present_of self.old) process command ≡ false → IsOk result }
     {
-        match self.route(journal, process, command) {
-            Ok(routed) => self.decide_routed(alloc, journal, process, routed, events),
+        match self.route(process, command) {
+            Ok(routed) => self.decide_routed(alloc, process, routed, events),
             Err(refusal) => Ok(Some(Decision::only(Reply::Refused(refusal)))),
         }
     }
@@ -207,24 +194,21 @@ impl Memory {
     pub fn decide(
         &mut self,
         alloc: Global,
-        journal: &Journal,
         asked: Asked,
         events: &mut Events,
     ) -> Result<Option<Decision>, NoMemory>
         requires up { self.old.is_up ≡ true }
         requires built { IsBuiltAsked asked }
-        requires standing { IsStandingNow (now_of journal.now (held self.old)) }
+        requires standing { IsStandingNow (present_of self.old) }
         requires empty { Holds events.old [] }
-        requires roomy { IsRoomy journal.now events.old }
-        ensures ok { IfOk result (λ d. DecidesIf journal.now (held self.old) (asked_outcome (now_of journal.now (held self.old)) asked) d events.new self.new) }
+        requires roomy { IsRoomy self.old.journal events.old }
+        ensures ok { IfOk result (λ d. DecidesIf (held self.old) (asked_outcome (present_of self.old) asked) d events.new self.new) }
         ensures room { events.new.room ≡ events.old.room }
         ensures no_memory { OnErr result (held self.new ≡ held self.old) }
-        ensures enough { asked_takes_memory (now_of journal.now (held self.old)) asked ≡ false → IsOk result }
+        ensures enough { asked_takes_memory (present_of self.old) asked ≡ false → IsOk result }
     {
         match asked {
-            Asked::Call(process, command) => {
-                self.decide_call(alloc, journal, process, command, events)
-            }
+            Asked::Call(process, command) => { self.decide_call(alloc, process, command, events) }
             Asked::Tick(ms) => Ok(Some(Decision::done(Settlement::Tick(ms)))),
         }
     }

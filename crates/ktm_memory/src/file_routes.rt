@@ -2,8 +2,7 @@
 ghost use Rattle.std.specs.Prelude.{◌≡◌, true, Some, None, IfOk, IfErr, is_some};
 ghost use Rattle.ktm_base.specs.declared.refusal.Refusal.TheVariants.{InvalidParameter};
 ghost use Rattle.ktm_built.specs.Standing.{IsStandingNow};
-ghost use Rattle.ktm_journal.specs.Image.{JournalState};
-ghost use Rattle.ktm_memory.specs.Memory.{held, now_of};
+ghost use Rattle.ktm_memory.specs.Memory.{present_of};
 ghost use Rattle.ktm_memory.specs.Route.{Routes, is_on_open_file, is_on_path, is_transacted};
 ghost use Rattle.ktm_memory.specs.declared.route.Routed.TheVariants.{Files as OfFiles};
 ghost use Rattle.ktm_object.specs.Table.{handles_of};
@@ -17,7 +16,6 @@ use crate::memory::Memory;
 use crate::route::Routed;
 use ktm_base::{Id, Label, Pid, Refusal};
 use ktm_built::law_of_files;
-use ktm_journal::Journal;
 use ktm_types::Command;
 use txf_calls::FileCall;
 
@@ -61,8 +59,8 @@ impl Memory {
         transaction: Label,
         call: FileCall,
     ) -> Result<Routed, Refusal>
-        ensures ok { IfOk result (λ routed. (j : JournalState) → (t : Named) × (transaction_named (now_of j (held self.now)) process transaction ≡ Some t) × (first_refusal (transaction_tests (Some t)) ≡ None) × (routed ≡ OfFiles (Some t.id) None call)) }
-        ensures err { IfErr result (λ refusal. (j : JournalState) → first_refusal (transaction_tests (transaction_named (now_of j (held self.now)) process transaction)) ≡ Some refusal) }
+        ensures ok { IfOk result (λ routed. (t : Named) × (transaction_named (present_of self.now) process transaction ≡ Some t) × (first_refusal (transaction_tests (Some t)) ≡ None) × (routed ≡ OfFiles (Some t.id) None call)) }
+        ensures err { IfErr result (λ refusal. first_refusal (transaction_tests (transaction_named (present_of self.now) process transaction)) ≡ Some refusal) }
     {
         match self.active(process, transaction) {
             Ok(t) => Ok(of_files(Some(t.id), call)),
@@ -71,17 +69,12 @@ impl Memory {
     }
 
     // A call on an open file, of the transaction in which it is open.
-    pub(crate) fn route_open(
-        &self,
-        journal: &Journal,
-        process: Pid,
-        command: Command,
-    ) -> Result<Routed, Refusal>
+    pub(crate) fn route_open(&self, process: Pid, command: Command) -> Result<Routed, Refusal>
         requires up { self.now.is_up ≡ true }
         requires command { IsCommand command }
         requires open { is_on_open_file command ≡ true }
-        requires standing { IsStandingNow (now_of journal.now (held self.now)) }
-        ensures { Routes journal.now (held self.now) process command result }
+        requires standing { IsStandingNow (present_of self.now) }
+        ensures { Routes (present_of self.now) process command result }
     {
         law_of_files();
         match command {
@@ -128,17 +121,12 @@ impl Memory {
     }
 
     // A call on a path, in a transaction.
-    pub(crate) fn route_transacted(
-        &self,
-        journal: &Journal,
-        process: Pid,
-        command: Command,
-    ) -> Result<Routed, Refusal>
+    pub(crate) fn route_transacted(&self, process: Pid, command: Command) -> Result<Routed, Refusal>
         requires up { self.now.is_up ≡ true }
         requires command { IsCommand command }
         requires transacted { is_transacted command ≡ true }
-        requires standing { IsStandingNow (now_of journal.now (held self.now)) }
-        ensures { Routes journal.now (held self.now) process command result }
+        requires standing { IsStandingNow (present_of self.now) }
+        ensures { Routes (present_of self.now) process command result }
     {
         law_of_files();
         match command {
@@ -182,17 +170,12 @@ impl Memory {
     }
 
     // A plain call on a path.
-    pub(crate) fn route_path(
-        &self,
-        journal: &Journal,
-        process: Pid,
-        command: Command,
-    ) -> Result<Routed, Refusal>
+    pub(crate) fn route_path(&self, process: Pid, command: Command) -> Result<Routed, Refusal>
         requires up { self.now.is_up ≡ true }
         requires command { IsCommand command }
         requires path { is_on_path command ≡ true }
-        requires standing { IsStandingNow (now_of journal.now (held self.now)) }
-        ensures { Routes journal.now (held self.now) process command result }
+        requires standing { IsStandingNow (present_of self.now) }
+        ensures { Routes (present_of self.now) process command result }
     {
         law_of_files();
         match command {

@@ -4,7 +4,7 @@ ghost use Rattle.ktm_built.specs.Files.{MayMake};
 ghost use Rattle.ktm_built.specs.Standing.{IsBuiltNow, IsStandingNow};
 ghost use Rattle.ktm_event.specs.Kept.{EventsState, Holds};
 ghost use Rattle.ktm_memory.specs.Decided.{CanAnswer, Decides, DecidesIf, bind_opened};
-ghost use Rattle.ktm_memory.specs.Memory.{IsRoomy, held, now_of};
+ghost use Rattle.ktm_memory.specs.Memory.{IsRoomy, held, present_of};
 ghost use Rattle.ktm_memory.specs.Route.{IsFreeLabel, IsReadyCall, files_outcome, outcome_of};
 ghost use Rattle.ktm_memory.specs.declared.route.Routed.TheVariants.{Files as OfFiles};
 ghost use Rattle.ktm_memory.specs.Takes.{files_take_memory, is_quiet};
@@ -20,7 +20,6 @@ use crate::settlement::{Decision, Settlement};
 use ktm_base::{Id, Label, NoMemory, Pid};
 use ktm_built::law_of_files;
 use ktm_event::Events;
-use ktm_journal::Journal;
 use ktm_types::{Object, Reply};
 use kv_rm::Room as KeyRoom;
 use std::alloc::Global;
@@ -50,24 +49,24 @@ fn changes_nothing(plan: &Plan) -> bool
 
 impl Memory {
     /// The room that the keys have.
-    pub(crate) fn key_room(&self, journal: &Journal) -> KeyRoom
-        ensures { result ≡ key_room (now_of journal.now (held self.now)) }
+    pub(crate) fn key_room(&self) -> KeyRoom
+        ensures { result ≡ key_room (present_of self.now) }
     {
         let waiting = self.files.changes_waiting();
         KeyRoom {
-            keys: journal.units(),
-            changes: (journal.units() as u64).saturating_sub(waiting) as u32,
+            keys: self.journal.units(),
+            changes: (self.journal.units() as u64).saturating_sub(waiting) as u32,
         }
     }
 
     // The room that the files have.
-    fn file_room(&self, journal: &Journal) -> Room
-        ensures { result ≡ file_room (now_of journal.now (held self.now)) }
+    fn file_room(&self) -> Room
+        ensures { result ≡ file_room (present_of self.now) }
     {
         Room {
             handles: self.handles.left(),
-            changes: journal.units().saturating_sub(self.keys.unset_count()),
-            units: journal.units(),
+            changes: self.journal.units().saturating_sub(self.keys.unset_count()),
+            units: self.journal.units(),
         }
     }
 
@@ -87,25 +86,24 @@ impl Memory {
     // A plain call has come to this plan: its change is recorded, where the log has room for it, and then it is to be made.
     fn decide_plain(
         &mut self,
-        journal: &Journal,
         process: Pid,
         label: Option<Label>,
         plan: Plan,
         events: &mut Events,
     ) -> Result<Option<Decision>, NoMemory>
-        requires built { IsBuiltNow (now_of journal.now (held self.old)) }
-        requires free { IsFreeLabel (now_of journal.now (held self.old)) process label }
-        requires may { MayMake (now_of journal.now (held self.old)) None plan }
+        requires built { IsBuiltNow (present_of self.old) }
+        requires free { IsFreeLabel (present_of self.old) process label }
+        requires may { MayMake (present_of self.old) None plan }
         requires answers { CanAnswer None plan }
         requires empty { Holds events.old [] }
-        requires roomy { IsRoomy journal.now events.old }
-        ensures ok { IfOk result (λ d. DecidesIf journal.now (held self.old) (files_outcome (now_of journal.now (held self.old)) process None label plan) d events.new self.new) }
+        requires roomy { IsRoomy self.old.journal events.old }
+        ensures ok { IfOk result (λ d. DecidesIf (held self.old) (files_outcome (present_of self.old) process None label plan) d events.new self.new) }
         ensures room { events.new.room ≡ events.old.room }
         ensures no_memory { OnErr result (held self.new ≡ held self.old) }
-        ensures full { is_full (journal.now.log.area.len - journal.now.log.end) (events_of None plan.change) ≡ true → IsOk result }
+        ensures full { is_full (present_of self.old).machine.left (events_of None plan.change) ≡ true → IsOk result }
         ensures enough { IsReady self.old.files plan None → (is_some plan.opened ≡ true → 1 ≤ self.old.handles.spare) → IsOk result }
     {
-        let Some(mut plan) = record_plan(journal, events, plan) else {
+        let Some(mut plan) = record_plan(&self.journal, events, plan) else {
             return Ok(None);
         };
         self.reserve_for(plan.opened)?;
@@ -125,16 +123,15 @@ impl Memory {
     // A call in a transaction has come to this plan, which is made at once, since nothing of it is recorded.
     fn decide_own(
         &mut self,
-        journal: &Journal,
         process: Pid,
         id: Id,
         label: Option<Label>,
         plan: Plan,
     ) -> Result<Decision, NoMemory>
-        requires built { IsBuiltNow (now_of journal.now (held self.old)) }
-        requires free { IsFreeLabel (now_of journal.now (held self.old)) process label }
-        requires may { MayMake (now_of journal.now (held self.old)) (Some id) plan }
-        ensures ok { IfOk result (λ d. (events : EventsState) → Holds events [] → Decides journal.now (held self.old) (files_outcome (now_of journal.now (held self.old)) process (Some id) label plan) d.reply d.settlement events self.new) }
+        requires built { IsBuiltNow (present_of self.old) }
+        requires free { IsFreeLabel (present_of self.old) process label }
+        requires may { MayMake (present_of self.old) (Some id) plan }
+        ensures ok { IfOk result (λ d. (events : EventsState) → Holds events [] → Decides (held self.old) (files_outcome (present_of self.old) process (Some id) label plan) d.reply d.settlement events self.new) }
         ensures no_memory { OnErr result (held self.new ≡ held self.old) }
         ensures enough { HasRoom self.old.files → plan.change ≡ None → (is_some plan.opened ≡ true → 1 ≤ self.old.handles.spare) → IsOk result }
     {
@@ -153,31 +150,30 @@ impl Memory {
     pub(crate) fn decide_files(
         &mut self,
         alloc: Global,
-        journal: &Journal,
         process: Pid,
         who: Option<Id>,
         label: Option<Label>,
         call: FileCall,
         events: &mut Events,
     ) -> Result<Option<Decision>, NoMemory>
-        requires standing { IsStandingNow (now_of journal.now (held self.old)) }
-        requires ready { IsReadyCall (now_of journal.now (held self.old)) process who label call }
+        requires standing { IsStandingNow (present_of self.old) }
+        requires ready { IsReadyCall (present_of self.old) process who label call }
         requires empty { Holds events.old [] }
-        requires roomy { IsRoomy journal.now events.old }
-        ensures ok { IfOk result (λ d. DecidesIf journal.now (held self.old) (outcome_of (now_of journal.now (held self.old)) process (OfFiles who label call)) d events.new self.new) }
+        requires roomy { IsRoomy self.old.journal events.old }
+        ensures ok { IfOk result (λ d. DecidesIf (held self.old) (outcome_of (present_of self.old) process (OfFiles who label call)) d events.new self.new) }
         ensures room { events.new.room ≡ events.old.room }
         ensures no_memory { OnErr result (held self.new ≡ held self.old) }
-        ensures enough { files_take_memory (now_of journal.now (held self.old)) who call ≡ false → IsOk result }
+        ensures enough { files_take_memory (present_of self.old) who call ≡ false → IsOk result }
     {
         law_of_files();
-        let room = self.file_room(journal);
+        let room = self.file_room();
         let plan = decide(alloc, &self.files, who, call, &room)?;
         if changes_nothing(&plan) {
             return Ok(Some(Decision::only(plan.reply)));
         }
         match who {
-            Some(id) => Ok(Some(self.decide_own(journal, process, id, label, plan)?)),
-            None => self.decide_plain(journal, process, label, plan, events),
+            Some(id) => Ok(Some(self.decide_own(process, id, label, plan)?)),
+            None => self.decide_plain(process, label, plan, events),
         }
     }
 }

@@ -2,8 +2,7 @@
 ghost use Rattle.std.specs.Prelude.{◌≡◌, ◌∷◌, [], Some, None, IfOk, IfErr};
 ghost use Rattle.ktm_base.specs.declared.refusal.Refusal.TheVariants.{HandleNoLongerValid};
 ghost use Rattle.ktm_built.specs.Standing.{IsStandingNow};
-ghost use Rattle.ktm_journal.specs.Image.{JournalState};
-ghost use Rattle.ktm_memory.specs.Memory.{held, now_of};
+ghost use Rattle.ktm_memory.specs.Memory.{present_of};
 ghost use Rattle.ktm_memory.specs.Route.{source_tests};
 ghost use Rattle.ktm_world.specs.Handles.{transaction_id};
 ghost use Rattle.ktm_world.specs.Labels.{file_named, file_number, file_tests, is_dead, is_suspended, transaction_named, transaction_tests, view_tests, viewer};
@@ -14,7 +13,6 @@ ghost use Rattle.txf_volume.specs.Held.{files_of};
 
 use crate::memory::Memory;
 use ktm_base::{Id, Label, ObjectKind, Pid, Refusal, id_of};
-use ktm_journal::Journal;
 use ktm_tm::{active_refusal, is_active};
 use ktm_types::{Object, Transaction, View};
 use txf_calls::OpenFile;
@@ -47,7 +45,7 @@ fn file_number(object: Option<Object>) -> Option<u32>
 impl Memory {
     // The transaction that a label of a process names.
     pub(crate) fn named(&self, process: Pid, label: Label) -> Option<Transaction>
-        ensures { (j : JournalState) → result ≡ transaction_named (now_of j (held self.now)) process label }
+        ensures { result ≡ transaction_named (present_of self.now) process label }
     {
         let id = transaction_id(self.handles.get(process, label))?;
         self.tm.find(id)
@@ -55,8 +53,8 @@ impl Memory {
 
     // The active transaction that a label names, or why there is none.
     pub(crate) fn active(&self, process: Pid, label: Label) -> Result<Transaction, Refusal>
-        ensures ok { IfOk result (λ t. (j : JournalState) → (transaction_named (now_of j (held self.now)) process label ≡ Some t) × (first_refusal (transaction_tests (Some t)) ≡ None)) }
-        ensures err { IfErr result (λ refusal. (j : JournalState) → first_refusal (transaction_tests (transaction_named (now_of j (held self.now)) process label)) ≡ Some refusal) }
+        ensures ok { IfOk result (λ t. (transaction_named (present_of self.now) process label ≡ Some t) × (first_refusal (transaction_tests (Some t)) ≡ None)) }
+        ensures err { IfErr result (λ refusal. first_refusal (transaction_tests (transaction_named (present_of self.now) process label)) ≡ Some refusal) }
     {
         let Some(t) = self.named(process, label) else {
             return Err(Refusal::InvalidHandle);
@@ -69,8 +67,8 @@ impl Memory {
 
     // Through which transaction a view looks, or why it cannot.
     pub(crate) fn viewer(&self, process: Pid, view: View) -> Result<Option<Id>, Refusal>
-        ensures ok { IfOk result (λ who. (j : JournalState) → (first_refusal (view_tests (now_of j (held self.now)) process view) ≡ None) × (viewer (now_of j (held self.now)) process view ≡ who)) }
-        ensures err { IfErr result (λ refusal. (j : JournalState) → first_refusal (view_tests (now_of j (held self.now)) process view) ≡ Some refusal) }
+        ensures ok { IfOk result (λ who. (first_refusal (view_tests (present_of self.now) process view) ≡ None) × (viewer (present_of self.now) process view ≡ who)) }
+        ensures err { IfErr result (λ refusal. first_refusal (view_tests (present_of self.now) process view) ≡ Some refusal) }
     {
         let View::Transaction(label) = view else {
             return Ok(None);
@@ -105,7 +103,7 @@ impl Memory {
 
     // Is the transaction of an open file not active, if it has one.
     pub(crate) fn is_suspended(&self, file: &OpenFile) -> bool
-        ensures { (j : JournalState) → result ≡ is_suspended (now_of j (held self.now)) (open_of file.now) }
+        ensures { result ≡ is_suspended (present_of self.now) (open_of file.now) }
     {
         match file.transaction {
             Some(id) => match self.tm.find(id) {
@@ -118,8 +116,8 @@ impl Memory {
 
     // The open file that a label names, or why it cannot be used.
     pub(crate) fn open_file(&self, process: Pid, label: Label) -> Result<OpenFile, Refusal>
-        ensures ok { IfOk result (λ file. (j : JournalState) → (file_named (now_of j (held self.now)) process label ≡ Some (open_of file)) × (first_refusal (file_tests (now_of j (held self.now)) process label) ≡ None)) }
-        ensures err { IfErr result (λ refusal. (j : JournalState) → first_refusal (file_tests (now_of j (held self.now)) process label) ≡ Some refusal) }
+        ensures ok { IfOk result (λ file. (file_named (present_of self.now) process label ≡ Some (open_of file)) × (first_refusal (file_tests (present_of self.now) process label) ≡ None)) }
+        ensures err { IfErr result (λ refusal. first_refusal (file_tests (present_of self.now) process label) ≡ Some refusal) }
     {
         let Some(number) = file_number(self.handles.get(process, label)) else {
             return Err(Refusal::InvalidHandle);
@@ -137,11 +135,11 @@ impl Memory {
     }
 
     // The live transaction with a GUID.
-    pub(crate) fn with_guid(&self, journal: &Journal, guid: &Uuid) -> Option<Transaction>
-        requires { IsStandingNow (now_of journal.now (held self.now)) }
-        ensures { result ≡ transaction_with (now_of journal.now (held self.now)) guid.now }
+    pub(crate) fn with_guid(&self, guid: &Uuid) -> Option<Transaction>
+        requires { IsStandingNow (present_of self.now) }
+        ensures { result ≡ transaction_with (present_of self.now) guid.now }
     {
-        let Some(id) = id_of(ObjectKind::Transaction, journal.image(), guid) else {
+        let Some(id) = id_of(ObjectKind::Transaction, self.journal.image(), guid) else {
             return None;
         };
         self.tm.find_live(id)

@@ -1,5 +1,5 @@
-//! What the machine holds in memory, and what is decided on it: labels become objects, the layer that a call belongs to
-//! decides it, and once its events are recorded what was left to do is done. Nothing here knows a disk.
+//! What the machine holds in memory, its journal with it, and what is decided on it: labels become objects, the layer that a
+//! call belongs to decides it, its events are recorded as one group, and once they are what was left to do is done.
 #![tactic(auto)]
 
 mod commit;
@@ -8,6 +8,7 @@ mod file_routes;
 mod files;
 mod labels;
 mod memory;
+mod record;
 mod route;
 mod settle;
 mod settlement;

@@ -1,4 +1,4 @@
-// What the machine holds in memory: its layers.
+// What the machine holds in memory: its layers, of which its journal is one.
 ghost use Rattle.std.specs.Prelude.{◌≡◌, true, false, []};
 ghost use Rattle.ktm_object.specs.Table.{handles_of};
 ghost use Rattle.ktm_world.specs.Tree.{IsWellFormed};
@@ -6,6 +6,7 @@ ghost use Rattle.txf_tree.specs.TreeState.{tree_of, versions_of};
 ghost use Rattle.txf_volume.specs.Held.{files_begun, files_of, tree_units};
 
 use ktm_base::Bytes;
+use ktm_journal::Journal;
 use ktm_keyed::KeyedList;
 use ktm_object::Handles;
 use ktm_tm::Tm;
@@ -19,6 +20,7 @@ use txf_volume::Files;
 #[derive(Drop)]
 pub struct Memory {
     pub(crate) is_up: bool,
+    pub(crate) journal: Journal,
     pub(crate) handles: Handles,
     pub(crate) tm: Tm,
     pub(crate) files: Files,
@@ -32,16 +34,23 @@ impl Model for Memory {
 
     ghost Value = { MemoryState };
 
-    ghost view = { λ m. record { is_up = m.is_up; handles = m.handles; tm = m.tm; files = m.files; next_node = m.next_node; keys = m.keys } };
+    ghost view = { λ m. record { is_up = m.is_up; journal = m.journal; handles = m.handles; tm = m.tm; files = m.files; next_node = m.next_node; keys = m.keys } };
 }
 
 impl Memory {
-    /// What a machine that starts holds: its boot, and the committed files and keys.
-    pub fn start(alloc: Global, boot: u32, committed: FilesRead, store: KeyedList<Bytes>) -> Self
+    /// What a machine that starts holds: its journal, its boot, and the committed files and keys.
+    pub fn start(
+        alloc: Global,
+        journal: Journal,
+        boot: u32,
+        committed: FilesRead,
+        store: KeyedList<Bytes>,
+    ) -> Self
         requires formed { IsWellFormed (tree_of committed.tree) }
         requires rest { versions_of committed.tree ≡ [] }
         requires units { committed.units ≡ tree_units (tree_of committed.tree) }
         ensures up { result.is_up ≡ true }
+        ensures journal { result.journal ≡ journal }
         ensures boot { result.tm.boot ≡ boot }
         ensures transactions { result.tm.now ≡ record { clock = 0; last_transaction = 0; last_manager = 0; last_enlistment = 0; items = []; enlistments = [] } }
         ensures files { files_of result.files ≡ files_begun (tree_of committed.tree) committed.next_node }
@@ -51,6 +60,7 @@ impl Memory {
     {
         Memory {
             is_up: true,
+            journal,
             handles: Handles::new(alloc),
             tm: Tm::new(alloc, boot),
             files: Files::with_tree(alloc, committed.tree, committed.units, committed.next_node),
@@ -64,6 +74,13 @@ impl Memory {
         ensures { result ≡ self.now.is_up }
     {
         self.is_up
+    }
+
+    /// The journal.
+    pub fn journal(&self) -> &Journal
+        ensures { result.now ≡ self.now.journal }
+    {
+        &self.journal
     }
 
     /// The machine is down.

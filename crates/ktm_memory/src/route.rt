@@ -1,7 +1,7 @@
 // From labels to objects.
 ghost use Rattle.std.specs.Prelude.{◌≡◌, true, Some};
 ghost use Rattle.ktm_built.specs.Standing.{IsStandingNow};
-ghost use Rattle.ktm_memory.specs.Memory.{held, now_of};
+ghost use Rattle.ktm_memory.specs.Memory.{present_of};
 ghost use Rattle.ktm_memory.specs.Route.{Routes};
 ghost use Rattle.ktm_types.specs.Values.{IsCommand};
 ghost use Rattle.ktm_types.specs.declared.command.Command.TheVariants.{CloseHandle, CommitTransaction, CreateTransaction, DuplicateHandle, GetTransactionInformation, OpenTransaction, RollbackTransaction};
@@ -9,7 +9,6 @@ ghost use Rattle.ktm_forms.specs.Built.{is_built_command};
 
 use crate::memory::Memory;
 use ktm_base::{Id, Label, Pid, Refusal};
-use ktm_journal::Journal;
 use ktm_types::{Command, Object, Transaction};
 use kv_rm::KvCall;
 use txf_calls::FileCall;
@@ -49,40 +48,31 @@ pub(crate) enum Routed {
 
 impl Memory {
     /// The call, with what its labels name; or the refusal of a label, or of what it names.
-    pub(crate) fn route(
-        &self,
-        journal: &Journal,
-        process: Pid,
-        command: Command,
-    ) -> Result<Routed, Refusal>
+    pub(crate) fn route(&self, process: Pid, command: Command) -> Result<Routed, Refusal>
         requires up { self.now.is_up ≡ true }
         requires command { IsCommand command }
         requires built { is_built_command command ≡ true }
-        requires standing { IsStandingNow (now_of journal.now (held self.now)) }
-        ensures { Routes journal.now (held self.now) process command result }
+        requires standing { IsStandingNow (present_of self.now) }
+        ensures { Routes (present_of self.now) process command result }
     {
         match command {
             Command::CreateTransaction { label, timeout } => {
-                self.to_create(journal, process, label, timeout)
+                self.to_create(process, label, timeout)
             }
-            Command::OpenTransaction { label, guid } => {
-                self.to_open(journal, process, label, &guid)
-            }
-            Command::CommitTransaction { transaction } => {
-                self.to_commit(journal, process, transaction)
-            }
+            Command::OpenTransaction { label, guid } => { self.to_open(process, label, &guid) }
+            Command::CommitTransaction { transaction } => { self.to_commit(process, transaction) }
             Command::RollbackTransaction { transaction } => {
-                self.to_roll_back(journal, process, transaction)
+                self.to_roll_back(process, transaction)
             }
             Command::GetTransactionInformation { transaction } => {
-                self.to_tell(journal, process, transaction)
+                self.to_tell(process, transaction)
             }
-            Command::CloseHandle { label } => self.to_close(journal, process, label),
+            Command::CloseHandle { label } => self.to_close(process, label),
             Command::DuplicateHandle {
                 label,
                 process: from,
                 source,
-            } => self.to_duplicate(journal, process, label, from, source),
+            } => self.to_duplicate(process, label, from, source),
             Command::Exit => Ok(Routed::Exit),
             Command::KvSet {
                 transaction,
@@ -121,20 +111,18 @@ impl Memory {
             | Command::CreateDirectory { .. }
             | Command::RemoveDirectory { .. }
             | Command::MoveFile { .. }
-            | Command::FindFiles { .. } => self.route_path(journal, process, command),
+            | Command::FindFiles { .. } => self.route_path(process, command),
             Command::ReadFile { .. }
             | Command::WriteFile { .. }
             | Command::SetEndOfFile { .. }
             | Command::GetFileSizeEx { .. }
-            | Command::FlushFileBuffers { .. } => self.route_open(journal, process, command),
+            | Command::FlushFileBuffers { .. } => self.route_open(process, command),
             Command::CreateFileTransacted { .. }
             | Command::DeleteFileTransacted { .. }
             | Command::CreateDirectoryTransacted { .. }
             | Command::RemoveDirectoryTransacted { .. }
             | Command::MoveFileTransacted { .. }
-            | Command::FindFilesTransacted { .. } => {
-                self.route_transacted(journal, process, command)
-            }
+            | Command::FindFilesTransacted { .. } => { self.route_transacted(process, command) }
             _ => unreachable!(),
         }
     }

@@ -1,9 +1,8 @@
 // Doing what is left to do once the events of a command are recorded. It takes no memory.
 ghost use Rattle.std.specs.Prelude.{◌≡◌, ◌<◌, ◌^◌, not, true, Some};
 ghost use Rattle.ktm_built.specs.Forms.{ended_aborted, ended_committed, is_of_both, with_handle_closed, with_handle_gone, with_process_gone, with_rollback, with_rollback_if_active, with_tick};
-ghost use Rattle.ktm_journal.specs.Image.{JournalState};
 ghost use Rattle.ktm_memory.specs.declared.settlement.Settlement.TheVariants.{Create, Plain, Commit, Tick};
-ghost use Rattle.ktm_memory.specs.Memory.{MaySettle, held, now_of, settled};
+ghost use Rattle.ktm_memory.specs.Memory.{MaySettle, present_of, settled};
 ghost use Rattle.ktm_object.specs.Table.{handles_of};
 ghost use Rattle.ktm_types.specs.declared.change.Change.{Change as Made};
 ghost use Rattle.ktm_world.specs.Changes.{is_make, node_of};
@@ -59,7 +58,8 @@ impl Memory {
     // The transaction has ended, and what it changed and set is forgotten.
     fn roll_back(&mut self, t: Transaction)
         requires { transaction_at self.old.tm.now.items t.id ≡ Some t }
-        ensures now { (j : JournalState) → now_of j (held self.new) ≡ with_rollback (now_of j (held self.old)) t }
+        ensures now { present_of self.new ≡ with_rollback (present_of self.old) t }
+        ensures journal { self.new.journal ≡ self.old.journal }
         ensures handles { self.new.handles ≡ self.old.handles }
     {
         self.tm.arrive(aborted(t));
@@ -69,7 +69,8 @@ impl Memory {
 
     // The transaction rolls back, if it is active.
     fn roll_back_if_active(&mut self, id: Id)
-        ensures now { (j : JournalState) → now_of j (held self.new) ≡ with_rollback_if_active (now_of j (held self.old)) (transaction_at self.old.tm.now.items id) }
+        ensures now { present_of self.new ≡ with_rollback_if_active (present_of self.old) (transaction_at self.old.tm.now.items id) }
+        ensures journal { self.new.journal ≡ self.old.journal }
         ensures handles { self.new.handles ≡ self.old.handles }
     {
         let Some(t) = self.tm.find(id) else {
@@ -85,7 +86,8 @@ impl Memory {
     // file is closed.
     fn let_go(&mut self, closed: Closed)
         requires { closed.is_last ≡ not (has_handle (handles_of self.old.handles) closed.object) }
-        ensures now { (j : JournalState) → now_of j (held self.new) ≡ with_handle_gone (now_of j (held self.old)) (Some closed.object) }
+        ensures now { present_of self.new ≡ with_handle_gone (present_of self.old) (Some closed.object) }
+        ensures journal { self.new.journal ≡ self.old.journal }
         ensures handles { self.new.handles ≡ self.old.handles }
     {
         if !closed.is_last {
@@ -100,7 +102,8 @@ impl Memory {
 
     // The label is unbound.
     fn close(&mut self, process: Pid, label: Label)
-        ensures { (j : JournalState) → now_of j (held self.new) ≡ with_handle_closed (now_of j (held self.old)) process label }
+        ensures now { present_of self.new ≡ with_handle_closed (present_of self.old) process label }
+        ensures journal { self.new.journal ≡ self.old.journal }
     {
         if let Some(closed) = self.handles.close(process, label) {
             self.let_go(closed);
@@ -109,7 +112,8 @@ impl Memory {
 
     // All labels of the process are unbound.
     fn exit(&mut self, process: Pid)
-        ensures { (j : JournalState) → now_of j (held self.new) ≡ with_process_gone (now_of j (held self.old)) process }
+        ensures now { present_of self.new ≡ with_process_gone (present_of self.old) process }
+        ensures journal { self.new.journal ≡ self.old.journal }
     {
         while let Some(closed) = self.handles.exit_next(process) {
             self.let_go(closed);
@@ -119,7 +123,8 @@ impl Memory {
     // So many milliseconds pass. Each live transaction that is due then rolls back, in order of creation.
     fn tick(&mut self, ms: u32)
         requires { MaySettle self.old (Tick ms) }
-        ensures { (j : JournalState) → now_of j (held self.new) ≡ with_tick (now_of j (held self.old)) ms }
+        ensures now { present_of self.new ≡ with_tick (present_of self.old) ms }
+        ensures journal { self.new.journal ≡ self.old.journal }
     {
         self.tm.advance(ms as u64);
         let mut place = 0;
@@ -135,7 +140,8 @@ impl Memory {
     // A plain call has changed the files, and its label is bound to the file that it opened.
     fn make_plain(&mut self, process: Pid, label: Option<Label>, plan: Plan, ready: Ready)
         requires { MaySettle self.old (Plain process label plan ready) }
-        ensures { (j : JournalState) → now_of j (held self.new) ≡ settled (now_of j (held self.old)) (Plain process label plan ready) }
+        ensures now { present_of self.new ≡ settled (present_of self.old) (Plain process label plan ready) }
+        ensures journal { self.new.journal ≡ self.old.journal }
     {
         let opened = plan.opened;
         self.next_node = next_after(self.next_node, &plan.change);
@@ -148,7 +154,7 @@ impl Memory {
 
     // Has the transaction both changed files and set keys.
     fn is_of_both(&self, t: Transaction) -> bool
-        ensures { (j : JournalState) → result ≡ is_of_both (now_of j (held self.now)) t }
+        ensures { result ≡ is_of_both (present_of self.now) t }
     {
         self.files.has_changes(t.id) && self.keys.has_settings(t.id)
     }
@@ -156,7 +162,8 @@ impl Memory {
     // The transaction has ended, and what it changed and set is committed.
     fn commit(&mut self, t: Transaction)
         requires { MaySettle self.old (Commit t) }
-        ensures { (j : JournalState) → now_of j (held self.new) ≡ settled (now_of j (held self.old)) (Commit t) }
+        ensures now { present_of self.new ≡ settled (present_of self.old) (Commit t) }
+        ensures journal { self.new.journal ≡ self.old.journal }
     {
         let both = self.is_of_both(t);
         self.next_node = self.files.next_after(t.id, self.next_node);
@@ -168,7 +175,8 @@ impl Memory {
     // A transaction with the next number begins, and the label is bound to it.
     fn create(&mut self, process: Pid, label: Label, timeout: u32)
         requires { MaySettle self.old (Create process label timeout) }
-        ensures { (j : JournalState) → now_of j (held self.new) ≡ settled (now_of j (held self.old)) (Create process label timeout) }
+        ensures now { present_of self.new ≡ settled (present_of self.old) (Create process label timeout) }
+        ensures journal { self.new.journal ≡ self.old.journal }
     {
         let id = self.tm.create(timeout);
         self.handles
@@ -178,7 +186,8 @@ impl Memory {
     /// Does what was left to do.
     pub fn settle(&mut self, settlement: Settlement)
         requires { MaySettle self.old settlement }
-        ensures { (j : JournalState) → now_of j (held self.new) ≡ settled (now_of j (held self.old)) settlement }
+        ensures now { present_of self.new ≡ settled (present_of self.old) settlement }
+        ensures journal { self.new.journal ≡ self.old.journal }
     {
         match settlement {
             Settlement::Nothing => {}

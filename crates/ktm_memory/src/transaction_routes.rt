@@ -2,7 +2,7 @@
 ghost use Rattle.std.specs.Prelude.{◌≡◌, true, Some, None};
 ghost use Rattle.ktm_base.specs.declared.refusal.Refusal.TheVariants.{InvalidParameter};
 ghost use Rattle.ktm_built.specs.Standing.{IsStandingNow};
-ghost use Rattle.ktm_memory.specs.Memory.{held, now_of};
+ghost use Rattle.ktm_memory.specs.Memory.{present_of};
 ghost use Rattle.ktm_memory.specs.Route.{Routes};
 ghost use Rattle.ktm_types.specs.declared.command.Command.TheVariants.{CloseHandle, CommitTransaction, CreateTransaction, DuplicateHandle, GetTransactionInformation, OpenTransaction, RollbackTransaction};
 
@@ -10,7 +10,6 @@ use crate::memory::Memory;
 use crate::route::Routed;
 use ktm_base::{Label, Pid, Refusal};
 use ktm_built::law_of_files;
-use ktm_journal::Journal;
 use ktm_tm::rollback_refusal;
 use ktm_types::{Object, Transaction};
 use uuid::Uuid;
@@ -19,13 +18,12 @@ impl Memory {
     // CreateTransaction, whose label is not bound.
     pub(crate) fn to_create(
         &self,
-        journal: &Journal,
         process: Pid,
         label: Label,
         timeout: u32,
     ) -> Result<Routed, Refusal>
         requires { self.now.is_up ≡ true }
-        ensures { Routes journal.now (held self.now) process (CreateTransaction label timeout) result }
+        ensures { Routes (present_of self.now) process (CreateTransaction label timeout) result }
     {
         if self.handles.get(process, label).is_some() {
             return Err(Refusal::InvalidParameter);
@@ -34,21 +32,15 @@ impl Memory {
     }
 
     // OpenTransaction, whose label is not bound, of a live transaction.
-    pub(crate) fn to_open(
-        &self,
-        journal: &Journal,
-        process: Pid,
-        label: Label,
-        guid: &Uuid,
-    ) -> Result<Routed, Refusal>
+    pub(crate) fn to_open(&self, process: Pid, label: Label, guid: &Uuid) -> Result<Routed, Refusal>
         requires up { self.now.is_up ≡ true }
-        requires standing { IsStandingNow (now_of journal.now (held self.now)) }
-        ensures { Routes journal.now (held self.now) process (OpenTransaction label guid.now) result }
+        requires standing { IsStandingNow (present_of self.now) }
+        ensures { Routes (present_of self.now) process (OpenTransaction label guid.now) result }
     {
         if self.handles.get(process, label).is_some() {
             return Err(Refusal::InvalidParameter);
         }
-        match self.with_guid(journal, guid) {
+        match self.with_guid(guid) {
             Some(t) => Ok(Routed::Bind {
                 label,
                 object: Object::Transaction(t.id),
@@ -60,14 +52,13 @@ impl Memory {
     // DuplicateHandle, whose label is not bound, of a handle that is not dead.
     pub(crate) fn to_duplicate(
         &self,
-        journal: &Journal,
         process: Pid,
         label: Label,
         from: Pid,
         source: Label,
     ) -> Result<Routed, Refusal>
         requires { self.now.is_up ≡ true }
-        ensures { Routes journal.now (held self.now) process (DuplicateHandle label from source) result }
+        ensures { Routes (present_of self.now) process (DuplicateHandle label from source) result }
     {
         if let Some(refusal) = self.source_refusal(self.handles.get(from, source)) {
             return Err(refusal);
@@ -83,14 +74,9 @@ impl Memory {
     }
 
     // RollbackTransaction, of a transaction that may be rolled back.
-    pub(crate) fn to_roll_back(
-        &self,
-        journal: &Journal,
-        process: Pid,
-        label: Label,
-    ) -> Result<Routed, Refusal>
+    pub(crate) fn to_roll_back(&self, process: Pid, label: Label) -> Result<Routed, Refusal>
         requires { self.now.is_up ≡ true }
-        ensures { Routes journal.now (held self.now) process (RollbackTransaction label) result }
+        ensures { Routes (present_of self.now) process (RollbackTransaction label) result }
     {
         let Some(t) = self.named(process, label) else {
             return Err(Refusal::InvalidHandle);
@@ -102,14 +88,9 @@ impl Memory {
     }
 
     // GetTransactionInformation, of a transaction.
-    pub(crate) fn to_tell(
-        &self,
-        journal: &Journal,
-        process: Pid,
-        label: Label,
-    ) -> Result<Routed, Refusal>
+    pub(crate) fn to_tell(&self, process: Pid, label: Label) -> Result<Routed, Refusal>
         requires { self.now.is_up ≡ true }
-        ensures { Routes journal.now (held self.now) process (GetTransactionInformation label) result }
+        ensures { Routes (present_of self.now) process (GetTransactionInformation label) result }
     {
         match self.named(process, label) {
             Some(t) => Ok(Routed::Information(t)),
@@ -118,14 +99,9 @@ impl Memory {
     }
 
     // CloseHandle, of a handle.
-    pub(crate) fn to_close(
-        &self,
-        journal: &Journal,
-        process: Pid,
-        label: Label,
-    ) -> Result<Routed, Refusal>
+    pub(crate) fn to_close(&self, process: Pid, label: Label) -> Result<Routed, Refusal>
         requires { self.now.is_up ≡ true }
-        ensures { Routes journal.now (held self.now) process (CloseHandle label) result }
+        ensures { Routes (present_of self.now) process (CloseHandle label) result }
     {
         if self.handles.get(process, label).is_none() {
             return Err(Refusal::InvalidHandle);
@@ -134,15 +110,10 @@ impl Memory {
     }
 
     // CommitTransaction, of an active transaction.
-    pub(crate) fn to_commit(
-        &self,
-        journal: &Journal,
-        process: Pid,
-        label: Label,
-    ) -> Result<Routed, Refusal>
+    pub(crate) fn to_commit(&self, process: Pid, label: Label) -> Result<Routed, Refusal>
         requires up { self.now.is_up ≡ true }
-        requires standing { IsStandingNow (now_of journal.now (held self.now)) }
-        ensures { Routes journal.now (held self.now) process (CommitTransaction label) result }
+        requires standing { IsStandingNow (present_of self.now) }
+        ensures { Routes (present_of self.now) process (CommitTransaction label) result }
     {
         law_of_files();
         match self.active(process, label) {

@@ -1,13 +1,13 @@
 use Rattle.ktm_types.specs.declared.reply.Reply.TheVariants.{Refused}
 use Rattle.ktm_memory.proofs.Decides.{only_decided}
 use Rattle.ktm_memory.proofs.offered.Standing.{built}
-use Rattle.ktm_memory.specs.Memory.{held, now_of}
+use Rattle.ktm_memory.specs.Memory.{present_of}
 use Rattle.std.proofs.Common.{sym, ◌∙◌}
 use Rattle.ktm_memory.proofs.memory.Memory.decide_call.Goals as goal
 
 pub returns-in-Err-clause-ok : goal.returns-in-Err-clause-ok
 returns-in-Err-clause-ok c =
-    rw (c.only.ensures.reply, c.only.ensures.settlement) (only_decided c.args.journal.now c.args.self.now _ (Refused c.in-Err.refusal) c.args.events.now (built (now_of c.args.journal.now (held c.args.self.now)) c.requires.standing) (rw c.in-Err.is at c.route.ensures) c.requires.empty)
+    rw (c.only.ensures.reply, c.only.ensures.settlement) (only_decided c.args.self.now _ (Refused c.in-Err.refusal) c.args.events.now (built (present_of c.args.self.now) c.requires.standing) (rw c.in-Err.is at c.route.ensures) c.requires.empty)
 
 pub returns-in-Ok-clause-enough : goal.returns-in-Ok-clause-enough
 returns-in-Ok-clause-enough c =

@@ -6,7 +6,7 @@ use Rattle.std.specs.List.{list_all}
 use Rattle.txf_overlay.specs.OverlayState.{is_of_names}
 use Rattle.txf_volume.specs.Commit.{MayCommit}
 use Rattle.txf_volume.specs.Held.{files_of}
-use Rattle.ktm_memory.specs.Memory.{MemoryState, held, now_of}
+use Rattle.ktm_memory.specs.Memory.{MemoryState, held, present_of}
 use Rattle.ktm_memory.proofs.CommitGroups.{can_commit, commit_full, events_of, room_from}
 use Rattle.ktm_memory.proofs.Decides.{commit_decided}
 use Rattle.ktm_memory.proofs.offered.Standing.{built}
@@ -16,23 +16,24 @@ use Rattle.ktm_memory.proofs.memory.Memory.decide_commit.Goals as goal
 
 pub returns-then-not-record_commit-clause-ok : goal.returns-then-not-record_commit-clause-ok
 returns-then-not-record_commit-clause-ok c =
-    let x = now_of c.args.journal.now (held c.args.self.now) in
-    let left = c.args.journal.now.log.area.len - c.args.journal.now.log.end in (
-      commit_full x left c.args.t (built x c.requires.standing) c.requires.there
-          (sym c.if-not-record_commit.true ∙ c.record_commit.ensures.full ∙ ap (λ es. not (is_full left es))
-          (ap (λ (f : FilesNow). events_of c.args.t.id f c.reserve.new.self.keys) c.in_ok-prepare_commit.ensures.same
-          ∙ ap (events_of c.args.t.id (files_of c.self.inside.files)) c.in_ok-reserve.ensures.keys ∙ ap (λ (m : MemoryState). events_of c.args.t.id (files_of m.files) m.keys.keys) c.self.view_is)),
+    let x = present_of c.args.self.now in
+    let taken = ap (λ (f : FilesNow). events_of c.args.t.id f c.reserve.new.self.keys) c.in_ok-prepare_commit.ensures.same ∙ ap (events_of c.args.t.id (files_of c.self.inside.files)) c.in_ok-reserve.ensures.keys in
+    let full = c.record_commit.ensures.full ∙ ap (λ es. not (is_full (c.self.inside.journal.log.area.len - c.self.inside.journal.log.end) es)) taken
+    ∙ ap (λ (m : MemoryState). not (is_full (present_of m).machine.left (events_of c.args.t.id (files_of m.files) m.keys.keys))) c.self.view_is in (
+      commit_full x x.machine.left c.args.t (built x c.requires.standing) c.requires.there
+          (sym c.if-not-record_commit.true ∙ full),
       rw (← c.self.view_is) (rw (c.in_ok-reserve.ensures.keys, c.in_ok-prepare_commit.ensures.same) refl),
     )
 
 pub returns-clause-ok : goal.returns-clause-ok
 returns-clause-ok c =
-    let x = now_of c.args.journal.now (held c.args.self.now) in
-    let left = c.args.journal.now.log.area.len - c.args.journal.now.log.end in
-    let same = (ap (λ (f : FilesNow). events_of c.args.t.id f c.reserve.new.self.keys) c.in_ok-prepare_commit.ensures.same
-    ∙ ap (events_of c.args.t.id (files_of c.self.inside.files)) c.in_ok-reserve.ensures.keys ∙ ap (λ (m : MemoryState). events_of c.args.t.id (files_of m.files) m.keys.keys) c.self.view_is) in
-    let room = room_from _ (sym c.if-not-record_commit.false ∙ c.record_commit.ensures.full ∙ ap (λ es. not (is_full left es)) same) in
-    commit_decided c.args.journal.now (held c.args.self.now) _ c.args.t c.record_commit.new.events (built x c.requires.standing) c.requires.there
+    let x = present_of c.args.self.now in
+    let taken = ap (λ (f : FilesNow). events_of c.args.t.id f c.reserve.new.self.keys) c.in_ok-prepare_commit.ensures.same ∙ ap (events_of c.args.t.id (files_of c.self.inside.files)) c.in_ok-reserve.ensures.keys in
+    let full = c.record_commit.ensures.full ∙ ap (λ es. not (is_full (c.self.inside.journal.log.area.len - c.self.inside.journal.log.end) es)) taken
+    ∙ ap (λ (m : MemoryState). not (is_full (present_of m).machine.left (events_of c.args.t.id (files_of m.files) m.keys.keys))) c.self.view_is in
+    let same = taken ∙ ap (λ (m : MemoryState). events_of c.args.t.id (files_of m.files) m.keys.keys) c.self.view_is in
+    let room = room_from _ (sym c.if-not-record_commit.false ∙ full) in
+    commit_decided (held c.args.self.now) _ c.args.t c.record_commit.new.events (built x c.requires.standing) c.requires.there
     (rw (← c.self.view_is) (rw (c.in_ok-reserve.ensures.keys, c.in_ok-prepare_commit.ensures.same) refl))
     (can_commit x _ c.args.t (c.in_ok-prepare_commit.ensures.same ∙ ap (λ (m : MemoryState). files_of m.files) c.self.view_is) (c.requires.ready room) c.in_ok-prepare_commit.ensures.ready (rw c.in_ok-reserve.ensures.keys c.in_ok-reserve.ensures.room))
     (subst (Holds c.record_commit.new.events) same (c.record_commit.ensures.recorded c.if-not-record_commit.false)) room

@@ -7,7 +7,7 @@ use Rattle.ktm_tm.specs.TmState.{next_id}
 use Rattle.ktm_world.specs.Handles.{no_handle_left, object_at}
 use Rattle.ktm_world.specs.TransactionCalls.{create_transaction, no_transaction_left}
 use Rattle.ktm_types.specs.declared.reply.Reply.TheVariants.{Refused}
-use Rattle.ktm_memory.specs.Memory.{held, now_of}
+use Rattle.ktm_memory.specs.Memory.{held, present_of}
 use Rattle.ktm_memory.proofs.Decides.{create_decided, create_says, only_decided}
 use Rattle.ktm_memory.proofs.Routes.{test_passes, test_refuses}
 use Rattle.ktm_memory.proofs.offered.Standing.{built}
@@ -22,8 +22,8 @@ returns-then-is_full-clause-ok c = λ events holds.
       | then-is_full-via-else-is_full+then-is_full-2 w ↦ or_right _ _ (sym w.is_full-else-is_full.ensures ∙ w.if-is_full-2.true)
     ] in
     let full = ap (λ m. no_handle_left (handles_of m.handles) || no_transaction_left m.tm.now) (sym c.self.view_is) ∙ passed in
-    let x = now_of c.args.journal.now (held c.args.self.now) in
-    rw (c.only.ensures.reply, c.only.ensures.settlement) (only_decided c.args.journal.now c.args.self.now _ (Refused NotEnoughQuota) events (built (now_of c.args.journal.now (held c.args.self.now)) c.requires.standing)
+    let x = present_of c.args.self.now in
+    rw (c.only.ensures.reply, c.only.ensures.settlement) (only_decided c.args.self.now _ (Refused NotEnoughQuota) events (built (present_of c.args.self.now) c.requires.standing)
     (test_refuses x _ NotEnoughQuota [] (create_transaction x c.args.process c.args.label c.args.timeout) full) holds)
 
 pub returns-clause-ok : goal.returns-clause-ok
@@ -31,9 +31,9 @@ returns-clause-ok c = λ events holds.
     let handles = ap (λ m. no_handle_left (handles_of m.handles)) (sym c.self.view_is) ∙ sym c.is_full.ensures ∙ c.if-is_full.false in
     let transactions = ap (λ m. no_transaction_left m.tm.now) (sym c.self.view_is) ∙ sym c.is_full-else-is_full.ensures ∙ c.if-is_full-2.false in
     let id = c.next_id-id.ensures ∙ ap (λ boot. next_id boot c.reserve.new.self.now) c.in_ok-reserve.ensures.boot ∙ ap (λ now. next_id c.self.inside.tm.boot now) c.in_ok-reserve.ensures.now ∙ ap (λ m. next_id m.tm.boot m.tm.now) c.self.view_is in
-    let x = now_of c.args.journal.now (held c.args.self.now) in
-    create_decided c.args.journal.now (held c.args.self.now) _ c.args.process c.args.label c.args.timeout _ events (built (now_of c.args.journal.now (held c.args.self.now)) c.requires.standing)
-    (create_says c.args.journal.now (held c.args.self.now) c.args.process c.args.label c.args.timeout c.guid.result c.image.result c.next_id-id.result c.guid.ensures c.image.ensures id)
+    let x = present_of c.args.self.now in
+    create_decided (held c.args.self.now) _ c.args.process c.args.label c.args.timeout _ events (built (present_of c.args.self.now) c.requires.standing)
+    (create_says (held c.args.self.now) c.args.process c.args.label c.args.timeout c.guid.result c.image.result c.next_id-id.result c.guid.ensures (c.image.ensures ∙ ap (λ m. m.journal.image) c.self.view_is) id)
     (rw (← c.self.view_is) (rw (c.in_ok-reserve-2.ensures.entries, c.in_ok-reserve.ensures.boot, c.in_ok-reserve.ensures.now) refl)) (
       c.in_ok-reserve.ensures.room,
       c.in_ok-reserve-2.ensures.room,

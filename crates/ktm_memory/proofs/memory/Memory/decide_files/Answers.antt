@@ -5,7 +5,7 @@ use Rattle.ktm_world.specs.Outcome.{only_reply}
 use Rattle.txf_laws.specs.FileEffects.{IsOrderly}
 use Rattle.txf_volume.specs.Held.{files_of}
 use Rattle.ktm_memory.specs.Decided.{CanAnswer, Decides}
-use Rattle.ktm_memory.specs.Memory.{held, now_of}
+use Rattle.ktm_memory.specs.Memory.{held, present_of}
 use Rattle.ktm_memory.specs.Route.{files_outcome}
 use Rattle.ktm_memory.proofs.Decides.{only_decided}
 use Rattle.ktm_memory.proofs.FilesDecided.{may_make, planned, quiet_outcome}
@@ -15,52 +15,52 @@ use Rattle.ktm_memory.proofs.memory.Memory.decide_files.Goals as goal
 
 pub decide-requires-clause-orderly : goal.decide-requires-clause-orderly
 decide-requires-clause-orderly c =
-    subst (λ m. IsOrderly (files_of m.files)) (sym c.self.view_is) (c.law_of_files.ensures.orderly (now_of c.args.journal.now (held c.args.self.now)) c.requires.standing)
+    subst (λ m. IsOrderly (files_of m.files)) (sym c.self.view_is) (c.law_of_files.ensures.orderly (present_of c.args.self.now) c.requires.standing)
 
 pub returns-then-changes_nothing-clause-ok : goal.returns-then-changes_nothing-clause-ok
 returns-then-changes_nothing-clause-ok c =
-    let x = now_of c.args.journal.now (held c.args.self.now) in
-    let plan = planned c.args.journal.now (held c.args.self.now) _ _ c.args.who c.args.call c.in_ok-plan.plan c.in_ok-plan.ensures.plan c.file_room-room.ensures (ap (λ m. files_of m.files) c.self.view_is) in
+    let x = present_of c.args.self.now in
+    let plan = planned (held c.args.self.now) _ _ c.args.who c.args.call c.in_ok-plan.plan c.in_ok-plan.ensures.plan c.file_room-room.ensures (ap (λ m. files_of m.files) c.self.view_is) in
     let quiet = quiet_outcome x c.args.process c.args.who c.args.label c.in_ok-plan.plan (sym c.changes_nothing.ensures ∙ c.if-changes_nothing.true) in
     let reply = c.only.ensures.reply ∙ ap (λ (p : FileOutcome). p.reply) c.plan.view_is in
     rw c.only.ensures.settlement
-    (only_decided c.args.journal.now c.args.self.now _ c.only.result.reply c.args.events.now (built x c.requires.standing)
+    (only_decided c.args.self.now _ c.only.result.reply c.args.events.now (built x c.requires.standing)
     (ap (files_outcome x c.args.process c.args.who c.args.label) (sym plan) ∙ quiet ∙ ap (only_reply x) (sym reply)) c.requires.empty)
 
 pub decide_plain-requires-clause-may : goal.decide_plain-requires-clause-may
 decide_plain-requires-clause-may c =
-    let x = now_of c.args.journal.now (held c.args.self.now) in
-    let plan = planned c.args.journal.now (held c.args.self.now) _ _ c.args.who c.args.call c.in_ok-plan.plan c.in_ok-plan.ensures.plan c.file_room-room.ensures (ap (λ m. files_of m.files) c.self.view_is) in
+    let x = present_of c.args.self.now in
+    let plan = planned (held c.args.self.now) _ _ c.args.who c.args.call c.in_ok-plan.plan c.in_ok-plan.ensures.plan c.file_room-room.ensures (ap (λ m. files_of m.files) c.self.view_is) in
     subst (λ who. MayMake x who c.in_ok-plan.plan) c.in-None.is
     (may_make x c.args.process c.args.who c.args.label c.args.call c.in_ok-plan.plan c.requires.ready plan (sym c.changes_nothing.ensures ∙ c.if-changes_nothing.false)).0
 
 pub decide_plain-requires-clause-answers : goal.decide_plain-requires-clause-answers
 decide_plain-requires-clause-answers c =
-    let x = now_of c.args.journal.now (held c.args.self.now) in
-    let plan = planned c.args.journal.now (held c.args.self.now) _ _ c.args.who c.args.call c.in_ok-plan.plan c.in_ok-plan.ensures.plan c.file_room-room.ensures (ap (λ m. files_of m.files) c.self.view_is) in
+    let x = present_of c.args.self.now in
+    let plan = planned (held c.args.self.now) _ _ c.args.who c.args.call c.in_ok-plan.plan c.in_ok-plan.ensures.plan c.file_room-room.ensures (ap (λ m. files_of m.files) c.self.view_is) in
     subst (λ who. CanAnswer who c.in_ok-plan.plan) c.in-None.is
     (may_make x c.args.process c.args.who c.args.label c.args.call c.in_ok-plan.plan c.requires.ready plan (sym c.changes_nothing.ensures ∙ c.if-changes_nothing.false)).1
 
 pub returns-in_ok-decide_own-in-Some-clause-ok : goal.returns-in_ok-decide_own-in-Some-clause-ok
 returns-in_ok-decide_own-in-Some-clause-ok c =
-    let x = now_of c.args.journal.now (held c.args.self.now) in
-    let plan = planned c.args.journal.now (held c.args.self.now) _ _ c.args.who c.args.call c.in_ok-plan.plan c.in_ok-plan.ensures.plan c.file_room-room.ensures (ap (λ m. files_of m.files) c.self.view_is) in
+    let x = present_of c.args.self.now in
+    let plan = planned (held c.args.self.now) _ _ c.args.who c.args.call c.in_ok-plan.plan c.in_ok-plan.ensures.plan c.file_room-room.ensures (ap (λ m. files_of m.files) c.self.view_is) in
     let d = c.in_ok-decide_own-in-Some.field-0 in
-    subst (λ o. Decides c.args.journal.now (held c.args.self.now) (files_outcome x c.args.process c.args.who c.args.label o) d.reply d.settlement c.args.events.now c.decide_own.new.self) plan
-    (subst (λ who. Decides c.args.journal.now (held c.args.self.now) (files_outcome x c.args.process who c.args.label c.in_ok-plan.plan) d.reply d.settlement c.args.events.now c.decide_own.new.self) (sym c.in-Some.is)
+    subst (λ o. Decides (held c.args.self.now) (files_outcome x c.args.process c.args.who c.args.label o) d.reply d.settlement c.args.events.now c.decide_own.new.self) plan
+    (subst (λ who. Decides (held c.args.self.now) (files_outcome x c.args.process who c.args.label c.in_ok-plan.plan) d.reply d.settlement c.args.events.now c.decide_own.new.self) (sym c.in-Some.is)
     (c.in_ok-decide_own-in-Some.ensures.ok c.args.events.now c.requires.empty))
 
 pub returns-in_err-plan-clause-enough : goal.returns-in_err-plan-clause-enough
-returns-in_err-plan-clause-enough c = λ none. gave_up (c.in_err-plan.ensures.enough (quick_decision (now_of c.args.journal.now (held c.args.self.now)) c.args.who c.args.call none))
+returns-in_err-plan-clause-enough c = λ none. gave_up (c.in_err-plan.ensures.enough (quick_decision (present_of c.args.self.now) c.args.who c.args.call none))
 
 pub returns-in_err-decide_own-in-Some-clause-enough : goal.returns-in_err-decide_own-in-Some-clause-enough
 returns-in_err-decide_own-in-Some-clause-enough c = λ none.
-    let x = now_of c.args.journal.now (held c.args.self.now) in
-    let plan = planned c.args.journal.now (held c.args.self.now) _ _ c.args.who c.args.call c.in_ok-plan.plan c.in_ok-plan.ensures.plan c.file_room-room.ensures (ap (λ m. files_of m.files) c.self.view_is) in
+    let x = present_of c.args.self.now in
+    let plan = planned (held c.args.self.now) _ _ c.args.who c.args.call c.in_ok-plan.plan c.in_ok-plan.ensures.plan c.file_room-room.ensures (ap (λ m. files_of m.files) c.self.view_is) in
     absurd (own_quiet x c.args.who c.args.call none c.in_ok-plan.plan plan (sym c.changes_nothing.ensures ∙ c.if-changes_nothing.false) c.in-Some.id c.in-Some.is)
 
 pub returns-in-None-clause-enough : goal.returns-in-None-clause-enough
 returns-in-None-clause-enough c = λ none.
-    let x = now_of c.args.journal.now (held c.args.self.now) in
-    let plan = planned c.args.journal.now (held c.args.self.now) _ _ c.args.who c.args.call c.in_ok-plan.plan c.in_ok-plan.ensures.plan c.file_room-room.ensures (ap (λ m. files_of m.files) c.self.view_is) in
+    let x = present_of c.args.self.now in
+    let plan = planned (held c.args.self.now) _ _ c.args.who c.args.call c.in_ok-plan.plan c.in_ok-plan.ensures.plan c.file_room-room.ensures (ap (λ m. files_of m.files) c.self.view_is) in
     c.decide_plain.ensures.full (plain_full x c.args.who c.args.call none c.in_ok-plan.plan plan (sym c.changes_nothing.ensures ∙ c.if-changes_nothing.false) c.in-None.is)

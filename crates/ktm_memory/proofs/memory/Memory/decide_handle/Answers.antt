@@ -3,7 +3,7 @@ use Rattle.ktm_base.specs.declared.refusal.Refusal.TheVariants.{NotEnoughQuota}
 use Rattle.ktm_object.specs.Table.{handles_of}
 use Rattle.ktm_types.specs.declared.reply.Reply.TheVariants.{Refused}
 use Rattle.ktm_world.specs.Handles.{no_handle_left}
-use Rattle.ktm_memory.specs.Memory.{held, now_of}
+use Rattle.ktm_memory.specs.Memory.{present_of}
 use Rattle.ktm_memory.proofs.Decides.{only_decided}
 use Rattle.ktm_memory.proofs.Routes.{test_refuses}
 use Rattle.ktm_memory.proofs.offered.Takes.{gave_up, not_refused}
@@ -12,8 +12,8 @@ use Rattle.ktm_memory.proofs.memory.Memory.decide_handle.Goals as goal
 pub returns-then-is_full-clause-ok : goal.returns-then-is_full-clause-ok
 returns-then-is_full-clause-ok c = λ o comes events holds.
     let full = ap (λ m. no_handle_left (handles_of m.handles)) (sym c.self.view_is) ∙ sym c.is_full.ensures ∙ c.if-is_full.true in
-    rw (c.only.ensures.reply, c.only.ensures.settlement) (only_decided c.args.journal.now c.args.self.now _ (Refused NotEnoughQuota) events c.requires.built
-    (test_refuses (now_of c.args.journal.now (held c.args.self.now)) _ NotEnoughQuota [] o full) holds)
+    rw (c.only.ensures.reply, c.only.ensures.settlement) (only_decided c.args.self.now _ (Refused NotEnoughQuota) events c.requires.built
+    (test_refuses (present_of c.args.self.now) _ NotEnoughQuota [] o full) holds)
 
 pub returns-in_err-reserve-clause-enough : goal.returns-in_err-reserve-clause-enough
 returns-in_err-reserve-clause-enough c = λ none.

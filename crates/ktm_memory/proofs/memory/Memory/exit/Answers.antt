@@ -4,7 +4,7 @@ use Rattle.ktm_built.specs.Forms.{with_process_gone}
 use Rattle.ktm_object.specs.Table.{HandleTable, handles_of}
 use Rattle.ktm_types.specs.declared.object.Handle.{Handle}
 use Rattle.ktm_world.specs.HandleCalls.{has_handle, labels_of}
-use Rattle.ktm_memory.specs.Memory.{held, now_of}
+use Rattle.ktm_memory.specs.Memory.{held, now_of, present_of}
 use Rattle.ktm_memory.proofs.Closings.{closed_held, closed_is, exited_none, exited_one, first_closed}
 use Rattle.ktm_memory.proofs.memory.Memory.exit.Goals as goal
 
@@ -15,15 +15,18 @@ let_go-requires c =
     is.last ∙ ap (λ (hs : List Handle). not (has_handle hs c.in-Some.closed.object)) (sym c.in-Some.ensures.handles)
 
 pub loop-closed-preserved : goal.loop-closed-preserved
-loop-closed-preserved c = λ j.
-    let h = held (record { is_up = c.self.inside.is_up; handles = c.self.inside.handles; tm = c.self.inside.tm; files = c.self.inside.files; next_node = c.self.inside.next_node; keys = c.self.inside.keys }) in
+loop-closed-preserved c =
+    let h = held (record { is_up = c.self.inside.is_up; journal = c.self.inside.journal; handles = c.self.inside.handles; tm = c.self.inside.tm; files = c.self.inside.files; next_node = c.self.inside.next_node; keys = c.self.inside.keys }) in
     let is = closed_is (handles_of c.self.inside.handles) c.args.process c.in-Some.closed.label c.in-Some.closed
     (first_closed (handles_of c.self.inside.handles) c.args.process c.in-Some.closed (labels_of (handles_of c.exit_next.new.self) c.args.process) c.in-Some.ensures.labels c.in-Some.ensures.closed) in
-    exited_one (now_of j h) (now_of j (held c.let_go.new.self)) c.args.process c.in-Some.closed.label
-    (c.in-Some.ensures.labels ∙ ap (λ (t : HandleTable). c.in-Some.closed.label ∷ labels_of (handles_of t) c.args.process) (sym c.let_go.ensures.handles))
-    (c.let_go.ensures.now j ∙ closed_held j h c.args.process c.in-Some.closed.label c.in-Some.closed (handles_of c.exit_next.new.self) c.in-Some.ensures.handles is)
-    ∙ ap (λ m. with_process_gone (now_of j (held m)) c.args.process) c.self.view_is
-    ∙ c.loop-closed.invariant j
+    record {
+      gone = exited_one (now_of h) (present_of c.let_go.new.self) c.args.process c.in-Some.closed.label
+          (c.in-Some.ensures.labels ∙ ap (λ (t : HandleTable). c.in-Some.closed.label ∷ labels_of (handles_of t) c.args.process) (sym c.let_go.ensures.handles))
+          (c.let_go.ensures.now ∙ closed_held h c.args.process c.in-Some.closed.label c.in-Some.closed (handles_of c.exit_next.new.self) c.in-Some.ensures.handles is)
+          ∙ ap (λ m. with_process_gone (present_of m) c.args.process) c.self.view_is
+          ∙ c.loop-closed.invariant.gone;
+      journal = c.let_go.ensures.journal ∙ ap (λ m. m.journal) c.self.view_is ∙ c.loop-closed.invariant.journal;
+    }
 
 pub loop-closed-smaller : goal.loop-closed-smaller
 loop-closed-smaller c =
@@ -31,10 +34,10 @@ loop-closed-smaller c =
     ∙ ap (λ (t : HandleTable). c.in-Some.closed.label ∷ labels_of (handles_of t) c.args.process) (sym c.let_go.ensures.handles) in
     omega (arith, ap (λ (ls : List Label). length ls) labels)
 
-pub returns : goal.returns
-returns c = λ j.
-    let x = now_of j (held (record { is_up = c.self.inside.is_up; handles = c.self.inside.handles; tm = c.self.inside.tm; files = c.self.inside.files; next_node = c.self.inside.next_node; keys = c.self.inside.keys })) in
+pub returns-clause-now : goal.returns-clause-now
+returns-clause-now c =
+    let x = now_of (held (record { is_up = c.self.inside.is_up; journal = c.self.inside.journal; handles = c.self.inside.handles; tm = c.self.inside.tm; files = c.self.inside.files; next_node = c.self.inside.next_node; keys = c.self.inside.keys })) in
     ap (λ (t : HandleTable). record x { handles = handles_of t }) c.in_default.ensures.unchanged
     ∙ sym (exited_none x c.args.process c.in_default.ensures.none)
-    ∙ ap (λ m. with_process_gone (now_of j (held m)) c.args.process) c.self.view_is
-    ∙ c.loop-closed.invariant j
+    ∙ ap (λ m. with_process_gone (present_of m) c.args.process) c.self.view_is
+    ∙ c.loop-closed.invariant.gone

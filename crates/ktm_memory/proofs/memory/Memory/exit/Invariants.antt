@@ -1,13 +1,15 @@
 use Rattle.std.proofs.Common.{◌≡◌, length}
 use Rattle.ktm_built.specs.Forms.{with_process_gone}
-use Rattle.ktm_journal.specs.Image.{JournalState}
-use Rattle.ktm_memory.specs.Memory.{held, now_of}
+use Rattle.ktm_memory.specs.Memory.{present_of}
 use Rattle.ktm_object.specs.Table.{handles_of}
 use Rattle.ktm_world.specs.HandleCalls.{labels_of}
 use Rattle.ktm_memory.proofs.memory.Memory.exit.Given as goal
 
 abbrev pub invariant-loop-closed : goal.invariant-loop-closed
-invariant-loop-closed l = (j : JournalState) → with_process_gone (now_of j (held l.self)) l.process ≡ with_process_gone (now_of j (held l.fn.self)) l.process
+invariant-loop-closed l = record {
+  gone : with_process_gone (present_of l.self) l.process ≡ with_process_gone (present_of l.fn.self) l.process;
+  journal : l.self.journal ≡ l.fn.self.journal;
+}
 
 abbrev pub decreases-loop-closed : goal.decreases-loop-closed
 decreases-loop-closed l = length (labels_of (handles_of l.self.handles) l.process)

@@ -8,8 +8,8 @@ use Rattle.ktm_memory.proofs.memory.Memory.file_room.Goals as goal
 
 pub returns : goal.returns
 returns c =
-    file_room_is c.args.journal.now (held c.args.self.now) c.left.result c.saturating_sub.result c.units-2.result c.unset_count.result
+    file_room_is (held c.args.self.now) c.left.result c.saturating_sub.result c.units-2.result c.unset_count.result
     (c.left.ensures ∙ ap (λ m. MOST_HANDLES - length (handles_of m.handles)) c.self.view_is)
     (c.unset_count.ensures ∙ ap (λ m. keys_unset m.keys.keys) c.self.view_is)
-    c.units-2.ensures
-    (c.saturating_sub.ensures ∙ ap (λ n. n - c.unset_count.result) c.units.ensures)
+    (c.units-2.ensures ∙ ap (λ m. m.journal.units) c.self.view_is)
+    (c.saturating_sub.ensures ∙ ap (λ n. n - c.unset_count.result) (c.units.ensures ∙ ap (λ m. m.journal.units) c.self.view_is))

@@ -4,7 +4,7 @@ use Rattle.ktm_world.specs.Handles.{object_at}
 use Rattle.ktm_world.specs.Labels.{file_number, open_file_at}
 use Rattle.txf_calls.specs.Views.{open_of}
 use Rattle.txf_volume.specs.Held.{files_of}
-use Rattle.ktm_memory.specs.Memory.{held, now_of}
+use Rattle.ktm_memory.specs.Memory.{present_of}
 use Rattle.ktm_memory.proofs.FileRoutes.{found_named, suspended_or}
 use Rattle.ktm_memory.proofs.memory.Memory.open_file.Goals as goal
 
@@ -13,14 +13,13 @@ returns-then-is_suspended-clause-err c =
     let named = ap (λ m. file_number (object_at (handles_of m.handles) c.args.process c.args.label)) (sym c.self.view_is) ∙ ap file_number (sym c.get.ensures) ∙ sym c.file_number.ensures ∙ c.in-Some.is in
     let alive = sym c.dead_refusal.ensures ∙ c.in_default-dead_refusal.is in
     let found = ap (λ m. open_file_at (files_of m.files).table.opens c.in-Some.number) (sym c.self.view_is) ∙ sym c.open_file.ensures ∙ ap (option_map open_of) c.in-Some-open_file.is in
-    λ j. suspended_or (now_of j (held c.args.self.now)) c.args.process c.args.label c.in-Some.number named (open_of c.in-Some-open_file.file) true alive found (sym (c.is_suspended.ensures j) ∙ c.if-is_suspended.true)
+    suspended_or (present_of c.args.self.now) c.args.process c.args.label c.in-Some.number named (open_of c.in-Some-open_file.file) true alive found (sym (c.is_suspended.ensures) ∙ c.if-is_suspended.true)
 
 pub returns-clause-ok : goal.returns-clause-ok
 returns-clause-ok c =
     let named = ap (λ m. file_number (object_at (handles_of m.handles) c.args.process c.args.label)) (sym c.self.view_is) ∙ ap file_number (sym c.get.ensures) ∙ sym c.file_number.ensures ∙ c.in-Some.is in
     let alive = sym c.dead_refusal.ensures ∙ c.in_default-dead_refusal.is in
-    let found = ap (λ m. open_file_at (files_of m.files).table.opens c.in-Some.number) (sym c.self.view_is) ∙ sym c.open_file.ensures ∙ ap (option_map open_of) c.in-Some-open_file.is in
-    λ j. (
-      found_named (now_of j (held c.args.self.now)) c.args.process c.args.label c.in-Some.number named (Some (open_of c.in-Some-open_file.file)) found,
-      suspended_or (now_of j (held c.args.self.now)) c.args.process c.args.label c.in-Some.number named (open_of c.in-Some-open_file.file) false alive found (sym (c.is_suspended.ensures j) ∙ c.if-is_suspended.false),
+    let found = ap (λ m. open_file_at (files_of m.files).table.opens c.in-Some.number) (sym c.self.view_is) ∙ sym c.open_file.ensures ∙ ap (option_map open_of) c.in-Some-open_file.is in (
+      found_named (present_of c.args.self.now) c.args.process c.args.label c.in-Some.number named (Some (open_of c.in-Some-open_file.file)) found,
+      suspended_or (present_of c.args.self.now) c.args.process c.args.label c.in-Some.number named (open_of c.in-Some-open_file.file) false alive found (sym (c.is_suspended.ensures) ∙ c.if-is_suspended.false),
     )

@@ -9,7 +9,7 @@ use Rattle.ktm_types.specs.declared.object.Transaction.{Transaction}
 use Rattle.ktm_types.specs.declared.object.TransactionOutcome.{TransactionOutcome}
 use Rattle.ktm_world.specs.Transactions.{is_live}
 use Rattle.ktm_world.specs.TransactionCalls.{is_due}
-use Rattle.ktm_memory.specs.Memory.{held, now_of}
+use Rattle.ktm_memory.specs.Memory.{held, now_of, present_of}
 use Rattle.ktm_memory.proofs.Settles.{items_then}
 use Rattle.ktm_memory.proofs.Ticks.{live_at, ticked_all, ticked_due, ticked_from, ticked_none, ticked_over}
 use Rattle.ktm_memory.proofs.memory.Memory.tick.Goals as goal
@@ -20,10 +20,11 @@ loop-t-init c =
     record {
       rise = subst Rise (sym items) c.requires.0;
       few = subst (λ (ts : List Transaction). length (filter is_live ts) ≤ MOST_LIVE) (sym items) (omega (arith, length-filter is_live c.args.self.now.tm.now.items, c.requires.1));
-      ticked = λ j.
+      journal = ap (λ m. m.journal) c.self.view_is;
+      ticked =
           rw (c.advance.ensures.boot, c.advance.ensures.now)
-          (ticked_all (now_of j (held (record { is_up = c.self.inside.is_up; handles = c.self.inside.handles; tm = c.self.inside.tm; files = c.self.inside.files; next_node = c.self.inside.next_node; keys = c.self.inside.keys }))) c.args.ms (subst (λ m. Rise m.tm.now.items) (sym c.self.view_is) c.requires.0)
-          ∙ ap (λ m. with_tick (now_of j (held m)) c.args.ms) c.self.view_is);
+          (ticked_all (now_of (held (record { is_up = c.self.inside.is_up; journal = c.self.inside.journal; handles = c.self.inside.handles; tm = c.self.inside.tm; files = c.self.inside.files; next_node = c.self.inside.next_node; keys = c.self.inside.keys }))) c.args.ms (subst (λ m. Rise m.tm.now.items) (sym c.self.view_is) c.requires.0)
+          ∙ ap (λ m. with_tick (present_of m) c.args.ms) c.self.view_is);
     }
 
 pub loop-t-preserved : goal.loop-t-preserved
@@ -33,9 +34,10 @@ loop-t-preserved c =
     record {
       rise = c.loop-t.invariant.rise;
       few = c.loop-t.invariant.few;
-      ticked = λ j.
+      journal = c.loop-t.invariant.journal;
+      ticked =
           let next : c.loop-t.place + 1 ≡ suc c.loop-t.place = omega arith in
-          ap (ticked_from (now_of j (held c.loop-t.self))) next ∙ ticked_over (now_of j (held c.loop-t.self)) c.loop-t.place c.in-Some.t at later ∙ c.loop-t.invariant.ticked j;
+          ap (ticked_from (present_of c.loop-t.self)) next ∙ ticked_over (present_of c.loop-t.self) c.loop-t.place c.in-Some.t at later ∙ c.loop-t.invariant.ticked;
     }
 
 pub loop-t-smaller : goal.loop-t-smaller
@@ -53,8 +55,9 @@ loop-t-preserved-then-is_due c =
     record {
       rise = subst Rise (sym items) (rise-ended TransactionOutcome.Aborted c.loop-t.self.tm.now.items c.in-Some.t.id c.loop-t.invariant.rise);
       few = subst (λ (ts : List Transaction). length (filter is_live ts) ≤ MOST_LIVE) (sym items) (omega (arith, at.fewer, c.loop-t.invariant.few));
-      ticked = λ j.
-          ap (λ x. ticked_from x c.loop-t.place) (c.roll_back.ensures.now j) ∙ ticked_due (now_of j (held c.loop-t.self)) c.loop-t.place c.in-Some.t at due ∙ c.loop-t.invariant.ticked j;
+      journal = c.roll_back.ensures.journal ∙ c.loop-t.invariant.journal;
+      ticked =
+          ap (λ x. ticked_from x c.loop-t.place) (c.roll_back.ensures.now) ∙ ticked_due (present_of c.loop-t.self) c.loop-t.place c.in-Some.t at due ∙ c.loop-t.invariant.ticked;
     }
 
 pub loop-t-smaller-then-is_due : goal.loop-t-smaller-then-is_due
@@ -64,8 +67,8 @@ loop-t-smaller-then-is_due c =
     let items = items_then c.loop-t.self c.roll_back.new.self c.in-Some.t c.roll_back.ensures.now in
     omega (arith, at.fewer, ap (λ (ts : List Transaction). length (filter is_live ts)) items, slice_get_within (filter is_live c.loop-t.self.tm.now.items) c.loop-t.place c.in-Some.t get)
 
-pub returns : goal.returns
-returns c = λ j.
-    sym (ticked_none (now_of j (held c.loop-t.self)) c.loop-t.place
+pub returns-clause-now : goal.returns-clause-now
+returns-clause-now c =
+    sym (ticked_none (present_of c.loop-t.self) c.loop-t.place
     (ap (λ m. slice_get (filter is_live m.tm.now.items) c.loop-t.place) (sym c.self-in-loop-t.view_is) ∙ sym c.live_at.ensures ∙ c.in_default.is))
-    ∙ c.loop-t.invariant.ticked j
+    ∙ c.loop-t.invariant.ticked

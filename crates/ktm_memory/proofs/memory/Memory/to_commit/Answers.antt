@@ -1,17 +1,17 @@
 use Rattle.ktm_built.proofs.offered.Forms.{named_law}
-use Rattle.ktm_memory.specs.Memory.{held, now_of}
+use Rattle.ktm_memory.specs.Memory.{present_of}
 use Rattle.ktm_memory.proofs.Routes.{commit_refused, commit_routed}
 use Rattle.ktm_memory.proofs.offered.Takes.{commit_takes}
 use Rattle.ktm_memory.proofs.memory.Memory.to_commit.Goals as goal
 
 pub returns-in-Ok : goal.returns-in-Ok
 returns-in-Ok c =
-    let x = now_of c.args.journal.now (held c.args.self.now) in
-    let (named, passed) = c.in-Ok.ensures.ok c.args.journal.now in (
+    let x = present_of c.args.self.now in
+    let (named, passed) = c.in-Ok.ensures.ok in (
       commit_routed x c.args.process c.requires.up c.args.label c.in-Ok.t named passed,
       (named_law x c.args.process c.args.label c.in-Ok.t named, c.law_of_files.ensures.commits x c.args.process c.args.label c.in-Ok.t c.requires.standing c.requires.up named passed),
       commit_takes x c.args.process c.requires.up c.args.label c.in-Ok.t named passed,
     )
 
 pub returns-in-Err : goal.returns-in-Err
-returns-in-Err c = commit_refused (now_of c.args.journal.now (held c.args.self.now)) c.args.process c.requires.up c.args.label c.in-Err.refusal (c.in-Err.ensures.err c.args.journal.now)
+returns-in-Err c = commit_refused (present_of c.args.self.now) c.args.process c.requires.up c.args.label c.in-Err.refusal (c.in-Err.ensures.err)

@@ -6,7 +6,7 @@ use Rattle.ktm_base.specs.Guid.{IsId, guid_of}
 use Rattle.ktm_world.specs.Transactions.{is_live, same_id}
 use Rattle.ktm_built.specs.Laws.{LeadsTo}
 use Rattle.ktm_built.proofs.offered.Guids.{guid_law}
-use Rattle.ktm_memory.specs.Memory.{held, now_of}
+use Rattle.ktm_memory.specs.Memory.{present_of}
 use Rattle.ktm_memory.proofs.offered.Standing.{kept}
 use Rattle.ktm_memory.proofs.memory.Memory.with_guid.Goals as goal
 
@@ -18,16 +18,16 @@ leads n image guid (Some id) same has every = record { has = ap (λ i. guid_of O
 
 pub returns-in_default : goal.returns-in_default
 returns-in_default c =
-    let x = now_of c.args.journal.now (held c.args.self.now) in
+    let x = present_of c.args.self.now in
     sym (guid_law x c.args.guid.now c.id_of.result (kept x c.requires).sound.course
-    (leads c.image.result x.recorded.image c.args.guid.now c.id_of.result c.image.ensures c.id_of.ensures.found c.id_of.ensures.every)
+    (leads c.image.result x.recorded.image c.args.guid.now c.id_of.result (c.image.ensures ∙ ap (λ m. m.journal.image) c.self.view_is) c.id_of.ensures.found c.id_of.ensures.every)
     ∙ ap (option_and_then (λ id. find (λ t. is_live t && same_id t.id id) x.transactions.items)) c.in_default.is)
 
 pub returns : goal.returns
 returns c =
-    let x = now_of c.args.journal.now (held c.args.self.now) in
+    let x = present_of c.args.self.now in
     c.find_live.ensures.first
     ∙ ap (λ m. find (λ t. is_live t && same_id t.id c.in-Some.id) m.tm.now.items) c.self.view_is
     ∙ sym (guid_law x c.args.guid.now c.id_of.result (kept x c.requires).sound.course
-    (leads c.image.result x.recorded.image c.args.guid.now c.id_of.result c.image.ensures c.id_of.ensures.found c.id_of.ensures.every)
+    (leads c.image.result x.recorded.image c.args.guid.now c.id_of.result (c.image.ensures ∙ ap (λ m. m.journal.image) c.self.view_is) c.id_of.ensures.found c.id_of.ensures.every)
     ∙ ap (option_and_then (λ id. find (λ t. is_live t && same_id t.id id) x.transactions.items)) c.in-Some.is)
