@@ -1,13 +1,15 @@
 -- What is so once a transaction without enlistments has gone on by steps.
 use Rattle.std.specs.Prelude.{◌≡◌, ◌+◌, Bool, true, false, List, [], cond, length, None, if◌then◌else◌}
 use Rattle.std.specs.List.{list_any}
+use Rattle.ktm_base.specs.declared.id.Id.{Id}
 use Rattle.ktm_types.specs.declared.event.Event.{Event}
 use Rattle.ktm_types.specs.declared.object.Transaction.{Transaction}
 use Rattle.ktm_types.specs.declared.step.Step.{Step}
 use Rattle.ktm_course.specs.Moved.{is_commit}
 use Rattle.ktm_world.specs.Committed.{Work}
 use Rattle.ktm_world.specs.Durable.{Durable, after_events}
-use Rattle.ktm_world.specs.Keys.{without_own, stored_all}
+use Rattle.ktm_world.specs.Keys.{own_settings, without_own, stored_all}
+use Rattle.ktm_world.specs.Files.{own_changes}
 use Rattle.ktm_world.specs.Phases.{work_of}
 use Rattle.ktm_world.specs.Present.{Present}
 use Rattle.ktm_world.specs.Steps.{run}
@@ -22,22 +24,22 @@ abbrev pub with_changed : Present → Transaction → Transaction → Present
 with_changed x t then' = record x { transactions = record x.transactions { items = change_at x.transactions.items t.id (λ u. then') } }
 
 -- what it changed, opened and set is gone
-abbrev pub with_forgotten : Present → Transaction → Present
-with_forgotten x t = record x { files = forgotten x.files t.id; keys = record x.keys { own = without_own x.keys.own t.id } }
+abbrev pub with_forgotten : Present → Id → Present
+with_forgotten x id = record x { files = forgotten x.files id; keys = record x.keys { own = without_own x.keys.own id } }
 
 -- what it changed and set is committed
-abbrev pub with_committed : Present → Transaction → Present
-with_committed x t = record x {
-  recorded = recorded_by x.recorded (changes_of x t) (settings_of x t);
-  files = files_committed x.files t.id;
-  keys = record { store = stored_all x.keys.store (settings_of x t); own = without_own x.keys.own t.id };
+abbrev pub with_committed : Present → Id → Present
+with_committed x id = record x {
+  recorded = recorded_by x.recorded (own_changes x.files.table.own id) (own_settings x.keys.own id);
+  files = files_committed x.files id;
+  keys = record { store = stored_all x.keys.store (own_settings x.keys.own id); own = without_own x.keys.own id };
 }
 
 -- the transaction is this from now on, and nobody is told, but for the group in the log: where it commits its work is committed, and where
 -- its outcome is known it holds nothing
 abbrev pub with_moved : Present → Transaction → Transaction → Bool → Present
-with_moved x t then' true = with_changed (with_committed x t) t then'
-with_moved x t then' false = if is_undecided then' then with_changed x t then' else with_changed (with_forgotten x t) t then'
+with_moved x t then' true = with_changed (with_committed x t.id) t then'
+with_moved x t then' false = if is_undecided then' then with_changed x t then' else with_changed (with_forgotten x t.id) t then'
 
 -- what commits has a known outcome
 abbrev pub IsKnown : Bool → Transaction → Type 0

@@ -33,7 +33,8 @@ use Rattle.txf_calls.specs.Views.{open_of}
 use Rattle.txf_calls.specs.declared.call.FileCall.{FileCall}
 use Rattle.txf_calls.specs.declared.call.FileCall.TheVariants.{Create, Read, Write, SetEnd, Size, Flush, Delete, MakeDirectory, RemoveDirectory as Remove, Move, Find}
 use Rattle.txf_calls.specs.declared.call.OpenFile.{OpenFile as Kept}
-use Rattle.ktm_memory.specs.Route.{IsFreeLabel, IsRouted, Routes, files_outcome}
+use Rattle.ktm_memory.specs.Route.{IsFreeLabel, IsRouted, Routes}
+use Rattle.ktm_memory.specs.Opening.{files_outcome}
 use Rattle.ktm_memory.specs.Takes.{early_tests, effect_takes_memory, files_take_memory, has_log_room, is_quiet, takes_memory}
 use Rattle.ktm_memory.specs.declared.route.Routed.{Routed}
 use Rattle.ktm_memory.specs.declared.route.Routed.TheVariants.{Files}

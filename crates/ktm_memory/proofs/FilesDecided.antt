@@ -31,7 +31,8 @@ use Rattle.ktm_memory.specs.declared.settlement.Settlement.{Settlement}
 use Rattle.ktm_memory.specs.declared.settlement.Settlement.TheVariants.{Plain}
 use Rattle.ktm_memory.specs.Decided.{CanAnswer, Decides, bind_opened}
 use Rattle.ktm_memory.specs.Memory.{CanMakePlain, Held, MayBind, MaySettle, MemoryState, handles_then, held, logged, now_of, present_of, settled}
-use Rattle.ktm_memory.specs.Route.{IsFreeLabel, IsReadyCall, files_outcome}
+use Rattle.ktm_memory.specs.Route.{IsFreeLabel, IsReadyCall}
+use Rattle.ktm_memory.specs.Opening.{files_outcome}
 use Rattle.ktm_memory.specs.Takes.{is_quiet}
 use Rattle.ktm_memory.proofs.Decides.{nothing_logged}
 use Rattle.txf_calls.specs.Calls.{file_effect, file_outcome, file_tests, unless_refused}

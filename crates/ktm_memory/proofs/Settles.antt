@@ -16,14 +16,20 @@ use Rattle.ktm_world.specs.Files.{FilesNow, committed_files, own_changes}
 use Rattle.ktm_world.specs.HandleCalls.{closed_file, has_handle}
 use Rattle.ktm_world.specs.Keys.{own_settings, stored_all, without_own}
 use Rattle.ktm_world.specs.Labels.{with_handle}
-use Rattle.ktm_world.specs.Present.{Present}
-use Rattle.ktm_world.specs.Transactions.{change_at, is_active, same_id, transaction_at}
+use Rattle.ktm_world.specs.Present.{Present, Transactions}
+use Rattle.ktm_world.specs.Transactions.{change_at, is_active, is_undecided, same_id, transaction_at}
 use Rattle.ktm_world.specs.Tree.{Tree}
 use Rattle.txf_laws.specs.Reservations.{files_committed}
 use Rattle.txf_laws.proofs.offered.Reservations.{tree-of}
 use Rattle.txf_laws.specs.FileEffects.{forgotten}
-use Rattle.ktm_built.specs.Forms.{ended_aborted, ended_committed, is_of_both, with_commit_made, with_file_closed, with_handle_gone, with_rollback, with_rollback_if_active}
-use Rattle.ktm_memory.specs.Memory.{Held, MemoryState, now_of, present_of, with_bound_to}
+use Rattle.ktm_built.specs.Forms.{ended_aborted, with_file_closed, with_handle_gone, with_rollback, with_rollback_if_active}
+use Rattle.ktm_built.specs.Courses.{with_changed, with_committed, with_forgotten, with_moved}
+use Rattle.ktm_built.proofs.offered.Courses.{rollback_ends}
+use Rattle.ktm_world.specs.Rows.{aborts}
+use Rattle.ktm_world.specs.Steps.{run}
+use Rattle.ktm_world.specs.TransactionCalls.{course_of}
+use Rattle.ktm_memory.specs.Memory.{Held, MemoryState, now_of, present_of}
+use Rattle.ktm_memory.specs.Settled.{with_bound_to}
 
 -- ---- a transaction that ends
 
@@ -38,36 +44,48 @@ changed_as_found (x ∷ xs) t f is = elim (cases_Bool (same_id x.id t.id)) [
     some_same : {a b : Transaction} → Some a ≡ Some b → b ≡ a
     some_same e = cc
 
--- it has rolled back
-pub rolled_back : (h : Held) (t : Transaction) (files : FilesNow) → files ≡ forgotten h.files t.id → transaction_at h.transactions.items t.id ≡ Some t
-    → now_of (record h { transactions = record h.transactions { items = change_at h.transactions.items t.id (λ other. ended_aborted t) }; files = files; keys = record h.keys { own = without_own h.keys.own t.id } })
-    ≡ with_rollback (now_of h) t
-rolled_back h t files are there =
-    let keys = record h.keys { own = without_own h.keys.own t.id } in
-    ap (λ (fs : FilesNow). now_of (record h { transactions = record h.transactions { items = change_at h.transactions.items t.id (λ other. ended_aborted t) }; files = fs; keys = keys })) are
-    ∙ ap (λ (ts : List Transaction). now_of (record h { transactions = record h.transactions { items = ts }; files = forgotten h.files t.id; keys = keys })) (changed_as_found h.transactions.items t ended_aborted there)
-
 -- which transactions there are then
 pub items_then : (m n : MemoryState) (t : Transaction) → present_of n ≡ with_rollback (present_of m) t → n.tm.now.items ≡ change_at m.tm.now.items t.id ended_aborted
 items_then m n t rolled = ap (λ x. x.transactions.items) rolled
 
--- it has committed: what is recorded has the tree of the files and the store of the keys
-pub committed : (h : Held) (t : Transaction) (both : Bool) (files : FilesNow) → both ≡ is_of_both (now_of h) t → files ≡ files_committed h.files t.id → transaction_at h.transactions.items t.id ≡ Some t
+-- its work is committed: what is recorded has the tree of the files and the store of the keys
+pub work_committed : (h : Held) (id : Id) (files : FilesNow) → files ≡ files_committed h.files id
     → now_of (record h {
-      transactions = record h.transactions { items = change_at h.transactions.items t.id (λ other. ended_committed both t) };
       files = files;
-      next_node = next_after_all h.next_node (own_changes h.files.table.own t.id);
-      keys = record { store = stored_all h.keys.store (own_settings h.keys.own t.id); own = without_own h.keys.own t.id };
+      next_node = next_after_all h.next_node (own_changes h.files.table.own id);
+      keys = record { store = stored_all h.keys.store (own_settings h.keys.own id); own = without_own h.keys.own id };
     })
-    ≡ with_commit_made (now_of h) t
-committed h t both files is are there =
-    let made = with_commit_made (now_of h) t in
-    let then : List Transaction → Tree → FilesNow → Present = λ items tree files. record made { recorded = record made.recorded { tree = tree }; transactions = record h.transactions { items = items }; files = files } in
-    let tree = (files_committed h.files t.id).tree in
-    ap (λ (fs : FilesNow). then (change_at h.transactions.items t.id (λ other. ended_committed both t)) fs.tree fs) are
-    ∙ ap (λ (b : Bool). then (change_at h.transactions.items t.id (λ other. ended_committed b t)) tree made.files) is
-    ∙ ap (λ (ts : List Transaction). then ts tree made.files) (changed_as_found h.transactions.items t (ended_committed (is_of_both (now_of h) t)) there)
-    ∙ ap (λ (tree : Tree). then made.transactions.items tree made.files) (tree-of (own_changes h.files.table.own t.id) (committed_files h.files []))
+    ≡ with_committed (now_of h) id
+work_committed h id files are =
+    let made = with_committed (now_of h) id in
+    let then' : Tree → FilesNow → Present = λ tree files. record made { recorded = record made.recorded { tree = tree }; files = files } in
+    ap (λ (fs : FilesNow). then' fs.tree fs) are ∙ ap (λ (tree : Tree). then' tree made.files) (tree-of (own_changes h.files.table.own id) (committed_files h.files []))
+
+-- the transaction has arrived where it came to
+pub arrived_held : (h : Held) (boot : ℕ) (now : Transactions) (t then' : Transaction) → boot ≡ h.boot → now ≡ record h.transactions { items = change_at h.transactions.items then'.id (λ other. then') } → then'.id ≡ t.id
+    → now_of (record h { boot = boot; transactions = now }) ≡ with_changed (now_of h) t then'
+arrived_held h boot now t then' boots are same =
+    ap (λ (ts : Transactions). now_of (record h { boot = boot; transactions = ts })) are
+    ∙ ap (λ (b : ℕ). now_of (record h { boot = b; transactions = record h.transactions { items = change_at h.transactions.items then'.id (λ other. then') } })) boots
+    ∙ ap (λ (id : Id). now_of (record h { transactions = record h.transactions { items = change_at h.transactions.items id (λ other. then') } })) same
+
+-- by whether its work is committed, forgotten, or kept
+pub moved_committed : (x y : Present) (t then' : Transaction) (commits : Bool) → commits ≡ true → y ≡ with_committed x t.id → with_changed y t then' ≡ with_moved x t then' commits
+moved_committed x y t then' commits is are = ap (λ (z : Present). with_changed z t then') are ∙ ap (with_moved x t then') (sym is)
+
+pub moved_forgotten : (x y : Present) (t then' : Transaction) (commits : Bool) → commits ≡ false → is_undecided then' ≡ false → y ≡ with_forgotten x t.id → with_changed y t then' ≡ with_moved x t then' commits
+moved_forgotten x y t then' commits is known are =
+    ap (λ (z : Present). with_changed z t then') are ∙ sym (ap (λ b. cond b (with_changed x t then') (with_changed (with_forgotten x t.id) t then')) known) ∙ ap (with_moved x t then') (sym is)
+
+pub moved_kept : (x y : Present) (t then' : Transaction) (commits : Bool) → commits ≡ false → is_undecided then' ≡ true → y ≡ x → with_changed y t then' ≡ with_moved x t then' commits
+moved_kept x y t then' commits is known are =
+    ap (λ (z : Present). with_changed z t then') are ∙ sym (ap (λ b. cond b (with_changed x t then') (with_changed (with_forgotten x t.id) t then')) known) ∙ ap (with_moved x t then') (sym is)
+
+-- it has rolled back
+pub rolled_back : (x : Present) (t : Transaction) → x.transactions.enlistments ≡ [] → transaction_at x.transactions.items t.id ≡ Some t → with_moved x t (run aborts (course_of x t None)).transaction false ≡ with_rollback x t
+rolled_back x t none there =
+    ap (λ (u : Transaction). with_moved x t u false) (rollback_ends x t none)
+    ∙ ap (λ (ts : List Transaction). record (with_rollback x t) { transactions = record x.transactions { items = ts } }) (changed_as_found x.transactions.items t ended_aborted there)
 
 -- ---- an active transaction rolls back
 

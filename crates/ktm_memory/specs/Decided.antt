@@ -7,7 +7,7 @@ use Rattle.ktm_base.specs.declared.refusal.Refusal.{Refusal}
 use Rattle.ktm_event.specs.Kept.{EventsState, Holds}
 use Rattle.ktm_types.specs.declared.object.Object.TheVariants.{File as FileObject}
 use Rattle.ktm_types.specs.declared.reply.Reply.{Reply}
-use Rattle.ktm_types.specs.declared.reply.Reply.TheVariants.{Refused}
+use Rattle.ktm_types.specs.declared.reply.Reply.TheVariants.{Done, Refused}
 use Rattle.ktm_world.specs.Decide.{events_of}
 use Rattle.ktm_world.specs.FileOutcome.{FileOutcome}
 use Rattle.ktm_world.specs.Outcome.{Outcome, apply, is_full}
@@ -40,6 +40,11 @@ pub record Decides (old : Held) (o : Outcome) (reply : Reply) (then : Settlement
 abbrev pub DecidesIf : Held → Outcome → Option Decision → EventsState → MemoryState → Type 0
 DecidesIf old o None events new = (is_full (now_of old).machine.left o.events ≡ true) × (held new ≡ old)
 DecidesIf old o (Some d) events new = Decides old o d.reply d.settlement events new
+
+-- it is done, and records nothing
+pub record IsDone (o : Outcome) : Type 0 where
+  pub replies : o.reply ≡ Done
+  pub records : o.events ≡ []
 
 -- a plain call that changes or opens something is done
 abbrev pub CanAnswer : Option Id → FileOutcome → Type 0

@@ -71,7 +71,7 @@ abbrev pub IsReadyFor : Present → Pid → Routed → Type 0
 IsReadyFor x process (Create label timeout) = object_at x.handles process label ≡ None
 IsReadyFor x process (Bind label object) = object_at x.handles process label ≡ None
 IsReadyFor x process (Duplicate label from source) = (object_at x.handles process label ≡ None) × (is_some (object_at x.handles from source) ≡ true)
-IsReadyFor x process (Commit t) = (transaction_at x.transactions.items t.id ≡ Some t) × IsReadyCommit x t
+IsReadyFor x process (Commit t) = (transaction_at x.transactions.items t.id ≡ Some t) × (is_ended t.phase ≡ false) × IsReadyCommit x t
 IsReadyFor x process (Rollback t) = (transaction_at x.transactions.items t.id ≡ Some t) × (is_ended t.phase ≡ false)
 IsReadyFor x process (Information t) = Unit {0}
 IsReadyFor x process (Close label) = Unit {0}

@@ -1,12 +1,9 @@
 // Recording what a commit or a plain call has to record, where the log has room for it.
-ghost use Rattle.std.specs.Prelude.{◌≡◌, ◌↔◌, ◌+◌, ◌-◌, ◌<◌, ◌≤◌, ◌^◌, ◌∷◌, ◌++◌, not, true, false, None, Some, [], All, IfOk, IfSome, IsOk, OnErr, filter, length};
+ghost use Rattle.std.specs.Prelude.{◌≡◌, ◌-◌, ◌≤◌, ◌∷◌, not, true, false, None, Some, [], All, IfOk, IfSome, IsOk, OnErr, length};
 ghost use Rattle.std.specs.List.{list_all};
 ghost use Rattle.ktm_event.specs.Kept.{Holds};
-ghost use Rattle.ktm_event.specs.Spelling.{IsSpellableEvent, IsSpellableId};
-ghost use Rattle.ktm_event.specs.Work.{changes_of as recorded_changes, part_of, work_event};
-ghost use Rattle.ktm_event.specs.declared.work.Stage.TheVariants.{Single as Alone};
-ghost use Rattle.ktm_forms.specs.Commits.{commit_events, parts_events};
-ghost use Rattle.ktm_types.specs.Sizes.{event_size};
+ghost use Rattle.ktm_event.specs.Spelling.{IsSpellableEvent};
+ghost use Rattle.ktm_course.specs.Recorded.{basis_of, steps_events};
 ghost use Rattle.ktm_built.specs.Forms.{changes_of};
 ghost use Rattle.ktm_memory.specs.Decided.{DecidesIf};
 ghost use Rattle.ktm_memory.specs.Memory.{IsRoomy, held, present_of};
@@ -14,28 +11,25 @@ ghost use Rattle.ktm_memory.specs.Route.{IsReadyCommit};
 ghost use Rattle.ktm_built.specs.Standing.{IsStandingNow};
 ghost use Rattle.ktm_types.specs.declared.change.Change.{Change as Made};
 ghost use Rattle.ktm_types.specs.declared.event.Event.{Event as Recorded};
-ghost use Rattle.ktm_types.specs.declared.event.DonePart.TheVariants.{Files as OfFiles, Keys as OfKeys};
-ghost use Rattle.ktm_types.specs.declared.event.Event.TheVariants.{Decide, Done};
 ghost use Rattle.ktm_world.specs.Decide.{events_of};
-ghost use Rattle.ktm_world.specs.Files.{own_changes};
+ghost use Rattle.ktm_world.specs.Enlistments.{is_ended};
 ghost use Rattle.ktm_world.specs.Keys.{own_settings};
-ghost use Rattle.ktm_world.specs.Logs.{Group};
 ghost use Rattle.ktm_world.specs.Outcome.{is_full};
-ghost use Rattle.ktm_world.specs.TransactionCalls.{commit_transaction};
+ghost use Rattle.ktm_world.specs.Phases.{Course};
+ghost use Rattle.ktm_world.specs.TransactionCalls.{commit_reply, commit_transaction, rollback_transaction};
 ghost use Rattle.ktm_world.specs.Transactions.{transaction_at};
 ghost use Rattle.txf_overlay.specs.OverlayState.{is_of_names};
 ghost use Rattle.txf_volume.specs.Commit.{MayCommit};
-ghost use Rattle.txf_volume.specs.Held.{files_of};
 
 use crate::memory::Memory;
 use crate::settlement::{Decision, Settlement};
-use ktm_base::{Id, NoMemory};
-use ktm_event::{Events, FileBytes, Stage, Work, event_size, work_size};
+use ktm_base::NoMemory;
+use ktm_course::Parts;
+use ktm_event::{Events, event_size};
 use ktm_journal::Journal;
-use ktm_types::{Change, DonePart, Event, Reply, Setting, Transaction};
-use kv_rm::KvRm;
+use ktm_phase::{law_of_events_ahead, law_of_rows, step};
+use ktm_types::{Change, Event, Phase, PhaseInput, Reply, Step, Transaction};
 use txf_calls::Plan;
-use txf_volume::Files;
 
 // The change of the event of a plain call.
 fn change_in(event: Event) -> Option<Change>
@@ -98,140 +92,43 @@ pub(crate) fn record_plan(journal: &Journal, events: &mut Events, plan: Plan) ->
     })
 }
 
-// How many bytes the decision of a transaction takes, and that the files and the keys are done.
-fn ends_size(id: Id) -> usize
-    ensures { result ≡ event_size (Decide id) + event_size (Done id OfFiles) + event_size (Done id OfKeys) }
-{
-    let transaction = id;
-    let decision = event_size(&Event::Decide { transaction });
-    let files = event_size(&Event::Done {
-        transaction,
-        done: DonePart::Files,
-    });
-    let keys = event_size(&Event::Done {
-        transaction,
-        done: DonePart::Keys,
-    });
-    decision + files + keys
-}
-
-// Records the work of the only participant of a transaction that commits, where the log has room.
-fn record_single(journal: &Journal, events: &mut Events, id: Id, work: Work<'_>) -> bool
-    requires empty { Holds events.old [] }
-    requires roomy { IsRoomy journal.now events.old }
-    requires spelled { is_full (journal.now.log.area.len - journal.now.log.end) (work_event Alone id (part_of work) ∷ []) ≡ false → IsSpellableEvent (work_event Alone id (part_of work)) }
-    ensures recorded { result ≡ true → Holds events.new (work_event Alone id (part_of work.entry) ∷ []) }
-    ensures full { result ≡ not (is_full (journal.now.log.area.len - journal.now.log.end) (work_event Alone id (part_of work.entry) ∷ [])) }
-    ensures room { events.new.room ≡ events.old.room }
-{
-    if !journal.has_room(work_size(work)) {
-        return false;
-    }
-    events.push_work(Stage::Single, id, work);
-    true
-}
-
-// Records that the transaction commits.
-fn push_decision(events: &mut Events, id: Id)
-    requires id { IsSpellableId id }
-    requires fits { event_size (Decide id) ≤ events.old.spare }
-    ensures adds { (group : Group) → Holds events.old group → Holds events.new (group ++ Decide id ∷ []) }
-    ensures spare { events.new.spare + event_size (Decide id) ≡ events.old.spare }
-    ensures room { events.new.room ≡ events.old.room }
-{
-    events.push(&Event::Decide { transaction: id });
-}
-
-// Records that the files or the keys are done.
-fn push_done(events: &mut Events, id: Id, done: DonePart)
-    requires id { IsSpellableEvent (Done id done) }
-    requires fits { event_size (Done id done) ≤ events.old.spare }
-    ensures adds { (group : Group) → Holds events.old group → Holds events.new (group ++ Done id done ∷ []) }
-    ensures spare { events.new.spare + event_size (Done id done) ≡ events.old.spare }
-    ensures room { events.new.room ≡ events.old.room }
-{
-    events.push(&Event::Done {
-        transaction: id,
-        done,
-    });
-}
-
-// Records the work of the files and of the keys, the decision, and that both are done, where the log has room.
-fn record_both(
+// Records what the steps of a transaction record, where the log has room for it.
+fn record_steps(
     journal: &Journal,
     events: &mut Events,
-    id: Id,
-    changes: Work<'_>,
-    settings: Work<'_>,
+    parts: Parts<'_>,
+    t: &Transaction,
+    steps: &[Step],
 ) -> bool
     requires empty { Holds events.old [] }
     requires roomy { IsRoomy journal.now events.old }
-    requires spelled { is_full (journal.now.log.area.len - journal.now.log.end) (parts_events id (part_of changes) (part_of settings)) ≡ false → All IsSpellableEvent (parts_events id (part_of changes) (part_of settings)) }
-    ensures recorded { result ≡ true → Holds events.new (parts_events id (part_of changes.entry) (part_of settings.entry)) }
-    ensures full { result ≡ not (is_full (journal.now.log.area.len - journal.now.log.end) (parts_events id (part_of changes.entry) (part_of settings.entry))) }
+    requires spelled { is_full (journal.now.log.area.len - journal.now.log.end) (steps_events steps.now (basis_of t.now.id t.now.is_recorded parts)) ≡ false
+        → All IsSpellableEvent (steps_events steps.now (basis_of t.now.id t.now.is_recorded parts)) }
+    ensures recorded { result ≡ true → Holds events.new (steps_events steps.now (basis_of t.now.id t.now.is_recorded parts.entry)) }
+    ensures full { result ≡ not (is_full (journal.now.log.area.len - journal.now.log.end) (steps_events steps.now (basis_of t.now.id t.now.is_recorded parts.entry))) }
     ensures room { events.new.room ≡ events.old.room }
 {
-    let works = work_size(changes).saturating_add(work_size(settings));
-    if !journal.has_room(works.saturating_add(ends_size(id))) {
+    let size = parts.size(t.id, t.is_recorded, steps);
+    if size > 0 && !journal.has_room(size) {
         return false;
     }
-    events.push_work(Stage::Ready, id, changes);
-    events.push_work(Stage::Ready, id, settings);
-    push_decision(events, id);
-    push_done(events, id, DonePart::Files);
-    push_done(events, id, DonePart::Keys);
+    parts.record(t.id, t.is_recorded, steps, events);
     true
 }
 
-// Records what a transaction that commits set, where the log has room; it has changed nothing.
-fn record_settings(journal: &Journal, events: &mut Events, id: Id, settings: &[Setting]) -> bool
-    requires empty { Holds events.old [] }
-    requires roomy { IsRoomy journal.now events.old }
-    requires spelled { is_full (journal.now.log.area.len - journal.now.log.end) (commit_events id [] settings.now) ≡ false → All IsSpellableEvent (commit_events id [] settings.now) }
-    ensures recorded { result ≡ true → Holds events.new (commit_events id [] settings.now) }
-    ensures full { result ≡ not (is_full (journal.now.log.area.len - journal.now.log.end) (commit_events id [] settings.now)) }
-    ensures room { events.new.room ≡ events.old.room }
+// Committed where the transaction has ended by this, and pending else.
+fn commit_reply(t: &Transaction) -> Reply
+    ensures { (c : Course) → c.transaction ≡ t.now → result ≡ commit_reply c }
 {
-    if settings.is_empty() {
-        return true;
+    match t.phase {
+        Phase::Ended => Reply::Committed,
+        _ => Reply::Pending,
     }
-    record_single(journal, events, id, Work::Settings(settings))
-}
-
-// Records what a transaction that commits changed and set, where the log has room. No byte of the files that it wrote is copied.
-fn record_commit(
-    journal: &Journal,
-    events: &mut Events,
-    files: &Files,
-    written: &[FileBytes<'_>],
-    keys: &KvRm,
-    id: Id,
-) -> bool
-    requires empty { Holds events.old [] }
-    requires roomy { IsRoomy journal.now events.old }
-    requires written { own_changes (files_of files.now).table.own id ≡ recorded_changes (filter is_of_names (own_changes (files_of files.now).table.own id)) written.now }
-    requires spelled { is_full (journal.now.log.area.len - journal.now.log.end) (commit_events id (own_changes (files_of files.now).table.own id) (own_settings keys.now.keys.own id)) ≡ false
-        → All IsSpellableEvent (commit_events id (own_changes (files_of files.now).table.own id) (own_settings keys.now.keys.own id)) }
-    ensures recorded { result ≡ true → Holds events.new (commit_events id (own_changes (files_of files.now).table.own id) (own_settings keys.now.keys.own id)) }
-    ensures full { result ≡ not (is_full (journal.now.log.area.len - journal.now.log.end) (commit_events id (own_changes (files_of files.now).table.own id) (own_settings keys.now.keys.own id))) }
-    ensures room { events.new.room ≡ events.old.room }
-{
-    let settings = keys.own_settings(id);
-    if !files.has_changes(id) {
-        return record_settings(journal, events, id, settings);
-    }
-    let changes = Work::Changes {
-        names: files.names(id),
-        files: written,
-    };
-    if settings.is_empty() {
-        return record_single(journal, events, id, changes);
-    }
-    record_both(journal, events, id, changes, Work::Settings(settings))
 }
 
 impl Memory {
-    /// An active transaction commits: what it changed and set is one group, where the log has room for it.
+    /// An active transaction commits: what its steps record is one group, where the log has room for it. No byte of the files
+    /// that it wrote is copied.
     pub(crate) fn decide_commit(
         &mut self,
         t: Transaction,
@@ -240,6 +137,7 @@ impl Memory {
         requires up { self.old.is_up ≡ true }
         requires standing { IsStandingNow (present_of self.old) }
         requires there { transaction_at self.old.tm.now.items t.id ≡ Some t }
+        requires live { is_ended t.phase ≡ false }
         requires ready { IsReadyCommit (present_of self.old) t }
         requires empty { Holds events.old [] }
         requires roomy { IsRoomy self.old.journal events.old }
@@ -250,22 +148,58 @@ impl Memory {
         ensures enough { length (own_settings self.old.keys.keys.own t.id) ≤ self.old.keys.room → MayCommit self.old.files t.id
             → list_all is_of_names (changes_of (present_of self.old) t) ≡ true → IsOk result }
     {
+        law_of_rows();
+        law_of_events_ahead();
         self.keys.reserve(t.id)?;
         self.files.prepare_commit(t.id)?;
         let written = self.files.written(t.id)?;
-        if !record_commit(
-            &self.journal,
-            events,
-            &self.files,
-            &written,
-            &self.keys,
-            t.id,
-        ) {
+        let steps = step(&self.seen(&t), PhaseInput::CommitTransaction);
+        let parts = Parts {
+            names: self.files.names(t.id),
+            files: &written,
+            settings: self.keys.own_settings(t.id),
+        };
+        if !record_steps(&self.journal, events, parts, &t, steps.as_slice()) {
             return Ok(None);
         }
+        let reply = commit_reply(&self.moved(t, steps.as_slice()));
         Ok(Some(Decision {
-            reply: Reply::Committed,
-            settlement: Settlement::Commit(t),
+            reply,
+            settlement: Settlement::Course {
+                transaction: t,
+                steps,
+            },
+        }))
+    }
+
+    /// A transaction rolls back, where the log has room for what that records.
+    pub(crate) fn decide_rollback(
+        &mut self,
+        t: Transaction,
+        events: &mut Events,
+    ) -> Option<Decision>
+        requires standing { IsStandingNow (present_of self.old) }
+        requires there { transaction_at self.old.tm.now.items t.id ≡ Some t }
+        requires live { is_ended t.phase ≡ false }
+        requires empty { Holds events.old [] }
+        requires roomy { IsRoomy self.old.journal events.old }
+        ensures ok { DecidesIf (held self.old) (rollback_transaction (present_of self.old) (Some t)) result events.new self.new }
+        ensures room { events.new.room ≡ events.old.room }
+    {
+        law_of_rows();
+        law_of_events_ahead();
+        let steps = step(&self.seen(&t), PhaseInput::Rollback);
+        let parts = Parts {
+            names: &[],
+            files: &[],
+            settings: &[],
+        };
+        if !record_steps(&self.journal, events, parts, &t, steps.as_slice()) {
+            return None;
+        }
+        Some(Decision::done(Settlement::Course {
+            transaction: t,
+            steps,
         }))
     }
 }

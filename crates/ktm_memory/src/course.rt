@@ -5,7 +5,6 @@ ghost use Rattle.ktm_built.specs.Courses.{IsKnown, with_committed, with_forgotte
 ghost use Rattle.ktm_built.specs.Forms.{with_rollback};
 ghost use Rattle.ktm_course.specs.Moved.{is_commit};
 ghost use Rattle.ktm_memory.specs.Memory.{CanCommit, present_of};
-ghost use Rattle.ktm_types.specs.declared.object.Transaction.{Transaction as OfTransaction};
 ghost use Rattle.ktm_world.specs.Steps.{run, seen};
 ghost use Rattle.ktm_world.specs.TransactionCalls.{course_of};
 ghost use Rattle.ktm_world.specs.Transactions.{transaction_at};
@@ -47,7 +46,7 @@ impl Memory {
     // What the transaction changed and set is committed.
     fn commit_work(&mut self, id: Id)
         requires { CanCommit self.old id }
-        ensures now { (t : OfTransaction) → t.id ≡ id → present_of self.new ≡ with_committed (present_of self.old) t }
+        ensures now { present_of self.new ≡ with_committed (present_of self.old) id }
         ensures journal { self.new.journal ≡ self.old.journal }
         ensures tm { self.new.tm ≡ self.old.tm }
     {
@@ -58,7 +57,7 @@ impl Memory {
 
     // What the transaction changed, opened and set is forgotten.
     fn forget_work(&mut self, id: Id)
-        ensures now { (t : OfTransaction) → t.id ≡ id → present_of self.new ≡ with_forgotten (present_of self.old) t }
+        ensures now { present_of self.new ≡ with_forgotten (present_of self.old) id }
         ensures journal { self.new.journal ≡ self.old.journal }
         ensures tm { self.new.tm ≡ self.old.tm }
         ensures handles { self.new.handles ≡ self.old.handles }
@@ -67,9 +66,9 @@ impl Memory {
         self.keys.forget(id);
     }
 
-    // The transaction goes on by its steps: where they commit, what it changed and set is committed, and where its outcome is
-    // known then, it holds nothing.
-    fn carry_out(&mut self, t: Transaction, steps: &[Step])
+    /// The transaction goes on by its steps: where they commit, what it changed and set is committed, and where its outcome is
+    /// known then, it holds nothing.
+    pub(crate) fn carry_out(&mut self, t: Transaction, steps: &[Step])
         requires none { self.old.tm.now.enlistments ≡ [] }
         requires known { IsKnown (list_any is_commit steps.now) (run steps.now (course_of (present_of self.old) t None)).transaction }
         requires may { list_any is_commit steps.now ≡ true → CanCommit self.old t.id }
@@ -87,8 +86,8 @@ impl Memory {
         self.tm.arrive(then);
     }
 
-    // The transaction rolls back.
-    fn roll_back(&mut self, t: Transaction)
+    /// The transaction rolls back.
+    pub(crate) fn roll_back(&mut self, t: Transaction)
         requires none { self.old.tm.now.enlistments ≡ [] }
         requires there { transaction_at self.old.tm.now.items t.id ≡ Some t }
         ensures now { present_of self.new ≡ with_rollback (present_of self.old) t }

@@ -1,19 +1,18 @@
 // Deciding what a command comes to.
 ghost use Rattle.std.specs.Prelude.{◌≡◌, ◌≤◌, ◌∷◌, true, false, None, Some, [], IfOk, IsOk, OnErr, is_none};
-ghost use Rattle.ktm_built.specs.Forms.{ComesTo};
 ghost use Rattle.ktm_built.specs.Standing.{IsBuiltNow, IsStandingNow};
 ghost use Rattle.ktm_event.specs.Kept.{EventsState, Holds};
-ghost use Rattle.ktm_memory.specs.Decided.{Decides, DecidesIf};
-ghost use Rattle.ktm_memory.specs.Memory.{IsRoomy, MaySettle, MemoryState, held, present_of, settled};
+ghost use Rattle.ktm_memory.specs.Decided.{Decides, DecidesIf, IsDone};
+ghost use Rattle.ktm_memory.specs.Settled.{labels_outcome};
+ghost use Rattle.ktm_memory.specs.Memory.{IsRoomy, MayHandle, MemoryState, held, present_of};
 ghost use Rattle.ktm_memory.specs.Route.{asked_outcome, outcome_of, IsBuiltAsked, IsReadyFor};
 ghost use Rattle.ktm_memory.specs.Takes.{asked_takes_memory, routed_takes_memory, takes_memory};
 ghost use Rattle.ktm_memory.specs.declared.route.Routed.TheVariants.{Create};
 ghost use Rattle.ktm_object.specs.Table.{handles_of};
-ghost use Rattle.ktm_types.specs.declared.reply.Reply.TheVariants.{Done};
 ghost use Rattle.ktm_forms.specs.Built.{is_built_command};
 ghost use Rattle.ktm_world.specs.Decide.{of_keys, with_room};
 ghost use Rattle.ktm_world.specs.Handles.{object_at};
-ghost use Rattle.ktm_world.specs.Outcome.{Outcome, first_refusal, refuse_or};
+ghost use Rattle.ktm_world.specs.Outcome.{first_refusal, refuse_or};
 ghost use Rattle.ktm_world.specs.TransactionCalls.{handle_test, information_of};
 ghost use Rattle.ktm_world.specs.Uses.{key_room};
 ghost use Rattle.ktm_types.specs.Values.{IsCommand};
@@ -21,7 +20,7 @@ ghost use Rattle.kv_rm.specs.Calls.{is_refused, key_outcome};
 
 use crate::memory::Memory;
 use crate::route::Routed;
-use crate::settlement::{Decision, Settlement};
+use crate::settlement::{Decision, Labels, Settlement};
 use ktm_base::{Id, Label, NoMemory, ObjectKind, Pid, Refusal, guid};
 use ktm_event::Events;
 use ktm_tm::state_of;
@@ -73,7 +72,7 @@ impl Memory {
         let id = self.tm.next_id();
         Ok(Decision {
             reply: Reply::Guid(guid(ObjectKind::Transaction, self.journal.image(), id)),
-            settlement: Settlement::Create {
+            settlement: Settlement::Begin {
                 process,
                 label,
                 timeout,
@@ -81,12 +80,13 @@ impl Memory {
         })
     }
 
-    // A label is to be bound by this settlement, if there is room for a handle more.
-    fn decide_handle(&mut self, settlement: Settlement) -> Result<Decision, NoMemory>
+    // A label is to be bound, if there is room for a handle more.
+    fn decide_handle(&mut self, process: Pid, labels: Labels) -> Result<Decision, NoMemory>
         requires built { IsBuiltNow (present_of self.old) }
-        requires may { (m : MemoryState) → held m ≡ held self.old → 1 ≤ m.handles.spare → MaySettle m settlement }
-        ensures ok { IfOk result (λ d. (o : Outcome) → ComesTo (present_of self.old) o Done (settled (present_of self.old) settlement)
-            → (events : EventsState) → Holds events [] → Decides (held self.old) (refuse_or (present_of self.old) (first_refusal (handle_test (present_of self.old) ∷ [])) o) d.reply d.settlement events self.new) }
+        requires done { IsDone (labels_outcome (present_of self.old) process labels) }
+        requires may { (m : MemoryState) → held m ≡ held self.old → 1 ≤ m.handles.spare → MayHandle m process labels }
+        ensures ok { IfOk result (λ d. (events : EventsState) → Holds events []
+            → Decides (held self.old) (refuse_or (present_of self.old) (first_refusal (handle_test (present_of self.old) ∷ [])) (labels_outcome (present_of self.old) process labels)) d.reply d.settlement events self.new) }
         ensures no_memory { OnErr result (held self.new ≡ held self.old) }
         ensures enough { is_none (first_refusal (handle_test (present_of self.old) ∷ [])) ≡ false → IsOk result }
         ensures spare { 1 ≤ self.old.handles.spare → IsOk result }
@@ -95,7 +95,7 @@ impl Memory {
             return Ok(Decision::only(Reply::Refused(Refusal::NotEnoughQuota)));
         }
         self.handles.reserve(1)?;
-        Ok(Decision::done(settlement))
+        Ok(Decision::done(Settlement::Handles { process, labels }))
     }
 
     // A call on keys is decided.
@@ -132,31 +132,31 @@ impl Memory {
                 process, label, timeout,
             )?)),
             Routed::Bind { label, object } => {
-                let settlement = Settlement::Bind {
-                    process,
-                    label,
-                    object,
-                };
-                Ok(Some(self.decide_handle(settlement)?))
+                Ok(Some(self.decide_handle(process, Labels::Bind { label, object })?))
             }
             Routed::Duplicate {
                 label,
                 from,
                 source,
             } => {
-                let settlement = Settlement::Duplicate {
-                    process,
+                let labels = Labels::Duplicate {
                     label,
                     from,
                     source,
                 };
-                Ok(Some(self.decide_handle(settlement)?))
+                Ok(Some(self.decide_handle(process, labels)?))
             }
             Routed::Commit(t) => self.decide_commit(t, events),
-            Routed::Rollback(t) => Ok(Some(Decision::done(Settlement::Rollback(t)))),
+            Routed::Rollback(t) => Ok(self.decide_rollback(t, events)),
             Routed::Information(t) => Ok(Some(Decision::only(self.information(&t)))),
-            Routed::Close(label) => Ok(Some(Decision::done(Settlement::Close { process, label }))),
-            Routed::Exit => Ok(Some(Decision::done(Settlement::Exit(process)))),
+            Routed::Close(label) => Ok(Some(Decision::done(Settlement::Handles {
+                process,
+                labels: Labels::Unbind(label),
+            }))),
+            Routed::Exit => Ok(Some(Decision::done(Settlement::Handles {
+                process,
+                labels: Labels::UnbindAll,
+            }))),
             Routed::Keys { who, call } => Ok(Some(self.decide_keys(who, call)?)),
             Routed::Files { who, label, call } => {
                 self.decide_files(alloc, process, who, label, call, events)
@@ -209,7 +209,7 @@ impl Memory {
     {
         match asked {
             Asked::Call(process, command) => { self.decide_call(alloc, process, command, events) }
-            Asked::Tick(ms) => Ok(Some(Decision::done(Settlement::Tick(ms)))),
+            Asked::Tick(ms) => Ok(Some(Decision::done(Settlement::Pass(ms)))),
         }
     }
 }

@@ -5,7 +5,8 @@ ghost use Rattle.ktm_built.specs.Standing.{IsBuiltNow, IsStandingNow};
 ghost use Rattle.ktm_event.specs.Kept.{EventsState, Holds};
 ghost use Rattle.ktm_memory.specs.Decided.{CanAnswer, Decides, DecidesIf, bind_opened};
 ghost use Rattle.ktm_memory.specs.Memory.{IsRoomy, held, present_of};
-ghost use Rattle.ktm_memory.specs.Route.{IsFreeLabel, IsReadyCall, files_outcome, outcome_of};
+ghost use Rattle.ktm_memory.specs.Route.{IsFreeLabel, IsReadyCall, outcome_of};
+ghost use Rattle.ktm_memory.specs.Opening.{files_outcome};
 ghost use Rattle.ktm_memory.specs.declared.route.Routed.TheVariants.{Files as OfFiles};
 ghost use Rattle.ktm_memory.specs.Takes.{files_take_memory, is_quiet};
 ghost use Rattle.ktm_world.specs.Decide.{events_of};
@@ -16,7 +17,7 @@ ghost use Rattle.txf_volume.specs.Transacted.{HasRoom};
 
 use crate::commit::record_plan;
 use crate::memory::Memory;
-use crate::settlement::{Decision, Settlement};
+use crate::settlement::{Decision, Labels, Settlement};
 use ktm_base::{Id, Label, NoMemory, Pid};
 use ktm_built::law_of_files;
 use ktm_event::Events;
@@ -31,10 +32,12 @@ fn binding(process: Pid, label: Option<Label>, opened: Option<OpenFile>) -> Sett
     ensures { result ≡ bind_opened process label opened }
 {
     match (label, opened) {
-        (Some(label), Some(file)) => Settlement::Bind {
+        (Some(label), Some(file)) => Settlement::Handles {
             process,
-            label,
-            object: Object::File(file.number),
+            labels: Labels::Bind {
+                label,
+                object: Object::File(file.number),
+            },
         },
         _ => Settlement::Nothing,
     }
@@ -111,7 +114,7 @@ impl Memory {
         let reply = replace(&mut plan.reply, Reply::Done);
         Ok(Some(Decision {
             reply,
-            settlement: Settlement::Plain {
+            settlement: Settlement::Change {
                 process,
                 label,
                 plan,

@@ -81,7 +81,7 @@ opens_ended x t then' same = ap (λ id. opens_left (id ∷ []) (x.files.first_op
 
 -- nothing is committed, and it has ended
 forgotten_alone : (x : Present) (t then' : Transaction) (events : List Event) (reply : Reply) → then'.id ≡ t.id → IsLogged (alone x) t false events
-    → apply (alone x) (released_by false (come_to (alone x) t then' events []) (outcome_then (alone x) t then' events [] reply)) ≡ with_group (with_changed (with_forgotten (alone x) t) t then') events
+    → apply (alone x) (released_by false (come_to (alone x) t then' events []) (outcome_then (alone x) t then' events [] reply)) ≡ with_group (with_changed (with_forgotten (alone x) t.id) t then') events
 forgotten_alone x t then' events reply same logged i = record (alone x) {
   machine = record x.machine { is_up = and-true x.machine.is_up i; left = x.machine.left - log_size (as_groups events) };
   recorded = logged i;
@@ -93,7 +93,7 @@ forgotten_alone x t then' events reply same logged i = record (alone x) {
 -- its work is committed
 committed_alone : (x : Present) (t then' : Transaction) (events : List Event) (reply : Reply) → then'.id ≡ t.id → IsLogged (alone x) t true events
     → (let works = commit_works t.id (changes_of x t) (settings_of x t) in
-    apply (alone x) (released_by false (come_to (alone x) t then' events works) (outcome_then (alone x) t then' events works reply))) ≡ with_group (with_changed (with_committed (alone x) t) t then') events
+    apply (alone x) (released_by false (come_to (alone x) t then' events works) (outcome_then (alone x) t then' events works reply))) ≡ with_group (with_changed (with_committed (alone x) t.id) t then') events
 committed_alone x t then' events reply same logged i =
     let changes = changes_of x t in
     let settings = settings_of x t in
@@ -130,9 +130,9 @@ moved_alone x t then' false events reply same known logged = go (is_undecided th
     go : (b : Bool) → is_undecided then' ≡ b
         → apply (alone x) (arrived (alone x) (come_to (alone x) t then' events []) reply) ≡ with_group (with_moved (alone x) t then' false) events
     go true is = ap (apply (alone x)) (released-by true (come_to (alone x) t then' events []) _ is) ∙ open_alone x t then' events reply same logged
-        ∙ sym (ap (λ b. with_group (cond b (with_changed (alone x) t then') (with_changed (with_forgotten (alone x) t) t then')) events) is)
+        ∙ sym (ap (λ b. with_group (cond b (with_changed (alone x) t then') (with_changed (with_forgotten (alone x) t.id) t then')) events) is)
     go false is = ap (apply (alone x)) (released-by false (come_to (alone x) t then' events []) _ is) ∙ forgotten_alone x t then' events reply same logged
-        ∙ sym (ap (λ b. with_group (cond b (with_changed (alone x) t then') (with_changed (with_forgotten (alone x) t) t then')) events) is)
+        ∙ sym (ap (λ b. with_group (cond b (with_changed (alone x) t then') (with_changed (with_forgotten (alone x) t.id) t then')) events) is)
 
 -- what is so once it has come to this
 pub moved : (x : Present) (t then' : Transaction) (commits : Bool) (events : List Event) (reply : Reply) → IsBuiltNow x → then'.id ≡ t.id → IsKnown commits then' → IsLogged x t commits events
@@ -236,6 +236,11 @@ rollback_alone x t false = record { events = refl; works = refl; transaction = r
 
 pub rollback_comes : (x : Present) (t : Transaction) → IsBuiltNow x → IsRollback t (run aborts (course_of x t None))
 rollback_comes x t built = by_alone (λ (y : Present). IsRollback t (run aborts (course_of y t None))) x built (rollback_alone x t t.is_recorded)
+
+-- the transaction has ended, where it has no enlistments
+pub rollback_ends : (x : Present) (t : Transaction) → x.transactions.enlistments ≡ [] → (run aborts (course_of x t None)).transaction ≡ ended_aborted t
+unfolding ended
+rollback_ends x t none = subst (λ (es : List Enlistment). (run aborts (record (course_of x t None) { enlistments = es })).transaction ≡ ended_aborted t) (sym none) refl
 
 logged_rollback : (x : Present) (t : Transaction) → IsBuiltNow x → IsLogged x t false (event_if t.is_recorded (Event.Undo t.id))
 logged_rollback x t built = by_alone (λ (y : Present). IsLogged y t false (event_if t.is_recorded (Event.Undo t.id))) x built (go t.is_recorded)

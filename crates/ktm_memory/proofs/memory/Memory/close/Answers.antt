@@ -7,8 +7,8 @@ use Rattle.ktm_memory.specs.Memory.{held, now_of, present_of}
 use Rattle.ktm_memory.proofs.Closings.{closed_held, closed_is, closed_none, none_closed}
 use Rattle.ktm_memory.proofs.memory.Memory.close.Goals as goal
 
-pub let_go-requires : goal.let_go-requires
-let_go-requires c =
+pub let_go-requires-clause-last : goal.let_go-requires-clause-last
+let_go-requires-clause-last c =
     let is = closed_is (handles_of c.self.inside.handles) c.args.process c.args.label c.in-Some.closed (sym c.in-Some.is ∙ c.close.ensures.closed) in
     is.last ∙ ap (λ (hs : List Handle). not (has_handle hs c.in-Some.closed.object)) (sym c.close.ensures.handles)
 

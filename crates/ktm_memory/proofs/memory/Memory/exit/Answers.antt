@@ -8,8 +8,8 @@ use Rattle.ktm_memory.specs.Memory.{held, now_of, present_of}
 use Rattle.ktm_memory.proofs.Closings.{closed_held, closed_is, exited_none, exited_one, first_closed}
 use Rattle.ktm_memory.proofs.memory.Memory.exit.Goals as goal
 
-pub let_go-requires : goal.let_go-requires
-let_go-requires c =
+pub let_go-requires-clause-last : goal.let_go-requires-clause-last
+let_go-requires-clause-last c =
     let is = closed_is (handles_of c.self.inside.handles) c.args.process c.in-Some.closed.label c.in-Some.closed
     (first_closed (handles_of c.self.inside.handles) c.args.process c.in-Some.closed (labels_of (handles_of c.exit_next.new.self) c.args.process) c.in-Some.ensures.labels c.in-Some.ensures.closed) in
     is.last ∙ ap (λ (hs : List Handle). not (has_handle hs c.in-Some.closed.object)) (sym c.in-Some.ensures.handles)
@@ -26,6 +26,7 @@ loop-closed-preserved c =
           ∙ ap (λ m. with_process_gone (present_of m) c.args.process) c.self.view_is
           ∙ c.loop-closed.invariant.gone;
       journal = c.let_go.ensures.journal ∙ ap (λ m. m.journal) c.self.view_is ∙ c.loop-closed.invariant.journal;
+      none = c.let_go.ensures.none;
     }
 
 pub loop-closed-smaller : goal.loop-closed-smaller

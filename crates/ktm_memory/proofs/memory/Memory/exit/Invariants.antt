@@ -1,4 +1,4 @@
-use Rattle.std.proofs.Common.{◌≡◌, length}
+use Rattle.std.proofs.Common.{◌≡◌, [], length}
 use Rattle.ktm_built.specs.Forms.{with_process_gone}
 use Rattle.ktm_memory.specs.Memory.{present_of}
 use Rattle.ktm_object.specs.Table.{handles_of}
@@ -9,6 +9,7 @@ abbrev pub invariant-loop-closed : goal.invariant-loop-closed
 invariant-loop-closed l = record {
   gone : with_process_gone (present_of l.self) l.process ≡ with_process_gone (present_of l.fn.self) l.process;
   journal : l.self.journal ≡ l.fn.self.journal;
+  none : l.self.tm.now.enlistments ≡ [];
 }
 
 abbrev pub decreases-loop-closed : goal.decreases-loop-closed

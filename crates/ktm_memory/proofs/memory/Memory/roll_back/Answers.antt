@@ -1,8 +1,17 @@
-use Rattle.ktm_memory.specs.Memory.{held}
+use Rattle.std.proofs.Common.{ap, ◌∙◌, List}
+use Rattle.std.specs.List.{list_any}
+use Rattle.ktm_built.specs.Courses.{with_moved}
+use Rattle.ktm_course.specs.Moved.{is_commit}
+use Rattle.ktm_types.specs.declared.step.Step.{Step}
+use Rattle.ktm_world.specs.Steps.{run}
+use Rattle.ktm_world.specs.TransactionCalls.{course_of}
+use Rattle.ktm_memory.specs.Memory.{present_of}
 use Rattle.ktm_memory.proofs.Settles.{rolled_back}
 use Rattle.ktm_memory.proofs.memory.Memory.roll_back.Goals as goal
 
 pub returns-clause-now : goal.returns-clause-now
 returns-clause-now c =
-    rw (← c.self.view_is) (rw (c.arrive.ensures.boot, c.arrive.ensures.now, c.forget-2.ensures.keys, c.aborted.ensures)
-    (rolled_back (held (record { is_up = c.self.inside.is_up; journal = c.self.inside.journal; handles = c.self.inside.handles; tm = c.self.inside.tm; files = c.self.inside.files; next_node = c.self.inside.next_node; keys = c.self.inside.keys })) c.args.t _ c.forget.ensures (rw (← c.self.view_is) at c.requires)))
+    let x = present_of c.args.self.now in
+    c.carry_out.ensures.now
+    ∙ ap (λ (steps : List Step). with_moved x c.args.t (run steps (course_of x c.args.t _)).transaction (list_any is_commit steps)) (c.as_slice.ensures.value ∙ c.step-steps.ensures.row)
+    ∙ rolled_back x c.args.t c.requires.none c.requires.there

@@ -5,8 +5,8 @@ use Rattle.ktm_memory.specs.Memory.{present_of}
 use Rattle.ktm_memory.proofs.Settles.{active_rolled, none_stays, others_stay}
 use Rattle.ktm_memory.proofs.memory.Memory.roll_back_if_active.Goals as goal
 
-pub roll_back-requires : goal.roll_back-requires
-roll_back-requires c = found_again c.args.self.now.tm.now.items c.args.id c.in-Some.t (ap (λ m. transaction_at m.tm.now.items c.args.id) (sym c.self.view_is) ∙ sym c.find.ensures ∙ c.in-Some.is)
+pub roll_back-requires-clause-there : goal.roll_back-requires-clause-there
+roll_back-requires-clause-there c = found_again c.args.self.now.tm.now.items c.args.id c.in-Some.t (ap (λ m. transaction_at m.tm.now.items c.args.id) (sym c.self.view_is) ∙ sym c.find.ensures ∙ c.in-Some.is)
 
 pub returns-in_default-clause-now : goal.returns-in_default-clause-now
 returns-in_default-clause-now c =

@@ -18,12 +18,13 @@ pub loop-t-init : goal.loop-t-init
 loop-t-init c =
     let items : c.advance.new.self.now.items ≡ c.args.self.now.tm.now.items = ap (λ now. now.items) c.advance.ensures.now ∙ ap (λ m. m.tm.now.items) c.self.view_is in
     record {
-      rise = subst Rise (sym items) c.requires.0;
-      few = subst (λ (ts : List Transaction). length (filter is_live ts) ≤ MOST_LIVE) (sym items) (omega (arith, length-filter is_live c.args.self.now.tm.now.items, c.requires.1));
+      rise = subst Rise (sym items) c.requires.may.0;
+      few = subst (λ (ts : List Transaction). length (filter is_live ts) ≤ MOST_LIVE) (sym items) (omega (arith, length-filter is_live c.args.self.now.tm.now.items, c.requires.may.1));
       journal = ap (λ m. m.journal) c.self.view_is;
+      none = ap (λ now. now.enlistments) c.advance.ensures.now ∙ ap (λ m. m.tm.now.enlistments) c.self.view_is ∙ c.requires.none;
       ticked =
           rw (c.advance.ensures.boot, c.advance.ensures.now)
-          (ticked_all (now_of (held (record { is_up = c.self.inside.is_up; journal = c.self.inside.journal; handles = c.self.inside.handles; tm = c.self.inside.tm; files = c.self.inside.files; next_node = c.self.inside.next_node; keys = c.self.inside.keys }))) c.args.ms (subst (λ m. Rise m.tm.now.items) (sym c.self.view_is) c.requires.0)
+          (ticked_all (now_of (held (record { is_up = c.self.inside.is_up; journal = c.self.inside.journal; handles = c.self.inside.handles; tm = c.self.inside.tm; files = c.self.inside.files; next_node = c.self.inside.next_node; keys = c.self.inside.keys }))) c.args.ms (subst (λ m. Rise m.tm.now.items) (sym c.self.view_is) c.requires.may.0)
           ∙ ap (λ m. with_tick (present_of m) c.args.ms) c.self.view_is);
     }
 
@@ -35,6 +36,7 @@ loop-t-preserved c =
       rise = c.loop-t.invariant.rise;
       few = c.loop-t.invariant.few;
       journal = c.loop-t.invariant.journal;
+      none = c.loop-t.invariant.none;
       ticked =
           let next : c.loop-t.place + 1 ≡ suc c.loop-t.place = omega arith in
           ap (ticked_from (present_of c.loop-t.self)) next ∙ ticked_over (present_of c.loop-t.self) c.loop-t.place c.in-Some.t at later ∙ c.loop-t.invariant.ticked;
@@ -44,8 +46,8 @@ pub loop-t-smaller : goal.loop-t-smaller
 loop-t-smaller c =
     omega (arith, slice_get_within (filter is_live c.loop-t.self.tm.now.items) c.loop-t.place c.in-Some.t (ap (λ m. slice_get (filter is_live m.tm.now.items) c.loop-t.place) (sym c.self-in-loop-t.view_is) ∙ sym c.live_at.ensures ∙ c.in-Some.is))
 
-pub roll_back-requires : goal.roll_back-requires
-roll_back-requires c = (live_at c.loop-t.self.tm.now.items c.loop-t.place c.in-Some.t c.loop-t.invariant.rise (ap (λ m. slice_get (filter is_live m.tm.now.items) c.loop-t.place) (sym c.self-in-loop-t.view_is) ∙ sym c.live_at.ensures ∙ c.in-Some.is)).found
+pub roll_back-requires-clause-there : goal.roll_back-requires-clause-there
+roll_back-requires-clause-there c = (live_at c.loop-t.self.tm.now.items c.loop-t.place c.in-Some.t c.loop-t.invariant.rise (ap (λ m. slice_get (filter is_live m.tm.now.items) c.loop-t.place) (sym c.self-in-loop-t.view_is) ∙ sym c.live_at.ensures ∙ c.in-Some.is)).found
 
 pub loop-t-preserved-then-is_due : goal.loop-t-preserved-then-is_due
 loop-t-preserved-then-is_due c =
@@ -56,6 +58,7 @@ loop-t-preserved-then-is_due c =
       rise = subst Rise (sym items) (rise-ended TransactionOutcome.Aborted c.loop-t.self.tm.now.items c.in-Some.t.id c.loop-t.invariant.rise);
       few = subst (λ (ts : List Transaction). length (filter is_live ts) ≤ MOST_LIVE) (sym items) (omega (arith, at.fewer, c.loop-t.invariant.few));
       journal = c.roll_back.ensures.journal ∙ c.loop-t.invariant.journal;
+      none = c.roll_back.ensures.none;
       ticked =
           ap (λ x. ticked_from x c.loop-t.place) (c.roll_back.ensures.now) ∙ ticked_due (present_of c.loop-t.self) c.loop-t.place c.in-Some.t at due ∙ c.loop-t.invariant.ticked;
     }

@@ -1,4 +1,4 @@
-use Rattle.std.proofs.Common.{◌≡◌, ◌-◌, ◌≤◌, filter, length}
+use Rattle.std.proofs.Common.{◌≡◌, ◌-◌, [], ◌≤◌, filter, length}
 use Rattle.ktm_base.specs.declared.limits.TheConstants.{MOST_LIVE}
 use Rattle.ktm_built.specs.Forms.{with_tick}
 use Rattle.ktm_built.proofs.offered.Distinct.{Rise}
@@ -12,6 +12,7 @@ invariant-loop-t l = record {
   rise : Rise l.self.tm.now.items;
   few : length (filter is_live l.self.tm.now.items) ≤ MOST_LIVE;
   journal : l.self.journal ≡ l.fn.self.journal;
+  none : l.self.tm.now.enlistments ≡ [];
   -- what is left to roll back is what stands from this place on
   ticked : ticked_from (present_of l.self) l.place ≡ with_tick (present_of l.fn.self) l.ms;
 }
