@@ -49,30 +49,6 @@ pub file_room_is : (h : Held) (handles changes units unset : ℕ) → handles �
 unfolding file_room
 file_room_is h handles changes units unset handles_are unset_are units_are changes_are = rw (handles_are, changes_are, unset_are, units_are) refl
 
--- ---- what an outcome of files answers and records
-
-reply_of : (x : Present) (process : Pid) (who : Option Id) (label : Option Label) (o : FileOutcome) → (files_outcome x process who label o).reply ≡ o.reply
-reply_of x process who None o = refl
-reply_of x process who (Some l) o = go o.opened
-  where
-    go : (opened : Option OpenFile) → (opening x process l who (record o { opened = opened })).reply ≡ o.reply
-    go None = refl
-    go (Some file) = refl
-
-pub events_in : (x : Present) (process : Pid) (who : Option Id) (label : Option Label) (o : FileOutcome) → (files_outcome x process who label o).events ≡ events_of who o.change
-events_in x process who None o = refl
-events_in x process who (Some l) o = go o.opened
-  where
-    go : (opened : Option OpenFile) → (opening x process l who (record o { opened = opened })).events ≡ events_of who o.change
-    go None = refl
-    go (Some file) = refl
-
--- what it leaves
-left_by : (x : Present) (process : Pid) (who : Option Id) (label : Option Label) (o : FileOutcome) → IsBuiltNow x
-    → apply x (files_outcome x process who label o) ≡ record (with_files x who o) { handles = handles_then x.handles process label o.opened }
-left_by x process who None o built = forms_law.files x who o built
-left_by x process who (Some l) o built = forms_law.opens x process l who o built
-
 -- ---- labels for what is opened
 
 -- there is room for the label of a file that is opened, and the label is free
@@ -134,10 +110,6 @@ bound : (x : Present) (process : Pid) (label : Option Label) (opened : Option Ke
 bound x process None opened = refl
 bound x process (Some l) None = refl
 bound x process (Some l) (Some file) = refl
-
--- no events change nothing of the machine
-grouped : (x : Present) → with_group x [] ≡ x
-grouped x = ap (λ (left : ℕ). record x { machine = record x.machine { left = left }; recorded = record x.recorded { events = x.recorded.events + 0 } }) (omega arith) ∙ ap (λ (n : ℕ). record x { recorded = record x.recorded { events = n } }) (omega arith)
 
 pub own_decided : (h : Held) (n : MemoryState) (process : Pid) (id : Id) (label : Option Label) (o : FileOutcome) (opened : Option Kept) (events : EventsState) → IsBuiltNow (now_of h)
     → held n ≡ record h { files = files_after h.files (Some id) o } → option_map open_of opened ≡ o.opened → MaySettle n (bind_opened process label opened) → Holds events []

@@ -8,4 +8,5 @@ mod Records
 mod Closings
 mod Ticks
 mod Settles
+mod Left
 pub mod offered

@@ -33,7 +33,7 @@ use Rattle.ktm_types.specs.declared.object.TransactionOutcome.{TransactionOutcom
 use Rattle.ktm_forms.specs.Commits.{commit_events}
 use Rattle.ktm_forms.proofs.BuiltStates.{after_commit}
 use Rattle.std.specs.List.{list_any}
-use Rattle.ktm_course.specs.Moved.{IsAlone, is_commit}
+use Rattle.ktm_course.specs.Moved.{is_commit}
 use Rattle.ktm_course.proofs.offered.Alone.{goes_on}
 use Rattle.ktm_world.specs.Phases.{ended, event_if}
 use Rattle.ktm_built.specs.Standing.{IsBuiltNow}
@@ -144,27 +144,33 @@ moved x t then' commits events reply built same known logged =
 -- ---- a course that is carried out
 
 -- what comes of steps, by the transaction, the events and the works that they come to
-pub carried_out : (x : Present) (t then' : Transaction) (has_files has_keys commits : Bool) (steps : List Step) (reply : Reply) → IsBuiltNow x → (let c = run steps (course_of x t None) in
-    IsAlone c then' has_files has_keys → c.works ≡ works_if commits x t → arrived x c reply ≡ arrived x (come_to x t then' c.events (works_if commits x t)) reply)
-carried_out x t then' has_files has_keys commits steps reply built alone works =
+carried_out : (x : Present) (t : Transaction) (commits : Bool) (steps : List Step) (reply : Reply) → IsBuiltNow x
+    → (let c = run steps (course_of x t None) in c.works ≡ works_if commits x t → arrived x c reply ≡ arrived x (come_to x t c.transaction c.events (works_if commits x t)) reply)
+carried_out x t commits steps reply built works =
     let start = course_of x t None in
     let c = run steps start in
     let on = goes_on steps start built.enlistments in
-    let shape : Transaction → List Enlistment → List Work → List Sent → Outcome =
-        λ u es ws sent. arrived x (record start { transaction = u; enlistments = es; events = c.events; works = ws; sent = sent }) reply in
-    ap (λ (u : Transaction). shape u c.enlistments c.works c.sent) alone.transaction
-    ∙ ap (λ (es : List Enlistment). shape then' es c.works c.sent) (alone.enlistments ∙ sym built.enlistments)
-    ∙ ap (λ (ws : List Work). shape then' x.transactions.enlistments ws c.sent) works
-    ∙ ap (λ (sent : List Sent). shape then' x.transactions.enlistments (works_if commits x t) sent) on.sent
+    let shape : List Enlistment → List Work → List Sent → Outcome = λ es ws sent. arrived x (record start { transaction = c.transaction; enlistments = es; events = c.events; works = ws; sent = sent }) reply in
+    ap (λ (es : List Enlistment). shape es c.works c.sent) (on.enlistments ∙ sym built.enlistments)
+    ∙ ap (λ (ws : List Work). shape x.transactions.enlistments ws c.sent) works
+    ∙ ap (λ (sent : List Sent). shape x.transactions.enlistments (works_if commits x t) sent) on.sent
 
--- what is so once they are carried out
-pub led_on : (x : Present) (t then' : Transaction) (has_files has_keys : Bool) (steps : List Step) (reply : Reply) → IsBuiltNow x → IsAlone (run steps (course_of x t None)) then' has_files has_keys → LeadsOn x t steps
-    → apply x (arrived x (run steps (course_of x t None)) reply) ≡ with_group (with_moved x t then' (list_any is_commit steps)) (run steps (course_of x t None)).events
-led_on x t then' has_files has_keys steps reply built alone on =
+-- what is so once steps are carried out
+pub led_on : (x : Present) (t : Transaction) (steps : List Step) (reply : Reply) → IsBuiltNow x → LeadsOn x t steps
+    → (let c = run steps (course_of x t None) in apply x (arrived x c reply) ≡ with_group (with_moved x t c.transaction (list_any is_commit steps)) c.events)
+led_on x t steps reply built on =
+    let start = course_of x t None in
     let commits = list_any is_commit steps in
-    ap (apply x) (carried_out x t then' has_files has_keys commits steps reply built alone on.works)
-    ∙ moved x t then' commits (run steps (course_of x t None)).events reply built (ap (λ (u : Transaction). u.id) (sym alone.transaction) ∙ (goes_on steps (course_of x t None) built.enlistments).id)
-    (λ is. subst (λ (u : Transaction). is_undecided u ≡ false) alone.transaction (on.known is)) on.logged
+    ap (apply x) (carried_out x t commits steps reply built on.works)
+    ∙ moved x t (run steps start).transaction commits (run steps start).events reply built (goes_on steps start built.enlistments).id on.known on.logged
+
+-- the events are those of the course
+pub arrived-events : (x : Present) (c : Course) (reply : Reply) → (arrived x c reply).events ≡ c.events
+arrived-events x c reply = go (is_undecided c.transaction) refl
+  where
+    go : (b : Bool) → is_undecided c.transaction ≡ b → (arrived x c reply).events ≡ c.events
+    go true is = ap (λ (o : Outcome). o.events) (released-by true c _ is)
+    go false is = ap (λ (o : Outcome). o.events) (released-by false c _ is)
 
 -- ---- a commit
 

@@ -1,0 +1,138 @@
+-- What is left to do once events are in the journal comes to what the model's own outcome comes to.
+use Rattle.std.proofs.Common.{◌≡◌, ℕ, ◌+◌, Bool, true, false, cond, List, [], Option, Some, None, is_some, refl, sym, ◌∙◌, ap, arith}
+use Rattle.ktm_base.specs.declared.id.Label.{Label}
+use Rattle.ktm_base.specs.declared.id.Pid.{Pid}
+use Rattle.ktm_types.specs.declared.event.Event.{Event}
+use Rattle.ktm_types.specs.declared.object.Object.{Object}
+use Rattle.ktm_types.specs.declared.object.Transaction.{Transaction}
+use Rattle.ktm_types.specs.declared.reply.Reply.TheVariants.{Done}
+use Rattle.ktm_base.specs.declared.id.Id.{Id}
+use Rattle.ktm_world.specs.Decide.{events_of, opening}
+use Rattle.ktm_world.specs.FileOutcome.{FileOutcome}
+use Rattle.ktm_world.specs.Files.{OpenFile}
+use Rattle.ktm_world.specs.HandleCalls.{duplicate_handle}
+use Rattle.ktm_world.specs.Handles.{object_at}
+use Rattle.ktm_world.specs.Labels.{with_handle}
+use Rattle.ktm_world.specs.Outcome.{Outcome, apply}
+use Rattle.ktm_world.specs.Present.{Present}
+use Rattle.ktm_world.specs.TransactionCalls.{create_transaction, opened_object}
+use Rattle.ktm_world.specs.Transactions.{is_undecided}
+use Rattle.ktm_built.specs.Courses.{with_changed, with_committed, with_forgotten, with_moved}
+use Rattle.ktm_built.specs.Forms.{ComesTo, with_bound, with_files, with_group, with_transaction}
+use Rattle.ktm_built.specs.Standing.{IsBuiltNow}
+use Rattle.ktm_built.proofs.offered.Forms.{forms_law}
+use Rattle.ktm_journal.specs.Image.{JournalState}
+use Rattle.ktm_memory.specs.Memory.{Held, MayHandle, MemoryState, appended, held, logged, now_of, present_of}
+use Rattle.ktm_memory.specs.Opening.{files_outcome}
+use Rattle.ktm_memory.specs.Settled.{before, handles_then, labels_outcome, with_bound_to, with_change_made, with_labels}
+use Rattle.ktm_memory.specs.declared.settlement.Labels.{Labels}
+use Rattle.ktm_memory.specs.declared.settlement.Labels.TheVariants.{Bind, Duplicate, Unbind, UnbindAll}
+
+-- ---- events in the journal
+
+-- no events change nothing of what is so now
+pub nothing_logged : (h : Held) → now_of (logged h []) ≡ now_of h
+nothing_logged h =
+    ap (λ (n : ℕ). now_of (record h { journal = record h.journal { events = n; log = record h.journal.log { end = h.journal.log.end + 0 } } })) (omega arith)
+    ∙ ap (λ (n : ℕ). now_of (record h { journal = record h.journal { log = record h.journal.log { end = n } } })) (omega arith)
+
+-- events are counted, and take their room
+pub logged_group : (h : Held) (events : List Event) → now_of (logged h events) ≡ with_group (now_of h) events
+logged_group h events = ap (λ (left : ℕ). record (now_of (logged h events)) { machine = record { is_up = h.is_up; left = left } }) (omega arith)
+
+-- before them there was nothing but what built forms make, too
+pub built_before : (m : MemoryState) (j : JournalState) → IsBuiltNow (present_of m) → IsBuiltNow (before m j)
+built_before m j built = record { managers = refl; enlistments = built.enlistments; last_manager = built.last_manager; last_enlistment = built.last_enlistment; unrecorded = built.unrecorded; recorded = refl }
+
+-- what is left records nothing, and makes this of what is so now
+pub left_quiet : (m : MemoryState) (j : JournalState) (f : Present → Present) (l : Outcome) → m.journal ≡ appended j l.events → l.events ≡ [] → apply (before m j) l ≡ f (before m j) → f (present_of m) ≡ apply (before m j) l
+left_quiet m j f l are none leaves =
+    ap (λ (k : JournalState). f (now_of (record (held m) { journal = k }))) (are ∙ ap (appended j) none) ∙ ap f (nothing_logged (record (held m) { journal = j })) ∙ sym leaves
+
+-- what is left records something, and makes this of what is so now, whatever the log has
+pub left_recorded : (m : MemoryState) (j : JournalState) (f : Present → Present) (l : Outcome) → m.journal ≡ appended j l.events
+    → ((x : Present) (events : List Event) → f (with_group x events) ≡ with_group (f x) events) → apply (before m j) l ≡ with_group (f (before m j)) l.events → f (present_of m) ≡ apply (before m j) l
+left_recorded m j f l are aside leaves =
+    ap (λ (k : JournalState). f (now_of (record (held m) { journal = k }))) are ∙ ap f (logged_group (record (held m) { journal = j }) l.events) ∙ aside (before m j) l.events ∙ sym leaves
+
+-- a transaction that moves leaves the log alone
+pub moved_aside : (t then' : Transaction) (commits : Bool) (x : Present) (events : List Event) → with_moved (with_group x events) t then' commits ≡ with_group (with_moved x t then' commits) events
+moved_aside t then' true x events = refl
+moved_aside t then' false x events = go (is_undecided then')
+  where
+    go : (b : Bool) → cond b (with_changed (with_group x events) t then') (with_changed (with_forgotten (with_group x events) t.id) t then') ≡ with_group (cond b (with_changed x t then') (with_changed (with_forgotten x t.id) t then')) events
+    go true = refl
+    go false = refl
+
+-- ---- what calls come to that record nothing
+
+pub create_comes : (x : Present) (process : Pid) (label : Label) (timeout : ℕ) → IsBuiltNow x
+    → ComesTo x (create_transaction x process label timeout) (create_transaction x process label timeout).reply (with_transaction x process label timeout)
+unfolding create_transaction
+create_comes x process label timeout built = record { replies = refl; records = refl; commits = refl; goes_on = refl; leaves = forms_law.creates x process label timeout built }
+
+-- a label bound to an object
+bound_comes : (x : Present) (process : Pid) (label : Label) (object : Object) → IsBuiltNow x → ComesTo x (opened_object x process label object) Done (with_bound x process label object)
+bound_comes x process label object built = record {
+  replies = refl;
+  records = refl;
+  commits = refl;
+  goes_on = refl;
+  leaves = ap (λ (y : Present). record y { handles = with_handle x.handles process label object }) (forms_law.replies x Done built);
+}
+
+-- a label bound to what another one names
+duplicated_comes : (x : Present) (process : Pid) (label : Label) (from : Pid) (source : Label) → IsBuiltNow x → is_some (object_at x.handles from source) ≡ true
+    → ComesTo x (duplicate_handle x process label from source) Done (with_bound_to x process label (object_at x.handles from source))
+duplicated_comes x process label from source built there = go (object_at x.handles from source) refl there
+  where
+    go : (named : Option Object) → object_at x.handles from source ≡ named → is_some named ≡ true → ComesTo x (duplicate_handle x process label from source) Done (with_bound_to x process label named)
+    go None is there = absurd (cc)
+    go (Some object) is there = forms_law.duplicates x process label from source object built is
+
+-- a source that is to be duplicated is there
+abbrev pub IsSourceThere : Present → Labels → Type 0
+IsSourceThere x (Duplicate label from source) = is_some (object_at x.handles from source) ≡ true
+IsSourceThere x labels = Unit {0}
+
+pub source_there : (m : MemoryState) (j : JournalState) (process : Pid) (labels : Labels) → MayHandle m process labels → IsSourceThere (before m j) labels
+source_there m j process (Bind label object) may = tt
+source_there m j process (Duplicate label from source) may = may.2
+source_there m j process (Unbind label) may = tt
+source_there m j process UnbindAll may = tt
+
+-- labels that are bound and unbound
+pub labels_come : (x : Present) (process : Pid) (labels : Labels) → IsBuiltNow x → IsSourceThere x labels → ComesTo x (labels_outcome x process labels) Done (with_labels x process labels)
+labels_come x process (Bind label object) built there = bound_comes x process label object built
+labels_come x process (Duplicate label from source) built there = duplicated_comes x process label from source built there
+labels_come x process (Unbind label) built there = forms_law.closes x process label built
+labels_come x process UnbindAll built there = forms_law.exits x process built
+
+-- ---- what an outcome of files answers and records
+
+pub reply_of : (x : Present) (process : Pid) (who : Option Id) (label : Option Label) (o : FileOutcome) → (files_outcome x process who label o).reply ≡ o.reply
+reply_of x process who None o = refl
+reply_of x process who (Some l) o = go o.opened
+  where
+    go : (opened : Option OpenFile) → (opening x process l who (record o { opened = opened })).reply ≡ o.reply
+    go None = refl
+    go (Some file) = refl
+
+pub events_in : (x : Present) (process : Pid) (who : Option Id) (label : Option Label) (o : FileOutcome) → (files_outcome x process who label o).events ≡ events_of who o.change
+events_in x process who None o = refl
+events_in x process who (Some l) o = go o.opened
+  where
+    go : (opened : Option OpenFile) → (opening x process l who (record o { opened = opened })).events ≡ events_of who o.change
+    go None = refl
+    go (Some file) = refl
+
+-- what it leaves
+pub left_by : (x : Present) (process : Pid) (who : Option Id) (label : Option Label) (o : FileOutcome) → IsBuiltNow x
+    → apply x (files_outcome x process who label o) ≡ record (with_files x who o) { handles = handles_then x.handles process label o.opened }
+left_by x process who None o built = forms_law.files x who o built
+left_by x process who (Some l) o built = forms_law.opens x process l who o built
+
+-- what a plain call leaves
+pub change_leaves : (x : Present) (process : Pid) (label : Option Label) (plan : FileOutcome) → IsBuiltNow x
+    → apply x (files_outcome x process None label plan) ≡ with_group (with_change_made x process label plan) (files_outcome x process None label plan).events
+change_leaves x process label plan built = left_by x process None label plan built ∙ ap (with_group (with_change_made x process label plan)) (sym (events_in x process None label plan))
