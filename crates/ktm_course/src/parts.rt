@@ -66,6 +66,21 @@ impl Entry<'_> {
     }
 }
 
+impl Parts<'static> {
+    /// Neither takes part, or what they have is not recorded.
+    pub fn none() -> Self
+        ensures names { result.names.now ≡ [] }
+        ensures files { result.files.now ≡ [] }
+        ensures settings { result.settings.now ≡ [] }
+    {
+        Parts {
+            names: &[],
+            files: &[],
+            settings: &[],
+        }
+    }
+}
+
 impl Parts<'_> {
     // Do the files take part.
     fn has_changes(&self) -> bool

@@ -1,93 +1,123 @@
--- What a commit records, by what the transaction changed and set.
-use Rattle.std.proofs.Common.{arith, ◌≡◌, ◌≤◌, ◌||◌, ℕ, Bool, not, true, false, eqb, List, [], ◌∷◌, ◌++◌, length, None, Some, refl, sym, ◌∙◌, ap, subst}
-use Rattle.std.specs.Prelude.{All}
+-- Transactions that are asked to commit, and that roll back: by which steps, and what these record.
+use Rattle.std.proofs.Common.{arith, ◌≡◌, ◌≤◌, ◌||◌, ℕ, Bool, not, true, false, List, [], ◌∷◌, ◌++◌, length, All, None, Some, refl, sym, ◌∙◌, ap, subst}
 use Rattle.std.specs.List.{list_all}
-use Rattle.std.proofs.lemmas.Bool.{eqb-true}
-use Rattle.std.proofs.lemmas.List.Elements.{recursion_from_All}
-use Rattle.ktm_base.specs.declared.id.Id.{Id}
+use Rattle.std.proofs.lemmas.List.Elements.{All-from_recursion}
 use Rattle.ktm_event.specs.Spelling.{IsSpellableEvent}
-use Rattle.ktm_world.specs.Logs.{Group}
+use Rattle.ktm_base.specs.declared.id.Id.{Id}
+use Rattle.ktm_course.specs.Recorded.{basis_of, steps_events}
+use Rattle.ktm_course.specs.declared.parts.Parts.{Parts}
 use Rattle.ktm_event.specs.Work.{changes_of as recorded_changes}
 use Rattle.ktm_event.specs.declared.work.FileBytes.{FileBytes}
-use Rattle.ktm_forms.specs.Commits.{commit_events, parts_events}
+use Rattle.ktm_journal.specs.Image.{JournalState}
+use Rattle.ktm_phase.specs.Laws.{EventsAheadLaw, RowsLaw}
 use Rattle.ktm_types.specs.declared.change.Change.{Change}
 use Rattle.ktm_types.specs.declared.event.Event.{Event}
-use Rattle.ktm_types.specs.declared.event.Event.TheVariants.{Single}
-use Rattle.ktm_types.specs.declared.event.Part.TheVariants.{Changes, Settings}
+use Rattle.ktm_types.specs.declared.input.PhaseInput.{PhaseInput}
 use Rattle.ktm_types.specs.declared.object.Transaction.{Transaction}
+use Rattle.ktm_types.specs.declared.reply.Reply.{Reply}
+use Rattle.ktm_types.specs.declared.reply.Reply.TheVariants.{Done}
+use Rattle.ktm_types.specs.declared.step.Step.{Step}
 use Rattle.ktm_world.specs.Changes.{changes_apply, has_changes}
+use Rattle.ktm_world.specs.Enlistments.{Enlistment, is_ended, superior_of}
 use Rattle.ktm_world.specs.Files.{FilesNow, own_changes}
-use Rattle.ktm_world.specs.Keys.{KeysNow, OwnSettings, own_settings}
-use Rattle.ktm_world.specs.Outcome.{Outcome, is_full}
+use Rattle.ktm_world.specs.Keys.{OwnSettings, own_settings}
+use Rattle.ktm_world.specs.Phases.{Course, has_settings}
 use Rattle.ktm_world.specs.Present.{Present}
-use Rattle.ktm_world.specs.TransactionCalls.{commit_transaction}
+use Rattle.ktm_world.specs.Rows.{aborts, row}
+use Rattle.ktm_world.specs.Steps.{basis, lasting_of, run, seen}
+use Rattle.ktm_world.specs.TransactionCalls.{arrived, commit_reply, commit_transaction, course_of, rollback_transaction}
 use Rattle.ktm_world.specs.Transactions.{transaction_at}
+use Rattle.ktm_built.specs.Courses.{LeadsOn}
 use Rattle.ktm_built.specs.Files.{MayCommitNow}
 use Rattle.ktm_built.specs.Forms.{changes_of, settings_of}
 use Rattle.ktm_built.specs.Standing.{IsBuiltNow}
-use Rattle.ktm_built.proofs.offered.Forms.{forms_law}
+use Rattle.ktm_built.proofs.offered.Courses.{commit_leads, rollback_leads}
 use Rattle.txf_laws.specs.Reservations.{files_committed}
 use Rattle.txf_overlay.specs.OverlayState.{is_of_names}
 use Rattle.txf_laws.specs.FileEffects.{AreUnopened, AreVersionsFew, LeavesOthers, CanBeCounted}
 use Rattle.txf_volume.specs.Commit.{MayCommit, names_in}
 use Rattle.txf_volume.specs.Held.{FilesHeld, files_of, overlay_in}
 use Rattle.txf_volume.proofs.Seen.{changes_in, own_changes-held}
-use Rattle.ktm_memory.specs.Memory.{CanCommit, MemoryState}
+use Rattle.ktm_memory.specs.Memory.{CanCommit, Held, MemoryState, held, now_of}
 use Rattle.ktm_memory.specs.Takes.{has_work}
-use Rattle.ktm_world.specs.Phases.{has_settings}
+use Rattle.ktm_memory.proofs.Left.{built_on}
 
--- ---- which group
+-- ---- what the steps record
 
-pub nothing_changed : (id : Id) (cs : List Change) (ss : OwnSettings) → has_changes cs ≡ false → commit_events id [] ss ≡ commit_events id cs ss
-nothing_changed id [] ss none = refl
-nothing_changed id (c ∷ cs) ss none = absurd (cc)
-
-pub only_set : (id : Id) (ss : OwnSettings) → eqb (length ss) 0 ≡ false → Single id (Settings ss) ∷ [] ≡ commit_events id [] ss
-only_set id [] some = absurd (cc)
-only_set id (s ∷ ss) some = refl
-
-pub only_changed : (id : Id) (cs : List Change) (ss : OwnSettings) → has_changes cs ≡ true → eqb (length ss) 0 ≡ true → Single id (Changes cs) ∷ [] ≡ commit_events id cs ss
-only_changed id [] ss some none = absurd (cc)
-only_changed id (c ∷ cs) [] some none = refl
-only_changed id (c ∷ cs) (s ∷ ss) some none = absurd (omega (arith, eqb-true (length (s ∷ ss)) 0 none))
-
-pub both_done : (id : Id) (cs : List Change) (ss : OwnSettings) → has_changes cs ≡ true → eqb (length ss) 0 ≡ false → parts_events id (Changes cs) (Settings ss) ≡ commit_events id cs ss
-both_done id [] ss some set = absurd (cc)
-both_done id (c ∷ cs) [] some set = absurd (cc)
-both_done id (c ∷ cs) (s ∷ ss) some set = refl
-
--- ---- the changes, as they are recorded
-
+-- the changes, as they are recorded
 pub changes_are : (own names named : List Change) (files : List FileBytes) → names ≡ named → own ≡ recorded_changes named files → recorded_changes names files ≡ own
 changes_are own names named files same is = ap (λ ns. recorded_changes ns files) same ∙ sym is
 
--- what a transaction records that commits what these are of it
-abbrev pub events_of : Id → FilesNow → KeysNow → Group
-events_of id files keys = commit_events id (own_changes files.table.own id) (own_settings keys.own id)
+-- without enlistments a course records from this
+pub basis_is : (h : Held) (t : Transaction) (parts : Parts) → h.transactions.enlistments ≡ [] → recorded_changes parts.names.now parts.files.now ≡ changes_of (now_of h) t → parts.settings.now ≡ settings_of (now_of h) t
+    → basis_of t.id t.is_recorded parts ≡ basis (course_of (now_of h) t None)
+basis_is h t parts none changes settings i = record {
+  id = t.id;
+  is_recorded = t.is_recorded;
+  changes = changes i;
+  settings = settings i;
+  managers = [];
+  superior = ap (λ (es : List Enlistment). lasting_of (superior_of es t.id)) (sym none) i;
+  caller = None;
+}
 
--- ---- which events have bytes
+-- what steps record of it, when they are carried out
+pub steps_record : EventsAheadLaw → (h : Held) (t : Transaction) (parts : Parts) (steps : List Step) → basis_of t.id t.is_recorded parts ≡ basis (course_of (now_of h) t None)
+    → steps_events steps (basis_of t.id t.is_recorded parts) ≡ (run steps (course_of (now_of h) t None)).events
+steps_record ahead h t parts steps is = ap (steps_events steps) is ∙ sym (ahead steps (course_of (now_of h) t None))
 
-pub spelled_all : (left : ℕ) (es group : Group) → es ≡ group → (is_full left group ≡ false → All IsSpellableEvent group) → is_full left es ≡ false → All IsSpellableEvent es
-spelled_all left es group is spelled room = subst (All IsSpellableEvent) (sym is) (spelled (subst (λ (g : Group). is_full left g ≡ false) is room))
+-- a rollback records what it does whatever the transaction changed and set
+pub rollback_records : EventsAheadLaw → (h : Held) (t : Transaction) (parts : Parts) (steps : List Step) → steps ≡ aborts
+    → steps_events steps (basis_of t.id t.is_recorded parts) ≡ (run steps (course_of (now_of h) t None)).events
+rollback_records ahead h t parts steps are =
+    subst (λ (ss : List Step). steps_events ss (basis_of t.id t.is_recorded parts) ≡ (run ss (course_of (now_of h) t None)).events) (sym are) (sym (ahead aborts (course_of (now_of h) t None)))
 
-pub spelled_one : (left : ℕ) (e : Event) (group : Group) → e ∷ [] ≡ group → (is_full left group ≡ false → All IsSpellableEvent group) → is_full left (e ∷ []) ≡ false → IsSpellableEvent e
-spelled_one left e group is spelled room = (recursion_from_All IsSpellableEvent (e ∷ []) (spelled_all left (e ∷ []) group is spelled room)).0
+-- and nothing where nothing of it is in the log
+pub rollback_silent : (id : Id) (recorded : Bool) (parts : Parts) (steps : List Step) → steps ≡ aborts → recorded ≡ false → steps_events steps (basis_of id recorded parts) ≡ []
+rollback_silent id recorded parts steps are none =
+    ap (λ (ss : List Step). steps_events ss (basis_of id recorded parts)) are ∙ ap (λ (b : Bool). steps_events aborts (basis_of id b parts)) none
+
+pub none_spelled : (es : List Event) → es ≡ [] → All IsSpellableEvent es
+none_spelled es is = subst (All IsSpellableEvent) (sym is) (All-from_recursion IsSpellableEvent [] tt)
+
+-- ---- a transaction that is asked to commit
+
+-- it goes on by these steps
+pub commit_is : RowsLaw → (x : Present) (t : Transaction) (reply : Reply) → (let c = course_of x t None in
+    reply ≡ commit_reply (run (row (seen c) PhaseInput.CommitTransaction) c) → commit_transaction x (Some t) ≡ arrived x (run (row (seen c) PhaseInput.CommitTransaction) c) reply)
+unfolding commit_transaction
+commit_is rows x t reply says =
+    let c = course_of x t None in
+    ap (λ (d : Course). arrived x d (commit_reply d)) (sym (rows.requests c)) ∙ ap (arrived x (run (row (seen c) PhaseInput.CommitTransaction) c)) (sym says)
+
+-- it rolls back by these
+pub rollback_is : RowsLaw → (x : Present) (t : Transaction) → rollback_transaction x (Some t) ≡ arrived x (run aborts (course_of x t None)) Done
+unfolding rollback_transaction
+rollback_is rows x t = ap (λ (d : Course). arrived x d Done) (sym (rows.aborts (course_of x t None)))
+
+-- the course is the same whatever the log has
+pub leads_commit : (h : Held) (n : MemoryState) (t : Transaction) (steps : List Step) → held n ≡ h → IsBuiltNow (now_of h) → t.is_recorded ≡ false
+    → steps ≡ row (seen (course_of (now_of h) t None)) PhaseInput.CommitTransaction → (j : JournalState) → LeadsOn (now_of (record (held n) { journal = j })) t steps
+leads_commit h n t steps same built none are j =
+    subst (λ (g : Held). LeadsOn (now_of (record g { journal = j })) t steps) (sym same)
+    (subst (LeadsOn (now_of (record h { journal = j })) t) (sym are) (commit_leads (now_of (record h { journal = j })) t (built_on h j built) none))
+
+pub leads_rollback : (h : Held) (n : MemoryState) (t : Transaction) (steps : List Step) → held n ≡ h → IsBuiltNow (now_of h) → steps ≡ aborts → (j : JournalState) → LeadsOn (now_of (record (held n) { journal = j })) t steps
+leads_rollback h n t steps same built are j =
+    subst (λ (g : Held). LeadsOn (now_of (record g { journal = j })) t steps) (sym same)
+    (subst (LeadsOn (now_of (record h { journal = j })) t) (sym are) (rollback_leads (now_of (record h { journal = j })) t (built_on h j built)))
 
 -- ---- a commit that is decided
 
-pub commit_full : (x : Present) (left : ℕ) (t : Transaction) → IsBuiltNow x → transaction_at x.transactions.items t.id ≡ Some t → false ≡ not (is_full left (commit_events t.id (changes_of x t) (settings_of x t)))
-    → is_full left (commit_transaction x (Some t)).events ≡ true
-commit_full x left t built there full = ap (λ (o : Outcome). is_full left o.events) (forms_law.commit x t built there) ∙ from_not (is_full left (commit_events t.id (changes_of x t) (settings_of x t))) full
-  where
-    from_not : (b : Bool) → false ≡ not b → b ≡ true
-    from_not true e = refl
-    from_not false e = absurd (cc)
+pub full_from : (b : Bool) → false ≡ not b → b ≡ true
+full_from true e = refl
+full_from false e = absurd (cc)
 
 pub room_from : (b : Bool) → true ≡ not b → b ≡ false
 room_from false e = refl
 room_from true e = absurd (cc)
 
-pub can_commit : (x : Present) (m : MemoryState) (t : Transaction) → files_of m.files ≡ x.files → MayCommitNow x t → MayCommit m.files t.id → length (own_settings m.keys.keys.own t.id) ≤ m.keys.room → CanCommit m t
+pub can_commit : (x : Present) (m : MemoryState) (t : Transaction) → files_of m.files ≡ x.files → MayCommitNow x t → MayCommit m.files t.id → length (own_settings m.keys.keys.own t.id) ≤ m.keys.room → CanCommit m t.id
 can_commit x m t same may ready room = record {
   keys = room;
   files = ready;

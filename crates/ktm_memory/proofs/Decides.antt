@@ -1,72 +1,72 @@
 -- Decisions of the layers.
-use Rattle.std.proofs.Common.{◌≡◌, ℕ, ◌+◌, ◌-◌, true, false, List, [], Option, Some, None, is_some, refl, sym, ◌∙◌, ap, subst, arith}
-use Rattle.ktm_base.specs.declared.id.Id.{Id}
+use Rattle.std.proofs.Common.{◌≡◌, ◌≢◌, ℕ, ◌-◌, true, false, List, [], Option, Some, None, refl, sym, ◌∙◌, ap, subst}
+use Rattle.arrayvec.specs.ArrayVec.{ArrayVec}
+use Rattle.ktm_types.specs.declared.step.Step.{Step}
 use Rattle.ktm_base.specs.declared.id.Label.{Label}
 use Rattle.ktm_base.specs.declared.id.ObjectKind.{ObjectKind}
 use Rattle.ktm_base.specs.declared.id.Pid.{Pid}
+use Rattle.ktm_base.specs.declared.refusal.Refusal.{Refusal}
 use Rattle.ktm_base.specs.Guid.{guid_of}
+use Rattle.ktm_base.specs.declared.id.Id.{Id}
 use Rattle.ktm_event.specs.Kept.{EventsState, Holds}
 use Rattle.ktm_tm.specs.TmState.{next_id}
-use Rattle.ktm_types.specs.declared.event.Event.{Event}
-use Rattle.ktm_types.specs.declared.object.Object.{Object}
 use Rattle.ktm_types.specs.declared.object.Transaction.{Transaction}
 use Rattle.ktm_types.specs.declared.reply.Reply.{Reply}
-use Rattle.ktm_types.specs.declared.reply.Reply.TheVariants.{Committed, Done, Guid}
+use Rattle.ktm_types.specs.declared.reply.Reply.TheVariants.{Done, Guid, Refused}
 use Rattle.ktm_world.specs.Decide.{of_keys}
 use Rattle.ktm_world.specs.FileUses.{file_changes_waiting}
 use Rattle.ktm_world.specs.KeyCalls.{KeyOutcome}
-use Rattle.ktm_world.specs.HandleCalls.{duplicate_handle}
-use Rattle.ktm_world.specs.Handles.{object_at}
-use Rattle.ktm_world.specs.Labels.{with_handle}
-use Rattle.ktm_world.specs.Outcome.{Outcome, is_full, only_reply}
+use Rattle.ktm_world.specs.Outcome.{Outcome, apply, is_full, only_reply}
 use Rattle.ktm_world.specs.Present.{Present}
-use Rattle.ktm_world.specs.Transactions.{transaction_at}
-use Rattle.ktm_world.specs.TransactionCalls.{commit_transaction, create_transaction, get_transaction_information, information_of, opened_object, tick}
+use Rattle.ktm_world.specs.Steps.{run}
+use Rattle.ktm_world.specs.TransactionCalls.{arrived, course_of, create_transaction, get_transaction_information, information_of, tick}
 use Rattle.ktm_world.specs.Uses.{key_room}
-use Rattle.ktm_forms.specs.Commits.{commit_events}
-use Rattle.ktm_built.specs.Forms.{ComesTo, changes_of, settings_of, commit_outcome, with_bound, with_tick, with_transaction}
 use Rattle.ktm_built.specs.Standing.{IsBuiltNow, IsStandingNow}
+use Rattle.ktm_built.proofs.offered.Courses.{arrived-apply, arrived-events, arrived-reply}
 use Rattle.ktm_built.proofs.offered.Forms.{forms_law}
+use Rattle.ktm_memory.specs.declared.settlement.Labels.{Labels}
 use Rattle.ktm_memory.specs.declared.settlement.Settlement.{Settlement}
-use Rattle.ktm_memory.specs.declared.settlement.Settlement.TheVariants.{Nothing, Create, Commit, Tick}
+use Rattle.ktm_memory.specs.declared.settlement.Settlement.TheVariants.{Nothing, Begin, Course, Handles, Pass}
 use Rattle.ktm_memory.specs.declared.decide.Asked.{Asked}
 use Rattle.ktm_memory.specs.Route.{asked_outcome}
 use Rattle.ktm_memory.proofs.Routes.{up_or}
-use Rattle.ktm_memory.specs.Decided.{Decides}
+use Rattle.ktm_memory.proofs.Left.{create_comes}
+use Rattle.ktm_memory.specs.Decided.{Decides, IsDone}
 use Rattle.ktm_records.proofs.offered.NoMore.{fits-within}
 use Rattle.ktm_memory.proofs.offered.Standing.{built, kept}
-use Rattle.ktm_memory.specs.Memory.{CanCommit, Held, MaySettle, MemoryState, held, logged, now_of, present_of, settled, with_bound_to}
+use Rattle.ktm_memory.specs.Memory.{CanGoOn, Held, MayHandle, MaySettle, MemoryState, held, now_of, present_of}
+use Rattle.ktm_memory.specs.Settled.{labels_outcome, left_to_do}
 
--- no events change nothing of what is so now
-pub nothing_logged : (h : Held) → now_of (logged h []) ≡ now_of h
-nothing_logged h =
-    ap (λ (n : ℕ). now_of (record h { journal = record h.journal { events = n; log = record h.journal.log { end = h.journal.log.end + 0 } } })) (omega arith)
-    ∙ ap (λ (n : ℕ). now_of (record h { journal = record h.journal { log = record h.journal.log { end = n } } })) (omega arith)
-
--- ---- what records nothing
+-- ---- what changes nothing of what memory holds before it is recorded
 
 -- what is left to do comes to what the outcome comes to
-pub quiet_decided : (h : Held) (n : MemoryState) (o : Outcome) (reply : Reply) (y : Present) (then : Settlement) (events : EventsState) → ComesTo (now_of h) o reply y
-    → settled (now_of h) then ≡ y → held n ≡ h → MaySettle n then → Holds events [] → Decides h o reply then events n
-quiet_decided h n o reply y then events comes is same may holds = record {
-  says = sym comes.replies;
-  records = subst (Holds events) (sym comes.records) holds;
-  room = ap (is_full (now_of h).machine.left) comes.records;
+pub decided : (h : Held) (n : MemoryState) (o : Outcome) (reply : Reply) (then : Settlement) (events : EventsState) → IsBuiltNow (now_of h) → reply ≡ o.reply → Holds events o.events → is_full (now_of h).machine.left o.events ≡ false
+    → held n ≡ h → (left_to_do (now_of h) then).events ≡ o.events → apply (now_of h) (left_to_do (now_of h) then) ≡ apply (now_of h) o → MaySettle n then
+    → (o.events ≢ [] → (refusal : Refusal) → reply ≢ Refused refusal) → Decides h o reply then events n
+decided h n o reply then events built says holds room same group comes may answers = record {
+  says = says;
+  records = holds;
+  room = room;
   journal = ap (λ (g : Held). g.journal) same;
-  comes_to = ap (λ (es : List Event). settled (now_of (logged (held n) es)) then) comes.records ∙ ap (λ x. settled x then) (nothing_logged (held n) ∙ ap now_of same) ∙ is ∙ sym comes.leaves;
+  group = ap (λ (g : Held). (left_to_do (now_of g) then).events) same ∙ group;
+  comes_to = ap (λ (g : Held). apply (now_of g) (left_to_do (now_of g) then)) same ∙ comes;
+  built = subst (λ (g : Held). IsBuiltNow (now_of g)) (sym same) built;
   may = may;
-  waits = λ some. absurd (some comes.records);
-  answers = λ some. absurd (some comes.records);
+  waits = λ some. same;
+  answers = answers;
 }
 
-only_comes : (x : Present) (reply : Reply) → IsBuiltNow x → ComesTo x (only_reply x reply) reply x
-only_comes x reply built = record { replies = refl; records = refl; commits = refl; goes_on = refl; leaves = forms_law.replies x reply built }
+-- the same of what records nothing
+pub quiet_decided : (h : Held) (n : MemoryState) (o : Outcome) (reply : Reply) (then : Settlement) (events : EventsState) → IsBuiltNow (now_of h) → reply ≡ o.reply → o.events ≡ [] → held n ≡ h
+    → (left_to_do (now_of h) then).events ≡ o.events → apply (now_of h) (left_to_do (now_of h) then) ≡ apply (now_of h) o → MaySettle n then → Holds events [] → Decides h o reply then events n
+quiet_decided h n o reply then events built says none same group comes may holds =
+    decided h n o reply then events built says (subst (Holds events) (sym none) holds) (ap (is_full (now_of h).machine.left) none) same group comes may (λ some. absurd (some none))
 
 -- a reply, and nothing left to do
 pub only_decided : (m : MemoryState) (o : Outcome) (reply : Reply) (events : EventsState) → IsBuiltNow (present_of m) → o ≡ only_reply (present_of m) reply → Holds events []
     → Decides (held m) o reply Nothing events m
 only_decided m o reply events built is holds =
-    subst (λ o. Decides (held m) o reply Nothing events m) (sym is) (quiet_decided (held m) m (only_reply (present_of m) reply) reply (present_of m) Nothing events (only_comes (present_of m) reply built) refl refl tt holds)
+    subst (λ o. Decides (held m) o reply Nothing events m) (sym is) (quiet_decided (held m) m (only_reply (present_of m) reply) reply Nothing events built refl refl refl refl refl tt holds)
 
 -- ---- calls on keys
 
@@ -78,16 +78,22 @@ room_is h keys changes waiting keys_are waits changes_are = rw (keys_are, change
 pub keys_decided : (h : Held) (n : MemoryState) (o : KeyOutcome) (reply : Reply) (events : EventsState) → IsBuiltNow (now_of h) → reply ≡ o.reply
     → held n ≡ record h { keys = record h.keys { own = o.own } } → Holds events []
     → Decides h (of_keys (now_of h) o) reply Nothing events n
-keys_decided h n o reply events built says same holds = record {
-  says = says;
-  records = holds;
-  room = refl;
-  journal = ap (λ (g : Held). g.journal) same;
-  comes_to = nothing_logged (held n) ∙ ap now_of same ∙ sym (ap (λ (x : Present). record x { keys = record x.keys { own = o.own } }) (forms_law.replies (now_of h) o.reply built));
-  may = tt;
-  waits = λ some. absurd (some refl);
-  answers = λ some. absurd (some refl);
-}
+keys_decided h n o reply events built says same holds =
+    let g = record h { keys = record h.keys { own = o.own } } in
+    let built_then : IsBuiltNow (present_of n) = subst (λ (k : Held). IsBuiltNow (now_of k)) (sym same)
+    (record { managers = refl; enlistments = built.enlistments; last_manager = built.last_manager; last_enlistment = built.last_enlistment; unrecorded = built.unrecorded; recorded = refl }) in
+    record {
+      says = says;
+      records = holds;
+      room = refl;
+      journal = ap (λ (k : Held). k.journal) same;
+      group = refl;
+      comes_to = forms_law.replies (present_of n) Done built_then ∙ ap now_of same ∙ sym (ap (λ (x : Present). record x { keys = record x.keys { own = o.own } }) (forms_law.replies (now_of h) o.reply built));
+      built = built_then;
+      may = tt;
+      waits = λ some. absurd (some refl);
+      answers = λ some. absurd (some refl);
+    }
 
 -- ---- GetTransactionInformation
 
@@ -99,28 +105,23 @@ information_is x t reply is = ap (only_reply x) (sym is)
 
 -- what is to be for the passing of time
 pub tick_decided : (m : MemoryState) (ms : ℕ) (events : EventsState) → m.is_up ≡ true → IsStandingNow (present_of m) → Holds events []
-    → Decides (held m) (asked_outcome (present_of m) (Asked.Tick ms)) Done (Tick ms) events m
+    → Decides (held m) (asked_outcome (present_of m) (Asked.Tick ms)) Done (Pass ms) events m
 tick_decided m ms events up standing holds =
     let x = present_of m in
-    subst (λ o. Decides (held m) o Done (Tick ms) events m) (sym (up_or x [] (tick x ms) up))
-    (quiet_decided (held m) m (tick x ms) Done (with_tick x ms) (Tick ms) events (forms_law.waits x ms (built x standing)) refl refl
+    let comes = forms_law.waits x ms (built x standing) in
+    subst (λ o. Decides (held m) o Done (Pass ms) events m) (sym (up_or x [] (tick x ms) up))
+    (quiet_decided (held m) m (tick x ms) Done (Pass ms) events (built x standing) (sym comes.replies) comes.records refl refl refl
     ((kept x standing).sound.course.transactions_rise, (fits-within x (kept x standing).within).live) holds)
 
 -- ---- CreateTransaction
 
-pub create_comes : (x : Present) (process : Pid) (label : Label) (timeout : ℕ) → IsBuiltNow x
-    → ComesTo x (create_transaction x process label timeout) (create_transaction x process label timeout).reply (with_transaction x process label timeout)
-unfolding create_transaction
-create_comes x process label timeout built = record { replies = refl; records = refl; commits = refl; goes_on = refl; leaves = forms_law.creates x process label timeout built }
-
 pub create_decided : (h : Held) (n : MemoryState) (process : Pid) (label : Label) (timeout : ℕ) (reply : Reply) (events : EventsState) → IsBuiltNow (now_of h)
-    → reply ≡ (create_transaction (now_of h) process label timeout).reply → held n ≡ h → MaySettle n (Create process label timeout) → Holds events []
-    → (o : Outcome) → o ≡ create_transaction (now_of h) process label timeout → Decides h o reply (Create process label timeout) events n
+    → reply ≡ (create_transaction (now_of h) process label timeout).reply → held n ≡ h → MaySettle n (Begin process label timeout) → Holds events []
+    → (o : Outcome) → o ≡ create_transaction (now_of h) process label timeout → Decides h o reply (Begin process label timeout) events n
 create_decided h n process label timeout reply events built says same may holds o is =
     let made = create_transaction (now_of h) process label timeout in
-    subst (λ o. Decides h o reply (Create process label timeout) events n) (sym is)
-    (subst (λ r. Decides h made r (Create process label timeout) events n) (sym says)
-    (quiet_decided h n made made.reply (with_transaction (now_of h) process label timeout) (Create process label timeout) events (create_comes (now_of h) process label timeout built) refl same may holds))
+    subst (λ o. Decides h o reply (Begin process label timeout) events n) (sym is)
+    (quiet_decided h n made reply (Begin process label timeout) events built says (create_comes (now_of h) process label timeout built).records same refl refl may holds)
 
 -- the reply tells the GUID of that Id
 pub create_says : (h : Held) (process : Pid) (label : Label) (timeout : ℕ) (guid : List ℕ) (image : ℕ) (id : Id)
@@ -130,51 +131,22 @@ create_says h process label timeout guid image id is image_is id_is = rw (is, im
 
 -- ---- labels
 
--- a label bound to an object
-pub bound_comes : (x : Present) (process : Pid) (label : Label) (object : Object) → IsBuiltNow x → ComesTo x (opened_object x process label object) Done (with_bound x process label object)
-bound_comes x process label object built = record {
-  replies = refl;
-  records = refl;
-  commits = refl;
-  goes_on = refl;
-  leaves = ap (λ (y : Present). record y { handles = with_handle x.handles process label object }) (forms_law.replies x Done built);
-}
+pub handles_decided : (h : Held) (n : MemoryState) (process : Pid) (labels : Labels) (events : EventsState) → IsBuiltNow (now_of h) → IsDone (labels_outcome (now_of h) process labels) → held n ≡ h → MayHandle n process labels → Holds events []
+    → (o : Outcome) → o ≡ labels_outcome (now_of h) process labels → Decides h o Done (Handles process labels) events n
+handles_decided h n process labels events built done same may holds o is =
+    subst (λ o. Decides h o Done (Handles process labels) events n) (sym is)
+    (quiet_decided h n (labels_outcome (now_of h) process labels) Done (Handles process labels) events built (sym done.replies) done.records same refl refl may holds)
 
--- a label bound to what another one names
-pub duplicated_comes : (x : Present) (process : Pid) (label : Label) (from : Pid) (source : Label) → IsBuiltNow x → is_some (object_at x.handles from source) ≡ true
-    → ComesTo x (duplicate_handle x process label from source) Done (with_bound_to x process label (object_at x.handles from source))
-duplicated_comes x process label from source built there = go (object_at x.handles from source) refl there
-  where
-    go : (named : Option Object) → object_at x.handles from source ≡ named → is_some named ≡ true → ComesTo x (duplicate_handle x process label from source) Done (with_bound_to x process label named)
-    go None is there = absurd (cc)
-    go (Some object) is there = forms_law.duplicates x process label from source object built is
+-- ---- courses
 
--- ---- CommitTransaction
-
-pub commit_decided : (h : Held) (n : MemoryState) (t : Transaction) (events : EventsState) → IsBuiltNow (now_of h) → transaction_at h.transactions.items t.id ≡ Some t
-    → held n ≡ h → CanCommit n t → Holds events (commit_events t.id (changes_of (now_of h) t) (settings_of (now_of h) t))
-    → is_full (now_of h).machine.left (commit_events t.id (changes_of (now_of h) t) (settings_of (now_of h) t)) ≡ false
-    → Decides h (commit_transaction (now_of h) (Some t)) Committed (Commit t) events n
-commit_decided h n t events built there same may holds room = record {
-  says = ap (λ (o : Outcome). o.reply) (sym is);
-  records = subst (λ (es : List Event). Holds events es) (ap (λ (o : Outcome). o.events) (sym is)) holds;
-  room = subst (λ (es : List Event). is_full (now_of h).machine.left es ≡ false) (ap (λ (o : Outcome). o.events) (sym is)) room;
-  journal = ap (λ (g : Held). g.journal) same;
-  comes_to =
-      ap (λ (es : List Event). settled (now_of (logged (held n) es)) (Commit t)) (ap (λ (o : Outcome). o.events) is)
-      ∙ ap (λ g. settled (now_of (logged g events_then)) (Commit t)) same
-      ∙ ap (λ (left : ℕ). record (settled (now_of (logged h events_then)) (Commit t)) { machine = record { is_up = h.is_up; left = left } }) (omega arith)
-      ∙ sym (forms_law.commits x t built there);
-  may = (may, subst (λ g. transaction_at g.transactions.items t.id ≡ Some t) (sym same) there);
-  waits = λ some. same;
-  answers = λ some refusal e. absurd (cc);
-}
-  where
-    x : Present
-    x = now_of h
-
-    events_then : List Event
-    events_then = commit_events t.id (changes_of x t) (settings_of x t)
-
-    is : commit_transaction x (Some t) ≡ commit_outcome x t
-    is = forms_law.commit x t built there
+-- a transaction goes on by steps
+pub course_decided : (h : Held) (n : MemoryState) (t : Transaction) (steps : ArrayVec Step) (o : Outcome) (reply : Reply) (events : EventsState) → IsBuiltNow (now_of h) → (let c = run steps.items (course_of (now_of h) t None) in
+    o ≡ arrived (now_of h) c reply → Holds events c.events → is_full (now_of h).machine.left c.events ≡ false → held n ≡ h → CanGoOn n t steps.items
+    → ((refusal : Refusal) → reply ≢ Refused refusal) → Decides h o reply (Course t steps) events n)
+course_decided h n t steps o reply events built is holds room same may answers =
+    let x = now_of h in
+    let c = run steps.items (course_of x t None) in
+    let are = arrived-events x c reply in
+    subst (λ o. Decides h o reply (Course t steps) events n) (sym is)
+    (decided h n (arrived x c reply) reply (Course t steps) events built (sym (arrived-reply x c reply)) (subst (Holds events) (sym are) holds) (ap (is_full x.machine.left) are ∙ room) same
+    (arrived-events x c Done ∙ sym are) (arrived-apply x c Done reply) may (λ some. answers))

@@ -28,13 +28,17 @@ use Rattle.ktm_built.specs.Forms.{with_files, with_group}
 use Rattle.ktm_built.specs.Standing.{IsBuiltNow}
 use Rattle.ktm_built.proofs.offered.Forms.{forms_law}
 use Rattle.ktm_memory.specs.declared.settlement.Settlement.{Settlement}
-use Rattle.ktm_memory.specs.declared.settlement.Settlement.TheVariants.{Plain}
+use Rattle.ktm_memory.specs.declared.settlement.Settlement.TheVariants.{Change as PlainChange}
 use Rattle.ktm_memory.specs.Decided.{CanAnswer, Decides, bind_opened}
-use Rattle.ktm_memory.specs.Memory.{CanMakePlain, Held, MayBind, MaySettle, MemoryState, handles_then, held, logged, now_of, present_of, settled}
+use Rattle.ktm_memory.specs.Memory.{CanMakePlain, Held, MayBind, MaySettle, MemoryState, held, now_of, present_of}
 use Rattle.ktm_memory.specs.Route.{IsFreeLabel, IsReadyCall}
 use Rattle.ktm_memory.specs.Opening.{files_outcome}
 use Rattle.ktm_memory.specs.Takes.{is_quiet}
-use Rattle.ktm_memory.proofs.Decides.{nothing_logged}
+use Rattle.ktm_memory.proofs.Decides.{decided}
+use Rattle.ktm_memory.proofs.Left.{events_in, labels_come, left_by, no_group, reply_of}
+use Rattle.ktm_memory.specs.Settled.{handles_then, left_to_do}
+use Rattle.ktm_memory.specs.declared.settlement.Labels.TheVariants.{Bind}
+use Rattle.ktm_types.specs.declared.object.Object.TheVariants.{File as FileObject}
 use Rattle.txf_calls.specs.Calls.{file_effect, file_outcome, file_tests, unless_refused}
 use Rattle.txf_calls.specs.Views.{open_of}
 use Rattle.txf_calls.specs.declared.call.FileCall.{FileCall}
@@ -68,7 +72,7 @@ may_bind_plain m process (Some l) (Some file) room unbound = (room refl, unbound
 
 -- the call can be made, whatever it answers
 pub may_settle : (h : Held) (n : MemoryState) (process : Pid) (label : Option Label) (o : FileOutcome) (opened : Option Kept) (copy : Option (List ℕ)) → held n ≡ h → MayMakePlain (now_of h) o
-    → IsReady n.files o copy → option_map open_of opened ≡ o.opened → (is_some opened ≡ true → 1 ≤ n.handles.spare) → IsFreeLabel (now_of h) process label → MaySettle n (Plain process label (record o { reply = Done }) copy)
+    → IsReady n.files o copy → option_map open_of opened ≡ o.opened → (is_some opened ≡ true → 1 ≤ n.handles.spare) → IsFreeLabel (now_of h) process label → MaySettle n (PlainChange process label (record o { reply = Done }) copy)
 may_settle h n process label o opened copy same may ready is room unbound = (
   subst (λ (files : FilesNow). CanMakePlain files (record o { reply = Done })) (ap (λ g. g.files) (sym same)) (record { plain = record { change = may.plain.change; opened = may.plain.opened }; left = may.left; counted = may.counted }),
   record { change = ready.change; opened = ready.opened; copy_is = ready.copy_is },
@@ -76,66 +80,57 @@ may_settle h n process label o opened copy same may ready is room unbound = (
 )
 
 pub plain_decided : (h : Held) (n : MemoryState) (process : Pid) (label : Option Label) (o : FileOutcome) (reply : Reply) (plan : FileOutcome) (copy : Option (List ℕ)) (events : EventsState) → IsBuiltNow (now_of h)
-    → reply ≡ o.reply → plan ≡ record o { reply = Done } → held n ≡ h → MaySettle n (Plain process label (record o { reply = Done }) copy) → Holds events (events_of None o.change)
-    → is_full (now_of h).machine.left (events_of None o.change) ≡ false → CanAnswer None o → Decides h (files_outcome (now_of h) process None label o) reply (Plain process label plan copy) events n
-plain_decided h n process label o reply plan copy events built says is same may holds room answers = record {
-  says = says ∙ sym (reply_of x process None label o);
-  records = subst (λ (es : List Event). Holds events es) (sym are) holds;
-  room = subst (λ (es : List Event). is_full (now_of h).machine.left es ≡ false) (sym are) room;
-  journal = ap (λ (g : Held). g.journal) same;
-  comes_to =
-      ap (λ (p : FileOutcome). settled (now_of (logged (held n) (files_outcome x process None label o).events)) (Plain process label p copy)) is
-      ∙ ap (λ (es : List Event). settled (now_of (logged (held n) es)) then) are
-      ∙ ap (λ g. settled (now_of (logged g (events_of None o.change))) then) same
-      ∙ ap (λ (left : ℕ). record (settled (now_of (logged h (events_of None o.change))) then) { machine = record { is_up = h.is_up; left = left } }) (omega arith)
-      ∙ sym (left_by x process None label o built);
-  may = subst (λ (p : FileOutcome). MaySettle n (Plain process label p copy)) (sym is) may;
-  waits = λ some. same;
-  answers = λ some refusal e. answers (λ none. some (are ∙ none)) refusal (sym says ∙ e);
-}
-  where
-    x : Present
-    x = now_of h
-
-    then : Settlement
-    then = Plain process label (record o { reply = Done }) copy
-
-    are : (files_outcome x process None label o).events ≡ events_of None o.change
-    are = events_in x process None label o
+    → reply ≡ o.reply → plan ≡ record o { reply = Done } → held n ≡ h → MaySettle n (PlainChange process label (record o { reply = Done }) copy) → Holds events (events_of None o.change)
+    → is_full (now_of h).machine.left (events_of None o.change) ≡ false → CanAnswer None o → Decides h (files_outcome (now_of h) process None label o) reply (PlainChange process label plan copy) events n
+plain_decided h n process label o reply plan copy events built says is same may holds room answers =
+    let x = now_of h in
+    let are = events_in x process None label o in
+    decided h n (files_outcome x process None label o) reply (PlainChange process label plan copy) events built (says ∙ sym (reply_of x process None label o)) (subst (Holds events) (sym are) holds) (ap (is_full x.machine.left) are ∙ room) same
+    (ap (λ (p : FileOutcome). (files_outcome x process None label p).events) is ∙ events_in x process None label (record o { reply = Done }) ∙ sym are)
+    (ap (λ (p : FileOutcome). apply x (files_outcome x process None label p)) is ∙ left_by x process None label (record o { reply = Done }) built ∙ sym (left_by x process None label o built))
+    (subst (λ (p : FileOutcome). MaySettle n (PlainChange process label p copy)) (sym is) may)
+    (λ some refusal e. answers (λ none. some (are ∙ none)) refusal (sym says ∙ e))
 
 -- ---- a call in a transaction
 
--- the label is bound to the file that was opened
-bound : (x : Present) (process : Pid) (label : Option Label) (opened : Option Kept) → settled x (bind_opened process label opened) ≡ record x { handles = handles_then x.handles process label (option_map open_of opened) }
-bound x process None opened = refl
-bound x process (Some l) None = refl
-bound x process (Some l) (Some file) = refl
+-- the label is bound to the file that was opened, which records nothing
+bound_quiet : (x : Present) (process : Pid) (label : Option Label) (opened : Option Kept) → (left_to_do x (bind_opened process label opened)).events ≡ []
+bound_quiet x process None opened = refl
+bound_quiet x process (Some l) None = refl
+bound_quiet x process (Some l) (Some file) = refl
+
+bound : (x : Present) (process : Pid) (label : Option Label) (opened : Option Kept) → IsBuiltNow x
+    → apply x (left_to_do x (bind_opened process label opened)) ≡ record x { handles = handles_then x.handles process label (option_map open_of opened) }
+bound x process None opened built = forms_law.replies x Done built
+bound x process (Some l) None built = forms_law.replies x Done built
+bound x process (Some l) (Some file) built = (labels_come x process (Bind l (FileObject file.number)) built tt).leaves
 
 pub own_decided : (h : Held) (n : MemoryState) (process : Pid) (id : Id) (label : Option Label) (o : FileOutcome) (opened : Option Kept) (events : EventsState) → IsBuiltNow (now_of h)
     → held n ≡ record h { files = files_after h.files (Some id) o } → option_map open_of opened ≡ o.opened → MaySettle n (bind_opened process label opened) → Holds events []
     → Decides h (files_outcome (now_of h) process (Some id) label o) o.reply (bind_opened process label opened) events n
-own_decided h n process id label o opened events built same opens may holds = record {
-  says = sym (reply_of x process (Some id) label o);
-  records = subst (λ (es : List Event). Holds events es) (sym are) holds;
-  room = ap (is_full (now_of h).machine.left) are;
-  journal = ap (λ (g : Held). g.journal) same;
-  comes_to =
-      ap (λ (es : List Event). settled (now_of (logged (held n) es)) (bind_opened process label opened)) are
-      ∙ ap (λ y. settled y (bind_opened process label opened)) (nothing_logged (held n) ∙ ap now_of same)
-      ∙ bound (record x { files = files_after h.files (Some id) o }) process label opened
-      ∙ ap (λ (file : Option OpenFile). record x { files = files_after h.files (Some id) o; handles = handles_then x.handles process label file }) opens
-      ∙ sym (ap (λ (y : Present). record y { handles = handles_then x.handles process label o.opened }) (grouped (record x { files = files_after h.files (Some id) o })))
-      ∙ sym (left_by x process (Some id) label o built);
-  may = may;
-  waits = λ some. absurd (some are);
-  answers = λ some. absurd (some are);
-}
-  where
-    x : Present
-    x = now_of h
-
-    are : (files_outcome x process (Some id) label o).events ≡ []
-    are = events_in x process (Some id) label o
+own_decided h n process id label o opened events built same opens may holds =
+    let x = now_of h in
+    let are = events_in x process (Some id) label o in
+    let y = record x { files = files_after h.files (Some id) o } in
+    let built_then : IsBuiltNow (present_of n) = subst (λ (k : Held). IsBuiltNow (now_of k)) (sym same)
+    (record { managers = refl; enlistments = built.enlistments; last_manager = built.last_manager; last_enlistment = built.last_enlistment; unrecorded = built.unrecorded; recorded = refl }) in
+    record {
+      says = sym (reply_of x process (Some id) label o);
+      records = subst (λ (es : List Event). Holds events es) (sym are) holds;
+      room = ap (is_full (now_of h).machine.left) are;
+      journal = ap (λ (g : Held). g.journal) same;
+      group = bound_quiet (present_of n) process label opened ∙ sym are;
+      comes_to =
+          bound (present_of n) process label opened built_then
+          ∙ ap (λ (k : Held). record (now_of k) { handles = handles_then (now_of k).handles process label (option_map open_of opened) }) same
+          ∙ ap (λ (file : Option OpenFile). record y { handles = handles_then x.handles process label file }) opens
+          ∙ sym (ap (λ (z : Present). record z { handles = handles_then x.handles process label o.opened }) (no_group y))
+          ∙ sym (left_by x process (Some id) label o built);
+      built = built_then;
+      may = may;
+      waits = λ some. absurd (some are);
+      answers = λ some. absurd (some are);
+    }
 
 -- ---- a call that only answers
 

@@ -40,9 +40,16 @@ nothing_logged h =
 pub logged_group : (h : Held) (events : List Event) → now_of (logged h events) ≡ with_group (now_of h) events
 logged_group h events = ap (λ (left : ℕ). record (now_of (logged h events)) { machine = record { is_up = h.is_up; left = left } }) (omega arith)
 
--- before them there was nothing but what built forms make, too
+-- no events change nothing of it
+pub no_group : (x : Present) → with_group x [] ≡ x
+no_group x = ap (λ (left : ℕ). record x { machine = record x.machine { left = left }; recorded = record x.recorded { events = x.recorded.events + 0 } }) (omega arith) ∙ ap (λ (n : ℕ). record x { recorded = record x.recorded { events = n } }) (omega arith)
+
+-- whatever the journal has, there is nothing but what built forms make
+pub built_on : (h : Held) (j : JournalState) → IsBuiltNow (now_of h) → IsBuiltNow (now_of (record h { journal = j }))
+built_on h j built = record { managers = refl; enlistments = built.enlistments; last_manager = built.last_manager; last_enlistment = built.last_enlistment; unrecorded = built.unrecorded; recorded = refl }
+
 pub built_before : (m : MemoryState) (j : JournalState) → IsBuiltNow (present_of m) → IsBuiltNow (before m j)
-built_before m j built = record { managers = refl; enlistments = built.enlistments; last_manager = built.last_manager; last_enlistment = built.last_enlistment; unrecorded = built.unrecorded; recorded = refl }
+built_before m j built = built_on (held m) j built
 
 -- what is left records nothing, and makes this of what is so now
 pub left_quiet : (m : MemoryState) (j : JournalState) (f : Present → Present) (l : Outcome) → m.journal ≡ appended j l.events → l.events ≡ [] → apply (before m j) l ≡ f (before m j) → f (present_of m) ≡ apply (before m j) l

@@ -1,7 +1,9 @@
 // Recording what a commit or a plain call has to record, where the log has room for it.
-ghost use Rattle.std.specs.Prelude.{◌≡◌, ◌-◌, ◌≤◌, ◌∷◌, not, true, false, None, Some, [], All, IfOk, IfSome, IsOk, OnErr, length};
+ghost use Rattle.std.specs.Prelude.{◌≡◌, ℕ, ◌-◌, ◌^◌, ◌≤◌, ◌∷◌, min, sum_by, not, true, false, None, Some, [], All, IfOk, IfSome, IsOk, OnErr, length};
 ghost use Rattle.std.specs.List.{list_all};
-ghost use Rattle.ktm_event.specs.Kept.{Holds};
+ghost use Rattle.ktm_event.specs.Kept.{EventsState, Holds};
+ghost use Rattle.ktm_types.specs.Sizes.{event_size};
+ghost use Rattle.ktm_world.specs.Logs.{Group};
 ghost use Rattle.ktm_event.specs.Spelling.{IsSpellableEvent};
 ghost use Rattle.ktm_course.specs.Recorded.{basis_of, steps_events};
 ghost use Rattle.ktm_built.specs.Forms.{changes_of};
@@ -92,6 +94,14 @@ pub(crate) fn record_plan(journal: &Journal, events: &mut Events, plan: Plan) ->
     })
 }
 
+// Has the log room for events of this size, or is there none to have room for.
+fn has_room(journal: &Journal, size: usize) -> bool
+    ensures room { (group : Group) → min (sum_by event_size group) (2 ^ 64 - 1) ≡ size → result ≡ not (is_full (journal.now.log.area.len - journal.now.log.end) group) }
+    ensures fits { (events : EventsState) (taken : ℕ) → IsRoomy journal.now events → Holds events [] → size ≡ min taken (2 ^ 64 - 1) → result ≡ true → taken ≤ events.spare }
+{
+    size == 0 || journal.has_room(size)
+}
+
 // Records what the steps of a transaction record, where the log has room for it.
 fn record_steps(
     journal: &Journal,
@@ -109,7 +119,7 @@ fn record_steps(
     ensures room { events.new.room ≡ events.old.room }
 {
     let size = parts.size(t.id, t.is_recorded, steps);
-    if size > 0 && !journal.has_room(size) {
+    if !has_room(journal, size) {
         return false;
     }
     parts.record(t.id, t.is_recorded, steps, events);
@@ -152,17 +162,18 @@ impl Memory {
         law_of_events_ahead();
         self.keys.reserve(t.id)?;
         self.files.prepare_commit(t.id)?;
-        let written = self.files.written(t.id)?;
-        let steps = step(&self.seen(&t), PhaseInput::CommitTransaction);
+        let this = &*self;
+        let written = this.files.written(t.id)?;
+        let steps = step(&this.seen(&t), PhaseInput::CommitTransaction);
         let parts = Parts {
-            names: self.files.names(t.id),
+            names: this.files.names(t.id),
             files: &written,
-            settings: self.keys.own_settings(t.id),
+            settings: this.keys.own_settings(t.id),
         };
-        if !record_steps(&self.journal, events, parts, &t, steps.as_slice()) {
+        if !record_steps(&this.journal, events, parts, &t, steps.as_slice()) {
             return Ok(None);
         }
-        let reply = commit_reply(&self.moved(t, steps.as_slice()));
+        let reply = commit_reply(&this.moved(t, steps.as_slice()));
         Ok(Some(Decision {
             reply,
             settlement: Settlement::Course {
@@ -189,11 +200,7 @@ impl Memory {
         law_of_rows();
         law_of_events_ahead();
         let steps = step(&self.seen(&t), PhaseInput::Rollback);
-        let parts = Parts {
-            names: &[],
-            files: &[],
-            settings: &[],
-        };
+        let parts = Parts::none();
         if !record_steps(&self.journal, events, parts, &t, steps.as_slice()) {
             return None;
         }

@@ -172,6 +172,21 @@ arrived-events x c reply = go (is_undecided c.transaction) refl
     go true is = ap (λ (o : Outcome). o.events) (released-by true c _ is)
     go false is = ap (λ (o : Outcome). o.events) (released-by false c _ is)
 
+-- the reply changes nothing else
+pub arrived-reply : (x : Present) (c : Course) (reply : Reply) → (arrived x c reply).reply ≡ reply
+arrived-reply x c reply = go (is_undecided c.transaction) refl
+  where
+    go : (b : Bool) → is_undecided c.transaction ≡ b → (arrived x c reply).reply ≡ reply
+    go true is = ap (λ (o : Outcome). o.reply) (released-by true c _ is)
+    go false is = ap (λ (o : Outcome). o.reply) (released-by false c _ is)
+
+pub arrived-apply : (x : Present) (c : Course) (one other : Reply) → apply x (arrived x c one) ≡ apply x (arrived x c other)
+arrived-apply x c one other = go (is_undecided c.transaction) refl
+  where
+    go : (b : Bool) → is_undecided c.transaction ≡ b → apply x (arrived x c one) ≡ apply x (arrived x c other)
+    go true is = ap (apply x) (released-by true c _ is) ∙ sym (ap (apply x) (released-by true c _ is))
+    go false is = ap (apply x) (released-by false c _ is) ∙ sym (ap (apply x) (released-by false c _ is))
+
 -- ---- a commit
 
 abbrev commit_steps : Course → List Step

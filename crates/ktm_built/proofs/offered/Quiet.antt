@@ -123,7 +123,7 @@ unfolding aborting ended
 aborted_alone x t reply = refl
 
 -- nothing of a transaction that has not ended is in the log
-not_recorded : (x : Present) (t : Transaction) → IsBuiltNow x → transaction_at x.transactions.items t.id ≡ Some t → is_ended t.phase ≡ false → t.is_recorded ≡ false
+pub not_recorded : (x : Present) (t : Transaction) → IsBuiltNow x → transaction_at x.transactions.items t.id ≡ Some t → is_ended t.phase ≡ false → t.is_recorded ≡ false
 not_recorded x t built found live = elim (or_cases (not t.is_recorded) (is_ended t.phase) (found-passes is_recorded_at_its_end x.transactions.items t.id t built.unrecorded found)) [
   | inl none ↦ false_from_ne_true _ (λ is. true≢false (sym none ∙ ap not is))
   | inr is_ended ↦ absurd (true≢false (sym is_ended ∙ live))

@@ -32,7 +32,7 @@ use Rattle.txf_calls.specs.declared.call.OpenFile.{OpenFile as Kept}
 use Rattle.ktm_memory.specs.Route.{source_tests}
 use Rattle.ktm_memory.specs.Opening.{files_outcome}
 use Rattle.ktm_memory.specs.Takes.{early_tests, effect_takes_memory, files_take_memory, has_log_room, has_work, is_quiet, plan_takes_memory, takes_memory}
-use Rattle.ktm_memory.proofs.FilesDecided.{events_in}
+use Rattle.ktm_memory.proofs.Left.{events_in}
 use Rattle.ktm_memory.proofs.Routes.{first_of-passed}
 
 -- ---- calls on keys
