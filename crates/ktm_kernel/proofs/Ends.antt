@@ -1,10 +1,12 @@
 -- How an outcome ends: recorded, refused by a full log, or cut off.
-use Rattle.std.proofs.Common.{◌≡◌, ◌≢◌, ◌⊎◌, ℕ, ◌-◌, ◌≤◌, Bool, true, false, cond, List, [], ◌∷◌, ◌++◌, Option, Result, refl, sym, ◌∙◌, ap, subst, arith, inl, inr}
+use Rattle.std.proofs.Common.{◌≡◌, ◌≢◌, ◌⊎◌, ℕ, ◌+◌, ◌-◌, ◌≤◌, Bool, true, false, cond, List, [], ◌∷◌, ◌++◌, Option, Result, refl, sym, ◌∙◌, ap, subst, arith, inl, inr}
 use Rattle.std.proofs.lemmas.Bool.{cases_eq, both_ways}
 use Rattle.std.proofs.lemmas.List.{append-nil}
 use Rattle.std.specs.Prelude.{IsTrue, IsSomeAnd}
 use Rattle.ktm_base.specs.declared.refusal.Refusal.TheVariants.{LogFull, MachineDown}
+use Rattle.ktm_base.specs.declared.limits.TheConstants.{MOST_UNITS}
 use Rattle.ktm_base.specs.Disk.{DiskState}
+use Rattle.ktm_types.specs.Sizes.{area_len, frame_size}
 use Rattle.ktm_event.specs.Kept.{EventsState, Holds}
 use Rattle.ktm_journal.specs.Image.{JournalState, JournalAt, LeavesGroupOrNot}
 use Rattle.std.specs.Result.{IsErrOf}
@@ -21,9 +23,11 @@ use Rattle.ktm_built.proofs.offered.Decided.{full_log}
 use Rattle.ktm_built.proofs.offered.Machine.{apply-full}
 use Rattle.ktm_memory.specs.declared.settlement.Settlement.{Settlement}
 use Rattle.ktm_memory.specs.Decided.{Decides}
-use Rattle.ktm_kernel.specs.Done.{Ends, IsDone, IsCutOff, LeavesWithOr, TouchesNothing}
-use Rattle.ktm_kernel.specs.Stands.{KernelState}
-use Rattle.ktm_memory.specs.Memory.{Held, IsRoomy, MemoryState, appended, held, now_of, settled}
+use Rattle.ktm_kernel.specs.Done.{Ends, IsDone, IsCutOff, TouchesNothing}
+use Rattle.ktm_kernel.specs.Stands.{KernelState, machine_of}
+use Rattle.ktm_memory.specs.Memory.{Held, IsRoomy, MaySettle, MemoryState, appended, held, now_of, present_of, settled}
+use Rattle.ktm_memory.specs.Recorded.{LeavesWithOr}
+use Rattle.ktm_memory.proofs.offered.Settling.{settles_with}
 use Rattle.ktm_memory.proofs.offered.Standing.{built}
 
 -- ---- whether the log has room
@@ -35,27 +39,12 @@ with_room_done x o room = ap (λ b. cond b (full_log x) o) room
 with_full_log : (x : Present) (o : Outcome) → is_full x.machine.left o.events ≡ true → within_log x o ≡ full_log x
 with_full_log x o full = ap (λ b. cond b (full_log x) o) full
 
--- the journal with a group more is as the machine keeps it
-pub kept : (j k : JournalState) (e f : EventsState) (group : Group) → k ≡ appended j group → IsRoomy j e → f.room ≡ e.room → IsRoomy k f
-kept j k e f group grown roomy room = rw grown (record { most = roomy.most; room = omega (arith, roomy.room, room) })
-
-of_group : (events : EventsState) (j : JournalState) (log : List Group) (now : Option DiskState) → 1 ≤ events.count → (group : Group) → Holds events group
-    → IsSomeAnd now (LeavesGroupOrNot j log group) → IsSomeAnd now (LeavesWithOr j log (as_groups group))
-of_group events j log now some [] holds leaves = absurd (omega (arith, some, holds.counted))
-of_group events j log now some (e ∷ es) holds leaves = leaves
-
--- what an append leaves that was cut off, of a list that is not empty
-pub cut_groups : {T : Type 0} (result : Result T AppendFault) (events : EventsState) (j : JournalState) (before now : Option DiskState) → 1 ≤ events.count
-    → (IsErrOf result Down → (log : List Group) (group : Group) → Holds events group → IsSomeAnd before (JournalAt j log) → IsSomeAnd now (LeavesGroupOrNot j log group))
-    → IsErrOf result Down → (log : List Group) (group : Group) → Holds events group → IsSomeAnd before (JournalAt j log) → IsSomeAnd now (LeavesWithOr j log (as_groups group))
-cut_groups result events j before now some left failed log group holds at = of_group events j log now some group holds (left failed log group holds at)
-
--- a list that is not empty has one at least
-pub counted_from : (count : ℕ) (empty : Bool) → empty ≡ false → (count ≡ 0 → IsTrue empty) → 1 ≤ count
-counted_from count empty not_empty tells = elim (cases_eq count 0) [
-  | inl none ↦ absurd (both_ways empty not_empty (tells none))
-  | inr some ↦ omega (arith, some)
-]
+-- a list of events has as much room as before, and the image as many units
+pub kept : (j k : JournalState) (e f : EventsState) → k.units ≡ j.units → f.room ≡ e.room → IsRoomy j e → IsRoomy k f
+kept j k e f units room roomy = record {
+  most = subst (λ n. n ≤ MOST_UNITS) (sym units) roomy.most;
+  room = subst (λ n. area_len n ≤ f.room + frame_size []) (sym units) (omega (arith, roomy.room, room));
+}
 
 -- there are events, or none
 some_or_none : (es : List Event) → (es ≡ []) ⊎ (es ≢ [])
@@ -67,39 +56,50 @@ pub as_shown : (f : Present → Outcome) (is_down down : Bool) (k old : KernelSt
     → Ends down k (f k.now) reply new before now → Ends is_down old (f old.now) reply new before now
 as_shown f is_down down k old reply new before now same is ends = subst (λ d. Ends d old (f old.now) reply new before now) (sym same) (subst (λ l. Ends down l (f l.now) reply new before now) is ends)
 
-module _ (j : JournalState) (h : Held) (o : Outcome) (reply : Reply) (then : Settlement) (events : EventsState) (n : MemoryState) (decided : Decides j h o reply then events n) where
+module _ (a : MemoryState) (o : Outcome) (reply : Reply) (then : Settlement) (events : EventsState) (n : MemoryState) (decided : Decides (held a) o reply then events n) where
   abbrev pub x : Present
-  x = now_of j h
+  x = present_of a
+
+  at_first : (before : Option DiskState) (log : List Group) → IsSomeAnd before (JournalAt a.journal log) → IsSomeAnd before (JournalAt n.journal log)
+  at_first before log at = subst (λ j. IsSomeAnd before (JournalAt j log)) (sym decided.journal) at
 
   -- the group was recorded, where there is one, and memory has settled
-  pub done : (k : JournalState) (m : MemoryState) (before now : Option DiskState)
-      → ((group : Group) → Holds events group → k ≡ appended j group) → ((i : JournalState) → now_of i (held m) ≡ settled (now_of i (held n)) then)
-      → ((log : List Group) (group : Group) → Holds events group → IsSomeAnd before (JournalAt j log) → IsSomeAnd now (JournalAt k (log ++ as_groups group)))
-      → IsDone (record { now = x; journal = j }) (within_log x o) reply (record { now = now_of k (held m); journal = k }) before now
-  done k m before now grows settles log =
+  pub done : (r m : MemoryState) (before now : Option DiskState)
+      → ((group : Group) → Holds events group → r ≡ record n { journal = appended n.journal group }) → present_of m ≡ settled (present_of r) then → m.journal ≡ r.journal
+      → ((log : List Group) (group : Group) → Holds events group → IsSomeAnd before (JournalAt n.journal log) → IsSomeAnd now (JournalAt r.journal (log ++ as_groups group)))
+      → IsDone (machine_of a) (within_log x o) reply (machine_of m) before now
+  done r m before now grows settles keeps log =
       let same = with_room_done x o decided.room in
       let grown = grows o.events decided.records in
+      let journal = keeps ∙ ap (λ (b : MemoryState). b.journal) grown ∙ ap (λ (j : JournalState). appended j o.events) decided.journal in
       record {
         says = decided.says ∙ ap (λ (d : Outcome). d.reply) (sym same);
-        state = ap (λ i. now_of i (held m)) grown ∙ settles (appended j o.events) ∙ decided.comes_to ∙ ap (apply x) (sym same);
-        units = ap (λ (i : JournalState). i.units) grown;
-        image = ap (λ (i : JournalState). i.image) grown;
-        log = λ gs at. subst (λ (d : Outcome). IsSomeAnd now (JournalAt k (gs ++ as_groups d.events))) (sym same) (log gs o.events decided.records at);
+        state = settles ∙ ap (λ (b : MemoryState). settled (present_of b) then) grown ∙ decided.comes_to ∙ ap (apply x) (sym same);
+        units = ap (λ (j : JournalState). j.units) journal;
+        image = ap (λ (j : JournalState). j.image) journal;
+        log = λ gs at. subst (λ (d : Outcome). IsSomeAnd now (JournalAt m.journal (gs ++ as_groups d.events))) (sym same)
+            (subst (λ j. IsSomeAnd now (JournalAt j (gs ++ as_groups o.events))) (sym keeps) (log gs o.events decided.records (at_first before gs at)));
       }
 
+  -- memory may settle once it was recorded
+  pub may_settle : (r : MemoryState) → ((group : Group) → Holds events group → r ≡ record n { journal = appended n.journal group }) → MaySettle r then
+  may_settle r grows = subst (λ (b : MemoryState). MaySettle b then) (sym (grows o.events decided.records)) (settles_with n (appended n.journal o.events) then decided.may)
+
   -- the power went
-  pub cut : (k : JournalState) (m : MemoryState) (before now : Option DiskState)
-      → k ≡ j → held m ≡ record (held n) { is_up = false } → (Holds events [] → ⊥)
-      → ((log : List Group) (group : Group) → Holds events group → IsSomeAnd before (JournalAt j log) → IsSomeAnd now (LeavesWithOr j log (as_groups group)))
-      → IsCutOff (record { now = x; journal = j }) (within_log x o) (Refused MachineDown) (record { now = now_of k (held m); journal = k }) before now
-  cut k m before now same falls some left =
+  pub cut : (r m : MemoryState) (before now : Option DiskState)
+      → r ≡ n → m ≡ record r { is_up = false } → (Holds events [] → ⊥)
+      → ((log : List Group) (group : Group) → Holds events group → IsSomeAnd before (JournalAt n.journal log) → IsSomeAnd now (LeavesWithOr n.journal log (as_groups group)))
+      → IsCutOff (machine_of a) (within_log x o) (Refused MachineDown) (machine_of m) before now
+  cut r m before now same falls some left =
       let is = with_room_done x o decided.room in
       let was = decided.waits (λ none. some (subst (Holds events) none decided.records)) in
+      let fell = falls ∙ ap (λ (b : MemoryState). record b { is_up = false }) same in
       record {
         says = refl;
-        state = ap (λ i. now_of i (held m)) same ∙ ap (now_of j) (falls ∙ ap (λ (g : Held). record g { is_up = false }) was);
-        journal = same;
-        log = λ gs at. subst (λ (d : Outcome). IsSomeAnd now (LeavesWithOr j gs (as_groups d.events))) (sym is) (left gs o.events decided.records at);
+        state = ap present_of fell ∙ ap (λ (g : Held). now_of (record g { is_up = false })) was;
+        journal = ap (λ (b : MemoryState). b.journal) fell ∙ decided.journal;
+        log = λ gs at. subst (λ (d : Outcome). IsSomeAnd now (LeavesWithOr a.journal gs (as_groups d.events))) (sym is)
+            (subst (λ j. IsSomeAnd now (LeavesWithOr j gs (as_groups o.events))) decided.journal (left gs o.events decided.records (at_first before gs at)));
       }
 
   -- what was recorded was not refused, and its command records something
@@ -119,16 +119,18 @@ module _ (j : JournalState) (h : Held) (o : Outcome) (reply : Reply) (then : Set
   ]
 
 -- the log had no room
-pub stopped : (j : JournalState) (h : Held) (o : Outcome) (n m : MemoryState) (told : Option DiskState) → IsStandingNow (now_of j h)
-    → is_full (j.log.area.len - j.log.end) o.events ≡ true → held n ≡ h → held m ≡ record (held n) { is_up = false }
-    → IsDone (record { now = now_of j h; journal = j }) (within_log (now_of j h) o) (Refused LogFull) (record { now = now_of j (held m); journal = j }) told told
-stopped j h o n m told standing full same falls =
-    let x = now_of j h in
+pub stopped : (a : MemoryState) (o : Outcome) (n m : MemoryState) (told : Option DiskState) → IsStandingNow (present_of a)
+    → is_full (present_of a).machine.left o.events ≡ true → held n ≡ held a → m ≡ record n { is_up = false }
+    → IsDone (machine_of a) (within_log (present_of a) o) (Refused LogFull) (machine_of m) told told
+stopped a o n m told standing full same falls =
+    let x = present_of a in
     let stops = with_full_log x o full in
+    let journal = ap (λ (b : MemoryState). b.journal) falls ∙ ap (λ (g : Held). g.journal) same in
     record {
       says = ap (λ (d : Outcome). d.reply) (sym stops);
-      state = ap (now_of j) (falls ∙ ap (λ (g : Held). record g { is_up = false }) same) ∙ sym (apply-full x (built x standing)) ∙ ap (apply x) (sym stops);
-      units = refl;
-      image = refl;
-      log = λ gs at. subst (λ (d : Outcome). IsSomeAnd told (JournalAt j (gs ++ as_groups d.events))) (sym stops) (subst (λ (l : List Group). IsSomeAnd told (JournalAt j l)) (sym (append-nil gs)) at);
+      state = ap present_of falls ∙ ap (λ (g : Held). now_of (record g { is_up = false })) same ∙ sym (apply-full x (built x standing)) ∙ ap (apply x) (sym stops);
+      units = ap (λ (j : JournalState). j.units) journal;
+      image = ap (λ (j : JournalState). j.image) journal;
+      log = λ gs at. subst (λ (d : Outcome). IsSomeAnd told (JournalAt m.journal (gs ++ as_groups d.events))) (sym stops)
+          (subst (λ j. IsSomeAnd told (JournalAt j (gs ++ []))) (sym journal) (subst (λ (l : List Group). IsSomeAnd told (JournalAt a.journal l)) (sym (append-nil gs)) at));
     }

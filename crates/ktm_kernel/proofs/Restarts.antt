@@ -142,9 +142,10 @@ unrecorded_calls n a b AppendFault.Down failed is calls = subst (λ f. let r : R
 unrecorded_calls n a b Full failed is calls = subst (λ f. let r : Result ℕ RestartFault = Err f in DeviceCalls n a b (restart_went_down r)) (sym is) calls
 
 -- what a machine holds that starts from this state
-abbrev pub fresh_held : Durable → Held
-fresh_held state = record {
+abbrev pub fresh_held : JournalState → Durable → Held
+fresh_held j state = record {
   is_up = true;
+  journal = j;
   handles = [];
   boot = state.boots + 1;
   transactions = record { clock = 0; last_transaction = 0; last_manager = 0; last_enlistment = 0; items = []; enlistments = [] };
@@ -153,12 +154,12 @@ fresh_held state = record {
   keys = record { store = state.keys; own = [] };
 }
 
-pub held_fresh : (m : MemoryState) (state : Durable) (boot : ℕ) (tree : Tree) (next : ℕ) (store : Store) → m.is_up ≡ true → m.tm.boot ≡ boot
+pub held_fresh : (m : MemoryState) (j : JournalState) (state : Durable) (boot : ℕ) (tree : Tree) (next : ℕ) (store : Store) → m.is_up ≡ true → m.journal ≡ j → m.tm.boot ≡ boot
     → m.tm.now ≡ record { clock = 0; last_transaction = 0; last_manager = 0; last_enlistment = 0; items = []; enlistments = [] } → files_of m.files ≡ files_begun tree next → m.next_node ≡ next
-    → m.keys.keys ≡ record { store = store; own = [] } → handles_of m.handles ≡ [] → boot ≡ state.boots + 1 → tree ≡ state.tree → next ≡ state.next_node → store ≡ state.keys → held m ≡ fresh_held state
-held_fresh m state boot tree next store up boot_is now files next_node keys handles is tree_is next_is keys_are =
+    → m.keys.keys ≡ record { store = store; own = [] } → handles_of m.handles ≡ [] → boot ≡ state.boots + 1 → tree ≡ state.tree → next ≡ state.next_node → store ≡ state.keys → held m ≡ fresh_held j state
+held_fresh m j state boot tree next store up journal boot_is now files next_node keys handles is tree_is next_is keys_are =
     let h = held m in
-    ap (λ (fs : FilesNow). record h { files = fs }) files ∙ rw (up, boot_is, now, next_node, keys, handles, is, tree_is, next_is, keys_are) refl
+    ap (λ (fs : FilesNow). record h { files = fs }) files ∙ rw (up, journal, boot_is, now, next_node, keys, handles, is, tree_is, next_is, keys_are) refl
 
 -- what a disk that nothing was written to may leave
 pub unwritten_leaves : (units image : ℕ) (before log : List Group) (told : Option DiskState) → IsSomeAnd told (HoldsBoth units image before log) → IsSomeAnd told (LeavesOwnOrNot units image before log)
@@ -298,7 +299,7 @@ module _ (units image : ℕ) (before log : List Group) (state : Durable) (is : I
 
 -- what a machine holds that started, with the journal that recorded that
 pub fresh_now : (k : JournalState) (h : Held) (state : Durable) (left : ℕ) → IsBuiltState state → k.units ≡ state.units → k.image ≡ state.image → k.events ≡ state.events + 1 → left ≡ k.log.area.len - k.log.end
-    → h ≡ fresh_held state → now_of k h ≡ fresh state left
+    → h ≡ fresh_held k state → now_of h ≡ fresh state left
 fresh_now k h state left built units image events left_is is =
     rw (is, left_is, units, image, events)
     (ap (λ (s : Durable). fresh (record s { events = state.events; boots = state.boots; next_node = state.next_node; tree = state.tree; keys = state.keys }) (k.log.area.len - k.log.end)) (sym built))

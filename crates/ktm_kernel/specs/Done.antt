@@ -1,15 +1,16 @@
 -- What an outcome did to the machine and to the groups on its disk, for whatever world it stands for.
-use Rattle.std.specs.Prelude.{◌≡◌, ◌≢◌, ◌⊎◌, ℕ, Bool, true, false, List, [], ◌++◌, Option, IsSomeAnd}
+use Rattle.std.specs.Prelude.{◌≡◌, ◌≢◌, ◌⊎◌, Bool, true, false, List, [], ◌++◌, Option, IsSomeAnd}
 use Rattle.ktm_base.specs.declared.refusal.Refusal.{Refusal}
 use Rattle.ktm_base.specs.declared.refusal.Refusal.TheVariants.{MachineDown}
-use Rattle.ktm_base.specs.Disk.{DiskState, MayLeave}
-use Rattle.ktm_journal.specs.Image.{JournalState, JournalAt, IsImage}
+use Rattle.ktm_base.specs.Disk.{DiskState}
+use Rattle.ktm_journal.specs.Image.{JournalAt}
 use Rattle.ktm_types.specs.declared.reply.Reply.{Reply}
 use Rattle.ktm_types.specs.declared.reply.Reply.TheVariants.{Refused}
 use Rattle.ktm_world.specs.Present.{Present}
 use Rattle.ktm_world.specs.Logs.{Group, as_groups}
 use Rattle.ktm_world.specs.Outcome.{Outcome, apply}
 use Rattle.ktm_kernel.specs.Stands.{KernelState}
+use Rattle.ktm_memory.specs.Recorded.{LeavesWithOr}
 
 -- it was answered, and its group was recorded, where it has one
 pub record IsDone (old : KernelState) (o : Outcome) (reply : Reply) (new : KernelState) (before now : Option DiskState) : Type 0 where
@@ -22,10 +23,6 @@ pub record IsDone (old : KernelState) (o : Outcome) (reply : Reply) (new : Kerne
 -- what is so once the machine is down
 abbrev pub fallen : Present → Present
 fallen x = record x { machine = record x.machine { is_up = false } }
-
--- each image that may be left has the groups, with these more or without
-abbrev pub LeavesWithOr : JournalState → List Group → List Group → DiskState → Type 0
-LeavesWithOr j log more s = (image : List ℕ) → MayLeave s image → IsImage j.units j.image log image ⊎ IsImage j.units j.image (log ++ more) image
 
 -- the power went: its group may be there or not
 pub record IsCutOff (old : KernelState) (o : Outcome) (reply : Reply) (new : KernelState) (before now : Option DiskState) : Type 0 where

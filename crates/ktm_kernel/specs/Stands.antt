@@ -14,11 +14,16 @@ use Rattle.ktm_forms.specs.Built.{is_built_log}
 use Rattle.ktm_world.specs.Logs.{Group, is_up}
 use Rattle.ktm_built.specs.Standing.{IsStanding, IsStandingNow}
 use Rattle.ktm_world.specs.Transcript.{Does, Step}
+use Rattle.ktm_memory.specs.Memory.{MemoryState, present_of}
 
 -- what a machine is: what is so now, and its journal
 pub record KernelState : Type 0 where
   pub now : Present
   pub journal : JournalState
+
+-- the machine whose memory this is
+abbrev pub machine_of : MemoryState → KernelState
+machine_of m = record { now = present_of m; journal = m.journal }
 
 -- the world's run began with an image of this journal that held these groups
 pub record Began (j : JournalState) (before : List Group) (w : World) : Type 0 where

@@ -14,11 +14,10 @@ ghost use Rattle.ktm_memory.specs.Route.{IsBuiltAsked, decided};
 ghost use Rattle.ktm_kernel.specs.Stands.{KernelAt, DoesLine, IsPowered, IsReady};
 ghost use Rattle.ktm_memory.specs.Takes.{asked_takes_memory, takes_memory};
 
-use crate::record::record;
 use ktm_base::{Disk, NoMemory, Pid, Refusal};
 use ktm_built::{law_of_events, law_of_standing};
 use ktm_event::Events;
-use ktm_journal::{AppendFault, Journal};
+use ktm_journal::AppendFault;
 use ktm_memory::{Asked, Decision, Memory};
 use ktm_types::{Command, Reply};
 use std::alloc::Global;
@@ -29,20 +28,19 @@ use std::marker::Model;
 pub struct Kernel {
     pub(crate) alloc: Global,
     pub(crate) memory: Memory,
-    pub(crate) journal: Journal,
     // In the buffer that the log was read into.
     pub(crate) events: Events,
 }
 
 impl Model for Kernel {
-    ghost use Rattle.ktm_memory.specs.Memory.{IsRoomy, held, now_of};
-    ghost use Rattle.ktm_kernel.specs.Stands.{KernelState};
+    ghost use Rattle.ktm_memory.specs.Memory.{IsRoomy};
+    ghost use Rattle.ktm_kernel.specs.Stands.{KernelState, machine_of};
 
     ghost Value = { KernelState };
 
-    ghost view = { λ k. record { now = now_of k.journal (held k.memory); journal = k.journal } };
+    ghost view = { λ k. machine_of k.memory };
 
-    ghost invariant = { λ k. IsRoomy k.journal k.events };
+    ghost invariant = { λ k. IsRoomy k.memory.journal k.events };
 }
 
 impl Kernel {
@@ -127,14 +125,12 @@ impl Kernel {
         ensures enough { asked_takes_memory self.old.now asked ≡ false → IsOk result }
     {
         self.events.clear();
-        let decided = self
-            .memory
-            .decide(self.alloc, &self.journal, asked, &mut self.events)?;
+        let decided = self.memory.decide(self.alloc, asked, &mut self.events)?;
         let Some(Decision { reply, settlement }) = decided else {
             self.memory.fall();
             return Ok(Reply::Refused(Refusal::LogFull));
         };
-        match record(&mut self.journal, disk, &self.events) {
+        match self.memory.record(disk, &self.events) {
             Ok(()) => {
                 self.memory.settle(settlement);
                 Ok(reply)

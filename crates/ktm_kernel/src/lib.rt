@@ -4,7 +4,6 @@
 
 mod kernel;
 mod laws;
-mod record;
 mod restart;
 
 pub use kernel::Kernel;

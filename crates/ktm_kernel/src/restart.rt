@@ -123,8 +123,7 @@ fn started(alloc: Global, journal: Journal, state: Durable, events: Events) -> R
     Restarted {
         kernel: Kernel {
             alloc,
-            memory: Memory::start(alloc, boot, files, keys),
-            journal,
+            memory: Memory::start(alloc, journal, boot, files, keys),
             events,
         },
         events: found,
@@ -241,7 +240,6 @@ impl Kernel {
             Ok(restarted) => {
                 let kernel = restarted.kernel;
                 drop(replace(&mut self.memory, kernel.memory));
-                self.journal = kernel.journal;
                 self.events = kernel.events;
                 Ok(Reply::Restarted {
                     events: restarted.events,
@@ -249,7 +247,7 @@ impl Kernel {
                 })
             }
             Err(fault) => {
-                self.events = events_in(buffer, &self.journal);
+                self.events = events_in(buffer, self.memory.journal());
                 answer_of(fault)
             }
         }

@@ -13,6 +13,6 @@ start-requires-clause-units c = c.into_files_and_keys-files.ensures.units ∙ ap
 
 pub returns-clause-now : goal.returns-clause-now
 returns-clause-now c =
-    let same = held_fresh c.start.result c.args.state _ _ _ _ c.start.ensures.up c.start.ensures.boot c.start.ensures.transactions c.start.ensures.files c.start.ensures.next_node c.start.ensures.keys c.start.ensures.handles
+    let same = held_fresh c.start.result c.args.journal c.args.state _ _ _ _ c.start.ensures.up c.start.ensures.journal c.start.ensures.boot c.start.ensures.transactions c.start.ensures.files c.start.ensures.next_node c.start.ensures.keys c.start.ensures.handles
     (ap (λ n. n + 1) c.boots-boot.ensures) c.into_files_and_keys-files.ensures.tree c.into_files_and_keys-files.ensures.next_node c.into_files_and_keys-files.ensures.keys in
     fresh_now c.args.journal (held c.start.result) c.args.state _ c.requires.built c.requires.units c.requires.image c.requires.counted refl same

@@ -1,8 +1,7 @@
 use Rattle.std.proofs.Common.{◌≡◌, ℕ, Err, Some, ap, subst, sym, ◌∙◌}
 use Rattle.ktm_types.specs.declared.command.Line.TheVariants.{Restart}
 use Rattle.ktm_types.specs.declared.reply.Reply.TheVariants.{Restarted}
-use Rattle.ktm_memory.specs.Memory.{MemoryState, held, now_of}
-use Rattle.ktm_kernel.specs.Stands.{KernelState, DoesLine, FoundAt}
+use Rattle.ktm_kernel.specs.Stands.{KernelState, DoesLine, FoundAt, machine_of}
 use Rattle.ktm_kernel.specs.declared.restart.RestartFault.TheVariants.{Down, Full}
 use Rattle.ktm_world.specs.World.{World}
 use Rattle.ktm_kernel.proofs.StartAgain.{answered_by, started_line, interrupted_line, full_line, found_is_good, found_few}
@@ -10,7 +9,7 @@ use Rattle.ktm_kernel.proofs.kernel.Kernel.start_again.Goals as goal
 
 pub returns-in-Ok-clause-does : goal.returns-in-Ok-clause-does
 returns-in-Ok-clause-does g c = λ pick w at.
-    let is = ap (λ (m : MemoryState). record { now = now_of c.kernel.inside.journal (held m); journal = c.kernel.inside.journal }) c.replace-in-Ok.ensures.after ∙ c.kernel.view_is in
+    let is = ap machine_of c.replace-in-Ok.ensures.after ∙ c.kernel.view_is in
     subst (λ (k : KernelState). DoesLine w (Some (Restart pick)) (Restarted c.in-Ok.restarted.events c.in-Ok.restarted.in_doubt) k (g.D.Disk.told c.restart.new.disk)) (sym is)
     (started_line c.law_of_standing.ensures c.args.self.now _ _ _ (g.D.Disk.told c.args.disk.now) (g.D.Disk.told c.restart.new.disk) c.in-Ok.ensures.starts pick w at)
 
