@@ -1,5 +1,6 @@
 // The durable state in memory, as its users see it.
-ghost use Rattle.std.specs.Prelude.{◌≡◌, ◌&&◌, [], Ok, true, IfOk, sum_by};
+ghost use Rattle.std.specs.Prelude.{◌≡◌, ◌&&◌, ℕ, [], ◌∷◌, Ok, false, true, IfOk, IsOk, sum_by};
+ghost use Rattle.ktm_types.specs.declared.event.Event.TheVariants.{Boot};
 ghost use Rattle.ktm_forms.specs.Built.{is_built_group};
 ghost use Rattle.ktm_world.specs.Durable.{after_events, empty_state, events_apply};
 ghost use Rattle.ktm_world.specs.Tree.{bytes_or_none, units_of};
@@ -78,10 +79,12 @@ impl Durable {
     }
 
     /// Applies a group of events. It answers false where the group is not built or does not apply; the state is then of no use,
-    /// as it is where memory is wanted.
+    /// as it is where memory is wanted. A group that is not built wants none, nor does a boot.
     pub fn apply_group(&mut self, events: Vec<Event>) -> Result<bool, NoMemory>
         ensures applies { IfOk result (λ applied. applied ≡ (is_built_group events.items && events_apply self.old events.items)) }
         ensures after { result ≡ Ok true → self.new ≡ after_events self.old events.items }
+        ensures refused { is_built_group events.items ≡ false → IsOk result }
+        ensures boots { (boot : ℕ) → events.items ≡ Boot boot ∷ [] → IsOk result }
     {
         self.replayed.apply_group(events)
     }

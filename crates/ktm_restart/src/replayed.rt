@@ -1,5 +1,5 @@
 // The durable state in memory while a log is read, and what groups of events make of it.
-ghost use Rattle.std.specs.Prelude.{◌≡◌, ◌&&◌, ◌+◌, ◌^◌, ◌≤◌, List, [], ◌∷◌, All, Ok, true, IfOk, IfSome, IsOk, IsSomeAnd, OnOk, length, is_none, is_some, count_by, nat_lt, nat_le, sum_by};
+ghost use Rattle.std.specs.Prelude.{◌≡◌, ◌&&◌, ◌+◌, ◌^◌, ◌≤◌, List, [], ◌∷◌, All, Ok, false, true, IfOk, IfSome, IsOk, IsSomeAnd, OnOk, length, is_none, is_some, count_by, nat_lt, nat_le, sum_by};
 ghost use Rattle.std.specs.List.{list_all};
 ghost use Rattle.ktm_base.specs.declared.id.Id.{Id};
 ghost use Rattle.ktm_types.specs.declared.change.Change.{Change};
@@ -479,6 +479,7 @@ impl Replayed {
         ensures applies { IfOk result (λ applied. applied ≡ (is_built_group events.items && events_apply self.old.state events.items)) }
         ensures after { result ≡ Ok true → self.new.state ≡ after_events self.old.state events.items }
         ensures enough { All (CanTake self.old) events.items → IsOk result }
+        ensures refused { is_built_group events.items ≡ false → IsOk result }
     {
         if !is_built_group(&events) {
             return Ok(false);
