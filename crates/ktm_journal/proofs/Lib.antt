@@ -2,4 +2,5 @@ mod Known
 mod Formats
 mod Headers
 mod Opened
+mod Recorded
 pub mod offered

@@ -2,3 +2,5 @@ pub mod Image
 pub mod Format
 pub mod Bad
 pub mod Header
+pub mod Append
+pub mod Open

@@ -1,17 +1,15 @@
 // The journal of an image, and how it grows.
-ghost use Rattle.std.specs.Prelude.{◌^◌, ◌≡◌, ◌↔◌, ℕ, ◌+◌, ◌-◌, ◌*◌, ◌<◌, ◌≤◌, List, [], ◌∷◌, ◌++◌, length, min, sum_by, IfOk, OnOk, OnErr, IfErr, IsTrue, IsErrOf, true, false, is_err, vec_capacity, IfSome, IsSomeAnd};
+ghost use Rattle.std.specs.Prelude.{◌^◌, ◌≡◌, ◌↔◌, ◌+◌, ◌-◌, ◌*◌, ◌<◌, ◌≤◌, [], length, min, sum_by, OnOk, OnErr, IsTrue, true, false, is_err, IfSome};
 ghost use Rattle.ktm_base.specs.declared.limits.TheConstants.{LEAST_UNITS, MOST_UNITS, MOST_PENDING};
 ghost use Rattle.ktm_base.specs.Told.{Goes};
-ghost use Rattle.ktm_base.specs.Disk.{DeviceCalls, IsSafe, OnlyReads};
-ghost use Rattle.ktm_log.specs.Fault.{append_went_down};
+ghost use Rattle.ktm_base.specs.Disk.{DeviceCalls, IsSafe};
+ghost use Rattle.ktm_log.specs.OnDisk.{on};
 ghost use Rattle.ktm_world.specs.Logs.{Group};
-ghost use Rattle.ktm_world.specs.Outcome.{is_full};
 ghost use Rattle.ktm_types.specs.Sizes.{area_len, event_size, frame_size};
-ghost use Rattle.ktm_event.specs.Kept.{Holds};
-ghost use Rattle.ktm_journal.specs.Image.{IsFormatted, IsImage, JournalAt, LeavesGroupOrNot, log_area};
-ghost use Rattle.ktm_journal.specs.Bad.{load_went_down};
+ghost use Rattle.ktm_journal.specs.Append.{RecordLeaves, has_no_room};
 ghost use Rattle.ktm_journal.specs.Format.{Anything};
-ghost use Rattle.ktm_log.specs.Log.{IsBadLog, IsLog, area_bytes, end_of, payloads_in};
+ghost use Rattle.ktm_journal.specs.Image.{IsFormatted, IsImage};
+ghost use Rattle.ktm_journal.specs.Open.{OpenLeaves};
 
 use crate::image::{area_len, lay, log_area, put_header};
 use crate::{Header, LoadFault};
@@ -77,21 +75,7 @@ impl Journal {
         requires least { LEAST_UNITS ≤ header.units }
         requires most { header.units ≤ MOST_UNITS }
         requires formatted { IfSome (D.told disk.old) (λ s. IsFormatted header.units header.image s.seen) }
-        ensures units { IfOk result (λ journal. journal.units ≡ header.units) }
-        ensures image { IfOk result (λ journal. journal.image ≡ header.image) }
-        ensures area { IfOk result (λ journal. journal.log.area ≡ log_area header.units) }
-        ensures end { IfOk result (λ journal. journal.log.end ≡ end_of (payloads_in buffer.new.items)) }
-        ensures inside { IfOk result (λ journal. journal.log.end < journal.log.area.len) }
-        ensures room { IfOk result (λ journal. journal.log.area.len ≤ vec_capacity buffer.new) }
-        ensures kept { vec_capacity buffer.old ≤ vec_capacity buffer.new }
-        ensures log { OnOk result (IfSome (D.told disk.old) (λ s. IsLog (payloads_in buffer.new.items) (area_bytes (log_area header.units) s.seen))) }
-        ensures journal { IfOk result (λ journal. (log : List Group) → IsSomeAnd (D.told disk.old) (λ s. IsSafe s × IsImage header.units header.image log s.seen)
-            → IsSomeAnd (D.told disk.new) (JournalAt journal log)) }
-        ensures bad { (offset : ℕ) → IsErrOf result (LoadFault.Bad offset) → (offset ≡ (log_area header.units).at + end_of (payloads_in buffer.new.items))
-            × IfSome (D.told disk.old) (λ s. IsBadLog (payloads_in buffer.new.items) (area_bytes (log_area header.units) s.seen)) }
-        ensures reads { OnlyReads (2 * header.units + 16) (D.told disk.old) (D.told disk.new) (D.status disk.old) (D.status disk.new) (load_went_down result) }
-        ensures up { OnOk result ((D.status disk.new).is_down ≡ false) }
-        ensures up_bad { (offset : ℕ) → IsErrOf result (LoadFault.Bad offset) → (D.status disk.new).is_down ≡ false }
+        ensures { OpenLeaves header (on buffer.old (D.told disk.old) (D.status disk.old)) (on buffer.new (D.told disk.new) (D.status disk.new)) result }
     {
         match Log::scan(disk, log_area(header.units), buffer) {
             Ok(log) => Ok(Journal {
@@ -120,23 +104,7 @@ impl Journal {
         requires pending { (D.status disk.old).pending < MOST_PENDING }
         requires formatted { IfSome (D.told disk.old) (λ s. IsFormatted self.old.units self.old.image s.seen) }
         requires some { 1 ≤ events.now.count }
-        ensures units { self.new.units ≡ self.old.units }
-        ensures image { self.new.image ≡ self.old.image }
-        ensures area { self.new.log.area ≡ self.old.log.area }
-        ensures end { OnOk result ((group : Group) → Holds events.now group → self.new.log.end ≡ self.old.log.end + frame_size group) }
-        ensures counted { OnOk result ((group : Group) → Holds events.now group → self.new.events ≡ self.old.events + length group) }
-        ensures full { (group : Group) → Holds events.now group
-            → (result ≡ Err AppendFault.Full) ↔ IsTrue (is_full (self.old.log.area.len - self.old.log.end) group) }
-        ensures refused { IfErr result (λ fault. self.new ≡ self.old) }
-        ensures unchanged { IsErrOf result AppendFault.Full → (D.told disk.new ≡ D.told disk.old) × (D.status disk.new ≡ D.status disk.old) }
-        ensures ok { OnOk result ((log : List Group) (group : Group) → Holds events.now group
-            → IsSomeAnd (D.told disk.old) (JournalAt self.old log) → IsSomeAnd (D.told disk.new) (JournalAt self.new (log ++ group ∷ []))) }
-        ensures formatted { OnOk result (IfSome (D.told disk.new) (λ s. IsFormatted self.new.units self.new.image s.seen)) }
-        ensures down { IsErrOf result AppendFault.Down → (log : List Group) (group : Group) → Holds events.now group
-            → IsSomeAnd (D.told disk.old) (JournalAt self.old log) → IsSomeAnd (D.told disk.new) (LeavesGroupOrNot self.old log group) }
-        ensures pending { OnOk result ((D.status disk.new).pending ≡ 0) }
-        ensures up { OnOk result ((D.status disk.new).is_down ≡ false) }
-        ensures calls { DeviceCalls 4 (D.status disk.old) (D.status disk.new) (append_went_down result) }
+        ensures { RecordLeaves events.now (on self.old (D.told disk.old) (D.status disk.old)) (on self.new (D.told disk.new) (D.status disk.new)) result }
     {
         if let Err(fault) = self.log.append(disk, events.body()) {
             return Err(fault);
@@ -155,7 +123,7 @@ impl Journal {
 
     /// Has the log room for a group whose events take so many bytes together, or 2^64 - 1, where they take more.
     pub fn has_room(&self, size: usize) -> bool
-        ensures room { (group : Group) → min (sum_by event_size group) (2 ^ 64 - 1) ≡ size → 1 ≤ length group → IsTrue result ↔ (is_full (self.now.log.area.len - self.now.log.end) group ≡ false) }
+        ensures room { (group : Group) → min (sum_by event_size group) (2 ^ 64 - 1) ≡ size → 1 ≤ length group → IsTrue result ↔ (has_no_room self.now group ≡ false) }
         ensures small { result ≡ true → size + frame_size [] < area_len self.now.units }
     {
         (size.saturating_add(FRAME) as u64) < self.left()

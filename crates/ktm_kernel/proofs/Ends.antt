@@ -18,15 +18,17 @@ use Rattle.ktm_types.specs.declared.reply.Reply.TheVariants.{Refused}
 use Rattle.ktm_world.specs.Logs.{Group, as_groups}
 use Rattle.ktm_world.specs.Outcome.{Outcome, apply, is_full, within_log}
 use Rattle.ktm_world.specs.Present.{Present}
-use Rattle.ktm_built.specs.Standing.{IsStandingNow}
+use Rattle.ktm_built.specs.Standing.{IsBuiltNow, IsStandingNow}
 use Rattle.ktm_built.proofs.offered.Decided.{full_log}
 use Rattle.ktm_built.proofs.offered.Machine.{apply-full}
 use Rattle.ktm_memory.specs.declared.settlement.Settlement.{Settlement}
 use Rattle.ktm_memory.specs.Decided.{Decides}
 use Rattle.ktm_kernel.specs.Done.{Ends, IsDone, IsCutOff, TouchesNothing}
 use Rattle.ktm_kernel.specs.Stands.{KernelState, machine_of}
-use Rattle.ktm_memory.specs.Memory.{Held, IsRoomy, MemoryState, appended, held, now_of, present_of, settled}
+use Rattle.ktm_memory.specs.Memory.{Held, IsRoomy, MaySettle, MemoryState, appended, held, now_of, present_of}
+use Rattle.ktm_memory.specs.Settled.{IsLeftOf, before, left_to_do}
 use Rattle.ktm_memory.specs.Recorded.{LeavesWithOr}
+use Rattle.ktm_memory.proofs.offered.Settling.{built_on, settles_with}
 use Rattle.ktm_memory.proofs.offered.Standing.{built}
 
 -- ---- whether the log has room
@@ -64,21 +66,30 @@ module _ (a : MemoryState) (o : Outcome) (reply : Reply) (then : Settlement) (ev
 
   -- the group was recorded, where there is one, and memory has settled
   pub done : (r m : MemoryState) (before now : Option DiskState)
-      → ((group : Group) → Holds events group → r ≡ record n { journal = appended n.journal group }) → present_of m ≡ settled (present_of r) then → m.journal ≡ r.journal
+      → ((group : Group) → Holds events group → r ≡ record n { journal = appended n.journal group }) → ((j : JournalState) → IsLeftOf r j then → present_of m ≡ apply (before r j) (left_to_do (before r j) then)) → m.journal ≡ r.journal
       → ((log : List Group) (group : Group) → Holds events group → IsSomeAnd before (JournalAt n.journal log) → IsSomeAnd now (JournalAt r.journal (log ++ as_groups group)))
       → IsDone (machine_of a) (within_log x o) reply (machine_of m) before now
   done r m before now grows settles keeps log =
       let same = with_room_done x o decided.room in
       let grown = grows o.events decided.records in
-      let image = ap (λ (j : JournalState). (j.units, j.image)) keeps ∙ ap (λ (b : MemoryState). (b.journal.units, b.journal.image)) grown ∙ ap (λ (j : JournalState). (j.units, j.image)) decided.journal in
+      let settled = subst (λ (b : MemoryState). (j : JournalState) → IsLeftOf b j then → present_of m ≡ apply (before b j) (left_to_do (before b j) then)) grown settles in
+      let journal = keeps ∙ ap (λ (b : MemoryState). b.journal) grown ∙ ap (λ (j : JournalState). appended j o.events) decided.journal in
       record {
         says = decided.says ∙ ap (λ (d : Outcome). d.reply) (sym same);
-        state = settles ∙ ap (λ (b : MemoryState). settled (present_of b) then) grown ∙ decided.comes_to ∙ ap (apply x) (sym same);
-        units = ap (λ p. p.0) image;
-        image = ap (λ p. p.1) image;
+        state = settled n.journal (ap (appended n.journal) (sym decided.group)) ∙ decided.comes_to ∙ ap (apply x) (sym same);
+        units = ap (λ (j : JournalState). j.units) journal;
+        image = ap (λ (j : JournalState). j.image) journal;
         log = λ gs at. subst (λ (d : Outcome). IsSomeAnd now (JournalAt m.journal (gs ++ as_groups d.events))) (sym same)
             (subst (λ j. IsSomeAnd now (JournalAt j (gs ++ as_groups o.events))) (sym keeps) (log gs o.events decided.records (at_first before gs at)));
       }
+
+  -- it stands so once it was recorded
+  pub built_then : (r : MemoryState) → ((group : Group) → Holds events group → r ≡ record n { journal = appended n.journal group }) → IsBuiltNow (present_of r)
+  built_then r grows = subst (λ (b : MemoryState). IsBuiltNow (present_of b)) (sym (grows o.events decided.records)) (built_on (held n) (appended n.journal o.events) decided.built)
+
+  -- memory may settle once it was recorded
+  pub may_settle : (r : MemoryState) → ((group : Group) → Holds events group → r ≡ record n { journal = appended n.journal group }) → MaySettle r then
+  may_settle r grows = subst (λ (b : MemoryState). MaySettle b then) (sym (grows o.events decided.records)) (settles_with n (appended n.journal o.events) then decided.may)
 
   -- the power went
   pub cut : (r m : MemoryState) (before now : Option DiskState)

@@ -5,3 +5,4 @@ pub mod Appends
 pub mod Steps
 pub mod Loading
 pub mod Payloads
+pub mod Reading

@@ -1,12 +1,13 @@
 -- An area that is read piece by piece.
 use Rattle.std.specs.Prelude.{IfSome, IsSomeAnd}
-use Rattle.std.proofs.Common.{◌≡◌, ℕ, ◌+◌, ◌-◌, ◌*◌, ◌/◌, ◌<◌, ◌≤◌, max, Bool, false, Option, None, Some, List, [], ◌∷◌, ◌++◌, length, get_or, take, drop, sym, ◌∙◌, ap, subst, arith, length-take, length-drop, length-append}
+use Rattle.std.proofs.Common.{◌≡◌, ℕ, ◌+◌, ◌-◌, ◌*◌, ◌/◌, ◌<◌, ◌≤◌, max, min, Bool, false, Option, None, Some, List, [], ◌∷◌, ◌++◌, length, get_or, take, drop, sym, ◌∙◌, ap, subst, arith, length-take, length-drop, length-append}
 use Rattle.std.proofs.lemmas.List.{take_at, take_all, drop_all, take-append-drop, take-take, drop-take, drop-drop, append-nil}
 use borrow.Rule.Slice.PartMut.{put_mid}
-use Rattle.ktm_base.specs.Disk.{DiskState, DiskStatus, DeviceCalls, IsSafe}
+use Rattle.ktm_base.specs.Disk.{DiskState, DiskStatus, DeviceCalls, IsSafe, OnlyReads}
 use Rattle.ktm_log.specs.declared.area.Area.{Area}
 use Rattle.ktm_log.specs.Log.{area_bytes, size_at, IsClosed, IsTorn, IsFrame, IsLog, IsBadLog, Rests, end_of, first_payload, payloads_in}
 use Rattle.ktm_log.specs.Load.{EndFrames, IsRead, Loads, WentOn, pieces}
+use Rattle.ktm_log.proofs.Reading.{calls_most}
 use Rattle.ktm_log.proofs.Parts.{area_part, length-area}
 use Rattle.ktm_log.proofs.Frames.{first_at, begins-push, end_of-push}
 use Rattle.ktm_base.proofs.offered.Images.{calls_law}
@@ -54,6 +55,18 @@ loads_then area a b d s t u refused first second = record {
   calls = subst (λ n. DeviceCalls n s u refused) (omega (arith, first.longer, second.longer)) (calls_law s t u (pieces b - pieces a) (pieces d - pieces b) refused first.calls second.calls);
   pending = second.pending ∙ first.pending;
 }
+
+-- what was read of an area from its begin, as device calls
+pub only_read : (area : Area) (after most : ℕ) (o n : Option DiskState) (s t : DiskStatus) (refused : Bool) → n ≡ o → Loads area 0 after s t refused → pieces after ≤ most → OnlyReads most o n s t refused
+only_read area after most o n s t refused same loads few = record { same = same; pending = loads.pending; calls = calls_most (pieces after - pieces 0) most s t refused (omega arith) loads.calls }
+
+-- a closed gate was found with no piece behind its own
+pub few_closed : (old new end : ℕ) → pieces old ≤ pieces (end + 1) → pieces new ≤ max (pieces old) (pieces (end + 1)) → pieces new ≤ pieces (end + 1)
+few_closed old new end before now = omega arith
+
+-- a bad frame was found with no piece behind its length, and none behind the area
+pub few_torn : (old new end len at : ℕ) → end ≡ at → new ≤ len → pieces old ≤ pieces (end + 1) → pieces new ≤ max (pieces old) (pieces (end + 5)) → pieces new ≤ pieces (min len (at + 5))
+few_torn old new end len at is within before now = omega arith
 
 -- what was read, in the area
 pub in_area : (area : Area) (read image : List ℕ) → IsRead area read image → WentOn read (area_bytes area image)

@@ -1,18 +1,9 @@
--- What the answers of a scan and of an append say.
+-- Which answers say that the disk is down.
 use Rattle.std.specs.Prelude.{Bool, true, false, Result, Ok, Err}
-use Rattle.ktm_log.specs.declared.fault.LogFault.{LogFault}
-use Rattle.ktm_log.specs.declared.fault.LogFault.TheVariants.{Down as ScanDown, Bad, NoMemory}
 use Rattle.ktm_log.specs.declared.fault.FrameFault.{FrameFault}
 use Rattle.ktm_log.specs.declared.fault.FrameFault.TheVariants.{Down as FrameDown, Torn}
 use Rattle.ktm_log.specs.declared.fault.AppendFault.{AppendFault}
 use Rattle.ktm_log.specs.declared.fault.AppendFault.TheVariants.{Down as AppendDown, Full}
-
--- did a scan find the disk down
-abbrev pub scan_went_down : {T : Type 0} → Result T LogFault → Bool
-scan_went_down (Ok value) = false
-scan_went_down (Err ScanDown) = true
-scan_went_down (Err (Bad offset)) = false
-scan_went_down (Err NoMemory) = false
 
 -- did the search for a frame find the disk down
 abbrev pub frame_went_down : {T : Type 0} → Result T FrameFault → Bool

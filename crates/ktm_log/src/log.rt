@@ -1,13 +1,9 @@
 // The log of an area, and how it grows.
-ghost use Rattle.std.specs.Prelude.{◌≡◌, ◌↔◌, ℕ, ◌+◌, ◌-◌, ◌^◌, ◌<◌, ◌≤◌, List, [], ◌∷◌, ◌++◌, length, OnOk, IfOk, IfErr, vec_capacity, false, IsErrOf, IfSome, IsSomeAnd};
+ghost use Rattle.std.specs.Prelude.{◌≡◌, ◌+◌, ◌^◌, ◌<◌, ◌≤◌, length, IfSome};
 ghost use Rattle.ktm_base.specs.declared.limits.TheConstants.{MOST_PENDING};
-ghost use Rattle.ktm_base.specs.Told.{Goes};
-ghost use Rattle.ktm_base.specs.Disk.{IsSafe, DeviceCalls, OnlyReads};
-ghost use Rattle.ktm_log.specs.Fault.{scan_went_down, append_went_down};
-ghost use Rattle.ktm_log.specs.Log.{IsLog, IsBadLog, Rests, LeavesEither, SameElsewhere, area_bytes, end_of, payloads_in};
-ghost use Rattle.ktm_log.specs.Load.{pieces};
-ghost use Rattle.ktm_log.specs.Settle.{IsBodyOf};
-ghost use Rattle.ktm_log.specs.declared.fault.LogFault.{LogFault};
+ghost use Rattle.ktm_log.specs.Append.{AppendLeaves};
+ghost use Rattle.ktm_log.specs.OnDisk.{on};
+ghost use Rattle.ktm_log.specs.Scan.{ScanLeaves};
 
 use crate::fault::FrameFault;
 use crate::load::next_frame;
@@ -41,24 +37,7 @@ impl Log {
         requires there { 0 < area.len }
         requires small { area.at + area.len < 2 ^ 63 }
         requires within { IfSome (D.told disk.old) (λ s. area.at + area.len ≤ length s.seen) }
-        ensures area { IfOk result (λ log. log.area ≡ area) }
-        ensures end { IfOk result (λ log. log.end ≡ end_of (payloads_in buffer.new.items)) }
-        ensures inside { IfOk result (λ log. log.end < area.len) }
-        ensures log { OnOk result (IfSome (D.told disk.old) (λ s. IsLog (payloads_in buffer.new.items) (area_bytes area s.seen))) }
-        ensures stands { IfOk result (λ log. IsSomeAnd (D.told disk.old) IsSafe
-            → IsSomeAnd (D.told disk.new) (Rests area (payloads_in buffer.new.items) log.end)) }
-        ensures bad { (offset : ℕ) → IsErrOf result (LogFault.Bad offset) → (offset ≡ area.at + end_of (payloads_in buffer.new.items))
-            × IfSome (D.told disk.old) (λ s. IsBadLog (payloads_in buffer.new.items) (area_bytes area s.seen)) }
-        ensures inside_bad { (offset : ℕ) → IsErrOf result (LogFault.Bad offset) → end_of (payloads_in buffer.new.items) < area.len }
-        ensures room { OnOk result (area.len ≤ vec_capacity buffer.new) }
-        ensures kept { vec_capacity buffer.old ≤ vec_capacity buffer.new }
-        ensures memory { IsErrOf result LogFault.NoMemory → vec_capacity buffer.old < area.len }
-        ensures reads { OnlyReads (pieces area.len) (D.told disk.old) (D.told disk.new) (D.status disk.old) (D.status disk.new) (scan_went_down result) }
-        // no piece behind the closed gate is read, and none behind the length of a bad frame
-        ensures few { IfOk result (λ log. (D.status disk.new).calls ≤ (D.status disk.old).calls + pieces (log.end + 1)) }
-        ensures few_bad { (offset : ℕ) → IsErrOf result (LogFault.Bad offset) → (D.status disk.new).calls ≤ (D.status disk.old).calls + pieces (offset - area.at + 5) }
-        ensures up { OnOk result ((D.status disk.new).is_down ≡ false) }
-        ensures up_bad { (offset : ℕ) → IsErrOf result (LogFault.Bad offset) → (D.status disk.new).is_down ≡ false }
+        ensures { ScanLeaves area (on buffer.old (D.told disk.old) (D.status disk.old)) (on buffer.new (D.told disk.new) (D.status disk.new)) result }
     {
         buffer.clear();
         let Ok(()) = buffer.reserve(area.len as usize) else {
@@ -82,21 +61,7 @@ impl Log {
     pub fn append<D: Disk>(&mut self, disk: &mut D, body: &[u8]) -> Result<(), AppendFault>
         requires pending { (D.status disk.old).pending < MOST_PENDING }
         requires within { IfSome (D.told disk.old) (λ s. self.old.area.at + self.old.area.len ≤ length s.seen) }
-        ensures area { self.new.area ≡ self.old.area }
-        ensures full { (result ≡ Err AppendFault.Full) ↔ (self.old.area.len < self.old.end + length body.now + 1) }
-        ensures refused { IfErr result (λ fault. self.new ≡ self.old) }
-        ensures unchanged { IsErrOf result AppendFault.Full → (D.told disk.new ≡ D.told disk.old) × (D.status disk.new ≡ D.status disk.old) }
-        ensures ok { OnOk result ((ps : List (List ℕ)) (payload : List ℕ) → IsBodyOf payload body.now
-            → IsSomeAnd (D.told disk.old) (Rests self.old.area ps self.old.end)
-            → IsSomeAnd (D.told disk.new) (Rests self.old.area (ps ++ payload ∷ []) self.new.end)) }
-        ensures end { OnOk result (self.new.end ≡ self.old.end + length body.now) }
-        ensures elsewhere { OnOk result (Goes (λ old new. SameElsewhere self.old.area old.seen new.seen) (D.told disk.old) (D.told disk.new)) }
-        ensures down { IsErrOf result AppendFault.Down → (ps : List (List ℕ)) (payload : List ℕ) → IsBodyOf payload body.now
-            → IsSomeAnd (D.told disk.old) (Rests self.old.area ps self.old.end)
-            → Goes (λ old new. LeavesEither self.old.area ps payload old.seen new) (D.told disk.old) (D.told disk.new) }
-        ensures pending { OnOk result ((D.status disk.new).pending ≡ 0) }
-        ensures up { OnOk result ((D.status disk.new).is_down ≡ false) }
-        ensures calls { DeviceCalls 4 (D.status disk.old) (D.status disk.new) (append_went_down result) }
+        ensures { AppendLeaves body.now (on self.old (D.told disk.old) (D.status disk.old)) (on self.new (D.told disk.new) (D.status disk.new)) result }
     {
         if self.spare() < body.len() as u64 {
             return Err(AppendFault::Full);

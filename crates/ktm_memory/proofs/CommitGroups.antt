@@ -40,7 +40,7 @@ use Rattle.txf_volume.specs.Held.{FilesHeld, files_of, overlay_in}
 use Rattle.txf_volume.proofs.Seen.{changes_in, own_changes-held}
 use Rattle.ktm_memory.specs.Memory.{CanCommit, Held, MemoryState, held, now_of}
 use Rattle.ktm_memory.specs.Takes.{has_work}
-use Rattle.ktm_memory.proofs.Left.{built_on}
+use Rattle.ktm_memory.proofs.offered.Settling.{built_on}
 
 -- ---- what the steps record
 

@@ -23,6 +23,7 @@ use Rattle.ktm_built.specs.Standing.{IsBuiltNow}
 use Rattle.ktm_built.proofs.offered.Forms.{forms_law}
 use Rattle.ktm_journal.specs.Image.{JournalState}
 use Rattle.ktm_memory.specs.Memory.{Held, MayHandle, MemoryState, appended, held, logged, now_of, present_of}
+use Rattle.ktm_memory.proofs.offered.Settling.{built_on}
 use Rattle.ktm_memory.specs.Opening.{files_outcome}
 use Rattle.ktm_memory.specs.Settled.{before, handles_then, labels_outcome, with_bound_to, with_change_made, with_labels}
 use Rattle.ktm_memory.specs.declared.settlement.Labels.{Labels}
@@ -44,10 +45,7 @@ logged_group h events = ap (λ (left : ℕ). record (now_of (logged h events)) {
 pub no_group : (x : Present) → with_group x [] ≡ x
 no_group x = ap (λ (left : ℕ). record x { machine = record x.machine { left = left }; recorded = record x.recorded { events = x.recorded.events + 0 } }) (omega arith) ∙ ap (λ (n : ℕ). record x { recorded = record x.recorded { events = n } }) (omega arith)
 
--- whatever the journal has, there is nothing but what built forms make
-pub built_on : (h : Held) (j : JournalState) → IsBuiltNow (now_of h) → IsBuiltNow (now_of (record h { journal = j }))
-built_on h j built = record { managers = refl; enlistments = built.enlistments; last_manager = built.last_manager; last_enlistment = built.last_enlistment; unrecorded = built.unrecorded; recorded = refl }
-
+-- before them there was nothing but what built forms make, too
 pub built_before : (m : MemoryState) (j : JournalState) → IsBuiltNow (present_of m) → IsBuiltNow (before m j)
 built_before m j built = built_on (held m) j built
 

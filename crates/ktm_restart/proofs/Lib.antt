@@ -4,4 +4,6 @@ mod GoodLogs
 mod Spelled
 mod Folds
 mod LogLoads
+mod Replays
+mod BehindHeader
 pub mod offered

@@ -3,3 +3,4 @@ pub mod Bad
 pub mod Load
 pub mod Replayed
 pub mod Waiting
+pub mod Loads

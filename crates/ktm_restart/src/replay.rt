@@ -1,19 +1,20 @@
 // Reading an image, and what its log comes to.
-ghost use Rattle.std.specs.Prelude.{IsErrOf, ◌≡◌, ◌&&◌, ℕ, ◌+◌, ◌*◌, ◌^◌, ◌<◌, ◌≤◌, List, length, Ok, IfOk, IfSome, IsSomeAnd, OnOk, IsTrue, false, true, vec_capacity};
+ghost use Rattle.std.specs.Prelude.{IsErrOf, ◌≡◌, ◌&&◌, ℕ, ◌+◌, ◌*◌, ◌≤◌, Ok, IfOk, IfSome, IsSomeAnd, OnOk, IsTrue, false, true};
 ghost use Rattle.ktm_base.specs.declared.limits.TheConstants.{LEAST_UNITS, MOST_UNITS};
 ghost use Rattle.ktm_base.specs.Bytes.{AreBytes};
-ghost use Rattle.ktm_base.specs.Disk.{IsSafe, OnlyReads};
-ghost use Rattle.ktm_log.specs.Log.{end_of, payloads_in};
-ghost use Rattle.ktm_world.specs.Durable.{Durable, after_events, empty_state, events_apply};
-ghost use Rattle.ktm_forms.specs.Built.{IsBuiltState, is_built_group};
+ghost use Rattle.ktm_log.specs.Log.{payloads_in};
+ghost use Rattle.ktm_log.specs.OnDisk.{on};
+ghost use Rattle.ktm_world.specs.Durable.{after_events, empty_state, events_apply};
+ghost use Rattle.ktm_forms.specs.Built.{is_built_group};
 ghost use Rattle.ktm_world.specs.Logs.{Group};
 ghost use Rattle.ktm_states.specs.GoodState.{IsGoodState};
 ghost use Rattle.ktm_types.specs.EventGrammar.{IsGroupOf};
-ghost use Rattle.ktm_journal.specs.Image.{IsFormatted, IsHeaded, JournalAt, log_area};
+ghost use Rattle.ktm_journal.specs.Image.{IsFormatted, IsHeaded};
 ghost use Rattle.ktm_journal.specs.Bad.{load_went_down};
-ghost use Rattle.ktm_restart.specs.Logs.{AreInLog, AreSpelled, HoldsLog, StandsFor};
-ghost use Rattle.ktm_restart.specs.Bad.{IsBadAt, IsBadPayload};
+ghost use Rattle.ktm_journal.specs.Open.{log_reads};
+ghost use Rattle.ktm_restart.specs.Bad.{IsBadPayload};
 ghost use Rattle.ktm_restart.specs.Load.{ComesTo, IsFirstBad};
+ghost use Rattle.ktm_restart.specs.Loads.{LoadLeaves, ReplayLeaves};
 
 use crate::durable::Durable;
 use ktm_base::{Disk, NoMemory};
@@ -78,23 +79,7 @@ fn replay_log<D: Disk>(
     requires most { header.units ≤ MOST_UNITS }
     requires formatted { IfSome (D.told disk.old) (λ s. IsFormatted header.units header.image s.seen) }
     requires empty { state.old ≡ empty_state header.units header.image }
-    ensures units { IfOk result (λ journal. journal.units ≡ header.units) }
-    ensures image { IfOk result (λ journal. journal.image ≡ header.image) }
-    ensures area { IfOk result (λ journal. journal.log.area ≡ log_area header.units) }
-    ensures end { IfOk result (λ journal. journal.log.end ≡ end_of (payloads_in buffer.new.items)) }
-    ensures inside { IfOk result (λ journal. journal.log.end < journal.log.area.len) }
-    ensures room { IfOk result (λ journal. journal.log.area.len ≤ vec_capacity buffer.new) }
-    ensures kept { vec_capacity buffer.old ≤ vec_capacity buffer.new }
-    ensures comes { OnOk result (ComesTo header.units header.image (payloads_in buffer.new.items) state.new) }
-    ensures good { OnOk result (IsGoodState state.new) }
-    ensures stands { OnOk result (IfSome (D.told disk.old) (λ s. StandsFor state.new s.seen)) }
-    ensures journal { IfOk result (λ journal. (log : List Group) → IsSomeAnd (D.told disk.old) (λ s. IsSafe s × HoldsLog header.units header.image log s.seen)
-        → IsSomeAnd (D.told disk.new) (JournalAt journal log)) }
-    ensures spelled { OnOk result ((log : List Group) → IsSomeAnd (D.told disk.old) (λ s. HoldsLog header.units header.image log s.seen) → AreSpelled log) }
-    ensures bad { (offset : ℕ) → IsErrOf result (LoadFault.Bad offset) → IfSome (D.told disk.old) (λ s. IsBadAt s.seen offset) }
-    ensures reads { OnlyReads (2 * header.units + 16) (D.told disk.old) (D.told disk.new) (D.status disk.old) (D.status disk.new) (load_went_down result) }
-    ensures up { OnOk result ((D.status disk.new).is_down ≡ false) }
-    ensures up_bad { (offset : ℕ) → IsErrOf result (LoadFault.Bad offset) → (D.status disk.new).is_down ≡ false }
+    ensures { ReplayLeaves header state.new (on buffer.old (D.told disk.old) (D.status disk.old)) (on buffer.new (D.told disk.new) (D.status disk.new)) result }
 {
     match Journal::open(disk, header, buffer) {
         Ok(journal) => match replay(alloc, header, buffer.as_slice(), state) {
@@ -122,26 +107,8 @@ fn load_log<D: Disk>(
     requires least { LEAST_UNITS ≤ header.units }
     requires most { header.units ≤ MOST_UNITS }
     requires formatted { IfSome (D.told disk.old) (λ s. IsFormatted header.units header.image s.seen) }
-    ensures units { IfOk result (λ loaded. (loaded.journal.units ≡ header.units) × (loaded.state.units ≡ header.units)) }
-    ensures image { IfOk result (λ loaded. (loaded.journal.image ≡ header.image) × (loaded.state.image ≡ header.image)) }
-    ensures number { IfOk result (λ loaded. loaded.state.image < 2 ^ 16) }
-    ensures area { IfOk result (λ loaded. loaded.journal.log.area ≡ log_area header.units) }
-    ensures keys { IfOk result (λ loaded. length loaded.state.keys ≤ loaded.state.units) }
-    ensures built { IfOk result (λ loaded. IsBuiltState loaded.state) }
-    ensures good { IfOk result (λ loaded. IsGoodState loaded.state) }
-    ensures events { IfOk result (λ loaded. AreInLog loaded.state loaded.journal.log.end) }
-    ensures counted { IfOk result (λ loaded. loaded.journal.events ≡ loaded.state.events) }
-    ensures inside { IfOk result (λ loaded. loaded.journal.log.end < loaded.journal.log.area.len) }
-    ensures room { IfOk result (λ loaded. loaded.journal.log.area.len ≤ vec_capacity buffer.new) }
-    ensures kept { vec_capacity buffer.old ≤ vec_capacity buffer.new }
-    ensures stands { IfOk result (λ loaded. IfSome (D.told disk.old) (λ s. StandsFor loaded.state s.seen)) }
-    ensures journal { IfOk result (λ loaded. (log : List Group) → IsSomeAnd (D.told disk.old) (λ s. IsSafe s × HoldsLog header.units header.image log s.seen)
-        → IsSomeAnd (D.told disk.new) (JournalAt loaded.journal log)) }
-    ensures spelled { IfOk result (λ loaded. (log : List Group) → IsSomeAnd (D.told disk.old) (λ s. HoldsLog header.units header.image log s.seen) → AreSpelled log) }
-    ensures bad { (offset : ℕ) → IsErrOf result (LoadFault.Bad offset) → IfSome (D.told disk.old) (λ s. IsBadAt s.seen offset) }
-    ensures reads { OnlyReads (2 * header.units + 16) (D.told disk.old) (D.told disk.new) (D.status disk.old) (D.status disk.new) (load_went_down result) }
-    ensures up { OnOk result ((D.status disk.new).is_down ≡ false) }
-    ensures up_bad { (offset : ℕ) → IsErrOf result (LoadFault.Bad offset) → (D.status disk.new).is_down ≡ false }
+    ensures leaves { LoadLeaves (log_reads header.units) (on buffer.old (D.told disk.old) (D.status disk.old)) (on buffer.new (D.told disk.new) (D.status disk.new)) result }
+    ensures header { IfOk result (λ loaded. (loaded.state.units ≡ header.units) × (loaded.state.image ≡ header.image)) }
 {
     let mut state = Durable::empty(alloc, header.units, header.image);
     match replay_log(alloc, disk, header, buffer, &mut state) {
@@ -156,27 +123,7 @@ fn load_log<D: Disk>(
 /// Reads the image of a disk, and gives its journal with the state that it stands for. It writes nothing. The log is read
 /// into the buffer, which is made as long as the log's area, and afterwards has room for whatever can be appended.
 pub fn load<D: Disk>(alloc: Global, disk: &mut D, buffer: &mut Vec<u8>) -> Result<Loaded, LoadFault>
-    ensures units { IfOk result (λ loaded. (loaded.journal.units ≡ loaded.state.units) × (LEAST_UNITS ≤ loaded.state.units) × (loaded.state.units ≤ MOST_UNITS)) }
-    ensures image { IfOk result (λ loaded. loaded.journal.image ≡ loaded.state.image) }
-    ensures number { IfOk result (λ loaded. loaded.state.image < 2 ^ 16) }
-    ensures area { IfOk result (λ loaded. loaded.journal.log.area ≡ log_area loaded.state.units) }
-    ensures keys { IfOk result (λ loaded. length loaded.state.keys ≤ loaded.state.units) }
-    ensures built { IfOk result (λ loaded. IsBuiltState loaded.state) }
-    ensures good { IfOk result (λ loaded. IsGoodState loaded.state) }
-    ensures events { IfOk result (λ loaded. AreInLog loaded.state loaded.journal.log.end) }
-    ensures counted { IfOk result (λ loaded. loaded.journal.events ≡ loaded.state.events) }
-    ensures inside { IfOk result (λ loaded. loaded.journal.log.end < loaded.journal.log.area.len) }
-    ensures room { IfOk result (λ loaded. loaded.journal.log.area.len ≤ vec_capacity buffer.new) }
-    ensures kept { vec_capacity buffer.old ≤ vec_capacity buffer.new }
-    ensures stands { IfOk result (λ loaded. IfSome (D.told disk.old) (λ s. StandsFor loaded.state s.seen)) }
-    ensures formatted { IfOk result (λ loaded. IfSome (D.told disk.new) (λ s. IsFormatted loaded.journal.units loaded.journal.image s.seen)) }
-    ensures journal { IfOk result (λ loaded. (log : List Group) → IsSomeAnd (D.told disk.old) (λ s. IsSafe s × HoldsLog loaded.state.units loaded.state.image log s.seen)
-        → IsSomeAnd (D.told disk.new) (JournalAt loaded.journal log)) }
-    ensures spelled { IfOk result (λ loaded. (log : List Group) → IsSomeAnd (D.told disk.old) (λ s. HoldsLog loaded.state.units loaded.state.image log s.seen) → AreSpelled log) }
-    ensures bad { (offset : ℕ) → IsErrOf result (LoadFault.Bad offset) → IfSome (D.told disk.old) (λ s. IsBadAt s.seen offset) }
-    ensures reads { OnlyReads (8 * MOST_UNITS + 64) (D.told disk.old) (D.told disk.new) (D.status disk.old) (D.status disk.new) (load_went_down result) }
-    ensures up { OnOk result ((D.status disk.new).is_down ≡ false) }
-    ensures up_bad { (offset : ℕ) → IsErrOf result (LoadFault.Bad offset) → (D.status disk.new).is_down ≡ false }
+    ensures leaves { LoadLeaves (8 * MOST_UNITS + 64) (on buffer.old (D.told disk.old) (D.status disk.old)) (on buffer.new (D.told disk.new) (D.status disk.new)) result }
     ensures few { (units image : ℕ) → IsSomeAnd (D.told disk.old) (λ s. IsHeaded units image s.seen) → (D.status disk.new).calls ≤ (D.status disk.old).calls + (8 * units + 64) }
 {
     let header = match Header::read(disk) {

@@ -1,6 +1,6 @@
 -- What an append to the log makes of an image, and what may be left of it.
 use Rattle.std.specs.Prelude.{IfSome, IsSomeAnd}
-use Rattle.std.proofs.Common.{◌≡◌, inl, inr, ℕ, ◌+◌, ◌-◌, ◌%◌, ◌<◌, ◌≤◌, IsTrue, Option, None, Some, List, [], ◌∷◌, ◌++◌, length, get_or, take, drop, sym, ◌∙◌, ap, subst, arith}
+use Rattle.std.proofs.Common.{◌≡◌, inl, inr, ℕ, ◌+◌, ◌%◌, ◌<◌, ◌≤◌, Option, None, Some, List, [], ◌∷◌, ◌++◌, get_or, take, drop, sym, ◌∙◌, ap, subst, arith}
 use Rattle.std.specs.Int.{from_le_bytes, w16, w32}
 use Rattle.ktm_base.specs.Disk.{DiskState, MayLeave}
 use Rattle.ktm_base.specs.Told.{Goes}
@@ -9,9 +9,7 @@ use Rattle.ktm_log.specs.declared.area.Area.{Area}
 use Rattle.ktm_log.specs.Log.{LogState, IsLog, Rests, LeavesEither, SameElsewhere, area_bytes}
 use Rattle.ktm_log.proofs.Parts.{not_covered, same_part}
 use Rattle.ktm_world.specs.Logs.{Group}
-use Rattle.ktm_world.specs.Outcome.{is_full}
-use Rattle.ktm_types.specs.Sizes.{area_len, frame_size}
-use Rattle.std.proofs.lemmas.Bool.Decides.{nat_tests}
+use Rattle.ktm_types.specs.Sizes.{area_len}
 use Rattle.ktm_types.specs.EventGrammar.{IsGroupOf}
 use Rattle.ktm_journal.specs.Image.{IsFormatted, HoldGroups, IsImage, JournalState, JournalAt, LeavesGroupOrNot, log_area}
 
@@ -36,11 +34,6 @@ formatted_elsewhere units image old new was same = record {
 
     part : (from n : ℕ) → from + n ≤ 4096 + area_len units → take n (drop from new) ≡ take n (drop from old)
     part from n fits = same_part old new from n same.same_length (λ place low high. before place (omega arith))
-
--- there is no room for a frame where the log's area is full of it
-pub full_law : (len end size : ℕ) (group : Group) → 1 ≤ length group → size ≡ frame_size group → (len < end + size + 1 → IsTrue (is_full (len - end) group)) × (IsTrue (is_full (len - end) group) → len < end + size + 1)
-full_law len end size [] some is = absurd (omega arith)
-full_law len end size (event ∷ events) some is = (λ more. grind (arith, nat_tests), λ full. grind (arith, nat_tests))
 
 -- one group more
 pub groups-push : (log : List Group) (ps : List (List ℕ)) (events : Group) (p : List ℕ) → HoldGroups log ps → IsGroupOf events p → HoldGroups (log ++ events ∷ []) (ps ++ p ∷ [])

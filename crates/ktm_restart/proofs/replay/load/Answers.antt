@@ -1,9 +1,10 @@
-use Rattle.std.proofs.Common.{◌≡◌, Err, ap}
-use Rattle.ktm_journal.specs.declared.fault.LoadFault.TheVariants.{Bad}
-use Rattle.ktm_restart.proofs.LogLoads.{unformatted_told}
+use Rattle.std.proofs.Common.{Err, ap, arith}
+use Rattle.ktm_restart.proofs.BehindHeader.{behind_header, no_header}
 use Rattle.ktm_restart.proofs.replay.load.Goals as goal
 
-pub returns-in-Err-clause-bad : goal.returns-in-Err-clause-bad
-returns-in-Err-clause-bad g c offset is =
-    let same : c.in-Err.fault ≡ Bad offset = cc in
-    unformatted_told _ offset (c.in-Err.ensures.bad offset (ap Err same))
+pub returns-in-Err-clause-leaves : goal.returns-in-Err-clause-leaves
+returns-in-Err-clause-leaves g c =
+    no_header c.args.buffer.now _ _ _ _ 4 _ c.in-Err.fault (omega arith) c.in-Err.ensures.reads (λ offset is. c.in-Err.ensures.bad offset (ap Err is)) (λ offset is. c.in-Err.ensures.up_bad offset (ap Err is))
+
+pub returns-clause-leaves : goal.returns-clause-leaves
+returns-clause-leaves g c = behind_header c.args.buffer.now _ _ _ _ 4 c.in-Ok.ensures.reads _ _ _ (omega (arith, c.in-Ok.ensures.size.1)) _ c.load_log.ensures.leaves

@@ -1,7 +1,6 @@
-use Rattle.ktm_log.specs.Log.{payloads_in}
-use Rattle.ktm_journal.proofs.Opened.{journal_told}
+use Rattle.std.proofs.Common.{refl}
+use Rattle.ktm_journal.proofs.Opened.{opened}
 use Rattle.ktm_journal.proofs.journal.Journal.open.Goals as goal
 
-pub returns-in-Ok-clause-journal : goal.returns-in-Ok-clause-journal
-returns-in-Ok-clause-journal g c =
-    journal_told c.args.header.units c.args.header.image 0 c.log_area.result c.in-Ok.log (payloads_in c.scan.new.buffer.items) _ _ c.log_area.ensures c.in-Ok.ensures.area c.scan.ensures.reads.same c.in-Ok.ensures.stands
+pub returns-in-Ok : goal.returns-in-Ok
+returns-in-Ok g c = opened c.args.header _ _ c.in-Ok.log _ refl (rw c.log_area.ensures at c.in-Ok.ensures)

@@ -6,7 +6,7 @@ use Rattle.ktm_built.specs.Standing.{IsStandingNow}
 use Rattle.ktm_kernel.specs.Done.{TouchesNothing}
 use Rattle.ktm_memory.specs.Route.{decided}
 use Rattle.ktm_memory.proofs.offered.Takes.{gave_up}
-use Rattle.ktm_kernel.proofs.Ends.{as_shown, done, cut, done_touches, kept, stopped}
+use Rattle.ktm_kernel.proofs.Ends.{as_shown, built_then, done, cut, done_touches, kept, may_settle, stopped}
 use Rattle.ktm_kernel.specs.Stands.{KernelState, machine_of}
 use Rattle.ktm_memory.specs.Takes.{asked_takes_memory}
 use Rattle.ktm_kernel.proofs.kernel.Kernel.answer.Goals as goal
@@ -26,6 +26,14 @@ invariant_of-self-in-Ok g c =
     let some = rw c.in-Some.is at c.in_ok-decided.ensures.ok in
     let units = ap (λ j. j.units) c.settle.ensures.journal ∙ ap (λ m. m.journal.units) (c.in-Ok.ensures.grows _ some.records) ∙ ap (λ j. j.units) some.journal in
     kept c.self.inside.memory.journal c.settle.new.self.journal c.self.inside.events c.decide.new.events units (c.decide.ensures.room ∙ c.clear.ensures.room) c.self.invariant
+
+pub settle-requires-clause-built : goal.settle-requires-clause-built
+settle-requires-clause-built g c =
+    built_then c.self.inside.memory _ c.in-Some.field-0.reply c.in-Some.field-0.settlement c.decide.new.events c.decide.new.self (rw c.in-Some.is at c.in_ok-decided.ensures.ok) c.record.new.self c.in-Ok.ensures.grows
+
+pub settle-requires-clause-may : goal.settle-requires-clause-may
+settle-requires-clause-may g c =
+    may_settle c.self.inside.memory _ c.in-Some.field-0.reply c.in-Some.field-0.settlement c.decide.new.events c.decide.new.self (rw c.in-Some.is at c.in_ok-decided.ensures.ok) c.record.new.self c.in-Ok.ensures.grows
 
 pub returns-in-Ok-clause-ends : goal.returns-in-Ok-clause-ends
 returns-in-Ok-clause-ends g c =

@@ -1,5 +1,5 @@
-use Rattle.std.proofs.Common.{◌≡◌, ◌+◌, length, ◌∙◌, ap, refl, sym, arith}
-use Rattle.ktm_log.proofs.Loading.{loads_then, reached_further, one_more, end_found, log_found, bad_found, rests_found}
+use Rattle.std.proofs.Common.{◌+◌, false, length, ◌∙◌, ap, refl, arith}
+use Rattle.ktm_log.proofs.Loading.{loads_then, only_read, few_closed, few_torn, reached_further, one_more, end_found, log_found, bad_found, rests_found}
 use Rattle.ktm_log.proofs.Payloads.{none_closed}
 use Rattle.ktm_log.proofs.log.Log.scan.Goals as goal
 
@@ -18,38 +18,51 @@ loop-size-preserved g c =
       frames = one_more c.args.area _ _ _ before.frames (c.in-Ok-Some.ensures.front refl) _ found.1;
     }
 
-pub returns-in-Ok-None-clause-end : goal.returns-in-Ok-None-clause-end
-returns-in-Ok-None-clause-end g c =
+pub returns-in-Ok-None : goal.returns-in-Ok-None
+returns-in-Ok-None g c =
     let closed = rw c.in-Ok-None.field-0-is at c.in-Ok-None.ensures.found in
-    end_found c.args.area _ _ _ c.loop-size.invariant.frames (c.in-Ok-None.ensures.front refl) (none_closed _ closed)
-
-pub returns-in-Ok-None-clause-log : goal.returns-in-Ok-None-clause-log
-returns-in-Ok-None-clause-log g c =
-    let closed = rw c.in-Ok-None.field-0-is at c.in-Ok-None.ensures.found in
-    log_found c.args.area _ _ _ c.loop-size.invariant.frames (c.in-Ok-None.ensures.front refl) closed _ _ (c.next_frame.ensures.same ∙ c.loop-size.invariant.same) c.in-Ok-None.ensures.holds.bytes
-
-pub returns-in-Ok-None-clause-stands : goal.returns-in-Ok-None-clause-stands
-returns-in-Ok-None-clause-stands g c =
-    let closed = rw c.in-Ok-None.field-0-is at c.in-Ok-None.ensures.found in
-    let same = c.next_frame.ensures.same ∙ c.loop-size.invariant.same in
-    let frames = c.loop-size.invariant.frames in
+    let few = (rw c.in-Ok-None.field-0-is at c.in-Ok-None.ensures.few) refl in
+    let before = c.loop-size.invariant in
+    let same = c.next_frame.ensures.same ∙ before.same in
     let on = c.in-Ok-None.ensures.front refl in
-    rests_found c.args.area _ c.loop-size.end (end_found c.args.area _ _ _ frames on (none_closed _ closed)) _ _ same c.requires.within
-    (log_found c.args.area _ _ _ frames on closed _ _ same c.in-Ok-None.ensures.holds.bytes)
+    let end = end_found c.args.area _ _ _ before.frames on (none_closed _ closed) in
+    let log = log_found c.args.area _ _ _ before.frames on closed _ _ same c.in-Ok-None.ensures.holds.bytes in
+    record {
+      area_is = refl;
+      end_is = end;
+      inside = before.inside;
+      room = omega (arith, c.next_frame.ensures.room);
+      bytes = log;
+      rests = rests_found c.args.area _ c.loop-size.end end _ _ same c.requires.within log;
+      read = record {
+        reads = record {
+          kept = omega (arith, c.next_frame.ensures.room);
+          reads = only_read c.args.area _ _ _ _ _ _ false same (loads_then _ _ _ _ _ _ _ _ before.loads c.in-Ok-None.ensures.loads) (few_closed _ _ c.loop-size.end before.few few);
+        };
+        up = c.in-Ok-None.ensures.up refl;
+      };
+    }
 
-pub returns-in-Err-Torn-clause-bad : goal.returns-in-Err-Torn-clause-bad
-returns-in-Err-Torn-clause-bad g c offset is =
-    let here : c.args.area.at + c.loop-size.end ≡ offset = cc in
+pub returns-in-Err-Torn : goal.returns-in-Err-Torn
+returns-in-Err-Torn g c =
     let none = (rw c.in-Err-Torn.field-0-is at c.in-Err-Torn.ensures.no_frame) refl in
     let torn = (rw c.in-Err-Torn.field-0-is at c.in-Err-Torn.ensures.torn) refl in
     let on = (rw c.in-Err-Torn.field-0-is at c.in-Err-Torn.ensures.front) refl in
-    let frames = c.loop-size.invariant.frames in (
-      sym here ∙ ap (λ n. c.args.area.at + n) (end_found c.args.area _ _ _ frames on none),
-      bad_found c.args.area _ _ _ frames on none _ _ (c.next_frame.ensures.same ∙ c.loop-size.invariant.same) (rw c.loop-size.invariant.same at c.loop-size.invariant.holds.bytes) torn,
-    )
-
-pub returns-in-Err-Torn-clause-inside_bad : goal.returns-in-Err-Torn-clause-inside_bad
-returns-in-Err-Torn-clause-inside_bad g c offset is =
-    let none = (rw c.in-Err-Torn.field-0-is at c.in-Err-Torn.ensures.no_frame) refl in
-    let on = (rw c.in-Err-Torn.field-0-is at c.in-Err-Torn.ensures.front) refl in
-    omega (arith, end_found c.args.area _ _ _ c.loop-size.invariant.frames on none)
+    let few = (rw c.in-Err-Torn.field-0-is at c.in-Err-Torn.ensures.few) refl in
+    let up = (rw c.in-Err-Torn.field-0-is at c.in-Err-Torn.ensures.up) refl in
+    let loads = rw c.in-Err-Torn.field-0-is at c.in-Err-Torn.ensures.loads in
+    let before = c.loop-size.invariant in
+    let same = c.next_frame.ensures.same ∙ before.same in
+    let end = end_found c.args.area _ _ _ before.frames on none in
+    record {
+      at = ap (λ n. c.args.area.at + n) end;
+      inside = omega (arith, end);
+      bytes = bad_found c.args.area _ _ _ before.frames on none _ _ same (rw before.same at before.holds.bytes) torn;
+      read = record {
+        reads = record {
+          kept = omega (arith, c.next_frame.ensures.room);
+          reads = only_read c.args.area _ _ _ _ _ _ false same (loads_then _ _ _ _ _ _ _ _ before.loads loads) (few_torn _ _ c.loop-size.end c.args.area.len _ end loads.inside before.few few);
+        };
+        up = up;
+      };
+    }

@@ -1,0 +1,54 @@
+-- What an append to a journal leaves, by its answer.
+use Rattle.std.specs.Prelude.{◌≡◌, ◌+◌, ◌-◌, Bool, true, false, List, [], ◌∷◌, ◌++◌, length, Result, Ok, Err, IfSome, IsSomeAnd}
+use Rattle.ktm_base.specs.Disk.{DeviceCalls}
+use Rattle.ktm_event.specs.Kept.{EventsState, Holds}
+use Rattle.ktm_log.specs.declared.fault.AppendFault.{AppendFault}
+use Rattle.ktm_log.specs.declared.fault.AppendFault.TheVariants.{Down, Full}
+use Rattle.ktm_log.specs.OnDisk.{AllSynced, OnDisk}
+use Rattle.ktm_types.specs.Sizes.{frame_size}
+use Rattle.ktm_world.specs.Logs.{Group}
+use Rattle.ktm_world.specs.Outcome.{is_full}
+use Rattle.ktm_journal.specs.Image.{IsFormatted, JournalAt, JournalState, LeavesGroupOrNot}
+
+-- has the log no room for this group
+abbrev pub has_no_room : JournalState → Group → Bool
+has_no_room journal group = is_full (journal.log.area.len - journal.log.end) group
+
+-- the journal with a group more
+abbrev pub with_group : JournalState → Group → JournalState
+with_group journal group = record journal { log = record journal.log { end = journal.log.end + frame_size group }; events = journal.events + length group }
+
+-- it is the same image, and its log is where it was
+pub record IsSameImage (old new : JournalState) : Type 0 where
+  pub units : new.units ≡ old.units
+  pub image : new.image ≡ old.image
+  pub area : new.log.area ≡ old.log.area
+
+-- the journal has these events as a group more, and all of it is safe
+pub record Records (events : EventsState) (old new : OnDisk JournalState) : Type 0 where
+  pub same : IsSameImage old.it new.it
+  pub room : (group : Group) → Holds events group → has_no_room old.it group ≡ false
+  pub grows : (group : Group) → Holds events group → new.it ≡ with_group old.it group
+  pub adds : (log : List Group) (group : Group) → Holds events group
+      → IsSomeAnd old.told (JournalAt old.it log) → IsSomeAnd new.told (JournalAt new.it (log ++ group ∷ []))
+  pub formatted : IfSome new.told (λ s. IsFormatted new.it.units new.it.image s.seen)
+  pub synced : AllSynced 4 old.status new.status
+
+-- the disk went down: the group may be there or not
+pub record IsInterrupted (events : EventsState) (old new : OnDisk JournalState) : Type 0 where
+  pub same : new.it ≡ old.it
+  pub room : (group : Group) → Holds events group → has_no_room old.it group ≡ false
+  pub either : (log : List Group) (group : Group) → Holds events group
+      → IsSomeAnd old.told (JournalAt old.it log) → IsSomeAnd new.told (LeavesGroupOrNot old.it log group)
+  pub calls : DeviceCalls 4 old.status new.status true
+
+-- the log has no room for the group, and nothing was done
+pub record HasNoRoom (events : EventsState) (old new : OnDisk JournalState) : Type 0 where
+  pub room : (group : Group) → Holds events group → has_no_room old.it group ≡ true
+  pub same : new ≡ old
+
+-- what an append leaves
+abbrev pub RecordLeaves : EventsState → OnDisk JournalState → OnDisk JournalState → Result (Unit {0}) AppendFault → Type 0
+RecordLeaves events old new (Ok done) = Records events old new
+RecordLeaves events old new (Err Down) = IsInterrupted events old new
+RecordLeaves events old new (Err Full) = HasNoRoom events old new

@@ -1,0 +1,109 @@
+-- What a log that was opened and replayed says of the image.
+use Rattle.std.specs.Prelude.{IfSome}
+use Rattle.std.proofs.Common.{◌≡◌, ℕ, ◌≤◌, ◌<◌, ◌^◌, List, Vec, refl, sym, ◌∙◌, ap, subst, arith}
+use Rattle.ktm_base.specs.declared.limits.TheConstants.{LEAST_UNITS, MOST_UNITS}
+use Rattle.ktm_base.specs.Bytes.{AreBytes}
+use Rattle.ktm_base.specs.Disk.{DiskState}
+use Rattle.ktm_base.proofs.offered.ToldSteps.{IfSome-map}
+use Rattle.ktm_journal.specs.declared.fault.LoadFault.{LoadFault}
+use Rattle.ktm_journal.specs.declared.fault.LoadFault.TheVariants.{Down, Bad, NoMemory}
+use Rattle.ktm_journal.specs.declared.header.Header.{Header}
+use Rattle.ktm_journal.specs.Image.{IsFormatted, JournalState, log_area}
+use Rattle.ktm_journal.specs.Open.{EndsTorn, IsOpened, log_reads}
+use Rattle.ktm_log.specs.Log.{BeginsWith, IsBadLog, IsLog, area_bytes, payloads_in}
+use Rattle.ktm_log.specs.OnDisk.{OnDisk, WasRead}
+use Rattle.ktm_states.specs.GoodState.{IsGoodState}
+use Rattle.ktm_world.specs.Durable.{Durable}
+use Rattle.ktm_restart.specs.Load.{ComesTo, IsFirstBad}
+use Rattle.ktm_restart.specs.Loads.{FaultLeaves, IsBadImage, IsLoaded, IsReplayed, KnowsLog}
+use Rattle.ktm_restart.proofs.LogLoads.{bad_payload_told, comes_to_built, comes_to_events, comes_to_image, comes_to_keys, comes_to_units, counted_told, image_told, stands_told, torn_told}
+use Rattle.ktm_restart.proofs.Spelled.{spelled_told}
+
+-- the disk has an image with this header
+module _ {Z : Type 0} (header : Header) (old new : OnDisk (Vec ℕ Z)) (formatted : IfSome old.told (λ s. IsFormatted header.units header.image s.seen)) where
+  abbrev payloads : List (List ℕ)
+  payloads = payloads_in new.it.items
+
+  pub replayed : (state : Durable) (journal : JournalState) → IsOpened header old new journal → AreBytes new.it.items → ComesTo header.units header.image payloads state → IsGoodState state
+      → IsReplayed header state old new journal
+  replayed state journal opened all comes good = record {
+    of_image = opened.of_image;
+    end_is = opened.end_is;
+    comes = comes;
+    good = good;
+    stands = stands_told header.units header.image old.told formatted payloads state comes opened.log;
+    knows = record {
+      at = image_told header.units header.image old.told new.told journal opened.at;
+      spelled = spelled_told header.units header.image new.it.items all old.told opened.log;
+    };
+    read = opened.read;
+  }
+
+  -- a payload is bad, or memory is wanted
+  not_replayed : (fault : LoadFault) → (fault ≡ Down → ⊥) → ((offset : ℕ) → fault ≡ Bad offset → IsFirstBad header.units header.image payloads offset)
+      → IfSome old.told (λ s. BeginsWith payloads (area_bytes (log_area header.units) s.seen)) → WasRead (log_reads header.units) old new
+      → FaultLeaves (log_reads header.units) old new fault
+  not_replayed Down up bad begins read = absurd (up refl)
+  not_replayed (Bad offset) up bad begins read =
+      record { bad = bad_payload_told header.units header.image old.told formatted payloads offset (bad offset refl) begins; read = read }
+  not_replayed NoMemory up bad begins read = read.reads
+
+  pub opened_not_replayed : (journal : JournalState) (fault : LoadFault) → IsOpened header old new journal → (fault ≡ Down → ⊥) → ((offset : ℕ) → fault ≡ Bad offset → IsFirstBad header.units header.image payloads offset)
+      → FaultLeaves (log_reads header.units) old new fault
+  opened_not_replayed journal fault opened up bad =
+      not_replayed fault up bad
+      (IfSome-map old.told (λ (s : DiskState). IsLog payloads (area_bytes (log_area header.units) s.seen)) (λ (s : DiskState). BeginsWith payloads (area_bytes (log_area header.units) s.seen)) opened.log (λ s log. log.frames))
+      opened.read
+
+  pub torn_not_replayed : (offset : ℕ) (fault : LoadFault) → EndsTorn header old new offset → (fault ≡ Down → ⊥) → ((offset : ℕ) → fault ≡ Bad offset → IsFirstBad header.units header.image payloads offset)
+      → FaultLeaves (log_reads header.units) old new fault
+  torn_not_replayed offset fault torn up bad =
+      not_replayed fault up bad
+      (IfSome-map old.told (λ (s : DiskState). IsBadLog payloads (area_bytes (log_area header.units) s.seen)) (λ (s : DiskState). BeginsWith payloads (area_bytes (log_area header.units) s.seen)) torn.log (λ s log. log.frames))
+      torn.read
+
+  pub torn_behind : (state : Durable) (offset : ℕ) → EndsTorn header old new offset → ComesTo header.units header.image payloads state → IsBadImage (log_reads header.units) old new offset
+  torn_behind state offset torn comes = record {
+    bad = torn_told header.units header.image old.told formatted payloads state offset comes torn.at torn.log;
+    read = torn.read;
+  }
+
+  -- the journal that was replayed, once it has counted the events of the state that it comes to
+  pub loaded : LEAST_UNITS ≤ header.units → header.units ≤ MOST_UNITS → header.image < 2 ^ 16 → (state : Durable) (journal counted : JournalState) → IsReplayed header state old new journal → counted ≡ record journal { events = state.events }
+      → IsLoaded (log_reads header.units) old new (record { journal = counted; state = state })
+  loaded least most number state journal counted replayed is =
+      let comes = replayed.comes in
+      let units = comes_to_units header.units header.image payloads state comes in
+      let image = comes_to_image header.units header.image payloads state comes in
+      subst (λ (j : JournalState). IsLoaded (log_reads header.units) old new (record { journal = j; state = state })) (sym is) (record {
+        state = record {
+          least = omega (arith, units);
+          most = omega (arith, units);
+          number = omega (arith, image);
+          keys = comes_to_keys header.units header.image payloads state comes;
+          built = comes_to_built header.units header.image payloads state comes;
+          good = replayed.good;
+        };
+        journal = record {
+          units = replayed.of_image.units ∙ sym units;
+          image = replayed.of_image.image ∙ sym image;
+          area = replayed.of_image.area ∙ ap log_area (sym units);
+          inside = replayed.of_image.inside;
+          events = comes_to_events header.units header.image payloads state comes journal.log.end replayed.end_is;
+          counted = refl;
+        };
+        room = replayed.of_image.room;
+        stands = replayed.stands;
+        formatted = formatted_still journal replayed.of_image.units replayed.of_image.image replayed.read.reads.reads.same;
+        knows = subst (λ u. KnowsLog u state.image old.told new.told (record journal { events = state.events })) (sym units)
+            (subst (λ i. KnowsLog header.units i old.told new.told (record journal { events = state.events })) (sym image) (record {
+              at = λ log holds. counted_told journal state.events log new.told (replayed.knows.at log holds);
+              spelled = replayed.knows.spelled;
+            }));
+        read = replayed.read;
+      })
+    where
+      formatted_still : (j : JournalState) → j.units ≡ header.units → j.image ≡ header.image → new.told ≡ old.told → IfSome new.told (λ s. IsFormatted j.units j.image s.seen)
+      formatted_still j u i same =
+          subst (λ t. IfSome t (λ s. IsFormatted j.units j.image s.seen)) (sym same)
+          (subst (λ n. IfSome old.told (λ s. IsFormatted n j.image s.seen)) (sym u) (subst (λ n. IfSome old.told (λ s. IsFormatted header.units n s.seen)) (sym i) formatted))
