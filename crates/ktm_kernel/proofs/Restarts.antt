@@ -1,17 +1,21 @@
 -- What a restart finds on a disk, and what it makes of it.
-use Rattle.std.proofs.Common.{◌≡◌, ◌≢◌, ◌↔◌, ℕ, ◌+◌, ◌-◌, ◌^◌, ◌≤◌, ◌<◌, true, false, List, [], ◌∷◌, ◌++◌, length, Bool, Result, Ok, Err, Option, None, Some, refl, sym, ◌∙◌, ap, subst, arith, inl, inr, append_assoc}
-use Rattle.std.proofs.lemmas.Bool.{and_from, and_parts, eq-eqb, lt-ltb, false_from_ne_true}
+use Rattle.std.proofs.Common.{◌≡◌, ℕ, ◌+◌, ◌-◌, ◌^◌, ◌≤◌, ◌<◌, true, false, List, [], ◌∷◌, ◌++◌, length, Bool, Result, Ok, Err, Option, None, Some, refl, sym, ◌∙◌, ap, subst, arith, inl, inr, append_assoc}
+use Rattle.std.proofs.lemmas.Bool.{and_from, and_parts, eq-eqb, lt-ltb}
 use Rattle.std.proofs.lemmas.List.Folds.{list_all-append}
 use Rattle.std.proofs.lemmas.List.Sums.{sum_by-cons}
 use Rattle.std.specs.List.{list_all}
-use Rattle.std.specs.Prelude.{IsTrue, IfSome, IsSomeAnd}
+use Rattle.std.specs.Prelude.{IsTrue, IfSome, IsSomeAnd, Vec, vec_capacity}
 use Rattle.ktm_base.specs.declared.limits.TheConstants.{LEAST_UNITS, MOST_UNITS}
 use Rattle.ktm_base.specs.Disk.{DeviceCalls, DiskState, DiskStatus, IsSafe}
 use Rattle.ktm_base.proofs.offered.Images.{safe_law}
-use Rattle.ktm_base.proofs.offered.ToldSteps.{IsSomeAnd-map}
+use Rattle.ktm_base.proofs.offered.ToldSteps.{IfSome-map, IsSomeAnd-map}
 use Rattle.ktm_log.specs.declared.area.Area.{Area}
 use Rattle.ktm_log.specs.Log.{LogState}
+use Rattle.ktm_log.specs.OnDisk.{OnDisk, ReadsInto, on}
+use Rattle.ktm_restart.specs.Loads.{IsLoaded}
+use Rattle.ktm_restart.specs.declared.replay.Loaded.{Loaded}
 use Rattle.ktm_restart.specs.Logs.{AreInLog, AreSpelled, HoldsLog, StandsFor}
+use Rattle.ktm_journal.specs.Append.{HasNoRoom, IsInterrupted, IsSameImage, Records}
 use Rattle.ktm_journal.specs.Image.{JournalState, JournalAt, IsImage, IsFormatted, LeavesGroupOrNot, left_after, log_area}
 use Rattle.ktm_journal.proofs.offered.GroupSizes.{journal_left}
 use Rattle.ktm_restart.proofs.offered.OneState.{one_held}
@@ -23,7 +27,7 @@ use Rattle.ktm_forms.specs.Taking.{within}
 use Rattle.ktm_forms.proofs.Applying.{applies_boot, within_built}
 use Rattle.ktm_forms.proofs.BuiltStates.{built_log, built_stand, own_is}
 use Rattle.ktm_world.specs.Durable.{Durable, empty_state, stand, events_apply, log_applies}
-use Rattle.ktm_types.specs.Sizes.{frame_size, log_size}
+use Rattle.ktm_types.specs.Sizes.{area_len, frame_size, log_size}
 use Rattle.ktm_world.specs.Logs.{Group}
 use Rattle.ktm_world.specs.Outcome.{is_full as is_full_in}
 use Rattle.ktm_world.specs.World.{own_group, opened, present}
@@ -42,10 +46,9 @@ use Rattle.ktm_world.specs.Tree.{Tree}
 use Rattle.txf_volume.specs.Held.{files_begun, files_of}
 use Rattle.ktm_world.specs.Files.{FilesNow}
 use Rattle.ktm_world.specs.Keys.{Store}
-use Rattle.ktm_log.specs.Fault.{append_went_down}
 use Rattle.ktm_log.specs.declared.fault.AppendFault.{AppendFault}
-use Rattle.ktm_log.specs.declared.fault.AppendFault.TheVariants.{Full}
-use Rattle.ktm_kernel.specs.Restarts.{HoldsBoth, base_of, is_full_for_own, Started, LeavesOwnOrNot, restart_went_down, unrecorded}
+use Rattle.ktm_kernel.specs.Restarts.{HoldsBoth, IsStarted, IsUnpowered, IsUnwritten, LeavesOwnOrNot, ListsStart, NoStartLeaves, StartLeaves, Started, base_of, is_full_for_own, restart_went_down, unrecorded}
+use Rattle.ktm_kernel.specs.declared.restart.Restarted.{Restarted}
 use Rattle.ktm_kernel.specs.declared.restart.RestartFault.{RestartFault}
 use Rattle.ktm_kernel.specs.Stands.{KernelState, IsReady}
 
@@ -105,41 +108,27 @@ own_held events state boot built is holds = subst (λ (es : List Event). Holds e
 pub own_length : (state : Durable) → IsBuiltState state → length (own_group state) ≡ 1
 own_length state built = ap (λ (es : List Event). length es) (own_is state built)
 
--- where an append answered Ok the log was not full
-pub not_full : {T : Type 0} (value : T) (full : Bool) → (IsTrue full → Ok value ≡ Err Full) → full ≡ false
-not_full value full tells = false_from_ne_true full (λ is. let wrong = tells is in cc)
+-- the list of a start has it, and room for whatever a log of so many units has room for
+pub lists_start : (events : EventsState) (room units : ℕ) (state : Durable) (boot : ℕ) → IsBuiltState state → boot ≡ state.boots + 1 → Holds events ([] ++ Boot boot ∷ []) → events.room ≡ room → room + frame_size [] ≡ area_len units
+    → ListsStart state units events
+lists_start events room units state boot built is holds same all = record { holds = own_held events state boot built is holds; room = ap (λ n. n + frame_size []) same ∙ all }
 
--- the log is full for the start where it is for the append
-module _ {T U : Type 0} (full : Type 0) where
-  pub full_not : (value : T) (other : U) → (Ok value ≡ Err Full) ↔ full → (Ok other ≡ Err Full) ↔ full
-  full_not value other tells = (λ is. absurd (cc), λ is. let wrong = tells.1 is in absurd (cc))
+-- the journal has the group of a start more
+pub record HasStart (state : Durable) (old new : OnDisk JournalState) : Type 0 where
+  pub same : IsSameImage old.it new.it
+  pub end : new.it.log.end ≡ old.it.log.end + frame_size (own_group state)
+  pub counted : new.it.events ≡ old.it.events + 1
+  pub room : is_full_in (old.it.log.area.len - old.it.log.end) (own_group state) ≡ false
+  pub adds : (gs : List Group) → IsSomeAnd old.told (JournalAt old.it gs) → IsSomeAnd new.told (JournalAt new.it (gs ++ own_group state ∷ []))
 
-  pub full_same : (fault : AppendFault) → (let r : Result T AppendFault = Err fault in r ≡ Err Full) ↔ full → (let r : Result U AppendFault = Err fault in r ≡ Err Full) ↔ full
-  full_same fault tells = (λ is. let same : fault ≡ Full = cc in tells.0 (ap Err same), λ is. let told = tells.1 is in let same : fault ≡ Full = cc in ap Err same)
-
--- why a machine did not start whose start was not recorded
-pub unrecorded_down : (fault : AppendFault) → unrecorded fault ≡ RestartFault.Down → fault ≡ AppendFault.Down
-unrecorded_down AppendFault.Down is = refl
-unrecorded_down Full is = absurd (cc)
-
-pub unrecorded_full : (fault : AppendFault) → unrecorded fault ≡ RestartFault.Full → fault ≡ Full
-unrecorded_full AppendFault.Down is = absurd (cc)
-unrecorded_full Full is = refl
-
-pub unrecorded_good : (fault : AppendFault) (offset : ℕ) → unrecorded fault ≢ RestartFault.Bad offset
-unrecorded_good AppendFault.Down offset is = cc
-unrecorded_good Full offset is = cc
-
--- its append found the log full, where it did not find the disk down
-pub unrecorded_other : (fault : AppendFault) → unrecorded fault ≢ RestartFault.Down → fault ≡ Full
-unrecorded_other AppendFault.Down other = absurd (other refl)
-unrecorded_other Full other = refl
-
--- both found the disk down, or neither did
-pub unrecorded_calls : (n : ℕ) (a b : DiskStatus) (fault : AppendFault) (failed : RestartFault) → failed ≡ unrecorded fault
-    → (let r : Result ℕ AppendFault = Err fault in DeviceCalls n a b (append_went_down r)) → (let r : Result ℕ RestartFault = Err failed in DeviceCalls n a b (restart_went_down r))
-unrecorded_calls n a b AppendFault.Down failed is calls = subst (λ f. let r : Result ℕ RestartFault = Err f in DeviceCalls n a b (restart_went_down r)) (sym is) calls
-unrecorded_calls n a b Full failed is calls = subst (λ f. let r : Result ℕ RestartFault = Err f in DeviceCalls n a b (restart_went_down r)) (sym is) calls
+pub has_start : (state : Durable) (units : ℕ) (events : EventsState) (old new : OnDisk JournalState) → IsBuiltState state → ListsStart state units events → Records events old new → HasStart state old new
+has_start state units events old new built lists records = record {
+  same = records.same;
+  end = ap (λ (j : JournalState). j.log.end) (records.grows (own_group state) lists.holds);
+  counted = ap (λ (j : JournalState). j.events) (records.grows (own_group state) lists.holds) ∙ ap (λ n. old.it.events + n) (own_length state built);
+  room = records.room (own_group state) lists.holds;
+  adds = λ gs at. records.adds gs (own_group state) lists.holds at;
+}
 
 -- what a machine holds that starts from this state
 abbrev pub fresh_held : JournalState → Durable → Held
@@ -255,20 +244,17 @@ module _ (units image : ℕ) (before log : List Group) (state : Durable) (is : I
   module _ (may : events_apply state (own_group state) ≡ true) (j k : JournalState) (units_are : j.units ≡ state.units) (image_is : j.image ≡ state.image) (old new : Option DiskState)
       (at : IsSomeAnd old (JournalAt j (before ++ log))) where
     pub started : GoodStatesLaw → StandingLaw → FreshLaw → (is_log_grammatical before ≡ true) × (is_log_grammatical log ≡ true) → state.image < 2 ^ 16 → state.units ≤ MOST_UNITS → (kernel : KernelState) (left count doubts : ℕ) → kernel.journal ≡ k → kernel.now ≡ fresh state left → left ≡ k.log.area.len - k.log.end → count ≡ state.events → doubts ≡ 0
-        → k.units ≡ j.units → k.image ≡ j.image → k.log.area ≡ j.log.area → k.log.end ≡ j.log.end + frame_size (own_group state)
-        → is_full_in (j.log.area.len - j.log.end) (own_group state) ≡ false
-        → ((gs : List Group) → IsSomeAnd old (JournalAt j gs) → IsSomeAnd new (JournalAt k (gs ++ own_group state ∷ [])))
-        → Started units image before log kernel count doubts new
-    started good law begins grammatical number most kernel left count doubts journal now left_is count_is none k_units k_image area end fits added = record {
-      room = sym (is_full j old units_are at) ∙ fits;
+        → (s t : DiskStatus) → HasStart state (on j old s) (on k new t) → Started units image before log kernel count doubts new
+    started good law begins grammatical number most kernel left count doubts journal now left_is count_is none s t has = record {
+      room = sym (is_full j old units_are at) ∙ has.room;
       stands = record {
-        now = now ∙ fresh_is begins left (omega (arith, left_is, ap (λ (a : Area). a.len) area, end, left_found j old units_are at, own_size state built_state_is));
-        standing = standing good law (subst (λ (n : ℕ). n < 2 ^ 16) is.image_is number) (subst (λ (n : ℕ). n ≤ 1024) is.units_are most) (sym (is_full j old units_are at) ∙ fits) grammatical;
+        now = now ∙ fresh_is begins left (omega (arith, left_is, ap (λ (a : Area). a.len) has.same.area, has.end, left_found j old units_are at, own_size state built_state_is));
+        standing = standing good law (subst (λ (n : ℕ). n < 2 ^ 16) is.image_is number) (subst (λ (n : ℕ). n ≤ 1024) is.units_are most) (sym (is_full j old units_are at) ∙ has.room) grammatical;
         before = before;
-        began = rw (journal, k_units ∙ units_are ∙ is.units_are, k_image ∙ image_is ∙ is.image_is) (record { built = made.0; applies = applied.0; base = refl; room = refl });
+        began = rw (journal, has.same.units ∙ units_are ∙ is.units_are, has.same.image ∙ image_is ∙ is.image_is) (record { built = made.0; applies = applied.0; base = refl; room = refl });
         disk = subst (λ i. IsSomeAnd new (JournalAt i (before ++ (log ++ own_group (stand base log) ∷ [])))) (sym journal)
             (subst (λ (gs : List Group). IsSomeAnd new (JournalAt k gs)) (append_assoc before log (own_group (stand base log) ∷ []))
-            (subst (λ (s : Durable). IsSomeAnd new (JournalAt k ((before ++ log) ++ own_group s ∷ []))) is.is (added (before ++ log) at)));
+            (subst (λ (s : Durable). IsSomeAnd new (JournalAt k ((before ++ log) ++ own_group s ∷ []))) is.is (has.adds (before ++ log) at)));
       };
       events_are = count_is ∙ ap (λ (s : Durable). s.events) is.is;
       none_in_doubt = none;
@@ -327,3 +313,89 @@ fresh_ready law kernel state log left told status now built good counted inside 
 
     boots : state.boots + left + frame_size (own_group state) < 2 ^ 32
     boots = omega (arith, own, len, counted.boots, counted.events, inside, most, few)
+
+-- ---- a restart, by what was loaded
+
+module _ {Z : Type 0} (most : ℕ) (old mid : OnDisk (Vec ℕ Z)) (loaded : Loaded) (is : IsLoaded most old mid loaded) where
+  abbrev pub loaded_at : OnDisk JournalState
+  loaded_at = on loaded.journal mid.told mid.status
+
+  may : events_apply loaded.state (own_group loaded.state) ≡ true
+  may = next_applies loaded.state loaded.journal.log is.state.built is.state.good is.journal.events is.journal.inside is.journal.area is.state.most
+
+  -- there is a number for a boot more
+  pub numbered : loaded.state.boots + 1 < 2 ^ 32
+  numbered = omega (arith, is.journal.events.boots, is.journal.events.events, is.journal.inside, ap (λ (a : Area). a.len) is.journal.area, is.state.most)
+
+  module _ (units image : ℕ) (before log : List Group) (holds : IsSomeAnd old.told (HoldsBoth units image before log)) where
+    found_here : IsFound units image before log loaded.state
+    found_here = found units image before log loaded.state old.told is.stands holds
+
+    at : IsSomeAnd mid.told (JournalAt loaded.journal (before ++ log))
+    at = journal_at units image before log loaded.state found_here loaded.journal old.told mid.told is.knows.at holds
+
+    starts_here : GoodStatesLaw → GrammarLaw → StandingLaw → FreshLaw → (new : OnDisk JournalState) (kernel : KernelState) (count doubts : ℕ) → HasStart loaded.state loaded_at new
+        → kernel.journal ≡ new.it → kernel.now ≡ fresh loaded.state (new.it.log.area.len - new.it.log.end) → count ≡ loaded.state.events → doubts ≡ 0 → Started units image before log kernel count doubts new.told
+    starts_here good grammar law begins new kernel count doubts has journal now count_is none =
+        started units image before log loaded.state found_here may loaded.journal new.it is.journal.units is.journal.image mid.told new.told at good law begins
+        (found_grammatical units image before log loaded.state found_here grammar old.told is.knows.spelled holds) is.state.number is.state.most
+        kernel (new.it.log.area.len - new.it.log.end) count doubts journal now refl count_is none mid.status new.status has
+
+    left_here : (events : EventsState) (new : OnDisk JournalState) → ListsStart loaded.state loaded.journal.units events → IsInterrupted events loaded_at new → IsSomeAnd new.told (LeavesOwnOrNot units image before log)
+    left_here events new lists cut =
+        cut_off units image before log loaded.state found_here may loaded.journal new.it is.journal.units is.journal.image mid.told new.told at (λ gs j_at. cut.either gs (own_group loaded.state) lists.holds j_at)
+
+    full_here : (events : EventsState) (new : OnDisk JournalState) → ListsStart loaded.state loaded.journal.units events → HasNoRoom events loaded_at new → is_full_for_own units image before log ≡ true
+    full_here events new lists full = sym (is_full units image before log loaded.state found_here loaded.journal mid.told is.journal.units at) ∙ full.room (own_group loaded.state) lists.holds
+
+  pub counted_one : (new : OnDisk JournalState) (events : EventsState) → StartLeaves loaded.state loaded_at new (Ok events) → new.it.events ≡ loaded.state.events + 1
+  counted_one new events (lists, records) = (has_start loaded.state loaded.journal.units events loaded_at new is.state.built lists records).counted ∙ ap (λ n. n + 1) is.journal.counted
+
+  state_found : IfSome old.told (λ s. (state : Durable) × StandsFor state s.seen)
+  state_found = IfSome-map old.told _ _ is.stands (λ s stands. (loaded.state, stands))
+
+  -- the start was recorded
+  pub restarted : GoodStatesLaw → GrammarLaw → StandingLaw → FreshLaw → (new : OnDisk (Vec ℕ Z)) (k : JournalState) (events : EventsState) (r : Restarted) → StartLeaves loaded.state loaded_at (on k new.told new.status) (Ok events)
+      → r.kernel.journal ≡ k → r.kernel.now ≡ fresh loaded.state (k.log.area.len - k.log.end) → r.events ≡ loaded.state.events → r.in_doubt ≡ 0 → IsStarted old new r
+  restarted good grammar law begins new k events r (lists, records) journal now count_is none =
+      let has = has_start loaded.state loaded.journal.units events loaded_at (on k new.told new.status) is.state.built lists records in
+      let (ready, up) = fresh_ready begins r.kernel loaded.state loaded.journal.log (k.log.area.len - k.log.end) new.told new.status now is.state.built is.state.good is.journal.events is.journal.inside is.journal.area is.state.most
+      (omega (arith, ap (λ (a : Area). a.len) records.same.area)) records.synced.up records.synced.pending
+      (subst (λ j. IfSome new.told (λ s. IsFormatted j.units j.image s.seen)) (sym journal) records.formatted) in
+      record {
+        starts = λ units image before log holds. starts_here units image before log holds good grammar law begins (on k new.told new.status) r.kernel r.events r.in_doubt has journal now count_is none;
+        ready = ready;
+        up = up;
+        found = state_found;
+      }
+
+  -- it was not
+  pub unstarted : (new : OnDisk (Vec ℕ Z)) (k : JournalState) (fault : AppendFault) → StartLeaves loaded.state loaded_at (on k new.told new.status) (Err fault) → vec_capacity mid.it ≤ vec_capacity new.it → NoStartLeaves old new (unrecorded fault)
+  unstarted new k AppendFault.Down (events, lists, cut) kept = record {
+    leaves = λ units image before log holds. left_here units image before log holds events (on k new.told new.status) lists cut;
+    kept = omega (arith, is.read.reads.kept, kept);
+  }
+  unstarted new k AppendFault.Full (events, lists, full) kept = record {
+    full = λ units image before log holds. full_here units image before log holds events (on k new.told new.status) lists full;
+    found = state_found;
+    unwritten = record {
+      told = ap (λ (d : OnDisk JournalState). d.told) full.same ∙ is.read.reads.reads.same;
+      pending = ap (λ (d : OnDisk JournalState). d.status.pending) full.same ∙ is.read.reads.reads.pending;
+      kept = omega (arith, is.read.reads.kept, kept);
+    };
+  }
+
+-- the disk went down in the load
+pub unloaded : {Z : Type 0} (most : ℕ) (old new : OnDisk (Vec ℕ Z)) → ReadsInto most old new true → IsUnpowered old new
+unloaded most old new reads = record { leaves = λ units image before log holds. rw reads.reads.same (unwritten_leaves units image before log old.told holds); kept = reads.kept }
+
+-- no memory was there for it, or the image was bad: nothing was written
+pub unread : {Z : Type 0} (most : ℕ) (old new : OnDisk (Vec ℕ Z)) (refused : Bool) → ReadsInto most old new refused → IsUnwritten old new
+unread most old new refused reads = record { told = reads.reads.same; pending = reads.reads.pending; kept = reads.kept }
+
+-- how many device calls the recording of a start made that failed; a restart found the disk down where that did
+pub start_calls : (state : Durable) (old new : OnDisk JournalState) (fault : AppendFault) → StartLeaves state old new (Err fault) → old.status.is_down ≡ false
+    → (let r : Result ℕ RestartFault = Err (unrecorded fault) in DeviceCalls 4 old.status new.status (restart_went_down r))
+start_calls state old new AppendFault.Down (events, lists, cut) up = cut.calls
+start_calls state old new AppendFault.Full (events, lists, full) up =
+    subst (λ (d : OnDisk JournalState). DeviceCalls 4 old.status d.status false) (sym full.same) (record { later = omega arith; counted = omega arith; few = omega arith; cause = λ refused. absurd (cc); down = rw up refl; plan = refl; places = refl })

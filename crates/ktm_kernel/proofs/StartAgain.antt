@@ -1,9 +1,10 @@
 -- A machine that is down, whose disk has the power back, and is started again.
-use Rattle.std.proofs.Common.{◌≡◌, ℕ, ◌+◌, ◌-◌, ◌*◌, ◌≤◌, Bool, true, false, List, [], ◌∷◌, ◌++◌, length, Option, None, Some, Result, Ok, Err, refl, sym, ◌∙◌, ap, subst, arith, inl, inr}
-use Rattle.std.specs.Prelude.{Contains, IfOk, IfSome, IsSomeAnd}
+use Rattle.std.proofs.Common.{◌≡◌, ℕ, ◌+◌, ◌-◌, ◌*◌, ◌≤◌, ◌||◌, Bool, true, false, List, [], ◌∷◌, ◌++◌, length, Option, None, Some, Result, Ok, Err, refl, sym, ◌∙◌, ap, subst, arith, inl, inr}
+use Rattle.std.proofs.lemmas.Bool.{both_ways}
+use Rattle.std.specs.Prelude.{Contains, IfOk, IfSome, IsSomeAnd, OnErr, Vec}
 use Rattle.ktm_base.specs.declared.fault.NoMemory.{NoMemory}
 use Rattle.ktm_base.specs.declared.refusal.Refusal.TheVariants.{MachineDown, LogFull}
-use Rattle.ktm_base.specs.Disk.{DiskState}
+use Rattle.ktm_base.specs.Disk.{DeviceCalls, DiskState, DiskStatus}
 use Rattle.ktm_base.proofs.offered.Images.{safe_law, power_law as images_power_law}
 use Rattle.ktm_base.proofs.offered.ToldSteps.{IsSomeAnd-map, IsSomeAnd-step}
 use Rattle.ktm_restart.specs.Bad.{IsBadAt}
@@ -23,13 +24,17 @@ use Rattle.ktm_built.specs.Laws.{StandingLaw}
 use Rattle.ktm_world.specs.Logs.{Group, down, is_up}
 use Rattle.ktm_world.specs.Transcript.{Step, interrupted, found, full, RestartDoes, StartDoes}
 use Rattle.ktm_world.proofs.offered.Durables.{stand-units}
-use Rattle.ktm_kernel.specs.Restarts.{HoldsBoth, answer_of, base_of, is_full_for_own, Started, LeavesOwnOrNot}
+use Rattle.ktm_log.specs.OnDisk.{on}
+use Rattle.ktm_kernel.specs.Answers.{IsAsBefore, IsRestartAnswered, StartAgainLeaves}
+use Rattle.ktm_kernel.specs.Restarts.{HoldsBoth, IsStarted, IsUnwritten, LeavesOwnOrNot, NoStartLeaves, Started, answer_of, base_of, is_full_for_own, restart_went_down}
+use Rattle.ktm_kernel.specs.declared.restart.Restarted.{Restarted as RestartedMachine}
 use Rattle.ktm_kernel.specs.declared.restart.RestartFault.{RestartFault}
 use Rattle.ktm_kernel.specs.declared.restart.RestartFault.TheVariants.{Down, Bad, Full}
 use Rattle.ktm_kernel.specs.Stands.{KernelState, HasFallen, StandsBy, KernelAt, LeavesPossible, DoesLine, FoundAt, PowerLaw, FoundLaw}
 use Rattle.ktm_kernel.proofs.Left.{stands_for}
 use Rattle.ktm_kernel.proofs.Possible.{first_is, Contains-map, in_first, in_second}
 use Rattle.ktm_laws.proofs.offered.PossibleLogs.{contains-passes}
+use Rattle.ktm_kernel.proofs.Ready.{off_ready}
 use Rattle.ktm_kernel.proofs.Worlds.{began_on}
 
 -- what is so now of a machine that is down is the same, whatever is possible on its disk
@@ -189,13 +194,48 @@ found_law k (Some s) w at = λ image may.
       stands_for k.journal at.before w at.began log image (subst (λ (l : List ℕ). HoldsLog k.journal.units k.journal.image (at.before ++ log) l) (sym ((safe_law s image safe).0 may)) holds),
     )
 
--- ---- what a restart answers that did not start its machine
+-- ---- what a restart of a machine that is down leaves
 
--- by its fault
-pub answered_by : (fault : RestartFault) (r : Result Reply NoMemory) (P : Reply → Type 0) → IfOk r (λ reply. answer_of fault ≡ Some reply)
-    → (fault ≡ Down → P (Refused MachineDown)) → ((offset : ℕ) → fault ≡ Bad offset → P (BadImage offset)) → (fault ≡ Full → P (Refused LogFull)) → IfOk r P
-answered_by fault (Err e) P is off ill tight = tt
-answered_by Down (Ok reply) P is off ill tight = let same : Refused MachineDown ≡ reply = cc in subst P same (off refl)
-answered_by (Bad offset) (Ok reply) P is off ill tight = let same : BadImage offset ≡ reply = cc in subst P same (ill offset refl)
-answered_by Full (Ok reply) P is off ill tight = let same : Refused LogFull ≡ reply = cc in subst P same (tight refl)
-answered_by RestartFault.NoMemory (Ok reply) P is off ill tight = absurd (cc)
+module _ {Z : Type 0} (law : StandingLaw) (k : KernelState) (o n : Option DiskState) (s t : DiskStatus) (b d : Vec ℕ Z) where
+  pub restart_answered : (r : RestartedMachine) → IsStarted (on b o s) (on d n t) r → IsRestartAnswered (on k o s) (on r.kernel n t) (Restarted r.events r.in_doubt)
+  restart_answered r is = record {
+    does = started_line law k r.kernel r.events r.in_doubt o n is.starts;
+    cause = λ e. absurd (cc);
+    not_up = λ e. absurd (cc);
+    ready = is.ready;
+    unwritten = tt;
+  }
+
+  module _ (off : k.now.machine.is_up ≡ false) (up : s.is_down ≡ false) (pending : s.pending ≡ 0) where
+    as_before : (most : ℕ) → IsUnwritten (on b o s) (on d n t) → DeviceCalls most s t false → IsAsBefore (on k o s) (on k n t)
+    as_before most is calls = record { machine = refl; told = is.told; up = calls.down ∙ ap (λ down. down || false) up; pending = is.pending ∙ pending }
+
+    -- one that did not start, by its fault
+    pub unstarted_answered : (most : ℕ) (fault : RestartFault) → NoStartLeaves (on b o s) (on d n t) fault → (let r : Result ℕ RestartFault = Err fault in DeviceCalls most s t (restart_went_down r))
+        → (r : Result Reply NoMemory) → IfOk r (λ reply. answer_of fault ≡ Some reply) → OnErr r (answer_of fault ≡ None) → StartAgainLeaves (on k o s) (on k n t) r
+    unstarted_answered most Down is calls (Ok reply) says none = let same : Refused MachineDown ≡ reply = cc in subst (IsRestartAnswered (on k o s) (on k n t)) same (record {
+      does = interrupted_line law k o n is.leaves;
+      cause = λ e. elim (calls.cause refl) [ inl was ↦ absurd (both_ways s.is_down up was) | inr rose ↦ rose ];
+      not_up = λ e. absurd (cc);
+      ready = off_ready k n t off;
+      unwritten = tt;
+    })
+    unstarted_answered most (Bad offset) is calls (Ok reply) says none = let same : BadImage offset ≡ reply = cc in subst (IsRestartAnswered (on k o s) (on k n t)) same (record {
+      does = λ pick w at. absurd (found_is_good k o offset is.bad w at);
+      cause = λ e. absurd (cc);
+      not_up = λ e. absurd (cc);
+      ready = off_ready k n t off;
+      unwritten = as_before most is.unwritten calls;
+    })
+    unstarted_answered most Full is calls (Ok reply) says none = let same : Refused LogFull ≡ reply = cc in subst (IsRestartAnswered (on k o s) (on k n t)) same (record {
+      does = full_line law k o n is.unwritten.told is.full;
+      cause = λ e. absurd (cc);
+      not_up = λ e. absurd (cc);
+      ready = off_ready k n t off;
+      unwritten = as_before most is.unwritten calls;
+    })
+    unstarted_answered most RestartFault.NoMemory is calls (Ok reply) says none = absurd (cc)
+    unstarted_answered most Down is calls (Err fault) says none = absurd (cc)
+    unstarted_answered most (Bad offset) is calls (Err fault) says none = absurd (cc)
+    unstarted_answered most Full is calls (Err fault) says none = absurd (cc)
+    unstarted_answered most RestartFault.NoMemory is calls (Err fault) says none = as_before most is calls

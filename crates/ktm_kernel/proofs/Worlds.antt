@@ -1,8 +1,7 @@
 -- From what an outcome did to what it is for the world that the machine stands for.
-use Rattle.std.proofs.Common.{◌≡◌, ℕ, Bool, true, false, not, List, [], ◌∷◌, ◌++◌, length, Option, Some, Result, Ok, Err, IfOk, refl, sym, ◌∙◌, ap, subst, inl, inr, append_assoc}
+use Rattle.std.proofs.Common.{◌≡◌, ℕ, Bool, true, false, not, List, [], ◌∷◌, ◌++◌, length, Option, Some, refl, sym, ◌∙◌, ap, subst, inl, inr, append_assoc}
 use Rattle.std.proofs.lemmas.List.{append-nil}
 use Rattle.std.specs.Prelude.{Contains, IsSomeAnd}
-use Rattle.ktm_base.specs.declared.fault.NoMemory.{NoMemory}
 use Rattle.ktm_base.specs.declared.id.Pid.{Pid}
 use Rattle.ktm_base.specs.declared.refusal.Refusal.TheVariants.{MachineDown}
 use Rattle.ktm_base.specs.Disk.{DiskState}
@@ -175,13 +174,6 @@ ended_line f false old new reply before now on keeps done w at =
 ended_line f true old new reply before now on keeps cut w at =
     let (power, stands) = up_by w.power old before w refl at on in
     cut_line old new (f (present w)) reply before now w power stands (keeps w stands.standing) (subst (λ x. IsCutOff old (f x) reply new before now) stands.now cut)
-
--- so it is of each answer
-pub ended_lines : (f : Present → Outcome) (r : Result Reply NoMemory) (is_down : Bool) (old new : KernelState) (before now : Option DiskState) → old.now.machine.is_up ≡ true
-    → ((w : World) → IsStanding w → GoesOn w (f (present w)))
-    → IfOk r (λ reply. Ends is_down old (f old.now) reply new before now) → IfOk r (λ reply. (w : World) → KernelAt old before w → DoesCall w (f (present w)) reply new now)
-ended_lines f (Ok reply) is_down old new before now on keeps ends = ended_line f is_down old new reply before now on keeps ends
-ended_lines f (Err fault) is_down old new before now on keeps ends = tt
 
 -- ---- a machine that was down
 

@@ -1,3 +1,4 @@
 pub mod Stands
 pub mod Restarts
 pub mod Done
+pub mod Answers

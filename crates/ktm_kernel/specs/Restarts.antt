@@ -1,11 +1,15 @@
--- What a restart makes of a disk that holds groups.
-use Rattle.std.specs.Prelude.{◌≡◌, ◌⊎◌, ℕ, ◌-◌, Bool, true, false, List, [], ◌∷◌, ◌++◌, Option, Some, None, Result, Ok, Err}
+-- What a restart makes of a disk that holds groups, and what it leaves.
+use Rattle.std.specs.Prelude.{◌≡◌, ◌⊎◌, ℕ, ◌-◌, Bool, true, false, List, [], ◌∷◌, ◌++◌, Option, Some, None, Result, Ok, Err, Vec, vec_capacity, IfSome, IsSomeAnd, ◌+◌, ◌≤◌}
 use Rattle.ktm_base.specs.Disk.{DiskState, MayLeave, IsSafe}
-use Rattle.ktm_restart.specs.Logs.{HoldsLog}
-use Rattle.ktm_journal.specs.Image.{left_after}
+use Rattle.ktm_restart.specs.Logs.{HoldsLog, StandsFor}
+use Rattle.ktm_journal.specs.Append.{RecordLeaves, Records}
+use Rattle.ktm_journal.specs.Image.{JournalState, left_after}
+use Rattle.ktm_log.specs.OnDisk.{OnDisk}
+use Rattle.ktm_event.specs.Kept.{EventsState, Holds}
+use Rattle.ktm_restart.specs.Bad.{IsBadAt}
 use Rattle.ktm_world.specs.Durable.{Durable, empty_state, stand}
 use Rattle.ktm_world.specs.Outcome.{is_full}
-use Rattle.ktm_types.specs.Sizes.{log_size}
+use Rattle.ktm_types.specs.Sizes.{area_len, frame_size, log_size}
 use Rattle.ktm_world.specs.Logs.{Group}
 use Rattle.ktm_types.specs.declared.reply.Reply.{Reply}
 use Rattle.ktm_types.specs.declared.reply.Reply.TheVariants.{BadImage, Refused}
@@ -14,7 +18,8 @@ use Rattle.ktm_log.specs.declared.fault.AppendFault.{AppendFault}
 use Rattle.ktm_world.specs.World.{own_group, opened}
 use Rattle.ktm_kernel.specs.declared.restart.RestartFault.{RestartFault}
 use Rattle.ktm_kernel.specs.declared.restart.RestartFault.TheVariants.{Down, Bad, Full, NoMemory}
-use Rattle.ktm_kernel.specs.Stands.{KernelState, KernelAt}
+use Rattle.ktm_kernel.specs.declared.restart.Restarted.{Restarted}
+use Rattle.ktm_kernel.specs.Stands.{IsReady, KernelState, KernelAt}
 
 -- all of the disk is safe, and it holds the groups that a run began with, and then those of a log
 abbrev pub HoldsBoth : ℕ → ℕ → List Group → List Group → DiskState → Type 0
@@ -40,6 +45,63 @@ abbrev pub LeavesOwnOrNot : ℕ → ℕ → List Group → List Group → DiskSt
 LeavesOwnOrNot units image before log s = (bytes : List ℕ) → MayLeave s bytes
     → HoldsLog units image (before ++ log) bytes ⊎ HoldsLog units image (before ++ (log ++ own_group (stand (base_of units image before) log) ∷ [])) bytes
 
+-- ---- what the recording of a start leaves
+
+-- the list has the group of a start from this state, and the room for whatever a log of so many units has room for
+pub record ListsStart (state : Durable) (units : ℕ) (events : EventsState) : Type 0 where
+  pub holds : Holds events (own_group state)
+  pub room : events.room + frame_size [] ≡ area_len units
+
+-- it was appended to the journal, or why it was not
+abbrev pub StartLeaves : Durable → OnDisk JournalState → OnDisk JournalState → Result EventsState AppendFault → Type 0
+StartLeaves state old new (Ok events) = ListsStart state old.it.units events × Records events old new
+StartLeaves state old new (Err fault) = (events : EventsState) × ListsStart state old.it.units events × RecordLeaves events old new (Err fault)
+
+-- ---- what a restart leaves
+
+-- a machine started, for whatever groups the image holds
+pub record IsStarted {Z : Type 0} (old new : OnDisk (Vec ℕ Z)) (restarted : Restarted) : Type 0 where
+  pub starts : (units image : ℕ) (before log : List Group) → IsSomeAnd old.told (HoldsBoth units image before log)
+      → Started units image before log restarted.kernel restarted.events restarted.in_doubt new.told
+  pub ready : IsReady restarted.kernel new.told new.status
+  pub up : restarted.kernel.now.machine.is_up ≡ true
+  pub found : IfSome old.told (λ s. (state : Durable) × StandsFor state s.seen)
+
+-- the disk has no power: what the start records may be there or not
+pub record IsUnpowered {Z : Type 0} (old new : OnDisk (Vec ℕ Z)) : Type 0 where
+  pub leaves : (units image : ℕ) (before log : List Group) → IsSomeAnd old.told (HoldsBoth units image before log) → IsSomeAnd new.told (LeavesOwnOrNot units image before log)
+  pub kept : vec_capacity old.it ≤ vec_capacity new.it
+
+-- nothing was written, nothing more waits for a sync, and the buffer lost no memory
+pub record IsUnwritten {Z : Type 0} (old new : OnDisk (Vec ℕ Z)) : Type 0 where
+  pub told : new.told ≡ old.told
+  pub pending : new.status.pending ≡ old.status.pending
+  pub kept : vec_capacity old.it ≤ vec_capacity new.it
+
+-- the image cannot be opened, for what stands at this offset
+pub record FoundBad {Z : Type 0} (old new : OnDisk (Vec ℕ Z)) (offset : ℕ) : Type 0 where
+  pub bad : IfSome old.told (λ s. IsBadAt s.seen offset)
+  pub unwritten : IsUnwritten old new
+
+-- the log has no room for what a start records
+pub record FoundFull {Z : Type 0} (old new : OnDisk (Vec ℕ Z)) : Type 0 where
+  pub full : (units image : ℕ) (before log : List Group) → IsSomeAnd old.told (HoldsBoth units image before log) → is_full_for_own units image before log ≡ true
+  pub found : IfSome old.told (λ s. (state : Durable) × StandsFor state s.seen)
+  pub unwritten : IsUnwritten old new
+
+-- by why a machine did not start
+abbrev pub NoStartLeaves : {Z : Type 0} → OnDisk (Vec ℕ Z) → OnDisk (Vec ℕ Z) → RestartFault → Type 0
+NoStartLeaves old new Down = IsUnpowered old new
+NoStartLeaves old new (Bad offset) = FoundBad old new offset
+NoStartLeaves old new Full = FoundFull old new
+NoStartLeaves old new NoMemory = IsUnwritten old new
+
+abbrev pub RestartLeaves : {Z : Type 0} → OnDisk (Vec ℕ Z) → OnDisk (Vec ℕ Z) → Result Restarted RestartFault → Type 0
+RestartLeaves old new (Ok restarted) = IsStarted old new restarted
+RestartLeaves old new (Err fault) = NoStartLeaves old new fault
+
+-- ---- its answer
+
 -- why a machine did not start, by why its start was not recorded
 abbrev pub unrecorded : AppendFault → RestartFault
 unrecorded AppendFault.Down = Down
@@ -59,9 +121,3 @@ restart_went_down (Err Down) = true
 restart_went_down (Err (Bad offset)) = false
 restart_went_down (Err Full) = false
 restart_went_down (Err NoMemory) = false
-
--- the fact, where the reply says that nothing was written: BAD_IMAGE or ERROR_LOG_FULL
-abbrev pub IfUnwrittenBy : Reply → Type 0 → Type 0
-IfUnwrittenBy (BadImage offset) P = P
-IfUnwrittenBy (Refused LogFull) P = P
-IfUnwrittenBy reply P = Unit {0}

@@ -1,17 +1,17 @@
 // The machine over its disk: the one way through.
-ghost use Rattle.std.specs.Prelude.{◌≡◌, ◌⊎◌, true, false, Option, Some, IfOk, IsOk, OnOk, OnErr, []};
-ghost use Rattle.ktm_base.specs.Count.{Rose};
-ghost use Rattle.ktm_base.specs.Disk.{DeviceCalls, DiskState};
+ghost use Rattle.std.specs.Prelude.{◌≡◌, true, false, Option, Some, IsOk};
+ghost use Rattle.ktm_base.specs.Disk.{DiskState};
 ghost use Rattle.ktm_base.specs.declared.refusal.Refusal.TheVariants.{MachineDown};
-ghost use Rattle.ktm_types.specs.declared.command.Line.TheVariants.{Crash, Process, Tick};
+ghost use Rattle.ktm_types.specs.declared.command.Line.TheVariants.{Crash, Tick};
 ghost use Rattle.ktm_types.specs.declared.reply.Reply.TheVariants.{Refused, Done};
 ghost use Rattle.ktm_forms.specs.Built.{is_built_command};
 ghost use Rattle.ktm_types.specs.Values.{IsCommand};
-ghost use Rattle.ktm_world.specs.Decide.{decide};
 ghost use Rattle.ktm_world.specs.World.{World};
-ghost use Rattle.ktm_kernel.specs.Done.{Ends, TouchesNothing, fallen};
+ghost use Rattle.ktm_kernel.specs.Answers.{AnswerLeaves, CallLeaves};
+ghost use Rattle.ktm_kernel.specs.Done.{fallen};
+ghost use Rattle.ktm_log.specs.OnDisk.{on};
 ghost use Rattle.ktm_memory.specs.Route.{IsBuiltAsked, decided};
-ghost use Rattle.ktm_kernel.specs.Stands.{KernelAt, DoesLine, IsPowered, IsReady};
+ghost use Rattle.ktm_kernel.specs.Stands.{KernelAt, DoesLine, IsReady};
 ghost use Rattle.ktm_memory.specs.Takes.{asked_takes_memory, takes_memory};
 
 use ktm_base::{Disk, NoMemory, Pid, Refusal};
@@ -73,14 +73,7 @@ impl Kernel {
         requires ready { IsReady self.old (D.told disk.old) (D.status disk.old) }
         requires command { IsCommand command }
         requires built { is_built_command command ≡ true }
-        ensures does { IfOk result (λ reply. (w : World) → KernelAt self.old (D.told disk.old) w
-            → DoesLine w (Some (Process process command)) reply self.new (D.told disk.new)) }
-        ensures cause { IfOk result (λ reply. reply ≡ Refused MachineDown
-            → (self.old.now.machine.is_up ≡ false) ⊎ Rose (D.status disk.old).downs (D.status disk.new).downs) }
-        ensures ready { OnOk result (IsReady self.new (D.told disk.new) (D.status disk.new)) }
-        ensures calls { OnOk result (DeviceCalls 4 (D.status disk.old) (D.status disk.new) (D.status disk.new).is_down) }
-        ensures untouched { IfOk result (λ reply. TouchesNothing (decide self.old.now process command) reply → (D.told disk.new ≡ D.told disk.old) × (D.status disk.new ≡ D.status disk.old)) }
-        ensures no_memory { OnErr result ((D.told disk.new ≡ D.told disk.old) × (D.status disk.new ≡ D.status disk.old)) }
+        ensures leaves { CallLeaves process command (on self.old (D.told disk.old) (D.status disk.old)) (on self.new (D.told disk.new) (D.status disk.new)) result }
         ensures enough { takes_memory self.old.now process command ≡ false → IsOk result }
     {
         law_of_events();
@@ -117,11 +110,7 @@ impl Kernel {
         requires up { self.old.now.machine.is_up ≡ true }
         requires ready { IsReady self.old (D.told disk.old) (D.status disk.old) }
         requires built { IsBuiltAsked asked }
-        ensures ends { IfOk result (λ reply. Ends (D.status disk.new).is_down self.old (decided self.old.now asked) reply self.new (D.told disk.old) (D.told disk.new)) }
-        ensures powered { OnOk result (IsPowered self.new (D.told disk.new) (D.status disk.new)) }
-        ensures calls { OnOk result (DeviceCalls 4 (D.status disk.old) (D.status disk.new) (D.status disk.new).is_down) }
-        ensures untouched { IfOk result (λ reply. TouchesNothing (decided self.old.now asked) reply → (D.told disk.new ≡ D.told disk.old) × (D.status disk.new ≡ D.status disk.old)) }
-        ensures no_memory { OnErr result ((D.told disk.new ≡ D.told disk.old) × (D.status disk.new ≡ D.status disk.old)) }
+        ensures leaves { AnswerLeaves (decided self.old.now asked) (on self.old (D.told disk.old) (D.status disk.old)) (on self.new (D.told disk.new) (D.status disk.new)) result }
         ensures enough { asked_takes_memory self.old.now asked ≡ false → IsOk result }
     {
         self.events.clear();

@@ -1,27 +1,19 @@
 // Starting the machine from its disk.
-ghost use Rattle.std.specs.Prelude.{◌≡◌, ◌↔◌, ◌+◌, ◌-◌, ◌*◌, ◌^◌, ◌<◌, ◌≤◌, ◌∷◌, ◌++◌, ℕ, List, IfOk, OnOk, IfErr, OnErr, IsErrOf, ◌≢◌, Some, None, true, false, [], vec_capacity, IfSome, IsSomeAnd};
+ghost use Rattle.std.specs.Prelude.{◌≡◌, ◌+◌, ◌-◌, ◌*◌, ◌^◌, ◌<◌, ◌≤◌, ℕ, IfOk, OnErr, Some, None, false, [], vec_capacity, IfSome, IsSomeAnd};
 ghost use Rattle.ktm_base.specs.declared.limits.TheConstants.{MOST_UNITS};
 ghost use Rattle.ktm_event.specs.Kept.{Holds};
-ghost use Rattle.ktm_base.specs.Count.{Rose};
-ghost use Rattle.ktm_base.specs.declared.refusal.Refusal.TheVariants.{MachineDown, MachineUp};
-ghost use Rattle.ktm_types.specs.declared.command.Line.TheVariants.{Restart};
-ghost use Rattle.ktm_types.specs.declared.reply.Reply.TheVariants.{Refused};
 ghost use Rattle.ktm_base.specs.Disk.{DeviceCalls};
-ghost use Rattle.ktm_restart.specs.Bad.{IsBadAt};
 ghost use Rattle.ktm_built.specs.Standing.{fresh};
 ghost use Rattle.ktm_forms.specs.Built.{IsBuiltState};
-ghost use Rattle.ktm_journal.specs.Image.{IsFormatted, IsHeaded, JournalAt, LeavesGroupOrNot};
-ghost use Rattle.ktm_restart.specs.Logs.{StandsFor};
+ghost use Rattle.ktm_journal.specs.Image.{IsFormatted, IsHeaded};
 ghost use Rattle.ktm_types.specs.Sizes.{area_len, frame_size};
 ghost use Rattle.ktm_states.specs.GoodState.{IsGoodState};
-ghost use Rattle.ktm_world.specs.Durable.{Durable as DurableState};
-ghost use Rattle.ktm_world.specs.Outcome.{is_full};
-ghost use Rattle.ktm_world.specs.World.{World, own_group};
+ghost use Rattle.ktm_world.specs.World.{World};
 ghost use Rattle.ktm_memory.specs.Memory.{IsRoomy};
-ghost use Rattle.ktm_world.specs.Logs.{Group};
-ghost use Rattle.ktm_kernel.specs.Restarts.{HoldsBoth, Started, LeavesOwnOrNot, answer_of, is_full_for_own, IfUnwrittenBy, restart_went_down, unrecorded};
-ghost use Rattle.ktm_log.specs.Fault.{append_went_down};
-ghost use Rattle.ktm_kernel.specs.Stands.{IsReady, FoundAt, DoesLine};
+ghost use Rattle.ktm_kernel.specs.Restarts.{RestartLeaves, StartLeaves, answer_of, restart_went_down, unrecorded};
+ghost use Rattle.ktm_kernel.specs.Answers.{StartAgainLeaves};
+ghost use Rattle.ktm_log.specs.OnDisk.{on};
+ghost use Rattle.ktm_kernel.specs.Stands.{FoundAt};
 
 use crate::kernel::Kernel;
 use ktm_base::{Disk, NoMemory, Refusal};
@@ -72,22 +64,7 @@ fn record_start<D: Disk>(
     requires reserved { area_len journal.old.units ≤ vec_capacity buffer.old }
     requires pending { (D.status disk.old).pending ≡ 0 }
     requires formatted { IfSome (D.told disk.old) (λ s. IsFormatted journal.old.units journal.old.image s.seen) }
-    ensures units { journal.new.units ≡ journal.old.units }
-    ensures image { journal.new.image ≡ journal.old.image }
-    ensures area { journal.new.log.area ≡ journal.old.log.area }
-    ensures end { OnOk result (journal.new.log.end ≡ journal.old.log.end + frame_size (own_group state.now)) }
-    ensures counted { OnOk result (journal.new.events ≡ journal.old.events + 1) }
-    ensures room { OnOk result (is_full (journal.old.log.area.len - journal.old.log.end) (own_group state.now) ≡ false) }
-    ensures full { IsErrOf result AppendFault.Full ↔ (is_full (journal.old.log.area.len - journal.old.log.end) (own_group state.now) ≡ true) }
-    ensures same { IsErrOf result AppendFault.Full → D.told disk.new ≡ D.told disk.old }
-    ensures waits { IsErrOf result AppendFault.Full → (D.status disk.new).pending ≡ (D.status disk.old).pending }
-    ensures adds { OnOk result ((log : List Group) → IsSomeAnd (D.told disk.old) (JournalAt journal.old log) → IsSomeAnd (D.told disk.new) (JournalAt journal.new (log ++ own_group state.now ∷ []))) }
-    ensures down { IsErrOf result AppendFault.Down → (log : List Group) → IsSomeAnd (D.told disk.old) (JournalAt journal.old log) → IsSomeAnd (D.told disk.new) (LeavesGroupOrNot journal.old log (own_group state.now)) }
-    ensures formatted { OnOk result (IfSome (D.told disk.new) (λ s. IsFormatted journal.new.units journal.new.image s.seen)) }
-    ensures settled { OnOk result ((D.status disk.new).pending ≡ 0) }
-    ensures up { OnOk result ((D.status disk.new).is_down ≡ false) }
-    ensures calls { DeviceCalls 4 (D.status disk.old) (D.status disk.new) (append_went_down result) }
-    ensures roomy { IfOk result (λ events. events.room + frame_size [] ≡ area_len journal.old.units) }
+    ensures leaves { StartLeaves state.now (on journal.old (D.told disk.old) (D.status disk.old)) (on journal.new (D.told disk.new) (D.status disk.new)) result }
     ensures buffer { OnErr result (vec_capacity buffer.old ≤ vec_capacity buffer.new) }
 {
     let mut events = events_in(replace(buffer, Vec::new(alloc)), journal);
@@ -181,19 +158,7 @@ impl Kernel {
         buffer: &mut Vec<u8>,
     ) -> Result<Restarted, RestartFault>
         requires pending { (D.status disk.old).pending ≡ 0 }
-        ensures starts { IfOk result (λ restarted. (units image : ℕ) (before log : List Group) → IsSomeAnd (D.told disk.old) (HoldsBoth units image before log)
-            → Started units image before log restarted.kernel restarted.events restarted.in_doubt (D.told disk.new)) }
-        ensures ready { IfOk result (λ restarted. IsReady restarted.kernel (D.told disk.new) (D.status disk.new) × (restarted.kernel.now.machine.is_up ≡ true)) }
-        ensures down { IsErrOf result RestartFault.Down → (units image : ℕ) (before log : List Group) → IsSomeAnd (D.told disk.old) (HoldsBoth units image before log)
-            → IsSomeAnd (D.told disk.new) (LeavesOwnOrNot units image before log) }
-        ensures full { IsErrOf result RestartFault.Full → (units image : ℕ) (before log : List Group) → IsSomeAnd (D.told disk.old) (HoldsBoth units image before log)
-            → is_full_for_own units image before log ≡ true }
-        ensures found { OnOk result (IfSome (D.told disk.old) (λ s. (state : DurableState) × StandsFor state s.seen)) }
-        ensures found_full { IsErrOf result RestartFault.Full → IfSome (D.told disk.old) (λ s. (state : DurableState) × StandsFor state s.seen) }
-        ensures bad { (offset : ℕ) → IsErrOf result (RestartFault.Bad offset) → IfSome (D.told disk.old) (λ s. IsBadAt s.seen offset) }
-        ensures unwritten { IfErr result (λ fault. fault ≢ RestartFault.Down → D.told disk.new ≡ D.told disk.old) }
-        ensures pending { IfErr result (λ fault. fault ≢ RestartFault.Down → (D.status disk.new).pending ≡ (D.status disk.old).pending) }
-        ensures buffer { OnErr result (vec_capacity buffer.old ≤ vec_capacity buffer.new) }
+        ensures leaves { RestartLeaves (on buffer.old (D.told disk.old) (D.status disk.old)) (on buffer.new (D.told disk.new) (D.status disk.new)) result }
         ensures calls { DeviceCalls (8 * MOST_UNITS + 68) (D.status disk.old) (D.status disk.new) (restart_went_down result) }
         ensures few { (units image : ℕ) → IsSomeAnd (D.told disk.old) (λ s. IsHeaded units image s.seen) → (D.status disk.new).calls ≤ (D.status disk.old).calls + (8 * units + 68) }
     {
@@ -223,15 +188,9 @@ impl Kernel {
         requires off { self.old.now.machine.is_up ≡ false }
         requires power { (D.status disk.old).is_down ≡ false }
         requires pending { (D.status disk.old).pending ≡ 0 }
-        ensures does { IfOk result (λ reply. (pick : ℕ) (w : World) → FoundAt self.old (D.told disk.old) w
-            → DoesLine w (Some (Restart pick)) reply self.new (D.told disk.new)) }
-        ensures cause { IfOk result (λ reply. reply ≡ Refused MachineDown → Rose (D.status disk.old).downs (D.status disk.new).downs) }
-        ensures not_up { IfOk result (λ reply. reply ≡ Refused MachineUp → ⊥) }
-        ensures ready { OnOk result (IsReady self.new (D.told disk.new) (D.status disk.new)) }
+        ensures leaves { StartAgainLeaves (on self.old (D.told disk.old) (D.status disk.old)) (on self.new (D.told disk.new) (D.status disk.new)) result }
         ensures calls { DeviceCalls (8 * MOST_UNITS + 68) (D.status disk.old) (D.status disk.new) (D.status disk.new).is_down }
         ensures few { (w : World) → FoundAt self.old (D.told disk.old) w → (D.status disk.new).calls ≤ (D.status disk.old).calls + (8 * w.base.units + 68) }
-        ensures unwritten { IfOk result (λ reply. IfUnwrittenBy reply ((D.told disk.new ≡ D.told disk.old) × ((D.status disk.new).is_down ≡ false) × ((D.status disk.new).pending ≡ 0) × (self.new ≡ self.old))) }
-        ensures no_memory { OnErr result ((D.told disk.new ≡ D.told disk.old) × ((D.status disk.new).is_down ≡ false) × ((D.status disk.new).pending ≡ 0) × (self.new ≡ self.old)) }
     {
         law_of_standing();
         let none = Events::new(self.alloc, 0)?;

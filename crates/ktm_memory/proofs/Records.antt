@@ -1,31 +1,94 @@
 -- What the recording of a list of events leaves.
-use Rattle.std.proofs.Common.{◌≡◌, ℕ, ◌≤◌, Bool, true, false, List, [], ◌∷◌, Option, Result, arith, inl, inr}
+use Rattle.std.proofs.Common.{◌≡◌, ℕ, ◌+◌, ◌≤◌, Bool, true, false, List, [], ◌∷◌, ◌++◌, length, Option, Result, Ok, Err, refl, sym, ◌∙◌, ap, subst, arith, inl, inr}
 use Rattle.std.proofs.lemmas.Bool.{cases_eq, both_ways}
-use Rattle.std.specs.Prelude.{IsTrue, IsSomeAnd}
-use Rattle.std.specs.Result.{IsErrOf}
-use Rattle.ktm_base.specs.Disk.{DiskState}
+use Rattle.std.proofs.lemmas.List.{append-nil}
+use Rattle.std.specs.Prelude.{IsTrue, IfSome, IsSomeAnd}
+use Rattle.ktm_base.specs.Disk.{DiskState, DiskStatus}
 use Rattle.ktm_event.specs.Kept.{EventsState, Holds}
-use Rattle.ktm_journal.specs.Image.{JournalState, JournalAt, LeavesGroupOrNot}
+use Rattle.ktm_journal.specs.Append.{RecordLeaves, has_no_room, with_group}
+use Rattle.ktm_journal.specs.Image.{IsFormatted, JournalState, JournalAt}
 use Rattle.ktm_log.specs.declared.fault.AppendFault.{AppendFault}
-use Rattle.ktm_log.specs.declared.fault.AppendFault.TheVariants.{Down}
-use Rattle.ktm_types.specs.declared.event.Event.{Event}
+use Rattle.ktm_log.specs.declared.fault.AppendFault.TheVariants.{Down, Full}
+use Rattle.ktm_log.specs.OnDisk.{AllSynced, OnDisk, on}
+use Rattle.ktm_types.specs.Sizes.{log_size}
 use Rattle.ktm_world.specs.Logs.{Group, as_groups}
-use Rattle.ktm_memory.specs.Recorded.{LeavesWithOr}
+use Rattle.ktm_memory.specs.Memory.{MemoryState, appended}
+use Rattle.ktm_memory.specs.Recorded.{AreRecorded, LeavesWithOr, RecordingLeaves}
 
-of_group : (events : EventsState) (j : JournalState) (log : List Group) (now : Option DiskState) → 1 ≤ events.count → (group : Group) → Holds events group
-    → IsSomeAnd now (LeavesGroupOrNot j log group) → IsSomeAnd now (LeavesWithOr j log (as_groups group))
-of_group events j log now some [] holds leaves = absurd (omega (arith, some, holds.counted))
-of_group events j log now some (e ∷ es) holds leaves = leaves
+-- ---- a list without events
 
--- what an append leaves that was cut off, of a list that is not empty
-pub cut_groups : {T : Type 0} (result : Result T AppendFault) (events : EventsState) (j : JournalState) (before now : Option DiskState) → 1 ≤ events.count
-    → (IsErrOf result Down → (log : List Group) (group : Group) → Holds events group → IsSomeAnd before (JournalAt j log) → IsSomeAnd now (LeavesGroupOrNot j log group))
-    → IsErrOf result Down → (log : List Group) (group : Group) → Holds events group → IsSomeAnd before (JournalAt j log) → IsSomeAnd now (LeavesWithOr j log (as_groups group))
-cut_groups result events j before now some left failed log group holds at = of_group events j log now some group holds (left failed log group holds at)
+none_held : (events : EventsState) (group : Group) → events.count ≡ 0 → Holds events group → [] ≡ group
+none_held events [] none holds = refl
+none_held events (e ∷ es) none holds = absurd (omega (arith, none, holds.counted))
 
--- a list that is not empty has one at least
+nothing_appended : (j : JournalState) → j ≡ appended j []
+nothing_appended j =
+    ap (λ (n : ℕ). record j { events = n }) (omega arith)
+    ∙ ap (λ (n : ℕ). record j { events = j.events + 0; log = record j.log { end = n } }) (omega arith)
+
+no_calls : (status : DiskStatus) → status.is_down ≡ false → status.pending ≡ 0 → AllSynced 4 status status
+no_calls status up pending = record {
+  calls = record { later = omega arith; counted = omega arith; few = omega arith; cause = λ refused. absurd (cc); down = rw up refl; plan = refl; places = refl };
+  pending = pending;
+  up = up;
+}
+
+-- nothing is done for it
+pub nothing_recorded : (events : EventsState) (m : MemoryState) (told : Option DiskState) (status : DiskStatus) (empty : Bool) → empty ≡ true → (IsTrue empty → events.count ≡ 0)
+    → IfSome told (λ s. IsFormatted m.journal.units m.journal.image s.seen) → status.is_down ≡ false → status.pending ≡ 0 → AreRecorded events (on m told status) (on m told status)
+nothing_recorded events m told status empty is tells formatted up pending =
+    let none = tells is in
+    record {
+      room = λ group holds. subst (λ (g : Group). has_no_room m.journal g ≡ false) (none_held events group none holds) refl;
+      grows = λ group holds. subst (λ (g : Group). m ≡ record m { journal = appended m.journal g }) (none_held events group none holds) (ap (λ (j : JournalState). record m { journal = j }) (nothing_appended m.journal));
+      adds = λ log group holds at. subst (λ (g : Group). IsSomeAnd told (JournalAt m.journal (log ++ as_groups g))) (none_held events group none holds)
+          (subst (λ (l : List Group). IsSomeAnd told (JournalAt m.journal l)) (sym (append-nil log)) at);
+      none = λ holds. record { told = refl; status = refl };
+      formatted = formatted;
+      synced = no_calls status up pending;
+    }
+
+-- ---- a list with events
+
+-- one that is not empty has one at least
 pub counted_from : (count : ℕ) (empty : Bool) → empty ≡ false → (count ≡ 0 → IsTrue empty) → 1 ≤ count
 counted_from count empty not_empty tells = elim (cases_eq count 0) [
   | inl none ↦ absurd (both_ways empty not_empty (tells none))
   | inr some ↦ omega (arith, some)
 ]
+
+-- what a group of events is, that is one group
+as_one : (P : List Group → Type 0) (events : EventsState) (group : Group) → 1 ≤ events.count → Holds events group → P (group ∷ []) → P (as_groups group)
+as_one P events [] some holds is = absurd (omega (arith, some, holds.counted))
+as_one P events (e ∷ es) some holds is = is
+
+not_none : (events : EventsState) → 1 ≤ events.count → Holds events [] → ⊥
+not_none events some holds = let none = holds.counted in omega (arith, some, none)
+
+appended_one : (events : EventsState) (group : Group) (j : JournalState) → 1 ≤ events.count → Holds events group → with_group j group ≡ appended j group
+appended_one events group j some holds = as_one (λ (gs : List Group). with_group j group ≡ record j { events = j.events + length group; log = record j.log { end = j.log.end + log_size gs } }) events group some holds
+    (ap (λ (n : ℕ). record j { events = j.events + length group; log = record j.log { end = j.log.end + n } }) (omega arith))
+
+-- what an append to the journal leaves, memory is left with
+pub recorded : (events : EventsState) (m : MemoryState) (k : JournalState) (o n : Option DiskState) (s t : DiskStatus) (r : Result (Unit {0}) AppendFault) → 1 ≤ events.count
+    → RecordLeaves events (on m.journal o s) (on k n t) r → RecordingLeaves events (on m o s) (on (record m { journal = k }) n t) r
+recorded events m k o n s t (Ok done) some leaves = record {
+  room = leaves.room;
+  grows = λ group holds. ap (λ (j : JournalState). record m { journal = j }) (leaves.grows group holds ∙ appended_one events group m.journal some holds);
+  adds = λ log group holds at. as_one (λ gs. IsSomeAnd n (JournalAt k (log ++ gs))) events group some holds (leaves.adds log group holds at);
+  none = λ holds. absurd (not_none events some holds);
+  formatted = leaves.formatted;
+  synced = leaves.synced;
+}
+recorded events m k o n s t (Err Down) some leaves = record {
+  same = ap (λ (j : JournalState). record m { journal = j }) leaves.same;
+  some = not_none events some;
+  room = leaves.room;
+  either = λ log group holds at. as_one (λ gs. IsSomeAnd n (LeavesWithOr m.journal log gs)) events group some holds (leaves.either log group holds at);
+  calls = leaves.calls;
+}
+recorded events m k o n s t (Err Full) some leaves = record {
+  same = ap (λ (d : OnDisk JournalState). on (record m { journal = d.it }) d.told d.status) leaves.same;
+  some = not_none events some;
+  room = leaves.room;
+}

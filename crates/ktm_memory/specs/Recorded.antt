@@ -1,9 +1,51 @@
--- What the recording of a command's events may leave on a disk.
-use Rattle.std.specs.Prelude.{◌⊎◌, ℕ, List, ◌++◌}
-use Rattle.ktm_base.specs.Disk.{DiskState, MayLeave}
-use Rattle.ktm_journal.specs.Image.{JournalState, IsImage}
-use Rattle.ktm_world.specs.Logs.{Group}
+-- What the recording of a command's events leaves, by its answer.
+use Rattle.std.specs.Prelude.{◌≡◌, ◌⊎◌, ℕ, true, false, List, [], ◌++◌, Result, Ok, Err, IfSome, IsSomeAnd}
+use Rattle.ktm_base.specs.Disk.{DiskState, DeviceCalls, MayLeave}
+use Rattle.ktm_event.specs.Kept.{EventsState, Holds}
+use Rattle.ktm_journal.specs.Append.{has_no_room}
+use Rattle.ktm_journal.specs.Image.{IsFormatted, IsImage, JournalAt, JournalState}
+use Rattle.ktm_log.specs.declared.fault.AppendFault.{AppendFault}
+use Rattle.ktm_log.specs.declared.fault.AppendFault.TheVariants.{Down, Full}
+use Rattle.ktm_log.specs.OnDisk.{AllSynced, OnDisk}
+use Rattle.ktm_world.specs.Logs.{Group, as_groups}
+use Rattle.ktm_memory.specs.Memory.{MemoryState, appended}
+
+-- the disk tells what it told, and no device call was made
+pub record IsUntouched {A B : Type 0} (old : OnDisk A) (new : OnDisk B) : Type 0 where
+  pub told : new.told ≡ old.told
+  pub status : new.status ≡ old.status
 
 -- each image that may be left has the groups, with these more or without
 abbrev pub LeavesWithOr : JournalState → List Group → List Group → DiskState → Type 0
 LeavesWithOr j log more s = (image : List ℕ) → MayLeave s image → IsImage j.units j.image log image ⊎ IsImage j.units j.image (log ++ more) image
+
+-- the journal has the events as a group more, where there are any, and nothing else of memory has changed
+pub record AreRecorded (events : EventsState) (old new : OnDisk MemoryState) : Type 0 where
+  pub room : (group : Group) → Holds events group → has_no_room old.it.journal group ≡ false
+  pub grows : (group : Group) → Holds events group → new.it ≡ record old.it { journal = appended old.it.journal group }
+  pub adds : (log : List Group) (group : Group) → Holds events group
+      → IsSomeAnd old.told (JournalAt old.it.journal log) → IsSomeAnd new.told (JournalAt new.it.journal (log ++ as_groups group))
+  pub none : Holds events [] → IsUntouched old new
+  pub formatted : IfSome new.told (λ s. IsFormatted new.it.journal.units new.it.journal.image s.seen)
+  pub synced : AllSynced 4 old.status new.status
+
+-- the power went: the group may be there or not, and there is one
+pub record AreCutOff (events : EventsState) (old new : OnDisk MemoryState) : Type 0 where
+  pub same : new.it ≡ old.it
+  pub some : Holds events [] → ⊥
+  pub room : (group : Group) → Holds events group → has_no_room old.it.journal group ≡ false
+  pub either : (log : List Group) (group : Group) → Holds events group
+      → IsSomeAnd old.told (JournalAt old.it.journal log) → IsSomeAnd new.told (LeavesWithOr old.it.journal log (as_groups group))
+  pub calls : DeviceCalls 4 old.status new.status true
+
+-- the log has no room for the group, there is one, and nothing was done
+pub record HaveNoRoom (events : EventsState) (old new : OnDisk MemoryState) : Type 0 where
+  pub same : new ≡ old
+  pub some : Holds events [] → ⊥
+  pub room : (group : Group) → Holds events group → has_no_room old.it.journal group ≡ true
+
+-- what the recording leaves
+abbrev pub RecordingLeaves : EventsState → OnDisk MemoryState → OnDisk MemoryState → Result (Unit {0}) AppendFault → Type 0
+RecordingLeaves events old new (Ok done) = AreRecorded events old new
+RecordingLeaves events old new (Err Down) = AreCutOff events old new
+RecordingLeaves events old new (Err Full) = HaveNoRoom events old new

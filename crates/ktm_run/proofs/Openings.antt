@@ -1,22 +1,25 @@
 -- What a run begins from, on a disk that was prepared.
-use Rattle.std.specs.Prelude.{IfSome, IsSomeAnd}
-use Rattle.std.proofs.Common.{◌≡◌, ◌⊎◌, inl, inr, ℕ, ◌+◌, ◌-◌, ◌*◌, ◌<◌, ◌≤◌, Bool, true, false, List, [], ◌∷◌, ◌++◌, length, Option, Some, None, refl, sym, ◌∙◌, ap, ap₂, subst, arith}
+use Rattle.std.specs.Prelude.{IfSome, IsSomeAnd, Vec}
+use Rattle.std.proofs.Common.{◌≡◌, ◌⊎◌, inl, inr, ℕ, ◌+◌, ◌-◌, ◌*◌, ◌<◌, ◌≤◌, Bool, true, false, List, [], ◌∷◌, ◌++◌, length, Option, Some, None, Result, Err, refl, sym, ◌∙◌, ap, ap₂, subst, arith}
 use Rattle.std.proofs.lemmas.List.{append-nil}
 use Rattle.ktm_base.specs.declared.limits.TheConstants.{MOST_UNITS, NEW_UNITS}
 use Rattle.ktm_base.specs.Disk.{DiskState, DiskStatus, DeviceCalls, MayLeave, IsSafe}
 use Rattle.ktm_base.specs.Told.{Goes}
-use Rattle.ktm_base.proofs.offered.Images.{safe_law}
+use Rattle.ktm_base.proofs.offered.Images.{calls_law, safe_law}
 use Rattle.ktm_base.proofs.offered.ToldSteps.{IsSomeAnd-map, IsSomeAnd-step}
 use Rattle.ktm_restart.specs.Bad.{IsBadAt}
 use Rattle.ktm_restart.specs.Logs.{HoldsLog, StandsFor}
 use Rattle.ktm_journal.specs.Image.{IsHeaded, left_after}
 use Rattle.ktm_restart.proofs.offered.OneState.{not_bad}
-use Rattle.ktm_kernel.specs.Restarts.{HoldsBoth, LeavesOwnOrNot, Started, base_of, is_full_for_own}
+use Rattle.ktm_kernel.specs.Restarts.{HoldsBoth, IsStarted, LeavesOwnOrNot, NoStartLeaves, Started, base_of, is_full_for_own, restart_went_down}
+use Rattle.ktm_kernel.specs.declared.restart.Restarted.{Restarted}
+use Rattle.ktm_log.specs.OnDisk.{on}
 use Rattle.ktm_kernel.specs.Stands.{KernelState, KernelAt}
 use Rattle.ktm_kernel.specs.declared.restart.RestartFault.{RestartFault}
 use Rattle.ktm_kernel.specs.declared.restart.RestartFault.TheVariants as kernel
 use Rattle.ktm_run.specs.declared.fault.OpenFault.{OpenFault}
 use Rattle.ktm_run.specs.declared.fault.OpenFault.TheVariants as opening
+use Rattle.ktm_run.specs.Opened.{IsFoundBad, IsFoundDown, IsFoundFull, IsNotRecorded, IsOpened, NotOpenedLeaves}
 use Rattle.ktm_run.specs.Opening.{Prepared, open_fault_of}
 use Rattle.ktm_run.specs.Theorem.{Begins, BeginsAs, BeginsWith, LeavesOpening, RunCounts}
 use Rattle.ktm_world.specs.Durable.{Durable, empty_state, stand}
@@ -234,20 +237,50 @@ module _ (base : Durable) (room : ℕ) where
         (subst (λ (d : Durable). HoldsLog base.units base.image (is.before ++ own_group d ∷ []) image) (sym is.comes_to) holds))
   ])
 
--- ---- why no machine was started
+-- ---- an opening, by what the restart says
 
--- what the kernel said, by why no machine was started
-abbrev pub restart_fault_of : OpenFault → RestartFault
-restart_fault_of (opening.BadImage offset) = kernel.Bad offset
-restart_fault_of opening.Down = kernel.Down
-restart_fault_of opening.Full = kernel.Full
-restart_fault_of opening.NoMemory = kernel.NoMemory
+module _ {Z : Type 0} (old mid new : Option DiskState) (s u t : DiskStatus) (b d : Vec ℕ Z) (goes : Goes Prepared old mid) (prepared : DeviceCalls (8 * MOST_UNITS + 65) s u false) where
+  pub opens : (r : Restarted) → IsStarted (on b mid u) (on d new t) r → DeviceCalls (8 * MOST_UNITS + 68) u t false → (IsSomeAnd old (λ s. 0 < length s.seen) → u.calls ≤ s.calls + 1)
+      → ((units image : ℕ) → IsSomeAnd mid (λ s. IsHeaded units image s.seen) → t.calls ≤ u.calls + (8 * units + 68)) → IsOpened r.kernel old new s t
+  opens r is calls one few = record {
+    stands = λ base room tells. stands_opened base room mid new r.kernel r.events r.in_doubt (tells_base base room old mid tells goes) is.starts;
+    counts = λ base room tells. opening_counts base room _ _ _ _ _ _ _ tells goes prepared calls one few;
+    ready = is.ready;
+    begins = opens_begin old mid goes is.found;
+  }
 
-restart_fault-back : (fault : RestartFault) → restart_fault_of (open_fault_of fault) ≡ fault
-restart_fault-back kernel.Down = refl
-restart_fault-back (kernel.Bad offset) = refl
-restart_fault-back kernel.Full = refl
-restart_fault-back kernel.NoMemory = refl
+  pub not_opened : (most : ℕ) (fault : RestartFault) → NoStartLeaves (on b mid u) (on d new t) fault → (let r : Result ℕ RestartFault = Err fault in DeviceCalls most u t (restart_went_down r)) → NotOpenedLeaves old new s t (open_fault_of fault)
+  not_opened most kernel.Down is calls = record {
+    went_down = (calls_law s u t (8 * MOST_UNITS + 65) most true prepared calls).cause refl;
+    leaves = λ base room tells. inr (cut_within base room mid new (tells_base base room old mid tells goes) is.leaves);
+  }
+  not_opened most (kernel.Bad offset) is calls = record { same = is.unwritten.told ∙ bad_kept old mid offset goes is.bad; bad = bad_was_there old mid offset goes is.bad }
+  not_opened most kernel.Full is calls = let (same, there) = full_kept old mid goes is.full in record {
+    same = is.unwritten.told ∙ same;
+    there = there;
+    full = λ base room tells. no_room base room mid (tells_base base room old mid tells goes) is.full;
+    begins = opens_begin old mid goes is.found;
+  }
+  not_opened most kernel.NoMemory is calls = record {
+    prepared = rw is.told goes;
+    leaves = λ base room tells. rw is.told (left_begins base room mid (tells_base base room old mid tells goes));
+  }
 
-pub kernel_said : (fault : RestartFault) (told why : OpenFault) → told ≡ open_fault_of fault → told ≡ why → fault ≡ restart_fault_of why
-kernel_said fault told why is same = sym (restart_fault-back fault) ∙ ap restart_fault_of (sym is ∙ same)
+-- the disk went down in the preparation
+pub not_prepared : (old new : Option DiskState) (s t : DiskStatus) (most : ℕ) → Goes (λ old new. (old.seen ≡ []) ⊎ (new ≡ old)) old new → DeviceCalls most s t true → IsFoundDown old new s t
+not_prepared old new s t most goes calls = record { went_down = calls.cause refl; leaves = λ base room tells. cut_before base room old new tells goes }
+
+-- ---- what is left, by the fault that it is
+
+module _ (old new : Option DiskState) (s t : DiskStatus) (why : OpenFault) where
+  pub faults_bad : (offset : ℕ) → why ≡ opening.BadImage offset → NotOpenedLeaves old new s t why → IsFoundBad offset old new
+  faults_bad offset is leaves = subst (λ f. NotOpenedLeaves old new s t f) is leaves
+
+  pub faults_full : why ≡ opening.Full → NotOpenedLeaves old new s t why → IsFoundFull old new
+  faults_full is leaves = subst (λ f. NotOpenedLeaves old new s t f) is leaves
+
+  pub faults_down : why ≡ opening.Down → NotOpenedLeaves old new s t why → IsFoundDown old new s t
+  faults_down is leaves = subst (λ f. NotOpenedLeaves old new s t f) is leaves
+
+  pub faults_memory : why ≡ opening.NoMemory → NotOpenedLeaves old new s t why → IsNotRecorded old new
+  faults_memory is leaves = subst (λ f. NotOpenedLeaves old new s t f) is leaves

@@ -3,7 +3,7 @@ use Rattle.std.specs.Prelude.{IfSome, IsSomeAnd}
 use Rattle.std.proofs.Common.{◌≡◌, ◌≢◌, ◌⊎◌, inl, inr, ℕ, ◌+◌, ◌*◌, ◌<◌, ◌≤◌, true, false, List, [], ◌∷◌, ◌++◌, length, take, Option, Some, None, refl, sym, ◌∙◌, ap, subst, arith}
 use Rattle.std.proofs.lemmas.List.{append-nil}
 use Rattle.std.proofs.KnownBytes.{Keeps-refl}
-use Rattle.std.specs.Io.KnownBytes.{Consumes, IsAtEnd, Keeps}
+use Rattle.std.specs.Io.KnownBytes.{Consumes, Keeps}
 use Rattle.ktm_base.specs.declared.limits.TheConstants.{MOST_SCRIPT_BYTES}
 use Rattle.ktm_base.specs.declared.power.PowerCall.{PowerCall}
 use Rattle.ktm_base.specs.declared.power.PowerCall.TheVariants.{Power}
@@ -15,12 +15,13 @@ use Rattle.ktm_kernel.proofs.Left.{left_law}
 use Rattle.ktm_run.specs.declared.status.Status.{Status}
 use Rattle.ktm_run.specs.declared.status.Status.TheVariants.{Done, Usage, SourceFault, SinkFault, NoMemory, BadImage, DiskFault, ScriptTooLong, LogFull}
 use Rattle.ktm_run.specs.Lawful.{RunIsLawful}
-use Rattle.ktm_run.specs.Progress.{Scene, Now, Counts, Ran, Progress, Broke, Stops}
-use Rattle.ktm_run.specs.Script.{MayExecute, Means, cut_lines, lines_from}
+use Rattle.ktm_run.specs.Executed.{IsStopped, Place, ScriptLeaves, place}
+use Rattle.ktm_run.specs.Progress.{Scene, Now, Counts, Ran, Progress, Broke}
+use Rattle.ktm_run.specs.Script.{Means, cut_lines, lines_from}
 use Rattle.ktm_run.specs.declared.fault.OpenFault.{OpenFault}
 use Rattle.ktm_run.specs.declared.fault.OpenFault.TheVariants as opening
 use Rattle.ktm_run.specs.Early.{Outside, SaysWhy, Ends, FoundBad, FoundDown, FoundFull, FoundNoMemory}
-use Rattle.ktm_run.specs.Theorem.{HoldsStates, Moment, moment_of, RunCounts, LineCounts, Replied, RunTheorem, EndedBetween, Unanswered, HalfWritten, EndedWithin, NotOpened, CutOpening, EndedEarly}
+use Rattle.ktm_run.specs.Theorem.{HoldsStates, Moment, moment_of, RunCounts, LineCounts, Replied, EndedBetween, Unanswered, HalfWritten, EndedWithin, NotOpened, CutOpening, EndedEarly}
 use Rattle.ktm_types.specs.declared.command.Line.TheVariants.{Restart}
 use Rattle.ktm_world.specs.Durable.{Durable}
 use Rattle.ktm_world.specs.Logs.{is_up}
@@ -103,21 +104,25 @@ module _ (base : Durable) (room : ℕ) (old new : Outside) (first : Scene) (mach
     all_replied : (lines : List (List ℕ)) → Progress begun ended lines → Replied base room (moment_of old) (moment_of new) lines
     all_replied lines progress = replied ended lines lengths (progress (opened base room []) stands)
 
-    whole : (script : List ℕ) → Consumes old.left new.left script → IsAtEnd new.left → length script ≤ MOST_SCRIPT_BYTES → Progress begun ended (cut_lines script) → RunTheorem base room old new
-    whole script read at_end within progress = record { script = script; was_read = read; at_end = at_end; within = within; room_left = fits; replied = all_replied (cut_lines script) progress }
+    -- the source, and all of the rest
+    abbrev start : Place
+    start = place old.left begun
+
+    abbrev end : Place
+    end = place new.left ended
 
     between : (script lines : List ℕ) → Consumes old.left new.left script → Progress begun ended (lines_from [] lines) → EndedBetween base room old new script lines
     between script lines read progress = record { was_read = read; room_left = fits; replied = all_replied (lines_from [] lines) progress }
 
-    within : (script : List ℕ) (lines : List (List ℕ)) → Consumes old.left new.left script → length script ≤ MOST_SCRIPT_BYTES → MayExecute new.left script lines → Stops begun ended lines → EndedWithin base room old new
-    within script lines read few may stops =
-        let stopped = stops (opened base room []) stands in record {
-          script = script;
-          was_read = read;
-          within = few;
+    within : IsStopped start end → EndedWithin base room old new
+    within is =
+        let stopped = is.stops (opened base room []) stands in record {
+          script = is.script;
+          was_read = is.was_read;
+          within = is.short;
           room_left = fits;
-          lines = lines;
-          may = may;
+          lines = is.lines;
+          may = is.may;
           before = stopped.before;
           line = stopped.line;
           behind = stopped.behind;
@@ -128,22 +133,16 @@ module _ (base : Durable) (room : ℕ) (old new : Outside) (first : Scene) (mach
           broke = broke_of stopped.ran.world stopped.at ended stopped.line lengths stopped.broke;
         }
 
-    pub run_ended : (result : Status)
-        → (result ≡ Done → (script : List ℕ) × Consumes old.left new.left script × IsAtEnd new.left × (length script ≤ MOST_SCRIPT_BYTES) × Progress begun ended (cut_lines script))
-        → (result ≡ SourceFault → (script : List ℕ) × Consumes old.left new.left script × (length script ≤ MOST_SCRIPT_BYTES) × Progress begun ended (lines_from [] script))
-        → (result ≡ ScriptTooLong → (script : List ℕ) × Consumes old.left new.left script × (length script ≡ MOST_SCRIPT_BYTES + 1) × Progress begun ended (lines_from [] (take MOST_SCRIPT_BYTES script)))
-        → ((result ≡ SinkFault) ⊎ (result ≡ NoMemory) → (script : List ℕ) × (lines : List (List ℕ)) × Consumes old.left new.left script × (length script ≤ MOST_SCRIPT_BYTES) × MayExecute new.left script lines × Stops begun ended lines)
-        → (result ≡ Usage → ⊥) → (result ≡ BadImage → ⊥) → (result ≡ DiskFault → ⊥) → (result ≡ LogFull → ⊥)
-        → EndedEarly result base room old new
-    run_ended Done done part behind broke usage image down full = let (script, read, at_end, short, progress) = done refl in whole script read at_end short progress
-    run_ended SourceFault done part behind broke usage image down full = let (script, read, short, progress) = part refl in (script, short, between script script read progress)
-    run_ended ScriptTooLong done part behind broke usage image down full = let (script, read, long, progress) = behind refl in (script, long, between script (take MOST_SCRIPT_BYTES script) read progress)
-    run_ended SinkFault done part behind broke usage image down full = let (script, lines, read, few, may, stops) = broke (inl refl) in inr (within script lines read few may stops)
-    run_ended NoMemory done part behind broke usage image down full = let (script, lines, read, few, may, stops) = broke (inr refl) in inr (within script lines read few may stops)
-    run_ended Usage done part behind broke usage image down full = absurd (usage refl)
-    run_ended BadImage done part behind broke usage image down full = absurd (image refl)
-    run_ended LogFull done part behind broke usage image down full = absurd (full refl)
-    run_ended DiskFault done part behind broke usage image down full = absurd (down refl)
+    pub run_ended : (result : Status) → ScriptLeaves result start end → EndedEarly result base room old new
+    run_ended Done is = record { script = is.script; was_read = is.was_read; at_end = is.at_end; within = is.short; room_left = fits; replied = all_replied (cut_lines is.script) is.went }
+    run_ended SourceFault is = (is.script, is.short, between is.script is.script is.was_read is.went)
+    run_ended ScriptTooLong is = (is.script, is.long, between is.script (take MOST_SCRIPT_BYTES is.script) is.was_read is.went)
+    run_ended SinkFault is = inr (within is)
+    run_ended NoMemory is = inr (within is)
+    run_ended Usage is = absurd is
+    run_ended BadImage is = absurd is
+    run_ended LogFull is = absurd is
+    run_ended DiskFault is = absurd is
 
 no_longer : (left : Option (List ℕ)) (most : ℕ) → IsSomeAnd left (λ bytes. length bytes ≤ most) → IfSome left (λ bytes. most < length bytes) → ⊥
 no_longer None most tells long = absurd tells
@@ -165,18 +164,25 @@ run_complete base room mid old new Opened a b c d ScriptTooLong early ends sourc
 run_complete base room mid old new Opened a b c d Usage early ends source sink long reads writes short = absurd early
 run_complete base room mid old new Opened a b c d BadImage early ends source sink long reads writes short = absurd early
 
--- how a script ends, once its machine was started
-pub script_ends : (result : Status) (Opened : Type 0) (old new : Outside) → Opened → (result ≡ Usage → ⊥) → (result ≡ BadImage → ⊥) → (result ≡ DiskFault → ⊥) → (result ≡ LogFull → ⊥)
-    → Ends result Opened old new
-script_ends Done Opened old new opened usage image down full = opened
-script_ends SourceFault Opened old new opened usage image down full = opened
-script_ends ScriptTooLong Opened old new opened usage image down full = opened
-script_ends SinkFault Opened old new opened usage image down full = inr (inr opened)
-script_ends NoMemory Opened old new opened usage image down full = inr opened
-script_ends Usage Opened old new opened usage image down full = absurd (usage refl)
-script_ends BadImage Opened old new opened usage image down full = absurd (image refl)
-script_ends DiskFault Opened old new opened usage image down full = absurd (down refl)
-script_ends LogFull Opened old new opened usage image down full = absurd (full refl)
+-- ---- how a script ends, once its machine was started
+
+module _ (old new : Place) where
+  pub script_ends : (result : Status) (Opened : Type 0) (before after : Outside) → Opened → ScriptLeaves result old new → Ends result Opened before after
+  script_ends Done Opened before after opened is = opened
+  script_ends SourceFault Opened before after opened is = opened
+  script_ends ScriptTooLong Opened before after opened is = opened
+  script_ends SinkFault Opened before after opened is = inr (inr opened)
+  script_ends NoMemory Opened before after opened is = inr opened
+  script_ends Usage Opened before after opened is = absurd is
+  script_ends BadImage Opened before after opened is = absurd is
+  script_ends DiskFault Opened before after opened is = absurd is
+  script_ends LogFull Opened before after opened is = absurd is
+
+  pub not_usage : (result : Status) → ScriptLeaves result old new → result ≡ Usage → ⊥
+  not_usage result is same = subst (λ s. ScriptLeaves s old new) same is
+
+  pub too_long : (result : Status) → ScriptLeaves result old new → result ≡ ScriptTooLong → IfSome old.left (λ bytes. MOST_SCRIPT_BYTES < length bytes)
+  too_long result is same = (subst (λ s. ScriptLeaves s old new) same is).more
 
 -- ---- a machine that was not started
 

@@ -3,7 +3,9 @@ pub mod Form
 pub mod Status
 pub mod Plan
 pub mod Progress
+pub mod Executed
 pub mod Opening
 pub mod Early
 pub mod Theorem
+pub mod Opened
 pub mod Lawful

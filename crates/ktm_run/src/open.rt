@@ -1,16 +1,10 @@
 // The machine of an image.
-ghost use Rattle.std.specs.Prelude.{◌≡◌, ◌⊎◌, ◌+◌, ◌*◌, ◌<◌, ◌≤◌, [], ℕ, List, length, false, true, is_err, IfOk, OnOk, OnErr, IsErrOf, IfSome, IsSomeAnd};
+ghost use Rattle.std.specs.Prelude.{◌≡◌, ◌⊎◌, ◌+◌, ◌*◌, ◌<◌, ◌≤◌, [], length, false, is_err, OnOk, OnErr, IsSomeAnd};
 ghost use Rattle.ktm_base.specs.declared.limits.TheConstants.{MOST_UNITS};
-ghost use Rattle.ktm_base.specs.Disk.{DeviceCalls, MayLeave};
+ghost use Rattle.ktm_base.specs.Disk.{DeviceCalls};
 ghost use Rattle.ktm_base.specs.Told.{Goes};
-ghost use Rattle.ktm_restart.specs.Bad.{IsBadAt};
-ghost use Rattle.ktm_kernel.specs.Stands.{KernelAt, IsReady};
+ghost use Rattle.ktm_run.specs.Opened.{OpenLeaves};
 ghost use Rattle.ktm_run.specs.Opening.{Prepared, open_fault_of};
-ghost use Rattle.ktm_run.specs.Theorem.{Begins, BeginsAs, LeavesOpening, RunCounts};
-ghost use Rattle.ktm_run.specs.Early.{WentDown};
-ghost use Rattle.ktm_world.specs.Durable.{Durable};
-ghost use Rattle.ktm_world.specs.Outcome.{is_full};
-ghost use Rattle.ktm_world.specs.World.{opened, own_group};
 
 use crate::fault::OpenFault;
 use ktm_base::{Disk, Down, NEW_UNITS};
@@ -57,21 +51,7 @@ fn open_fault(fault: RestartFault) -> OpenFault
 /// Starts the machine of the image. A disk without a byte becomes a new one.
 pub fn open_kernel<D: Disk>(alloc: Global, disk: &mut D) -> Result<Kernel, OpenFault>
     requires { (D.status disk.old).pending ≡ 0 }
-    ensures stands { IfOk result (λ kernel. (base : Durable) (room : ℕ) → IsSomeAnd (D.told disk.old) (Begins base room)
-        → KernelAt kernel (D.told disk.new) (opened base room []) × (is_full room (own_group base) ≡ false)) }
-    ensures counts { OnOk result ((base : Durable) (room : ℕ) → IsSomeAnd (D.told disk.old) (Begins base room) → RunCounts base.units (D.status disk.old) (D.status disk.new) 0 [] 0) }
-    ensures ready { IfOk result (λ kernel. IsReady kernel (D.told disk.new) (D.status disk.new)) }
-    ensures full { IsErrOf result OpenFault.Full → (base : Durable) (room : ℕ) → IsSomeAnd (D.told disk.old) (Begins base room) → is_full room (own_group base) ≡ true }
-    ensures opens { OnOk result (IfSome (D.told disk.old) (λ s. (base : Durable) × (room : ℕ) × BeginsAs base room s.seen)) }
-    ensures opens_full { IsErrOf result OpenFault.Full → IfSome (D.told disk.old) (λ s. (base : Durable) × (room : ℕ) × BeginsAs base room s.seen) }
-    ensures bad { (offset : ℕ) → IsErrOf result (OpenFault.BadImage offset) → (D.told disk.new ≡ D.told disk.old) × IfSome (D.told disk.old) (λ s. (0 < length s.seen) × IsBadAt s.seen offset) }
-    ensures found_full { IsErrOf result OpenFault.Full → (D.told disk.new ≡ D.told disk.old) × IfSome (D.told disk.old) (λ s. 0 < length s.seen) }
-    ensures down { IsErrOf result OpenFault.Down → WentDown (D.status disk.old) (D.status disk.new) }
-    ensures cut { IsErrOf result OpenFault.Down → (base : Durable) (room : ℕ) → IsSomeAnd (D.told disk.old) (Begins base room)
-        → IsSomeAnd (D.told disk.old) (λ s. s.seen ≡ []) ⊎ IsSomeAnd (D.told disk.new) (LeavesOpening base room) }
-    ensures not_recorded { IsErrOf result OpenFault.NoMemory → Goes Prepared (D.told disk.old) (D.told disk.new) }
-    ensures no_memory { IsErrOf result OpenFault.NoMemory → (base : Durable) (room : ℕ) → IsSomeAnd (D.told disk.old) (Begins base room)
-        → IsSomeAnd (D.told disk.new) (λ s. (image : List ℕ) → MayLeave s image → BeginsAs base room image) }
+    ensures leaves { OpenLeaves (D.told disk.old) (D.told disk.new) (D.status disk.old) (D.status disk.new) result }
     ensures plan { (D.status disk.new).plan ≡ (D.status disk.old).plan }
     ensures downs { (D.status disk.old).downs ≤ (D.status disk.new).downs }
 {

@@ -1,11 +1,12 @@
 // The loop over a script.
-ghost use Rattle.std.specs.Prelude.{◌≡◌, ◌⊎◌, ◌+◌, ◌<◌, ◌≤◌, ℕ, List, [], length, take, IfOk, OnOk, OnErr, IsErrOf, vec_capacity, IfSome};
+ghost use Rattle.std.specs.Prelude.{◌≡◌, ◌<◌, ◌≤◌, ℕ, List, [], length, take, IfOk, OnOk, OnErr, IsErrOf, vec_capacity};
 ghost use Rattle.std.specs.Io.KnownBytes.{Consumes, IsAtEnd, Keeps};
 ghost use Rattle.ktm_base.specs.Count.{Rose};
 ghost use Rattle.ktm_base.specs.Stream.{Faults};
 ghost use Rattle.ktm_kernel.specs.Stands.{IsReady};
+ghost use Rattle.ktm_run.specs.Executed.{ScriptLeaves, place};
 ghost use Rattle.ktm_run.specs.Progress.{Progress, Stops, point};
-ghost use Rattle.ktm_run.specs.Script.{MayExecute, cut_lines, kept_of, last_line, lines_from};
+ghost use Rattle.ktm_run.specs.Script.{kept_of, last_line};
 
 use crate::fault::RunFault;
 use crate::line::{do_line, feed};
@@ -77,29 +78,11 @@ pub fn run_script<S: Source, K: Sink, D: PowerDisk>(
     requires ready { IsReady kernel.old (D.told disk.old) (D.status disk.old) }
     requires room { 0 < length buffer.old }
     requires kept { (kept.old.items ≡ []) × (140001 ≤ vec_capacity kept.old) }
-    ensures done { result ≡ Status.Done → (script : List ℕ) × Consumes (S.left source.old) (S.left source.new) script × IsAtEnd (S.left source.new) × (length script ≤ MOST_SCRIPT_BYTES) × Progress
-        (point kernel.old (D.told disk.old) (D.status disk.old) (K.taken sink.old))
-        (point kernel.new (D.told disk.new) (D.status disk.new) (K.taken sink.new))
-        (cut_lines script) }
-    ensures between { result ≡ Status.SourceFault → (script : List ℕ) × Consumes (S.left source.old) (S.left source.new) script × (length script ≤ MOST_SCRIPT_BYTES) × Progress
-        (point kernel.old (D.told disk.old) (D.status disk.old) (K.taken sink.old))
-        (point kernel.new (D.told disk.new) (D.status disk.new) (K.taken sink.new))
-        (lines_from [] script) }
-    ensures behind { result ≡ Status.ScriptTooLong → (script : List ℕ) × Consumes (S.left source.old) (S.left source.new) script × (length script ≡ MOST_SCRIPT_BYTES + 1) × Progress
-        (point kernel.old (D.told disk.old) (D.status disk.old) (K.taken sink.old))
-        (point kernel.new (D.told disk.new) (D.status disk.new) (K.taken sink.new))
-        (lines_from [] (take MOST_SCRIPT_BYTES script)) }
-    ensures within { (result ≡ Status.SinkFault) ⊎ (result ≡ Status.NoMemory) → (script : List ℕ) × (lines : List (List ℕ)) × Consumes (S.left source.old) (S.left source.new) script × (length script ≤ MOST_SCRIPT_BYTES) × MayExecute (S.left source.new) script lines × Stops
-        (point kernel.old (D.told disk.old) (D.status disk.old) (K.taken sink.old))
-        (point kernel.new (D.told disk.new) (D.status disk.new) (K.taken sink.new))
-        lines }
+    ensures leaves { ScriptLeaves result
+        (place (S.left source.old) (point kernel.old (D.told disk.old) (D.status disk.old) (K.taken sink.old)))
+        (place (S.left source.new) (point kernel.new (D.told disk.new) (D.status disk.new) (K.taken sink.new))) }
     ensures source { result ≡ Status.SourceFault → Rose (S.faults source.old) (S.faults source.new) }
     ensures sink { result ≡ Status.SinkFault → Rose (K.faults sink.old) (K.faults sink.new) }
-    ensures too_long { result ≡ Status.ScriptTooLong → IfSome (S.left source.old) (λ bytes. MOST_SCRIPT_BYTES < length bytes) }
-    ensures not_usage { result ≡ Status.Usage → ⊥ }
-    ensures not_image { result ≡ Status.BadImage → ⊥ }
-    ensures not_disk { result ≡ Status.DiskFault → ⊥ }
-    ensures not_full { result ≡ Status.LogFull → ⊥ }
 {
     let mut left = MOST_SCRIPT_BYTES;
     // once nothing is left, one byte alone is asked for: is there more

@@ -4,9 +4,9 @@ use Rattle.ktm_run.proofs.answer.call.Goals as goal
 pub returns-in-Ok-clause-does : goal.returns-in-Ok-clause-does
 returns-in-Ok-clause-does g c =
     called c.args.kernel.now c.call.new.self (g.D.Disk.told c.args.disk.now) (g.D.Disk.told c.call.new.disk) (g.D.Disk.status c.args.disk.now) (g.D.Disk.status c.call.new.disk)
-    c.args.process c.args.command c.in-Ok.reply c.in-Ok.ensures.does c.in-Ok.ensures.cause c.in-Ok.ensures.calls
+    c.args.process c.args.command c.in-Ok.reply c.in-Ok.ensures.leaves.does c.in-Ok.ensures.leaves.cause c.in-Ok.ensures.leaves.calls
 
 pub returns-in-Err-clause-no_memory : goal.returns-in-Err-clause-no_memory
 returns-in-Err-clause-no_memory g c = λ line.
     not_executed c.args.kernel.now c.call.new.self (g.D.Disk.told c.args.disk.now) (g.D.Disk.told c.call.new.disk) (g.D.Disk.status c.args.disk.now) (g.D.Disk.status c.call.new.disk)
-    line c.in-Err.ensures.no_memory.0 c.in-Err.ensures.no_memory.1
+    line c.in-Err.ensures.leaves.told c.in-Err.ensures.leaves.status

@@ -12,11 +12,11 @@ returns-in-Ok-clause-does g c =
     started c.law_of_power.ensures c.args.kernel.now c.start_again.new.self (g.D.Disk.told c.args.disk.now) (g.D.Disk.told c.power.new.self) (g.D.Disk.told c.start_again.new.disk)
     (g.D.Disk.status c.args.disk.now) (g.D.Disk.status c.power.new.self) (g.D.Disk.status c.start_again.new.disk) c.args.pick
     (sym c.is_up.ensures ∙ c.if-is_up.false) c.in_default.ensures.status c.in_default.ensures.ok c.in-Ok.ensures.calls c.in-Ok.ensures.few
-    c.in-Ok.reply c.in-Ok.ensures.does c.in-Ok.ensures.cause
+    c.in-Ok.reply c.in-Ok.ensures.leaves.does c.in-Ok.ensures.leaves.cause
 
 pub returns-in-Err-start_again-clause-no_memory : goal.returns-in-Err-start_again-clause-no_memory
 returns-in-Err-start_again-clause-no_memory g c =
     not_started c.law_of_power.ensures c.args.kernel.now c.start_again.new.self (g.D.Disk.told c.args.disk.now) (g.D.Disk.told c.power.new.self) (g.D.Disk.told c.start_again.new.disk)
     (g.D.Disk.status c.args.disk.now) (g.D.Disk.status c.power.new.self) (g.D.Disk.status c.start_again.new.disk) c.args.pick
     (sym c.is_up.ensures ∙ c.if-is_up.false) c.in_default.ensures.status c.in_default.ensures.ok c.in-Err-start_again.ensures.calls c.in-Err-start_again.ensures.few
-    c.in-Err-start_again.ensures.no_memory.0
+    c.in-Err-start_again.ensures.leaves.told

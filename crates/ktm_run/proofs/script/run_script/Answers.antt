@@ -1,7 +1,6 @@
-use Rattle.std.proofs.Common.{◌≡◌, inl, inr, ℕ, List, [], ◌++◌, length, take, refl, sym, ◌∙◌, ap, arith, length-append, length-take}
-use Rattle.std.proofs.lemmas.Grind.{common_steps}
+use Rattle.std.proofs.Common.{◌≡◌, ◌+◌, inl, inr, ℕ, List, [], ◌++◌, length, take, refl, sym, ◌∙◌, ap, arith, length-append, length-take}
 use Rattle.ktm_base.specs.declared.limits.TheConstants.{MOST_SCRIPT_BYTES}
-use Rattle.ktm_run.proofs.Known.{Consumes-none, Consumes-trans, Consumes-end, Consumes-kept}
+use Rattle.ktm_run.proofs.Known.{Consumes-none, Consumes-trans, Consumes-end, Consumes-kept, Consumes-long}
 use Rattle.ktm_run.proofs.Lines.{lines_from-append, part_from-append, take_front}
 use Rattle.ktm_run.proofs.Runs.{Progress-none, Progress-then, Progress-as, Stops-after, Stops-as}
 use Rattle.ktm_run.specs.Script.{cut_lines, lines_from, part_from, last_line, kept_of}
@@ -37,82 +36,89 @@ pieces-preserved g c =
       sink_later = omega (arith, c.pieces.invariant.sink_later, c.feed.ensures.later);
     }
 
-pub returns-in-Ok-finish-clause-done : goal.returns-in-Ok-finish-clause-done
-returns-in-Ok-finish-clause-done g c = λ same.
-    let (script, read, long, kept, went) = c.pieces.invariant.went in
-    let part = part_from [] script in (
-      script,
-      Consumes-end _ _ _ script _ _ read c.in-Ok.ensures.reads c.if-count-eq0.true,
-      c.in-Ok.ensures.end c.if-count-eq0.true,
-      omega (arith, long),
-      Progress-then _ _ _ (lines_from [] script) (last_line part) went (c.in-Ok-finish.ensures.done part (c.deref.ensures.value ∙ kept)),
-    )
-
-pub returns-in_default-clause-between : goal.returns-in_default-clause-between
-returns-in_default-clause-between g c = λ same.
-    let (script, read, long, kept, went) = c.pieces.invariant.went in
-    (script, Consumes-kept _ _ _ script read c.in_default.ensures.kept, omega (arith, long), went)
-
-pub returns-in-Err-SinkFault-clause-within : goal.returns-in-Err-SinkFault-clause-within
-returns-in-Err-SinkFault-clause-within g c = λ same.
-    let (script, read, long, kept, went) = c.pieces.invariant.went in
-    let part = part_from [] script in (
-      script,
-      cut_lines script,
-      Consumes-end _ _ _ script _ _ read c.in-Ok.ensures.reads c.if-count-eq0.true,
-      omega (arith, long),
-      inr (refl, c.in-Ok.ensures.end c.if-count-eq0.true),
-      Stops-after _ _ _ (lines_from [] script) (last_line part) went (c.in-Err-SinkFault.ensures.stopped part (c.deref.ensures.value ∙ kept)),
-    )
-
-pub returns-in-Err-NoMemory-clause-within : goal.returns-in-Err-NoMemory-clause-within
-returns-in-Err-NoMemory-clause-within g c = λ same.
-    let (script, read, long, kept, went) = c.pieces.invariant.went in
-    let part = part_from [] script in (
-      script,
-      cut_lines script,
-      Consumes-end _ _ _ script _ _ read c.in-Ok.ensures.reads c.if-count-eq0.true,
-      omega (arith, long),
-      inr (refl, c.in-Ok.ensures.end c.if-count-eq0.true),
-      Stops-after _ _ _ (lines_from [] script) (last_line part) went (c.in-Err-NoMemory.ensures.stopped part (c.deref.ensures.value ∙ kept)),
-    )
-
-pub returns-in-Err-SinkFault-feed-clause-within : goal.returns-in-Err-SinkFault-feed-clause-within
-returns-in-Err-SinkFault-feed-clause-within g c = λ same.
+pub returns-in-Ok-finish-clause-leaves : goal.returns-in-Ok-finish-clause-leaves
+returns-in-Ok-finish-clause-leaves g c =
     let (script, read, long, kept, went) = c.pieces.invariant.went in
     let part = part_from [] script in
-    let piece = take c.in-Ok.count c.read_some.new.buffer in (
-      script ++ piece,
-      lines_from [] (script ++ piece),
-      Consumes-trans _ _ _ script piece read c.in-Ok.ensures.reads,
-      omega (arith, length-append {A = ℕ}, length-take {A = ℕ}, long, c.in-Ok.ensures.within, c.in-Ok.ensures.count, c.max.ensures, c.if-left-eq0.false),
-      inl refl,
-      Stops-as _ _ _ _ (sym (lines_from-append [] script piece)) (Stops-after _ _ _ (lines_from [] script) (lines_from part piece) went (c.in-Err-SinkFault-feed.ensures.stopped part kept)),
-    )
+    record {
+      script = script;
+      was_read = Consumes-end _ _ _ script _ _ read c.in-Ok.ensures.reads c.if-count-eq0.true;
+      at_end = c.in-Ok.ensures.end c.if-count-eq0.true;
+      short = omega (arith, long);
+      went = Progress-then _ _ _ (lines_from [] script) (last_line part) went (c.in-Ok-finish.ensures.done part (c.deref.ensures.value ∙ kept));
+    }
 
-pub returns-in-Err-NoMemory-feed-clause-within : goal.returns-in-Err-NoMemory-feed-clause-within
-returns-in-Err-NoMemory-feed-clause-within g c = λ same.
+pub returns-in_default-clause-leaves : goal.returns-in_default-clause-leaves
+returns-in_default-clause-leaves g c =
+    let (script, read, long, kept, went) = c.pieces.invariant.went in
+    record { script = script; was_read = Consumes-kept _ _ _ script read c.in_default.ensures.kept; short = omega (arith, long); went = went }
+
+pub returns-in-Err-SinkFault-clause-leaves : goal.returns-in-Err-SinkFault-clause-leaves
+returns-in-Err-SinkFault-clause-leaves g c =
     let (script, read, long, kept, went) = c.pieces.invariant.went in
     let part = part_from [] script in
-    let piece = take c.in-Ok.count c.read_some.new.buffer in (
-      script ++ piece,
-      lines_from [] (script ++ piece),
-      Consumes-trans _ _ _ script piece read c.in-Ok.ensures.reads,
-      omega (arith, length-append {A = ℕ}, length-take {A = ℕ}, long, c.in-Ok.ensures.within, c.in-Ok.ensures.count, c.max.ensures, c.if-left-eq0.false),
-      inl refl,
-      Stops-as _ _ _ _ (sym (lines_from-append [] script piece)) (Stops-after _ _ _ (lines_from [] script) (lines_from part piece) went (c.in-Err-NoMemory-feed.ensures.stopped part kept)),
-    )
+    record {
+      script = script;
+      lines = cut_lines script;
+      was_read = Consumes-end _ _ _ script _ _ read c.in-Ok.ensures.reads c.if-count-eq0.true;
+      short = omega (arith, long);
+      may = inr (refl, c.in-Ok.ensures.end c.if-count-eq0.true);
+      stops = Stops-after _ _ _ (lines_from [] script) (last_line part) went (c.in-Err-SinkFault.ensures.stopped part (c.deref.ensures.value ∙ kept));
+    }
 
-pub returns-then-left-eq0-clause-behind : goal.returns-then-left-eq0-clause-behind
-returns-then-left-eq0-clause-behind g c = λ same.
+pub returns-in-Err-NoMemory-clause-leaves : goal.returns-in-Err-NoMemory-clause-leaves
+returns-in-Err-NoMemory-clause-leaves g c =
+    let (script, read, long, kept, went) = c.pieces.invariant.went in
+    let part = part_from [] script in
+    record {
+      script = script;
+      lines = cut_lines script;
+      was_read = Consumes-end _ _ _ script _ _ read c.in-Ok.ensures.reads c.if-count-eq0.true;
+      short = omega (arith, long);
+      may = inr (refl, c.in-Ok.ensures.end c.if-count-eq0.true);
+      stops = Stops-after _ _ _ (lines_from [] script) (last_line part) went (c.in-Err-NoMemory.ensures.stopped part (c.deref.ensures.value ∙ kept));
+    }
+
+pub returns-in-Err-SinkFault-feed-clause-leaves : goal.returns-in-Err-SinkFault-feed-clause-leaves
+returns-in-Err-SinkFault-feed-clause-leaves g c =
+    let (script, read, long, kept, went) = c.pieces.invariant.went in
+    let part = part_from [] script in
+    let piece = take c.in-Ok.count c.read_some.new.buffer in
+    record {
+      script = script ++ piece;
+      lines = lines_from [] (script ++ piece);
+      was_read = Consumes-trans _ _ _ script piece read c.in-Ok.ensures.reads;
+      short = omega (arith, length-append {A = ℕ}, length-take {A = ℕ}, long, c.in-Ok.ensures.within, c.in-Ok.ensures.count, c.max.ensures, c.if-left-eq0.false);
+      may = inl refl;
+      stops = Stops-as _ _ _ _ (sym (lines_from-append [] script piece)) (Stops-after _ _ _ (lines_from [] script) (lines_from part piece) went (c.in-Err-SinkFault-feed.ensures.stopped part kept));
+    }
+
+pub returns-in-Err-NoMemory-feed-clause-leaves : goal.returns-in-Err-NoMemory-feed-clause-leaves
+returns-in-Err-NoMemory-feed-clause-leaves g c =
+    let (script, read, long, kept, went) = c.pieces.invariant.went in
+    let part = part_from [] script in
+    let piece = take c.in-Ok.count c.read_some.new.buffer in
+    record {
+      script = script ++ piece;
+      lines = lines_from [] (script ++ piece);
+      was_read = Consumes-trans _ _ _ script piece read c.in-Ok.ensures.reads;
+      short = omega (arith, length-append {A = ℕ}, length-take {A = ℕ}, long, c.in-Ok.ensures.within, c.in-Ok.ensures.count, c.max.ensures, c.if-left-eq0.false);
+      may = inl refl;
+      stops = Stops-as _ _ _ _ (sym (lines_from-append [] script piece)) (Stops-after _ _ _ (lines_from [] script) (lines_from part piece) went (c.in-Err-NoMemory-feed.ensures.stopped part kept));
+    }
+
+pub returns-then-left-eq0-clause-leaves : goal.returns-then-left-eq0-clause-leaves
+returns-then-left-eq0-clause-leaves g c =
     let (script, read, long, kept, went) = c.pieces.invariant.went in
     let piece = take c.in-Ok.count c.read_some.new.buffer in
-    let full : length script ≡ MOST_SCRIPT_BYTES = omega (arith, long, c.if-left-eq0.true) in (
-      script ++ piece,
-      Consumes-trans _ _ _ script piece read c.in-Ok.ensures.reads,
-      omega (arith, length-append {A = ℕ}, length-take {A = ℕ}, long, c.in-Ok.ensures.within, c.in-Ok.ensures.count, c.max.ensures, c.if-left-eq0.true, c.if-count-eq0.false),
-      Progress-as _ _ _ _ (ap (λ (l : List ℕ). lines_from [] l) (sym (take_front MOST_SCRIPT_BYTES script piece full))) went,
-    )
-
-pub returns-then-left-eq0-clause-too_long : goal.returns-then-left-eq0-clause-too_long
-returns-then-left-eq0-clause-too_long g c = grind (arith, common_steps)
+    let full : length script ≡ MOST_SCRIPT_BYTES = omega (arith, long, c.if-left-eq0.true) in
+    let read_all = Consumes-trans _ _ _ script piece read c.in-Ok.ensures.reads in
+    let long_all : length (script ++ piece) ≡ MOST_SCRIPT_BYTES + 1
+    = omega (arith, length-append {A = ℕ}, length-take {A = ℕ}, long, c.in-Ok.ensures.within, c.in-Ok.ensures.count, c.max.ensures, c.if-left-eq0.true, c.if-count-eq0.false) in
+    record {
+      script = script ++ piece;
+      was_read = read_all;
+      long = long_all;
+      went = Progress-as _ _ _ _ (ap (λ (l : List ℕ). lines_from [] l) (sym (take_front MOST_SCRIPT_BYTES script piece full))) went;
+      more = Consumes-long _ _ (script ++ piece) MOST_SCRIPT_BYTES read_all (omega (arith, long_all));
+    }

@@ -1,83 +1,48 @@
-use Rattle.std.specs.Prelude.{IfSome}
-use Rattle.std.proofs.Common.{Err, ◌≡◌, false, ◌+◌, ◌-◌, ◌*◌, refl, ap, subst, sym, ◌∙◌, arith}
+use Rattle.std.proofs.Common.{◌+◌, ◌*◌, false, arith}
 use Rattle.ktm_base.specs.declared.limits.TheConstants.{MOST_UNITS}
 use Rattle.ktm_base.proofs.offered.Images.{calls_law}
-use Rattle.ktm_base.proofs.offered.ToldSteps.{IfSome-map}
-use Rattle.ktm_journal.specs.Image.{IsFormatted}
-use Rattle.ktm_kernel.specs.declared.restart.RestartFault.TheVariants.{Down as RestartDown, Bad, Full as RestartFull}
-use Rattle.ktm_log.specs.declared.area.Area.{Area}
-use Rattle.ktm_kernel.proofs.Restarts.{found, next_applies, unwritten_leaves, journal_at, found_grammatical, is_full as full_is, started, cut_off, fresh_ready, unrecorded_down, unrecorded_full, unrecorded_good, unrecorded_calls, unrecorded_other}
+use Rattle.ktm_log.specs.OnDisk.{on}
+use Rattle.ktm_kernel.proofs.Restarts.{counted_one, numbered, restarted, start_calls, unloaded, unstarted}
 use Rattle.ktm_kernel.proofs.kernel.Kernel.restart.Goals as goal
 
-pub returns-in-Err-Down-clause-down : goal.returns-in-Err-Down-clause-down
-returns-in-Err-Down-clause-down g c = λ failed units image before log holds. rw c.in-Err-Down.ensures.reads.same (unwritten_leaves units image before log _ holds)
+pub returns-in-Err-Down-clause-leaves : goal.returns-in-Err-Down-clause-leaves
+returns-in-Err-Down-clause-leaves g c = unloaded _ _ _ (rw c.in-Err-Down.field-0-is at c.in-Err-Down.ensures.leaves)
 
 pub record_start-requires-clause-boots : goal.record_start-requires-clause-boots
-record_start-requires-clause-boots g c = omega (arith, c.in-Ok.ensures.events.boots, c.in-Ok.ensures.events.events, c.in-Ok.ensures.inside, ap (λ (a : Area). a.len) c.in-Ok.ensures.area, c.in-Ok.ensures.units.2)
+record_start-requires-clause-boots g c = numbered _ _ _ c.in-Ok.loaded c.in-Ok.ensures.leaves
 
 pub started-requires-clause-roomy : goal.started-requires-clause-roomy
-started-requires-clause-roomy g c = record {
-  most = omega (arith, c.in-Ok-record_start.ensures.units, c.in-Ok.ensures.units.0, c.in-Ok.ensures.units.2);
-  room = omega (arith, c.in-Ok-record_start.ensures.units, c.in-Ok-record_start.ensures.roomy);
-}
+started-requires-clause-roomy g c =
+    let is = c.in-Ok.ensures.leaves in
+    let (lists, records) = c.in-Ok-record_start.ensures.leaves in
+    record { most = omega (arith, records.same.units, is.journal.units, is.state.most); room = omega (arith, records.same.units, lists.room) }
 
-pub returns-in-Ok-record_start-clause-starts : goal.returns-in-Ok-record_start-clause-starts
-returns-in-Ok-record_start-clause-starts g c = λ units image before log holds.
-    let is = found units image before log c.in-Ok.loaded.state (g.D.Disk.told c.args.disk.now) c.in-Ok.ensures.stands holds in
-    let at = journal_at units image before log c.in-Ok.loaded.state is c.in-Ok.loaded.journal (g.D.Disk.told c.args.disk.now) (g.D.Disk.told c.load.new.disk) c.in-Ok.ensures.journal holds in
-    started units image before log c.in-Ok.loaded.state is (next_applies c.in-Ok.loaded.state c.in-Ok.loaded.journal.log c.in-Ok.ensures.built c.in-Ok.ensures.good c.in-Ok.ensures.events c.in-Ok.ensures.inside c.in-Ok.ensures.area c.in-Ok.ensures.units.2) c.in-Ok.loaded.journal c.record_start.new.journal c.in-Ok.ensures.units.0 c.in-Ok.ensures.image
-    (g.D.Disk.told c.load.new.disk) (g.D.Disk.told c.record_start.new.disk) at c.law_of_good_states.ensures c.law_of_standing.ensures c.law_of_fresh.ensures
-    (found_grammatical units image before log c.in-Ok.loaded.state is c.law_of_grammar.ensures (g.D.Disk.told c.args.disk.now) c.in-Ok.ensures.spelled holds) c.in-Ok.ensures.number c.in-Ok.ensures.units.2
-    c.started.result.kernel (c.record_start.new.journal.log.area.len - c.record_start.new.journal.log.end) c.started.result.events c.started.result.in_doubt c.started.ensures.journal c.started.ensures.now refl c.started.ensures.events c.started.ensures.in_doubt
-    c.in-Ok-record_start.ensures.units c.in-Ok-record_start.ensures.image c.in-Ok-record_start.ensures.area c.in-Ok-record_start.ensures.end
-    c.in-Ok-record_start.ensures.room c.in-Ok-record_start.ensures.adds
+pub started-requires-clause-counted : goal.started-requires-clause-counted
+started-requires-clause-counted g c =
+    counted_one _ _ (on c.load.new.buffer (g.D.Disk.told c.load.new.disk) (g.D.Disk.status c.load.new.disk)) c.in-Ok.loaded c.in-Ok.ensures.leaves
+    (on c.record_start.new.journal (g.D.Disk.told c.record_start.new.disk) (g.D.Disk.status c.record_start.new.disk)) c.in-Ok-record_start.events c.in-Ok-record_start.ensures.leaves
 
-pub returns-in-Ok-record_start-clause-ready : goal.returns-in-Ok-record_start-clause-ready
-returns-in-Ok-record_start-clause-ready g c =
-    fresh_ready c.law_of_fresh.ensures c.started.result.kernel c.in-Ok.loaded.state c.in-Ok.loaded.journal.log (c.record_start.new.journal.log.area.len - c.record_start.new.journal.log.end) (g.D.Disk.told c.record_start.new.disk) (g.D.Disk.status c.record_start.new.disk)
-    c.started.ensures.now c.in-Ok.ensures.built c.in-Ok.ensures.good c.in-Ok.ensures.events c.in-Ok.ensures.inside c.in-Ok.ensures.area c.in-Ok.ensures.units.2
-    (omega (arith, ap (λ (a : Area). a.len) c.in-Ok-record_start.ensures.area)) c.in-Ok-record_start.ensures.up c.in-Ok-record_start.ensures.settled
-    (subst (λ j. IfSome (g.D.Disk.told c.record_start.new.disk) (λ s. IsFormatted j.units j.image s.seen)) (sym c.started.ensures.journal) c.in-Ok-record_start.ensures.formatted)
+pub returns-in-Ok-record_start-clause-leaves : goal.returns-in-Ok-record_start-clause-leaves
+returns-in-Ok-record_start-clause-leaves g c =
+    restarted _ (on c.args.buffer.now _ _) (on c.load.new.buffer _ _) c.in-Ok.loaded c.in-Ok.ensures.leaves c.law_of_good_states.ensures c.law_of_grammar.ensures c.law_of_standing.ensures c.law_of_fresh.ensures
+    (on c.record_start.new.buffer _ _) c.record_start.new.journal c.in-Ok-record_start.events c.started.result c.in-Ok-record_start.ensures.leaves c.started.ensures.journal c.started.ensures.now c.started.ensures.events c.started.ensures.in_doubt
 
-pub returns-in-Ok-record_start-clause-found : goal.returns-in-Ok-record_start-clause-found
-returns-in-Ok-record_start-clause-found g c = IfSome-map (g.D.Disk.told c.args.disk.now) _ _ c.in-Ok.ensures.stands (λ s stands. (c.in-Ok.loaded.state, stands))
+pub returns-in-Err-clause-leaves : goal.returns-in-Err-clause-leaves
+returns-in-Err-clause-leaves g c = rw c.unrecorded.ensures
+    (unstarted _ (on c.args.buffer.now _ _) (on c.load.new.buffer _ _) c.in-Ok.loaded c.in-Ok.ensures.leaves (on c.record_start.new.buffer _ _) c.record_start.new.journal c.in-Err.fault c.in-Err.ensures.leaves c.in-Err.ensures.buffer)
 
 pub returns-in-Ok-record_start-clause-calls : goal.returns-in-Ok-record_start-clause-calls
-returns-in-Ok-record_start-clause-calls g c = calls_law _ _ _ (8 * MOST_UNITS + 64) 4 false c.in-Ok.ensures.reads.calls c.in-Ok-record_start.ensures.calls
+returns-in-Ok-record_start-clause-calls g c = calls_law _ _ _ (8 * MOST_UNITS + 64) 4 false c.in-Ok.ensures.leaves.read.reads.reads.calls c.in-Ok-record_start.ensures.leaves.1.synced.calls
 
 pub returns-in-Ok-record_start-clause-few : goal.returns-in-Ok-record_start-clause-few
-returns-in-Ok-record_start-clause-few g c = λ units image headed. omega (arith, c.in-Ok.ensures.few units image headed, c.in-Ok-record_start.ensures.calls.few)
-
-pub returns-in-Err-clause-down : goal.returns-in-Err-clause-down
-returns-in-Err-clause-down g c = λ failed units image before log holds.
-    let fault : c.unrecorded.result ≡ RestartDown = cc in
-    let down = unrecorded_down c.in-Err.fault (sym c.unrecorded.ensures ∙ fault) in
-    let is = found units image before log c.in-Ok.loaded.state (g.D.Disk.told c.args.disk.now) c.in-Ok.ensures.stands holds in
-    let at = journal_at units image before log c.in-Ok.loaded.state is c.in-Ok.loaded.journal (g.D.Disk.told c.args.disk.now) (g.D.Disk.told c.load.new.disk) c.in-Ok.ensures.journal holds in
-    cut_off units image before log c.in-Ok.loaded.state is (next_applies c.in-Ok.loaded.state c.in-Ok.loaded.journal.log c.in-Ok.ensures.built c.in-Ok.ensures.good c.in-Ok.ensures.events c.in-Ok.ensures.inside c.in-Ok.ensures.area c.in-Ok.ensures.units.2) c.in-Ok.loaded.journal c.record_start.new.journal c.in-Ok.ensures.units.0 c.in-Ok.ensures.image
-    (g.D.Disk.told c.load.new.disk) (g.D.Disk.told c.record_start.new.disk) at (c.in-Err.ensures.down (ap Err down))
-
-pub returns-in-Err-clause-full : goal.returns-in-Err-clause-full
-returns-in-Err-clause-full g c = λ failed units image before log holds.
-    let fault : c.unrecorded.result ≡ RestartFull = cc in
-    let full = unrecorded_full c.in-Err.fault (sym c.unrecorded.ensures ∙ fault) in
-    let is = found units image before log c.in-Ok.loaded.state (g.D.Disk.told c.args.disk.now) c.in-Ok.ensures.stands holds in
-    let at = journal_at units image before log c.in-Ok.loaded.state is c.in-Ok.loaded.journal (g.D.Disk.told c.args.disk.now) (g.D.Disk.told c.load.new.disk) c.in-Ok.ensures.journal holds in
-    sym (full_is units image before log c.in-Ok.loaded.state is c.in-Ok.loaded.journal (g.D.Disk.told c.load.new.disk) c.in-Ok.ensures.units.0 at) ∙ c.in-Err.ensures.full.0 (ap Err full)
-
-pub returns-in-Err-clause-found_full : goal.returns-in-Err-clause-found_full
-returns-in-Err-clause-found_full g c = λ failed. IfSome-map (g.D.Disk.told c.args.disk.now) _ _ c.in-Ok.ensures.stands (λ s stands. (c.in-Ok.loaded.state, stands))
-
-pub returns-in-Err-clause-bad : goal.returns-in-Err-clause-bad
-returns-in-Err-clause-bad g c = λ offset failed.
-    let bad : c.unrecorded.result ≡ Bad offset = cc in
-    absurd (unrecorded_good c.in-Err.fault offset (sym c.unrecorded.ensures ∙ bad))
-
-pub returns-in-Err-clause-unwritten : goal.returns-in-Err-clause-unwritten
-returns-in-Err-clause-unwritten g c = λ other. c.in-Err.ensures.same (ap Err (unrecorded_other c.in-Err.fault (λ is. other (c.unrecorded.ensures ∙ is)))) ∙ c.in-Ok.ensures.reads.same
-
-pub returns-in-Err-clause-pending : goal.returns-in-Err-clause-pending
-returns-in-Err-clause-pending g c = λ other. c.in-Err.ensures.waits (ap Err (unrecorded_other c.in-Err.fault (λ is. other (c.unrecorded.ensures ∙ is)))) ∙ c.in-Ok.ensures.reads.pending
+returns-in-Ok-record_start-clause-few g c = λ units image headed. omega (arith, c.in-Ok.ensures.few units image headed, c.in-Ok-record_start.ensures.leaves.1.synced.calls.few)
 
 pub returns-in-Err-clause-calls : goal.returns-in-Err-clause-calls
-returns-in-Err-clause-calls g c = unrecorded_calls _ _ _ c.in-Err.fault c.unrecorded.result c.unrecorded.ensures (calls_law _ _ _ (8 * MOST_UNITS + 64) 4 _ c.in-Ok.ensures.reads.calls c.in-Err.ensures.calls)
+returns-in-Err-clause-calls g c =
+    let starts = start_calls c.in-Ok.loaded.state (on c.in-Ok.loaded.journal (g.D.Disk.told c.load.new.disk) (g.D.Disk.status c.load.new.disk)) (on c.record_start.new.journal (g.D.Disk.told c.record_start.new.disk) (g.D.Disk.status c.record_start.new.disk)) c.in-Err.fault c.in-Err.ensures.leaves c.in-Ok.ensures.leaves.read.up in
+    rw c.unrecorded.ensures (calls_law _ _ _ (8 * MOST_UNITS + 64) 4 _ c.in-Ok.ensures.leaves.read.reads.reads.calls starts)
+
+pub returns-in-Err-clause-few : goal.returns-in-Err-clause-few
+returns-in-Err-clause-few g c = λ units image headed.
+    let starts = start_calls c.in-Ok.loaded.state (on c.in-Ok.loaded.journal (g.D.Disk.told c.load.new.disk) (g.D.Disk.status c.load.new.disk)) (on c.record_start.new.journal (g.D.Disk.told c.record_start.new.disk) (g.D.Disk.status c.record_start.new.disk)) c.in-Err.fault c.in-Err.ensures.leaves c.in-Ok.ensures.leaves.read.up in
+    omega (arith, c.in-Ok.ensures.few units image headed, starts.few)
