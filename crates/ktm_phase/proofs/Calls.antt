@@ -24,7 +24,7 @@ use Rattle.ktm_phase.specs.declared.superior.SuperiorCall.{SuperiorCall}
 use Rattle.ktm_phase.specs.Calls.{CallsLaw, ComesTo, Names, TakesPart, course_by, led, refusal_in, reply_call, superior_call}
 use Rattle.ktm_phase.specs.Replies.{allows, commanded, if_allowed, input_of, may_recover, may_set_information, may_vote, recovered, replied}
 use Rattle.ktm_phase.proofs.Coming.{of-allowed, of-command}
-use Rattle.ktm_phase.proofs.Table.{rows_law}
+use Rattle.ktm_steps.proofs.offered.Table.{rows_law}
 
 -- ---- what is allowed, and what comes then
 

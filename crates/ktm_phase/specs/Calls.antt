@@ -18,7 +18,7 @@ use Rattle.ktm_world.specs.Rows.{row}
 use Rattle.ktm_world.specs.Steps.{run, seen}
 use Rattle.ktm_phase.specs.declared.enlistment.Vote.{Vote}
 use Rattle.ktm_phase.specs.declared.superior.SuperiorCall.{SuperiorCall}
-use Rattle.ktm_phase.specs.Laws.{IsPart}
+use Rattle.ktm_steps.specs.Laws.{IsPart}
 use Rattle.ktm_phase.specs.Replies.{commanded, may_set_information, recovered, replied}
 
 -- the call by which an enlistment replies so

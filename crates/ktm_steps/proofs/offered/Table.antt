@@ -22,11 +22,11 @@ use Rattle.ktm_world.specs.Enlistments.{Enlistment, allows_one_phase, asks_pre_p
 use Rattle.ktm_world.specs.Phases.{Course, aborting, all_ready, changing_one, commit_answered, committing, decided, ended, ended_if_finished, enlistment_part, event_if, finished, has_settings, held_or_committing, in_phase, is_its_superior, is_single_phase, one_participant, owing, pre_prepare_answered, pre_prepared, prepare_alone, prepare_answered, preparing, read_only_answered, readied, ready_of_enlistment, recorded, recording, recovered, recovered_in, recovering, rollback_answered, single_phase_rejected, some_enlistment, someone_owes, superior, telling, to_commit, to_pre_prepare, to_prepare, unchanged, when_none_owes, without_its_answer, work_of}
 use Rattle.ktm_world.specs.Rows.{aborts, all_readies, commit_completes, commits, commits_one, proceeds, proceeds_without, holds_or_commits, is_last, participants, pre_prepare_completes, pre_prepares, prepare_completes, prepares, prepares_all, prepares_alone, read_onlies, recovers, recovers_superior, rejects_one_phase, requests, rollback_completes, tells_in, without}
 use Rattle.ktm_world.specs.Steps.{answered, counted, held_event, lasting_of, run, seen, share_of}
-use Rattle.ktm_phase.specs.Laws.{IsPart, RowsLaw}
-use Rattle.ktm_phase.specs.Procedures.{AreProcedures, IsRun}
-use Rattle.ktm_phase.proofs.Counts.{any-counted, owed-less, participants-counted, seen-left, seen-settled}
-use Rattle.ktm_phase.proofs.Superiors.{tells-superior}
-use Rattle.ktm_phase.proofs.Lasting.{has_superior-kept, lasting-answered, superior-with}
+use Rattle.ktm_steps.specs.Laws.{IsPart, RowsLaw}
+use Rattle.ktm_steps.specs.Procedures.{AreProcedures, IsRun}
+use Rattle.ktm_steps.proofs.offered.Counts.{any-counted, owed-less, participants-counted, seen-left, seen-settled}
+use Rattle.ktm_steps.proofs.offered.Superiors.{tells-superior}
+use Rattle.ktm_steps.proofs.offered.Lasting.{has_superior-kept, lasting-answered, superior-with}
 
 -- ---- lists of which one is chosen
 

@@ -1,19 +1,15 @@
 -- What a transaction on its way tells of its outcome is so, and an outcome that is known stays.
-use Rattle.std.specs.Prelude.{◌≡◌, ⊤, ◌⊎◌, Bool, true, false, List, [], ◌∷◌, All, Option, Some, None, Ok}
+use Rattle.std.specs.Prelude.{◌≡◌, ⊤, ◌⊎◌, Bool, true, false, List, [], ◌∷◌, All, Option, Some, None}
 use Rattle.ktm_base.specs.declared.notify.Notify.{Notify}
 use Rattle.ktm_types.specs.declared.object.Phase.{Phase}
 use Rattle.ktm_types.specs.declared.input.PhaseInput.{PhaseInput}
 use Rattle.ktm_types.specs.declared.input.Seen.{Seen}
-use Rattle.ktm_types.specs.declared.step.Owed.{Owed}
 use Rattle.ktm_types.specs.declared.step.Step.{Step}
 use Rattle.ktm_world.specs.Enlistments.{Enlistment, Sent}
 use Rattle.ktm_world.specs.OneOutcome.{told_by, told_outcome}
 use Rattle.ktm_world.specs.Phases.{Course, aborting, all_ready, commit_answered, committing, end_notice, pre_prepare_answered, pre_prepared, prepare_answered, read_only_answered, recovered as recovered_by, rollback_answered, single_phase_rejected, to_commit, to_pre_prepare, to_prepare}
 use Rattle.ktm_world.specs.Rows.{row}
 use Rattle.ktm_world.specs.Steps.{run}
-use Rattle.ktm_phase.specs.declared.enlistment.Vote.{Vote}
-use Rattle.ktm_phase.specs.declared.superior.SuperiorCall.{SuperiorCall}
-use Rattle.ktm_phase.specs.Replies.{commanded, recovered, replied}
 
 -- ---- what is known of an outcome: nothing, that it is a commit, or that it is none
 
@@ -60,20 +56,6 @@ IsKnownIn Phase.Aborting known = known ≡ Some false
 IsKnownIn Phase.Ended known = ⊤
 IsKnownIn _ known = known ≡ None
 
--- is this answer waited for in this phase
-abbrev pub is_asked_in : Phase → Owed → Bool
-is_asked_in Phase.PrePreparing Owed.PrePrepare = true
-is_asked_in Phase.Preparing Owed.Prepare = true
-is_asked_in Phase.SinglePhase Owed.Commit = true
-is_asked_in Phase.Committing Owed.Commit = true
-is_asked_in Phase.Aborting Owed.Rollback = true
-is_asked_in _ _ = false
-
--- the answer that is owed, if one is, is waited for in this phase
-abbrev pub IsOwedIn : Phase → Option Owed → Type 0
-IsOwedIn phase None = ⊤
-IsOwedIn phase (Some answer) = is_asked_in phase answer ≡ true
-
 -- what may be known in this phase when this comes: nothing where the outcome is still to be decided, and this outcome where an enlistment has finished or is told it
 abbrev pub MayCome : Option Bool → Phase → PhaseInput → Type 0
 MayCome known phase PhaseInput.SinglePhaseReject = ⊤
@@ -93,10 +75,6 @@ pub record OutcomeLaw : Type 0 where
   pub steps : (steps : List Step) (c : Course) → AreTrue (known c) steps → KeepsTrue c (run steps c)
   -- by the row of what may come
   pub rows : (s : Seen) (input : PhaseInput) (c : Course) → MayCome (known c) s.phase input → KeepsTrue c (run (row s input) c)
-  -- and so may all that is allowed, where the enlistment owes nothing but what is waited for
-  pub replies : (phase : Phase) (known : Option Bool) (e : Enlistment) (vote : Vote) (input : PhaseInput) → IsKnownIn phase known → IsOwedIn phase e.owes → replied phase e vote ≡ Ok input → MayCome known phase input
-  pub superiors : (phase : Phase) (known : Option Bool) (e : Enlistment) (call : SuperiorCall) (input : PhaseInput) → IsKnownIn phase known → commanded phase e call ≡ Ok input → MayCome known phase input
-  pub recoveries : (phase : Phase) (known : Option Bool) (e : Enlistment) (input : PhaseInput) → IsKnownIn phase known → recovered phase e ≡ Ok input → MayCome known phase input
   -- procedures that begin while nothing is known
   pub committing : (c : Course) → known c ≡ None → KeepsTrue c (committing c)
   pub aborting : (c : Course) → known c ≡ None → KeepsTrue c (aborting c)

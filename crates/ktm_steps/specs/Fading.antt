@@ -4,7 +4,7 @@ use Rattle.ktm_types.specs.declared.step.Step.{Step}
 use Rattle.ktm_world.specs.Enlistments.{Enlistment}
 use Rattle.ktm_world.specs.Phases.{Course}
 use Rattle.ktm_world.specs.Steps.{lasting, run}
-use Rattle.ktm_phase.specs.Procedures.{AreProcedures}
+use Rattle.ktm_steps.specs.Procedures.{AreProcedures}
 
 -- what lasts of an enlistment is as it was, and it is read-only, prepared, finished and recovered where it was
 pub record GoesOn (e f : Enlistment) : Type 0 where

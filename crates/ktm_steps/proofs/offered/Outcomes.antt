@@ -18,10 +18,9 @@ use Rattle.ktm_world.specs.OneOutcome.{told_outcome}
 use Rattle.ktm_world.specs.Phases.{Course, decided, end_notice, ended, in_phase, is_its_superior, is_single_phase, owing, someone_owes, telling, unchanged}
 use Rattle.ktm_world.specs.Rows.{aborts, all_readies, commit_completes, commits, commits_one, proceeds, proceeds_without, is_last, participants, pre_prepare_completes, pre_prepares, prepare_completes, prepares, prepares_all, prepares_alone, read_onlies, recovers, recovers_superior, requests, rollback_completes, row, tells_in, without}
 use Rattle.ktm_world.specs.Steps.{answered, carried, changing, is_meant, run, seen}
-use Rattle.ktm_phase.specs.Outcomes.{AreTrue, IsKnownIn, KeepsTrue, MayBe, MayCome, OutcomeLaw, StaysTrue, TellsOnly, known}
-use Rattle.ktm_phase.specs.Procedures.{IsRun}
-use Rattle.ktm_phase.proofs.Coming.{command-may-come, recovery-may-come, reply-may-come}
-use Rattle.ktm_phase.proofs.Table.{once, runs_law}
+use Rattle.ktm_steps.specs.Outcomes.{AreTrue, IsKnownIn, KeepsTrue, MayBe, MayCome, OutcomeLaw, StaysTrue, TellsOnly, known}
+use Rattle.ktm_steps.specs.Procedures.{IsRun}
+use Rattle.ktm_steps.proofs.offered.Table.{once, runs_law}
 
 through : (k j t : Option Bool) → MayBe k j → MayBe j t → MayBe k t
 through k j t (inl none) second = inl none
@@ -182,9 +181,6 @@ unfolding runs_law
 outcome_law = record {
   steps = keeps-steps;
   rows = λ s input c may. keeps-steps (row s input) c (true-row s input (known c) may);
-  replies = λ phase known e vote input by fits came. reply-may-come phase known by e vote input fits came;
-  superiors = λ phase known e call input by came. command-may-come phase known by e call input came;
-  recoveries = λ phase known e input by came. recovery-may-come phase known by e input came;
   committing = λ c is. keeps-first c _ (runs_law.committing c) is true-commits;
   aborting = λ c is. keeps-first c _ (runs_law.aborting c) is true-aborts;
   all_ready = λ c is. keeps-first c _ (runs_law.all_ready c) is (true-all_readies (seen c));

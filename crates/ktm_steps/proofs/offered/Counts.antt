@@ -11,7 +11,7 @@ use Rattle.ktm_world.specs.Enlistments.{Enlistment, allows_one_phase, asks_pre_p
 use Rattle.ktm_world.specs.Phases.{Course, changing_one, has_settings, one_if, participants as participants_of, someone_owes, superior, taking_part}
 use Rattle.ktm_world.specs.Rows.{participants, without}
 use Rattle.ktm_world.specs.Steps.{counted, lasting, seen, share_of}
-use Rattle.ktm_phase.specs.Laws.{IsPart}
+use Rattle.ktm_steps.specs.Laws.{IsPart}
 
 -- ---- counts
 

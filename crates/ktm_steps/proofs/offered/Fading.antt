@@ -11,9 +11,9 @@ use Rattle.ktm_types.specs.declared.step.Step.{Step}
 use Rattle.ktm_world.specs.Enlistments.{Enlistment, has_id, is_unfinished, with_enlistments}
 use Rattle.ktm_world.specs.Phases.{Course, ended, is_its_superior, owing, unchanged}
 use Rattle.ktm_world.specs.Steps.{answered, carried, changing, is_meant, run}
-use Rattle.ktm_phase.specs.Fading.{Fades, FadingLaw, GoesOn}
-use Rattle.ktm_phase.specs.Procedures.{IsRun}
-use Rattle.ktm_phase.proofs.Table.{of_runs}
+use Rattle.ktm_steps.specs.Fading.{Fades, FadingLaw, GoesOn}
+use Rattle.ktm_steps.specs.Procedures.{IsRun}
+use Rattle.ktm_steps.proofs.offered.Table.{of_runs}
 
 -- ---- enlistments
 

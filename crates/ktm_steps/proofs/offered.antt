@@ -1,0 +1,8 @@
+-- Lemmas that other crates cite.
+pub mod Counts
+pub mod Lasting
+pub mod Superiors
+pub mod Table
+pub mod Ahead
+pub mod Fading
+pub mod Outcomes
