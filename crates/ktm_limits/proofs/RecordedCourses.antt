@@ -20,9 +20,10 @@ use Rattle.ktm_world.specs.Enlistments.{Enlistment, allows_one_phase, asks_pre_p
 use Rattle.ktm_world.specs.Files.{own_changes}
 use Rattle.ktm_world.specs.Keys.{OwnSettings, own_settings}
 use Rattle.ktm_world.specs.Lawful.{Agrees, undecided}
-use Rattle.ktm_world.specs.Phases.{Course, all_ready, changing_one, committing, decided, in_phase, owing, recording, telling, work_of, ended, ended_if_finished, enlistment_part, event_if, has_settings, held_or_committing, one_participant, one_phase, participants, pre_prepare_answered, pre_prepared, prepare_alone, prepare_answered, preparing, readied, ready_of_enlistment, read_only_answered, single, some_enlistment, someone_owes, superior, to_commit, to_pre_prepare, to_prepare, when_none_owes, without_its_answer}
+use Rattle.ktm_world.specs.Phases.{Course, changing_one, decided, in_phase, owing, recording, telling, work_of, ended, ended_if_finished, enlistment_part, event_if, has_settings, superior}
 use Rattle.ktm_world.specs.Present.{Present}
 use Rattle.ktm_world.specs.Transactions.{is_live, same_id}
+use Rattle.ktm_steps.specs.Procedures.{all_ready, committing, held_or_committing, one_participant, one_phase, participants, pre_prepare_answered, pre_prepared, prepare_alone, prepare_answered, preparing, readied, ready_of_enlistment, read_only_answered, single, some_enlistment, someone_owes, to_commit, to_pre_prepare, to_prepare, when_none_owes, without_its_answer}
 use Rattle.txf_laws.specs.Elements.{IsIn}
 use Rattle.txf_laws.specs.Footprint.{ListsLaw}
 use Rattle.ktm_records.specs.Kept.{limits_hold}

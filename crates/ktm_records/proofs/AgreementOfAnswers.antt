@@ -13,10 +13,11 @@ use Rattle.ktm_types.specs.declared.step.Owed.{Owed}
 use Rattle.ktm_world.specs.Durable.{Recorded}
 use Rattle.ktm_world.specs.Enlistments.{Enlistment, Manager, allows_one_phase, has_id, is_durable_at, is_open_for_votes, is_superior, owes_commit, owes_pre_prepare, owes_prepare, takes_part}
 use Rattle.ktm_world.specs.Lawful.{stage_in}
-use Rattle.ktm_world.specs.Phases.{Course, all_ready, changing_one, ended, enlistment_part, pre_prepare_answered, pre_prepared, prepare_answered, read_only_answered, recorded, recording, someone_owes, to_commit, to_pre_prepare, to_prepare, when_none_owes, without_its_answer}
+use Rattle.ktm_world.specs.Phases.{Course, changing_one, ended, enlistment_part, recording}
 use Rattle.ktm_world.specs.Present.{Present}
 use Rattle.ktm_world.specs.TransactionCalls.{course_of, is_voting}
 use Rattle.ktm_world.specs.Transactions.{same_id}
+use Rattle.ktm_steps.specs.Procedures.{all_ready, pre_prepare_answered, pre_prepared, prepare_answered, read_only_answered, recorded, someone_owes, to_commit, to_pre_prepare, to_prepare, when_none_owes, without_its_answer}
 use Rattle.txf_laws.specs.Elements.{IsIn}
 use Rattle.ktm_states.specs.GoodState.{IsGoodState}
 use Rattle.ktm_courses.specs.SoundCourse.{IsSoundCourse, has_durable_part, is_part_as, is_recorded_as, is_unrecovered_well}

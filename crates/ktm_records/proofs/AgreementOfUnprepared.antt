@@ -16,9 +16,10 @@ use Rattle.ktm_world.specs.Durable.{Recorded, after_events, changes_in, settings
 use Rattle.ktm_world.specs.Enlistments.{allows_one_phase, asks_pre_prepare, takes_part}
 use Rattle.ktm_world.specs.Keys.{stored_all}
 use Rattle.ktm_world.specs.Outcome.{committed_now}
-use Rattle.ktm_world.specs.Phases.{Course, all_ready, ended, has_settings, in_phase, is_its_superior, one_if, one_participant, one_phase, owing, participants, pre_prepared, prepare_alone, preparing, single, some_enlistment, superior, telling, to_commit, to_pre_prepare, to_prepare, unchanged, work_of}
+use Rattle.ktm_world.specs.Phases.{Course, ended, has_settings, in_phase, is_its_superior, one_if, owing, superior, telling, unchanged, work_of}
 use Rattle.ktm_world.specs.Present.{Present}
 use Rattle.ktm_world.proofs.offered.Durables.{after_events-append}
+use Rattle.ktm_steps.specs.Procedures.{all_ready, one_participant, one_phase, participants, pre_prepared, prepare_alone, preparing, single, some_enlistment, to_commit, to_pre_prepare, to_prepare}
 use Rattle.ktm_records.proofs.AgreementOfCommits.{works-done}
 use Rattle.ktm_records.proofs.offered.AgreementOfCourses.{Follows, course_summaries, follows-from, none-in, none-unrecorded}
 use Rattle.ktm_courses.proofs.offered.Moves.{if_cases}

@@ -17,8 +17,9 @@ use Rattle.ktm_types.specs.declared.step.Owed.{Owed}
 use Rattle.ktm_world.specs.Changes.{has_changes}
 use Rattle.ktm_world.specs.Durable.{Durable, Recorded, after_event, after_events, fact_applies, has_part, is_new_enlistment, is_ready, is_sole, may_get_ready, part_applies, recorded_at, recorded_or_new}
 use Rattle.ktm_world.specs.Enlistments.{Enlistment, Sent, is_superior, has_id, is_durable_at, is_unfinished, allows_one_phase, asks_pre_prepare, takes_part, with_enlistments}
-use Rattle.ktm_world.specs.Phases.{Course, all_ready, changing_one, commit_answered, committing, decided, ended, ended_if_finished, enlistment_part, event_if, finished, has_settings, held_or_committing, in_phase, is_its_superior, is_single_phase, one_participant, one_phase, owing, participants, pre_prepare_answered, pre_prepared, prepare_alone, prepare_answered, preparing, read_only_answered, readied, ready_of_enlistment, ready_parts, recorded, recording, single, some_enlistment, someone_owes, superior, telling, to_commit, to_pre_prepare, to_prepare, when_none_owes, without_its_answer, work_of}
+use Rattle.ktm_world.specs.Phases.{Course, changing_one, decided, ended, ended_if_finished, enlistment_part, event_if, has_settings, in_phase, is_its_superior, is_single_phase, owing, recording, superior, telling, work_of}
 use Rattle.ktm_world.specs.Transactions.{same_id}
+use Rattle.ktm_steps.specs.Procedures.{all_ready, commit_answered, committing, finished, held_or_committing, one_participant, one_phase, participants, pre_prepare_answered, pre_prepared, prepare_alone, prepare_answered, preparing, read_only_answered, readied, ready_of_enlistment, ready_parts, recorded, single, some_enlistment, someone_owes, to_commit, to_pre_prepare, to_prepare, when_none_owes, without_its_answer}
 use Rattle.txf_laws.specs.Elements.{IsIn}
 use Rattle.ktm_records.specs.Kept.{facts_apply}
 use Rattle.ktm_records.proofs.Facts.{MayDecide, awaits, decision-applies, facts-append, facts-if, facts-one}

@@ -3,13 +3,11 @@ use Rattle.std.specs.Prelude.{◌≡◌, ⊤, ◌⊎◌, Bool, true, false, List
 use Rattle.ktm_base.specs.declared.notify.Notify.{Notify}
 use Rattle.ktm_types.specs.declared.object.Phase.{Phase}
 use Rattle.ktm_types.specs.declared.input.PhaseInput.{PhaseInput}
-use Rattle.ktm_types.specs.declared.input.Seen.{Seen}
 use Rattle.ktm_types.specs.declared.step.Step.{Step}
-use Rattle.ktm_world.specs.Enlistments.{Enlistment, Sent}
+use Rattle.ktm_world.specs.Enlistments.{Sent}
 use Rattle.ktm_world.specs.OneOutcome.{told_by, told_outcome}
-use Rattle.ktm_world.specs.Phases.{Course, aborting, all_ready, commit_answered, committing, end_notice, pre_prepare_answered, pre_prepared, prepare_answered, read_only_answered, recovered as recovered_by, rollback_answered, single_phase_rejected, to_commit, to_pre_prepare, to_prepare}
-use Rattle.ktm_world.specs.Rows.{row}
-use Rattle.ktm_world.specs.Steps.{run}
+use Rattle.ktm_world.specs.Phases.{Course, end_notice}
+use Rattle.ktm_world.specs.Steps.{led, run}
 
 -- ---- what is known of an outcome: nothing, that it is a commit, or that it is none
 
@@ -74,20 +72,6 @@ pub record OutcomeLaw : Type 0 where
   -- by steps that tell and decide nothing else
   pub steps : (steps : List Step) (c : Course) → AreTrue (known c) steps → KeepsTrue c (run steps c)
   -- by the row of what may come
-  pub rows : (s : Seen) (input : PhaseInput) (c : Course) → MayCome (known c) s.phase input → KeepsTrue c (run (row s input) c)
-  -- procedures that begin while nothing is known
-  pub committing : (c : Course) → known c ≡ None → KeepsTrue c (committing c)
-  pub aborting : (c : Course) → known c ≡ None → KeepsTrue c (aborting c)
-  pub all_ready : (c : Course) → known c ≡ None → KeepsTrue c (all_ready c)
-  pub to_prepare : (c : Course) → known c ≡ None → KeepsTrue c (to_prepare c)
-  pub pre_prepared : (c : Course) → known c ≡ None → KeepsTrue c (pre_prepared c)
-  pub to_pre_prepare : (c : Course) → known c ≡ None → KeepsTrue c (to_pre_prepare c)
-  pub to_commit : (c : Course) → known c ≡ None → KeepsTrue c (to_commit c)
-  pub pre_prepare_answered : (c : Course) (e : Enlistment) → c.caller ≡ Some e → known c ≡ None → KeepsTrue c (pre_prepare_answered c e)
-  pub prepare_answered : (c : Course) (e : Enlistment) → c.caller ≡ Some e → known c ≡ None → KeepsTrue c (prepare_answered c e)
-  pub read_only_answered : (c : Course) (e : Enlistment) → c.caller ≡ Some e → known c ≡ None → KeepsTrue c (read_only_answered c e)
-  -- and the others
-  pub single_phase_rejected : (c : Course) (e : Enlistment) → c.caller ≡ Some e → KeepsTrue c (single_phase_rejected c e)
-  pub commit_answered : (c : Course) (e : Enlistment) → c.caller ≡ Some e → MayBe (known c) (Some true) → KeepsTrue c (commit_answered c e)
-  pub rollback_answered : (c : Course) (e : Enlistment) → c.caller ≡ Some e → MayBe (known c) (Some false) → KeepsTrue c (rollback_answered c e)
-  pub recovered : (c : Course) (e : Enlistment) → c.caller ≡ Some e → IsKnownIn c.transaction.phase (known c) → KeepsTrue c (recovered_by c e)
+  pub rows : (input : PhaseInput) (c : Course) → MayCome (known c) c.transaction.phase input → KeepsTrue c (led input c)
+  -- and what a row tells, of a transaction that has told nothing yet, is so in the end
+  pub tells : (input : PhaseInput) (c : Course) → c.sent ≡ [] → IsKnownIn c.transaction.phase (known c) → IsTrue (led input c)

@@ -1,28 +1,205 @@
--- The procedures of the model, each of which is a run of steps.
-use Rattle.std.specs.Prelude.{◌≡◌, List, Some}
-use Rattle.ktm_types.specs.declared.step.Step.{Step}
-use Rattle.ktm_world.specs.Enlistments.{Enlistment}
-use Rattle.ktm_world.specs.Phases.{Course, aborting, all_ready, commit_answered, committing, pre_prepare_answered, pre_prepared, prepare_answered, read_only_answered, recovered, rollback_answered, single_phase_rejected, to_commit, to_pre_prepare, to_prepare}
-use Rattle.ktm_world.specs.Steps.{run}
+-- The rows of the phase table once more, as functions of courses: the procedures by which a transaction goes on.
+use Rattle.std.specs.Prelude.{ℕ, zero, suc, ◌+◌, ◌==◌, ◌&&◌, ◌||◌, not, Bool, true, List, [], ◌∷◌, ◌++◌, length, filter, Option, Some, None, is_some, if◌then◌else◌}
+use Rattle.std.specs.List.{list_any}
+use Rattle.ktm_base.specs.declared.notify.Notify.{Notify}
+use Rattle.ktm_types.specs.declared.event.DonePart.{DonePart}
+use Rattle.ktm_types.specs.declared.event.Event.{Event}
+use Rattle.ktm_types.specs.declared.event.Part.{Part}
+use Rattle.ktm_types.specs.declared.object.Phase.{Phase}
+use Rattle.ktm_types.specs.declared.object.Phase.TheVariants.{Requested, PrePreparing, PrePrepared, Preparing, SinglePhase, Held, InDoubt, Committing, Aborting}
+use Rattle.ktm_types.specs.declared.object.TransactionOutcome.TheVariants.{Committed, Aborted}
+use Rattle.ktm_types.specs.declared.step.Owed.{Owed}
+use Rattle.ktm_world.specs.Enlistments.{Enlistment, is_superior, asks_pre_prepare, allows_one_phase, takes_part, is_durable_at, has_id, is_given, id_of}
+use Rattle.ktm_world.specs.Changes.{has_changes}
+use Rattle.ktm_world.specs.Phases.{Course, in_phase, decided, recording, telling, owing, unchanged, superior, is_its_superior, has_settings, one_if, ended, ended_if_finished, work_of, event_if, changing_one, enlistment_part, is_single_phase}
 
--- each procedure leads from a course to one that is so of it, an answer where the enlistment makes the call
-pub record AreProcedures (R : Course → Course → Type 0) : Type 0 where
-  pub committing : (c : Course) → R c (committing c)
-  pub aborting : (c : Course) → R c (aborting c)
-  pub all_ready : (c : Course) → R c (all_ready c)
-  pub to_prepare : (c : Course) → R c (to_prepare c)
-  pub pre_prepared : (c : Course) → R c (pre_prepared c)
-  pub to_pre_prepare : (c : Course) → R c (to_pre_prepare c)
-  pub to_commit : (c : Course) → R c (to_commit c)
-  pub pre_prepare_answered : (c : Course) (e : Enlistment) → c.caller ≡ Some e → R c (pre_prepare_answered c e)
-  pub prepare_answered : (c : Course) (e : Enlistment) → c.caller ≡ Some e → R c (prepare_answered c e)
-  pub read_only_answered : (c : Course) (e : Enlistment) → c.caller ≡ Some e → R c (read_only_answered c e)
-  pub single_phase_rejected : (c : Course) (e : Enlistment) → c.caller ≡ Some e → R c (single_phase_rejected c e)
-  pub commit_answered : (c : Course) (e : Enlistment) → c.caller ≡ Some e → R c (commit_answered c e)
-  pub rollback_answered : (c : Course) (e : Enlistment) → c.caller ≡ Some e → R c (rollback_answered c e)
-  pub recovered : (c : Course) (e : Enlistment) → c.caller ≡ Some e → R c (recovered c e)
+-- it has a Ready or a Held in the log from now on
+abbrev pub recorded : Course → Course
+recorded c = record c { transaction = record c.transaction { is_recorded = true } }
 
--- steps lead from one to the other
-pub record IsRun (c d : Course) : Type 0 where
-  pub steps : List Step
-  pub is : run steps c ≡ d
+-- does some enlistment of it pass the test
+abbrev pub some_enlistment : Course → (Enlistment → Bool) → Bool
+some_enlistment c test = list_any (λ e. takes_part c.transaction.id e && test e) c.enlistments
+
+-- the enlistments that take part, in order
+abbrev pub taking_part : Course → List Enlistment
+taking_part c = filter (takes_part c.transaction.id) c.enlistments
+
+-- how many participants there are: enlistments, the files and the keys
+abbrev pub participants : Course → ℕ
+participants c = length (taking_part c) + one_if (has_changes c.changes) + one_if (has_settings c.settings)
+
+-- ---- the end
+
+-- it commits: the decision is recorded where the log has a Ready or a Held of it, the files and the keys commit and are done, and the
+-- prepared enlistments are told
+unfoldable pub committing : Course → Course
+committing c =
+    let id = c.transaction.id in
+    let told = telling (record (recording c (
+    event_if c.transaction.is_recorded (Event.Decide id)
+    ++ event_if (has_changes c.changes) (Event.Done id DonePart.Files)
+    ++ event_if (has_settings c.settings) (Event.Done id DonePart.Keys)))
+    { works = c.works ++ work_of c })
+    (λ e. takes_part id e && e.is_prepared && e.is_recovered) Notify.Commit (owing Owed.Commit) in
+    ended_if_finished (in_phase (decided told Committed) Committing) Committed
+
+-- is the enlistment the one that made the call
+abbrev pub is_caller : Course → Enlistment → Bool
+is_caller c e = is_given (id_of c.caller) e
+
+-- it rolls back: that is recorded where the log has a Ready or a Held of it, and its enlistments are told, the superior last unless it
+-- asked for it
+unfoldable pub aborting : Course → Course
+aborting c =
+    let id = c.transaction.id in
+    let undone = recording c (event_if c.transaction.is_recorded (Event.Undo id)) in
+    let told = telling undone (λ e. takes_part id e && e.is_recovered) Notify.Rollback (owing Owed.Rollback) in
+    let all_told = telling told (λ e. is_its_superior c e && not (is_caller c e)) Notify.Rollback unchanged in
+    ended_if_finished (in_phase (decided all_told Aborted) Aborting) Aborted
+
+-- ---- all are prepared
+
+-- the parts of the files and of the keys
+abbrev pub ready_parts : Course → List Event
+ready_parts c =
+    event_if (has_changes c.changes) (Event.Ready c.transaction.id (Part.Changes c.changes))
+    ++ event_if (has_settings c.settings) (Event.Ready c.transaction.id (Part.Settings c.settings))
+
+-- the files and the keys are prepared, which is recorded of those that take part
+abbrev pub readied : Course → Course
+readied c = record (recording c (ready_parts c)) { transaction = record c.transaction { is_recorded = c.transaction.is_recorded || has_changes c.changes || has_settings c.settings } }
+
+-- it waits for its superior, or goes on to commit
+abbrev pub held_or_committing : Course → Option Enlistment → Course
+held_or_committing c (Some e) =
+    in_phase (telling (recorded (recording c (Event.Held c.transaction.id e.id e.manager e.information ∷ []))) (is_its_superior c) Notify.PrepareComplete unchanged) Held
+held_or_committing c None = if participants c == 0 then ended c Committed else committing c
+
+-- all enlistments are prepared: the files and the keys prepare too, and it waits for its superior, or commits
+unfoldable pub all_ready : Course → Course
+all_ready c = held_or_committing (readied c) (superior c)
+
+-- ---- preparing
+
+-- all that take part are asked to prepare
+abbrev pub preparing : Course → Course
+preparing c =
+    let asked = in_phase (telling c (takes_part c.transaction.id) Notify.Prepare (owing Owed.Prepare)) Preparing in
+    if some_enlistment c (λ e. true) then asked else all_ready asked
+
+-- the files or the keys alone commit by one event
+abbrev pub single : Course → Part → Course
+single c part = ended (record (recording c (Event.Single c.transaction.id part ∷ [])) { works = c.works ++ work_of c }) Committed
+
+-- one enlistment alone commits in one phase, where it can
+abbrev pub one_phase : Course → Course
+one_phase c =
+    if some_enlistment c allows_one_phase
+    then in_phase (telling c (takes_part c.transaction.id) Notify.SinglePhaseCommit (owing Owed.Commit)) SinglePhase
+    else preparing c
+
+-- one participant alone
+abbrev pub one_participant : Course → Course
+one_participant c =
+    if has_changes c.changes then single c (Part.Changes c.changes) else
+    (if has_settings c.settings then single c (Part.Settings c.settings) else one_phase c)
+
+-- without a superior: it has ended where nobody takes part, may commit in one step where one does, and is prepared where more do
+abbrev pub prepare_alone : Course → ℕ → Course
+prepare_alone c zero = ended c Committed
+prepare_alone c (suc zero) = one_participant c
+prepare_alone c (suc (suc more)) = preparing c
+
+-- it is to be prepared; with a superior all are asked, however many take part
+unfoldable pub to_prepare : Course → Course
+to_prepare c = if is_some (superior c) then preparing c else prepare_alone c (participants c)
+
+-- ---- pre-preparing
+
+-- all have pre-prepared: its superior is told, or it goes on
+unfoldable pub pre_prepared : Course → Course
+pre_prepared c = if is_some (superior c) then in_phase (telling c (is_its_superior c) Notify.PrePrepareComplete unchanged) PrePrepared else to_prepare c
+
+-- those that ask for it are to pre-prepare; where nobody does, all have
+unfoldable pub to_pre_prepare : Course → Course
+to_pre_prepare c =
+    if some_enlistment c asks_pre_prepare
+    then in_phase (telling c (λ e. takes_part c.transaction.id e && asks_pre_prepare e) Notify.PrePrepare (owing Owed.PrePrepare)) PrePreparing
+    else pre_prepared c
+
+-- a commit was asked for: its superior is told, or it begins
+unfoldable pub to_commit : Course → Course
+to_commit c = if is_some (superior c) then in_phase (telling c (is_its_superior c) Notify.CommitRequest unchanged) Requested else to_pre_prepare c
+
+-- ---- the answers of enlistments
+
+-- does some enlistment of it owe an answer
+abbrev pub someone_owes : Course → Bool
+someone_owes c = some_enlistment c (λ e. is_some e.owes)
+
+-- the transaction goes on where nobody owes an answer
+abbrev pub when_none_owes : Course → (Course → Course) → Course
+when_none_owes c next = if someone_owes c then c else next c
+
+-- an enlistment has pre-prepared, and the transaction goes on where it was the last to
+unfoldable pub pre_prepare_answered : Course → Enlistment → Course
+pre_prepare_answered c e = when_none_owes (changing_one c e.id (λ e. record e { owes = None })) pre_prepared
+
+-- it is prepared, which is recorded where its resource manager is durable
+abbrev pub ready_of_enlistment : Course → Enlistment → Course
+ready_of_enlistment c e =
+    if is_durable_at c.managers e.manager then recorded (recording c (Event.Ready c.transaction.id (enlistment_part e) ∷ [])) else c
+
+-- an enlistment is prepared, and the transaction goes on where it was the last to be
+unfoldable pub prepare_answered : Course → Enlistment → Course
+prepare_answered c e = when_none_owes (ready_of_enlistment (changing_one c e.id (λ e. record e { owes = None; is_prepared = true })) e) all_ready
+
+-- the transaction goes on, where the last one that owed took no part any more
+abbrev pub without_its_answer : Phase → Course → Course
+without_its_answer PrePreparing c = pre_prepared c
+without_its_answer Preparing c = all_ready c
+without_its_answer SinglePhase c = ended c Committed
+without_its_answer _ c = c
+
+-- an enlistment takes part in the outcome no more; the transaction goes on where it was the last to owe an answer
+unfoldable pub read_only_answered : Course → Enlistment → Course
+read_only_answered c e =
+    let left = changing_one c e.id (λ e. record e { owes = None; is_read_only = true }) in
+    if is_some e.owes then when_none_owes left (without_its_answer c.transaction.phase) else left
+
+-- one phase is not for it: it is asked to prepare
+unfoldable pub single_phase_rejected : Course → Enlistment → Course
+single_phase_rejected c e = in_phase (telling c (has_id e.id) Notify.Prepare (owing Owed.Prepare)) Preparing
+
+-- an enlistment has finished, and owes nothing
+abbrev pub finished : Course → Enlistment → Course
+finished c e = changing_one c e.id (λ e. record e { owes = None; is_finished = true })
+
+-- it has committed, which is recorded where its resource manager is durable
+unfoldable pub commit_answered : Course → Enlistment → Course
+commit_answered c e =
+    if is_single_phase c.transaction.phase then ended (finished c e) Committed else
+    ended_if_finished (recording (finished c e) (event_if (is_durable_at c.managers e.manager) (Event.Done c.transaction.id (DonePart.Enlistment e.id)))) Committed
+
+-- an enlistment has rolled back, and the transaction has ended where it was the last to
+unfoldable pub rollback_answered : Course → Enlistment → Course
+rollback_answered c e = ended_if_finished (finished c e) Aborted
+
+-- ---- recovering an enlistment that a restart brought back
+
+-- the enlistment is recovered from now on
+abbrev pub recovering : Course → Enlistment → Course
+recovering c e = changing_one c e.id (λ e. record e { is_recovered = true })
+
+-- the enlistment is told how its transaction stands in this phase
+abbrev pub recovered_in : Phase → Course → Enlistment → Course
+recovered_in InDoubt c e = telling c (has_id e.id) Notify.Indoubt unchanged
+recovered_in Committing c e = telling c (has_id e.id) Notify.Commit (owing Owed.Commit)
+recovered_in Aborting c e = telling c (has_id e.id) Notify.Rollback (owing Owed.Rollback)
+recovered_in _ c e = c
+
+-- an enlistment recovers: a superior is asked to decide, and another one is told how its transaction stands
+unfoldable pub recovered : Course → Enlistment → Course
+recovered c e =
+    if is_superior e then telling (recovering c e) (has_id e.id) Notify.RecoverQuery unchanged else recovered_in c.transaction.phase (recovering c e) e

@@ -2,16 +2,10 @@
 ghost use Rattle.ktm_steps.specs.Laws.{EventsAheadLaw, RowsLaw};
 ghost use Rattle.ktm_steps.specs.Outcomes.{OutcomeLaw};
 ghost use Rattle.ktm_steps.specs.Fading.{FadingLaw};
-ghost use Rattle.ktm_steps.specs.Procedures.{AreProcedures, IsRun};
 
-/// Carried out, each row comes to what the procedure of the model comes to.
+/// Carried out, each row comes to what its procedure comes to.
 pub fn law_of_rows()
     ensures { RowsLaw }
-{}
-
-/// Each procedure of the model is a run of steps, whoever answers.
-pub fn law_of_runs()
-    ensures { AreProcedures IsRun }
 {}
 
 /// What steps record is known before anything is carried out.
@@ -19,7 +13,7 @@ pub fn law_of_events_ahead()
     ensures { EventsAheadLaw }
 {}
 
-/// No enlistment comes back to life on the way.
+/// No enlistment comes back to life by steps.
 pub fn law_of_fading()
     ensures { FadingLaw }
 {}

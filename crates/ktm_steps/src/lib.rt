@@ -4,4 +4,4 @@
 
 mod laws;
 
-pub use laws::{law_of_events_ahead, law_of_fading, law_of_outcomes, law_of_rows, law_of_runs};
+pub use laws::{law_of_events_ahead, law_of_fading, law_of_outcomes, law_of_rows};

@@ -10,9 +10,10 @@ use Rattle.ktm_types.specs.declared.object.Phase.TheVariants.{Requested, PrePrep
 use Rattle.ktm_types.specs.declared.object.TransactionOutcome.TheVariants.{Committed}
 use Rattle.ktm_types.specs.declared.step.Owed.{Owed}
 use Rattle.ktm_world.specs.Enlistments.{Enlistment, asks_pre_prepare, allows_one_phase, takes_part, is_durable_at, superior_of}
-use Rattle.ktm_world.specs.Phases.{Course, in_phase, recording, telling, owing, unchanged, superior, is_its_superior, some_enlistment, has_settings, one_if, taking_part, participants, work_of, all_ready, preparing, single, one_phase, one_participant, prepare_alone, to_prepare, pre_prepared, to_pre_prepare, to_commit, is_single_phase}
+use Rattle.ktm_world.specs.Phases.{Course, in_phase, recording, telling, owing, unchanged, superior, is_its_superior, has_settings, one_if, work_of, is_single_phase}
 use Rattle.ktm_world.specs.Transactions.{is_undecided}
 use Rattle.ktm_world.specs.Changes.{has_changes}
+use Rattle.ktm_steps.specs.Procedures.{some_enlistment, taking_part, participants, all_ready, preparing, single, one_phase, one_participant, prepare_alone, to_prepare, pre_prepared, to_pre_prepare, to_commit}
 use Rattle.txf_laws.specs.Elements.{IsIn}
 use Rattle.ktm_courses.specs.SoundCourse.{is_last_recover, is_unrecovered_well, is_outcome_of, is_of_its_boot, is_superior_as, is_idle, is_waiting, is_part_as, is_awaited, has_durable_part, is_recorded_as_asked}
 use Rattle.txf_laws.proofs.offered.Diamonds.{none-from}

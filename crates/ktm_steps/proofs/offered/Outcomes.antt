@@ -1,26 +1,24 @@
 -- What steps tell of an outcome is so, and a known outcome stays, where they pass the test on lists; and each row passes it.
 use Rattle.std.specs.Prelude.{if◌then◌else◌}
-use Rattle.std.proofs.Common.{◌≡◌, ◌==◌, not, Bool, true, false, ℕ, zero, suc, List, [], ◌∷◌, ◌++◌, All, filter, map, Option, Some, None, is_some, refl, sym, ◌∙◌, subst, inl, inr}
-use Rattle.std.proofs.lemmas.List.Elements.{All-append, All-map, All-weaker}
+use Rattle.std.proofs.Common.{◌≡◌, ◌==◌, Bool, true, false, ℕ, zero, suc, List, [], ◌∷◌, All, filter, map, Option, Some, None, refl, sym, ◌∙◌, subst, inl, inr, ◌⊎◌, ◌&&◌}
+use Rattle.std.proofs.lemmas.Bool.{and_parts, true≢false}
+use Rattle.std.proofs.lemmas.List.Elements.{All-append, All-map, All-nil, All-weaker}
 use Rattle.std.specs.List.{list_any}
 use Rattle.ktm_base.specs.declared.notify.Notify.{Notify}
 use Rattle.ktm_types.specs.declared.object.Phase.{Phase}
 use Rattle.ktm_types.specs.declared.object.Phase.TheVariants.{PrePreparing, Preparing, SinglePhase, Committing, Aborting, Ended}
 use Rattle.ktm_types.specs.declared.object.TransactionOutcome.{TransactionOutcome}
+use Rattle.ktm_types.specs.declared.object.TransactionOutcome.TheVariants.{Undetermined, Committed, Aborted}
 use Rattle.ktm_types.specs.declared.input.PhaseInput.{PhaseInput}
 use Rattle.ktm_types.specs.declared.input.Seen.{Seen}
-use Rattle.ktm_types.specs.declared.step.Answered.{Answered}
-use Rattle.ktm_types.specs.declared.step.Fact.{Fact}
 use Rattle.ktm_types.specs.declared.step.Step.{Step}
-use Rattle.ktm_types.specs.declared.step.Step.TheVariants.{Record, Change}
-use Rattle.ktm_world.specs.Enlistments.{Enlistment, Sent, is_superior, is_unfinished, tell}
+use Rattle.ktm_world.specs.Enlistments.{Enlistment, Sent, is_unfinished, tell}
 use Rattle.ktm_world.specs.OneOutcome.{told_outcome}
-use Rattle.ktm_world.specs.Phases.{Course, decided, end_notice, ended, in_phase, is_its_superior, is_single_phase, owing, someone_owes, telling, unchanged}
-use Rattle.ktm_world.specs.Rows.{aborts, all_readies, commit_completes, commits, commits_one, proceeds, proceeds_without, is_last, participants, pre_prepare_completes, pre_prepares, prepare_completes, prepares, prepares_all, prepares_alone, read_onlies, recovers, recovers_superior, requests, rollback_completes, row, tells_in, without}
-use Rattle.ktm_world.specs.Steps.{answered, carried, changing, is_meant, run, seen}
-use Rattle.ktm_steps.specs.Outcomes.{AreTrue, IsKnownIn, KeepsTrue, MayBe, MayCome, OutcomeLaw, StaysTrue, TellsOnly, known}
-use Rattle.ktm_steps.specs.Procedures.{IsRun}
-use Rattle.ktm_steps.proofs.offered.Table.{once, runs_law}
+use Rattle.ktm_world.specs.Phases.{Course, decided, end_notice, ended, in_phase, is_its_superior, is_single_phase, owing, telling, unchanged}
+use Rattle.ktm_world.specs.Rows.{aborts, all_readies, commit_completes, commits, commits_one, proceeds, proceeds_without, is_last, participants, pre_prepare_completes, pre_prepares, prepare_completes, prepares, prepares_all, prepares_alone, read_onlies, requests, rollback_completes, row, tells_in, without}
+use Rattle.ktm_world.specs.Steps.{answered, carried, changing, is_meant, led, run, seen}
+use Rattle.ktm_steps.proofs.offered.Lists.{Pass, row-passes, row_lists}
+use Rattle.ktm_steps.specs.Outcomes.{AreTrue, IsKnownIn, KeepsTrue, MayBe, MayCome, OutcomeLaw, StaysTrue, TellsOnly, known, IsTrue}
 
 through : (k j t : Option Bool) → MayBe k j → MayBe j t → MayBe k t
 through k j t (inl none) second = inl none
@@ -65,25 +63,26 @@ either : (P : Course → Type 0) (b : Bool) (d e : Course) → P d → P e → P
 either P true d e first second = first
 either P false d e first second = second
 
-changed-tells : (k : Option Bool) (c : Course) (e : Option Enlistment) (f : Enlistment → Enlistment) → known c ≡ k → Tells k c → (known (changing c e f) ≡ k) × Tells k (changing c e f)
-changed-tells k c None f is tells = (is, tells)
-changed-tells k c (Some e) f is tells = (is, tells)
+changed-tells : (k : Option Bool) (c : Course) (e : Option Enlistment) (f : Enlistment → Enlistment) → MayBe k (known c) → Tells k c → MayBe k (known (changing c e f)) × Tells k (changing c e f)
+changed-tells k c None f may tells = (may, tells)
+changed-tells k c (Some e) f may tells = (may, tells)
 
-stays-true : (k : Option Bool) (steps : List Step) (c : Course) → known c ≡ k → Tells k c → AreTrue k steps → StaysTrue k (run steps c)
-stays-true k [] c is tells ok = record { tells = subst (λ j. Tells j c) (sym is) tells; stays = inr (sym is) }
-stays-true k (Step.Tell who kind ∷ steps) c is tells ok = stays-true k steps (carried (Step.Tell who kind) c) is (tells-more k c (is_meant who c) kind unchanged ok.0 tells) ok.1
-stays-true k (Step.Ask who kind owed ∷ steps) c is tells ok = stays-true k steps (carried (Step.Ask who kind owed) c) is (tells-more k c (is_meant who c) kind (owing owed) ok.0 tells) ok.1
-stays-true k (Step.Decide outcome ∷ steps) c is tells ok =
-    then-true k (told_outcome outcome) _ ok.0 (stays-true (told_outcome outcome) steps (decided c outcome) refl (tells-wider k (told_outcome outcome) c ok.0 tells) ok.1)
-stays-true k (Step.End outcome ∷ steps) c is tells ok =
-    then-true k (told_outcome outcome) _ ok.0 (stays-true (told_outcome outcome) steps (ended c outcome) (ended-known c outcome) (ended-tells k c outcome ok.0 ok.1 tells) ok.2)
-stays-true k (Step.EndWhereFinished outcome ∷ steps) c is tells ok = either (λ d. StaysTrue k (run steps d)) (list_any (is_unfinished c.transaction.id) c.enlistments) c (ended c outcome)
-    (stays-true k steps c is tells ok.2)
-    (then-true k (told_outcome outcome) _ ok.0 (stays-true (told_outcome outcome) steps (ended c outcome) (ended-known c outcome) (ended-tells k c outcome ok.0 ok.1 tells) ok.3))
-stays-true k (Step.Record fact ∷ steps) c is tells ok = stays-true k steps (carried (Step.Record fact) c) is tells ok
-stays-true k (Step.Commit ∷ steps) c is tells ok = stays-true k steps (carried Step.Commit c) is tells ok
-stays-true k (Step.Enter phase ∷ steps) c is tells ok = stays-true k steps (carried (Step.Enter phase) c) is tells ok
-stays-true k (Step.Change answer ∷ steps) c is tells ok = let same = changed-tells k c c.caller (answered answer) is tells in stays-true k steps (carried (Step.Change answer) c) same.0 same.1 ok
+-- where no more was told than this, which is known or nothing
+pub stays-true : (k : Option Bool) (steps : List Step) (c : Course) → MayBe k (known c) → Tells k c → AreTrue k steps → StaysTrue k (run steps c)
+stays-true k [] c may tells ok = record { tells = tells-wider k (known c) c may tells; stays = may }
+stays-true k (Step.Tell who kind ∷ steps) c may tells ok = stays-true k steps (carried (Step.Tell who kind) c) may (tells-more k c (is_meant who c) kind unchanged ok.0 tells) ok.1
+stays-true k (Step.Ask who kind owed ∷ steps) c may tells ok = stays-true k steps (carried (Step.Ask who kind owed) c) may (tells-more k c (is_meant who c) kind (owing owed) ok.0 tells) ok.1
+stays-true k (Step.Decide outcome ∷ steps) c may tells ok =
+    then-true k (told_outcome outcome) _ ok.0 (stays-true (told_outcome outcome) steps (decided c outcome) (inr refl) (tells-wider k (told_outcome outcome) c ok.0 tells) ok.1)
+stays-true k (Step.End outcome ∷ steps) c may tells ok =
+    then-true k (told_outcome outcome) _ ok.0 (stays-true (told_outcome outcome) steps (ended c outcome) (inr (sym (ended-known c outcome))) (ended-tells k c outcome ok.0 ok.1 tells) ok.2)
+stays-true k (Step.EndWhereFinished outcome ∷ steps) c may tells ok = either (λ d. StaysTrue k (run steps d)) (list_any (is_unfinished c.transaction.id) c.enlistments) c (ended c outcome)
+    (stays-true k steps c may tells ok.2)
+    (then-true k (told_outcome outcome) _ ok.0 (stays-true (told_outcome outcome) steps (ended c outcome) (inr (sym (ended-known c outcome))) (ended-tells k c outcome ok.0 ok.1 tells) ok.3))
+stays-true k (Step.Record fact ∷ steps) c may tells ok = stays-true k steps (carried (Step.Record fact) c) may tells ok
+stays-true k (Step.Commit ∷ steps) c may tells ok = stays-true k steps (carried Step.Commit c) may tells ok
+stays-true k (Step.Enter phase ∷ steps) c may tells ok = stays-true k steps (carried (Step.Enter phase) c) may tells ok
+stays-true k (Step.Change answer ∷ steps) c may tells ok = let same = changed-tells k c c.caller (answered answer) may tells in stays-true k steps (carried (Step.Change answer) c) same.0 same.1 ok
 
 -- ---- rows
 
@@ -162,38 +161,95 @@ true-row s PhaseInput.Commit k is = at-none k commits is true-commits
 true-row s PhaseInput.Recover k is = true-tells_in k s.phase is
 true-row s PhaseInput.RecoverSuperior k is = (inl refl, tt)
 
--- ---- procedures
+-- ---- the law
 
 keeps-steps : (steps : List Step) (c : Course) → AreTrue (known c) steps → KeepsTrue c (run steps c)
-keeps-steps steps c ok tells = stays-true (known c) steps c refl tells ok
+keeps-steps steps c ok tells = stays-true (known c) steps c (inr refl) tells ok
 
-keeps-run : (c d : Course) (ran : IsRun c d) → AreTrue (known c) ran.steps → KeepsTrue c d
-keeps-run c d ran ok = subst (KeepsTrue c) ran.is (keeps-steps ran.steps c ok)
+-- what may come while nothing is known, but that an enlistment recovers, which may be told what is known
+may-come : (phase : Phase) (known : Option Bool) (input : PhaseInput) → IsKnownIn phase known → (k : Option Bool) × MayBe k known × MayCome k phase input
+may-come phase known PhaseInput.Recover is = (known, inr refl, is)
+may-come phase known PhaseInput.SinglePhaseReject is = (None, inl refl, tt)
+may-come phase known PhaseInput.CommitComplete is = (None, inl refl, inl refl)
+may-come phase known PhaseInput.RollbackComplete is = (None, inl refl, inl refl)
+may-come phase known PhaseInput.RecoverSuperior is = (None, inl refl, tt)
+may-come phase known _ is = (None, inl refl, refl)
 
-keeps-first : (c d : Course) (ran : IsRun c d) → known c ≡ None → AreTrue None ran.steps → KeepsTrue c d
-keeps-first c d ran is ok = keeps-run c d ran (at-none (known c) ran.steps is ok)
-
-true-once : (c : Course) (first : List Step) (steps : Seen → List Step) → ((s : Seen) → AreTrue None (steps s)) → ((next : List Step) → AreTrue None next → AreTrue None (first ++ next)) → AreTrue None (once c first steps)
-true-once c first steps each before = let d = run first c in before _ (true-where None (not (someone_owes d)) (steps (seen d)) (each (seen d)))
+tells-of-row : (input : PhaseInput) (c : Course) → c.sent ≡ [] → IsKnownIn c.transaction.phase (known c) → IsTrue (led input c)
+unfolding led
+tells-of-row input c none is =
+    let k = may-come c.transaction.phase (known c) input is in
+    (stays-true k.0 (row (seen c) input) c k.1 (subst (All (λ (s : Sent). TellsOnly k.0 s.note.kind)) (sym none) (All-nil (λ (s : Sent). TellsOnly k.0 s.note.kind))) (true-row (seen c) input k.0 k.2)).tells
 
 pub outcome_law : OutcomeLaw
-unfolding runs_law
+unfolding led
 outcome_law = record {
   steps = keeps-steps;
-  rows = λ s input c may. keeps-steps (row s input) c (true-row s input (known c) may);
-  committing = λ c is. keeps-first c _ (runs_law.committing c) is true-commits;
-  aborting = λ c is. keeps-first c _ (runs_law.aborting c) is true-aborts;
-  all_ready = λ c is. keeps-first c _ (runs_law.all_ready c) is (true-all_readies (seen c));
-  to_prepare = λ c is. keeps-first c _ (runs_law.to_prepare c) is (true-prepares (seen c));
-  pre_prepared = λ c is. keeps-first c _ (runs_law.pre_prepared c) is (true-proceeds (seen c));
-  to_pre_prepare = λ c is. keeps-first c _ (runs_law.to_pre_prepare c) is (true-pre_prepares (seen c));
-  to_commit = λ c is. keeps-first c _ (runs_law.to_commit c) is (true-requests (seen c));
-  pre_prepare_answered = λ c e calls is. keeps-first c _ (runs_law.pre_prepare_answered c e calls) is (true-once c (Change Answered.PrePrepared ∷ []) proceeds true-proceeds (λ next ok. ok));
-  prepare_answered = λ c e calls is. keeps-first c _ (runs_law.prepare_answered c e calls) is (true-once c (Change Answered.Prepared ∷ Record Fact.Ready ∷ []) all_readies true-all_readies (λ next ok. ok));
-  read_only_answered = λ c e calls is. keeps-first c _ (runs_law.read_only_answered c e calls) is (true-if None (is_some e.owes) (once c (Change Answered.ReadOnly ∷ []) (proceeds_without c.transaction.phase)) (Change Answered.ReadOnly ∷ [])
-      (true-once c (Change Answered.ReadOnly ∷ []) (proceeds_without c.transaction.phase) (true-proceeds_without c.transaction.phase) (λ next ok. ok)) tt);
-  single_phase_rejected = λ c e calls. keeps-run c _ (runs_law.single_phase_rejected c e calls) (inl refl, tt);
-  commit_answered = λ c e calls may. keeps-run c _ (runs_law.commit_answered c e calls) (true-commit_completes (known c) c.transaction.phase may);
-  rollback_answered = λ c e calls may. keeps-run c _ (runs_law.rollback_answered c e calls) (true-rollback_completes (known c) may);
-  recovered = λ c e calls is. keeps-run c _ (runs_law.recovered c e calls) (true-if (known c) (is_superior e) recovers_superior (recovers c.transaction.phase) (inl refl, tt) (true-tells_in (known c) c.transaction.phase is));
+  rows = λ input c may. keeps-steps (row (seen c) input) c (true-row (seen c) input (known c) may);
+  tells = tells-of-row;
 }
+
+-- ---- what is decided
+
+-- is it this outcome
+abbrev is_this : Bool → TransactionOutcome → Bool
+is_this true Committed = true
+is_this false Aborted = true
+is_this _ _ = false
+
+-- is no other outcome decided than this
+abbrev pub decides_only : Bool → List Step → Bool
+decides_only k [] = true
+decides_only k (Step.Decide outcome ∷ steps) = is_this k outcome && decides_only k steps
+decides_only k (Step.End outcome ∷ steps) = is_this k outcome && decides_only k steps
+decides_only k (Step.EndWhereFinished outcome ∷ steps) = is_this k outcome && decides_only k steps
+decides_only k (_ ∷ steps) = decides_only k steps
+
+this-told : (k : Bool) (outcome : TransactionOutcome) → is_this k outcome ≡ true → told_outcome outcome ≡ Some k
+this-told true Committed is = refl
+this-told false Aborted is = refl
+this-told true Undetermined is = absurd (true≢false (sym is))
+this-told true Aborted is = absurd (true≢false (sym is))
+this-told false Undetermined is = absurd (true≢false (sym is))
+this-told false Committed is = absurd (true≢false (sym is))
+
+-- its outcome is the one that it had, or this
+abbrev pub IsOr : Option Bool → Bool → Course → Type 0
+IsOr before k d = (known d ≡ before) ⊎ (known d ≡ Some k)
+
+from-this : (before after : Option Bool) (k : Bool) (d : Course) → after ≡ Some k → IsOr after k d → IsOr before k d
+from-this before after k d is (inl same) = inr (same ∙ is)
+from-this before after k d is (inr this) = inr this
+
+known-changing : (c : Course) (e : Option Enlistment) (f : Enlistment → Enlistment) → known (changing c e f) ≡ known c
+known-changing c None f = refl
+known-changing c (Some e) f = refl
+
+decided-run : (k : Bool) (steps : List Step) (c : Course) → decides_only k steps ≡ true → IsOr (known c) k (run steps c)
+decided-run k [] c only = inl refl
+decided-run k (Step.Decide outcome ∷ steps) c only =
+    let both = and_parts (is_this k outcome) (decides_only k steps) only in
+    from-this (known c) (told_outcome outcome) k (run steps (decided c outcome)) (this-told k outcome both.0) (decided-run k steps (decided c outcome) both.1)
+decided-run k (Step.End outcome ∷ steps) c only =
+    let both = and_parts (is_this k outcome) (decides_only k steps) only in
+    from-this (known c) (known (ended c outcome)) k (run steps (ended c outcome)) (ended-known c outcome ∙ this-told k outcome both.0) (decided-run k steps (ended c outcome) both.1)
+decided-run k (Step.EndWhereFinished outcome ∷ steps) c only =
+    let both = and_parts (is_this k outcome) (decides_only k steps) only in
+    either (λ d. IsOr (known c) k (run steps d)) (list_any (is_unfinished c.transaction.id) c.enlistments) c (ended c outcome) (decided-run k steps c both.1)
+    (from-this (known c) (known (ended c outcome)) k (run steps (ended c outcome)) (ended-known c outcome ∙ this-told k outcome both.0) (decided-run k steps (ended c outcome) both.1))
+decided-run k (Step.Change answer ∷ steps) c only =
+    subst (λ before. IsOr before k (run steps (carried (Step.Change answer) c))) (known-changing c c.caller (answered answer)) (decided-run k steps (carried (Step.Change answer) c) only)
+decided-run k (Step.Record fact ∷ steps) c only = decided-run k steps (carried (Step.Record fact) c) only
+decided-run k (Step.Commit ∷ steps) c only = decided-run k steps (carried Step.Commit c) only
+decided-run k (Step.Tell who kind ∷ steps) c only = decided-run k steps (carried (Step.Tell who kind) c) only
+decided-run k (Step.Ask who kind owed ∷ steps) c only = decided-run k steps (carried (Step.Ask who kind owed) c) only
+decided-run k (Step.Enter phase ∷ steps) c only = decided-run k steps (carried (Step.Enter phase) c) only
+
+-- a row of which no list decides anything else
+pub decided-led : (k : Bool) (input : PhaseInput) (c : Course) → Pass (decides_only k) (row_lists input) → IsOr (known c) k (led input c)
+unfolding led
+decided-led k input c pass = decided-run k (row (seen c) input) c (row-passes (decides_only k) (seen c) input pass)
+
+-- CommitTransaction decides nothing but a commit
+pub committed-led : (c : Course) → IsOr (known c) true (led PhaseInput.CommitTransaction c)
+committed-led c = decided-led true PhaseInput.CommitTransaction c (refl, (refl, (refl, (refl, (refl, (refl, (refl, (refl, (refl, (refl, (refl, tt)))))))))))

@@ -1,4 +1,4 @@
--- The steps of each row do what the procedure of the model does.
+-- The steps of each row do what its procedure does.
 use Rattle.std.specs.Prelude.{if◌then◌else◌}
 use Rattle.std.proofs.Common.{◌≡◌, ℕ, zero, suc, ◌==◌, ◌&&◌, ◌||◌, not, Bool, true, false, List, [], ◌∷◌, ◌++◌, filter, map, Option, Some, None, is_some, refl, sym, ◌∙◌, ap, subst, append_assoc, append-nil, inl, inr}
 use Rattle.std.proofs.lemmas.Bool.{cases_Bool, true≢false}
@@ -10,20 +10,21 @@ use Rattle.ktm_types.specs.declared.event.Part.{Part}
 use Rattle.ktm_types.specs.declared.object.Phase.{Phase}
 use Rattle.ktm_types.specs.declared.object.Phase.TheVariants.{PrePreparing, Preparing, SinglePhase, InDoubt, Held, Committing, Aborting}
 use Rattle.ktm_types.specs.declared.object.TransactionOutcome.TheVariants.{Committed}
-use Rattle.ktm_types.specs.declared.input.Seen.{Seen}
+use Rattle.ktm_types.specs.declared.input.PhaseInput.{PhaseInput}
 use Rattle.ktm_types.specs.declared.step.Answered.{Answered}
 use Rattle.ktm_types.specs.declared.step.Fact.{Fact}
 use Rattle.ktm_types.specs.declared.step.Owed.{Owed}
 use Rattle.ktm_types.specs.declared.step.Step.{Step}
-use Rattle.ktm_types.specs.declared.step.Step.TheVariants.{Record, Change}
+use Rattle.ktm_types.specs.declared.step.Step.TheVariants.{Record}
 use Rattle.ktm_types.specs.declared.step.Who.{Who}
 use Rattle.ktm_world.specs.Changes.{has_changes}
 use Rattle.ktm_world.specs.Enlistments.{Enlistment, allows_one_phase, asks_pre_prepare, has_id, is_durable_at, is_superior, takes_part, tell, with_enlistments}
-use Rattle.ktm_world.specs.Phases.{Course, aborting, all_ready, changing_one, commit_answered, committing, decided, ended, ended_if_finished, enlistment_part, event_if, finished, has_settings, held_or_committing, in_phase, is_its_superior, is_single_phase, one_participant, owing, pre_prepare_answered, pre_prepared, prepare_alone, prepare_answered, preparing, read_only_answered, readied, ready_of_enlistment, recorded, recording, recovered, recovered_in, recovering, rollback_answered, single_phase_rejected, some_enlistment, someone_owes, superior, telling, to_commit, to_pre_prepare, to_prepare, unchanged, when_none_owes, without_its_answer, work_of}
-use Rattle.ktm_world.specs.Rows.{aborts, all_readies, commit_completes, commits, commits_one, proceeds, proceeds_without, holds_or_commits, is_last, participants, pre_prepare_completes, pre_prepares, prepare_completes, prepares, prepares_all, prepares_alone, read_onlies, recovers, recovers_superior, rejects_one_phase, requests, rollback_completes, tells_in, without}
-use Rattle.ktm_world.specs.Steps.{answered, counted, held_event, lasting_of, run, seen, share_of}
+use Rattle.ktm_world.specs.Phases.{Course, changing_one, decided, ended, ended_if_finished, enlistment_part, event_if, has_settings, in_phase, is_its_superior, is_single_phase, owing, recording, superior, telling, unchanged, work_of}
+use Rattle.ktm_world.specs.Rows.{aborts, all_readies, commit_completes, commits, commits_one, proceeds, proceeds_without, holds_or_commits, is_last, participants, pre_prepare_completes, pre_prepares, prepare_completes, prepares, prepares_all, prepares_alone, read_onlies, rejects_one_phase, requests, rollback_completes, row, tells_in, without}
+use Rattle.ktm_world.specs.Steps.{answered, counted, held_event, lasting_of, led, run, seen, share_of}
+use Rattle.ktm_world.specs.TransactionCalls.{recovery_of}
+use Rattle.ktm_steps.specs.Procedures.{aborting, all_ready, commit_answered, committing, finished, held_or_committing, one_participant, pre_prepare_answered, pre_prepared, prepare_alone, prepare_answered, preparing, read_only_answered, readied, ready_of_enlistment, recorded, recovered, recovered_in, recovering, rollback_answered, single_phase_rejected, some_enlistment, someone_owes, to_commit, to_pre_prepare, to_prepare, when_none_owes, without_its_answer}
 use Rattle.ktm_steps.specs.Laws.{IsPart, RowsLaw}
-use Rattle.ktm_steps.specs.Procedures.{AreProcedures, IsRun}
 use Rattle.ktm_steps.proofs.offered.Counts.{any-counted, owed-less, participants-counted, seen-left, seen-settled}
 use Rattle.ktm_steps.proofs.offered.Superiors.{tells-superior}
 use Rattle.ktm_steps.proofs.offered.Lasting.{has_superior-kept, lasting-answered, superior-with}
@@ -159,14 +160,6 @@ ready-run c e = at (is_durable_at c.managers e.manager)
     at true = refl
     at false = ap (λ es. record (by c e) { events = es }) (append-nil c.events)
 
--- it goes on where nobody owes an answer then
-on-where_none_owes : (steps : List Step) (c : Course) (next : Course → Course) → run steps c ≡ next c → run (if not (someone_owes c) then steps else []) c ≡ when_none_owes c next
-on-where_none_owes steps c next goes = on-where_last (not (someone_owes c)) steps c next (sym (not_not (someone_owes c))) goes
-  where
-    not_not : (b : Bool) → not (not b) ≡ b
-    not_not true = refl
-    not_not false = refl
-
 module _ (before : Course) (e : Enlistment) (is : IsPart (by before e) e) where
   abbrev c : Course
   c = by before e
@@ -237,23 +230,23 @@ tells_in-run Committing c e = refl
 tells_in-run Aborting c e = refl
 tells_in-run _ c e = refl
 
-pub recovers-run : (c : Course) (e : Enlistment) → is_superior e ≡ false → run (recovers c.transaction.phase) (by c e) ≡ recovered (by c e) e
+recovers-run : (c : Course) (e : Enlistment) → run (row (seen (by c e)) (recovery_of e)) (by c e) ≡ recovered (by c e) e
 unfolding recovered
-recovers-run c e other = rw other (tells_in-run c.transaction.phase (recovering c e) e)
-
-pub recovers_superior-run : (c : Course) (e : Enlistment) → is_superior e ≡ true → run recovers_superior (by c e) ≡ recovered (by c e) e
-unfolding recovered
-recovers_superior-run c e is = rw is refl
+recovers-run c e = go (is_superior e)
+  where
+    go : (above : Bool) → run (row (seen (by c e)) (if above then PhaseInput.RecoverSuperior else PhaseInput.Recover)) (by c e)
+        ≡ (if above then telling (recovering (by c e) e) (has_id e.id) Notify.RecoverQuery unchanged else recovered_in c.transaction.phase (recovering (by c e) e) e)
+    go true = refl
+    go false = tells_in-run c.transaction.phase (recovering c e) e
 
 -- ---- the laws
 
 pub rows_law : RowsLaw
+unfolding led
 rows_law = record {
   commits = commits-run;
   aborts = aborts-run;
-  all_readies = all_readies-run;
   prepares = prepares-run;
-  proceeds = proceeds-run;
   pre_prepares = pre_prepares-run;
   requests = requests-run;
   pre_prepare_completes = λ c e calls. of-caller (λ c. IsPart c e → is_some e.owes ≡ true → run (pre_prepare_completes (seen c)) c ≡ pre_prepare_answered c e) c e calls (pre_prepare_completes-run c e);
@@ -262,91 +255,6 @@ rows_law = record {
   rejects_one_phase = λ c e calls. of-caller (λ c. run rejects_one_phase c ≡ single_phase_rejected c e) c e calls (rejects_one_phase-run c e);
   commit_completes = λ c e calls. of-caller (λ c. run (commit_completes c.transaction.phase) c ≡ commit_answered c e) c e calls (commit_completes-run c e);
   rollback_completes = λ c e calls. of-caller (λ c. run rollback_completes c ≡ rollback_answered c e) c e calls (rollback_completes-run c e);
-  recovers = λ c e calls. of-caller (λ c. is_superior e ≡ false → run (recovers c.transaction.phase) c ≡ recovered c e) c e calls (recovers-run c e);
-  recovers_superior = λ c e calls. of-caller (λ c. is_superior e ≡ true → run recovers_superior c ≡ recovered c e) c e calls (recovers_superior-run c e);
+  recovers = λ c e calls. of-caller (λ c. run (row (seen c) (recovery_of e)) c ≡ recovered c e) c e calls (recovers-run c e);
   tells_superior = tells-superior;
-}
-
--- the steps of an answer, by who owes once it counts
-abbrev pub once : Course → List Step → (Seen → List Step) → List Step
-once c first steps = let d = run first c in first ++ (if not (someone_owes d) then steps (seen d) else [])
-
-pub pre_prepare_answered-run : (c : Course) (e : Enlistment) → run (once (by c e) (Change Answered.PrePrepared ∷ []) proceeds) (by c e) ≡ pre_prepare_answered (by c e) e
-unfolding pre_prepare_answered
-pre_prepare_answered-run c e = let d = changing_one (by c e) e.id (answered Answered.PrePrepared) in on-where_none_owes (proceeds (seen d)) d pre_prepared (proceeds-run d)
-
-pub prepare_answered-run : (c : Course) (e : Enlistment) → run (once (by c e) (Change Answered.Prepared ∷ Record Fact.Ready ∷ []) all_readies) (by c e) ≡ prepare_answered (by c e) e
-unfolding prepare_answered
-prepare_answered-run c e =
-    let changed = changing_one (by c e) e.id (answered Answered.Prepared) in
-    let d = run (Record Fact.Ready ∷ []) changed in
-    on-where_none_owes (all_readies (seen d)) d all_ready (all_readies-run d) ∙ ap (λ d. when_none_owes d all_ready) (ready-run changed e)
-
--- the steps of an enlistment that takes part no more
-abbrev pub leaving : Course → Enlistment → List Step
-leaving c e = let left = Change Answered.ReadOnly ∷ [] in if is_some e.owes then once c left (proceeds_without c.transaction.phase) else left
-
-pub read_only_answered-run : (c : Course) (e : Enlistment) → run (leaving (by c e) e) (by c e) ≡ read_only_answered (by c e) e
-unfolding read_only_answered
-read_only_answered-run c e =
-    let d = changing_one (by c e) e.id (answered Answered.ReadOnly) in
-    run-if (is_some e.owes) _ _ (by c e) _ d
-    (on-where_none_owes (proceeds_without c.transaction.phase (seen d)) d (without_its_answer c.transaction.phase) (proceeds_without-run c.transaction.phase d)) refl
-
--- the steps of an enlistment that recovers
-abbrev pub recovering_in : Phase → Bool → List Step
-recovering_in phase is_superior = if is_superior then recovers_superior else recovers phase
-
-pub recovered-run : (c : Course) (e : Enlistment) → run (recovering_in c.transaction.phase (is_superior e)) (by c e) ≡ recovered (by c e) e
-unfolding recovered
-recovered-run c e = run-if (is_superior e) recovers_superior (recovers c.transaction.phase) (by c e) _ _ refl (tells_in-run c.transaction.phase (recovering c e) e)
-
--- an answer is a run of these steps where the enlistment makes the call
-pub answer-run : (steps : Course → List Step) (answer : Course → Enlistment → Course) (c : Course) (e : Enlistment) → c.caller ≡ Some e → run (steps (by c e)) (by c e) ≡ answer (by c e) e → run (steps c) c ≡ answer c e
-answer-run steps answer c e calls is = of-caller (λ c. run (steps c) c ≡ answer c e) c e calls is
-
-unfoldable pub runs_law : AreProcedures IsRun
-runs_law = record {
-  committing = λ c. record { steps = commits; is = commits-run c };
-  aborting = λ c. record { steps = aborts; is = aborts-run c };
-  all_ready = λ c. record { steps = all_readies (seen c); is = all_readies-run c };
-  to_prepare = λ c. record { steps = prepares (seen c); is = prepares-run c };
-  pre_prepared = λ c. record { steps = proceeds (seen c); is = proceeds-run c };
-  to_pre_prepare = λ c. record { steps = pre_prepares (seen c); is = pre_prepares-run c };
-  to_commit = λ c. record { steps = requests (seen c); is = requests-run c };
-  pre_prepare_answered = λ c e calls. record {
-    steps = once c (Change Answered.PrePrepared ∷ []) proceeds;
-    is = answer-run (λ c. once c (Change Answered.PrePrepared ∷ []) proceeds) pre_prepare_answered c e calls (pre_prepare_answered-run c e);
-  };
-  prepare_answered = λ c e calls. record {
-    steps = once c (Change Answered.Prepared ∷ Record Fact.Ready ∷ []) all_readies;
-    is = answer-run (λ c. once c (Change Answered.Prepared ∷ Record Fact.Ready ∷ []) all_readies) prepare_answered c e calls (prepare_answered-run c e);
-  };
-  read_only_answered = λ c e calls. record { steps = leaving c e; is = answer-run (λ c. leaving c e) read_only_answered c e calls (read_only_answered-run c e) };
-  single_phase_rejected = λ c e calls. record { steps = rejects_one_phase; is = answer-run (λ c. rejects_one_phase) single_phase_rejected c e calls (rejects_one_phase-run c e) };
-  commit_answered = λ c e calls. record { steps = commit_completes c.transaction.phase; is = answer-run (λ c. commit_completes c.transaction.phase) commit_answered c e calls (commit_completes-run c e) };
-  rollback_answered = λ c e calls. record { steps = rollback_completes; is = answer-run (λ c. rollback_completes) rollback_answered c e calls (rollback_completes-run c e) };
-  recovered = λ c e calls. record {
-    steps = recovering_in c.transaction.phase (is_superior e);
-    is = answer-run (λ c. recovering_in c.transaction.phase (is_superior e)) recovered c e calls (recovered-run c e);
-  };
-}
-
--- what holds of every run holds of every procedure
-pub of_runs : (R : Course → Course → Type 0) → ((c d : Course) → IsRun c d → R c d) → AreProcedures R
-of_runs R each = record {
-  committing = λ c. each c _ (runs_law.committing c);
-  aborting = λ c. each c _ (runs_law.aborting c);
-  all_ready = λ c. each c _ (runs_law.all_ready c);
-  to_prepare = λ c. each c _ (runs_law.to_prepare c);
-  pre_prepared = λ c. each c _ (runs_law.pre_prepared c);
-  to_pre_prepare = λ c. each c _ (runs_law.to_pre_prepare c);
-  to_commit = λ c. each c _ (runs_law.to_commit c);
-  pre_prepare_answered = λ c e calls. each c _ (runs_law.pre_prepare_answered c e calls);
-  prepare_answered = λ c e calls. each c _ (runs_law.prepare_answered c e calls);
-  read_only_answered = λ c e calls. each c _ (runs_law.read_only_answered c e calls);
-  single_phase_rejected = λ c e calls. each c _ (runs_law.single_phase_rejected c e calls);
-  commit_answered = λ c e calls. each c _ (runs_law.commit_answered c e calls);
-  rollback_answered = λ c e calls. each c _ (runs_law.rollback_answered c e calls);
-  recovered = λ c e calls. each c _ (runs_law.recovered c e calls);
 }
