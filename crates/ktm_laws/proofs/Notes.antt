@@ -213,7 +213,7 @@ module _ (x : Present) (sound : IsSoundCourse x) where
 
       come : ComeFrom x.recorded.boots x.transactions.items (changed_to x.transactions.items d.transaction)
       come = record {
-        each = λ u is. elim (IsIn-changed x.transactions.items d.transaction u sound.transactions_rise is) [
+        each = λ u is. elim (IsIn-changed x.transactions.items d.transaction u sound.transactions.rise is) [
           | inl e ↦ inl (t, there, sym says.id ∙ ap (λ (v : Transaction). v.id) (sym e))
           | inr old ↦ inl (u, old.0, refl)
         ];
@@ -258,11 +258,11 @@ module _ (x : Present) (sound : IsSoundCourse x) where
   only-one e t there own f same id named =
       let is : e ≡ f = same_Some e f same in
       let from = IsIn-unmap naming (f.id, id) x.transactions.enlistments named in
-      let one : from.0 ≡ e = same-by_id (λ (g : Enlistment). g.id) x.transactions.enlistments sound.enlistments_rise from.0 e from.2 there (ap (λ (p : Id × Id). p.0) from.1 ∙ ap (λ (g : Enlistment). g.id) (sym is)) in
+      let one : from.0 ≡ e = same-by_id (λ (g : Enlistment). g.id) x.transactions.enlistments sound.enlistments.rise from.0 e from.2 there (ap (λ (p : Id × Id). p.0) from.1 ∙ ap (λ (g : Enlistment). g.id) (sym is)) in
       sym (ap (λ (p : Id × Id). p.1) from.1) ∙ ap (λ (g : Enlistment). g.transaction) one ∙ sym own
 
   pub outcome-at : (t : Transaction) → IsIn t x.transactions.items → is_outcome_of t.phase t ≡ true
-  outcome-at t there = list_all-at (λ (t : Transaction). is_outcome_of t.phase t) x.transactions.items sound.outcomes t there
+  outcome-at t there = list_all-at (λ (t : Transaction). is_outcome_of t.phase t) x.transactions.items sound.transactions.outcomes t there
 
   -- a row says what is so, whoever makes the call
   pub says-of : (t : Transaction) (caller : Option Enlistment) (input : PhaseInput) → IsIn t x.transactions.items → Only names t.id caller → Says names t.id (led input (course_of x t caller))

@@ -550,10 +550,10 @@ silent-effect x process _ is = absurd (true≢false (sym is))
 -- an Id that was counted is one of the system
 counted-id : (x : Present) → IsSoundCourse x → (e : Enlistment) → IsIn e x.transactions.enlistments → IsId e.id
 counted-id x sound e there =
-    let parts = counted-parts x.recorded.boots x.transactions.last_enlistment e.id (list_all-at (λ (e : Enlistment). is_counted x.recorded.boots x.transactions.last_enlistment e.id) x.transactions.enlistments sound.enlistments_counted e there) in
+    let parts = counted-parts x.recorded.boots x.transactions.last_enlistment e.id (list_all-at (λ (e : Enlistment). is_counted x.recorded.boots x.transactions.last_enlistment e.id) x.transactions.enlistments sound.enlistments.counted e there) in
     let boots = leb-true _ _ parts.1 in
     let number = leb-true _ _ parts.3 in
-    let fits = sound.boots_fit in
+    let fits = sound.numbers.boots_fit in
     record { boot_from = leb-true _ _ parts.0; boot_fits = omega (arith, boots, fits); number_from = leb-true _ _ parts.2; number_fits = omega (arith, number) }
 
 -- two Ids with one GUID are one
@@ -591,7 +591,7 @@ module _ (x : Present) (sound : IsSoundCourse x) where
               let a_is : a ≡ truly.enlistment.id = same_Some a truly.enlistment.id (sym at ∙ truly.named) in
               let one : of.0.id ≡ truly.enlistment.id = guid-one ObjectKind.Enlistment x.recorded.image of.0.id truly.enlistment.id (counted-id x sound of.0 at'.0) (counted-id x sound truly.enlistment truly.enlisted)
               ((bytes_eq-Decides (guid_in x ObjectKind.Enlistment of.0.id) guid).0 at'.1 ∙ sym guids ∙ ap (guid_in x ObjectKind.Enlistment) a_is) in
-              let same : of.0 ≡ truly.enlistment = same-by_id (λ (e : Enlistment). e.id) x.transactions.enlistments sound.enlistments_rise of.0 truly.enlistment at'.0 truly.enlisted one in
+              let same : of.0 ≡ truly.enlistment = same-by_id (λ (e : Enlistment). e.id) x.transactions.enlistments sound.enlistments.rise of.0 truly.enlistment at'.0 truly.enlisted one in
               record { transaction = truly.transaction; there = truly.there; is = truly.own ∙ sym (ap (λ (e : Enlistment). e.transaction) same) ∙ same_Some of.0.transaction id of.2; outcome = truly.outcome }
 
   information-replies : (id : Option Id) → Replies x id (only_reply x (information_of x (option_and_then (transaction_at x.transactions.items) id)))
@@ -641,7 +641,7 @@ module _ (x : Present) (sound : IsSoundCourse x) where
               let on : (arrived x d (commit_reply d)).stops ≡ false = if_cases (λ (o : Outcome). o.stops ≡ false) (is_undecided d.transaction) _ _ (λ is. refl) (λ is. refl) in
               let items : (arrived x d (commit_reply d)).transactions.items ≡ changed_to x.transactions.items d.transaction =
               if_cases (λ (o : Outcome). o.transactions.items ≡ changed_to x.transactions.items d.transaction) (is_undecided d.transaction) _ _ (λ is. refl) (λ is. refl) in
-              let fits = list_all-at (λ (t : Transaction). is_outcome_of t.phase t) (arrived x d (commit_reply d)).transactions.items after'.outcomes d.transaction (subst (IsIn d.transaction) (sym items) there) in
+              let fits = list_all-at (λ (t : Transaction). is_outcome_of t.phase t) (arrived x d (commit_reply d)).transactions.items after'.transactions.outcomes d.transaction (subst (IsIn d.transaction) (sym items) there) in
               record {
                 told = λ id k same tells. subst (λ ts. HasOutcome ts id k) (sym items) (committed id k same (sym (ap told_of_named reply) ∙ tells) fits (cases_Bool (is_ended d.transaction.phase)));
                 noted = λ kind guid id k same tells found. absurd (no-note (commit_reply d) kind (Some guid) (plain (is_ended d.transaction.phase)) (sym reply ∙ same));

@@ -53,7 +53,7 @@ module _ (lists : ListsLaw) (x : Present) (course : IsSoundCourse x) (good : IsG
 
   -- what was recorded of it
   itself : (t : Transaction) → IsIn t x.transactions.items → (r : Recorded) → r.id ≡ t.id → (recalled : Recalls x r) → recalled.of ≡ t
-  itself t there r is recalled = same-by_id (λ (u : Transaction). u.id) x.transactions.items course.transactions_rise recalled.of t recalled.there there (ap (λ (s : Summary). s.id) recalled.is ∙ is)
+  itself t there r is recalled = same-by_id (λ (u : Transaction). u.id) x.transactions.items course.transactions.rise recalled.of t recalled.there there (ap (λ (s : Summary). s.id) recalled.is ∙ is)
 
   -- an enlistment whose readiness is recorded
   abbrev pub is_recorded_part : Id → Enlistment → Bool
@@ -198,7 +198,7 @@ module _ (lists : ListsLaw) (x : Present) (course : IsSoundCourse x) (good : IsG
     waits-there waits = IsIn-kept (λ (v : Transaction). is_undecided v && not (is_of v.id None)) x.transactions.items t there (and_from _ _ waits refl)
 
     rolls-undecided : can_roll_back t.phase ≡ true → is_undecided t ≡ true
-    rolls-undecided can = undecided-rolls t can (list_all-at (λ (t : Transaction). is_outcome_of t.phase t) x.transactions.items course.outcomes t there)
+    rolls-undecided can = undecided-rolls t can (list_all-at (λ (t : Transaction). is_outcome_of t.phase t) x.transactions.items course.transactions.outcomes t there)
 
     early-rolls : (phase : Phase) → stage_in phase ≡ Some Stage.Ready → can_roll_back phase ≡ true
     early-rolls Committing early = absurd (true≢false (ap is_decided (same_Some _ _ early)))

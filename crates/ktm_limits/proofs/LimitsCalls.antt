@@ -200,8 +200,8 @@ module _ (x : Present) (fits : Fits x) where
             | inl old ↦ list_any-from (λ t. is_live_in t e) x.transactions.items v.0 old v.2
             | inr (inl same) ↦
                 let own = and_parts (same_id e.transaction v.0.id) _ (and_parts (same_id e.transaction v.0.id && not (is_ended v.0.phase)) _ v.2).0 in
-                let w = list_any-at (λ (t : Transaction). same_id t.id e.transaction) x.transactions.items (list_all-at (λ (e : Enlistment). has_transaction x.transactions.items e.transaction) x.transactions.enlistments sound.transactions_there e there) in
-                let other = next-other x.recorded.boots x.transactions.last_transaction w.0.id (list_all-at (λ (t : Transaction). is_counted x.recorded.boots x.transactions.last_transaction t.id) x.transactions.items sound.transactions_counted w.0 w.1) in
+                let w = list_any-at (λ (t : Transaction). same_id t.id e.transaction) x.transactions.items (list_all-at (λ (e : Enlistment). has_transaction x.transactions.items e.transaction) x.transactions.enlistments sound.enlistments.transactions_there e there) in
+                let other = next-other x.recorded.boots x.transactions.last_transaction w.0.id (list_all-at (λ (t : Transaction). is_counted x.recorded.boots x.transactions.last_transaction t.id) x.transactions.items sound.transactions.counted w.0 w.1) in
                 absurd (true≢false (sym (same_id-from w.0.id new.id (same_id-equal w.0.id e.transaction w.2 ∙ same_id-equal e.transaction v.0.id own.0 ∙ ap (λ (t : Transaction). t.id) (sym same))) ∙ other))
             | inr (inr none) ↦ absurd none
           ]
@@ -325,7 +325,7 @@ going-live test going t = go t.phase
 
 module _ (lists : ListsLaw) (formed : FormedLaw) (x : Present) (course : IsSoundCourse x) (sound : IsSoundFiles x) (fits : Fits x) (fixed : AreFixed x.files.first_opens) where
   order : AreInOrder x
-  order = record { transactions_rise = course.transactions_rise; labels_differ = course.labels_differ }
+  order = record { transactions_rise = course.transactions.rise; labels_differ = course.handles.labels_differ }
 
   pub stays-spent : (o : Outcome) → Spends lists formed x o → Stays x o
   stays-spent o spends = record { fits = no_more-fits x (apply x o) (spends.less order sound fixed) fits; fixed = fixed-after lists formed x o spends.goes.opens }
@@ -333,7 +333,7 @@ module _ (lists : ListsLaw) (formed : FormedLaw) (x : Present) (course : IsSound
   stays-course : (t : Transaction) (caller : Option Enlistment) (input : PhaseInput) (reply : Course → Reply) → IsIn t x.transactions.items → is_live t ≡ true
       → Stays x (arrived x (led input (course_of x t caller)) (reply (led input (course_of x t caller))))
   stays-course t caller input reply there live =
-      stays-spent _ (course-spends lists formed x t caller input reply there (transaction_at-there x.transactions.items course.transactions_rise t there) live)
+      stays-spent _ (course-spends lists formed x t caller input reply there (transaction_at-there x.transactions.items course.transactions.rise t there) live)
 
   pub stays-commit : (t : Option Transaction) → ((u : Transaction) → t ≡ Some u → IsIn u x.transactions.items) → Passes (transaction_tests t) → Stays x (commit_of x t)
   stays-commit None there passes = stays-reply x fits Done
@@ -362,7 +362,7 @@ module _ (lists : ListsLaw) (formed : FormedLaw) (x : Present) (course : IsSound
   -- an enlistment is as the phase of its transaction asks
   as-asked : (e : Enlistment) → IsIn e x.transactions.enlistments → (t : Transaction) → IsIn t x.transactions.items → same_id e.transaction t.id ≡ true → is_enlistment_as t.phase e ≡ true
   as-asked e there t in_ts own =
-      let all = list_all-at (are_enlistments_as_asked x.transactions.enlistments) x.transactions.items course.enlistments t in_ts in
+      let all = list_all-at (are_enlistments_as_asked x.transactions.enlistments) x.transactions.items course.phases.enlistments t in_ts in
       elim (or_cases (not (same_id e.transaction t.id)) (is_enlistment_as t.phase e) (list_all-at (λ (e : Enlistment). not (same_id e.transaction t.id) || is_enlistment_as t.phase e) x.transactions.enlistments all e there)) [
         | inl other ↦ absurd (true≢false (sym own ∙ not-true _ other))
         | inr is ↦ is
@@ -384,7 +384,7 @@ module _ (lists : ListsLaw) (formed : FormedLaw) (x : Present) (course : IsSound
 
   -- one that is not recovered takes part, and has not finished
   unrecovered : (e : Enlistment) → IsIn e x.transactions.enlistments → e.is_recovered ≡ false → (e.is_read_only ≡ false) × (e.is_finished ≡ false)
-  unrecovered e there not' = elim (or_cases e.is_recovered _ (list_all-at (is_unrecovered_well x.recorded.boots x.managers) x.transactions.enlistments course.unrecovered e there)) [
+  unrecovered e there not' = elim (or_cases e.is_recovered _ (list_all-at (is_unrecovered_well x.recorded.boots x.managers) x.transactions.enlistments course.enlistments.unrecovered e there)) [
     | inl is ↦ absurd (true≢false (sym is ∙ not'))
     | inr back ↦
         let e' = and_parts _ (is_superior e || e.is_prepared) back in

@@ -317,7 +317,7 @@ module _ (agreeing : AgreeingLaw) (keeping : FilesKeptLaw) (lists : ListsLaw) (f
 
   module _ (o : Option Enlistment) (there : (e : Enlistment) → o ≡ Some e → IsIn e x.transactions.enlistments) where
     owing : (e : Enlistment) → o ≡ Some e → (t : Transaction) (caller : Option Enlistment) → IsIn t x.transactions.items → same_id e.transaction t.id ≡ true → (owed : Owed) → e.owes ≡ Some owed → answer_in t.phase ≡ Some owed
-    owing e is t caller at own owed owes = phase-owing x.recorded.boots (course_of x t caller) (stands-now x t caller kept.sound.course at) (brought-now x t caller kept.sound.course) kept.sound.course.enlistments_rise e (there e is) own owed owes
+    owing e is t caller at own owed owes = phase-owing x.recorded.boots (course_of x t caller) (stands-now x t caller kept.sound.course at) (brought-now x t caller kept.sound.course) kept.sound.course.enlistments.rise e (there e is) own owed owes
 
     pre_prepares : Passes (enlistment_tests o owes_pre_prepare) → Holds (answering x o (λ e. PhaseInput.PrePrepareComplete))
     pre_prepares tests = holds-answering lists x kept.sound.course kept.good kept.agrees kept.sound.files fits o (λ e. PhaseInput.PrePrepareComplete) (λ e is t found at own.
@@ -327,7 +327,7 @@ module _ (agreeing : AgreeingLaw) (keeping : FilesKeptLaw) (lists : ListsLaw) (f
     prepares tests = holds-answering lists x kept.sound.course kept.good kept.agrees kept.sound.files fits o (λ e. PhaseInput.PrepareComplete) (λ e is t found at own.
         let owes = enlistment-allowed o owes_prepare e is tests in
         let phase = is-preparing t.phase (owing e is t (Some e) at own Owed.Prepare (owed-prepare e owes)) in
-        let part = takes_part-owing x.recorded.boots (course_of x t (Some e)) (stands-now x t (Some e) kept.sound.course at) (brought-now x t (Some e) kept.sound.course) kept.sound.course.enlistments_rise e (there e is) own Owed.Prepare (owed-prepare e owes) in
+        let part = takes_part-owing x.recorded.boots (course_of x t (Some e)) (stands-now x t (Some e) kept.sound.course at) (brought-now x t (Some e) kept.sound.course) kept.sound.course.enlistments.rise e (there e is) own Owed.Prepare (owed-prepare e owes) in
         let stands = (stands-now x t (Some e) kept.sound.course at).stand.parts e (there e is) part in
         by (leads-prepare x kept.sound.course t at e (there e is) own owes) (elim (preparing-parts e (subst (λ p. is_part_as p e ≡ true) phase stands)) [
           | inl waits ↦ absurd (true≢false (sym (waiting-parts e waits).0 ∙ ap is_none (owed-prepare e owes)))
@@ -356,7 +356,7 @@ module _ (agreeing : AgreeingLaw) (keeping : FilesKeptLaw) (lists : ListsLaw) (f
         let waits = phase-passed x waits_for_superior e t found (superior-allowed x o waits_for_superior e is tests) in
         let held = waits-held t.phase waits in
         by (rows_law.commits (course_of x t (Some e))) (committing-events lists x kept.sound.course kept.good kept.agrees kept.sound.files fits t at (Some e)
-        (waits-recorded t.phase x.managers x.transactions.enlistments t.id t.is_recorded waits (list_all-at (is_recorded_as_asked x.managers x.transactions.enlistments) x.transactions.items kept.sound.course.recorded t at)) held.0 held.1))
+        (waits-recorded t.phase x.managers x.transactions.enlistments t.id t.is_recorded waits (list_all-at (is_recorded_as_asked x.managers x.transactions.enlistments) x.transactions.items kept.sound.course.phases.recorded t at)) held.0 held.1))
 
   aborts : (o : Option Enlistment) → Holds (answering x o (λ e. PhaseInput.Rollback))
   aborts o = holds-answering lists x kept.sound.course kept.good kept.agrees kept.sound.files fits o (λ e. PhaseInput.Rollback) (λ e is t found at own.

@@ -103,7 +103,7 @@ tick_decided j m ms events up standing holds =
     let x = now_of j (held m) in
     subst (λ o. Decides j (held m) o Done (Tick ms) events m) (sym (up_or x [] (tick x ms) up))
     (quiet_decided j (held m) m (tick x ms) Done (with_tick x ms) (Tick ms) events (forms_law.waits x ms (built x standing)) refl refl
-    ((kept x standing).sound.course.transactions_rise, (fits-within x (kept x standing).within).live) holds)
+    ((kept x standing).sound.course.transactions.rise, (fits-within x (kept x standing).within).live) holds)
 
 -- ---- CreateTransaction
 

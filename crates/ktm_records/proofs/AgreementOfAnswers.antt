@@ -134,7 +134,7 @@ module _ (x : Present) (sound : IsSoundCourse x) (files : IsSoundFiles x) (good 
 
   module _ (e : Enlistment) (in_es : IsIn e x.transactions.enlistments) (own : same_id e.transaction t.id ≡ true) where
     rises : RiseEnlistments c.enlistments
-    rises = sound.enlistments_rise
+    rises = sound.enlistments.rise
 
     brought : (g : Enlistment) → IsIn g c.enlistments → is_unrecovered_well boot c.managers g ≡ true
     brought = brought-now x t caller sound

@@ -126,8 +126,8 @@ module _ (x : Present) (sound : IsSoundCourse x) (agreed : Agreed x) where
         let c = course_of x t (Some e) in
         let stands = stands-now x t (Some e) sound at in
         let brought = brought-now x t (Some e) sound in
-        by _ _ (rows_law.rollback_completes (course_of x t (Some e)) e refl) (agreed-silent x t (Some e) (rollback_answered c e) Done sound agreed at (arrives-rollback_answered x.recorded.boots c stands brought sound.enlistments_rise e (there e is) own owes)
-        (silent-rollback_answered c e (is-aborting t.phase (phase-owing x.recorded.boots c stands brought sound.enlistments_rise e (there e is) own Owed.Rollback (owed-rollback e owes))))))
+        by _ _ (rows_law.rollback_completes (course_of x t (Some e)) e refl) (agreed-silent x t (Some e) (rollback_answered c e) Done sound agreed at (arrives-rollback_answered x.recorded.boots c stands brought sound.enlistments.rise e (there e is) own owes)
+        (silent-rollback_answered c e (is-aborting t.phase (phase-owing x.recorded.boots c stands brought sound.enlistments.rise e (there e is) own Owed.Rollback (owed-rollback e owes))))))
 
     rejected : Passes (enlistment_tests o (may_reject_one_phase x)) → Agreed (apply x (answering x o (λ e. PhaseInput.SinglePhaseReject)))
     rejected tests = answers o (λ e. PhaseInput.SinglePhaseReject) (λ e is t at own found.
@@ -135,15 +135,15 @@ module _ (x : Present) (sound : IsSoundCourse x) (agreed : Agreed x) where
         let single = single-phase t.phase (phase-passed x is_single_phase e t found both.0) in
         let c = course_of x t (Some e) in
         by _ _ (rows_law.rejects_one_phase (course_of x t (Some e)) e refl) (agreed-silent x t (Some e) (single_phase_rejected c e) Done sound agreed at
-        (arrives-single_phase_rejected x.recorded.boots c (stands-now x t (Some e) sound at) (brought-now x t (Some e) sound) sound.enlistments_rise e (there e is) own single both.1)
+        (arrives-single_phase_rejected x.recorded.boots c (stands-now x t (Some e) sound at) (brought-now x t (Some e) sound) sound.enlistments.rise e (there e is) own single both.1)
         (silent-single_phase_rejected c e (not-true _ (subst (λ phase. is_recorded_as phase x.managers x.transactions.enlistments t.id t.is_recorded ≡ true) single
-        (list_all-at (λ t. is_recorded_as t.phase x.managers x.transactions.enlistments t.id t.is_recorded) x.transactions.items sound.recorded t at))))))
+        (list_all-at (λ t. is_recorded_as t.phase x.managers x.transactions.enlistments t.id t.is_recorded) x.transactions.items sound.phases.recorded t at))))))
 
     recovers : Passes (enlistment_tests o (may_recover x)) → Agreed (apply x (answering x o recovery_of))
     recovers tests = answers o recovery_of (λ e is t at own found.
         let c = course_of x t (Some e) in
         by _ _ (rows_law.recovers c e refl) (agreed-silent x t (Some e) (recovered c e) Done sound agreed at
-        (arrives-recovered x.recorded.boots c (stands-now x t (Some e) sound at) (brought-now x t (Some e) sound) sound.enlistments_rise e (there e is) own
+        (arrives-recovered x.recorded.boots c (stands-now x t (Some e) sound at) (brought-now x t (Some e) sound) sound.enlistments.rise e (there e is) own
         (not-true _ (and_parts (not e.is_recovered) _ (enlistment-allowed o (may_recover x) e is tests)).0))
         (silent-recovered c e)))
 
@@ -220,7 +220,7 @@ module _ (x : Present) (sound : IsSoundCourse x) (agreed : Agreed x) where
       pre-prepared tests = goes o (λ e. PhaseInput.PrePrepareComplete) pre_prepare_answered (λ e is t at own found.
           let owes = enlistment-allowed o owes_pre_prepare e is tests in (
             leads-pre_prepare x sound t at e (there e is) own owes,
-            arrives-pre_prepare_answered x.recorded.boots (course_of x t (Some e)) (stands-now x t (Some e) sound at) (brought-now x t (Some e) sound) sound.enlistments_rise e (there e is) own owes,
+            arrives-pre_prepare_answered x.recorded.boots (course_of x t (Some e)) (stands-now x t (Some e) sound at) (brought-now x t (Some e) sound) sound.enlistments.rise e (there e is) own owes,
             follows-pre_prepare_answered x sound sound_files good agreed t at (Some e) e (there e is) own owes,
           ))
 
@@ -228,7 +228,7 @@ module _ (x : Present) (sound : IsSoundCourse x) (agreed : Agreed x) where
       prepared tests = goes o (λ e. PhaseInput.PrepareComplete) prepare_answered (λ e is t at own found.
           let owes = enlistment-allowed o owes_prepare e is tests in (
             leads-prepare x sound t at e (there e is) own owes,
-            arrives-prepare_answered x.recorded.boots (course_of x t (Some e)) (stands-now x t (Some e) sound at) (brought-now x t (Some e) sound) sound.enlistments_rise e (there e is) own owes,
+            arrives-prepare_answered x.recorded.boots (course_of x t (Some e)) (stands-now x t (Some e) sound at) (brought-now x t (Some e) sound) sound.enlistments.rise e (there e is) own owes,
             follows-prepare_answered x sound sound_files good agreed t at (Some e) e (there e is) own owes,
           ))
 
@@ -238,7 +238,7 @@ module _ (x : Present) (sound : IsSoundCourse x) (agreed : Agreed x) where
           let both = and_parts (not (is_superior e)) (is_open_for_votes e) phase.0 in
           let voting = phase-passed x is_voting e t found phase.1 in (
             leads-read_only x sound t at e (there e is) own (not-true _ both.0) (not-true _ (and_parts (not e.is_read_only) (not e.is_prepared) both.1).0),
-            arrives-read_only_answered x.recorded.boots (course_of x t (Some e)) (stands-now x t (Some e) sound at) (brought-now x t (Some e) sound) sound.enlistments_rise e (there e is) own (not-true _ both.0) both.1 voting,
+            arrives-read_only_answered x.recorded.boots (course_of x t (Some e)) (stands-now x t (Some e) sound at) (brought-now x t (Some e) sound) sound.enlistments.rise e (there e is) own (not-true _ both.0) both.1 voting,
             follows-read_only_answered x sound sound_files good agreed t at (Some e) e (there e is) own (not-true _ both.0) both.1 voting,
           ))
 
@@ -246,7 +246,7 @@ module _ (x : Present) (sound : IsSoundCourse x) (agreed : Agreed x) where
       committed tests = goes o (λ e. PhaseInput.CommitComplete) commit_answered (λ e is t at own found.
           let owes = enlistment-allowed o owes_commit e is tests in (
             rows_law.commit_completes (course_of x t (Some e)) e refl,
-            arrives-commit_answered x.recorded.boots (course_of x t (Some e)) (stands-now x t (Some e) sound at) (brought-now x t (Some e) sound) sound.enlistments_rise e (there e is) own owes,
+            arrives-commit_answered x.recorded.boots (course_of x t (Some e)) (stands-now x t (Some e) sound at) (brought-now x t (Some e) sound) sound.enlistments.rise e (there e is) own owes,
             follows-commit_answered x sound sound_files good agreed t at (Some e) e (there e is) own owes,
           ))
 
@@ -286,7 +286,7 @@ module _ (x : Present) (sound : IsSoundCourse x) (agreed : Agreed x) where
             rows_law.commits (course_of x t (Some e)),
             commits-waiting x sound t at (Some e) t.phase refl waits,
             follows-decision x sound sound_files good agreed t at (Some e) held.0
-                (held.1 t.id t.is_recorded (list_all-at (λ t. is_recorded_as t.phase x.managers x.transactions.enlistments t.id t.is_recorded) x.transactions.items sound.recorded t at)),
+                (held.1 t.id t.is_recorded (list_all-at (λ t. is_recorded_as t.phase x.managers x.transactions.enlistments t.id t.is_recorded) x.transactions.items sound.phases.recorded t at)),
           ))
         where
           held-in : (phase : Phase) → waits_for_superior phase ≡ true → (stage_in phase ≡ Some Stage.Held) × ((id : Id) (recorded : Bool) → is_recorded_as phase x.managers x.transactions.enlistments id recorded ≡ true → recorded ≡ true)

@@ -124,7 +124,7 @@ module _ (x : Present) (sound : IsSoundCourse x) (files : IsSoundFiles x) (good 
 
   module _ (e : Enlistment) (in_es : IsIn e x.transactions.enlistments) (own : same_id e.transaction t.id ≡ true) (owes : owes_commit e ≡ true) where
     rises : RiseEnlistments c.enlistments
-    rises = sound.enlistments_rise
+    rises = sound.enlistments.rise
 
     stands : Stands boot c
     stands = stands-now x t caller sound there

@@ -92,7 +92,7 @@ module _ (x : Present) (kept : IsKept x) where
     stands = stands-now x t caller kept.sound.course there
 
     is-recorded : is_recorded_as t.phase x.managers x.transactions.enlistments t.id t.is_recorded ≡ true
-    is-recorded = list_all-at (λ t. is_recorded_as t.phase x.managers x.transactions.enlistments t.id t.is_recorded) x.transactions.items kept.sound.course.recorded t there
+    is-recorded = list_all-at (λ t. is_recorded_as t.phase x.managers x.transactions.enlistments t.id t.is_recorded) x.transactions.items kept.sound.course.phases.recorded t there
 
     module _ (is : stage_in t.phase ≡ Some Stage.Ready) where
       here : nat_lt t.id.boot x.recorded.boots ≡ false
@@ -154,7 +154,7 @@ module _ (x : Present) (kept : IsKept x) where
     pub facts-pre_prepare_complete : Passes (enlistment_tests o owes_pre_prepare) → FactsOf x (answering x o (λ e. PhaseInput.PrePrepareComplete))
     facts-pre_prepare_complete tests = answers o (λ e. PhaseInput.PrePrepareComplete) (λ e is t at own found.
         let owes = enlistment-allowed o owes_pre_prepare e is tests in
-        let phase = is-pre_preparing t.phase (phase-owing x.recorded.boots (course_of x t (Some e)) (stands t at (Some e)) (brought-now x t (Some e) kept.sound.course) kept.sound.course.enlistments_rise e (in_es e is) own Owed.PrePrepare (owed-pre_prepare e owes)) in
+        let phase = is-pre_preparing t.phase (phase-owing x.recorded.boots (course_of x t (Some e)) (stands t at (Some e)) (brought-now x t (Some e) kept.sound.course) kept.sound.course.enlistments.rise e (in_es e is) own Owed.PrePrepare (owed-pre_prepare e owes)) in
         let early = subst Early (sym phase) early-pre_preparing in
         by (leads-pre_prepare x kept.sound.course t at e (in_es e is) own owes) (facts-pre_prepare_answered x.recorded (course_of x t (Some e)) e (is-early t at (Some e) early) (is-unrecorded t at (Some e) early)))
 
@@ -163,7 +163,7 @@ module _ (x : Present) (kept : IsKept x) where
         let owes = enlistment-allowed o owes_prepare e is tests in
         let c = course_of x t (Some e) in
         let brought = brought-now x t (Some e) kept.sound.course in
-        let rise = kept.sound.course.enlistments_rise in
+        let rise = kept.sound.course.enlistments.rise in
         let phase = phase_preparing x.recorded.boots c (stands t at (Some e)) brought rise e (in_es e is) own owes in
         let part = part_preparing x.recorded.boots c (stands t at (Some e)) brought rise e (in_es e is) own owes in
         let ready : stage_in t.phase ≡ Some Stage.Ready = ap stage_in phase in
@@ -184,7 +184,7 @@ module _ (x : Present) (kept : IsKept x) where
     facts-commit_complete tests = answers o (λ e. PhaseInput.CommitComplete) (λ e is t at own found.
         let c = course_of x t (Some e) in
         let brought = brought-now x t (Some e) kept.sound.course in
-        let rise = kept.sound.course.enlistments_rise in
+        let rise = kept.sound.course.enlistments.rise in
         let owed = owed-commit e (enlistment-allowed o owes_commit e is tests) in
         let part = takes_part-owing x.recorded.boots c (stands t at (Some e)) brought rise e (in_es e is) own Owed.Commit owed in
         by (rows_law.commit_completes (course_of x t (Some e)) e refl) (facts-commit_answered x.recorded c e refl (λ several durable. elim (is-committing t.phase (phase-owing x.recorded.boots c (stands t at (Some e)) brought rise e (in_es e is) own Owed.Commit owed)) [

@@ -59,7 +59,7 @@ module _ (x : Present) (t : Transaction) (caller : Option Enlistment) (sound : I
   c = course_of x t caller
 
   at : Waits t.phase
-  at = waits t undecided t.phase (list_all-at (λ t. is_outcome_of t.phase t) x.transactions.items sound.outcomes t there)
+  at = waits t undecided t.phase (list_all-at (λ t. is_outcome_of t.phase t) x.transactions.items sound.transactions.outcomes t there)
 
   one : (stage : Stage) → is_decided stage ≡ false → course_in c (Some stage) ≡ course_now c stage ∷ []
   one Stage.Ready is = refl

@@ -56,7 +56,7 @@ module _ (x : Present) (sound : IsSoundCourse x) (agrees : Agrees x) (t : Transa
       (and_from _ _ (same_id-from r.0.id t.id (ap (λ (s : Summary). s.id) r.1)) (not_from_false _ (ap (λ (s : Summary). is_decided s.stage) r.1 ∙ at.waiting))))
     where
       at : Waits t.phase
-      at = waits t undecided t.phase (list_all-at (λ t. is_outcome_of t.phase t) x.transactions.items sound.outcomes t there)
+      at = waits t undecided t.phase (list_all-at (λ t. is_outcome_of t.phase t) x.transactions.items sound.transactions.outcomes t there)
 
       stays-in : (stage : Stage) → is_decided stage ≡ false → stays (summary_now x t stage) ≡ true
       stays-in Stage.Ready is = refl
@@ -64,7 +64,7 @@ module _ (x : Present) (sound : IsSoundCourse x) (agrees : Agrees x) (t : Transa
       stays-in Stage.Decided is = absurd (true≢false is)
 
   pub facts-aborted_by : can_roll_back t.phase ≡ true → (caller : Option Enlistment) (reply : Reply) → FactsOf x (aborted_by x t caller reply)
-  facts-aborted_by can = undo-fact (undecided-rolls t can (list_all-at (λ t. is_outcome_of t.phase t) x.transactions.items sound.outcomes t there))
+  facts-aborted_by can = undo-fact (undecided-rolls t can (list_all-at (λ t. is_outcome_of t.phase t) x.transactions.items sound.transactions.outcomes t there))
 
 -- ---- several, one after another
 

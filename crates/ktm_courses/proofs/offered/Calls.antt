@@ -223,36 +223,36 @@ module _ (x : Present) (sound : IsSoundCourse x) (e : Enlistment) (in_es : IsIn 
 
   pre_prepares : owes_pre_prepare e ≡ true → Goes n c_by (led PhaseInput.PrePrepareComplete c_by)
   pre_prepares owes = subst (Goes n c_by) (sym (leads-pre_prepare x sound t there e in_es own owes))
-      (goes-undecided n c_by (pre_prepare_answered c_by e) (arrives-pre_prepare_answered n c_by stands_by brought sound.enlistments_rise e in_es own owes) (undecided-pre_prepare n c_by stands_by brought sound.enlistments_rise e in_es own owes))
+      (goes-undecided n c_by (pre_prepare_answered c_by e) (arrives-pre_prepare_answered n c_by stands_by brought sound.enlistments.rise e in_es own owes) (undecided-pre_prepare n c_by stands_by brought sound.enlistments.rise e in_es own owes))
 
   prepares : owes_prepare e ≡ true → Goes n c_by (led PhaseInput.PrepareComplete c_by)
   prepares owes = subst (Goes n c_by) (sym (leads-prepare x sound t there e in_es own owes))
-      (goes-undecided n c_by (prepare_answered c_by e) (arrives-prepare_answered n c_by stands_by brought sound.enlistments_rise e in_es own owes) (undecided-prepare n c_by stands_by brought sound.enlistments_rise e in_es own owes))
+      (goes-undecided n c_by (prepare_answered c_by e) (arrives-prepare_answered n c_by stands_by brought sound.enlistments.rise e in_es own owes) (undecided-prepare n c_by stands_by brought sound.enlistments.rise e in_es own owes))
 
   reads_only : is_superior e ≡ false → is_open_for_votes e ≡ true → is_voting t.phase ≡ true → Goes n c_by (led (PhaseInput.ReadOnly (share_of e)) c_by)
   reads_only ordinary votes voting = goes _ (read_only_answered c_by e) (leads-read_only x sound t there e in_es own ordinary (not-true _ (and_parts (not e.is_read_only) (not e.is_prepared) votes).0))
-      (arrives-read_only_answered n c_by stands_by brought sound.enlistments_rise e in_es own ordinary votes voting) (voting-rolls t.phase voting)
+      (arrives-read_only_answered n c_by stands_by brought sound.enlistments.rise e in_es own ordinary votes voting) (voting-rolls t.phase voting)
 
   commits : owes_commit e ≡ true → Goes n c_by (led PhaseInput.CommitComplete c_by)
   commits owes = subst (Goes n c_by) (sym (rows_law.commit_completes c_by e refl)) (record {
-    arrives = arrives-commit_answered n c_by stands_by brought sound.enlistments_rise e in_es own owes;
-    known = known-commit_answered n c_by stands_by brought sound.enlistments_rise e in_es own owes;
+    arrives = arrives-commit_answered n c_by stands_by brought sound.enlistments.rise e in_es own owes;
+    known = known-commit_answered n c_by stands_by brought sound.enlistments.rise e in_es own owes;
   })
 
   rolls_back : owes_rollback e ≡ true → Goes n c_by (led PhaseInput.RollbackComplete c_by)
   rolls_back owes = subst (Goes n c_by) (sym (rows_law.rollback_completes c_by e refl)) (record {
-    arrives = arrives-rollback_answered n c_by stands_by brought sound.enlistments_rise e in_es own owes;
-    known = λ is_known. known-rollback_answered n c_by stands_by brought sound.enlistments_rise e in_es own owes;
+    arrives = arrives-rollback_answered n c_by stands_by brought sound.enlistments.rise e in_es own owes;
+    known = λ is_known. known-rollback_answered n c_by stands_by brought sound.enlistments.rise e in_es own owes;
   })
 
   rejects : t.phase ≡ SinglePhase → owes_commit e ≡ true → Goes n c_by (led PhaseInput.SinglePhaseReject c_by)
   rejects single owes = goes _ (single_phase_rejected c_by e) (rows_law.rejects_one_phase c_by e refl)
-      (arrives-single_phase_rejected n c_by stands_by brought sound.enlistments_rise e in_es own single owes) (subst (λ p. can_roll_back p ≡ true) (sym single) refl)
+      (arrives-single_phase_rejected n c_by stands_by brought sound.enlistments.rise e in_es own single owes) (subst (λ p. can_roll_back p ≡ true) (sym single) refl)
 
   recovers : e.is_recovered ≡ false → Goes n c_by (led (recovery_of e) c_by)
   recovers back = subst (Goes n c_by) (sym (rows_law.recovers c_by e refl)) (record {
-    arrives = arrives-recovered n c_by stands_by brought sound.enlistments_rise e in_es own back;
-    known = λ is_known. known-recovered n c_by stands_by brought sound.enlistments_rise e in_es own;
+    arrives = arrives-recovered n c_by stands_by brought sound.enlistments.rise e in_es own back;
+    known = λ is_known. known-recovered n c_by stands_by brought sound.enlistments.rise e in_es own;
   })
 
 module _ (x : Present) (sound : IsSoundCourse x) (o : Option Enlistment) (there : (e : Enlistment) → o ≡ Some e → IsIn e (x.transactions).enlistments) where

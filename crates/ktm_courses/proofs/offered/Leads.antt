@@ -76,8 +76,8 @@ module _ (x : Present) (sound : IsSoundCourse x) (t : Transaction) (there : IsIn
   c = course_of x t (Some e)
 
   part-owing : (owed : Owed) → e.owes ≡ Some owed → IsPart c e
-  part-owing owed owes = is-part c e sound.enlistments_rise in_es
-      (takes_part-owing x.recorded.boots c (stands-now x t (Some e) sound there) (brought-now x t (Some e) sound) sound.enlistments_rise e in_es own owed owes)
+  part-owing owed owes = is-part c e sound.enlistments.rise in_es
+      (takes_part-owing x.recorded.boots c (stands-now x t (Some e) sound there) (brought-now x t (Some e) sound) sound.enlistments.rise e in_es own owed owes)
 
   pub leads-pre_prepare : owes_pre_prepare e ≡ true → led PhaseInput.PrePrepareComplete c ≡ pre_prepare_answered c e
   leads-pre_prepare owes = let owed = owed-pre_prepare e owes in rows_law.pre_prepare_completes c e refl (part-owing Owed.PrePrepare owed) (ap is_some owed)
@@ -86,4 +86,4 @@ module _ (x : Present) (sound : IsSoundCourse x) (t : Transaction) (there : IsIn
   leads-prepare owes = let owed = owed-prepare e owes in rows_law.prepare_completes c e refl (part-owing Owed.Prepare owed) (ap is_some owed)
 
   pub leads-read_only : is_superior e ≡ false → e.is_read_only ≡ false → led (PhaseInput.ReadOnly (share_of e)) c ≡ read_only_answered c e
-  leads-read_only ordinary votes = rows_law.read_onlies c e refl (is-part c e sound.enlistments_rise in_es (and_from _ _ (and_from _ _ own (not_from_false _ ordinary)) (not_from_false _ votes)))
+  leads-read_only ordinary votes = rows_law.read_onlies c e refl (is-part c e sound.enlistments.rise in_es (and_from _ _ (and_from _ _ own (not_from_false _ ordinary)) (not_from_false _ votes)))

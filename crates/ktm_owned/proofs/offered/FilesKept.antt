@@ -193,7 +193,7 @@ module _ (lists : ListsLaw) (formed : FormedLaw) where
       go (Some t) found =
           let there = transaction_at-found x.transactions.items (new_id x x.transactions.last_transaction) t found in
           absurd (before_other t.id (new_id x x.transactions.last_transaction) (counted-before x.recorded.boots x.transactions.last_transaction t.id
-          (list_all-at (λ (t : Transaction). is_counted x.recorded.boots x.transactions.last_transaction t.id) x.transactions.items course.transactions_counted t there.0)) there.1)
+          (list_all-at (λ (t : Transaction). is_counted x.recorded.boots x.transactions.last_transaction t.id) x.transactions.items course.transactions.counted t there.0)) there.1)
 
   -- the tests of a command on a machine that is up
   pub up-passes : (x : Present) (process : Pid) (command : Command) → refusal_of x process command ≡ None → Passes (command_tests x process command)
@@ -289,7 +289,7 @@ module _ (lists : ListsLaw) (formed : FormedLaw) where
       go false = keeps
 
   order-of : (x : Present) → IsSoundCourse x → AreInOrder x
-  order-of x course = record { transactions_rise = course.transactions_rise; labels_differ = course.labels_differ }
+  order-of x course = record { transactions_rise = course.transactions.rise; labels_differ = course.handles.labels_differ }
 
   pub files_kept_law : FilesKeptLaw
   files_kept_law = record {

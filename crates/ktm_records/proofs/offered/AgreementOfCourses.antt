@@ -186,7 +186,7 @@ summary-none None all = refl
 summary-none (Some r) all = absurd (some-not_none (summary_of r) [] all)
 
 pub placed-at : (x : Present) → IsSoundCourse x → (t : Transaction) → IsIn t x.transactions.items → Place x.transactions.items t
-placed-at x sound t there = place x.transactions.items t sound.transactions_rise there
+placed-at x sound t there = place x.transactions.items t sound.transactions.rise there
 
 pub was : (x : Present) (sound : IsSoundCourse x) (t : Transaction) (there : IsIn t x.transactions.items) → Agrees x → Was x t (placed-at x sound t there)
 was x sound t there agrees = go (one-there own.0 (summaries x t) own.3 (summaries-one x t))
