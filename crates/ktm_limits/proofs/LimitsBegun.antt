@@ -25,7 +25,7 @@ use Rattle.ktm_world.specs.Present.{Present}
 use Rattle.ktm_world.specs.Steps.{led}
 use Rattle.ktm_world.specs.TransactionCalls.{arrived, course_of, goes_on, answering, transaction_in}
 use Rattle.ktm_world.specs.Transactions.{is_live, is_of, is_undecided, same_id}
-use Rattle.ktm_steps.specs.Procedures.{commit_answered, committing, finished, pre_prepare_answered, prepare_answered, read_only_answered, to_commit, to_pre_prepare, to_prepare}
+use Rattle.ktm_steps.specs.Procedures.{commit_answered, committing, finished, pre_prepare_answered, prepare_answered, read_only_answered}
 use Rattle.std.specs.List.{list_any}
 use Rattle.txf_laws.specs.Elements.{IsIn}
 use Rattle.txf_laws.specs.Footprint.{ListsLaw}
@@ -219,13 +219,13 @@ module _ (lists : ListsLaw) (x : Present) (course : IsSoundCourse x) (good : IsG
       few : Few lists x agrees sound fits t there live (recorded_parts t.id) 0
       few = record { parts = parts-live t there live; above = omega arith }
 
-      pub to_commit-events : limits_hold x.recorded (to_commit (course_of x t caller)).events ≡ true
+      pub to_commit-events : limits_hold x.recorded (led PhaseInput.CommitTransaction (course_of x t caller)).events ≡ true
       to_commit-events = holds-to_commit lists x agrees sound fits t there live there' (course_of x t caller) (recorded_parts t.id) going few
 
-      pub to_pre_prepare-events : limits_hold x.recorded (to_pre_prepare (course_of x t caller)).events ≡ true
+      pub to_pre_prepare-events : limits_hold x.recorded (led PhaseInput.PrePrepare (course_of x t caller)).events ≡ true
       to_pre_prepare-events = holds-to_pre_prepare lists x agrees sound fits t there live there' (course_of x t caller) (recorded_parts t.id) going few
 
-      pub to_prepare-events : limits_hold x.recorded (to_prepare (course_of x t caller)).events ≡ true
+      pub to_prepare-events : limits_hold x.recorded (led PhaseInput.Prepare (course_of x t caller)).events ≡ true
       to_prepare-events = holds-to_prepare lists x agrees sound fits t there live there' (course_of x t caller) (recorded_parts t.id) going few
 
       pub pre_prepare_answered-events : (e : Enlistment) → limits_hold x.recorded (pre_prepare_answered (course_of x t caller) e).events ≡ true

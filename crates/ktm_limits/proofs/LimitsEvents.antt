@@ -304,7 +304,7 @@ module _ (agreeing : AgreeingLaw) (keeping : FilesKeptLaw) (lists : ListsLaw) (f
   commits None there passes = refl
   commits (Some t) there passes =
       let active = active-phase t (not-not (is_active t) (passed (passed (passed (passed passes).1).1).1).0) in
-      holds-arrived lists x kept.sound.course kept.good kept.agrees kept.sound.files fits (led PhaseInput.CommitTransaction (course_of x t None)) (commit_reply (led PhaseInput.CommitTransaction (course_of x t None))) (by (rows_law.requests (course_of x t None)) (to_commit-events lists x kept.sound.course kept.good kept.agrees kept.sound.files fits t (there t refl) None (ap stage_in active)))
+      holds-arrived lists x kept.sound.course kept.good kept.agrees kept.sound.files fits (led PhaseInput.CommitTransaction (course_of x t None)) (commit_reply (led PhaseInput.CommitTransaction (course_of x t None))) (to_commit-events lists x kept.sound.course kept.good kept.agrees kept.sound.files fits t (there t refl) None (ap stage_in active))
 
   rolls_back : (t : Option Transaction) → Holds (rollback_of x t)
   rolls_back None = refl
@@ -345,11 +345,11 @@ module _ (agreeing : AgreeingLaw) (keeping : FilesKeptLaw) (lists : ListsLaw) (f
 
     asks_pre_prepare : Passes (superior_tests x o before_pre_prepare) → Holds (answering x o (λ e. PhaseInput.PrePrepare))
     asks_pre_prepare tests = holds-answering lists x kept.sound.course kept.good kept.agrees kept.sound.files fits o (λ e. PhaseInput.PrePrepare) (λ e is t found at own.
-        by (rows_law.pre_prepares (course_of x t (Some e))) (to_pre_prepare-events lists x kept.sound.course kept.good kept.agrees kept.sound.files fits t at (Some e) (pre_prepare-early t.phase (phase-passed x before_pre_prepare e t found (superior-allowed x o before_pre_prepare e is tests)))))
+        to_pre_prepare-events lists x kept.sound.course kept.good kept.agrees kept.sound.files fits t at (Some e) (pre_prepare-early t.phase (phase-passed x before_pre_prepare e t found (superior-allowed x o before_pre_prepare e is tests))))
 
     asks_prepare : Passes (superior_tests x o before_prepare) → Holds (answering x o (λ e. PhaseInput.Prepare))
     asks_prepare tests = holds-answering lists x kept.sound.course kept.good kept.agrees kept.sound.files fits o (λ e. PhaseInput.Prepare) (λ e is t found at own.
-        by (rows_law.prepares (course_of x t (Some e))) (to_prepare-events lists x kept.sound.course kept.good kept.agrees kept.sound.files fits t at (Some e) (prepare-early t.phase (phase-passed x before_prepare e t found (superior-allowed x o before_prepare e is tests)))))
+        to_prepare-events lists x kept.sound.course kept.good kept.agrees kept.sound.files fits t at (Some e) (prepare-early t.phase (phase-passed x before_prepare e t found (superior-allowed x o before_prepare e is tests))))
 
     decides : Passes (superior_tests x o waits_for_superior) → Holds (answering x o (λ e. PhaseInput.Commit))
     decides tests = holds-answering lists x kept.sound.course kept.good kept.agrees kept.sound.files fits o (λ e. PhaseInput.Commit) (λ e is t found at own.

@@ -36,7 +36,7 @@ use Rattle.ktm_world.specs.TransactionCalls.{answering, arrived, commit_enlistme
 use Rattle.ktm_world.specs.Transactions.{same_id}
 use Rattle.ktm_world.specs.World.{decide_tick, present}
 use Rattle.ktm_steps.proofs.offered.Table.{rows_law}
-use Rattle.ktm_steps.specs.Procedures.{committing, recovered, rollback_answered, single_phase_rejected, commit_answered, pre_prepare_answered, prepare_answered, read_only_answered, to_commit, to_pre_prepare, to_prepare}
+use Rattle.ktm_steps.specs.Procedures.{committing, recovered, rollback_answered, single_phase_rejected, commit_answered, pre_prepare_answered, prepare_answered, read_only_answered}
 use Rattle.ktm_records.specs.Agreement.{AgreeingLaw}
 use Rattle.txf_laws.specs.Elements.{IsIn}
 use Rattle.ktm_states.specs.GoodState.{IsGoodState}
@@ -202,8 +202,8 @@ module _ (x : Present) (sound : IsSoundCourse x) (agreed : Agreed x) where
         let is = active-phase t (not-not _ active.0) in
         let c = course_of x t None in
         let arrives = arrives-to_commit x.recorded.boots c (fresh-active x sound t at None is) in
-        subst (λ d. Agreed (apply x (arrived x d (commit_reply d)))) (sym (rows_law.requests c)) (agreed-arrived x sound agreed t at None (to_commit c) arrives.moved (commit_reply (to_commit c)) arrives.stands.outcome
-        (follows-commit x sound sound_files good agreed t at None (ap is_voting is) (ap is_preparing is)))
+        agreed-arrived x sound agreed t at None (led PhaseInput.CommitTransaction c) arrives.moved (commit_reply (led PhaseInput.CommitTransaction c)) arrives.stands.outcome
+        (follows-commit x sound sound_files good agreed t at None (ap is_voting is) (ap is_preparing is))
 
     -- the transaction of an enlistment goes on by what comes from it, as this procedure, to where it is sound and agrees
     goes : (o : Option Enlistment) (input : Enlistment → PhaseInput) (step : Course → Enlistment → Course)
@@ -251,10 +251,10 @@ module _ (x : Present) (sound : IsSoundCourse x) (agreed : Agreed x) where
           ))
 
       pre-prepares : Passes (superior_tests x o before_pre_prepare) → Agreed (apply x (answering x o (λ e. PhaseInput.PrePrepare)))
-      pre-prepares tests = goes o (λ e. PhaseInput.PrePrepare) (λ c e. to_pre_prepare c) (λ e is t at own found.
+      pre-prepares tests = goes o (λ e. PhaseInput.PrePrepare) (λ c e. led PhaseInput.PrePrepare c) (λ e is t at own found.
           let early = phase-passed x before_pre_prepare e t found (superior-allowed x o before_pre_prepare e is tests) in
           let votes = before t.phase early in (
-            rows_law.pre_prepares (course_of x t (Some e)),
+            refl,
             arrives-to_pre_prepare x.recorded.boots (course_of x t (Some e)) (fresh-before_pre_prepare x sound t at (Some e) t.phase refl early),
             follows-pre_prepare x sound sound_files good agreed t at (Some e) votes.0 votes.1,
           ))
@@ -265,10 +265,10 @@ module _ (x : Present) (sound : IsSoundCourse x) (agreed : Agreed x) where
           before _ early = absurd (true≢false (sym early))
 
       prepares : Passes (superior_tests x o before_prepare) → Agreed (apply x (answering x o (λ e. PhaseInput.Prepare)))
-      prepares tests = goes o (λ e. PhaseInput.Prepare) (λ c e. to_prepare c) (λ e is t at own found.
+      prepares tests = goes o (λ e. PhaseInput.Prepare) (λ c e. led PhaseInput.Prepare c) (λ e is t at own found.
           let early = phase-passed x before_prepare e t found (superior-allowed x o before_prepare e is tests) in
           let votes = before t.phase early in (
-            rows_law.prepares (course_of x t (Some e)),
+            refl,
             arrives-to_prepare x.recorded.boots (course_of x t (Some e)) (fresh-before_prepare x sound t at (Some e) t.phase refl early),
             follows-prepare x sound sound_files good agreed t at (Some e) votes.0 votes.1,
           ))

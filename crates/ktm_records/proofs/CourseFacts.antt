@@ -128,7 +128,7 @@ module _ (x : Present) (kept : IsKept x) where
       let here = passed tests in let committed = passed here.1 in let aborted = passed committed.1 in let active = passed aborted.1 in
       let early = subst Early (sym (active-phase t (not-not _ active.0))) (early-pre_prepare Active refl) in
       let c = course_of x t None in
-      ap (facts_apply x.recorded) (arrival x (led PhaseInput.CommitTransaction c) (commit_reply (led PhaseInput.CommitTransaction c))).events ∙ by (rows_law.requests c) (facts-to_commit x.recorded c (is-early t (there t refl) None early) (is-unrecorded t (there t refl) None early))
+      ap (facts_apply x.recorded) (arrival x (led PhaseInput.CommitTransaction c) (commit_reply (led PhaseInput.CommitTransaction c))).events ∙ facts-to_commit x.recorded c (is-early t (there t refl) None early) (is-unrecorded t (there t refl) None early)
 
   pub facts-rollback_of : (o : Option Transaction) → ((t : Transaction) → o ≡ Some t → IsIn t x.transactions.items) → Passes (rollback_transaction_tests o) → FactsOf x (rollback_of x o)
   facts-rollback_of None there tests = refl
@@ -222,12 +222,12 @@ module _ (x : Present) (kept : IsKept x) where
     pub facts-pre_prepare_enlistment : Passes (superior_tests x o before_pre_prepare) → FactsOf x (answering x o (λ e. PhaseInput.PrePrepare))
     facts-pre_prepare_enlistment tests = answers o (λ e. PhaseInput.PrePrepare) (λ e is t at own found.
         let early = early-pre_prepare t.phase (phase-passed x before_pre_prepare e t found (superior-allowed x o before_pre_prepare e is tests)) in
-        by (rows_law.pre_prepares (course_of x t (Some e))) (facts-to_pre_prepare x.recorded (course_of x t (Some e)) (is-early t at (Some e) early) (is-unrecorded t at (Some e) early)))
+        facts-to_pre_prepare x.recorded (course_of x t (Some e)) (is-early t at (Some e) early) (is-unrecorded t at (Some e) early))
 
     pub facts-prepare_enlistment : Passes (superior_tests x o before_prepare) → FactsOf x (answering x o (λ e. PhaseInput.Prepare))
     facts-prepare_enlistment tests = answers o (λ e. PhaseInput.Prepare) (λ e is t at own found.
         let early = early-prepare t.phase (phase-passed x before_prepare e t found (superior-allowed x o before_prepare e is tests)) in
-        by (rows_law.prepares (course_of x t (Some e))) (facts-to_prepare x.recorded (course_of x t (Some e)) (is-early t at (Some e) early) (is-unrecorded t at (Some e) early)))
+        facts-to_prepare x.recorded (course_of x t (Some e)) (is-early t at (Some e) early) (is-unrecorded t at (Some e) early))
 
     pub facts-commit_enlistment : Passes (superior_tests x o waits_for_superior) → FactsOf x (answering x o (λ e. PhaseInput.Commit))
     facts-commit_enlistment tests = answers o (λ e. PhaseInput.Commit) (λ e is t at own found.

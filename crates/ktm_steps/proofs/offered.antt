@@ -2,6 +2,7 @@
 pub mod Counts
 pub mod Lasting
 pub mod Lists
+pub mod Ways
 pub mod Superiors
 pub mod Table
 pub mod Ahead

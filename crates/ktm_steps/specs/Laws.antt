@@ -7,7 +7,7 @@ use Rattle.ktm_world.specs.Enlistments.{Enlistment, has_id, takes_part}
 use Rattle.ktm_world.specs.Phases.{Course, is_its_superior}
 use Rattle.ktm_world.specs.Steps.{basis, events_ahead, led, run, share_of}
 use Rattle.ktm_world.specs.TransactionCalls.{recovery_of}
-use Rattle.ktm_steps.specs.Procedures.{aborting, commit_answered, committing, is_caller, pre_prepare_answered, prepare_answered, read_only_answered, recovered, rollback_answered, single_phase_rejected, to_commit, to_pre_prepare, to_prepare}
+use Rattle.ktm_steps.specs.Procedures.{aborting, commit_answered, committing, is_caller, pre_prepare_answered, prepare_answered, read_only_answered, recovered, rollback_answered, single_phase_rejected}
 
 -- the enlistment takes part, and is the only one with its Id
 pub record IsPart (c : Course) (e : Enlistment) : Type 0 where
@@ -27,9 +27,6 @@ pub record RowsLaw : Type 0 where
   -- whoever calls, if anyone does
   pub commits : (c : Course) → led PhaseInput.Commit c ≡ committing c
   pub aborts : (c : Course) → led PhaseInput.Rollback c ≡ aborting c
-  pub prepares : (c : Course) → led PhaseInput.Prepare c ≡ to_prepare c
-  pub pre_prepares : (c : Course) → led PhaseInput.PrePrepare c ≡ to_pre_prepare c
-  pub requests : (c : Course) → led PhaseInput.CommitTransaction c ≡ to_commit c
   -- the answers of an enlistment, which makes the call
   pub pre_prepare_completes : (c : Course) (e : Enlistment) → c.caller ≡ Some e → IsPart c e → is_some e.owes ≡ true → led PhaseInput.PrePrepareComplete c ≡ pre_prepare_answered c e
   pub prepare_completes : (c : Course) (e : Enlistment) → c.caller ≡ Some e → IsPart c e → is_some e.owes ≡ true → led PhaseInput.PrepareComplete c ≡ prepare_answered c e

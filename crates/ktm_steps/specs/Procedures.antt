@@ -1,16 +1,18 @@
 -- The rows of the phase table once more, as functions of courses: the procedures by which a transaction goes on.
-use Rattle.std.specs.Prelude.{ℕ, zero, suc, ◌+◌, ◌==◌, ◌&&◌, ◌||◌, not, Bool, true, List, [], ◌∷◌, ◌++◌, length, filter, Option, Some, None, is_some, if◌then◌else◌}
+use Rattle.std.specs.Prelude.{ℕ, ◌+◌, ◌==◌, ◌&&◌, ◌||◌, not, Bool, true, List, [], ◌∷◌, ◌++◌, length, filter, Option, Some, None, is_some, if◌then◌else◌}
 use Rattle.std.specs.List.{list_any}
 use Rattle.ktm_base.specs.declared.notify.Notify.{Notify}
 use Rattle.ktm_types.specs.declared.event.DonePart.{DonePart}
 use Rattle.ktm_types.specs.declared.event.Event.{Event}
 use Rattle.ktm_types.specs.declared.event.Part.{Part}
 use Rattle.ktm_types.specs.declared.object.Phase.{Phase}
-use Rattle.ktm_types.specs.declared.object.Phase.TheVariants.{Requested, PrePreparing, PrePrepared, Preparing, SinglePhase, Held, InDoubt, Committing, Aborting}
+use Rattle.ktm_types.specs.declared.object.Phase.TheVariants.{PrePreparing, Preparing, SinglePhase, Held, InDoubt, Committing, Aborting}
 use Rattle.ktm_types.specs.declared.object.TransactionOutcome.TheVariants.{Committed, Aborted}
 use Rattle.ktm_types.specs.declared.step.Owed.{Owed}
-use Rattle.ktm_world.specs.Enlistments.{Enlistment, is_superior, asks_pre_prepare, allows_one_phase, takes_part, is_durable_at, has_id, is_given, id_of}
+use Rattle.ktm_world.specs.Enlistments.{Enlistment, is_superior, takes_part, is_durable_at, has_id, is_given, id_of}
 use Rattle.ktm_world.specs.Changes.{has_changes}
+use Rattle.ktm_world.specs.Rows.{proceeds}
+use Rattle.ktm_world.specs.Steps.{run, seen}
 use Rattle.ktm_world.specs.Phases.{Course, in_phase, decided, recording, telling, owing, unchanged, superior, is_its_superior, has_settings, one_if, ended, ended_if_finished, work_of, event_if, changing_one, enlistment_part, is_single_phase}
 
 -- it has a Ready or a Held in the log from now on
@@ -80,57 +82,9 @@ held_or_committing c None = if participants c == 0 then ended c Committed else c
 unfoldable pub all_ready : Course → Course
 all_ready c = held_or_committing (readied c) (superior c)
 
--- ---- preparing
-
--- all that take part are asked to prepare
-abbrev pub preparing : Course → Course
-preparing c =
-    let asked = in_phase (telling c (takes_part c.transaction.id) Notify.Prepare (owing Owed.Prepare)) Preparing in
-    if some_enlistment c (λ e. true) then asked else all_ready asked
-
--- the files or the keys alone commit by one event
-abbrev pub single : Course → Part → Course
-single c part = ended (record (recording c (Event.Single c.transaction.id part ∷ [])) { works = c.works ++ work_of c }) Committed
-
--- one enlistment alone commits in one phase, where it can
-abbrev pub one_phase : Course → Course
-one_phase c =
-    if some_enlistment c allows_one_phase
-    then in_phase (telling c (takes_part c.transaction.id) Notify.SinglePhaseCommit (owing Owed.Commit)) SinglePhase
-    else preparing c
-
--- one participant alone
-abbrev pub one_participant : Course → Course
-one_participant c =
-    if has_changes c.changes then single c (Part.Changes c.changes) else
-    (if has_settings c.settings then single c (Part.Settings c.settings) else one_phase c)
-
--- without a superior: it has ended where nobody takes part, may commit in one step where one does, and is prepared where more do
-abbrev pub prepare_alone : Course → ℕ → Course
-prepare_alone c zero = ended c Committed
-prepare_alone c (suc zero) = one_participant c
-prepare_alone c (suc (suc more)) = preparing c
-
--- it is to be prepared; with a superior all are asked, however many take part
-unfoldable pub to_prepare : Course → Course
-to_prepare c = if is_some (superior c) then preparing c else prepare_alone c (participants c)
-
--- ---- pre-preparing
-
--- all have pre-prepared: its superior is told, or it goes on
-unfoldable pub pre_prepared : Course → Course
-pre_prepared c = if is_some (superior c) then in_phase (telling c (is_its_superior c) Notify.PrePrepareComplete unchanged) PrePrepared else to_prepare c
-
--- those that ask for it are to pre-prepare; where nobody does, all have
-unfoldable pub to_pre_prepare : Course → Course
-to_pre_prepare c =
-    if some_enlistment c asks_pre_prepare
-    then in_phase (telling c (λ e. takes_part c.transaction.id e && asks_pre_prepare e) Notify.PrePrepare (owing Owed.PrePrepare)) PrePreparing
-    else pre_prepared c
-
--- a commit was asked for: its superior is told, or it begins
-unfoldable pub to_commit : Course → Course
-to_commit c = if is_some (superior c) then in_phase (telling c (is_its_superior c) Notify.CommitRequest unchanged) Requested else to_pre_prepare c
+-- all have pre-prepared: the row of that is carried out
+abbrev pub pre_prepared : Course → Course
+pre_prepared c = run (proceeds (seen c)) c
 
 -- ---- the answers of enlistments
 

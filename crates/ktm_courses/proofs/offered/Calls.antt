@@ -23,7 +23,7 @@ use Rattle.ktm_world.specs.Present.{Present}
 use Rattle.ktm_world.specs.TransactionCalls.{course_of, commit_reply, commit_of, aborted_by, rollback_of, may_roll_back, rollback_transaction_tests, transaction_in, phase_passes, is_voting, lets_superior_roll_back, before_pre_prepare, before_prepare, waits_for_superior, may_vote, may_roll_back_by, may_reject_one_phase, may_recover, enlistment_tests, superior_tests, goes_on, answering, is_to_recover, recover_notes, recover_all, take_first, recovery_of}
 use Rattle.ktm_world.specs.Steps.{led, share_of}
 use Rattle.ktm_world.specs.Transactions.{same_id, transaction_at, is_active, is_undecided}
-use Rattle.ktm_steps.specs.Procedures.{committing, to_pre_prepare, to_prepare, pre_prepare_answered, prepare_answered, read_only_answered, single_phase_rejected}
+use Rattle.ktm_steps.specs.Procedures.{committing, pre_prepare_answered, prepare_answered, read_only_answered, single_phase_rejected}
 use Rattle.ktm_steps.proofs.offered.Table.{rows_law}
 use Rattle.txf_laws.specs.Elements.{IsIn}
 use Rattle.ktm_courses.specs.SoundCourse.{IsSoundCourse, is_note_of, is_unrecovered_well}
@@ -155,7 +155,7 @@ sound-commit_of x (Some t) sound there tests =
     let c = course_of x t None in
     let fresh = fresh-active x sound t (there t refl) None is in
     sound-arrived x t None (led PhaseInput.CommitTransaction c) (commit_reply (led PhaseInput.CommitTransaction c)) sound (there t refl)
-    (subst (Arrives (x.recorded).boots c) (sym (rows_law.requests c)) (arrives-to_commit (x.recorded).boots c fresh))
+    (arrives-to_commit (x.recorded).boots c fresh)
     (undecided-free t (led PhaseInput.CommitTransaction c).transaction fresh.undecided)
 
 pub sound-rollback_of : (x : Present) (o : Option Transaction) → IsSoundCourse x → ((t : Transaction) → o ≡ Some t → IsIn t (x.transactions).items) → Passes (rollback_transaction_tests o) → IsSoundOutcome x (rollback_of x o)
@@ -295,13 +295,13 @@ module _ (x : Present) (sound : IsSoundCourse x) (o : Option Enlistment) (there 
   sound-pre_prepare_enlistment tests = sound-answering x o (λ e. PhaseInput.PrePrepare) sound (λ e is t at own found.
       let c = course_of x t (Some e) in
       let fresh = fresh-before_pre_prepare x sound t at (Some e) t.phase refl (phase-passed x before_pre_prepare e t found (superior-allowed x o before_pre_prepare e is tests)) in
-      subst (Goes (x.recorded).boots c) (sym (rows_law.pre_prepares c)) (goes-undecided (x.recorded).boots c (to_pre_prepare c) (arrives-to_pre_prepare (x.recorded).boots c fresh) fresh.undecided))
+      goes-undecided (x.recorded).boots c (led PhaseInput.PrePrepare c) (arrives-to_pre_prepare (x.recorded).boots c fresh) fresh.undecided)
 
   pub sound-prepare_enlistment : Passes (superior_tests x o before_prepare) → IsSoundOutcome x (answering x o (λ e. PhaseInput.Prepare))
   sound-prepare_enlistment tests = sound-answering x o (λ e. PhaseInput.Prepare) sound (λ e is t at own found.
       let c = course_of x t (Some e) in
       let fresh = fresh-before_prepare x sound t at (Some e) t.phase refl (phase-passed x before_prepare e t found (superior-allowed x o before_prepare e is tests)) in
-      subst (Goes (x.recorded).boots c) (sym (rows_law.prepares c)) (goes-undecided (x.recorded).boots c (to_prepare c) (arrives-to_prepare (x.recorded).boots c fresh) fresh.undecided))
+      goes-undecided (x.recorded).boots c (led PhaseInput.Prepare c) (arrives-to_prepare (x.recorded).boots c fresh) fresh.undecided)
 
   pub sound-commit_enlistment : Passes (superior_tests x o waits_for_superior) → IsSoundOutcome x (answering x o (λ e. PhaseInput.Commit))
   sound-commit_enlistment tests = sound-answering x o (λ e. PhaseInput.Commit) sound (λ e is t at own found.

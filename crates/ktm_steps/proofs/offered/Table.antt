@@ -1,6 +1,6 @@
 -- The steps of each row do what its procedure does.
 use Rattle.std.specs.Prelude.{if◌then◌else◌}
-use Rattle.std.proofs.Common.{◌≡◌, ℕ, zero, suc, ◌==◌, ◌&&◌, ◌||◌, not, Bool, true, false, List, [], ◌∷◌, ◌++◌, filter, map, Option, Some, None, is_some, refl, sym, ◌∙◌, ap, subst, append_assoc, append-nil, inl, inr}
+use Rattle.std.proofs.Common.{◌≡◌, ℕ, ◌==◌, ◌&&◌, ◌||◌, not, Bool, true, false, List, [], ◌∷◌, ◌++◌, filter, Option, Some, None, is_some, refl, sym, ◌∙◌, ap, subst, append_assoc, append-nil, inl, inr}
 use Rattle.std.proofs.lemmas.Bool.{cases_Bool, true≢false}
 use Rattle.std.specs.List.{list_any}
 use Rattle.ktm_base.specs.declared.notify.Notify.{Notify}
@@ -18,14 +18,14 @@ use Rattle.ktm_types.specs.declared.step.Step.{Step}
 use Rattle.ktm_types.specs.declared.step.Step.TheVariants.{Record}
 use Rattle.ktm_types.specs.declared.step.Who.{Who}
 use Rattle.ktm_world.specs.Changes.{has_changes}
-use Rattle.ktm_world.specs.Enlistments.{Enlistment, allows_one_phase, asks_pre_prepare, has_id, is_durable_at, is_superior, takes_part, tell, with_enlistments}
+use Rattle.ktm_world.specs.Enlistments.{Enlistment, has_id, is_durable_at, is_superior, takes_part, with_enlistments}
 use Rattle.ktm_world.specs.Phases.{Course, changing_one, decided, ended, ended_if_finished, enlistment_part, event_if, has_settings, in_phase, is_its_superior, is_single_phase, owing, recording, superior, telling, unchanged, work_of}
-use Rattle.ktm_world.specs.Rows.{aborts, all_readies, commit_completes, commits, commits_one, proceeds, proceeds_without, holds_or_commits, is_last, participants, pre_prepare_completes, pre_prepares, prepare_completes, prepares, prepares_all, prepares_alone, read_onlies, rejects_one_phase, requests, rollback_completes, row, tells_in, without}
-use Rattle.ktm_world.specs.Steps.{answered, counted, held_event, lasting_of, led, run, seen, share_of}
+use Rattle.ktm_world.specs.Rows.{aborts, all_readies, commit_completes, commits, proceeds, proceeds_without, holds_or_commits, is_last, participants, pre_prepare_completes, prepare_completes, read_onlies, rejects_one_phase, rollback_completes, row, tells_in, without}
+use Rattle.ktm_world.specs.Steps.{answered, held_event, lasting_of, led, run, seen, share_of}
 use Rattle.ktm_world.specs.TransactionCalls.{recovery_of}
-use Rattle.ktm_steps.specs.Procedures.{aborting, all_ready, commit_answered, committing, finished, held_or_committing, one_participant, pre_prepare_answered, pre_prepared, prepare_alone, prepare_answered, preparing, read_only_answered, readied, ready_of_enlistment, recorded, recovered, recovered_in, recovering, rollback_answered, single_phase_rejected, some_enlistment, someone_owes, to_commit, to_pre_prepare, to_prepare, when_none_owes, without_its_answer}
+use Rattle.ktm_steps.specs.Procedures.{aborting, all_ready, commit_answered, committing, finished, held_or_committing, pre_prepare_answered, pre_prepared, prepare_answered, read_only_answered, readied, ready_of_enlistment, recorded, recovered, recovered_in, recovering, rollback_answered, single_phase_rejected, someone_owes, when_none_owes, without_its_answer}
 use Rattle.ktm_steps.specs.Laws.{IsPart, RowsLaw}
-use Rattle.ktm_steps.proofs.offered.Counts.{any-counted, owed-less, participants-counted, seen-left, seen-settled}
+use Rattle.ktm_steps.proofs.offered.Counts.{owed-less, participants-counted, seen-left, seen-settled}
 use Rattle.ktm_steps.proofs.offered.Superiors.{tells-superior}
 use Rattle.ktm_steps.proofs.offered.Lasting.{has_superior-kept, lasting-answered, superior-with}
 
@@ -85,52 +85,6 @@ all_readies-run c =
     let b = event_if (has_settings c.settings) (Event.Ready c.transaction.id (Part.Settings c.settings)) in
     ap (λ es. run (holds_or_commits (seen c)) (record (readied c) { events = es })) (append_assoc c.events a b) ∙ holds-at (readied c) (superior c) refl
 
--- ---- preparing
-
-all_ready-in : (c : Course) (phase : Phase) → all_ready (in_phase c phase) ≡ all_ready c
-unfolding all_ready committing ended
-all_ready-in c phase = held-in (superior c)
-  where
-    held-in : (o : Option Enlistment) → held_or_committing (readied (in_phase c phase)) o ≡ held_or_committing (readied c) o
-    held-in (Some e) = refl
-    held-in None = refl
-
-pub prepares_all-run : (c : Course) → run (prepares_all (seen c)) c ≡ preparing c
-prepares_all-run c = run-any (counted c (λ e. true)) (some_enlistment c (λ e. true)) _ _ c _ _ (any-counted _ c.enlistments) (λ none. all_readies-run c ∙ sym (ap all_ready (asks-nobody none) ∙ all_ready-in c Preparing)) refl
-  where
-    asks-nobody : some_enlistment c (λ e. true) ≡ false → in_phase (telling c (takes_part c.transaction.id) Notify.Prepare (owing Owed.Prepare)) Preparing ≡ in_phase c Preparing
-    asks-nobody none =
-        let nobody = with-none (takes_part c.transaction.id) (owing Owed.Prepare) c.enlistments none in
-        ap (λ es. in_phase (record c { sent = c.sent ++ map (tell Notify.Prepare) (filter (takes_part c.transaction.id) c.enlistments); enlistments = es }) Preparing) nobody.0
-        ∙ ap (λ es. in_phase (record c { sent = c.sent ++ map (tell Notify.Prepare) es }) Preparing) nobody.1
-        ∙ ap (λ xs. in_phase (record c { sent = xs }) Preparing) (append-nil c.sent)
-
-commits_one-run : (c : Course) → run (commits_one (seen c)) c ≡ one_participant c
-commits_one-run c = run-if (has_changes c.changes) _ _ c _ _ refl (run-if (has_settings c.settings) _ _ c _ _ refl (run-any (counted c allows_one_phase) (some_enlistment c allows_one_phase) _ _ c _ _ (any-counted _ c.enlistments) (λ none. prepares_all-run c) refl))
-
-prepares_alone-run : (c : Course) (n : ℕ) → run (prepares_alone (seen c) n) c ≡ prepare_alone c n
-prepares_alone-run c zero = refl
-prepares_alone-run c (suc zero) = commits_one-run c
-prepares_alone-run c (suc (suc more)) = prepares_all-run c
-
-pub prepares-run : (c : Course) → run (prepares (seen c)) c ≡ to_prepare c
-unfolding to_prepare
-prepares-run c = run-if (is_some (superior c)) _ _ c _ _ (prepares_all-run c) (prepares_alone-run c (participants (seen c)) ∙ ap (prepare_alone c) (participants-counted c))
-
--- ---- pre-preparing
-
-pub proceeds-run : (c : Course) → run (proceeds (seen c)) c ≡ pre_prepared c
-unfolding pre_prepared
-proceeds-run c = run-if (is_some (superior c)) _ _ c _ _ refl (prepares-run c)
-
-pub pre_prepares-run : (c : Course) → run (pre_prepares (seen c)) c ≡ to_pre_prepare c
-unfolding to_pre_prepare
-pre_prepares-run c = run-any (counted c asks_pre_prepare) (some_enlistment c asks_pre_prepare) _ _ c _ _ (any-counted _ c.enlistments) (λ none. proceeds-run c) refl
-
-pub requests-run : (c : Course) → run (requests (seen c)) c ≡ to_commit c
-unfolding to_commit
-requests-run c = run-if (is_some (superior c)) _ _ c _ _ refl (pre_prepares-run c)
-
 -- ---- answers
 
 -- the course where this enlistment makes the call
@@ -147,7 +101,7 @@ on-where_last true steps c next owes goes = goes ∙ sym (ap (λ b. if b then c 
 on-where_last false steps c next owes goes = sym (ap (λ b. if b then c else next c) owes)
 
 proceeds_without-run : (phase : Phase) (c : Course) → run (proceeds_without phase (seen c)) c ≡ without_its_answer phase c
-proceeds_without-run PrePreparing c = proceeds-run c
+proceeds_without-run PrePreparing c = refl
 proceeds_without-run Preparing c = all_readies-run c
 proceeds_without-run SinglePhase c = refl
 proceeds_without-run _ c = refl
@@ -185,7 +139,7 @@ module _ (before : Course) (e : Enlistment) (is : IsPart (by before e) e) where
   pre_prepare_completes-run owed =
       let d = changing_one c e.id (answered Answered.PrePrepared) in
       on-where_last (is_last (seen c)) (proceeds (seen c)) d pre_prepared (owed-less c e is (answered Answered.PrePrepared) owed refl)
-      (ap (λ s. run (proceeds s) d) (sym (seen-next Answered.PrePrepared refl)) ∙ proceeds-run d)
+      (ap (λ s. run (proceeds s) d) (sym (seen-next Answered.PrePrepared refl)))
 
   pub prepare_completes-run : is_some e.owes ≡ true → run (prepare_completes (seen c)) c ≡ prepare_answered c e
   unfolding prepare_answered next
@@ -246,9 +200,6 @@ unfolding led
 rows_law = record {
   commits = commits-run;
   aborts = aborts-run;
-  prepares = prepares-run;
-  pre_prepares = pre_prepares-run;
-  requests = requests-run;
   pre_prepare_completes = λ c e calls. of-caller (λ c. IsPart c e → is_some e.owes ≡ true → run (pre_prepare_completes (seen c)) c ≡ pre_prepare_answered c e) c e calls (pre_prepare_completes-run c e);
   prepare_completes = λ c e calls. of-caller (λ c. IsPart c e → is_some e.owes ≡ true → run (prepare_completes (seen c)) c ≡ prepare_answered c e) c e calls (prepare_completes-run c e);
   read_onlies = λ c e calls. of-caller (λ c. IsPart c e → run (read_onlies (seen c) (share_of e)) c ≡ read_only_answered c e) c e calls (read_onlies-run c e);
