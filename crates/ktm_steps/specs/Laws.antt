@@ -1,4 +1,4 @@
--- What is proved of the phase table: carried out, its rows are procedures on courses, and what they record is known ahead.
+-- What is proved of the phase table: carried out, its rows of outcomes, answers and recovery are procedures on courses, and what steps record is known ahead.
 use Rattle.std.specs.Prelude.{◌≡◌, ◌&&◌, not, true, false, List, ◌∷◌, ◌++◌, Some, is_some}
 use Rattle.std.specs.List.{AllByRecursion, list_any}
 use Rattle.ktm_types.specs.declared.input.PhaseInput.{PhaseInput}
@@ -22,7 +22,7 @@ pub record IsPart (c : Course) (e : Enlistment) : Type 0 where
 abbrev pub TellsSuperior : Course → Type 0
 TellsSuperior c = AllByRecursion (λ e. (is_its_superior c e && not (is_caller c e)) ≡ is_its_superior c e) c.enlistments
 
--- carried out, each row comes to what its procedure comes to
+-- carried out, each of these rows comes to what its procedure comes to
 pub record RowsLaw : Type 0 where
   -- whoever calls, if anyone does
   pub commits : (c : Course) → led PhaseInput.Commit c ≡ committing c

@@ -1,4 +1,4 @@
--- The rows of the phase table once more, as functions of courses: the procedures by which a transaction goes on.
+-- Rows of the phase table once more, as functions of courses: the procedures of outcomes, of answers and of recovery.
 use Rattle.std.specs.Prelude.{ℕ, ◌+◌, ◌==◌, ◌&&◌, ◌||◌, not, Bool, true, List, [], ◌∷◌, ◌++◌, length, filter, Option, Some, None, is_some, if◌then◌else◌}
 use Rattle.std.specs.List.{list_any}
 use Rattle.ktm_base.specs.declared.notify.Notify.{Notify}

@@ -206,7 +206,7 @@ sound-arrived x t caller d reply sound there arrives known =
     events = own.none
 
     outcomes : OutcomesStay (x.transactions).items (changed_to (x.transactions).items d.transaction)
-    outcomes = stay-changed (x.transactions).items t d.transaction sound.transactions.rise there (arrives.moved).id known
+    outcomes = stay-changed (x.transactions).items t d.transaction sound.transactions.rise there (arrives.moved).stays.id known
 
     notes : (s : Sent) → IsIn s d.sent → is_note_of d.enlistments s.manager s.note ≡ true
     notes = notes-course x sound t there caller d arrives
