@@ -4,6 +4,7 @@ use Rattle.std.proofs.Math.Bool.{and-true}
 use Rattle.ktm_types.specs.declared.change.Change.{Change}
 use Rattle.ktm_types.specs.declared.object.Transaction.{Transaction}
 use Rattle.ktm_types.specs.Sizes.{log_size}
+use Rattle.ktm_types.specs.declared.input.PhaseInput.{PhaseInput}
 use Rattle.ktm_forms.specs.Commits.{commit_events}
 use Rattle.ktm_forms.proofs.BuiltStates.{after_commit}
 use Rattle.ktm_world.specs.Changes.{has_changes}
@@ -12,8 +13,9 @@ use Rattle.ktm_world.specs.Files.{committed_files, without_transaction}
 use Rattle.ktm_world.specs.Keys.{OwnSettings, without_own, stored_all}
 use Rattle.ktm_world.specs.Logs.{as_groups}
 use Rattle.ktm_world.specs.Outcome.{Outcome, apply, committed_now}
-use Rattle.ktm_world.specs.Phases.{ended, committing, all_ready, to_prepare, pre_prepared, to_pre_prepare, to_commit, has_settings}
+use Rattle.ktm_world.specs.Phases.{ended, has_settings}
 use Rattle.ktm_world.specs.Present.{Present}
+use Rattle.ktm_world.specs.Steps.{led}
 use Rattle.ktm_world.specs.Transactions.{transaction_at, change_at}
 use Rattle.ktm_world.specs.TransactionCalls.{course_of, arrived, commit_reply, commit_transaction}
 use Rattle.ktm_owned.proofs.offered.EndedTransactions.{tree-store, versions-store}
@@ -35,9 +37,9 @@ committed x t changes settings = record (commit_outcome x t) {
 
 -- it has no enlistments, so it ends at once, whether its changes or settings are in the log or not
 course_alone : (x : Present) (t : Transaction) (is_recorded : Bool) (changes : List Change) (settings : OwnSettings)
-    → (let c = to_commit (record (course_of (alone x) (record t { is_recorded = is_recorded }) None) { changes = changes; settings = settings }) in arrived (alone x) c (commit_reply c))
+    → (let c = led PhaseInput.CommitTransaction (record (course_of (alone x) (record t { is_recorded = is_recorded }) None) { changes = changes; settings = settings }) in arrived (alone x) c (commit_reply c))
     ≡ committed (alone x) (record t { is_recorded = is_recorded }) changes settings
-unfolding to_commit to_pre_prepare pre_prepared to_prepare all_ready committing ended
+unfolding led ended
 course_alone x t true [] [] = refl
 course_alone x t false [] [] = refl
 course_alone x t true (c ∷ cs) [] = refl

@@ -126,6 +126,6 @@ module _ (step : StepLaw) (law : LawfulWorldsLaw) (reservations : ReservationsLa
           few = few_versions w standing;
           spelled = spelled_commit t.id (changes_of x t) (settings_of x t)
               (counted_id x.recorded.boots x.transactions.last_transaction t.id
-              (list_all-at (λ (u : Transaction). is_counted x.recorded.boots x.transactions.last_transaction u.id) x.transactions.items kept.sound.course.transactions_counted t (transaction-named x process label t names)))
+              (list_all-at (λ (u : Transaction). is_counted x.recorded.boots x.transactions.last_transaction u.id) x.transactions.items kept.sound.course.transactions.counted t (transaction-named x process label t names)))
               (spelled.files t.id) (spelled.keys t.id);
         }

@@ -12,9 +12,9 @@ use Rattle.ktm_types.specs.declared.object.Phase.TheVariants.{Requested, PrePrep
 use Rattle.ktm_types.specs.declared.object.Transaction.{Transaction}
 use Rattle.ktm_world.specs.Durable.{is_before}
 use Rattle.ktm_world.specs.Enlistments.{Enlistment, Note, Manager, is_superior, asks_pre_prepare, allows_one_phase, owes_pre_prepare, owes_prepare, owes_commit, owes_rollback, takes_part, is_unfinished, superior_of, is_durable_at}
-use Rattle.ktm_world.specs.Files.{own_changes}
+use Rattle.ktm_world.specs.Files.{OwnChanges, own_changes}
 use Rattle.ktm_world.specs.HandleCalls.{is_handle}
-use Rattle.ktm_world.specs.Keys.{own_settings}
+use Rattle.ktm_world.specs.Keys.{Own, own_settings}
 use Rattle.ktm_world.specs.Phases.{has_settings, is_single_phase}
 use Rattle.ktm_world.specs.Present.{Present}
 use Rattle.ktm_world.specs.TransactionCalls.{is_in_doubt}
@@ -55,11 +55,15 @@ abbrev pub has_enlistment : List Enlistment → Id → Bool
 has_enlistment es id = list_any (λ e. same_id e.id id) es
 
 -- is the transaction, the resource manager or the enlistment there that the handle names
-abbrev pub is_object_there : Present → Object → Bool
-is_object_there x (TransactionObject id) = has_transaction x.transactions.items id
-is_object_there x (ManagerObject id) = has_manager x.managers id
-is_object_there x (EnlistmentObject id) = has_enlistment x.transactions.enlistments id
-is_object_there x (FileObject number) = true
+abbrev pub is_object_there : List Transaction → List Manager → List Enlistment → Object → Bool
+is_object_there ts ms es (TransactionObject id) = has_transaction ts id
+is_object_there ts ms es (ManagerObject id) = has_manager ms id
+is_object_there ts ms es (EnlistmentObject id) = has_enlistment es id
+is_object_there ts ms es (FileObject number) = true
+
+-- is it there now
+abbrev pub is_there : Present → Object → Bool
+is_there x object = is_object_there x.transactions.items x.managers x.transactions.enlistments object
 
 -- is it the notification that ends a recovery
 abbrev pub is_last_recover : Notify → Bool
@@ -191,66 +195,90 @@ abbrev pub is_recorded_as_asked : List Manager → List Enlistment → Transacti
 is_recorded_as_asked ms es t = is_recorded_as t.phase ms es t.id t.is_recorded
 
 -- has a transaction that one enlistment commits in one phase changed and set nothing of its own
-abbrev pub is_alone_in_one_phase : Present → Transaction → Bool
-is_alone_in_one_phase x t = not (is_single_phase t.phase) || (not (has_changes (own_changes x.files.table.own t.id)) && not (has_settings (own_settings x.keys.own t.id)))
+abbrev pub is_alone_in_one_phase : List OwnChanges → List Own → Transaction → Bool
+is_alone_in_one_phase changes settings t = not (is_single_phase t.phase) || (not (has_changes (own_changes changes t.id)) && not (has_settings (own_settings settings t.id)))
 
--- ---- all of it
+-- ---- all of it, by what it speaks of
+
+-- the counts and the clock have not come past their ends
+pub record AreSoundNumbers (boots image clock : ℕ) : Type 0 where
+  -- there was a boot
+  pub booted : 1 ≤ boots
+  -- the count of boots fits a GUID
+  pub boots_fit : boots < 2 ^ 32
+  -- and so does the number of the image
+  pub image_fits : image < 2 ^ 16
+  -- the clock has not come past its end
+  pub clock_fits : clock ≤ 2 ^ 64 - 1
+
+-- each transaction by itself
+pub record AreSoundTransactions (boot last clock : ℕ) (ts : List Transaction) : Type 0 where
+  -- they stand by rising Id
+  pub rise : each_pair (λ (t u : Transaction). is_before t.id u.id) ts ≡ true
+  -- the Id of each was drawn in a boot that there was, in this one up to the last number
+  pub counted : list_all (λ t. is_counted boot last t.id) ts ≡ true
+  -- one of an earlier boot was brought back, and one of this boot is not in doubt
+  pub boots : list_all (is_of_its_boot boot) ts ≡ true
+  -- the outcome is known exactly in the phases in which it is decided
+  pub outcomes : list_all (λ t. is_outcome_of t.phase t) ts ≡ true
+  -- none began after now
+  pub begun : list_all (λ t. nat_le t.created clock) ts ≡ true
+
+-- enlistments, with the transactions and resource managers that they name
+pub record AreSoundEnlistments (boot last : ℕ) (ts : List Transaction) (ms : List Manager) (es : List Enlistment) : Type 0 where
+  -- they stand by rising Id
+  pub rise : each_pair (λ (e f : Enlistment). is_before e.id f.id) es ≡ true
+  -- the Id of each was drawn in a boot that there was, in this one up to the last number
+  pub counted : list_all (λ e. is_counted boot last e.id) es ≡ true
+  -- one was made in this boot, where its transaction was
+  pub made : list_all (is_made_with_it boot) es ≡ true
+  -- the transaction of each is there
+  pub transactions_there : list_all (λ e. has_transaction ts e.transaction) es ≡ true
+  -- and so is its resource manager
+  pub managers_there : list_all (λ e. has_manager ms e.manager) es ≡ true
+  -- a superior's resource manager is durable
+  pub superiors_durable : list_all (is_superior_durable ms) es ≡ true
+  -- no transaction has two superiors
+  pub superiors_differ : each_pair are_not_both_superiors es ≡ true
+  -- one that is not recovered was brought back by the restart
+  pub unrecovered : list_all (is_unrecovered_well boot ms) es ≡ true
+  -- no recovery information is too long
+  pub information_fits : list_all (λ e. nat_le (length e.information) MOST_INFORMATION_BYTES) es ≡ true
+
+-- resource managers, with what waits for them
+pub record AreSoundManagers (boot last : ℕ) (es : List Enlistment) (ms : List Manager) : Type 0 where
+  -- they stand by rising Id
+  pub rise : each_pair (λ (m n : Manager). is_before m.id n.id) ms ≡ true
+  -- the Id of each was drawn in a boot that there was, in this one up to the last number
+  pub counted : list_all (λ m. is_counted boot last m.id) ms ≡ true
+  -- a notification that waits has an enlistment of its resource manager, but for the last one of a recovery
+  pub notes_there : list_all (λ m. list_all (is_note_of es m.id) m.queue) ms ≡ true
+
+-- handles, with what they name
+pub record AreSoundHandles (ts : List Transaction) (ms : List Manager) (es : List Enlistment) (hs : List Handle) : Type 0 where
+  -- no label of a process is bound twice
+  pub labels_differ : each_pair have_labels_apart hs ≡ true
+  -- what a handle names is there
+  pub objects_there : list_all (λ h. is_object_there ts ms es h.object) hs ≡ true
+
+-- each transaction, with its enlistments, as its phase asks
+pub record AreAsAsked (ms : List Manager) (es : List Enlistment) (ts : List Transaction) : Type 0 where
+  -- it has a superior where it waits for one, and none where one enlistment decides
+  pub superiors : list_all (has_superior_as_asked es) ts ≡ true
+  -- each enlistment owes, and has answered, what the phase asks
+  pub enlistments : list_all (are_enlistments_as_asked es) ts ≡ true
+  -- where it waits for enlistments there is one that it waits for, and one alone where that one decides
+  pub awaited : list_all (is_awaited es) ts ≡ true
+  -- the log has it where its phase asks that, and not before
+  pub recorded : list_all (is_recorded_as_asked ms es) ts ≡ true
 
 -- what names what is there and stands once, and each transaction, with its enlistments, is as its phase asks
 pub record IsSoundCourse (x : Present) : Type 0 where
-  -- transactions stand by rising Id
-  pub transactions_rise : each_pair (λ (t u : Transaction). is_before t.id u.id) x.transactions.items ≡ true
-  -- and so do enlistments
-  pub enlistments_rise : each_pair (λ (e f : Enlistment). is_before e.id f.id) x.transactions.enlistments ≡ true
-  -- and resource managers
-  pub managers_rise : each_pair (λ (m n : Manager). is_before m.id n.id) x.managers ≡ true
-  -- the Id of each transaction was drawn in a boot that there was, in this one up to the last number
-  pub transactions_counted : list_all (λ t. is_counted x.recorded.boots x.transactions.last_transaction t.id) x.transactions.items ≡ true
-  -- and so was that of each enlistment
-  pub enlistments_counted : list_all (λ e. is_counted x.recorded.boots x.transactions.last_enlistment e.id) x.transactions.enlistments ≡ true
-  -- and of each resource manager
-  pub managers_counted : list_all (λ m. is_counted x.recorded.boots x.transactions.last_manager m.id) x.managers ≡ true
-  -- an enlistment was made in this boot, where its transaction was
-  pub enlistments_made : list_all (is_made_with_it x.recorded.boots) x.transactions.enlistments ≡ true
-  -- no label of a process is bound twice
-  pub labels_differ : each_pair have_labels_apart x.handles ≡ true
-  -- there was a boot
-  pub booted : 1 ≤ x.recorded.boots
-  -- the count of boots fits a GUID
-  pub boots_fit : x.recorded.boots < 2 ^ 32
-  -- and so does the number of the image
-  pub image_fits : x.recorded.image < 2 ^ 16
-  -- what a handle names is there
-  pub objects_there : list_all (λ h. is_object_there x h.object) x.handles ≡ true
-  -- the transaction of each enlistment is there
-  pub transactions_there : list_all (λ e. has_transaction x.transactions.items e.transaction) x.transactions.enlistments ≡ true
-  -- and so is its resource manager
-  pub managers_there : list_all (λ e. has_manager x.managers e.manager) x.transactions.enlistments ≡ true
-  -- a superior's resource manager is durable
-  pub superiors_durable : list_all (is_superior_durable x.managers) x.transactions.enlistments ≡ true
-  -- no transaction has two superiors
-  pub superiors_differ : each_pair are_not_both_superiors x.transactions.enlistments ≡ true
-  -- a notification that waits has an enlistment of its resource manager, but for the last one of a recovery
-  pub notes_there : list_all (λ m. list_all (is_note_of x.transactions.enlistments m.id) m.queue) x.managers ≡ true
-  -- the outcome of a transaction is known exactly in the phases in which it is decided
-  pub outcomes : list_all (λ t. is_outcome_of t.phase t) x.transactions.items ≡ true
-  -- a transaction of an earlier boot was brought back, and one of this boot is not in doubt
-  pub boots : list_all (is_of_its_boot x.recorded.boots) x.transactions.items ≡ true
-  -- a transaction has a superior where it waits for one, and none where one enlistment decides
-  pub superiors : list_all (has_superior_as_asked x.transactions.enlistments) x.transactions.items ≡ true
-  -- each enlistment owes, and has answered, what the phase of its transaction asks
-  pub enlistments : list_all (are_enlistments_as_asked x.transactions.enlistments) x.transactions.items ≡ true
-  -- where a transaction waits for enlistments there is one that it waits for, and one alone where that one decides
-  pub awaited : list_all (is_awaited x.transactions.enlistments) x.transactions.items ≡ true
+  pub numbers : AreSoundNumbers x.recorded.boots x.recorded.image x.transactions.clock
+  pub transactions : AreSoundTransactions x.recorded.boots x.transactions.last_transaction x.transactions.clock x.transactions.items
+  pub enlistments : AreSoundEnlistments x.recorded.boots x.transactions.last_enlistment x.transactions.items x.managers x.transactions.enlistments
+  pub managers : AreSoundManagers x.recorded.boots x.transactions.last_manager x.transactions.enlistments x.managers
+  pub handles : AreSoundHandles x.transactions.items x.managers x.transactions.enlistments x.handles
+  pub phases : AreAsAsked x.managers x.transactions.enlistments x.transactions.items
   -- where one enlistment decides there is nothing else to commit
-  pub alone : list_all (is_alone_in_one_phase x) x.transactions.items ≡ true
-  -- the log has a transaction where its phase asks that, and not before
-  pub recorded : list_all (is_recorded_as_asked x.managers x.transactions.enlistments) x.transactions.items ≡ true
-  -- an enlistment that is not recovered was brought back by the restart
-  pub unrecovered : list_all (is_unrecovered_well x.recorded.boots x.managers) x.transactions.enlistments ≡ true
-  -- no recovery information is too long
-  pub information_fits : list_all (λ e. nat_le (length e.information) MOST_INFORMATION_BYTES) x.transactions.enlistments ≡ true
-  -- no transaction began after now
-  pub begun : list_all (λ t. nat_le t.created x.transactions.clock) x.transactions.items ≡ true
-  -- the clock has not come past its end
-  pub clock_fits : x.transactions.clock ≤ 2 ^ 64 - 1
+  pub alone : list_all (is_alone_in_one_phase x.files.table.own x.keys.own) x.transactions.items ≡ true

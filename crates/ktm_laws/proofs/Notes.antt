@@ -1,7 +1,7 @@
 -- What a command tells by notifications is so, and stays so.
 use Rattle.std.proofs.Common.{◌≡◌, ℕ, zero, suc, not, Bool, true, false, List, [], ◌∷◌, ◌++◌, map, filter, drop, Option, Some, None, refl, sym, ◌∙◌, ap, subst, inl, inr, ◌⊎◌}
 use Rattle.std.proofs.lemmas.Bool.{true≢false}
-use Rattle.std.proofs.lemmas.Option.{none-some}
+use Rattle.std.proofs.lemmas.Option.{none-some, same_Some}
 use Rattle.std.specs.List.{list_all}
 use Rattle.ktm_base.specs.declared.id.Id.{Id}
 use Rattle.ktm_base.specs.declared.id.Label.{Label}
@@ -14,6 +14,7 @@ use Rattle.ktm_types.specs.declared.command.Command.{Command}
 use Rattle.ktm_types.specs.declared.command.Command.TheVariants.{CreateTransaction, OpenTransaction, CommitTransaction, RollbackTransaction, GetTransactionInformation, CreateResourceManager, OpenResourceManager, RecoverResourceManager, GetNotificationResourceManager, CreateEnlistment, OpenEnlistment, RecoverEnlistment, PrePrepareComplete, PrepareComplete, ReadOnlyEnlistment, CommitComplete, RollbackComplete, SinglePhaseReject, RollbackEnlistment, PrePrepareEnlistment, PrepareEnlistment, CommitEnlistment, SetEnlistmentRecoveryInformation, GetEnlistmentRecoveryInformation, CreateFile, CreateFileTransacted, ReadFile, WriteFile, SetEndOfFile, GetFileSizeEx, FlushFileBuffers, DeleteFile, CreateDirectory, RemoveDirectory, MoveFile, DeleteFileTransacted, CreateDirectoryTransacted, RemoveDirectoryTransacted, MoveFileTransacted, FindFiles, FindFilesTransacted, KvSet, KvUnset, KvGet, KvList, CloseHandle, DuplicateHandle, Exit}
 use Rattle.ktm_types.specs.declared.event.Event.{Event}
 use Rattle.ktm_types.specs.declared.event.Event.TheVariants.{MadeRm}
+use Rattle.ktm_types.specs.declared.input.PhaseInput.{PhaseInput}
 use Rattle.ktm_types.specs.declared.object.Object.{Object}
 use Rattle.ktm_types.specs.declared.object.Object.TheVariants.{Transaction as TransactionObject, Manager as ManagerObject, Enlistment as EnlistmentObject, File as FileObject}
 use Rattle.ktm_types.specs.declared.object.Transaction.{Transaction}
@@ -34,13 +35,16 @@ use Rattle.ktm_world.specs.Handles.{object_at}
 use Rattle.ktm_world.specs.Labels.{transaction_named, manager_named, enlistment_named, file_named, binding}
 use Rattle.ktm_world.specs.OneOutcome.{told_by, told_outcome}
 use Rattle.ktm_world.specs.Outcome.{Outcome, apply, only_reply, joined, served, refuse_or, first_refusal, is_full, within_log}
-use Rattle.ktm_world.specs.Phases.{Course, aborting, committing, to_commit, to_pre_prepare, to_prepare, pre_prepare_answered, prepare_answered, read_only_answered, commit_answered, rollback_answered, single_phase_rejected, recovered}
+use Rattle.ktm_world.specs.Phases.{Course}
 use Rattle.ktm_world.specs.Present.{Present, Transactions}
-use Rattle.ktm_world.specs.TransactionCalls.{course_of, arrived, new_id, create_transaction, transaction_with, open_to_transaction, open_transaction, commit_of, commit_transaction, aborted_by, rollback_of, rollback_transaction, get_transaction_information, is_due, aborted_if_due, aborted_in_turn, with_clock, tick, is_durable, create_resource_manager, manager_with, open_to_manager, open_resource_manager, is_to_recover, recover_all, recover_resource_manager, take_first, get_notification, enlist, create_enlistment, enlistment_with, open_to_enlistment, open_enlistment, transaction_in, goes_on, answering, pre_prepare_complete, prepare_complete, read_only_enlistment, commit_complete, rollback_complete, single_phase_reject, rollback_enlistment, pre_prepare_enlistment, prepare_enlistment, commit_enlistment, recover_enlistment, keep_information, set_information, get_information}
+use Rattle.ktm_world.specs.TransactionCalls.{course_of, arrived, new_id, create_transaction, transaction_with, open_to_transaction, open_transaction, commit_of, commit_transaction, aborted_by, rollback_of, rollback_transaction, get_transaction_information, is_due, aborted_if_due, aborted_in_turn, with_clock, tick, is_durable, create_resource_manager, manager_with, open_to_manager, open_resource_manager, is_to_recover, recover_all, recover_resource_manager, take_first, get_notification, enlist, create_enlistment, enlistment_with, open_to_enlistment, open_enlistment, transaction_in, goes_on, answering, pre_prepare_complete, prepare_complete, read_only_enlistment, commit_complete, rollback_complete, single_phase_reject, rollback_enlistment, pre_prepare_enlistment, prepare_enlistment, commit_enlistment, recover_enlistment, keep_information, set_information, get_information, recovery_of}
 use Rattle.ktm_world.specs.Transactions.{same_id, transaction_at, is_active, is_undecided}
 use Rattle.ktm_world.specs.World.{ManagerPast, manager_now, decide_tick}
 use Rattle.ktm_world.specs.Logs.{Group}
 use Rattle.ktm_world.proofs.offered.Durables.{after_events-append}
+use Rattle.ktm_world.specs.Steps.{led, share_of}
+use Rattle.ktm_steps.specs.Outcomes.{TellsOnly}
+use Rattle.txf_laws.proofs.offered.CommitsOfOthers.{All-in}
 use Rattle.txf_laws.specs.Elements.{IsIn}
 use Rattle.ktm_laws.specs.Notes.{IsToldTruly, AreNotesTrue, NotesLaw}
 use Rattle.ktm_courses.specs.Outcomes.{OutcomesStay, OutcomesLaw}
@@ -49,14 +53,14 @@ use Rattle.ktm_courses.proofs.offered.Arrivals.{changed_to, IsIn-changed}
 use Rattle.ktm_courses.proofs.offered.Bindings.{stays-sound, soundly-gone, stays-unbound, stays-closed, stays-closed_all, stays-due, stays-in_turn}
 use Rattle.ktm_courses.proofs.offered.Beginnings.{sound-clock}
 use Rattle.ktm_courses.proofs.offered.Calls.{transaction_at-found, transaction-named, enlistment-named}
-use Rattle.ktm_owned.proofs.offered.CoursesKept.{is_no_boot, Steps, IsCourse, aborting-is, committing-is, to_prepare-is, to_pre_prepare-is, to_commit-is, pre_prepare_answered-is, prepare_answered-is, read_only_answered-is, single_phase_rejected-is, commit_answered-is, rollback_answered-is, recovered-is}
+use Rattle.ktm_owned.proofs.offered.CoursesKept.{is_no_boot, IsCourse, led-is}
 use Rattle.txf_laws.proofs.offered.Diamonds.{IsIn-map}
 use Rattle.txf_laws.proofs.offered.Elements.{IsIn-filter, list_all-at}
 use Rattle.txf_laws.proofs.offered.Lists.{IsIn-left, IsIn-cases, IsIn-unmap}
 use Rattle.ktm_courses.proofs.offered.Moves.{if_cases, same-by_id}
 use Rattle.ktm_courses.proofs.offered.Outcomes.{changed-itself}
 use Rattle.ktm_owned.proofs.offered.EndedTransactions.{boots-all}
-use Rattle.ktm_laws.proofs.Sayings.{naming, naming-with, Says, Ends, to_prepare-ends, to_pre_prepare-ends, to_commit-ends, pre_prepare_answered-ends, prepare_answered-ends, read_only_answered-ends, commit_answered-ends, rollback_answered-ends, aborting-ends, committing-ends, single_phase_rejected-ends, recovered-ends, Only}
+use Rattle.ktm_laws.proofs.Sayings.{Only, Says, naming, naming-with, says-led}
 use Rattle.txf_laws.proofs.offered.Tables.{same_id-from}
 
 -- ---- what an outcome leaves
@@ -173,10 +177,6 @@ honest-joined x a b first second outcomes = record {
 
 -- ---- a course has arrived
 
--- a step that tells what is so
-abbrev Telling : Bool → (Course → Enlistment → Course) → Type 0
-Telling to f = (names : List (Id × Id)) (own : Id) (c : Course) (e : Enlistment) → Only names own e → is_outcome_of c.transaction.phase c.transaction ≡ true → Says names own None c → Ends names own (told_outcome c.transaction.outcome) to (f c e)
-
 -- what comes of a call that brings a transaction on its way, with what was told and recorded by then
 pub record ByCourse (x : Present) (o : Outcome) : Type 0 where
   pub transaction : Transaction
@@ -185,9 +185,7 @@ pub record ByCourse (x : Present) (o : Outcome) : Type 0 where
   pub reply : Reply
   pub is : o ≡ arrived x course reply
   pub own : IsCourse transaction (own_changes x.files.table.own transaction.id) (own_settings x.keys.own transaction.id) course
-  pub before : Option Bool
-  pub to : Bool
-  pub ends : Ends (map naming x.transactions.enlistments) transaction.id before to course
+  pub says : Says (map naming x.transactions.enlistments) transaction.id course
 
 -- nothing but a reply comes, or a transaction came on its way
 abbrev pub Comes : Present → Outcome → Type 0
@@ -201,93 +199,94 @@ module _ (x : Present) (sound : IsSoundCourse x) where
   abbrev names : List (Id × Id)
   names = map naming x.transactions.enlistments
 
-  pub says-begun : (t : Transaction) (caller : Option Enlistment) → Says names t.id None (course_of x t caller)
-  says-begun t caller = record { id = refl; named = refl; about = λ s none. absurd none; tells = λ s none. absurd none; events = λ puts. refl }
-
-  honest-arrived : (t : Transaction) (d : Course) (reply : Reply) (before : Option Bool) (to : Bool) → IsIn t x.transactions.items → Ends names t.id before to d → list_all is_no_boot d.events ≡ true → IsHonest x (arrived x d reply)
-  honest-arrived t d reply before to there ends no_boots = if_cases (λ o. IsHonest x o) (is_undecided d.transaction) _ _
+  honest-arrived : (t : Transaction) (d : Course) (reply : Reply) → IsIn t x.transactions.items → Says names t.id d → list_all is_no_boot d.events ≡ true → IsHonest x (arrived x d reply)
+  honest-arrived t d reply there says no_boots = if_cases (λ o. IsHonest x o) (is_undecided d.transaction) _ _
       (λ undecided. record { enlistments = stay; comes = come; sent = sent; made = λ m none. absurd none; boots = boots-all d.events x.recorded no_boots })
       (λ decided. record { enlistments = stay; comes = come; sent = sent; made = λ m none. absurd none; boots = boots-all d.events x.recorded no_boots })
     where
       stay : EnlistmentsStay x.transactions.enlistments d.enlistments
       stay = record {
         each = λ e was.
-            let from = IsIn-unmap naming (naming e) d.enlistments (subst (IsIn (naming e)) (sym ends.says.named) (IsIn-map naming e x.transactions.enlistments was)) in
+            let from = IsIn-unmap naming (naming e) d.enlistments (subst (IsIn (naming e)) (sym says.named) (IsIn-map naming e x.transactions.enlistments was)) in
             (from.0, from.2, ap (λ (p : Id × Id). p.0) from.1, ap (λ (p : Id × Id). p.1) from.1);
       }
 
       come : ComeFrom x.recorded.boots x.transactions.items (changed_to x.transactions.items d.transaction)
       come = record {
-        each = λ u is. elim (IsIn-changed x.transactions.items d.transaction u sound.transactions_rise is) [
-          | inl e ↦ inl (t, there, sym ends.says.id ∙ ap (λ (v : Transaction). v.id) (sym e))
+        each = λ u is. elim (IsIn-changed x.transactions.items d.transaction u sound.transactions.rise is) [
+          | inl e ↦ inl (t, there, sym says.id ∙ ap (λ (v : Transaction). v.id) (sym e))
           | inr old ↦ inl (u, old.0, refl)
         ];
       }
 
       sent : (s : Sent) (k : Bool) → IsIn s d.sent → told_by s.note.kind ≡ Some k → IsToldTruly (arrival_of x d) s.note k
       sent s k is tells =
-          let about = ends.says.about s is in
-          let from = IsIn-unmap naming (about.0, t.id) d.enlistments (subst (IsIn (about.0, t.id)) (sym ends.says.named) about.2) in
-          elim (ends.says.tells s is) [
+          let about = says.about s is in
+          let from = IsIn-unmap naming (about.0, t.id) d.enlistments (subst (IsIn (about.0, t.id)) (sym says.named) about.2) in
+          elim (All-in (λ (s : Sent). TellsOnly (told_outcome d.transaction.outcome) s.note.kind) d.sent says.tells s is) [
             | inl none ↦ absurd (none-some k (sym none ∙ tells))
             | inr same ↦ record {
               enlistment = from.0;
               enlisted = from.2;
               named = about.1 ∙ ap Some (sym (ap (λ (p : Id × Id). p.0) from.1));
               transaction = d.transaction;
-              there = changed-itself x.transactions.items d.transaction t there (same_id-from t.id d.transaction.id (sym ends.says.id));
-              own = ends.says.id ∙ sym (ap (λ (p : Id × Id). p.1) from.1);
-              outcome = ends.so k (sym same ∙ tells);
+              there = changed-itself x.transactions.items d.transaction t there (same_id-from t.id d.transaction.id (sym says.id));
+              own = says.id ∙ sym (ap (λ (p : Id × Id). p.1) from.1);
+              outcome = sym same ∙ tells;
             }
           ]
 
   -- where a course has arrived of which this was told, or nothing but a reply comes
-  pub comes-step : (t : Transaction) (caller : Option Enlistment) (f : Course → Course) (reply : Reply) (to : Bool) → IsIn t x.transactions.items → Steps f → Ends names t.id (told_outcome t.outcome) to (f (course_of x t caller))
-      → Comes x (arrived x (f (course_of x t caller)) reply)
-  comes-step t caller f reply to there steps ends =
+  pub comes-step : (t : Transaction) (caller : Option Enlistment) (input : PhaseInput) (reply : Reply) → IsIn t x.transactions.items → Says names t.id (led input (course_of x t caller)) → Comes x (arrived x (led input (course_of x t caller)) reply)
+  comes-step t caller input reply there says =
       let c = course_of x t caller in
       inr (record {
         transaction = t;
         there = there;
-        course = f c;
+        course = led input c;
         reply = reply;
         is = refl;
-        own = steps t c.changes c.settings c (record { id = refl; changes = refl; settings = refl; works = refl; events = refl; outcome = refl });
-        before = told_outcome t.outcome;
-        to = to;
-        ends = ends;
+        own = led-is t c.changes c.settings input c (record { id = refl; changes = refl; settings = refl; works = refl; events = refl; outcome = refl });
+        says = says;
       })
 
   honest-comes : (o : Outcome) → Comes x o → IsHonest x o
   honest-comes o (inl (reply, is)) = subst (λ p. IsHonest x p) (sym is) (honest-reply x reply)
-  honest-comes o (inr by) = subst (λ p. IsHonest x p) (sym by.is) (honest-arrived by.transaction by.course by.reply by.before by.to by.there by.ends by.own.events)
+  honest-comes o (inr by) = subst (λ p. IsHonest x p) (sym by.is) (honest-arrived by.transaction by.course by.reply by.there by.says by.own.events)
 
-  only-one : (e : Enlistment) (t : Transaction) → IsIn e x.transactions.enlistments → t.id ≡ e.transaction → Only names t.id e
-  only-one e t there own id named =
-      let from = IsIn-unmap naming (e.id, id) x.transactions.enlistments named in
-      let one : from.0 ≡ e = same-by_id (λ (f : Enlistment). f.id) x.transactions.enlistments sound.enlistments_rise from.0 e from.2 there (ap (λ (p : Id × Id). p.0) from.1) in
-      sym (ap (λ (p : Id × Id). p.1) from.1) ∙ ap (λ (f : Enlistment). f.transaction) one ∙ sym own
+  only-one : (e : Enlistment) (t : Transaction) → IsIn e x.transactions.enlistments → t.id ≡ e.transaction → Only names t.id (Some e)
+  only-one e t there own f same id named =
+      let is : e ≡ f = same_Some e f same in
+      let from = IsIn-unmap naming (f.id, id) x.transactions.enlistments named in
+      let one : from.0 ≡ e = same-by_id (λ (g : Enlistment). g.id) x.transactions.enlistments sound.enlistments.rise from.0 e from.2 there (ap (λ (p : Id × Id). p.0) from.1 ∙ ap (λ (g : Enlistment). g.id) (sym is)) in
+      sym (ap (λ (p : Id × Id). p.1) from.1) ∙ ap (λ (g : Enlistment). g.transaction) one ∙ sym own
 
   pub outcome-at : (t : Transaction) → IsIn t x.transactions.items → is_outcome_of t.phase t ≡ true
-  outcome-at t there = list_all-at (λ (t : Transaction). is_outcome_of t.phase t) x.transactions.items sound.outcomes t there
+  outcome-at t there = list_all-at (λ (t : Transaction). is_outcome_of t.phase t) x.transactions.items sound.transactions.outcomes t there
 
-  pub comes-answering : (o : Option Enlistment) (f : Course → Enlistment → Course) (to : Bool) → ((e : Enlistment) → o ≡ Some e → IsIn e x.transactions.enlistments) → ((e : Enlistment) → Steps (λ c. f c e)) → Telling to f → Comes x (answering x o f)
-  comes-answering None f to there steps telling = inl (Done, refl)
-  comes-answering (Some e) f to there steps telling = go (transaction_in x e) refl
+  -- a row says what is so, whoever makes the call
+  pub says-of : (t : Transaction) (caller : Option Enlistment) (input : PhaseInput) → IsIn t x.transactions.items → Only names t.id caller → Says names t.id (led input (course_of x t caller))
+  says-of t caller input there only = says-led input (course_of x t caller) refl refl (outcome-at t there) only
+
+  pub comes-answering : (o : Option Enlistment) (input : Enlistment → PhaseInput) → ((e : Enlistment) → o ≡ Some e → IsIn e x.transactions.enlistments) → Comes x (answering x o input)
+  comes-answering None input there = inl (Done, refl)
+  comes-answering (Some e) input there = go (transaction_in x e) refl
     where
-      go : (o : Option Transaction) → transaction_in x e ≡ o → Comes x (goes_on x e o f)
+      go : (o : Option Transaction) → transaction_in x e ≡ o → Comes x (goes_on x e o (input e))
       go None is = inl (Done, refl)
       go (Some t) is =
           let found = transaction_at-found x.transactions.items e.transaction t is in
-          let who : Option Enlistment = Some e in
-          comes-step t who (λ c. f c e) Done to found.0 (steps e)
-          (telling names t.id (course_of x t who) e (only-one e t (there e refl) found.1) (outcome-at t found.0) (says-begun t who))
+          comes-step t (Some e) (input e) Done found.0 (says-of t (Some e) (input e) found.0 (only-one e t (there e refl) found.1))
 
-  comes-aborted : (t : Transaction) (caller : Option Enlistment) (reply : Reply) → IsIn t x.transactions.items → Comes x (aborted_by x t caller reply)
-  comes-aborted t caller reply there = comes-step t caller aborting reply false there aborting-is (aborting-ends names t.id (course_of x t caller) (says-begun t caller))
+  -- no enlistment makes the call
+  pub only-none : (t : Transaction) → Only names t.id None
+  only-none t e none = absurd (none-some e none)
 
-  honest-aborted : (t : Transaction) (caller : Option Enlistment) (reply : Reply) → IsIn t x.transactions.items → IsHonest x (aborted_by x t caller reply)
-  honest-aborted t caller reply there = honest-comes _ (comes-aborted t caller reply there)
+  comes-aborted : (t : Transaction) (reply : Reply) → IsIn t x.transactions.items → Comes x (aborted_by x t None reply)
+  comes-aborted t reply there = comes-step t None PhaseInput.Rollback reply there (says-of t None PhaseInput.Rollback there (only-none t))
+
+  honest-aborted : (t : Transaction) (reply : Reply) → IsIn t x.transactions.items → IsHonest x (aborted_by x t None reply)
+  honest-aborted t reply there = honest-comes _ (comes-aborted t reply there)
 
   -- ---- calls on files and keys
 
@@ -360,11 +359,11 @@ module _ (x : Present) (sound : IsSoundCourse x) where
 
   comes-commit : (o : Option Transaction) → ((t : Transaction) → o ≡ Some t → IsIn t x.transactions.items) → Comes x (commit_of x o)
   comes-commit None there = inl (Done, refl)
-  comes-commit (Some t) there = comes-step t None to_commit _ true (there t refl) to_commit-is (to_commit-ends names t.id (course_of x t None) (says-begun t None))
+  comes-commit (Some t) there = comes-step t None PhaseInput.CommitTransaction _ (there t refl) (says-of t None PhaseInput.CommitTransaction (there t refl) (only-none t))
 
   comes-rollback : (o : Option Transaction) → ((t : Transaction) → o ≡ Some t → IsIn t x.transactions.items) → Comes x (rollback_of x o)
   comes-rollback None there = inl (Done, refl)
-  comes-rollback (Some t) there = comes-aborted t None Done (there t refl)
+  comes-rollback (Some t) there = comes-aborted t Done (there t refl)
 
   honest-recover : (o : Option Manager) → IsHonest x (recover_all x o)
   honest-recover None = honest-reply x Done
@@ -415,7 +414,7 @@ module _ (x : Present) (sound : IsSoundCourse x) where
 
 honest-abort_active : (x : Present) (o : Option Transaction) → IsSoundCourse x → ((t : Transaction) → o ≡ Some t → IsIn t x.transactions.items) → IsHonest x (abort_active x o)
 honest-abort_active x None sound there = honest-reply x Done
-honest-abort_active x (Some t) sound there = if_cases (λ o. IsHonest x o) (is_active t) (aborted_by x t None Done) (only_reply x Done) (λ active. honest-aborted x sound t None Done (there t refl)) (λ other. honest-reply x Done)
+honest-abort_active x (Some t) sound there = if_cases (λ o. IsHonest x o) (is_active t) (aborted_by x t None Done) (only_reply x Done) (λ active. honest-aborted x sound t Done (there t refl)) (λ other. honest-reply x Done)
 
 honest-last : (x : Present) (object : Object) → IsSoundCourse x → IsHonest x (last_handle_gone x object)
 honest-last x (TransactionObject id) sound = honest-abort_active x (transaction_at x.transactions.items id) sound (λ t is. (transaction_at-found x.transactions.items id t is).0)
@@ -448,7 +447,7 @@ honest-exit x process sound = honest-closed_all (labels_of x.handles process) x 
 
 honest-due : (x : Present) (o : Option Transaction) → IsSoundCourse x → ((t : Transaction) → o ≡ Some t → IsIn t x.transactions.items) → IsHonest x (aborted_if_due x o)
 honest-due x None sound there = honest-reply x Done
-honest-due x (Some t) sound there = if_cases (λ o. IsHonest x o) (is_due x.transactions.clock t) (aborted_by x t None Done) (only_reply x Done) (λ due. honest-aborted x sound t None Done (there t refl)) (λ other. honest-reply x Done)
+honest-due x (Some t) sound there = if_cases (λ o. IsHonest x o) (is_due x.transactions.clock t) (aborted_by x t None Done) (only_reply x Done) (λ due. honest-aborted x sound t Done (there t refl)) (λ other. honest-reply x Done)
 
 honest-in_turn : (ts : List Transaction) (x : Present) → IsSoundCourse x → IsHonest x (aborted_in_turn x ts)
 honest-in_turn [] x sound = honest-reply x Done
@@ -484,25 +483,25 @@ brings_on (CommitEnlistment label) = true
 brings_on _ = false
 
 module _ (x : Present) (sound : IsSoundCourse x) where
-  comes-enlisted : (process : Pid) (label : Label) (f : Course → Enlistment → Course) (to : Bool) → ((e : Enlistment) → Steps (λ c. f c e)) → Telling to f → Comes x (answering x (enlistment_named x process label) f)
-  comes-enlisted process label f to steps telling = comes-answering x sound (enlistment_named x process label) f to (enlistment-named x process label) steps telling
+  comes-enlisted : (process : Pid) (label : Label) (input : Enlistment → PhaseInput) → Comes x (answering x (enlistment_named x process label) input)
+  comes-enlisted process label input = comes-answering x sound (enlistment_named x process label) input (enlistment-named x process label)
 
   -- the calls that bring a transaction on its way
   pub comes-effect : (process : Pid) (command : Command) → brings_on command ≡ true → Comes x (command_effect x process command)
   unfolding commit_transaction rollback_transaction pre_prepare_complete prepare_complete read_only_enlistment commit_complete rollback_complete single_phase_reject rollback_enlistment pre_prepare_enlistment prepare_enlistment commit_enlistment recover_enlistment
   comes-effect process (CommitTransaction label) is = comes-commit x sound (transaction_named x process label) (transaction-named x process label)
   comes-effect process (RollbackTransaction label) is = comes-rollback x sound (transaction_named x process label) (transaction-named x process label)
-  comes-effect process (RecoverEnlistment label) is = comes-enlisted process label recovered true (λ e t cs ss c. recovered-is t cs ss c e) (λ names own c e only is says. recovered-ends names own c e only is says)
-  comes-effect process (PrePrepareComplete label) is = comes-enlisted process label pre_prepare_answered true (λ e t cs ss c. pre_prepare_answered-is t cs ss c e) (λ names own c e only is says. pre_prepare_answered-ends names own c e says)
-  comes-effect process (PrepareComplete label) is = comes-enlisted process label prepare_answered true (λ e t cs ss c. prepare_answered-is t cs ss c e) (λ names own c e only is says. prepare_answered-ends names own c e says)
-  comes-effect process (ReadOnlyEnlistment label) is = comes-enlisted process label read_only_answered true (λ e t cs ss c. read_only_answered-is t cs ss c e) (λ names own c e only is says. read_only_answered-ends names own c e says)
-  comes-effect process (CommitComplete label) is = comes-enlisted process label commit_answered true (λ e t cs ss c. commit_answered-is t cs ss c e) (λ names own c e only is says. commit_answered-ends names own c e says)
-  comes-effect process (RollbackComplete label) is = comes-enlisted process label rollback_answered false (λ e t cs ss c. rollback_answered-is t cs ss c e) (λ names own c e only is says. rollback_answered-ends names own c e says)
-  comes-effect process (SinglePhaseReject label) is = comes-enlisted process label single_phase_rejected true (λ e t cs ss c. single_phase_rejected-is t cs ss c e) (λ names own c e only is says. single_phase_rejected-ends names own c e only says)
-  comes-effect process (RollbackEnlistment label) is = comes-enlisted process label (λ c e. aborting c) false (λ e. aborting-is) (λ names own c e only is says. aborting-ends names own c says)
-  comes-effect process (PrePrepareEnlistment label) is = comes-enlisted process label (λ c e. to_pre_prepare c) true (λ e. to_pre_prepare-is) (λ names own c e only is says. to_pre_prepare-ends names own c says)
-  comes-effect process (PrepareEnlistment label) is = comes-enlisted process label (λ c e. to_prepare c) true (λ e. to_prepare-is) (λ names own c e only is says. to_prepare-ends names own c says)
-  comes-effect process (CommitEnlistment label) is = comes-enlisted process label (λ c e. committing c) true (λ e. committing-is) (λ names own c e only is says. committing-ends names own c says)
+  comes-effect process (RecoverEnlistment label) is = comes-enlisted process label recovery_of
+  comes-effect process (PrePrepareComplete label) is = comes-enlisted process label (λ e. PhaseInput.PrePrepareComplete)
+  comes-effect process (PrepareComplete label) is = comes-enlisted process label (λ e. PhaseInput.PrepareComplete)
+  comes-effect process (ReadOnlyEnlistment label) is = comes-enlisted process label (λ e. PhaseInput.ReadOnly (share_of e))
+  comes-effect process (CommitComplete label) is = comes-enlisted process label (λ e. PhaseInput.CommitComplete)
+  comes-effect process (RollbackComplete label) is = comes-enlisted process label (λ e. PhaseInput.RollbackComplete)
+  comes-effect process (SinglePhaseReject label) is = comes-enlisted process label (λ e. PhaseInput.SinglePhaseReject)
+  comes-effect process (RollbackEnlistment label) is = comes-enlisted process label (λ e. PhaseInput.Rollback)
+  comes-effect process (PrePrepareEnlistment label) is = comes-enlisted process label (λ e. PhaseInput.PrePrepare)
+  comes-effect process (PrepareEnlistment label) is = comes-enlisted process label (λ e. PhaseInput.Prepare)
+  comes-effect process (CommitEnlistment label) is = comes-enlisted process label (λ e. PhaseInput.Commit)
   comes-effect process _ is = absurd (true≢false (sym is))
 
   honest-effect : (process : Pid) (command : Command) → IsHonest x (command_effect x process command)

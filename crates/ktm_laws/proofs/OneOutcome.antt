@@ -185,7 +185,7 @@ Past w id k = PastBy w.power w id k
 -- a transaction has one outcome
 one-outcome : (w : World) → IsRunning w → (id : Id) (j k : Bool) → HasOutcome w.transactions.items id j → HasOutcome w.transactions.items id k → j ≡ k
 one-outcome w run id j k first second =
-    let same : first.transaction ≡ second.transaction = same-by_id (λ (t : Transaction). t.id) w.transactions.items run.now.sound.course.transactions_rise first.transaction second.transaction first.there second.there (first.is ∙ sym second.is) in
+    let same : first.transaction ≡ second.transaction = same-by_id (λ (t : Transaction). t.id) w.transactions.items run.now.sound.course.transactions.rise first.transaction second.transaction first.there second.there (first.is ∙ sym second.is) in
     same_Some j k (sym first.outcome ∙ ap (λ (t : Transaction). told_outcome t.outcome) same ∙ second.outcome)
 
 -- where the outcome is known the log has the transaction only as one that is decided to commit
@@ -239,15 +239,15 @@ now-told w run id k now = may-from id k w.recorded (boots now) (λ r there is.
     boots : IsNow w id k → id.boot ≤ w.recorded.boots
     boots (inl out) =
         let counted = counted-parts w.recorded.boots w.transactions.last_transaction out.transaction.id
-        (list_all-at (λ (t : Transaction). is_counted w.recorded.boots w.transactions.last_transaction t.id) w.transactions.items run.now.sound.course.transactions_counted out.transaction out.there) in
+        (list_all-at (λ (t : Transaction). is_counted w.recorded.boots w.transactions.last_transaction t.id) w.transactions.items run.now.sound.course.transactions.counted out.transaction out.there) in
         subst (λ (i : Id). i.boot ≤ w.recorded.boots) out.is (leb-true _ _ counted.1)
     boots (inr (absent, older)) = omega (arith, older)
 
     recorded : (r : Recorded) (t : Transaction) → IsIn t w.transactions.items → t.id ≡ id → stage_in t.phase ≡ Some r.stage → IsNow w id k → (k ≡ true) × (is_decided r.stage ≡ true)
     recorded r t there is at (inr (absent, older)) = absurd (absent t there is)
     recorded r t there is at (inl out) =
-        let same : out.transaction ≡ t = same-by_id (λ (t : Transaction). t.id) w.transactions.items run.now.sound.course.transactions_rise out.transaction t out.there there (out.is ∙ sym is) in
-        decided-only t k r.stage (list_all-at (λ (t : Transaction). is_outcome_of t.phase t) w.transactions.items run.now.sound.course.outcomes t there)
+        let same : out.transaction ≡ t = same-by_id (λ (t : Transaction). t.id) w.transactions.items run.now.sound.course.transactions.rise out.transaction t out.there there (out.is ∙ sym is) in
+        decided-only t k r.stage (list_all-at (λ (t : Transaction). is_outcome_of t.phase t) w.transactions.items run.now.sound.course.transactions.outcomes t there)
         (ap (λ (t : Transaction). told_outcome t.outcome) (sym same) ∙ out.outcome) at
 
 -- nor does the log

@@ -1,6 +1,6 @@
 -- What a command tells of the outcome of a transaction is so then.
 use Rattle.std.specs.Prelude.{if◌then◌else◌, bytes_eq, find}
-use Rattle.std.proofs.Common.{◌≡◌, ℕ, ◌&&◌, ◌||◌, not, Bool, true, false, List, [], ◌∷◌, ◌++◌, map, Option, Some, None, is_none, option_and_then, option_map, refl, sym, ◌∙◌, ap, subst, arith, inl, inr, ◌⊎◌}
+use Rattle.std.proofs.Common.{◌≡◌, ℕ, ◌&&◌, ◌||◌, not, Bool, true, false, List, [], ◌∷◌, ◌++◌, Option, Some, None, is_none, option_and_then, option_map, refl, sym, ◌∙◌, ap, subst, arith, inl, inr, ◌⊎◌}
 use Rattle.std.proofs.lemmas.Bool.{cases_Bool, and_parts, leb-true, or_cases, or_from, true≢false}
 use Rattle.std.proofs.lemmas.Option.{none-some, same_Some}
 use Rattle.std.proofs.lemmas.Slice.Eq.{bytes_eq-Decides}
@@ -18,6 +18,7 @@ use Rattle.ktm_types.specs.declared.command.Command.{Command}
 use Rattle.ktm_types.specs.declared.command.Command.TheVariants.{CreateTransaction, OpenTransaction, CommitTransaction, RollbackTransaction, GetTransactionInformation, CreateResourceManager, OpenResourceManager, RecoverResourceManager, GetNotificationResourceManager, CreateEnlistment, OpenEnlistment, RecoverEnlistment, PrePrepareComplete, PrepareComplete, ReadOnlyEnlistment, CommitComplete, RollbackComplete, SinglePhaseReject, RollbackEnlistment, PrePrepareEnlistment, PrepareEnlistment, CommitEnlistment, SetEnlistmentRecoveryInformation, GetEnlistmentRecoveryInformation, CreateFile, CreateFileTransacted, ReadFile, WriteFile, SetEndOfFile, GetFileSizeEx, FlushFileBuffers, DeleteFile, CreateDirectory, RemoveDirectory, MoveFile, DeleteFileTransacted, CreateDirectoryTransacted, RemoveDirectoryTransacted, MoveFileTransacted, FindFiles, FindFilesTransacted, KvSet, KvUnset, KvGet, KvList, CloseHandle, DuplicateHandle, Exit}
 use Rattle.ktm_types.specs.declared.command.View.{View}
 use Rattle.ktm_types.specs.declared.command.View.TheVariants.{Plain, Transaction as Through}
+use Rattle.ktm_types.specs.declared.input.PhaseInput.{PhaseInput}
 use Rattle.ktm_types.specs.declared.object.Object.{Object}
 use Rattle.ktm_types.specs.declared.object.Phase.{Phase}
 use Rattle.ktm_types.specs.declared.object.Phase.TheVariants.{Ended}
@@ -43,11 +44,14 @@ use Rattle.ktm_world.specs.Keys.{value_seen}
 use Rattle.ktm_world.specs.Labels.{is_bound, transaction_named, manager_named, enlistment_named, file_named, transaction_tests, outcome_tests, invalid_handle, holds_of, viewer, view_tests, file_tests}
 use Rattle.ktm_world.specs.OneOutcome.{told_by, told_outcome, told_of_named, transaction_label, view_label}
 use Rattle.ktm_world.specs.Outcome.{Outcome, apply, only_reply, refuse_or, first_refusal, is_full, within_log}
-use Rattle.ktm_world.specs.Phases.{Course, aborting, committing, to_commit, to_pre_prepare, to_prepare, pre_prepare_answered, prepare_answered, read_only_answered, commit_answered, rollback_answered, single_phase_rejected, recovered}
+use Rattle.ktm_world.specs.Phases.{Course}
 use Rattle.ktm_world.specs.Present.{Present}
-use Rattle.ktm_world.specs.TransactionCalls.{course_of, has_superior, is_superior_kind, no_enlistment_left, quota_test, arrived, bound_test, aborted_by, guid_in, create_transaction, create_transaction_tests, transaction_with, open_to_transaction, open_transaction, open_transaction_tests, commit_of, commit_reply, commit_transaction, rollback_of, rollback_transaction, may_roll_back, information_of, get_transaction_information, create_resource_manager, create_resource_manager_tests, manager_with, open_to_manager, open_resource_manager, open_resource_manager_tests, recover_all, recover_resource_manager, note_reply, take_first, get_notification, enlist, create_enlistment, create_enlistment_tests, enlistment_with, open_to_enlistment, open_enlistment, open_enlistment_tests, transaction_in, goes_on, answering, pre_prepare_complete, prepare_complete, read_only_enlistment, commit_complete, rollback_complete, single_phase_reject, rollback_enlistment, pre_prepare_enlistment, prepare_enlistment, commit_enlistment, recover_enlistment, keep_information, set_information, information_in, get_information}
+use Rattle.ktm_world.specs.Steps.{led, share_of}
+use Rattle.ktm_world.specs.TransactionCalls.{course_of, has_superior, is_superior_kind, no_enlistment_left, quota_test, arrived, bound_test, aborted_by, guid_in, create_transaction, create_transaction_tests, transaction_with, open_to_transaction, open_transaction, open_transaction_tests, commit_of, commit_reply, commit_transaction, rollback_of, rollback_transaction, may_roll_back, information_of, get_transaction_information, create_resource_manager, create_resource_manager_tests, manager_with, open_to_manager, open_resource_manager, open_resource_manager_tests, recover_all, recover_resource_manager, note_reply, take_first, get_notification, enlist, create_enlistment, create_enlistment_tests, enlistment_with, open_to_enlistment, open_enlistment, open_enlistment_tests, transaction_in, goes_on, answering, pre_prepare_complete, prepare_complete, read_only_enlistment, commit_complete, rollback_complete, single_phase_reject, rollback_enlistment, pre_prepare_enlistment, prepare_enlistment, commit_enlistment, recover_enlistment, keep_information, set_information, information_in, get_information, recovery_of}
 use Rattle.ktm_world.specs.Transactions.{transaction_at, is_active, is_committed, is_aborted, is_undecided}
 use Rattle.ktm_world.specs.Uses.{file_room, key_room}
+use Rattle.ktm_steps.proofs.offered.Outcomes.{committed-led}
+use Rattle.ktm_steps.proofs.offered.Staying.{stays-led}
 use Rattle.txf_laws.specs.Elements.{IsIn}
 use Rattle.ktm_laws.specs.Notes.{AreNotesTrue}
 use Rattle.ktm_courses.specs.SoundCourse.{IsSoundCourse, is_counted, is_outcome_of}
@@ -55,11 +59,10 @@ use Rattle.ktm_courses.specs.SoundCourses.{CoursesLaw}
 use Rattle.ktm_courses.proofs.offered.Arrivals.{changed_to}
 use Rattle.ktm_courses.proofs.offered.Calls.{Passes, passed, transaction_at-found, and_then-found, manager-named}
 use Rattle.txf_laws.proofs.offered.Elements.{find-in, list_all-at}
-use Rattle.ktm_laws.proofs.Notes.{says-begun}
+use Rattle.ktm_laws.proofs.Notes.{}
 use Rattle.ktm_courses.proofs.offered.NewObjects.{counted-parts}
 use Rattle.ktm_courses.proofs.offered.Moves.{if_cases, same-by_id}
 use Rattle.ktm_courses.proofs.offered.Outcomes.{changed-itself}
-use Rattle.ktm_laws.proofs.Sayings.{naming, to_commit-ends}
 use Rattle.txf_laws.proofs.offered.Tables.{same_id-from}
 
 -- ---- what is told of a transaction
@@ -113,13 +116,13 @@ silent-arrived x d reply told plain = if_cases (λ o. Silent o) (is_undecided d.
 silent-done : (x : Present) → Silent (only_reply x Done)
 silent-done x = record { told = refl; plain = refl; on = refl }
 
-silent-answering : (x : Present) (o : Option Enlistment) (f : Course → Enlistment → Course) → Silent (answering x o f)
-silent-answering x None f = silent-done x
-silent-answering x (Some e) f = go (transaction_in x e)
+silent-answering : (x : Present) (o : Option Enlistment) (input : Enlistment → PhaseInput) → Silent (answering x o input)
+silent-answering x None input = silent-done x
+silent-answering x (Some e) input = go (transaction_in x e)
   where
-    go : (t : Option Transaction) → Silent (goes_on x e t f)
+    go : (t : Option Transaction) → Silent (goes_on x e t (input e))
     go None = silent-done x
-    go (Some t) = let who : Option Enlistment = Some e in silent-arrived x (f (course_of x t who) e) Done refl refl
+    go (Some t) = silent-arrived x (led (input e) (course_of x t (Some e))) Done refl refl
 
 silent-opening : (x : Present) (process : Pid) (label : Label) (who : Option Id) (o : FileOutcome) → told_of_named o.reply ≡ None → is_note o.reply ≡ false → Silent (opening x process label who o)
 silent-opening x process label who o told plain = go o.opened
@@ -203,7 +206,7 @@ silent-value (Some value) = (refl, refl)
 
 silent-rollback : (x : Present) (o : Option Transaction) → Silent (rollback_of x o)
 silent-rollback x None = silent-done x
-silent-rollback x (Some t) = silent-arrived x (aborting (course_of x t None)) Done refl refl
+silent-rollback x (Some t) = silent-arrived x (led PhaseInput.Rollback (course_of x t None)) Done refl refl
 
 silent-open : (x : Present) (process : Pid) (label : Label) (o : Option Transaction) → Silent (open_to_transaction x process label o)
 silent-open x process label None = silent-done x
@@ -245,7 +248,7 @@ on-joined a b first second = or_from a b first second
 
 on-abort_active : (x : Present) (o : Option Transaction) → (abort_active x o).stops ≡ false
 on-abort_active x None = refl
-on-abort_active x (Some t) = if_cases (λ (o : Outcome). o.stops ≡ false) (is_active t) (aborted_by x t None Done) (only_reply x Done) (λ active. (silent-arrived x (aborting (course_of x t None)) Done refl refl).on) (λ other. refl)
+on-abort_active x (Some t) = if_cases (λ (o : Outcome). o.stops ≡ false) (is_active t) (aborted_by x t None Done) (only_reply x Done) (λ active. (silent-arrived x (led PhaseInput.Rollback (course_of x t None)) Done refl refl).on) (λ other. refl)
 
 on-gone : (o : Option Object) (x : Present) → (handle_gone o x).stops ≡ false
 on-gone None x = refl
@@ -502,17 +505,17 @@ silent-effect x process (OpenResourceManager label guid) is = silent-open_manage
 silent-effect x process (RecoverResourceManager label) is = silent-recover x (manager_named x process label)
 silent-effect x process (CreateEnlistment label manager transaction kind) is = silent-enlist x process label (manager_named x process manager) (transaction_named x process transaction) kind
 silent-effect x process (OpenEnlistment label manager guid) is = silent-open_enlistment x process label (enlistment_with x (manager_named x process manager) guid)
-silent-effect x process (RecoverEnlistment label) is = silent-answering x (enlistment_named x process label) recovered
-silent-effect x process (PrePrepareComplete label) is = silent-answering x (enlistment_named x process label) pre_prepare_answered
-silent-effect x process (PrepareComplete label) is = silent-answering x (enlistment_named x process label) prepare_answered
-silent-effect x process (ReadOnlyEnlistment label) is = silent-answering x (enlistment_named x process label) read_only_answered
-silent-effect x process (CommitComplete label) is = silent-answering x (enlistment_named x process label) commit_answered
-silent-effect x process (RollbackComplete label) is = silent-answering x (enlistment_named x process label) rollback_answered
-silent-effect x process (SinglePhaseReject label) is = silent-answering x (enlistment_named x process label) single_phase_rejected
-silent-effect x process (RollbackEnlistment label) is = silent-answering x (enlistment_named x process label) (λ c e. aborting c)
-silent-effect x process (PrePrepareEnlistment label) is = silent-answering x (enlistment_named x process label) (λ c e. to_pre_prepare c)
-silent-effect x process (PrepareEnlistment label) is = silent-answering x (enlistment_named x process label) (λ c e. to_prepare c)
-silent-effect x process (CommitEnlistment label) is = silent-answering x (enlistment_named x process label) (λ c e. committing c)
+silent-effect x process (RecoverEnlistment label) is = silent-answering x (enlistment_named x process label) recovery_of
+silent-effect x process (PrePrepareComplete label) is = silent-answering x (enlistment_named x process label) (λ e. PhaseInput.PrePrepareComplete)
+silent-effect x process (PrepareComplete label) is = silent-answering x (enlistment_named x process label) (λ e. PhaseInput.PrepareComplete)
+silent-effect x process (ReadOnlyEnlistment label) is = silent-answering x (enlistment_named x process label) (λ e. PhaseInput.ReadOnly (share_of e))
+silent-effect x process (CommitComplete label) is = silent-answering x (enlistment_named x process label) (λ e. PhaseInput.CommitComplete)
+silent-effect x process (RollbackComplete label) is = silent-answering x (enlistment_named x process label) (λ e. PhaseInput.RollbackComplete)
+silent-effect x process (SinglePhaseReject label) is = silent-answering x (enlistment_named x process label) (λ e. PhaseInput.SinglePhaseReject)
+silent-effect x process (RollbackEnlistment label) is = silent-answering x (enlistment_named x process label) (λ e. PhaseInput.Rollback)
+silent-effect x process (PrePrepareEnlistment label) is = silent-answering x (enlistment_named x process label) (λ e. PhaseInput.PrePrepare)
+silent-effect x process (PrepareEnlistment label) is = silent-answering x (enlistment_named x process label) (λ e. PhaseInput.Prepare)
+silent-effect x process (CommitEnlistment label) is = silent-answering x (enlistment_named x process label) (λ e. PhaseInput.Commit)
 silent-effect x process (SetEnlistmentRecoveryInformation label information) is = silent-keep x (enlistment_named x process label) information
 silent-effect x process (GetEnlistmentRecoveryInformation label) is = silent-contents x (enlistment_named x process label)
 silent-effect x process (CreateFile label path access share disposition) is = let says = file-create x.files None path access share disposition in silent-opening x process label None (create_file x.files None path access share disposition) says.told says.plain
@@ -547,10 +550,10 @@ silent-effect x process _ is = absurd (true≢false (sym is))
 -- an Id that was counted is one of the system
 counted-id : (x : Present) → IsSoundCourse x → (e : Enlistment) → IsIn e x.transactions.enlistments → IsId e.id
 counted-id x sound e there =
-    let parts = counted-parts x.recorded.boots x.transactions.last_enlistment e.id (list_all-at (λ (e : Enlistment). is_counted x.recorded.boots x.transactions.last_enlistment e.id) x.transactions.enlistments sound.enlistments_counted e there) in
+    let parts = counted-parts x.recorded.boots x.transactions.last_enlistment e.id (list_all-at (λ (e : Enlistment). is_counted x.recorded.boots x.transactions.last_enlistment e.id) x.transactions.enlistments sound.enlistments.counted e there) in
     let boots = leb-true _ _ parts.1 in
     let number = leb-true _ _ parts.3 in
-    let fits = sound.boots_fit in
+    let fits = sound.numbers.boots_fit in
     record { boot_from = leb-true _ _ parts.0; boot_fits = omega (arith, boots, fits); number_from = leb-true _ _ parts.2; number_fits = omega (arith, number) }
 
 -- two Ids with one GUID are one
@@ -588,7 +591,7 @@ module _ (x : Present) (sound : IsSoundCourse x) where
               let a_is : a ≡ truly.enlistment.id = same_Some a truly.enlistment.id (sym at ∙ truly.named) in
               let one : of.0.id ≡ truly.enlistment.id = guid-one ObjectKind.Enlistment x.recorded.image of.0.id truly.enlistment.id (counted-id x sound of.0 at'.0) (counted-id x sound truly.enlistment truly.enlisted)
               ((bytes_eq-Decides (guid_in x ObjectKind.Enlistment of.0.id) guid).0 at'.1 ∙ sym guids ∙ ap (guid_in x ObjectKind.Enlistment) a_is) in
-              let same : of.0 ≡ truly.enlistment = same-by_id (λ (e : Enlistment). e.id) x.transactions.enlistments sound.enlistments_rise of.0 truly.enlistment at'.0 truly.enlisted one in
+              let same : of.0 ≡ truly.enlistment = same-by_id (λ (e : Enlistment). e.id) x.transactions.enlistments sound.enlistments.rise of.0 truly.enlistment at'.0 truly.enlisted one in
               record { transaction = truly.transaction; there = truly.there; is = truly.own ∙ sym (ap (λ (e : Enlistment). e.transaction) same) ∙ same_Some of.0.transaction id of.2; outcome = truly.outcome }
 
   information-replies : (id : Option Id) → Replies x id (only_reply x (information_of x (option_and_then (transaction_at x.transactions.items) id)))
@@ -638,7 +641,7 @@ module _ (x : Present) (sound : IsSoundCourse x) where
               let on : (arrived x d (commit_reply d)).stops ≡ false = if_cases (λ (o : Outcome). o.stops ≡ false) (is_undecided d.transaction) _ _ (λ is. refl) (λ is. refl) in
               let items : (arrived x d (commit_reply d)).transactions.items ≡ changed_to x.transactions.items d.transaction =
               if_cases (λ (o : Outcome). o.transactions.items ≡ changed_to x.transactions.items d.transaction) (is_undecided d.transaction) _ _ (λ is. refl) (λ is. refl) in
-              let fits = list_all-at (λ (t : Transaction). is_outcome_of t.phase t) (arrived x d (commit_reply d)).transactions.items after'.outcomes d.transaction (subst (IsIn d.transaction) (sym items) there) in
+              let fits = list_all-at (λ (t : Transaction). is_outcome_of t.phase t) (arrived x d (commit_reply d)).transactions.items after'.transactions.outcomes d.transaction (subst (IsIn d.transaction) (sym items) there) in
               record {
                 told = λ id k same tells. subst (λ ts. HasOutcome ts id k) (sym items) (committed id k same (sym (ap told_of_named reply) ∙ tells) fits (cases_Bool (is_ended d.transaction.phase)));
                 noted = λ kind guid id k same tells found. absurd (no-note (commit_reply d) kind (Some guid) (plain (is_ended d.transaction.phase)) (sym reply ∙ same));
@@ -661,10 +664,11 @@ module _ (x : Present) (sound : IsSoundCourse x) where
 
           commits : (t : Transaction) → IsIn t x.transactions.items → t.id ≡ named → told_outcome t.outcome ≡ None → IsSoundCourse (apply x (commit_of x (Some t))) → Replies x (Some named) (commit_of x (Some t))
           commits t there is none after' =
-              let d = to_commit (course_of x t None) in
-              let ends = to_commit-ends (map naming x.transactions.enlistments) t.id (course_of x t None) (says-begun x sound t None) in
-              let in_items = changed-itself x.transactions.items d.transaction t there (same_id-from t.id d.transaction.id (sym ends.says.id)) in
-              arrived-replies d (subst (λ n. (told_outcome d.transaction.outcome ≡ n) ⊎ (told_outcome d.transaction.outcome ≡ Some true)) none ends.outcome) in_items (ends.says.id ∙ is) after'
+              let c = course_of x t None in
+              let d = led PhaseInput.CommitTransaction c in
+              let id = (stays-led PhaseInput.CommitTransaction c).id in
+              let in_items = changed-itself x.transactions.items d.transaction t there (same_id-from t.id d.transaction.id (sym id)) in
+              arrived-replies d (subst (λ n. (told_outcome d.transaction.outcome ≡ n) ⊎ (told_outcome d.transaction.outcome ≡ Some true)) none (committed-led c)) in_items (id ∙ is) after'
 
   effect-replies : (process : Pid) (command : Command) → AreNotesTrue x → Passes (command_tests x process command) → IsSoundCourse (apply x (command_effect x process command)) → Replies x (named_id x process (transaction_label command)) (command_effect x process command)
   unfolding commit_transaction get_transaction_information get_notification

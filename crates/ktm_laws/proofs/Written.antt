@@ -1,14 +1,13 @@
 -- What a command commits applies to what is committed, and what it records puts no empty contents.
 use Rattle.std.specs.Prelude.{if◌then◌else◌}
-use Rattle.std.proofs.Common.{◌≡◌, ℕ, ◌==◌, ◌&&◌, not, Bool, true, false, List, [], ◌∷◌, ◌++◌, filter, Option, Some, None, refl, sym, ◌∙◌, ap, subst, inl, inr, ◌⊎◌}
+use Rattle.std.proofs.Common.{◌≡◌, ℕ, ◌==◌, not, Bool, true, false, List, [], ◌∷◌, ◌++◌, filter, Option, Some, None, refl, sym, ◌∙◌, ap, subst, inl, inr, ◌⊎◌}
 use Rattle.std.proofs.lemmas.Bool.{and_from, eq-eqb, not-true, true≢false}
 use Rattle.std.proofs.lemmas.List.Folds.{list_all-append}
 use Rattle.std.proofs.lemmas.Option.{none-some, same_Some}
-use Rattle.std.specs.List.{list_any, list_all}
+use Rattle.std.specs.List.{list_all}
 use Rattle.ktm_base.specs.declared.id.Id.{Id}
 use Rattle.ktm_base.specs.declared.id.Label.{Label}
 use Rattle.ktm_base.specs.declared.id.Pid.{Pid}
-use Rattle.ktm_base.specs.declared.notify.Notify.{Notify}
 use Rattle.ktm_base.specs.declared.refusal.Refusal.{Refusal}
 use Rattle.ktm_base.specs.declared.refusal.Refusal.TheVariants.{MachineDown}
 use Rattle.ktm_types.specs.declared.change.Change.{Change}
@@ -19,11 +18,10 @@ use Rattle.ktm_types.specs.declared.command.Command.{Command}
 use Rattle.ktm_types.specs.declared.command.Command.TheVariants.{CreateTransaction, OpenTransaction, CommitTransaction, RollbackTransaction, GetTransactionInformation, CreateResourceManager, OpenResourceManager, RecoverResourceManager, GetNotificationResourceManager, CreateEnlistment, OpenEnlistment, RecoverEnlistment, PrePrepareComplete, PrepareComplete, ReadOnlyEnlistment, CommitComplete, RollbackComplete, SinglePhaseReject, RollbackEnlistment, PrePrepareEnlistment, PrepareEnlistment, CommitEnlistment, SetEnlistmentRecoveryInformation, GetEnlistmentRecoveryInformation, CreateFile, CreateFileTransacted, ReadFile, WriteFile, SetEndOfFile, GetFileSizeEx, FlushFileBuffers, DeleteFile, CreateDirectory, RemoveDirectory, MoveFile, DeleteFileTransacted, CreateDirectoryTransacted, RemoveDirectoryTransacted, MoveFileTransacted, FindFiles, FindFilesTransacted, KvSet, KvUnset, KvGet, KvList, CloseHandle, DuplicateHandle, Exit}
 use Rattle.ktm_types.specs.declared.event.Event.{Event}
 use Rattle.ktm_types.specs.declared.event.Event.TheVariants.{MadeRm, Undo}
+use Rattle.ktm_types.specs.declared.input.PhaseInput.{PhaseInput}
 use Rattle.ktm_types.specs.declared.object.Object.{Object}
 use Rattle.ktm_types.specs.declared.object.Object.TheVariants.{Transaction as TransactionObject, Manager as ManagerObject, Enlistment as EnlistmentObject, File as FileObject}
-use Rattle.ktm_types.specs.declared.object.Phase.TheVariants.{Aborting}
 use Rattle.ktm_types.specs.declared.object.Transaction.{Transaction}
-use Rattle.ktm_types.specs.declared.object.TransactionOutcome.{TransactionOutcome}
 use Rattle.ktm_types.specs.declared.options.Access.{Access}
 use Rattle.ktm_types.specs.declared.options.Disposition.{Disposition}
 use Rattle.ktm_types.specs.declared.options.Durability.{Durability}
@@ -31,12 +29,11 @@ use Rattle.ktm_types.specs.declared.options.EnlistmentKind.{EnlistmentKind}
 use Rattle.ktm_types.specs.declared.options.ShareMode.{ShareMode}
 use Rattle.ktm_types.specs.declared.reply.Reply.{Reply}
 use Rattle.ktm_types.specs.declared.reply.Reply.TheVariants.{Refused, Done}
-use Rattle.ktm_types.specs.declared.step.Owed.{Owed}
 use Rattle.ktm_world.specs.Changes.{applies, changes_apply, is_make, node_of, changes_bytes}
 use Rattle.ktm_world.specs.Committed.{Work}
 use Rattle.ktm_world.specs.Conflicts.{writes}
 use Rattle.ktm_world.specs.Decide.{decide, caller, transacted, command_tests, command_effect, refusal_of, with_room, of_files, opening, on_file, on_file_tests, own_tests, bound_file}
-use Rattle.ktm_world.specs.Enlistments.{Enlistment, Manager, is_unfinished, takes_part}
+use Rattle.ktm_world.specs.Enlistments.{Enlistment, Manager}
 use Rattle.ktm_world.specs.FileCalls.{Whereabouts, no_path, no_way, free, at_root, at_node, find_path, empties, create_at, create_file, create_file_tests, read_file, write_file, write_file_tests, set_end, set_end_tests, get_size, flush_file, drop_at, delete_file, delete_file_tests, make_at, create_directory, create_directory_tests, remove_directory, remove_directory_tests, move_at, move_file, move_file_tests, find_files}
 use Rattle.ktm_world.specs.FileOutcome.{FileOutcome, answering, changing}
 use Rattle.ktm_world.specs.Files.{FirstOpen, OpenFile, OwnChanges, own_changes, FilesNow}
@@ -45,8 +42,9 @@ use Rattle.ktm_world.specs.Handles.{object_at}
 use Rattle.ktm_world.specs.Holds.{is_in}
 use Rattle.ktm_world.specs.Labels.{transaction_named, manager_named, enlistment_named, file_named, binding}
 use Rattle.ktm_world.specs.Outcome.{Outcome, apply, only_reply, joined, refuse_or, first_refusal, is_full, within_log}
-use Rattle.ktm_world.specs.Phases.{Course, aborting, decided, ended, ended_if_finished, event_if, in_phase, is_caller, is_its_superior, owing, recording, telling, unchanged}
+use Rattle.ktm_world.specs.Phases.{event_if}
 use Rattle.ktm_world.specs.Present.{Present}
+use Rattle.ktm_world.specs.Steps.{led}
 use Rattle.ktm_world.specs.TransactionCalls.{course_of, new_id, create_transaction, transaction_with, open_to_transaction, open_transaction, aborted_by, get_transaction_information, is_due, aborted_if_due, aborted_in_turn, with_clock, tick, bound_test, is_durable, create_resource_manager, manager_with, open_to_manager, open_resource_manager, recover_all, recover_resource_manager, take_first, get_notification, enlist, create_enlistment, enlistment_with, open_to_enlistment, open_enlistment, keep_information, set_information, get_information}
 use Rattle.ktm_world.specs.Transactions.{transaction_at, is_active, is_undecided}
 use Rattle.ktm_world.specs.Tree.{Tree, is_file}
@@ -58,6 +56,7 @@ use Rattle.txf_laws.specs.Formed.{FormedLaw}
 use Rattle.txf_laws.specs.Contents.{puts_some}
 use Rattle.ktm_courses.specs.SoundCourse.{IsSoundCourse}
 use Rattle.txf_laws.specs.SoundFiles.{IsSoundFiles, is_drawn_node, numbers_made}
+use Rattle.ktm_records.proofs.offered.AgreementOfRollbacks.{rollback-undone}
 use Rattle.ktm_records.proofs.offered.PlainFacts.{MayLand, lands-none, lands-one, lands-created, may-land}
 use Rattle.txf_laws.proofs.offered.ChangeTests.{applies-from}
 use Rattle.ktm_courses.proofs.offered.Calls.{Passes, passed}
@@ -110,31 +109,17 @@ idle-joined a b first second = record {
   puts = list_all-append puts_all a.events b.events ∙ and_from _ _ first.puts second.puts;
 }
 
--- an end commits and records nothing
-ended-same : (c : Course) (outcome : TransactionOutcome) → ((ended_if_finished c outcome).works ≡ c.works) × ((ended_if_finished c outcome).events ≡ c.events)
-unfolding ended
-ended-same c outcome = if_cases (λ (d : Course). (d.works ≡ c.works) × (d.events ≡ c.events)) (list_any (is_unfinished c.transaction.id) c.enlistments) c (ended c outcome) (λ some. (refl, refl)) (λ none. (refl, refl))
-
-aborting-same : (c : Course) → ((aborting c).works ≡ c.works) × ((aborting c).events ≡ c.events ++ event_if c.transaction.is_recorded (Undo c.transaction.id))
-unfolding aborting
-aborting-same c =
-    let id = c.transaction.id in
-    let undone = recording c (event_if c.transaction.is_recorded (Undo id)) in
-    let told = telling undone (λ e. takes_part id e && e.is_recovered) Notify.Rollback (owing Owed.Rollback) in
-    let all_told = telling told (λ e. is_its_superior c e && not (is_caller c e)) Notify.Rollback unchanged in
-    ended-same (in_phase (decided all_told TransactionOutcome.Aborted) Aborting) TransactionOutcome.Aborted
-
 idle-aborted : (x : Present) (t : Transaction) → IsIdle (aborted_by x t None Done)
-idle-aborted x t = if_cases (λ o. IsIdle o) (is_undecided (aborting (course_of x t None)).transaction) _ _ (λ is. record { works = same.0; openings = refl; puts = puts }) (λ is. record { works = same.0; openings = refl; puts = puts })
+idle-aborted x t = if_cases (λ o. IsIdle o) (is_undecided (led PhaseInput.Rollback (course_of x t None)).transaction) _ _ (λ is. record { works = same.0; openings = refl; puts = puts }) (λ is. record { works = same.0; openings = refl; puts = puts })
   where
-    same : ((aborting (course_of x t None)).works ≡ []) × ((aborting (course_of x t None)).events ≡ event_if t.is_recorded (Undo t.id))
-    same = aborting-same (course_of x t None)
+    same : ((led PhaseInput.Rollback (course_of x t None)).works ≡ []) × ((led PhaseInput.Rollback (course_of x t None)).events ≡ event_if t.is_recorded (Undo t.id))
+    same = let undone = rollback-undone (course_of x t None) in (undone.works, undone.events)
 
     undone : (b : Bool) → list_all puts_all (event_if b (Undo t.id)) ≡ true
     undone true = refl
     undone false = refl
 
-    puts : list_all puts_all (aborting (course_of x t None)).events ≡ true
+    puts : list_all puts_all (led PhaseInput.Rollback (course_of x t None)).events ≡ true
     puts = ap (list_all puts_all) same.1 ∙ undone t.is_recorded
 
 idle-abort_active : (x : Present) (o : Option Transaction) → IsIdle (abort_active x o)
@@ -371,7 +356,7 @@ module _ (lists : ListsLaw) (formed : FormedLaw) (x : Present) (course : IsSound
       ]
 
       puts : list_all puts_all by.course.events ≡ true
-      puts = by.ends.says.events (ap (list_all puts_some) by.own.changes ∙ own-puts by.transaction.id)
+      puts = by.says.events (ap (list_all puts_some) by.own.changes ∙ own-puts by.transaction.id)
 
   -- ---- objects
 

@@ -7,6 +7,7 @@ use Rattle.std.proofs.lemmas.List.Sums.{fold-append}
 use Rattle.ktm_base.specs.declared.id.Id.{Id}
 use Rattle.ktm_base.specs.declared.id.Label.{Label}
 use Rattle.ktm_base.specs.declared.id.Pid.{Pid}
+use Rattle.ktm_types.specs.declared.input.PhaseInput.{PhaseInput}
 use Rattle.ktm_types.specs.declared.object.Handle.{Handle}
 use Rattle.ktm_types.specs.declared.object.Object.{Object}
 use Rattle.ktm_types.specs.declared.object.Object.TheVariants.{Transaction as TransactionObject, Manager as ManagerObject, Enlistment as EnlistmentObject, File as FileObject}
@@ -24,8 +25,9 @@ use Rattle.ktm_world.specs.HandleCalls.{is_handle, without_handle, same_object, 
 use Rattle.ktm_world.specs.Handles.{object_at}
 use Rattle.ktm_world.specs.Keys.{keys_used, own_settings}
 use Rattle.ktm_world.specs.Outcome.{Outcome, apply, only_reply, committed_now, is_forgotten, first_opens_after, joined, and_then, served}
-use Rattle.ktm_world.specs.Phases.{Course, aborting}
+use Rattle.ktm_world.specs.Phases.{Course}
 use Rattle.ktm_world.specs.Present.{Present}
+use Rattle.ktm_world.specs.Steps.{led}
 use Rattle.ktm_world.specs.TransactionCalls.{aborted_by, aborted_if_due, aborted_in_turn, arrived, course_of, is_due, may_roll_back, tick, with_clock}
 use Rattle.ktm_world.specs.Transactions.{is_active, is_live, transaction_at}
 use Rattle.txf_laws.specs.Elements.{IsIn}
@@ -36,9 +38,9 @@ use Rattle.txf_laws.proofs.offered.Reservations.{named}
 use Rattle.ktm_owned.proofs.offered.OwnedAfterCourses.{Goes, both-forgotten, only_reply-goes, and_then-goes, course-goes}
 use Rattle.ktm_courses.proofs.offered.Calls.{transaction_at-found}
 use Rattle.ktm_owned.proofs.offered.ClosedFiles.{unbinding, unbinding-goes, file-goes, bound-object, unbound}
-use Rattle.ktm_owned.proofs.offered.CoursesKept.{Steps, aborting-is}
+use Rattle.ktm_owned.proofs.offered.CoursesKept.{led-is}
 use Rattle.txf_laws.proofs.offered.Elements.{IsIn-filter, length-filter-less, filter-true}
-use Rattle.ktm_records.proofs.offered.LiveEnlistments.{Fades, fades-aborting}
+use Rattle.ktm_records.proofs.offered.LiveEnlistments.{fades-led}
 use Rattle.ktm_records.proofs.offered.NoMore.{NoMore, no_more-then, no_more-arrived, no_more-left, no_more-reply, units-events}
 use Rattle.txf_laws.proofs.offered.OlderVersions.{AreFixed}
 use Rattle.ktm_owned.proofs.offered.EndedTransactions.{AreInOrder, unchanged}
@@ -139,19 +141,19 @@ module _ (lists : ListsLaw) (formed : FormedLaw) where
 
   -- ---- courses, and time
 
-  pub course-spends : (x : Present) (t : Transaction) (caller : Option Enlistment) (f : Course → Course) (reply : Course → Reply) → IsIn t x.transactions.items → transaction_at x.transactions.items t.id ≡ Some t → is_live t ≡ true
-      → Steps f → ((c : Course) → Fades c (f c)) → Spends x (arrived x (f (course_of x t caller)) (reply (f (course_of x t caller))))
-  course-spends x t caller f reply there found live steps fades =
-      let c = f (course_of x t caller) in
-      let is = steps t (own_changes x.files.table.own t.id) (own_settings x.keys.own t.id) (course_of x t caller) (record { id = refl; changes = refl; settings = refl; works = refl; events = refl; outcome = refl }) in
+  pub course-spends : (x : Present) (t : Transaction) (caller : Option Enlistment) (input : PhaseInput) (reply : Course → Reply) → IsIn t x.transactions.items → transaction_at x.transactions.items t.id ≡ Some t → is_live t ≡ true
+      → Spends x (arrived x (led input (course_of x t caller)) (reply (led input (course_of x t caller))))
+  course-spends x t caller input reply there found live =
+      let c = led input (course_of x t caller) in
+      let is = led-is t (own_changes x.files.table.own t.id) (own_settings x.keys.own t.id) input (course_of x t caller) (record { id = refl; changes = refl; settings = refl; works = refl; events = refl; outcome = refl }) in
       record {
-        goes = course-goes lists formed x t caller f reply there steps;
-        less = λ order sound fixed. no_more-arrived lists formed x order sound fixed t there found live c (reply c) is (fades (course_of x t caller));
+        goes = course-goes lists formed x t caller input reply there;
+        less = λ order sound fixed. no_more-arrived lists formed x order sound fixed t there found live c (reply c) is (fades-led input (course_of x t caller));
       }
 
   -- a transaction that is live rolls back
   aborts : (x : Present) (id : Id) (t : Transaction) → transaction_at x.transactions.items id ≡ Some t → is_live t ≡ true → Spends x (aborted_by x t None Done)
-  aborts x id t found live = course-spends x t None aborting (λ c. Done) (transaction_at-found x.transactions.items id t found).0 (found-itself x.transactions.items id t found) live aborting-is fades-aborting
+  aborts x id t found live = course-spends x t None PhaseInput.Rollback (λ c. Done) (transaction_at-found x.transactions.items id t found).0 (found-itself x.transactions.items id t found) live
 
   due-spends : (x : Present) (id : Id) → Spends x (aborted_if_due x (transaction_at x.transactions.items id))
   due-spends x id = go (transaction_at x.transactions.items id) refl

@@ -6,6 +6,7 @@ use Rattle.std.proofs.lemmas.Option.{none-some, same_Some}
 use Rattle.ktm_base.specs.declared.id.Id.{Id}
 use Rattle.ktm_types.specs.declared.event.DonePart.{DonePart}
 use Rattle.ktm_types.specs.declared.event.Event.{Event}
+use Rattle.ktm_types.specs.declared.input.PhaseInput.{PhaseInput}
 use Rattle.ktm_types.specs.declared.object.Phase.{Phase}
 use Rattle.ktm_types.specs.declared.object.Phase.TheVariants.{SinglePhase, Committing, Aborting, Ended}
 use Rattle.ktm_types.specs.declared.object.Transaction.{Transaction}
@@ -19,10 +20,12 @@ use Rattle.ktm_world.specs.Files.{own_changes}
 use Rattle.ktm_world.specs.Keys.{own_settings}
 use Rattle.ktm_world.specs.Lawful.{Agrees, Summary, is_held_stage, stage_in, summary_in, summary_now, summary_of, superior_now, undecided}
 use Rattle.ktm_world.specs.Outcome.{Outcome}
-use Rattle.ktm_world.specs.Phases.{Course, commit_answered, committing, ended, ended_if_finished, event_if, finished, is_single_phase, pre_prepare_answered, prepare_answered, read_only_answered, recording, to_commit, to_pre_prepare, to_prepare}
+use Rattle.ktm_world.specs.Phases.{Course, ended, ended_if_finished, event_if, is_single_phase, recording}
 use Rattle.ktm_world.specs.Present.{Present}
+use Rattle.ktm_world.specs.Steps.{led}
 use Rattle.ktm_world.specs.TransactionCalls.{arrived, course_of, goes_on, answering, transaction_in}
 use Rattle.ktm_world.specs.Transactions.{is_live, is_of, is_undecided, same_id}
+use Rattle.ktm_steps.specs.Procedures.{commit_answered, committing, finished, pre_prepare_answered, prepare_answered, read_only_answered}
 use Rattle.std.specs.List.{list_any}
 use Rattle.txf_laws.specs.Elements.{IsIn}
 use Rattle.txf_laws.specs.Footprint.{ListsLaw}
@@ -50,7 +53,7 @@ module _ (lists : ListsLaw) (x : Present) (course : IsSoundCourse x) (good : IsG
 
   -- what was recorded of it
   itself : (t : Transaction) → IsIn t x.transactions.items → (r : Recorded) → r.id ≡ t.id → (recalled : Recalls x r) → recalled.of ≡ t
-  itself t there r is recalled = same-by_id (λ (u : Transaction). u.id) x.transactions.items course.transactions_rise recalled.of t recalled.there there (ap (λ (s : Summary). s.id) recalled.is ∙ is)
+  itself t there r is recalled = same-by_id (λ (u : Transaction). u.id) x.transactions.items course.transactions.rise recalled.of t recalled.there there (ap (λ (s : Summary). s.id) recalled.is ∙ is)
 
   -- an enlistment whose readiness is recorded
   abbrev pub is_recorded_part : Id → Enlistment → Bool
@@ -178,24 +181,24 @@ module _ (lists : ListsLaw) (x : Present) (course : IsSoundCourse x) (good : IsG
   pub holds-arrived : (d : Course) (reply : Reply) → limits_hold x.recorded d.events ≡ true → HoldsOut (arrived x d reply)
   holds-arrived d reply holds = subst (λ es. limits_hold x.recorded es ≡ true) (sym (arrival x d reply).events) holds
 
-  pub holds-answering : (o : Option Enlistment) (f : Course → Enlistment → Course)
-      → ((e : Enlistment) → o ≡ Some e → (t : Transaction) (caller : Option Enlistment) → transaction_in x e ≡ Some t → IsIn t x.transactions.items → same_id e.transaction t.id ≡ true → limits_hold x.recorded (f (course_of x t caller) e).events ≡ true)
-      → HoldsOut (answering x o f)
-  holds-answering None f holds = refl
-  holds-answering (Some e) f holds = go (transaction_in x e) refl
+  pub holds-answering : (o : Option Enlistment) (input : Enlistment → PhaseInput)
+      → ((e : Enlistment) → o ≡ Some e → (t : Transaction) → transaction_in x e ≡ Some t → IsIn t x.transactions.items → same_id e.transaction t.id ≡ true → limits_hold x.recorded (led (input e) (course_of x t (Some e))).events ≡ true)
+      → HoldsOut (answering x o input)
+  holds-answering None input holds = refl
+  holds-answering (Some e) input holds = go (transaction_in x e) refl
     where
-      go : (t : Option Transaction) → transaction_in x e ≡ t → HoldsOut (goes_on x e t f)
+      go : (t : Option Transaction) → transaction_in x e ≡ t → HoldsOut (goes_on x e t (input e))
       go None found = refl
       go (Some t) found =
           let at = transaction_at-found x.transactions.items e.transaction t found in
-          holds-arrived (f (course_of x t (Some e)) e) Done (holds e refl t (Some e) found at.0 (same_id-from e.transaction t.id (sym at.1)))
+          holds-arrived (led (input e) (course_of x t (Some e))) Done (holds e refl t found at.0 (same_id-from e.transaction t.id (sym at.1)))
 
   module _ (t : Transaction) (there : IsIn t x.transactions.items) (caller : Option Enlistment) where
     waits-there : is_undecided t ≡ true → IsIn t (undecided x)
     waits-there waits = IsIn-kept (λ (v : Transaction). is_undecided v && not (is_of v.id None)) x.transactions.items t there (and_from _ _ waits refl)
 
     rolls-undecided : can_roll_back t.phase ≡ true → is_undecided t ≡ true
-    rolls-undecided can = undecided-rolls t can (list_all-at (λ (t : Transaction). is_outcome_of t.phase t) x.transactions.items course.outcomes t there)
+    rolls-undecided can = undecided-rolls t can (list_all-at (λ (t : Transaction). is_outcome_of t.phase t) x.transactions.items course.transactions.outcomes t there)
 
     early-rolls : (phase : Phase) → stage_in phase ≡ Some Stage.Ready → can_roll_back phase ≡ true
     early-rolls Committing early = absurd (true≢false (ap is_decided (same_Some _ _ early)))
@@ -216,13 +219,13 @@ module _ (lists : ListsLaw) (x : Present) (course : IsSoundCourse x) (good : IsG
       few : Few lists x agrees sound fits t there live (recorded_parts t.id) 0
       few = record { parts = parts-live t there live; above = omega arith }
 
-      pub to_commit-events : limits_hold x.recorded (to_commit (course_of x t caller)).events ≡ true
+      pub to_commit-events : limits_hold x.recorded (led PhaseInput.CommitTransaction (course_of x t caller)).events ≡ true
       to_commit-events = holds-to_commit lists x agrees sound fits t there live there' (course_of x t caller) (recorded_parts t.id) going few
 
-      pub to_pre_prepare-events : limits_hold x.recorded (to_pre_prepare (course_of x t caller)).events ≡ true
+      pub to_pre_prepare-events : limits_hold x.recorded (led PhaseInput.PrePrepare (course_of x t caller)).events ≡ true
       to_pre_prepare-events = holds-to_pre_prepare lists x agrees sound fits t there live there' (course_of x t caller) (recorded_parts t.id) going few
 
-      pub to_prepare-events : limits_hold x.recorded (to_prepare (course_of x t caller)).events ≡ true
+      pub to_prepare-events : limits_hold x.recorded (led PhaseInput.Prepare (course_of x t caller)).events ≡ true
       to_prepare-events = holds-to_prepare lists x agrees sound fits t there live there' (course_of x t caller) (recorded_parts t.id) going few
 
       pub pre_prepare_answered-events : (e : Enlistment) → limits_hold x.recorded (pre_prepare_answered (course_of x t caller) e).events ≡ true

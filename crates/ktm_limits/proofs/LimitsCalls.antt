@@ -7,6 +7,7 @@ use Rattle.ktm_base.specs.declared.limits.TheConstants.{MOST_LIVE, MOST_HANDLES,
 use Rattle.ktm_base.specs.declared.id.Id.{Id}
 use Rattle.ktm_base.specs.declared.id.Label.{Label}
 use Rattle.ktm_base.specs.declared.id.Pid.{Pid}
+use Rattle.ktm_types.specs.declared.input.PhaseInput.{PhaseInput}
 use Rattle.ktm_types.specs.declared.object.Handle.{Handle}
 use Rattle.ktm_types.specs.declared.object.Object.{Object}
 use Rattle.ktm_types.specs.declared.object.Phase.{Phase}
@@ -29,12 +30,13 @@ use Rattle.ktm_world.specs.KeyCalls.{kv_set, kv_set_tests, kv_unset, kv_unset_te
 use Rattle.ktm_world.specs.Keys.{keys_used, changes_pending as keys_unset}
 use Rattle.ktm_world.specs.Labels.{binding, holds_of, with_handle, transaction_tests}
 use Rattle.ktm_world.specs.Outcome.{Outcome, apply, only_reply, committed_now, served}
-use Rattle.ktm_world.specs.Phases.{Course, aborting, committing, to_commit, to_pre_prepare, to_prepare, pre_prepare_answered, prepare_answered, read_only_answered, commit_answered, rollback_answered, single_phase_rejected, recovered, is_single_phase}
+use Rattle.ktm_world.specs.Phases.{Course, is_single_phase}
 use Rattle.ktm_world.specs.Present.{Present, Transactions}
-use Rattle.ktm_world.specs.TransactionCalls.{arrived, course_of, commit_of, commit_reply, rollback_of, rollback_transaction_tests, may_roll_back, create_transaction, create_transaction_tests, no_transaction_left, open_transaction, open_transaction_tests, open_to_transaction, transaction_with, create_resource_manager, create_resource_manager_tests, no_manager_left, is_durable, open_resource_manager, open_resource_manager_tests, open_to_manager, manager_with, recover_all, take_first, create_enlistment, create_enlistment_tests, no_enlistment_left, enlist, open_enlistment, open_enlistment_tests, open_to_enlistment, enlistment_with, new_id, goes_on, answering, transaction_in, phase_passes, enlistment_tests, superior_tests, may_vote, may_roll_back_by, may_reject_one_phase, may_recover, is_voting, is_in_doubt, lets_superior_roll_back, before_pre_prepare, before_prepare, waits_for_superior, keep_information}
+use Rattle.ktm_world.specs.TransactionCalls.{arrived, course_of, commit_of, commit_reply, rollback_of, rollback_transaction_tests, may_roll_back, create_transaction, create_transaction_tests, no_transaction_left, open_transaction, open_transaction_tests, open_to_transaction, transaction_with, create_resource_manager, create_resource_manager_tests, no_manager_left, is_durable, open_resource_manager, open_resource_manager_tests, open_to_manager, manager_with, recover_all, take_first, create_enlistment, create_enlistment_tests, no_enlistment_left, enlist, open_enlistment, open_enlistment_tests, open_to_enlistment, enlistment_with, new_id, goes_on, answering, transaction_in, phase_passes, enlistment_tests, superior_tests, may_vote, may_roll_back_by, may_reject_one_phase, may_recover, is_voting, is_in_doubt, lets_superior_roll_back, before_pre_prepare, before_prepare, waits_for_superior, keep_information, recovery_of}
 use Rattle.ktm_world.specs.Transactions.{is_active, is_live, same_id}
 use Rattle.ktm_world.specs.Uses.{changes_waiting, key_room}
 use Rattle.ktm_world.proofs.offered.KeyLemmas.{counted-with_own-le}
+use Rattle.ktm_world.specs.Steps.{led, share_of}
 use Rattle.txf_laws.specs.Elements.{IsIn}
 use Rattle.txf_laws.specs.Footprint.{ListsLaw}
 use Rattle.txf_laws.specs.Formed.{FormedLaw}
@@ -42,9 +44,8 @@ use Rattle.ktm_courses.specs.SoundCourse.{IsSoundCourse, are_enlistments_as_aske
 use Rattle.txf_laws.specs.SoundFiles.{IsSoundFiles}
 use Rattle.ktm_courses.proofs.offered.EnlistmentAnswers.{owed-commit, owed-pre_prepare, owed-prepare, owed-rollback}
 use Rattle.ktm_courses.proofs.offered.Calls.{Passes, passed, transaction_at-found, enlistment-allowed, superior-allowed, phase-passed}
-use Rattle.ktm_owned.proofs.offered.CoursesKept.{Steps, to_commit-is, aborting-is, committing-is, to_pre_prepare-is, to_prepare-is, pre_prepare_answered-is, prepare_answered-is, read_only_answered-is, commit_answered-is, rollback_answered-is, single_phase_rejected-is, recovered-is}
 use Rattle.txf_laws.proofs.offered.Elements.{list_all-at, list_any-at, list_any-from, not-not}
-use Rattle.ktm_records.proofs.offered.LiveEnlistments.{Fades, enlisted-fade, fade-with, fades-to_commit, fades-aborting, fades-committing, fades-to_pre_prepare, fades-to_prepare, fades-pre_prepare_answered, fades-prepare_answered, fades-read_only_answered, fades-commit_answered, fades-rollback_answered, fades-single_phase_rejected, fades-recovered, phase-live}
+use Rattle.ktm_records.proofs.offered.LiveEnlistments.{enlisted-fade, fade-with, phase-live}
 use Rattle.txf_laws.proofs.offered.Lists.{IsIn-cases}
 use Rattle.ktm_courses.proofs.offered.NewObjects.{next-other}
 use Rattle.ktm_courses.proofs.offered.Moves.{if_parts}
@@ -199,8 +200,8 @@ module _ (x : Present) (fits : Fits x) where
             | inl old ↦ list_any-from (λ t. is_live_in t e) x.transactions.items v.0 old v.2
             | inr (inl same) ↦
                 let own = and_parts (same_id e.transaction v.0.id) _ (and_parts (same_id e.transaction v.0.id && not (is_ended v.0.phase)) _ v.2).0 in
-                let w = list_any-at (λ (t : Transaction). same_id t.id e.transaction) x.transactions.items (list_all-at (λ (e : Enlistment). has_transaction x.transactions.items e.transaction) x.transactions.enlistments sound.transactions_there e there) in
-                let other = next-other x.recorded.boots x.transactions.last_transaction w.0.id (list_all-at (λ (t : Transaction). is_counted x.recorded.boots x.transactions.last_transaction t.id) x.transactions.items sound.transactions_counted w.0 w.1) in
+                let w = list_any-at (λ (t : Transaction). same_id t.id e.transaction) x.transactions.items (list_all-at (λ (e : Enlistment). has_transaction x.transactions.items e.transaction) x.transactions.enlistments sound.enlistments.transactions_there e there) in
+                let other = next-other x.recorded.boots x.transactions.last_transaction w.0.id (list_all-at (λ (t : Transaction). is_counted x.recorded.boots x.transactions.last_transaction t.id) x.transactions.items sound.transactions.counted w.0 w.1) in
                 absurd (true≢false (sym (same_id-from w.0.id new.id (same_id-equal w.0.id e.transaction w.2 ∙ same_id-equal e.transaction v.0.id own.0 ∙ ap (λ (t : Transaction). t.id) (sym same))) ∙ other))
             | inr (inr none) ↦ absurd none
           ]
@@ -324,44 +325,44 @@ going-live test going t = go t.phase
 
 module _ (lists : ListsLaw) (formed : FormedLaw) (x : Present) (course : IsSoundCourse x) (sound : IsSoundFiles x) (fits : Fits x) (fixed : AreFixed x.files.first_opens) where
   order : AreInOrder x
-  order = record { transactions_rise = course.transactions_rise; labels_differ = course.labels_differ }
+  order = record { transactions_rise = course.transactions.rise; labels_differ = course.handles.labels_differ }
 
   pub stays-spent : (o : Outcome) → Spends lists formed x o → Stays x o
   stays-spent o spends = record { fits = no_more-fits x (apply x o) (spends.less order sound fixed) fits; fixed = fixed-after lists formed x o spends.goes.opens }
 
-  stays-course : (t : Transaction) (caller : Option Enlistment) (f : Course → Course) (reply : Course → Reply) → IsIn t x.transactions.items → is_live t ≡ true → Steps f → ((c : Course) → Fades c (f c))
-      → Stays x (arrived x (f (course_of x t caller)) (reply (f (course_of x t caller))))
-  stays-course t caller f reply there live steps fades =
-      stays-spent _ (course-spends lists formed x t caller f reply there (transaction_at-there x.transactions.items course.transactions_rise t there) live steps fades)
+  stays-course : (t : Transaction) (caller : Option Enlistment) (input : PhaseInput) (reply : Course → Reply) → IsIn t x.transactions.items → is_live t ≡ true
+      → Stays x (arrived x (led input (course_of x t caller)) (reply (led input (course_of x t caller))))
+  stays-course t caller input reply there live =
+      stays-spent _ (course-spends lists formed x t caller input reply there (transaction_at-there x.transactions.items course.transactions.rise t there) live)
 
   pub stays-commit : (t : Option Transaction) → ((u : Transaction) → t ≡ Some u → IsIn u x.transactions.items) → Passes (transaction_tests t) → Stays x (commit_of x t)
   stays-commit None there passes = stays-reply x fits Done
   stays-commit (Some t) there passes =
       let active = not-not (is_active t) (passed (passed (passed (passed passes).1).1).1).0 in
-      stays-course t None to_commit commit_reply (there t refl) (active-live t active) to_commit-is fades-to_commit
+      stays-course t None PhaseInput.CommitTransaction commit_reply (there t refl) (active-live t active)
 
   pub stays-rollback : (t : Option Transaction) → ((u : Transaction) → t ≡ Some u → IsIn u x.transactions.items) → Passes (rollback_transaction_tests t) → Stays x (rollback_of x t)
   stays-rollback None there passes = stays-reply x fits Done
   stays-rollback (Some t) there passes =
       let may = not-not (may_roll_back t) (passed (passed (passed (passed passes).1).1).1).0 in
-      stays-course t None aborting (λ c. Done) (there t refl) (rolling-live t may) aborting-is fades-aborting
+      stays-course t None PhaseInput.Rollback (λ c. Done) (there t refl) (rolling-live t may)
 
-  -- an enlistment goes on by this step, whose transaction is live
-  stays-answering : (o : Option Enlistment) (f : Course → Enlistment → Course) → ((e : Enlistment) → o ≡ Some e → (t : Transaction) → transaction_in x e ≡ Some t → IsIn t x.transactions.items → same_id e.transaction t.id ≡ true → is_live t ≡ true)
-      → ((e : Enlistment) → Steps (λ c. f c e)) → ((e : Enlistment) (c : Course) → Fades c (f c e)) → Stays x (answering x o f)
-  stays-answering None f live steps fades = stays-reply x fits Done
-  stays-answering (Some e) f live steps fades = go (transaction_in x e) refl
+  -- the transaction of an enlistment, which is live, goes on by what comes from it
+  stays-answering : (o : Option Enlistment) (input : Enlistment → PhaseInput) → ((e : Enlistment) → o ≡ Some e → (t : Transaction) → transaction_in x e ≡ Some t → IsIn t x.transactions.items → same_id e.transaction t.id ≡ true → is_live t ≡ true)
+      → Stays x (answering x o input)
+  stays-answering None input live = stays-reply x fits Done
+  stays-answering (Some e) input live = go (transaction_in x e) refl
     where
-      go : (t : Option Transaction) → transaction_in x e ≡ t → Stays x (goes_on x e t f)
+      go : (t : Option Transaction) → transaction_in x e ≡ t → Stays x (goes_on x e t (input e))
       go None found = stays-reply x fits Done
       go (Some t) found =
           let at = transaction_at-found x.transactions.items e.transaction t found in
-          stays-course t (Some e) (λ c. f c e) (λ c. Done) at.0 (live e refl t found at.0 (same_id-from e.transaction t.id (sym at.1))) (steps e) (fades e)
+          stays-course t (Some e) (input e) (λ c. Done) at.0 (live e refl t found at.0 (same_id-from e.transaction t.id (sym at.1)))
 
   -- an enlistment is as the phase of its transaction asks
   as-asked : (e : Enlistment) → IsIn e x.transactions.enlistments → (t : Transaction) → IsIn t x.transactions.items → same_id e.transaction t.id ≡ true → is_enlistment_as t.phase e ≡ true
   as-asked e there t in_ts own =
-      let all = list_all-at (are_enlistments_as_asked x.transactions.enlistments) x.transactions.items course.enlistments t in_ts in
+      let all = list_all-at (are_enlistments_as_asked x.transactions.enlistments) x.transactions.items course.phases.enlistments t in_ts in
       elim (or_cases (not (same_id e.transaction t.id)) (is_enlistment_as t.phase e) (list_all-at (λ (e : Enlistment). not (same_id e.transaction t.id) || is_enlistment_as t.phase e) x.transactions.enlistments all e there)) [
         | inl other ↦ absurd (true≢false (sym own ∙ not-true _ other))
         | inr is ↦ is
@@ -383,7 +384,7 @@ module _ (lists : ListsLaw) (formed : FormedLaw) (x : Present) (course : IsSound
 
   -- one that is not recovered takes part, and has not finished
   unrecovered : (e : Enlistment) → IsIn e x.transactions.enlistments → e.is_recovered ≡ false → (e.is_read_only ≡ false) × (e.is_finished ≡ false)
-  unrecovered e there not' = elim (or_cases e.is_recovered _ (list_all-at (is_unrecovered_well x.recorded.boots x.managers) x.transactions.enlistments course.unrecovered e there)) [
+  unrecovered e there not' = elim (or_cases e.is_recovered _ (list_all-at (is_unrecovered_well x.recorded.boots x.managers) x.transactions.enlistments course.enlistments.unrecovered e there)) [
     | inl is ↦ absurd (true≢false (sym is ∙ not'))
     | inr back ↦
         let e' = and_parts _ (is_superior e || e.is_prepared) back in
@@ -401,52 +402,43 @@ module _ (lists : ListsLaw) (formed : FormedLaw) (x : Present) (course : IsSound
   ])
 
   module _ (o : Option Enlistment) (there : (e : Enlistment) → o ≡ Some e → IsIn e x.transactions.enlistments) where
-    pub stays-pre_prepare_complete : Passes (enlistment_tests o owes_pre_prepare) → Stays x (answering x o pre_prepare_answered)
-    stays-pre_prepare_complete tests = stays-answering o pre_prepare_answered (λ e is t found in_ts own. owing-live e (there e is) Owed.PrePrepare (owed-pre_prepare e (enlistment-allowed o owes_pre_prepare e is tests)) t in_ts own)
-        (λ e t cs ss c is. pre_prepare_answered-is t cs ss c e is) (λ e c. fades-pre_prepare_answered c e)
+    pub stays-pre_prepare_complete : Passes (enlistment_tests o owes_pre_prepare) → Stays x (answering x o (λ e. PhaseInput.PrePrepareComplete))
+    stays-pre_prepare_complete tests = stays-answering o (λ e. PhaseInput.PrePrepareComplete) (λ e is t found in_ts own. owing-live e (there e is) Owed.PrePrepare (owed-pre_prepare e (enlistment-allowed o owes_pre_prepare e is tests)) t in_ts own)
 
-    pub stays-prepare_complete : Passes (enlistment_tests o owes_prepare) → Stays x (answering x o prepare_answered)
-    stays-prepare_complete tests = stays-answering o prepare_answered (λ e is t found in_ts own. owing-live e (there e is) Owed.Prepare (owed-prepare e (enlistment-allowed o owes_prepare e is tests)) t in_ts own)
-        (λ e t cs ss c is. prepare_answered-is t cs ss c e is) (λ e c. fades-prepare_answered c e)
+    pub stays-prepare_complete : Passes (enlistment_tests o owes_prepare) → Stays x (answering x o (λ e. PhaseInput.PrepareComplete))
+    stays-prepare_complete tests = stays-answering o (λ e. PhaseInput.PrepareComplete) (λ e is t found in_ts own. owing-live e (there e is) Owed.Prepare (owed-prepare e (enlistment-allowed o owes_prepare e is tests)) t in_ts own)
 
-    pub stays-commit_complete : Passes (enlistment_tests o owes_commit) → Stays x (answering x o commit_answered)
-    stays-commit_complete tests = stays-answering o commit_answered (λ e is t found in_ts own. owing-live e (there e is) Owed.Commit (owed-commit e (enlistment-allowed o owes_commit e is tests)) t in_ts own)
-        (λ e t cs ss c is. commit_answered-is t cs ss c e is) (λ e c. fades-commit_answered c e)
+    pub stays-commit_complete : Passes (enlistment_tests o owes_commit) → Stays x (answering x o (λ e. PhaseInput.CommitComplete))
+    stays-commit_complete tests = stays-answering o (λ e. PhaseInput.CommitComplete) (λ e is t found in_ts own. owing-live e (there e is) Owed.Commit (owed-commit e (enlistment-allowed o owes_commit e is tests)) t in_ts own)
 
-    pub stays-rollback_complete : Passes (enlistment_tests o owes_rollback) → Stays x (answering x o rollback_answered)
-    stays-rollback_complete tests = stays-answering o rollback_answered (λ e is t found in_ts own. owing-live e (there e is) Owed.Rollback (owed-rollback e (enlistment-allowed o owes_rollback e is tests)) t in_ts own)
-        (λ e t cs ss c is. rollback_answered-is t cs ss c e is) (λ e c. fades-rollback_answered c e)
+    pub stays-rollback_complete : Passes (enlistment_tests o owes_rollback) → Stays x (answering x o (λ e. PhaseInput.RollbackComplete))
+    stays-rollback_complete tests = stays-answering o (λ e. PhaseInput.RollbackComplete) (λ e is t found in_ts own. owing-live e (there e is) Owed.Rollback (owed-rollback e (enlistment-allowed o owes_rollback e is tests)) t in_ts own)
 
-    pub stays-read_only : Passes (enlistment_tests o (may_vote x)) → Stays x (answering x o read_only_answered)
-    stays-read_only tests = stays-answering o read_only_answered (λ e is t found in_ts own.
+    pub stays-read_only : Passes (enlistment_tests o (may_vote x)) → Stays x (answering x o (λ e. PhaseInput.ReadOnly (share_of e)))
+    stays-read_only tests = stays-answering o (λ e. PhaseInput.ReadOnly (share_of e)) (λ e is t found in_ts own.
         going-live is_voting refl t (phase-passed x is_voting e t found (and_parts _ (phase_passes x is_voting e) (enlistment-allowed o (may_vote x) e is tests)).1))
-        (λ e t cs ss c is. read_only_answered-is t cs ss c e is) (λ e c. fades-read_only_answered c e)
 
-    pub stays-single_phase_reject : Passes (enlistment_tests o (may_reject_one_phase x)) → Stays x (answering x o single_phase_rejected)
-    stays-single_phase_reject tests = stays-answering o single_phase_rejected (λ e is t found in_ts own.
+    pub stays-single_phase_reject : Passes (enlistment_tests o (may_reject_one_phase x)) → Stays x (answering x o (λ e. PhaseInput.SinglePhaseReject))
+    stays-single_phase_reject tests = stays-answering o (λ e. PhaseInput.SinglePhaseReject) (λ e is t found in_ts own.
         going-live is_single_phase refl t (phase-passed x is_single_phase e t found (and_parts (phase_passes x is_single_phase e) _ (enlistment-allowed o (may_reject_one_phase x) e is tests)).0))
-        (λ e t cs ss c is. single_phase_rejected-is t cs ss c e is) (λ e c. fades-single_phase_rejected c e)
 
-    pub stays-rollback_enlistment : Passes (enlistment_tests o (may_roll_back_by x)) → Stays x (answering x o (λ c e. aborting c))
-    stays-rollback_enlistment tests = stays-answering o (λ c e. aborting c) (λ e is t found in_ts own. elim (if_parts (is_superior e) (phase_passes x lets_superior_roll_back e) (may_vote x e) (enlistment-allowed o (may_roll_back_by x) e is tests)) [
+    pub stays-rollback_enlistment : Passes (enlistment_tests o (may_roll_back_by x)) → Stays x (answering x o (λ e. PhaseInput.Rollback))
+    stays-rollback_enlistment tests = stays-answering o (λ e. PhaseInput.Rollback) (λ e is t found in_ts own. elim (if_parts (is_superior e) (phase_passes x lets_superior_roll_back e) (may_vote x e) (enlistment-allowed o (may_roll_back_by x) e is tests)) [
       | inl above ↦ going-live lets_superior_roll_back refl t (phase-passed x lets_superior_roll_back e t found above.1)
       | inr below ↦ going-live is_voting refl t (phase-passed x is_voting e t found (and_parts _ (phase_passes x is_voting e) below.1).1)
-    ]) (λ e. aborting-is) (λ e. fades-aborting)
+    ])
 
-    pub stays-pre_prepare_enlistment : Passes (superior_tests x o before_pre_prepare) → Stays x (answering x o (λ c e. to_pre_prepare c))
-    stays-pre_prepare_enlistment tests = stays-answering o (λ c e. to_pre_prepare c) (λ e is t found in_ts own. going-live before_pre_prepare refl t (phase-passed x before_pre_prepare e t found (superior-allowed x o before_pre_prepare e is tests)))
-        (λ e. to_pre_prepare-is) (λ e. fades-to_pre_prepare)
+    pub stays-pre_prepare_enlistment : Passes (superior_tests x o before_pre_prepare) → Stays x (answering x o (λ e. PhaseInput.PrePrepare))
+    stays-pre_prepare_enlistment tests = stays-answering o (λ e. PhaseInput.PrePrepare) (λ e is t found in_ts own. going-live before_pre_prepare refl t (phase-passed x before_pre_prepare e t found (superior-allowed x o before_pre_prepare e is tests)))
 
-    pub stays-prepare_enlistment : Passes (superior_tests x o before_prepare) → Stays x (answering x o (λ c e. to_prepare c))
-    stays-prepare_enlistment tests = stays-answering o (λ c e. to_prepare c) (λ e is t found in_ts own. going-live before_prepare refl t (phase-passed x before_prepare e t found (superior-allowed x o before_prepare e is tests)))
-        (λ e. to_prepare-is) (λ e. fades-to_prepare)
+    pub stays-prepare_enlistment : Passes (superior_tests x o before_prepare) → Stays x (answering x o (λ e. PhaseInput.Prepare))
+    stays-prepare_enlistment tests = stays-answering o (λ e. PhaseInput.Prepare) (λ e is t found in_ts own. going-live before_prepare refl t (phase-passed x before_prepare e t found (superior-allowed x o before_prepare e is tests)))
 
-    pub stays-commit_enlistment : Passes (superior_tests x o waits_for_superior) → Stays x (answering x o (λ c e. committing c))
-    stays-commit_enlistment tests = stays-answering o (λ c e. committing c) (λ e is t found in_ts own. going-live waits_for_superior refl t (phase-passed x waits_for_superior e t found (superior-allowed x o waits_for_superior e is tests)))
-        (λ e. committing-is) (λ e. fades-committing)
+    pub stays-commit_enlistment : Passes (superior_tests x o waits_for_superior) → Stays x (answering x o (λ e. PhaseInput.Commit))
+    stays-commit_enlistment tests = stays-answering o (λ e. PhaseInput.Commit) (λ e is t found in_ts own. going-live waits_for_superior refl t (phase-passed x waits_for_superior e t found (superior-allowed x o waits_for_superior e is tests)))
 
-    pub stays-recover_enlistment : Passes (enlistment_tests o (may_recover x)) → Stays x (answering x o recovered)
-    stays-recover_enlistment tests = stays-answering o recovered (λ e is t found in_ts own. phase-live t (elim (cases_Bool (is_ended t.phase)) [
+    pub stays-recover_enlistment : Passes (enlistment_tests o (may_recover x)) → Stays x (answering x o recovery_of)
+    stays-recover_enlistment tests = stays-answering o recovery_of (λ e is t found in_ts own. phase-live t (elim (cases_Bool (is_ended t.phase)) [
       | inr going ↦ going
       | inl over ↦
           let may = and_parts (not e.is_recovered) _ (enlistment-allowed o (may_recover x) e is tests) in
@@ -457,4 +449,4 @@ module _ (lists : ListsLaw) (formed : FormedLaw) (x : Present) (course : IsSound
                 true≢false (sym (ended-finished e asked (not-true _ below) back.0) ∙ back.1)
             | inr doubt ↦ true≢false (sym over ∙ doubtful t (subst (λ n. holds_of is_in_doubt n ≡ true) found doubt))
           ])
-    ])) (λ e t cs ss c is. recovered-is t cs ss c e is) (λ e c. fades-recovered c e)
+    ]))

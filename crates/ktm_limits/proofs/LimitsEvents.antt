@@ -1,9 +1,9 @@
 -- The limits hold after each event that a command records, and that the passing of time does.
 use Rattle.std.specs.Prelude.{if◌then◌else◌}
-use Rattle.std.proofs.Common.{◌≡◌, ℕ, ◌+◌, not, Bool, true, false, List, [], ◌∷◌, drop, length, take, Option, Some, None, is_none, refl, sym, ◌∙◌, ap, subst, inl, inr, ◌⊎◌}
-use Rattle.std.proofs.lemmas.Bool.{and_parts, and_from, true≢false}
+use Rattle.std.proofs.Common.{◌≡◌, ℕ, ◌+◌, not, Bool, true, false, List, [], ◌∷◌, drop, length, take, Option, Some, None, is_none, refl, sym, ◌∙◌, ap, subst, inl, inr, ◌⊎◌, ◌&&◌}
+use Rattle.std.proofs.lemmas.Bool.{and_parts, and_from, true≢false, not-true}
 use Rattle.std.proofs.lemmas.List.Folds.{list_all-append}
-use Rattle.std.specs.List.{list_all, list_any}
+use Rattle.std.specs.List.{list_all}
 use Rattle.ktm_base.specs.declared.id.Id.{Id}
 use Rattle.ktm_base.specs.declared.id.Label.{Label}
 use Rattle.ktm_base.specs.declared.id.Pid.{Pid}
@@ -14,12 +14,12 @@ use Rattle.ktm_types.specs.declared.command.Command.{Command}
 use Rattle.ktm_types.specs.declared.command.Command.TheVariants.{CreateTransaction, OpenTransaction, CommitTransaction, RollbackTransaction, GetTransactionInformation, CreateResourceManager, OpenResourceManager, RecoverResourceManager, GetNotificationResourceManager, CreateEnlistment, OpenEnlistment, RecoverEnlistment, PrePrepareComplete, PrepareComplete, ReadOnlyEnlistment, CommitComplete, RollbackComplete, SinglePhaseReject, RollbackEnlistment, PrePrepareEnlistment, PrepareEnlistment, CommitEnlistment, SetEnlistmentRecoveryInformation, GetEnlistmentRecoveryInformation, CreateFile, CreateFileTransacted, ReadFile, WriteFile, SetEndOfFile, GetFileSizeEx, FlushFileBuffers, DeleteFile, CreateDirectory, RemoveDirectory, MoveFile, DeleteFileTransacted, CreateDirectoryTransacted, RemoveDirectoryTransacted, MoveFileTransacted, FindFiles, FindFilesTransacted, KvSet, KvUnset, KvGet, KvList, CloseHandle, DuplicateHandle, Exit}
 use Rattle.ktm_types.specs.declared.event.Event.{Event}
 use Rattle.ktm_types.specs.declared.event.Event.TheVariants.{MadeRm, Plain, Undo}
+use Rattle.ktm_types.specs.declared.input.PhaseInput.{PhaseInput}
 use Rattle.ktm_types.specs.declared.object.Object.{Object}
 use Rattle.ktm_types.specs.declared.object.Object.TheVariants.{Transaction as TransactionObject, Manager as ManagerObject, Enlistment as EnlistmentObject, File as FileObject}
 use Rattle.ktm_types.specs.declared.object.Phase.{Phase}
-use Rattle.ktm_types.specs.declared.object.Phase.TheVariants.{Active, Requested, PrePreparing, PrePrepared, Preparing, SinglePhase, Held, InDoubt, Committing, Aborting}
+use Rattle.ktm_types.specs.declared.object.Phase.TheVariants.{Active, Requested, PrePreparing, PrePrepared, Preparing, SinglePhase, Held, InDoubt}
 use Rattle.ktm_types.specs.declared.object.Transaction.{Transaction}
-use Rattle.ktm_types.specs.declared.object.TransactionOutcome.{TransactionOutcome}
 use Rattle.ktm_types.specs.declared.options.Durability.{Durability}
 use Rattle.ktm_types.specs.declared.options.EnlistmentKind.{EnlistmentKind}
 use Rattle.ktm_types.specs.declared.recorded.Stage.{Stage}
@@ -28,7 +28,7 @@ use Rattle.ktm_types.specs.declared.reply.Reply.TheVariants.{Contents as Bytes, 
 use Rattle.ktm_types.specs.declared.step.Owed.{Owed}
 use Rattle.ktm_world.specs.Decide.{of_files, opening, bound_file, on_file, caller, command_tests, command_effect, decide, events_of, refusal_of, with_room}
 use Rattle.ktm_world.specs.Durable.{Durable, after_event, after_events, fact_of, is_within_limits, without_recorded}
-use Rattle.ktm_world.specs.Enlistments.{Enlistment, Manager, is_superior, is_unfinished, owes_commit, owes_pre_prepare, owes_prepare}
+use Rattle.ktm_world.specs.Enlistments.{Enlistment, Manager, is_superior, owes_commit, owes_pre_prepare, owes_prepare, is_open_for_votes}
 use Rattle.ktm_world.specs.FileCalls.{create_file, create_file_tests, read_file, write_file, set_end, get_size, flush_file, delete_file, create_directory, remove_directory, move_file, find_files}
 use Rattle.ktm_world.specs.FileOutcome.{FileOutcome}
 use Rattle.ktm_world.specs.Files.{OpenFile, bytes_seen}
@@ -37,12 +37,16 @@ use Rattle.ktm_world.specs.Handles.{object_at}
 use Rattle.ktm_world.specs.Labels.{transaction_named, manager_named, enlistment_named, file_named, transaction_tests}
 use Rattle.ktm_world.specs.Lawful.{Agrees, stage_in}
 use Rattle.ktm_world.specs.Outcome.{Outcome, only_reply, apply, and_then, first_refusal, refuse_or, is_full}
-use Rattle.ktm_world.specs.Phases.{Course, aborting, committing, ended, event_if, finished, recovered_in, recovering, commit_answered, pre_prepare_answered, prepare_answered, read_only_answered, recovered, rollback_answered, single_phase_rejected, to_commit, to_pre_prepare, to_prepare}
+use Rattle.ktm_world.specs.Phases.{Course, event_if}
 use Rattle.ktm_world.specs.Present.{Present}
-use Rattle.ktm_world.specs.TransactionCalls.{aborted_by, aborted_if_due, aborted_in_turn, answering, before_pre_prepare, before_prepare, commit_of, commit_reply, commit_transaction, rollback_transaction, rollback_of, create_transaction, open_transaction, open_to_transaction, transaction_with, get_transaction_information, create_resource_manager, new_id, open_resource_manager, open_to_manager, manager_with, recover_resource_manager, recover_all, get_notification, take_first, create_enlistment, open_enlistment, open_to_enlistment, enlistment_with, course_of, enlistment_tests, superior_tests, is_due, is_voting, keep_information, may_vote, phase_passes, pre_prepare_complete, prepare_complete, read_only_enlistment, commit_complete, rollback_complete, single_phase_reject, rollback_enlistment, pre_prepare_enlistment, prepare_enlistment, commit_enlistment, recover_enlistment, set_information, get_information, tick, waits_for_superior, with_clock}
+use Rattle.ktm_world.specs.Steps.{led, share_of}
+use Rattle.ktm_world.specs.TransactionCalls.{aborted_by, aborted_if_due, aborted_in_turn, answering, before_pre_prepare, before_prepare, commit_of, commit_reply, commit_transaction, rollback_transaction, rollback_of, create_transaction, open_transaction, open_to_transaction, transaction_with, get_transaction_information, create_resource_manager, new_id, open_resource_manager, open_to_manager, manager_with, recover_resource_manager, recover_all, get_notification, take_first, create_enlistment, open_enlistment, open_to_enlistment, enlistment_with, course_of, enlistment_tests, superior_tests, is_due, is_voting, keep_information, may_vote, phase_passes, pre_prepare_complete, prepare_complete, read_only_enlistment, commit_complete, rollback_complete, single_phase_reject, rollback_enlistment, pre_prepare_enlistment, prepare_enlistment, commit_enlistment, recover_enlistment, set_information, get_information, tick, waits_for_superior, with_clock, recovery_of}
 use Rattle.ktm_world.specs.Transactions.{is_active, same_id, transaction_at}
 use Rattle.ktm_world.specs.Uses.{file_room}
 use Rattle.ktm_world.specs.World.{decide_tick}
+use Rattle.ktm_steps.proofs.offered.Lists.{Pass, row_lists}
+use Rattle.ktm_steps.proofs.offered.Recorded.{records_nothing, silent-led, silent-recovery}
+use Rattle.ktm_steps.proofs.offered.Table.{rows_law}
 use Rattle.ktm_records.specs.Agreement.{AgreeingLaw}
 use Rattle.ktm_owned.specs.FilesKept.{FilesKeptLaw}
 use Rattle.txf_laws.specs.Elements.{IsIn}
@@ -54,6 +58,7 @@ use Rattle.txf_laws.specs.SoundFiles.{IsSoundFiles}
 use Rattle.ktm_courses.proofs.offered.EnlistmentAnswers.{answer_in, can_roll_back, is-committing, is-pre_preparing, is-preparing, owed-commit, owed-pre_prepare, owed-prepare, phase-owing, preparing-parts, takes_part-owing}
 use Rattle.ktm_courses.proofs.offered.Arrivals.{stands-now, brought-now}
 use Rattle.ktm_courses.proofs.offered.Calls.{Passes, passed, active-phase, transaction-named, enlistment-named, enlistment-allowed, superior-allowed, phase-passed}
+use Rattle.ktm_courses.proofs.offered.Leads.{leads-pre_prepare, leads-prepare, leads-read_only}
 use Rattle.ktm_records.proofs.offered.DurableLimits.{limits-from}
 use Rattle.txf_laws.proofs.offered.Elements.{list_all-at, not-not}
 use Rattle.ktm_records.proofs.offered.AgreementOfCourses.{arrival}
@@ -68,7 +73,7 @@ use Rattle.ktm_courses.proofs.offered.Procedures.{waiting-parts}
 use Rattle.ktm_limits.proofs.RecordedLimits.{agreeing-limits}
 use Rattle.ktm_limits.proofs.RecordedCourses.{uncounted}
 use Rattle.txf_laws.proofs.offered.Tables.{Rises}
-use Rattle.ktm_records.proofs.offered.AgreementOfRollbacks.{aborting-undone}
+use Rattle.ktm_records.proofs.offered.AgreementOfRollbacks.{rollback-undone}
 
 -- ---- what only undoes
 
@@ -96,7 +101,7 @@ undoes-then x o next first second = list_all-append is_undo o.events (next (appl
 
 undoes-aborted : (x : Present) (t : Transaction) (caller : Option Enlistment) (reply : Reply) → Undoes (aborted_by x t caller reply)
 undoes-aborted x t caller reply =
-    subst (λ es. list_all is_undo es ≡ true) (sym ((arrival x (aborting (course_of x t caller)) reply).events ∙ (aborting-undone (course_of x t caller)).events)) (go t.is_recorded)
+    subst (λ es. list_all is_undo es ≡ true) (sym ((arrival x (led PhaseInput.Rollback (course_of x t caller)) reply).events ∙ (rollback-undone (course_of x t caller)).events)) (go t.is_recorded)
   where
     go : (b : Bool) → list_all is_undo (event_if b (Undo t.id)) ≡ true
     go true = refl
@@ -267,26 +272,6 @@ waits-recorded Held ms es id r is recorded = recorded
 waits-recorded InDoubt ms es id r is recorded = recorded
 waits-recorded _ ms es id r is recorded = absurd (true≢false (sym is))
 
--- ---- procedures that record nothing
-
-silent-rolled_back : (c : Course) (e : Enlistment) → (rollback_answered c e).events ≡ c.events
-unfolding rollback_answered ended
-silent-rolled_back c e = if_cases (λ (d : Course). d.events ≡ c.events) (list_any (is_unfinished (finished c e).transaction.id) (finished c e).enlistments) (finished c e) (ended (finished c e) TransactionOutcome.Aborted) (λ some. refl) (λ none. refl)
-
-silent-rejected : (c : Course) (e : Enlistment) → (single_phase_rejected c e).events ≡ c.events
-unfolding single_phase_rejected
-silent-rejected c e = refl
-
-silent-recovered : (c : Course) (e : Enlistment) → (recovered c e).events ≡ c.events
-unfolding recovered
-silent-recovered c e = if_cases (λ (d : Course). d.events ≡ c.events) (is_superior e) _ (recovered_in c.transaction.phase (recovering c e) e) (λ above. refl) (λ below. go c.transaction.phase)
-  where
-    go : (phase : Phase) → (recovered_in phase (recovering c e) e).events ≡ c.events
-    go InDoubt = refl
-    go Committing = refl
-    go Aborting = refl
-    go _ = refl
-
 -- ---- all commands
 
 module _ (agreeing : AgreeingLaw) (keeping : FilesKeptLaw) (lists : ListsLaw) (formed : FormedLaw) (x : Present) (kept : IsKept x) where
@@ -311,65 +296,71 @@ module _ (agreeing : AgreeingLaw) (keeping : FilesKeptLaw) (lists : ListsLaw) (f
   brief : (o : Outcome) → IsBrief o → After o → Fits (apply x o) → Holds o
   brief o is after fits' = brief-holds x o is kept.good.transactions_rise after.agrees after.files fits'
 
+  -- what holds of where a row leads, as its procedure says
+  by : {d e : Course} → d ≡ e → limits_hold x.recorded e.events ≡ true → limits_hold x.recorded d.events ≡ true
+  by is holds = ap (λ (c : Course). limits_hold x.recorded c.events) is ∙ holds
+
   commits : (t : Option Transaction) → ((u : Transaction) → t ≡ Some u → IsIn u x.transactions.items) → Passes (transaction_tests t) → Holds (commit_of x t)
   commits None there passes = refl
   commits (Some t) there passes =
       let active = active-phase t (not-not (is_active t) (passed (passed (passed (passed passes).1).1).1).0) in
-      holds-arrived lists x kept.sound.course kept.good kept.agrees kept.sound.files fits (to_commit (course_of x t None)) (commit_reply (to_commit (course_of x t None))) (to_commit-events lists x kept.sound.course kept.good kept.agrees kept.sound.files fits t (there t refl) None (ap stage_in active))
+      holds-arrived lists x kept.sound.course kept.good kept.agrees kept.sound.files fits (led PhaseInput.CommitTransaction (course_of x t None)) (commit_reply (led PhaseInput.CommitTransaction (course_of x t None))) (to_commit-events lists x kept.sound.course kept.good kept.agrees kept.sound.files fits t (there t refl) None (ap stage_in active))
 
   rolls_back : (t : Option Transaction) → Holds (rollback_of x t)
   rolls_back None = refl
   rolls_back (Some t) = undoes (aborted_by x t None Done) (undoes-aborted x t None Done)
 
-  -- an enlistment goes on by what records nothing
-  quiet : (o : Option Enlistment) (f : Course → Enlistment → Course) → ((c : Course) (e : Enlistment) → (f c e).events ≡ c.events) → Holds (answering x o f)
-  quiet o f same = holds-answering lists x kept.sound.course kept.good kept.agrees kept.sound.files fits o f (λ e is t caller found at own. subst (λ es. limits_hold x.recorded es ≡ true) (sym (same (course_of x t caller) e)) refl)
+  -- a row that records nothing
+  quiet : (o : Option Enlistment) (input : Enlistment → PhaseInput) → ((e : Enlistment) → Pass records_nothing (row_lists (input e))) → Holds (answering x o input)
+  quiet o input none = holds-answering lists x kept.sound.course kept.good kept.agrees kept.sound.files fits o input (λ e is t found at own.
+      subst (λ es. limits_hold x.recorded es ≡ true) (sym (silent-led (input e) (course_of x t (Some e)) refl (none e))) refl)
 
   module _ (o : Option Enlistment) (there : (e : Enlistment) → o ≡ Some e → IsIn e x.transactions.enlistments) where
     owing : (e : Enlistment) → o ≡ Some e → (t : Transaction) (caller : Option Enlistment) → IsIn t x.transactions.items → same_id e.transaction t.id ≡ true → (owed : Owed) → e.owes ≡ Some owed → answer_in t.phase ≡ Some owed
-    owing e is t caller at own owed owes = phase-owing x.recorded.boots (course_of x t caller) (stands-now x t caller kept.sound.course at) (brought-now x t caller kept.sound.course) kept.sound.course.enlistments_rise e (there e is) own owed owes
+    owing e is t caller at own owed owes = phase-owing x.recorded.boots (course_of x t caller) (stands-now x t caller kept.sound.course at) (brought-now x t caller kept.sound.course) kept.sound.course.enlistments.rise e (there e is) own owed owes
 
-    pre_prepares : Passes (enlistment_tests o owes_pre_prepare) → Holds (answering x o pre_prepare_answered)
-    pre_prepares tests = holds-answering lists x kept.sound.course kept.good kept.agrees kept.sound.files fits o pre_prepare_answered (λ e is t caller found at own.
-        pre_prepare_answered-events lists x kept.sound.course kept.good kept.agrees kept.sound.files fits t at caller (ap stage_in (is-pre_preparing t.phase (owing e is t caller at own Owed.PrePrepare (owed-pre_prepare e (enlistment-allowed o owes_pre_prepare e is tests))))) e)
+    pre_prepares : Passes (enlistment_tests o owes_pre_prepare) → Holds (answering x o (λ e. PhaseInput.PrePrepareComplete))
+    pre_prepares tests = holds-answering lists x kept.sound.course kept.good kept.agrees kept.sound.files fits o (λ e. PhaseInput.PrePrepareComplete) (λ e is t found at own.
+        by (leads-pre_prepare x kept.sound.course t at e (there e is) own (enlistment-allowed o owes_pre_prepare e is tests)) (pre_prepare_answered-events lists x kept.sound.course kept.good kept.agrees kept.sound.files fits t at (Some e) (ap stage_in (is-pre_preparing t.phase (owing e is t (Some e) at own Owed.PrePrepare (owed-pre_prepare e (enlistment-allowed o owes_pre_prepare e is tests))))) e))
 
-    prepares : Passes (enlistment_tests o owes_prepare) → Holds (answering x o prepare_answered)
-    prepares tests = holds-answering lists x kept.sound.course kept.good kept.agrees kept.sound.files fits o prepare_answered (λ e is t caller found at own.
+    prepares : Passes (enlistment_tests o owes_prepare) → Holds (answering x o (λ e. PhaseInput.PrepareComplete))
+    prepares tests = holds-answering lists x kept.sound.course kept.good kept.agrees kept.sound.files fits o (λ e. PhaseInput.PrepareComplete) (λ e is t found at own.
         let owes = enlistment-allowed o owes_prepare e is tests in
-        let phase = is-preparing t.phase (owing e is t caller at own Owed.Prepare (owed-prepare e owes)) in
-        let part = takes_part-owing x.recorded.boots (course_of x t caller) (stands-now x t caller kept.sound.course at) (brought-now x t caller kept.sound.course) kept.sound.course.enlistments_rise e (there e is) own Owed.Prepare (owed-prepare e owes) in
-        let stands = (stands-now x t caller kept.sound.course at).stand.parts e (there e is) part in
-        elim (preparing-parts e (subst (λ p. is_part_as p e ≡ true) phase stands)) [
+        let phase = is-preparing t.phase (owing e is t (Some e) at own Owed.Prepare (owed-prepare e owes)) in
+        let part = takes_part-owing x.recorded.boots (course_of x t (Some e)) (stands-now x t (Some e) kept.sound.course at) (brought-now x t (Some e) kept.sound.course) kept.sound.course.enlistments.rise e (there e is) own Owed.Prepare (owed-prepare e owes) in
+        let stands = (stands-now x t (Some e) kept.sound.course at).stand.parts e (there e is) part in
+        by (leads-prepare x kept.sound.course t at e (there e is) own owes) (elim (preparing-parts e (subst (λ p. is_part_as p e ≡ true) phase stands)) [
           | inl waits ↦ absurd (true≢false (sym (waiting-parts e waits).0 ∙ ap is_none (owed-prepare e owes)))
-          | inr (idle, again, busy) ↦ prepare_answered-events lists x kept.sound.course kept.good kept.agrees kept.sound.files fits t at caller (ap stage_in phase) e (there e is) part idle busy
-        ])
+          | inr (idle, again, busy) ↦ prepare_answered-events lists x kept.sound.course kept.good kept.agrees kept.sound.files fits t at (Some e) (ap stage_in phase) e (there e is) part idle busy
+        ]))
 
-    reads_only : Passes (enlistment_tests o (may_vote x)) → Holds (answering x o read_only_answered)
-    reads_only tests = holds-answering lists x kept.sound.course kept.good kept.agrees kept.sound.files fits o read_only_answered (λ e is t caller found at own.
-        read_only_answered-events lists x kept.sound.course kept.good kept.agrees kept.sound.files fits t at caller (voting-early t.phase (phase-passed x is_voting e t found (and_parts _ (phase_passes x is_voting e) (enlistment-allowed o (may_vote x) e is tests)).1)) e)
+    reads_only : Passes (enlistment_tests o (may_vote x)) → Holds (answering x o (λ e. PhaseInput.ReadOnly (share_of e)))
+    reads_only tests = holds-answering lists x kept.sound.course kept.good kept.agrees kept.sound.files fits o (λ e. PhaseInput.ReadOnly (share_of e)) (λ e is t found at own.
+        let both = and_parts (not (is_superior e)) (is_open_for_votes e) (and_parts (not (is_superior e) && is_open_for_votes e) (phase_passes x is_voting e) (enlistment-allowed o (may_vote x) e is tests)).0 in
+        by (leads-read_only x kept.sound.course t at e (there e is) own (not-true _ both.0) (not-true _ (and_parts (not e.is_read_only) (not e.is_prepared) both.1).0)) (read_only_answered-events lists x kept.sound.course kept.good kept.agrees kept.sound.files fits t at (Some e) (voting-early t.phase (phase-passed x is_voting e t found (and_parts _ (phase_passes x is_voting e) (enlistment-allowed o (may_vote x) e is tests)).1)) e))
 
-    has_committed : Passes (enlistment_tests o owes_commit) → Holds (answering x o commit_answered)
-    has_committed tests = holds-answering lists x kept.sound.course kept.good kept.agrees kept.sound.files fits o commit_answered (λ e is t caller found at own.
-        commit_answered-events lists x kept.sound.course kept.good kept.agrees kept.sound.files fits t at caller e (is-committing t.phase (owing e is t caller at own Owed.Commit (owed-commit e (enlistment-allowed o owes_commit e is tests)))))
+    has_committed : Passes (enlistment_tests o owes_commit) → Holds (answering x o (λ e. PhaseInput.CommitComplete))
+    has_committed tests = holds-answering lists x kept.sound.course kept.good kept.agrees kept.sound.files fits o (λ e. PhaseInput.CommitComplete) (λ e is t found at own.
+        by (rows_law.commit_completes (course_of x t (Some e)) e refl) (commit_answered-events lists x kept.sound.course kept.good kept.agrees kept.sound.files fits t at (Some e) e (is-committing t.phase (owing e is t (Some e) at own Owed.Commit (owed-commit e (enlistment-allowed o owes_commit e is tests))))))
 
-    asks_pre_prepare : Passes (superior_tests x o before_pre_prepare) → Holds (answering x o (λ c e. to_pre_prepare c))
-    asks_pre_prepare tests = holds-answering lists x kept.sound.course kept.good kept.agrees kept.sound.files fits o (λ c e. to_pre_prepare c) (λ e is t caller found at own.
-        to_pre_prepare-events lists x kept.sound.course kept.good kept.agrees kept.sound.files fits t at caller (pre_prepare-early t.phase (phase-passed x before_pre_prepare e t found (superior-allowed x o before_pre_prepare e is tests))))
+    asks_pre_prepare : Passes (superior_tests x o before_pre_prepare) → Holds (answering x o (λ e. PhaseInput.PrePrepare))
+    asks_pre_prepare tests = holds-answering lists x kept.sound.course kept.good kept.agrees kept.sound.files fits o (λ e. PhaseInput.PrePrepare) (λ e is t found at own.
+        to_pre_prepare-events lists x kept.sound.course kept.good kept.agrees kept.sound.files fits t at (Some e) (pre_prepare-early t.phase (phase-passed x before_pre_prepare e t found (superior-allowed x o before_pre_prepare e is tests))))
 
-    asks_prepare : Passes (superior_tests x o before_prepare) → Holds (answering x o (λ c e. to_prepare c))
-    asks_prepare tests = holds-answering lists x kept.sound.course kept.good kept.agrees kept.sound.files fits o (λ c e. to_prepare c) (λ e is t caller found at own.
-        to_prepare-events lists x kept.sound.course kept.good kept.agrees kept.sound.files fits t at caller (prepare-early t.phase (phase-passed x before_prepare e t found (superior-allowed x o before_prepare e is tests))))
+    asks_prepare : Passes (superior_tests x o before_prepare) → Holds (answering x o (λ e. PhaseInput.Prepare))
+    asks_prepare tests = holds-answering lists x kept.sound.course kept.good kept.agrees kept.sound.files fits o (λ e. PhaseInput.Prepare) (λ e is t found at own.
+        to_prepare-events lists x kept.sound.course kept.good kept.agrees kept.sound.files fits t at (Some e) (prepare-early t.phase (phase-passed x before_prepare e t found (superior-allowed x o before_prepare e is tests))))
 
-    decides : Passes (superior_tests x o waits_for_superior) → Holds (answering x o (λ c e. committing c))
-    decides tests = holds-answering lists x kept.sound.course kept.good kept.agrees kept.sound.files fits o (λ c e. committing c) (λ e is t caller found at own.
+    decides : Passes (superior_tests x o waits_for_superior) → Holds (answering x o (λ e. PhaseInput.Commit))
+    decides tests = holds-answering lists x kept.sound.course kept.good kept.agrees kept.sound.files fits o (λ e. PhaseInput.Commit) (λ e is t found at own.
         let waits = phase-passed x waits_for_superior e t found (superior-allowed x o waits_for_superior e is tests) in
         let held = waits-held t.phase waits in
-        committing-events lists x kept.sound.course kept.good kept.agrees kept.sound.files fits t at caller
-        (waits-recorded t.phase x.managers x.transactions.enlistments t.id t.is_recorded waits (list_all-at (is_recorded_as_asked x.managers x.transactions.enlistments) x.transactions.items kept.sound.course.recorded t at)) held.0 held.1)
+        by (rows_law.commits (course_of x t (Some e))) (committing-events lists x kept.sound.course kept.good kept.agrees kept.sound.files fits t at (Some e)
+        (waits-recorded t.phase x.managers x.transactions.enlistments t.id t.is_recorded waits (list_all-at (is_recorded_as_asked x.managers x.transactions.enlistments) x.transactions.items kept.sound.course.phases.recorded t at)) held.0 held.1))
 
-  aborts : (o : Option Enlistment) → Holds (answering x o (λ c e. aborting c))
-  aborts o = holds-answering lists x kept.sound.course kept.good kept.agrees kept.sound.files fits o (λ c e. aborting c) (λ e is t caller found at own.
-      undos-hold (aborting (course_of x t caller)).events x.recorded (subst (λ es. list_all is_undo es ≡ true) (sym (aborting-undone (course_of x t caller)).events) (one t.is_recorded t.id)) kept.good.limits)
+  aborts : (o : Option Enlistment) → Holds (answering x o (λ e. PhaseInput.Rollback))
+  aborts o = holds-answering lists x kept.sound.course kept.good kept.agrees kept.sound.files fits o (λ e. PhaseInput.Rollback) (λ e is t found at own.
+      undos-hold (led PhaseInput.Rollback (course_of x t (Some e))).events x.recorded (subst (λ es. list_all is_undo es ≡ true) (sym (rollback-undone (course_of x t (Some e))).events) (one t.is_recorded t.id)) kept.good.limits)
     where
       one : (b : Bool) (id : Id) → list_all is_undo (event_if b (Undo id)) ≡ true
       one true id = refl
@@ -388,13 +379,13 @@ module _ (agreeing : AgreeingLaw) (keeping : FilesKeptLaw) (lists : ListsLaw) (f
   effect-holds process (GetNotificationResourceManager label) passes after = silent (command_effect x process (GetNotificationResourceManager label)) (silent-take x (manager_named x process label))
   effect-holds process (CreateEnlistment label manager transaction kind) passes after = silent (command_effect x process (CreateEnlistment label manager transaction kind)) (silent-enlist x process label (manager_named x process manager) (transaction_named x process transaction) kind)
   effect-holds process (OpenEnlistment label manager guid) passes after = silent (command_effect x process (OpenEnlistment label manager guid)) (silent-enlistment x process label (manager_named x process manager) guid)
-  effect-holds process (RecoverEnlistment label) passes after = quiet (enlistment_named x process label) recovered silent-recovered
+  effect-holds process (RecoverEnlistment label) passes after = quiet (enlistment_named x process label) recovery_of silent-recovery
   effect-holds process (PrePrepareComplete label) passes after = pre_prepares (enlistment_named x process label) (enlistment-named x process label) passes
   effect-holds process (PrepareComplete label) passes after = prepares (enlistment_named x process label) (enlistment-named x process label) passes
   effect-holds process (ReadOnlyEnlistment label) passes after = reads_only (enlistment_named x process label) (enlistment-named x process label) passes
   effect-holds process (CommitComplete label) passes after = has_committed (enlistment_named x process label) (enlistment-named x process label) passes
-  effect-holds process (RollbackComplete label) passes after = quiet (enlistment_named x process label) rollback_answered silent-rolled_back
-  effect-holds process (SinglePhaseReject label) passes after = quiet (enlistment_named x process label) single_phase_rejected silent-rejected
+  effect-holds process (RollbackComplete label) passes after = quiet (enlistment_named x process label) (λ e. PhaseInput.RollbackComplete) (λ e. (refl, tt))
+  effect-holds process (SinglePhaseReject label) passes after = quiet (enlistment_named x process label) (λ e. PhaseInput.SinglePhaseReject) (λ e. (refl, tt))
   effect-holds process (RollbackEnlistment label) passes after = aborts (enlistment_named x process label)
   effect-holds process (PrePrepareEnlistment label) passes after = asks_pre_prepare (enlistment_named x process label) (enlistment-named x process label) passes
   effect-holds process (PrepareEnlistment label) passes after = asks_prepare (enlistment_named x process label) (enlistment-named x process label) passes

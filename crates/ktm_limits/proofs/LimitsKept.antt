@@ -31,7 +31,7 @@ use Rattle.ktm_limits.proofs.EndedCounts.{close_handle-spends, exit-spends, tick
 
 module _ (lists : ListsLaw) (formed : FormedLaw) (x : Present) (sound : IsSound x) (fits : Fits x) (fixed : AreFixed x.files.first_opens) where
   order : AreInOrder x
-  order = record { transactions_rise = sound.course.transactions_rise; labels_differ = sound.course.labels_differ }
+  order = record { transactions_rise = sound.course.transactions.rise; labels_differ = sound.course.handles.labels_differ }
 
   effect-stays : (process : Pid) (command : Command) → Passes (command_tests x process command) → Stays x (command_effect x process command)
   unfolding commit_transaction rollback_transaction get_transaction_information recover_resource_manager get_notification pre_prepare_complete prepare_complete read_only_enlistment commit_complete rollback_complete single_phase_reject rollback_enlistment pre_prepare_enlistment prepare_enlistment commit_enlistment recover_enlistment set_information get_information read_file get_size find_files

@@ -1,6 +1,6 @@
 -- The limits hold after each event that a procedure of a transaction's course records.
 use Rattle.std.specs.Prelude.{if◌then◌else◌}
-use Rattle.std.proofs.Common.{◌≡◌, ℕ, zero, suc, ◌+◌, ◌≤◌, ◌==◌, ◌&&◌, ◌||◌, Bool, true, false, cond, List, [], ◌∷◌, ◌++◌, count_by, is_some, Option, Some, None, refl, sym, ◌∙◌, ap, subst, arith, inl, inr, ◌⊎◌}
+use Rattle.std.proofs.Common.{◌≡◌, ℕ, ◌+◌, ◌≤◌, ◌==◌, ◌&&◌, ◌||◌, Bool, true, false, cond, List, [], ◌∷◌, ◌++◌, count_by, is_some, Option, Some, None, refl, sym, ◌∙◌, ap, subst, arith, inl, inr, ◌⊎◌}
 use Rattle.std.proofs.lemmas.Bool.{and_parts, and_from, or_left, or_parts, true≢false}
 use Rattle.std.proofs.lemmas.List.{append-nil}
 use Rattle.std.specs.List.{list_any}
@@ -9,6 +9,7 @@ use Rattle.ktm_types.specs.declared.change.Change.{Change}
 use Rattle.ktm_types.specs.declared.event.DonePart.{DonePart}
 use Rattle.ktm_types.specs.declared.event.Event.{Event}
 use Rattle.ktm_types.specs.declared.event.Part.{Part}
+use Rattle.ktm_types.specs.declared.input.PhaseInput.{PhaseInput}
 use Rattle.ktm_types.specs.declared.object.Phase.{Phase}
 use Rattle.ktm_types.specs.declared.object.Phase.TheVariants.{PrePreparing, Preparing, SinglePhase}
 use Rattle.ktm_types.specs.declared.object.Transaction.{Transaction}
@@ -16,20 +17,24 @@ use Rattle.ktm_types.specs.declared.object.TransactionOutcome.{TransactionOutcom
 use Rattle.ktm_types.specs.declared.step.Owed.{Owed}
 use Rattle.ktm_world.specs.Changes.{has_changes}
 use Rattle.ktm_world.specs.Durable.{Durable, after_event, after_events, fact_of, is_within_limits}
-use Rattle.ktm_world.specs.Enlistments.{Enlistment, allows_one_phase, asks_pre_prepare, is_durable_at, takes_part, is_superior, is_unfinished, superior_of}
+use Rattle.ktm_world.specs.Enlistments.{Enlistment, is_durable_at, takes_part, is_superior, is_unfinished, superior_of}
 use Rattle.ktm_world.specs.Files.{own_changes}
 use Rattle.ktm_world.specs.Keys.{OwnSettings, own_settings}
 use Rattle.ktm_world.specs.Lawful.{Agrees, undecided}
-use Rattle.ktm_world.specs.Phases.{Course, all_ready, changing_one, committing, decided, in_phase, owing, recording, telling, work_of, ended, ended_if_finished, enlistment_part, event_if, has_settings, held_or_committing, one_participant, one_phase, participants, pre_prepare_answered, pre_prepared, prepare_alone, prepare_answered, preparing, readied, ready_of_enlistment, read_only_answered, single, some_enlistment, someone_owes, superior, to_commit, to_pre_prepare, to_prepare, when_none_owes, without_its_answer}
+use Rattle.ktm_world.specs.Phases.{Course, changing_one, decided, in_phase, owing, recording, telling, work_of, ended, ended_if_finished, enlistment_part, event_if, has_settings, superior}
 use Rattle.ktm_world.specs.Present.{Present}
+use Rattle.ktm_world.specs.Steps.{led, run}
 use Rattle.ktm_world.specs.Transactions.{is_live, same_id}
+use Rattle.ktm_steps.proofs.offered.Table.{all_readies-run}
+use Rattle.ktm_steps.proofs.offered.Ways.{Ways, commit-by, pre_prepare-by, prepare-by, proceed-by}
+use Rattle.ktm_steps.specs.Procedures.{all_ready, committing, held_or_committing, participants, pre_prepare_answered, pre_prepared, prepare_answered, readied, ready_of_enlistment, read_only_answered, someone_owes, when_none_owes, without_its_answer}
 use Rattle.txf_laws.specs.Elements.{IsIn}
 use Rattle.txf_laws.specs.Footprint.{ListsLaw}
 use Rattle.ktm_records.specs.Kept.{limits_hold}
 use Rattle.txf_laws.specs.SoundFiles.{IsSoundFiles}
 use Rattle.ktm_limits.proofs.CourseLimits.{Along, Few, Past, along-limits, decide-past, done-past, held-along, ready-along, single-changes, single-settings}
 use Rattle.txf_laws.proofs.offered.Elements.{find-in}
-use Rattle.ktm_records.proofs.offered.LiveEnlistments.{Fade, fade-then, fade-owing, fades-one}
+use Rattle.ktm_records.proofs.offered.LiveEnlistments.{Fade, fade-then, fades-one}
 use Rattle.txf_laws.proofs.offered.Lists.{IsIn-unmap}
 use Rattle.ktm_courses.proofs.offered.Moves.{if_cases}
 use Rattle.ktm_records.proofs.offered.NoMore.{Fits}
@@ -218,47 +223,39 @@ module _ (lists : ListsLaw) (x : Present) (agrees : Agrees x) (sound : IsSoundFi
       ((or_parts c.transaction.is_recorded (has_changes c.changes) d.0).1, d.1))
       (superior c) (λ some. superior-few c going.id going.fade some)
 
-  pub holds-preparing : (c : Course) (n : ℕ) → Going c [] [] n 0 → Enough n 0 → Holds (preparing c)
-  holds-preparing c n going few = if_cases Holds (some_enlistment c (λ e. true)) _ _ (λ some. going.holds) (λ none. holds-all_ready _ n (going-same c _ [] [] n 0 refl refl refl refl (fade-owing _ _ c.enlistments) going) few)
-
-  holds-one_phase : (c : Course) (n : ℕ) → Going c [] [] n 0 → Enough n 0 → Holds (one_phase c)
-  holds-one_phase c n going few = if_cases Holds (some_enlistment c allows_one_phase) _ (preparing c) (λ some. going.holds) (λ none. holds-preparing c n going few)
-
   -- one participant alone commits by one event
-  holds-single : (c : Course) (part : Part) → Holds c → is_within_limits (fact_of (after_events x.recorded c.events) (Event.Single c.transaction.id part)) ≡ true → Holds (single c part)
+  holds-single : (c : Course) (part : Part) → Holds c → is_within_limits (fact_of (after_events x.recorded c.events) (Event.Single c.transaction.id part)) ≡ true → Holds (ended (record (recording c (Event.Single c.transaction.id part ∷ [])) { works = c.works ++ work_of c }) TransactionOutcome.Committed)
   holds-single c part holds limits = holds-ended _ TransactionOutcome.Committed (holds-append c.events (Event.Single c.transaction.id part ∷ []) x.recorded holds (and_from _ _ limits refl))
 
-  holds-one_participant : (c : Course) (n : ℕ) → Going c [] [] n 0 → Enough n 0 → Holds (one_participant c)
-  holds-one_participant c n going few =
+  -- each way to go on
+  holds-ways : (c : Course) (n : ℕ) → Going c [] [] n 0 → Enough n 0 → Ways (λ steps. Holds (run steps c)) c
+  holds-ways c n going few =
       let s = after_events x.recorded c.events in
-      if_cases Holds (has_changes c.changes) (single c (Part.Changes c.changes)) _
-      (λ some. holds-single c (Part.Changes c.changes) going.holds (subst (λ id. is_within_limits (fact_of s (Event.Single id (Part.Changes c.changes))) ≡ true) (sym going.id)
-      (subst (λ ds. is_within_limits (fact_of s (Event.Single t.id (Part.Changes ds))) ≡ true) (sym going.changes) (single-changes lists x agrees sound fits t there live s [] [] n 0 going.along few undecided' refl refl))))
-      (λ none. if_cases Holds (has_settings c.settings) (single c (Part.Settings c.settings)) (one_phase c)
-      (λ some. holds-single c (Part.Settings c.settings) going.holds (subst (λ id. is_within_limits (fact_of s (Event.Single id (Part.Settings c.settings))) ≡ true) (sym going.id)
-      (subst (λ ds. is_within_limits (fact_of s (Event.Single t.id (Part.Settings ds))) ≡ true) (sym going.settings) (single-settings lists x agrees sound fits t there live s [] [] n 0 going.along few undecided' refl refl))))
-      (λ none. holds-one_phase c n going few))
+      record {
+        requested = λ has. going.holds;
+        pre_prepared = λ has. going.holds;
+        pre_preparing = λ some. going.holds;
+        preparing = λ some. going.holds;
+        one_phase = λ alone one no_files no_keys some. going.holds;
+        files = λ one some. holds-single c (Part.Changes c.changes) going.holds (subst (λ id. is_within_limits (fact_of s (Event.Single id (Part.Changes c.changes))) ≡ true) (sym going.id)
+            (subst (λ ds. is_within_limits (fact_of s (Event.Single t.id (Part.Changes ds))) ≡ true) (sym going.changes) (single-changes lists x agrees sound fits t there live s [] [] n 0 going.along few undecided' refl refl)));
+        keys = λ one none some. holds-single c (Part.Settings c.settings) going.holds (subst (λ id. is_within_limits (fact_of s (Event.Single id (Part.Settings c.settings))) ≡ true) (sym going.id)
+            (subst (λ ds. is_within_limits (fact_of s (Event.Single t.id (Part.Settings ds))) ≡ true) (sym going.settings) (single-settings lists x agrees sound fits t there live s [] [] n 0 going.along few undecided' refl refl)));
+        nobody = λ none. holds-ended c TransactionOutcome.Committed going.holds;
+        ready = λ none. subst Holds (sym (all_readies-run c)) (holds-all_ready c n going few);
+      }
 
-  holds-alone : (c : Course) (n : ℕ) → Going c [] [] n 0 → Enough n 0 → (k : ℕ) → Holds (prepare_alone c k)
-  holds-alone c n going few zero = holds-ended c TransactionOutcome.Committed going.holds
-  holds-alone c n going few (suc zero) = holds-one_participant c n going few
-  holds-alone c n going few (suc (suc more)) = holds-preparing c n going few
-
-  pub holds-to_prepare : (c : Course) (n : ℕ) → Going c [] [] n 0 → Enough n 0 → Holds (to_prepare c)
-  unfolding to_prepare
-  holds-to_prepare c n going few = if_cases Holds (is_some (superior c)) (preparing c) (prepare_alone c (participants c)) (λ above. holds-preparing c n going few) (λ none. holds-alone c n going few (participants c))
+  pub holds-to_prepare : (c : Course) (n : ℕ) → Going c [] [] n 0 → Enough n 0 → Holds (led PhaseInput.Prepare c)
+  holds-to_prepare c n going few = prepare-by Holds c (holds-ways c n going few)
 
   pub holds-pre_prepared : (c : Course) (n : ℕ) → Going c [] [] n 0 → Enough n 0 → Holds (pre_prepared c)
-  unfolding pre_prepared
-  holds-pre_prepared c n going few = if_cases Holds (is_some (superior c)) _ (to_prepare c) (λ above. going.holds) (λ none. holds-to_prepare c n going few)
+  holds-pre_prepared c n going few = proceed-by Holds c (holds-ways c n going few)
 
-  pub holds-to_pre_prepare : (c : Course) (n : ℕ) → Going c [] [] n 0 → Enough n 0 → Holds (to_pre_prepare c)
-  unfolding to_pre_prepare
-  holds-to_pre_prepare c n going few = if_cases Holds (some_enlistment c asks_pre_prepare) _ (pre_prepared c) (λ some. going.holds) (λ none. holds-pre_prepared c n going few)
+  pub holds-to_pre_prepare : (c : Course) (n : ℕ) → Going c [] [] n 0 → Enough n 0 → Holds (led PhaseInput.PrePrepare c)
+  holds-to_pre_prepare c n going few = pre_prepare-by Holds c (holds-ways c n going few)
 
-  pub holds-to_commit : (c : Course) (n : ℕ) → Going c [] [] n 0 → Enough n 0 → Holds (to_commit c)
-  unfolding to_commit
-  holds-to_commit c n going few = if_cases Holds (is_some (superior c)) _ (to_pre_prepare c) (λ above. going.holds) (λ none. holds-to_pre_prepare c n going few)
+  pub holds-to_commit : (c : Course) (n : ℕ) → Going c [] [] n 0 → Enough n 0 → Holds (led PhaseInput.CommitTransaction c)
+  holds-to_commit c n going few = commit-by Holds c (holds-ways c n going few)
 
   holds-when : (c : Course) (next : Course → Course) → Holds c → Holds (next c) → Holds (when_none_owes c next)
   holds-when c next first second = if_cases Holds (someone_owes c) c (next c) (λ some. first) (λ none. second)

@@ -111,7 +111,7 @@ tick_decided m ms events up standing holds =
     let comes = forms_law.waits x ms (built x standing) in
     subst (λ o. Decides (held m) o Done (Pass ms) events m) (sym (up_or x [] (tick x ms) up))
     (quiet_decided (held m) m (tick x ms) Done (Pass ms) events (built x standing) (sym comes.replies) comes.records refl refl refl
-    ((kept x standing).sound.course.transactions_rise, (fits-within x (kept x standing).within).live) holds)
+    ((kept x standing).sound.course.transactions.rise, (fits-within x (kept x standing).within).live) holds)
 
 -- ---- CreateTransaction
 

@@ -12,7 +12,8 @@ use Rattle.ktm_world.specs.Enlistments.{Enlistment, is_open_for_votes, is_superi
 use Rattle.ktm_world.specs.TransactionCalls.{before_pre_prepare, before_prepare, is_voting, lets_superior_roll_back, waits_for_superior}
 use Rattle.ktm_phase.specs.declared.enlistment.Vote.{Vote}
 use Rattle.ktm_phase.specs.declared.superior.SuperiorCall.{SuperiorCall}
-use Rattle.ktm_phase.specs.Outcomes.{IsKnownIn, IsOwedIn, MayBe, MayCome, is_asked_in}
+use Rattle.ktm_steps.specs.Outcomes.{IsKnownIn, MayBe, MayCome}
+use Rattle.ktm_phase.specs.Coming.{ComingLaw, IsOwedIn, is_asked_in}
 use Rattle.ktm_phase.specs.Replies.{allows, commanded, if_allowed, input_by, input_of, lets, may_recover, may_vote, owes, recovered, replied}
 
 same_input : (a b : PhaseInput) (r : Result PhaseInput Refusal) → r ≡ Ok a → r ≡ Ok b → a ≡ b
@@ -93,3 +94,10 @@ module _ (phase : Phase) (known : Option Bool) (by : IsKnownIn phase known) wher
 
   pub recovery-may-come : (e : Enlistment) (input : PhaseInput) → recovered phase e ≡ Ok input → MayCome known phase input
   recovery-may-come e input came = of-allowed (may_recover phase e) (if is_superior e then PhaseInput.RecoverSuperior else PhaseInput.Recover) input (MayCome known phase) came (λ may. recovering (is_superior e))
+
+pub coming_law : ComingLaw
+coming_law = record {
+  replies = λ phase known e vote input by fits came. reply-may-come phase known by e vote input fits came;
+  superiors = λ phase known e call input by came. command-may-come phase known by e call input came;
+  recoveries = λ phase known e input by came. recovery-may-come phase known by e input came;
+}

@@ -1,9 +1,2 @@
-mod Counts
-mod Lasting
-mod Superiors
-mod Table
-mod Ahead
-mod Fading
 mod Coming
-mod Outcomes
 mod Calls

@@ -1,5 +1,5 @@
 -- What the calls of the model come to, by the tests of replies and the rows of the phase table.
-use Rattle.std.specs.Prelude.{◌≡◌, ⊤, Bool, List, Option, Some, None, Result, Ok, Err}
+use Rattle.std.specs.Prelude.{◌≡◌, Bool, List, Option, Some, None, Result, Ok, Err}
 use Rattle.ktm_base.specs.declared.id.Label.{Label}
 use Rattle.ktm_base.specs.declared.id.Pid.{Pid}
 use Rattle.ktm_base.specs.declared.refusal.Refusal.{Refusal}
@@ -13,12 +13,10 @@ use Rattle.ktm_world.specs.Labels.{enlistment_named}
 use Rattle.ktm_world.specs.Outcome.{Outcome, first_refusal}
 use Rattle.ktm_world.specs.Phases.{Course}
 use Rattle.ktm_world.specs.Present.{Present}
-use Rattle.ktm_world.specs.TransactionCalls.{aborted_by, arrived, commit_of, commit_reply, course_of, may_set_information as may_set_information_now, transaction_in}
-use Rattle.ktm_world.specs.Rows.{row}
-use Rattle.ktm_world.specs.Steps.{run, seen}
+use Rattle.ktm_world.specs.TransactionCalls.{arrived, course_of, may_set_information as may_set_information_now, transaction_in}
+use Rattle.ktm_world.specs.Steps.{led}
 use Rattle.ktm_phase.specs.declared.enlistment.Vote.{Vote}
 use Rattle.ktm_phase.specs.declared.superior.SuperiorCall.{SuperiorCall}
-use Rattle.ktm_phase.specs.Laws.{IsPart}
 use Rattle.ktm_phase.specs.Replies.{commanded, may_set_information, recovered, replied}
 
 -- the call by which an enlistment replies so
@@ -46,28 +44,17 @@ pub record Names (x : Present) (process : Pid) (label : Label) (e : Enlistment) 
 abbrev pub course_by : Present → Transaction → Enlistment → Course
 course_by x t e = course_of x t (Some e)
 
--- where an enlistment answers so, it takes part
-abbrev pub TakesPart : PhaseInput → Course → Enlistment → Type 0
-TakesPart PhaseInput.PrePrepareComplete c e = IsPart c e
-TakesPart PhaseInput.PrepareComplete c e = IsPart c e
-TakesPart (PhaseInput.ReadOnly share) c e = IsPart c e
-TakesPart _ c e = ⊤
-
 -- why it is refused, if it is
 abbrev pub refusal_in : Result PhaseInput Refusal → Option Refusal
 refusal_in (Ok input) = None
 refusal_in (Err refusal) = Some refusal
 
--- where a transaction has come to by the row of what came
-abbrev pub led : PhaseInput → Course → Course
-led input c = run (row (seen c) input) c
-
 -- a call, by its tests and its effect: it is refused where this is a refusal, and leads the transaction by the row of what came where it is none
 pub record ComesTo (x : Present) (t : Transaction) (e : Enlistment) (tests : List (Bool × Refusal)) (effect : Outcome) (result : Result PhaseInput Refusal) : Type 0 where
   pub refused : first_refusal tests ≡ refusal_in result
-  pub leads : (input : PhaseInput) → result ≡ Ok input → TakesPart input (course_by x t e) e → effect ≡ arrived x (led input (course_by x t e)) Done
+  pub leads : (input : PhaseInput) → result ≡ Ok input → effect ≡ arrived x (led input (course_by x t e)) Done
 
--- each call on an enlistment comes to what is answered to it, and a transaction commits and rolls back by its row
+-- each call on an enlistment comes to what is answered to it
 pub record CallsLaw : Type 0 where
   pub replies : (x : Present) (process : Pid) (label : Label) (e : Enlistment) (t : Transaction) (vote : Vote) → Names x process label e t
       → ComesTo x t e (call_of x process (reply_call vote label)).0 (call_of x process (reply_call vote label)).1 (replied t.phase e vote)
@@ -75,6 +62,4 @@ pub record CallsLaw : Type 0 where
       → ComesTo x t e (call_of x process (superior_call call label)).0 (call_of x process (superior_call call label)).1 (commanded t.phase e call)
   pub recoveries : (x : Present) (process : Pid) (label : Label) (e : Enlistment) (t : Transaction) → Names x process label e t
       → ComesTo x t e (call_of x process (Command.RecoverEnlistment label)).0 (call_of x process (Command.RecoverEnlistment label)).1 (recovered t.phase e)
-  pub commits : (x : Present) (t : Transaction) → (let c = led PhaseInput.CommitTransaction (course_of x t None) in commit_of x (Some t) ≡ arrived x c (commit_reply c))
-  pub rollbacks : (x : Present) (t : Transaction) → aborted_by x t None Done ≡ arrived x (led PhaseInput.Rollback (course_of x t None)) Done
   pub informed : (x : Present) (process : Pid) (label : Label) (e : Enlistment) (t : Transaction) → Names x process label e t → may_set_information_now x e ≡ may_set_information t e

@@ -10,8 +10,6 @@ mod rows;
 mod superior;
 
 pub use enlistment::{Enlistment, Vote};
-pub use laws::{
-    law_of_calls, law_of_events_ahead, law_of_fading, law_of_outcomes, law_of_rows, law_of_runs,
-};
+pub use laws::{law_of_calls, law_of_coming};
 pub use phase::{Steps, step};
 pub use superior::SuperiorCall;

@@ -4,6 +4,7 @@ use Rattle.std.proofs.lemmas.Bool.{and_left, and_parts, and_right, not-true, tru
 use Rattle.std.specs.List.{list_any}
 use Rattle.ktm_base.specs.declared.id.Id.{Id}
 use Rattle.ktm_types.specs.declared.event.Event.{Event}
+use Rattle.ktm_types.specs.declared.input.PhaseInput.{PhaseInput}
 use Rattle.ktm_types.specs.declared.object.Phase.{Phase}
 use Rattle.ktm_types.specs.declared.object.Phase.TheVariants.{Active, Requested, PrePreparing, PrePrepared, Preparing, SinglePhase, Held, InDoubt, Committing, Aborting, Ended}
 use Rattle.ktm_types.specs.declared.object.Transaction.{Transaction}
@@ -13,10 +14,12 @@ use Rattle.ktm_types.specs.declared.step.Owed.{Owed}
 use Rattle.ktm_world.specs.Durable.{Recorded}
 use Rattle.ktm_world.specs.Enlistments.{Enlistment, Manager, allows_one_phase, has_id, is_durable_at, is_open_for_votes, is_superior, owes_commit, owes_pre_prepare, owes_prepare, takes_part}
 use Rattle.ktm_world.specs.Lawful.{stage_in}
-use Rattle.ktm_world.specs.Phases.{Course, all_ready, changing_one, ended, enlistment_part, pre_prepare_answered, pre_prepared, prepare_answered, read_only_answered, recorded, recording, someone_owes, to_commit, to_pre_prepare, to_prepare, when_none_owes, without_its_answer}
+use Rattle.ktm_world.specs.Phases.{Course, changing_one, ended, enlistment_part, recording}
 use Rattle.ktm_world.specs.Present.{Present}
+use Rattle.ktm_world.specs.Steps.{led}
 use Rattle.ktm_world.specs.TransactionCalls.{course_of, is_voting}
 use Rattle.ktm_world.specs.Transactions.{same_id}
+use Rattle.ktm_steps.specs.Procedures.{all_ready, pre_prepare_answered, pre_prepared, prepare_answered, read_only_answered, recorded, someone_owes, when_none_owes, without_its_answer}
 use Rattle.txf_laws.specs.Elements.{IsIn}
 use Rattle.ktm_states.specs.GoodState.{IsGoodState}
 use Rattle.ktm_courses.specs.SoundCourse.{IsSoundCourse, has_durable_part, is_part_as, is_recorded_as, is_unrecovered_well}
@@ -120,20 +123,20 @@ module _ (x : Present) (sound : IsSoundCourse x) (files : IsSoundFiles x) (good 
 
   -- ---- a commit begins
 
-  pub follows-commit : is_voting t.phase ≡ true → is_preparing t.phase ≡ false → FollowsOn (to_commit c)
+  pub follows-commit : is_voting t.phase ≡ true → is_preparing t.phase ≡ false → FollowsOn (led PhaseInput.CommitTransaction c)
   follows-commit voting other = follows-to_commit x before behind c (prepares-fresh voting other)
 
-  pub follows-pre_prepare : is_voting t.phase ≡ true → is_preparing t.phase ≡ false → FollowsOn (to_pre_prepare c)
+  pub follows-pre_prepare : is_voting t.phase ≡ true → is_preparing t.phase ≡ false → FollowsOn (led PhaseInput.PrePrepare c)
   follows-pre_prepare voting other = follows-to_pre_prepare x before behind c (prepares-fresh voting other)
 
-  pub follows-prepare : is_voting t.phase ≡ true → is_preparing t.phase ≡ false → FollowsOn (to_prepare c)
+  pub follows-prepare : is_voting t.phase ≡ true → is_preparing t.phase ≡ false → FollowsOn (led PhaseInput.Prepare c)
   follows-prepare voting other = follows-to_prepare x before behind c (prepares-fresh voting other)
 
   -- ---- an enlistment answers
 
   module _ (e : Enlistment) (in_es : IsIn e x.transactions.enlistments) (own : same_id e.transaction t.id ≡ true) where
     rises : RiseEnlistments c.enlistments
-    rises = sound.enlistments_rise
+    rises = sound.enlistments.rise
 
     brought : (g : Enlistment) → IsIn g c.enlistments → is_unrecovered_well boot c.managers g ≡ true
     brought = brought-now x t caller sound

@@ -190,7 +190,7 @@ agreed-create_manager x process label durability sound agreed = go durability
     o d = create_resource_manager x process label d
 
     counted : (m : Manager) → IsIn m x.managers → is_counted x.recorded.boots x.transactions.last_manager m.id ≡ true
-    counted m there = list_all-at (λ (m : Manager). is_counted x.recorded.boots x.transactions.last_manager m.id) x.managers sound.managers_counted m there
+    counted m there = list_all-at (λ (m : Manager). is_counted x.recorded.boots x.transactions.last_manager m.id) x.managers sound.managers.counted m there
 
     ids-in : (ms : List Manager) → ((m : Manager) → IsIn m ms → is_before m.id id ≡ true) → (a : Id) → IsIn a (durable_ids ms) → is_before a id ≡ true
     ids-in ms before a there =
@@ -200,7 +200,7 @@ agreed-create_manager x process label durability sound agreed = go durability
     -- it is not that of any enlistment
     other : (durable : Bool) (e : Enlistment) → IsIn e x.transactions.enlistments → is_durable_at (x.managers ++ record { id = id; is_durable = durable; queue = [] } ∷ []) e.manager ≡ is_durable_at x.managers e.manager
     other durable e there =
-        let some = list_any-at (λ (m : Manager). same_id m.id e.manager) x.managers (list_all-at (λ (e : Enlistment). has_manager x.managers e.manager) x.transactions.enlistments sound.managers_there e there) in
+        let some = list_any-at (λ (m : Manager). same_id m.id e.manager) x.managers (list_all-at (λ (e : Enlistment). has_manager x.managers e.manager) x.transactions.enlistments sound.enlistments.managers_there e there) in
         list_any-silent (λ (n : Manager). same_id n.id e.manager && n.is_durable) x.managers (record { id = id; is_durable = durable; queue = [] }) (and_left _ _
         (subst (λ other. same_id id other ≡ false) (same_id-equal (some.0).id e.manager some.2)
         (same_id-sym (some.0).id id (next-other x.recorded.boots x.transactions.last_manager (some.0).id (counted some.0 some.1)))))
@@ -236,7 +236,7 @@ agreed-create_manager x process label durability sound agreed = go durability
 -- an active transaction is none that the log has
 active-other : (x : Present) → IsSoundCourse x → (t u : Transaction) → IsIn t x.transactions.items → IsIn u x.transactions.items → t.phase ≡ Active → u.is_recorded ≡ true → same_id t.id u.id ≡ false
 active-other x sound t u there there' active recorded = false_from_ne_true _ (λ same.
-    recorded-later x u sound there' recorded (ap (λ (v : Transaction). v.phase) (same-by_id (λ (v : Transaction). v.id) x.transactions.items sound.transactions_rise u t there' there (sym (same_id-equal t.id u.id same))) ∙ active))
+    recorded-later x u sound there' recorded (ap (λ (v : Transaction). v.phase) (same-by_id (λ (v : Transaction). v.id) x.transactions.items sound.transactions.rise u t there' there (sym (same_id-equal t.id u.id same))) ∙ active))
 
 pub agreed-create_enlistment : (x : Present) (process : Pid) (label : Label) (m : Option Manager) (t : Option Transaction) (kind : EnlistmentKind) → IsSoundCourse x → Agreed x
     → ((u : Transaction) → t ≡ Some u → IsIn u x.transactions.items × (u.phase ≡ Active)) → Agreed (apply x (create_enlistment x process label m t kind))
@@ -290,7 +290,7 @@ agreed-keep_information x (Some e) information sound agreed there passes =
     either test same fails f in_list = elim (cases_Bool (has_id e.id f)) [
       | inr other ↦ inr (rw other refl)
       | inl is ↦
-          let one : f ≡ e = same-by_id (λ (g : Enlistment). g.id) x.transactions.enlistments sound.enlistments_rise f e in_list (there e refl) (same_id-equal f.id e.id is) in
+          let one : f ≡ e = same-by_id (λ (g : Enlistment). g.id) x.transactions.enlistments sound.enlistments.rise f e in_list (there e refl) (same_id-equal f.id e.id is) in
           let fails' : test f ≡ false = ap test one ∙ fails in
           inl (ap test (informed-is f is) ∙ same f ∙ fails', fails')
     ]
@@ -307,11 +307,11 @@ agreed-keep_information x (Some e) information sound agreed there passes =
     no-superior : (u : Transaction) → IsIn u x.transactions.items → (stage : Stage) → stage_in u.phase ≡ Some stage → is_ready stage ≡ false → (same_id e.transaction u.id && is_superior e) ≡ false
     no-superior u there' stage stands later = false_from_ne_true _ (λ is.
         let parts = and_parts (same_id e.transaction u.id) (is_superior e) is in
-        let found : transaction_in x e ≡ Some u = ap (transaction_at x.transactions.items) (same_id-equal e.transaction u.id parts.0) ∙ transaction_at-there x.transactions.items sound.transactions_rise u there' in
+        let found : transaction_in x e ≡ Some u = ap (transaction_at x.transactions.items) (same_id-equal e.transaction u.id parts.0) ∙ transaction_at-there x.transactions.items sound.transactions.rise u there' in
         let undecided : is_undecided u ≡ true = ap (holds_of is_undecided) (sym found) ∙ both.0 in
         elim (if_parts (is_superior e) (phase_passes x (λ phase. not (waits_for_superior phase)) e) (is_open_for_votes e) both.1) [
           | inr below ↦ true≢false (sym parts.1 ∙ below.0)
-          | inl above ↦ waits u.phase stage stands later (list_all-at (λ (t : Transaction). is_outcome_of t.phase t) x.transactions.items sound.outcomes u there') undecided (ap (holds_of (λ t. not (waits_for_superior t.phase))) (sym found) ∙ above.1)
+          | inl above ↦ waits u.phase stage stands later (list_all-at (λ (t : Transaction). is_outcome_of t.phase t) x.transactions.items sound.transactions.outcomes u there') undecided (ap (holds_of (λ t. not (waits_for_superior t.phase))) (sym found) ∙ above.1)
         ])
       where
         committed-known : (t : Transaction) → is_committed t ≡ true → is_undecided t ≡ true → ⊥

@@ -8,6 +8,7 @@ use Rattle.ktm_base.specs.declared.refusal.Refusal.{Refusal}
 use Rattle.ktm_base.specs.declared.refusal.Refusal.TheVariants.{LogFull, MachineDown}
 use Rattle.ktm_types.specs.declared.command.Command.{Command}
 use Rattle.ktm_types.specs.declared.command.Command.TheVariants.{CommitEnlistment, CreateTransaction, OpenTransaction, RollbackTransaction, GetTransactionInformation, CreateResourceManager, OpenResourceManager, RecoverResourceManager, GetNotificationResourceManager, CreateEnlistment, OpenEnlistment, RecoverEnlistment, RollbackComplete, SinglePhaseReject, RollbackEnlistment, SetEnlistmentRecoveryInformation, GetEnlistmentRecoveryInformation, CreateFile, CreateFileTransacted, ReadFile, WriteFile, SetEndOfFile, GetFileSizeEx, FlushFileBuffers, DeleteFile, CreateDirectory, RemoveDirectory, MoveFile, DeleteFileTransacted, CreateDirectoryTransacted, RemoveDirectoryTransacted, MoveFileTransacted, FindFiles, FindFilesTransacted, KvSet, KvUnset, KvGet, KvList, CloseHandle, DuplicateHandle, Exit, CommitTransaction, PrePrepareComplete, PrepareComplete, ReadOnlyEnlistment, CommitComplete, PrePrepareEnlistment, PrepareEnlistment}
+use Rattle.ktm_types.specs.declared.input.PhaseInput.{PhaseInput}
 use Rattle.ktm_types.specs.declared.object.Object.{Object}
 use Rattle.ktm_types.specs.declared.object.Phase.{Phase}
 use Rattle.ktm_types.specs.declared.object.Phase.TheVariants.{Active, Requested, PrePrepared}
@@ -28,11 +29,14 @@ use Rattle.ktm_world.specs.Labels.{enlistment_named, file_named, file_tests, man
 use Rattle.ktm_world.specs.Lawful.{Agrees, stage_in}
 use Rattle.ktm_world.specs.Laws.{StepLaw}
 use Rattle.ktm_world.specs.Outcome.{Outcome, apply, first_refusal, is_full, only_reply, refuse_or, within_log}
-use Rattle.ktm_world.specs.Phases.{Course, aborting, committing, recovered, rollback_answered, single_phase_rejected, is_single_phase, commit_answered, pre_prepare_answered, prepare_answered, read_only_answered, to_commit, to_pre_prepare, to_prepare}
+use Rattle.ktm_world.specs.Phases.{Course, is_single_phase}
 use Rattle.ktm_world.specs.Present.{Present, Transactions}
-use Rattle.ktm_world.specs.TransactionCalls.{answering, arrived, commit_enlistment, course_of, superior_tests, waits_for_superior, may_recover, may_reject_one_phase, phase_passes, recover_enlistment, rollback_complete, single_phase_reject, create_enlistment_tests, enlistment_tests, enlistment_with, get_information, get_notification, get_transaction_information, goes_on, information_in, information_of, manager_with, may_roll_back_by, open_enlistment, open_resource_manager, open_to_enlistment, open_to_manager, open_to_transaction, open_transaction, recover_all, recover_resource_manager, rollback_enlistment, rollback_of, rollback_transaction, rollback_transaction_tests, set_information, take_first, tick, transaction_in, transaction_with, before_prepare, before_pre_prepare, commit_complete, commit_of, commit_reply, commit_transaction, is_voting, may_vote, pre_prepare_complete, pre_prepare_enlistment, prepare_complete, prepare_enlistment, read_only_enlistment}
+use Rattle.ktm_world.specs.Steps.{led, share_of}
+use Rattle.ktm_world.specs.TransactionCalls.{answering, arrived, commit_enlistment, course_of, superior_tests, waits_for_superior, may_recover, may_reject_one_phase, phase_passes, recover_enlistment, rollback_complete, single_phase_reject, create_enlistment_tests, enlistment_tests, enlistment_with, get_information, get_notification, get_transaction_information, goes_on, information_in, information_of, manager_with, may_roll_back_by, open_enlistment, open_resource_manager, open_to_enlistment, open_to_manager, open_to_transaction, open_transaction, recover_all, recover_resource_manager, rollback_enlistment, rollback_of, rollback_transaction, rollback_transaction_tests, set_information, take_first, tick, transaction_in, transaction_with, before_prepare, before_pre_prepare, commit_complete, commit_of, commit_reply, commit_transaction, is_voting, may_vote, pre_prepare_complete, pre_prepare_enlistment, prepare_complete, prepare_enlistment, read_only_enlistment, recovery_of}
 use Rattle.ktm_world.specs.Transactions.{same_id}
 use Rattle.ktm_world.specs.World.{decide_tick, present}
+use Rattle.ktm_steps.proofs.offered.Table.{rows_law}
+use Rattle.ktm_steps.specs.Procedures.{committing, recovered, rollback_answered, single_phase_rejected, commit_answered, pre_prepare_answered, prepare_answered, read_only_answered}
 use Rattle.ktm_records.specs.Agreement.{AgreeingLaw}
 use Rattle.txf_laws.specs.Elements.{IsIn}
 use Rattle.ktm_states.specs.GoodState.{IsGoodState}
@@ -51,6 +55,7 @@ use Rattle.ktm_courses.proofs.offered.FileSteps.{IsActiveCaller, caller-active, 
 use Rattle.ktm_records.proofs.offered.AgreementOfCourses.{Follows, agreed-arrived, was}
 use Rattle.ktm_courses.proofs.offered.Moves.{if_cases}
 use Rattle.ktm_courses.proofs.offered.CommitsBegun.{arrives-to_commit, arrives-to_pre_prepare, arrives-to_prepare}
+use Rattle.ktm_courses.proofs.offered.Leads.{leads-pre_prepare, leads-prepare, leads-read_only}
 use Rattle.ktm_courses.proofs.offered.Procedures.{Arrives}
 use Rattle.ktm_records.proofs.AgreementOfSilentSteps.{agreed-silent, silent-recovered, silent-rollback_answered, silent-single_phase_rejected}
 use Rattle.txf_laws.proofs.offered.Tables.{same_id-from}
@@ -95,48 +100,52 @@ module _ (x : Present) (sound : IsSoundCourse x) (agreed : Agreed x) where
       let here = passed tests in let committed = passed here.1 in let aborted = passed committed.1 in let may = passed aborted.1 in
       agreed-aborted_by x sound agreed t (there t refl) None Done (may-roll t (not-not _ may.0))
 
-  -- the transaction of an enlistment goes on by this step, by which it agreed
-  answers : (o : Option Enlistment) (step : Course → Enlistment → Course)
-      → ((e : Enlistment) → o ≡ Some e → (t : Transaction) (caller : Option Enlistment) → IsIn t x.transactions.items → same_id e.transaction t.id ≡ true → transaction_in x e ≡ Some t → Agreed (apply x (arrived x (step (course_of x t caller) e) Done)))
-      → Agreed (apply x (answering x o step))
-  answers None step each = replies Done
-  answers (Some e) step each = go (transaction_in x e) refl
+  -- the transaction of an enlistment goes on by what comes from it, by which it agreed
+  answers : (o : Option Enlistment) (input : Enlistment → PhaseInput)
+      → ((e : Enlistment) → o ≡ Some e → (t : Transaction) → IsIn t x.transactions.items → same_id e.transaction t.id ≡ true → transaction_in x e ≡ Some t → Agreed (apply x (arrived x (led (input e) (course_of x t (Some e))) Done)))
+      → Agreed (apply x (answering x o input))
+  answers None input each = replies Done
+  answers (Some e) input each = go (transaction_in x e) refl
     where
-      go : (o : Option Transaction) → transaction_in x e ≡ o → Agreed (apply x (goes_on x e o step))
+      go : (o : Option Transaction) → transaction_in x e ≡ o → Agreed (apply x (goes_on x e o (input e)))
       go None is = replies Done
-      go (Some t) is = let found = transaction_at-found x.transactions.items e.transaction t is in each e refl t (Some e) found.0 (same_id-from e.transaction t.id (sym found.1)) is
+      go (Some t) is = let found = transaction_at-found x.transactions.items e.transaction t is in each e refl t found.0 (same_id-from e.transaction t.id (sym found.1)) is
+
+  -- where a row leads, as its procedure says
+  by : (d e : Course) → d ≡ e → Agreed (apply x (arrived x e Done)) → Agreed (apply x (arrived x d Done))
+  by d e is agrees = subst (λ c. Agreed (apply x (arrived x c Done))) (sym is) agrees
 
   module _ (o : Option Enlistment) (there : (e : Enlistment) → o ≡ Some e → IsIn e x.transactions.enlistments) where
-    rolled-by : Passes (enlistment_tests o (may_roll_back_by x)) → Agreed (apply x (answering x o (λ c e. aborting c)))
-    rolled-by tests = answers o (λ c e. aborting c) (λ e is t caller at own found.
-        agreed-aborted_by x sound agreed t at caller Done (rolls x sound o there e t found (enlistment-allowed o (may_roll_back_by x) e is tests)))
+    rolled-by : Passes (enlistment_tests o (may_roll_back_by x)) → Agreed (apply x (answering x o (λ e. PhaseInput.Rollback)))
+    rolled-by tests = answers o (λ e. PhaseInput.Rollback) (λ e is t at own found.
+        agreed-aborted_by x sound agreed t at (Some e) Done (rolls x sound o there e t found (enlistment-allowed o (may_roll_back_by x) e is tests)))
 
-    rolled-back : Passes (enlistment_tests o owes_rollback) → Agreed (apply x (answering x o rollback_answered))
-    rolled-back tests = answers o rollback_answered (λ e is t caller at own found.
+    rolled-back : Passes (enlistment_tests o owes_rollback) → Agreed (apply x (answering x o (λ e. PhaseInput.RollbackComplete)))
+    rolled-back tests = answers o (λ e. PhaseInput.RollbackComplete) (λ e is t at own found.
         let owes = enlistment-allowed o owes_rollback e is tests in
-        let c = course_of x t caller in
-        let stands = stands-now x t caller sound at in
-        let brought = brought-now x t caller sound in
-        agreed-silent x t caller (rollback_answered c e) Done sound agreed at (arrives-rollback_answered x.recorded.boots c stands brought sound.enlistments_rise e (there e is) own owes)
-        (silent-rollback_answered c e (is-aborting t.phase (phase-owing x.recorded.boots c stands brought sound.enlistments_rise e (there e is) own Owed.Rollback (owed-rollback e owes)))))
+        let c = course_of x t (Some e) in
+        let stands = stands-now x t (Some e) sound at in
+        let brought = brought-now x t (Some e) sound in
+        by _ _ (rows_law.rollback_completes (course_of x t (Some e)) e refl) (agreed-silent x t (Some e) (rollback_answered c e) Done sound agreed at (arrives-rollback_answered x.recorded.boots c stands brought sound.enlistments.rise e (there e is) own owes)
+        (silent-rollback_answered c e (is-aborting t.phase (phase-owing x.recorded.boots c stands brought sound.enlistments.rise e (there e is) own Owed.Rollback (owed-rollback e owes))))))
 
-    rejected : Passes (enlistment_tests o (may_reject_one_phase x)) → Agreed (apply x (answering x o single_phase_rejected))
-    rejected tests = answers o single_phase_rejected (λ e is t caller at own found.
+    rejected : Passes (enlistment_tests o (may_reject_one_phase x)) → Agreed (apply x (answering x o (λ e. PhaseInput.SinglePhaseReject)))
+    rejected tests = answers o (λ e. PhaseInput.SinglePhaseReject) (λ e is t at own found.
         let both = and_parts (phase_passes x is_single_phase e) (owes_commit e) (enlistment-allowed o (may_reject_one_phase x) e is tests) in
         let single = single-phase t.phase (phase-passed x is_single_phase e t found both.0) in
-        let c = course_of x t caller in
-        agreed-silent x t caller (single_phase_rejected c e) Done sound agreed at
-        (arrives-single_phase_rejected x.recorded.boots c (stands-now x t caller sound at) (brought-now x t caller sound) sound.enlistments_rise e (there e is) own single both.1)
+        let c = course_of x t (Some e) in
+        by _ _ (rows_law.rejects_one_phase (course_of x t (Some e)) e refl) (agreed-silent x t (Some e) (single_phase_rejected c e) Done sound agreed at
+        (arrives-single_phase_rejected x.recorded.boots c (stands-now x t (Some e) sound at) (brought-now x t (Some e) sound) sound.enlistments.rise e (there e is) own single both.1)
         (silent-single_phase_rejected c e (not-true _ (subst (λ phase. is_recorded_as phase x.managers x.transactions.enlistments t.id t.is_recorded ≡ true) single
-        (list_all-at (λ t. is_recorded_as t.phase x.managers x.transactions.enlistments t.id t.is_recorded) x.transactions.items sound.recorded t at)))))
+        (list_all-at (λ t. is_recorded_as t.phase x.managers x.transactions.enlistments t.id t.is_recorded) x.transactions.items sound.phases.recorded t at))))))
 
-    recovers : Passes (enlistment_tests o (may_recover x)) → Agreed (apply x (answering x o recovered))
-    recovers tests = answers o recovered (λ e is t caller at own found.
-        let c = course_of x t caller in
-        agreed-silent x t caller (recovered c e) Done sound agreed at
-        (arrives-recovered x.recorded.boots c (stands-now x t caller sound at) (brought-now x t caller sound) sound.enlistments_rise e (there e is) own
+    recovers : Passes (enlistment_tests o (may_recover x)) → Agreed (apply x (answering x o recovery_of))
+    recovers tests = answers o recovery_of (λ e is t at own found.
+        let c = course_of x t (Some e) in
+        by _ _ (rows_law.recovers c e refl) (agreed-silent x t (Some e) (recovered c e) Done sound agreed at
+        (arrives-recovered x.recorded.boots c (stands-now x t (Some e) sound at) (brought-now x t (Some e) sound) sound.enlistments.rise e (there e is) own
         (not-true _ (and_parts (not e.is_recovered) _ (enlistment-allowed o (may_recover x) e is tests)).0))
-        (silent-recovered c e))
+        (silent-recovered c e)))
 
   files : (who : Option Id) (o : FileOutcome) → IsActiveCaller x who → Agreed (apply x (of_files x who o))
   files who o active = agreed-of_files x who o sound agreed active
@@ -193,54 +202,61 @@ module _ (x : Present) (sound : IsSoundCourse x) (agreed : Agreed x) where
         let is = active-phase t (not-not _ active.0) in
         let c = course_of x t None in
         let arrives = arrives-to_commit x.recorded.boots c (fresh-active x sound t at None is) in
-        agreed-arrived x sound agreed t at None (to_commit c) arrives.moved (commit_reply (to_commit c)) arrives.stands.outcome
+        agreed-arrived x sound agreed t at None (led PhaseInput.CommitTransaction c) arrives.moved (commit_reply (led PhaseInput.CommitTransaction c)) arrives.stands.outcome
         (follows-commit x sound sound_files good agreed t at None (ap is_voting is) (ap is_preparing is))
 
-    -- the transaction of an enlistment goes on by this step, to where it is sound and agrees
-    goes : (o : Option Enlistment) (step : Course → Enlistment → Course)
-        → ((e : Enlistment) → o ≡ Some e → (t : Transaction) (caller : Option Enlistment) (at : IsIn t x.transactions.items) → same_id e.transaction t.id ≡ true → transaction_in x e ≡ Some t
-        → Arrives x.recorded.boots (course_of x t caller) (step (course_of x t caller) e) × Follows x t.id (was x sound t at agreed.agrees).before (was x sound t at agreed.agrees).behind (step (course_of x t caller) e))
-        → Agreed (apply x (answering x o step))
-    goes o step each = answers o step (λ e is t caller at own found.
-        let both = each e is t caller at own found in agreed-arrived x sound agreed t at caller (step (course_of x t caller) e) both.0.moved Done both.0.stands.outcome both.1)
+    -- the transaction of an enlistment goes on by what comes from it, as this procedure, to where it is sound and agrees
+    goes : (o : Option Enlistment) (input : Enlistment → PhaseInput) (step : Course → Enlistment → Course)
+        → ((e : Enlistment) → o ≡ Some e → (t : Transaction) (at : IsIn t x.transactions.items) → same_id e.transaction t.id ≡ true → transaction_in x e ≡ Some t
+        → (led (input e) (course_of x t (Some e)) ≡ step (course_of x t (Some e)) e) × Arrives x.recorded.boots (course_of x t (Some e)) (step (course_of x t (Some e)) e)
+        × Follows x t.id (was x sound t at agreed.agrees).before (was x sound t at agreed.agrees).behind (step (course_of x t (Some e)) e))
+        → Agreed (apply x (answering x o input))
+    goes o input step each = answers o input (λ e is t at own found.
+        let all = each e is t at own found in
+        by (led (input e) (course_of x t (Some e))) (step (course_of x t (Some e)) e) all.0 (agreed-arrived x sound agreed t at (Some e) (step (course_of x t (Some e)) e) all.1.moved Done all.1.stands.outcome all.2))
 
     module _ (o : Option Enlistment) (there : (e : Enlistment) → o ≡ Some e → IsIn e x.transactions.enlistments) where
-      pre-prepared : Passes (enlistment_tests o owes_pre_prepare) → Agreed (apply x (answering x o pre_prepare_answered))
-      pre-prepared tests = goes o pre_prepare_answered (λ e is t caller at own found.
+      pre-prepared : Passes (enlistment_tests o owes_pre_prepare) → Agreed (apply x (answering x o (λ e. PhaseInput.PrePrepareComplete)))
+      pre-prepared tests = goes o (λ e. PhaseInput.PrePrepareComplete) pre_prepare_answered (λ e is t at own found.
           let owes = enlistment-allowed o owes_pre_prepare e is tests in (
-            arrives-pre_prepare_answered x.recorded.boots (course_of x t caller) (stands-now x t caller sound at) (brought-now x t caller sound) sound.enlistments_rise e (there e is) own owes,
-            follows-pre_prepare_answered x sound sound_files good agreed t at caller e (there e is) own owes,
+            leads-pre_prepare x sound t at e (there e is) own owes,
+            arrives-pre_prepare_answered x.recorded.boots (course_of x t (Some e)) (stands-now x t (Some e) sound at) (brought-now x t (Some e) sound) sound.enlistments.rise e (there e is) own owes,
+            follows-pre_prepare_answered x sound sound_files good agreed t at (Some e) e (there e is) own owes,
           ))
 
-      prepared : Passes (enlistment_tests o owes_prepare) → Agreed (apply x (answering x o prepare_answered))
-      prepared tests = goes o prepare_answered (λ e is t caller at own found.
+      prepared : Passes (enlistment_tests o owes_prepare) → Agreed (apply x (answering x o (λ e. PhaseInput.PrepareComplete)))
+      prepared tests = goes o (λ e. PhaseInput.PrepareComplete) prepare_answered (λ e is t at own found.
           let owes = enlistment-allowed o owes_prepare e is tests in (
-            arrives-prepare_answered x.recorded.boots (course_of x t caller) (stands-now x t caller sound at) (brought-now x t caller sound) sound.enlistments_rise e (there e is) own owes,
-            follows-prepare_answered x sound sound_files good agreed t at caller e (there e is) own owes,
+            leads-prepare x sound t at e (there e is) own owes,
+            arrives-prepare_answered x.recorded.boots (course_of x t (Some e)) (stands-now x t (Some e) sound at) (brought-now x t (Some e) sound) sound.enlistments.rise e (there e is) own owes,
+            follows-prepare_answered x sound sound_files good agreed t at (Some e) e (there e is) own owes,
           ))
 
-      left : Passes (enlistment_tests o (may_vote x)) → Agreed (apply x (answering x o read_only_answered))
-      left tests = goes o read_only_answered (λ e is t caller at own found.
+      left : Passes (enlistment_tests o (may_vote x)) → Agreed (apply x (answering x o (λ e. PhaseInput.ReadOnly (share_of e))))
+      left tests = goes o (λ e. PhaseInput.ReadOnly (share_of e)) read_only_answered (λ e is t at own found.
           let phase = and_parts (not (is_superior e) && is_open_for_votes e) (phase_passes x is_voting e) (enlistment-allowed o (may_vote x) e is tests) in
           let both = and_parts (not (is_superior e)) (is_open_for_votes e) phase.0 in
           let voting = phase-passed x is_voting e t found phase.1 in (
-            arrives-read_only_answered x.recorded.boots (course_of x t caller) (stands-now x t caller sound at) (brought-now x t caller sound) sound.enlistments_rise e (there e is) own (not-true _ both.0) both.1 voting,
-            follows-read_only_answered x sound sound_files good agreed t at caller e (there e is) own (not-true _ both.0) both.1 voting,
+            leads-read_only x sound t at e (there e is) own (not-true _ both.0) (not-true _ (and_parts (not e.is_read_only) (not e.is_prepared) both.1).0),
+            arrives-read_only_answered x.recorded.boots (course_of x t (Some e)) (stands-now x t (Some e) sound at) (brought-now x t (Some e) sound) sound.enlistments.rise e (there e is) own (not-true _ both.0) both.1 voting,
+            follows-read_only_answered x sound sound_files good agreed t at (Some e) e (there e is) own (not-true _ both.0) both.1 voting,
           ))
 
-      committed : Passes (enlistment_tests o owes_commit) → Agreed (apply x (answering x o commit_answered))
-      committed tests = goes o commit_answered (λ e is t caller at own found.
+      committed : Passes (enlistment_tests o owes_commit) → Agreed (apply x (answering x o (λ e. PhaseInput.CommitComplete)))
+      committed tests = goes o (λ e. PhaseInput.CommitComplete) commit_answered (λ e is t at own found.
           let owes = enlistment-allowed o owes_commit e is tests in (
-            arrives-commit_answered x.recorded.boots (course_of x t caller) (stands-now x t caller sound at) (brought-now x t caller sound) sound.enlistments_rise e (there e is) own owes,
-            follows-commit_answered x sound sound_files good agreed t at caller e (there e is) own owes,
+            rows_law.commit_completes (course_of x t (Some e)) e refl,
+            arrives-commit_answered x.recorded.boots (course_of x t (Some e)) (stands-now x t (Some e) sound at) (brought-now x t (Some e) sound) sound.enlistments.rise e (there e is) own owes,
+            follows-commit_answered x sound sound_files good agreed t at (Some e) e (there e is) own owes,
           ))
 
-      pre-prepares : Passes (superior_tests x o before_pre_prepare) → Agreed (apply x (answering x o (λ c e. to_pre_prepare c)))
-      pre-prepares tests = goes o (λ c e. to_pre_prepare c) (λ e is t caller at own found.
+      pre-prepares : Passes (superior_tests x o before_pre_prepare) → Agreed (apply x (answering x o (λ e. PhaseInput.PrePrepare)))
+      pre-prepares tests = goes o (λ e. PhaseInput.PrePrepare) (λ c e. led PhaseInput.PrePrepare c) (λ e is t at own found.
           let early = phase-passed x before_pre_prepare e t found (superior-allowed x o before_pre_prepare e is tests) in
           let votes = before t.phase early in (
-            arrives-to_pre_prepare x.recorded.boots (course_of x t caller) (fresh-before_pre_prepare x sound t at caller t.phase refl early),
-            follows-pre_prepare x sound sound_files good agreed t at caller votes.0 votes.1,
+            refl,
+            arrives-to_pre_prepare x.recorded.boots (course_of x t (Some e)) (fresh-before_pre_prepare x sound t at (Some e) t.phase refl early),
+            follows-pre_prepare x sound sound_files good agreed t at (Some e) votes.0 votes.1,
           ))
         where
           before : (phase : Phase) → before_pre_prepare phase ≡ true → (is_voting phase ≡ true) × (is_preparing phase ≡ false)
@@ -248,12 +264,13 @@ module _ (x : Present) (sound : IsSoundCourse x) (agreed : Agreed x) where
           before Requested early = (refl, refl)
           before _ early = absurd (true≢false (sym early))
 
-      prepares : Passes (superior_tests x o before_prepare) → Agreed (apply x (answering x o (λ c e. to_prepare c)))
-      prepares tests = goes o (λ c e. to_prepare c) (λ e is t caller at own found.
+      prepares : Passes (superior_tests x o before_prepare) → Agreed (apply x (answering x o (λ e. PhaseInput.Prepare)))
+      prepares tests = goes o (λ e. PhaseInput.Prepare) (λ c e. led PhaseInput.Prepare c) (λ e is t at own found.
           let early = phase-passed x before_prepare e t found (superior-allowed x o before_prepare e is tests) in
           let votes = before t.phase early in (
-            arrives-to_prepare x.recorded.boots (course_of x t caller) (fresh-before_prepare x sound t at caller t.phase refl early),
-            follows-prepare x sound sound_files good agreed t at caller votes.0 votes.1,
+            refl,
+            arrives-to_prepare x.recorded.boots (course_of x t (Some e)) (fresh-before_prepare x sound t at (Some e) t.phase refl early),
+            follows-prepare x sound sound_files good agreed t at (Some e) votes.0 votes.1,
           ))
         where
           before : (phase : Phase) → before_prepare phase ≡ true → (is_voting phase ≡ true) × (is_preparing phase ≡ false)
@@ -262,13 +279,14 @@ module _ (x : Present) (sound : IsSoundCourse x) (agreed : Agreed x) where
           before PrePrepared early = (refl, refl)
           before _ early = absurd (true≢false (sym early))
 
-      decides : Passes (superior_tests x o waits_for_superior) → Agreed (apply x (answering x o (λ c e. committing c)))
-      decides tests = goes o (λ c e. committing c) (λ e is t caller at own found.
+      decides : Passes (superior_tests x o waits_for_superior) → Agreed (apply x (answering x o (λ e. PhaseInput.Commit)))
+      decides tests = goes o (λ e. PhaseInput.Commit) (λ c e. committing c) (λ e is t at own found.
           let waits = phase-passed x waits_for_superior e t found (superior-allowed x o waits_for_superior e is tests) in
           let held = held-in t.phase waits in (
-            commits-waiting x sound t at caller t.phase refl waits,
-            follows-decision x sound sound_files good agreed t at caller held.0
-                (held.1 t.id t.is_recorded (list_all-at (λ t. is_recorded_as t.phase x.managers x.transactions.enlistments t.id t.is_recorded) x.transactions.items sound.recorded t at)),
+            rows_law.commits (course_of x t (Some e)),
+            commits-waiting x sound t at (Some e) t.phase refl waits,
+            follows-decision x sound sound_files good agreed t at (Some e) held.0
+                (held.1 t.id t.is_recorded (list_all-at (λ t. is_recorded_as t.phase x.managers x.transactions.enlistments t.id t.is_recorded) x.transactions.items sound.phases.recorded t at)),
           ))
         where
           held-in : (phase : Phase) → waits_for_superior phase ≡ true → (stage_in phase ≡ Some Stage.Held) × ((id : Id) (recorded : Bool) → is_recorded_as phase x.managers x.transactions.enlistments id recorded ≡ true → recorded ≡ true)

@@ -24,10 +24,11 @@ use Rattle.ktm_world.specs.Enlistments.{Enlistment, takes_part}
 use Rattle.ktm_world.specs.Keys.{OwnSettings, stored_all}
 use Rattle.ktm_world.specs.Lawful.{superior_now}
 use Rattle.ktm_world.specs.Outcome.{committed_now}
-use Rattle.ktm_world.specs.Phases.{Course, committing, decided, event_if, has_settings, in_phase, owing, recording, superior, telling, work_of}
+use Rattle.ktm_world.specs.Phases.{Course, decided, event_if, has_settings, in_phase, owing, recording, superior, telling, work_of}
 use Rattle.ktm_world.specs.Present.{Present}
 use Rattle.ktm_world.specs.World.{by_rising_id, enlistment_back, is_enlistment_part}
 use Rattle.ktm_world.proofs.offered.Durables.{after_events-append}
+use Rattle.ktm_steps.specs.Procedures.{committing}
 use Rattle.ktm_records.specs.Kept.{is_carried_out}
 use Rattle.ktm_records.proofs.offered.AgreementOfCourses.{Follows, course_in, course_summaries, follows-from}
 use Rattle.txf_laws.proofs.offered.Lists.{IsIn-unmap}

@@ -18,11 +18,12 @@ use Rattle.ktm_world.specs.Durable.{Recorded, changes_in, changes_of, has_undone
 use Rattle.ktm_world.specs.Enlistments.{Enlistment, has_id, is_durable_at, is_superior, owes_commit, takes_part}
 use Rattle.ktm_world.specs.Lawful.{Summary, brought_back, stage_in, stays, summary_of, superior_now}
 use Rattle.ktm_world.specs.Outcome.{committed_now}
-use Rattle.ktm_world.specs.Phases.{Course, commit_answered, committing, ended, ended_if_finished, event_if, finished, in_phase, is_single_phase, recording, superior}
+use Rattle.ktm_world.specs.Phases.{Course, ended, ended_if_finished, event_if, in_phase, is_single_phase, recording, superior}
 use Rattle.ktm_world.specs.Present.{Present}
 use Rattle.ktm_world.specs.TransactionCalls.{course_of}
 use Rattle.ktm_world.specs.Transactions.{same_id}
 use Rattle.ktm_world.specs.World.{by_rising_id, enlistment_back, is_enlistment_part}
+use Rattle.ktm_steps.specs.Procedures.{commit_answered, committing, finished}
 use Rattle.txf_laws.specs.Elements.{IsIn, each_pair}
 use Rattle.ktm_states.specs.GoodState.{IsGoodState, is_decided_well, is_done_well}
 use Rattle.ktm_records.specs.Kept.{is_carried_out}
@@ -123,7 +124,7 @@ module _ (x : Present) (sound : IsSoundCourse x) (files : IsSoundFiles x) (good 
 
   module _ (e : Enlistment) (in_es : IsIn e x.transactions.enlistments) (own : same_id e.transaction t.id ≡ true) (owes : owes_commit e ≡ true) where
     rises : RiseEnlistments c.enlistments
-    rises = sound.enlistments_rise
+    rises = sound.enlistments.rise
 
     stands : Stands boot c
     stands = stands-now x t caller sound there

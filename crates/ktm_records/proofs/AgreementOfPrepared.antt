@@ -14,9 +14,10 @@ use Rattle.ktm_world.specs.Durable.{Durable, Recorded, after_events}
 use Rattle.ktm_world.specs.Enlistments.{Enlistment, superior_of, takes_part}
 use Rattle.ktm_world.specs.Lawful.{summary_of, superior_now}
 use Rattle.ktm_world.specs.Outcome.{committed_now}
-use Rattle.ktm_world.specs.Phases.{Course, all_ready, committing, ended, event_if, has_settings, held_or_committing, is_its_superior, participants, readied, superior, taking_part}
+use Rattle.ktm_world.specs.Phases.{Course, ended, event_if, has_settings, is_its_superior, superior}
 use Rattle.ktm_world.specs.Present.{Present}
 use Rattle.ktm_world.proofs.offered.Durables.{after_events-append}
+use Rattle.ktm_steps.specs.Procedures.{all_ready, committing, held_or_committing, participants, readied, taking_part}
 use Rattle.txf_laws.specs.Elements.{IsIn}
 use Rattle.ktm_records.specs.Kept.{is_carried_out}
 use Rattle.ktm_records.proofs.AgreementOfCommits.{follows-committing, follows-volatile}

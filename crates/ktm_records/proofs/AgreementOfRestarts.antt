@@ -119,7 +119,7 @@ module _ (base : Durable) (room : ℕ) (log : List Group) (good : IsGoodState (s
     in_back e below = in-es base room log good t there brought e (IsIn-right e (superior_back t.id t.superior) (flat_map (enlistment_back t.id) t.parts) below)
 
     enlistments-back : by_rising_id (flat_map (enlistment_back t.id) t.parts) ≡ course_enlistments (c t)
-    enlistments-back = rising-same (flat_map (enlistment_back t.id) t.parts) (map brought_back (filter (is_kept (c t)) es)) (differ-parts s good t there) (differ-kept (c t) (sound-opened base room log good).enlistments_rise)
+    enlistments-back = rising-same (flat_map (enlistment_back t.id) t.parts) (map brought_back (filter (is_kept (c t)) es)) (differ-parts s good t there) (differ-kept (c t) (sound-opened base room log good).enlistments.rise)
         (λ e below.
         let from = IsIn-unflat (enlistment_back t.id) t.parts e below in
         let parts = back-parts t.id from.0 e from.2 in

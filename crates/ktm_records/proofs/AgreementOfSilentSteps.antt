@@ -15,12 +15,13 @@ use Rattle.ktm_types.specs.declared.step.Owed.{Owed}
 use Rattle.ktm_world.specs.Enlistments.{Enlistment, Sent, has_id, is_durable_at, is_superior, is_unfinished, superior_of, takes_part, with_enlistments}
 use Rattle.ktm_world.specs.Lawful.{brought_back, is_held_stage, stage_in, stays, superior_now}
 use Rattle.ktm_world.specs.Outcome.{apply}
-use Rattle.ktm_world.specs.Phases.{Course, recovering, ended, finished, owing, recovered, recovered_in, rollback_answered, single_phase_rejected, telling, unchanged}
+use Rattle.ktm_world.specs.Phases.{Course, ended, owing, telling, unchanged}
 use Rattle.ktm_world.specs.Present.{Present}
 use Rattle.ktm_world.specs.TransactionCalls.{arrived, course_of}
 use Rattle.ktm_world.specs.Transactions.{same_id}
 use Rattle.ktm_world.specs.World.{by_rising_id}
 use Rattle.ktm_world.specs.Durable.{is_ready}
+use Rattle.ktm_steps.specs.Procedures.{recovering, finished, recovered, recovered_in, rollback_answered, single_phase_rejected}
 use Rattle.txf_laws.specs.Elements.{IsIn}
 use Rattle.ktm_courses.specs.SoundCourse.{IsSoundCourse}
 use Rattle.ktm_records.proofs.offered.Agreement.{Agreed, filter-alike}

@@ -3,6 +3,7 @@ use Rattle.std.proofs.Common.{◌≡◌, ◌&&◌, not, Bool, true, false, nat_l
 use Rattle.std.proofs.lemmas.Bool.{and_from, and_parts, not-true, not_from_false, or_cases, true≢false, false_from_ne_true}
 use Rattle.std.proofs.lemmas.Option.{none-some, same_Some}
 use Rattle.ktm_base.specs.declared.id.Id.{Id}
+use Rattle.ktm_types.specs.declared.input.PhaseInput.{PhaseInput}
 use Rattle.ktm_types.specs.declared.object.Phase.{Phase}
 use Rattle.ktm_types.specs.declared.object.Phase.TheVariants.{Active, Requested, PrePreparing, PrePrepared, Held, InDoubt, Committing, Aborting, Ended}
 use Rattle.ktm_types.specs.declared.object.Transaction.{Transaction}
@@ -14,16 +15,20 @@ use Rattle.ktm_world.specs.Durable.{is_new_enlistment, is_ready}
 use Rattle.ktm_world.specs.Enlistments.{Enlistment, Manager, is_durable_at, is_open_for_votes, is_superior, owes_commit, owes_pre_prepare, owes_prepare, takes_part}
 use Rattle.ktm_world.specs.Labels.{transaction_tests}
 use Rattle.ktm_world.specs.Lawful.{stage_in}
-use Rattle.ktm_world.specs.Phases.{Course, aborting, commit_answered, committing, finished, is_single_phase, pre_prepare_answered, prepare_answered, read_only_answered, recovered, rollback_answered, single_phase_rejected, to_commit, to_pre_prepare, to_prepare}
+use Rattle.ktm_world.specs.Phases.{Course, is_single_phase}
 use Rattle.ktm_world.specs.Present.{Present}
-use Rattle.ktm_world.specs.TransactionCalls.{answering, before_pre_prepare, before_prepare, commit_of, commit_reply, course_of, enlistment_tests, goes_on, is_voting, may_roll_back_by, may_vote, phase_passes, rollback_of, rollback_transaction_tests, superior_tests, transaction_in, waits_for_superior}
+use Rattle.ktm_world.specs.Steps.{led, share_of}
+use Rattle.ktm_world.specs.TransactionCalls.{answering, before_pre_prepare, before_prepare, commit_of, commit_reply, course_of, enlistment_tests, goes_on, is_voting, may_roll_back_by, may_vote, phase_passes, rollback_of, rollback_transaction_tests, superior_tests, transaction_in, waits_for_superior, recovery_of}
 use Rattle.ktm_world.specs.Transactions.{is_undecided, same_id}
+use Rattle.ktm_steps.proofs.offered.Table.{rows_law}
+use Rattle.ktm_steps.specs.Procedures.{finished, rollback_answered, single_phase_rejected}
 use Rattle.txf_laws.specs.Elements.{IsIn}
 use Rattle.ktm_records.specs.Kept.{IsKept, facts_apply}
 use Rattle.ktm_courses.specs.SoundCourse.{has_durable_part, is_outcome_of, is_part_as, is_phase_back, is_recorded_as, owes_until_finished}
 use Rattle.ktm_courses.proofs.offered.EnlistmentAnswers.{here-from, is-committing, is-pre_preparing, owed-commit, owed-pre_prepare, part_preparing, phase-owing, phase_preparing, takes_part-owing, unprepared, until-owed}
 use Rattle.ktm_courses.proofs.offered.Arrivals.{brought-now, stands-now}
 use Rattle.ktm_courses.proofs.offered.Calls.{Passes, active-phase, enlistment-allowed, may-roll, passed, phase-passed, rolls, superior-allowed, transaction_at-found}
+use Rattle.ktm_courses.proofs.offered.Leads.{leads-pre_prepare, leads-prepare, leads-read_only}
 use Rattle.txf_laws.proofs.offered.Elements.{list_all-at, list_any-from, not-not}
 use Rattle.ktm_records.proofs.offered.AgreementOfCourses.{arrival}
 use Rattle.ktm_records.proofs.LoggedStages.{can-decide, can-finish, may-ready, new-part}
@@ -87,7 +92,7 @@ module _ (x : Present) (kept : IsKept x) where
     stands = stands-now x t caller kept.sound.course there
 
     is-recorded : is_recorded_as t.phase x.managers x.transactions.enlistments t.id t.is_recorded ≡ true
-    is-recorded = list_all-at (λ t. is_recorded_as t.phase x.managers x.transactions.enlistments t.id t.is_recorded) x.transactions.items kept.sound.course.recorded t there
+    is-recorded = list_all-at (λ t. is_recorded_as t.phase x.managers x.transactions.enlistments t.id t.is_recorded) x.transactions.items kept.sound.course.phases.recorded t there
 
     module _ (is : stage_in t.phase ≡ Some Stage.Ready) where
       here : nat_lt t.id.boot x.recorded.boots ≡ false
@@ -113,13 +118,17 @@ module _ (x : Present) (kept : IsKept x) where
 
   -- ---- calls on transactions
 
+  -- what applies of where a row leads, as its procedure says
+  by : {d e : Course} → d ≡ e → facts_apply x.recorded e.events ≡ true → facts_apply x.recorded d.events ≡ true
+  by is applies = ap (λ (c : Course). facts_apply x.recorded c.events) is ∙ applies
+
   pub facts-commit_of : (o : Option Transaction) → ((t : Transaction) → o ≡ Some t → IsIn t x.transactions.items) → Passes (transaction_tests o) → FactsOf x (commit_of x o)
   facts-commit_of None there tests = refl
   facts-commit_of (Some t) there tests =
       let here = passed tests in let committed = passed here.1 in let aborted = passed committed.1 in let active = passed aborted.1 in
       let early = subst Early (sym (active-phase t (not-not _ active.0))) (early-pre_prepare Active refl) in
       let c = course_of x t None in
-      ap (facts_apply x.recorded) (arrival x (to_commit c) (commit_reply (to_commit c))).events ∙ facts-to_commit x.recorded c (is-early t (there t refl) None early) (is-unrecorded t (there t refl) None early)
+      ap (facts_apply x.recorded) (arrival x (led PhaseInput.CommitTransaction c) (commit_reply (led PhaseInput.CommitTransaction c))).events ∙ facts-to_commit x.recorded c (is-early t (there t refl) None early) (is-unrecorded t (there t refl) None early)
 
   pub facts-rollback_of : (o : Option Transaction) → ((t : Transaction) → o ≡ Some t → IsIn t x.transactions.items) → Passes (rollback_transaction_tests o) → FactsOf x (rollback_of x o)
   facts-rollback_of None there tests = refl
@@ -129,61 +138,62 @@ module _ (x : Present) (kept : IsKept x) where
 
   -- ---- calls of enlistments
 
-  answers : (o : Option Enlistment) (step : Course → Enlistment → Course)
-      → ((e : Enlistment) → o ≡ Some e → (t : Transaction) (caller : Option Enlistment) → IsIn t x.transactions.items → same_id e.transaction t.id ≡ true → transaction_in x e ≡ Some t → facts_apply x.recorded (step (course_of x t caller) e).events ≡ true)
-      → FactsOf x (answering x o step)
-  answers None step each = refl
-  answers (Some e) step each = go (transaction_in x e) refl
+  answers : (o : Option Enlistment) (input : Enlistment → PhaseInput)
+      → ((e : Enlistment) → o ≡ Some e → (t : Transaction) → IsIn t x.transactions.items → same_id e.transaction t.id ≡ true → transaction_in x e ≡ Some t → facts_apply x.recorded (led (input e) (course_of x t (Some e))).events ≡ true)
+      → FactsOf x (answering x o input)
+  answers None input each = refl
+  answers (Some e) input each = go (transaction_in x e) refl
     where
-      go : (o : Option Transaction) → transaction_in x e ≡ o → FactsOf x (goes_on x e o step)
+      go : (o : Option Transaction) → transaction_in x e ≡ o → FactsOf x (goes_on x e o (input e))
       go None is = refl
       go (Some t) is =
           let found = transaction_at-found x.transactions.items e.transaction t is in
-          ap (facts_apply x.recorded) (arrival x (step (course_of x t (Some e)) e) Done).events ∙ each e refl t (Some e) found.0 (same_id-from e.transaction t.id (sym found.1)) is
+          ap (facts_apply x.recorded) (arrival x (led (input e) (course_of x t (Some e))) Done).events ∙ each e refl t found.0 (same_id-from e.transaction t.id (sym found.1)) is
 
   module _ (o : Option Enlistment) (in_es : (e : Enlistment) → o ≡ Some e → IsIn e x.transactions.enlistments) where
-    pub facts-pre_prepare_complete : Passes (enlistment_tests o owes_pre_prepare) → FactsOf x (answering x o pre_prepare_answered)
-    facts-pre_prepare_complete tests = answers o pre_prepare_answered (λ e is t caller at own found.
+    pub facts-pre_prepare_complete : Passes (enlistment_tests o owes_pre_prepare) → FactsOf x (answering x o (λ e. PhaseInput.PrePrepareComplete))
+    facts-pre_prepare_complete tests = answers o (λ e. PhaseInput.PrePrepareComplete) (λ e is t at own found.
         let owes = enlistment-allowed o owes_pre_prepare e is tests in
-        let phase = is-pre_preparing t.phase (phase-owing x.recorded.boots (course_of x t caller) (stands t at caller) (brought-now x t caller kept.sound.course) kept.sound.course.enlistments_rise e (in_es e is) own Owed.PrePrepare (owed-pre_prepare e owes)) in
+        let phase = is-pre_preparing t.phase (phase-owing x.recorded.boots (course_of x t (Some e)) (stands t at (Some e)) (brought-now x t (Some e) kept.sound.course) kept.sound.course.enlistments.rise e (in_es e is) own Owed.PrePrepare (owed-pre_prepare e owes)) in
         let early = subst Early (sym phase) early-pre_preparing in
-        facts-pre_prepare_answered x.recorded (course_of x t caller) e (is-early t at caller early) (is-unrecorded t at caller early))
+        by (leads-pre_prepare x kept.sound.course t at e (in_es e is) own owes) (facts-pre_prepare_answered x.recorded (course_of x t (Some e)) e (is-early t at (Some e) early) (is-unrecorded t at (Some e) early)))
 
-    pub facts-prepare_complete : Passes (enlistment_tests o owes_prepare) → FactsOf x (answering x o prepare_answered)
-    facts-prepare_complete tests = answers o prepare_answered (λ e is t caller at own found.
+    pub facts-prepare_complete : Passes (enlistment_tests o owes_prepare) → FactsOf x (answering x o (λ e. PhaseInput.PrepareComplete))
+    facts-prepare_complete tests = answers o (λ e. PhaseInput.PrepareComplete) (λ e is t at own found.
         let owes = enlistment-allowed o owes_prepare e is tests in
-        let c = course_of x t caller in
-        let brought = brought-now x t caller kept.sound.course in
-        let rise = kept.sound.course.enlistments_rise in
-        let phase = phase_preparing x.recorded.boots c (stands t at caller) brought rise e (in_es e is) own owes in
-        let part = part_preparing x.recorded.boots c (stands t at caller) brought rise e (in_es e is) own owes in
+        let c = course_of x t (Some e) in
+        let brought = brought-now x t (Some e) kept.sound.course in
+        let rise = kept.sound.course.enlistments.rise in
+        let phase = phase_preparing x.recorded.boots c (stands t at (Some e)) brought rise e (in_es e is) own owes in
+        let part = part_preparing x.recorded.boots c (stands t at (Some e)) brought rise e (in_es e is) own owes in
         let ready : stage_in t.phase ≡ Some Stage.Ready = ap stage_in phase in
-        facts-prepare_answered x.recorded c e (is-on t at caller ready)
-        (λ durable. is-new t at caller ready e (in_es e is) own (unprepared x.recorded.boots c (stands t at caller) brought rise e (in_es e is) own owes).0 durable)
+        by (leads-prepare x kept.sound.course t at e (in_es e is) own owes) (facts-prepare_answered x.recorded c e (is-on t at (Some e) ready)
+        (λ durable. is-new t at (Some e) ready e (in_es e is) own (unprepared x.recorded.boots c (stands t at (Some e)) brought rise e (in_es e is) own owes).0 durable)
         (λ f there above. false_from_ne_true _ (λ same.
         let one : e ≡ f = same-by_id (λ (g : Enlistment). g.id) x.transactions.enlistments rise e f (in_es e is) there (same_id-equal e.id f.id same) in
-        true≢false (sym (and_parts (same_id f.transaction t.id) (is_superior f) above).1 ∙ ap is_superior (sym one) ∙ (part-parts t.id e part).1))))
+        true≢false (sym (and_parts (same_id f.transaction t.id) (is_superior f) above).1 ∙ ap is_superior (sym one) ∙ (part-parts t.id e part).1)))))
 
-    pub facts-read_only : Passes (enlistment_tests o (may_vote x)) → FactsOf x (answering x o read_only_answered)
-    facts-read_only tests = answers o read_only_answered (λ e is t caller at own found.
+    pub facts-read_only : Passes (enlistment_tests o (may_vote x)) → FactsOf x (answering x o (λ e. PhaseInput.ReadOnly (share_of e)))
+    facts-read_only tests = answers o (λ e. PhaseInput.ReadOnly (share_of e)) (λ e is t at own found.
         let may = enlistment-allowed o (may_vote x) e is tests in
+        let both = and_parts (not (is_superior e)) (is_open_for_votes e) (and_parts (not (is_superior e) && is_open_for_votes e) (phase_passes x is_voting e) may).0 in
         let voting = phase-passed x is_voting e t found (and_parts (not (is_superior e) && is_open_for_votes e) (phase_passes x is_voting e) may).1 in
-        facts-read_only_answered x.recorded (course_of x t caller) e (is-on t at caller (ready-voting t.phase voting)) (λ phase. is-unrecorded t at caller (subst Early (sym phase) early-pre_preparing)))
+        by (leads-read_only x kept.sound.course t at e (in_es e is) own (not-true _ both.0) (not-true _ (and_parts (not e.is_read_only) (not e.is_prepared) both.1).0)) (facts-read_only_answered x.recorded (course_of x t (Some e)) e (is-on t at (Some e) (ready-voting t.phase voting)) (λ phase. is-unrecorded t at (Some e) (subst Early (sym phase) early-pre_preparing))))
 
-    pub facts-commit_complete : Passes (enlistment_tests o owes_commit) → FactsOf x (answering x o commit_answered)
-    facts-commit_complete tests = answers o commit_answered (λ e is t caller at own found.
-        let c = course_of x t caller in
-        let brought = brought-now x t caller kept.sound.course in
-        let rise = kept.sound.course.enlistments_rise in
+    pub facts-commit_complete : Passes (enlistment_tests o owes_commit) → FactsOf x (answering x o (λ e. PhaseInput.CommitComplete))
+    facts-commit_complete tests = answers o (λ e. PhaseInput.CommitComplete) (λ e is t at own found.
+        let c = course_of x t (Some e) in
+        let brought = brought-now x t (Some e) kept.sound.course in
+        let rise = kept.sound.course.enlistments.rise in
         let owed = owed-commit e (enlistment-allowed o owes_commit e is tests) in
-        let part = takes_part-owing x.recorded.boots c (stands t at caller) brought rise e (in_es e is) own Owed.Commit owed in
-        facts-commit_answered x.recorded c e refl (λ several durable. elim (is-committing t.phase (phase-owing x.recorded.boots c (stands t at caller) brought rise e (in_es e is) own Owed.Commit owed)) [
+        let part = takes_part-owing x.recorded.boots c (stands t at (Some e)) brought rise e (in_es e is) own Owed.Commit owed in
+        by (rows_law.commit_completes (course_of x t (Some e)) e refl) (facts-commit_answered x.recorded c e refl (λ several durable. elim (is-committing t.phase (phase-owing x.recorded.boots c (stands t at (Some e)) brought rise e (in_es e is) own Owed.Commit owed)) [
           | inr single ↦ absurd (true≢false (ap is_single_phase (sym single) ∙ several))
           | inl phase ↦
-              let both = and_parts e.is_prepared (owes_until_finished owes_commit e) (subst (λ p. is_part_as p e ≡ true) phase (((stands t at caller).stand).parts e (in_es e is) part)) in
+              let both = and_parts e.is_prepared (owes_until_finished owes_commit e) (subst (λ p. is_part_as p e ≡ true) phase (((stands t at (Some e)).stand).parts e (in_es e is) part)) in
               let unfinished = (until-owed owes_commit e Owed.Commit owed both.1).2 in
-              can-finish x kept t at caller (recorded-committing t at caller phase e (in_es e is) part durable unfinished) (ap stage_in phase) e (in_es e is) part durable both.0 unfinished
-        ]))
+              can-finish x kept t at (Some e) (recorded-committing t at (Some e) phase e (in_es e is) part durable unfinished) (ap stage_in phase) e (in_es e is) part durable both.0 unfinished
+        ])))
       where
         recorded-committing : (t : Transaction) (at : IsIn t x.transactions.items) (caller : Option Enlistment) → t.phase ≡ Committing → (e : Enlistment) → IsIn e x.transactions.enlistments → takes_part t.id e ≡ true → is_durable_at x.managers e.manager ≡ true
             → e.is_finished ≡ false → t.is_recorded ≡ true
@@ -193,33 +203,33 @@ module _ (x : Present) (kept : IsKept x) where
               | inr none ↦ absurd (true≢false (sym (list_any-from (λ e. takes_part t.id e && (not e.is_finished && is_durable_at x.managers e.manager)) x.transactions.enlistments e there (and_from _ _ part (and_from _ _ (not_from_false _ unfinished) durable))) ∙ not-true _ none))
             ]
 
-    pub facts-rollback_complete : FactsOf x (answering x o rollback_answered)
+    pub facts-rollback_complete : FactsOf x (answering x o (λ e. PhaseInput.RollbackComplete))
     unfolding rollback_answered
-    facts-rollback_complete = answers o rollback_answered (λ e is t caller at own found. facts-if_finished x.recorded (finished (course_of x t caller) e) Aborted refl)
+    facts-rollback_complete = answers o (λ e. PhaseInput.RollbackComplete) (λ e is t at own found. by (rows_law.rollback_completes (course_of x t (Some e)) e refl) (facts-if_finished x.recorded (finished (course_of x t (Some e)) e) Aborted refl))
 
-    pub facts-single_phase_reject : FactsOf x (answering x o single_phase_rejected)
+    pub facts-single_phase_reject : FactsOf x (answering x o (λ e. PhaseInput.SinglePhaseReject))
     unfolding single_phase_rejected
-    facts-single_phase_reject = answers o single_phase_rejected (λ e is t caller at own found. refl)
+    facts-single_phase_reject = answers o (λ e. PhaseInput.SinglePhaseReject) (λ e is t at own found. by (rows_law.rejects_one_phase (course_of x t (Some e)) e refl) refl)
 
-    pub facts-recover : FactsOf x (answering x o recovered)
-    facts-recover = answers o recovered (λ e is t caller at own found. ap (facts_apply x.recorded) (silent-recovered (course_of x t caller) e).events)
+    pub facts-recover : FactsOf x (answering x o recovery_of)
+    facts-recover = answers o recovery_of (λ e is t at own found. by (rows_law.recovers (course_of x t (Some e)) e refl) (ap (facts_apply x.recorded) (silent-recovered (course_of x t (Some e)) e).events))
 
-    pub facts-rollback_enlistment : Passes (enlistment_tests o (may_roll_back_by x)) → FactsOf x (answering x o (λ c e. aborting c))
-    facts-rollback_enlistment tests = answers o (λ c e. aborting c) (λ e is t caller at own found.
-        sym (ap (facts_apply x.recorded) (arrival x (aborting (course_of x t caller)) Done).events)
-        ∙ facts-aborted_by x kept.sound.course kept.agrees t at (rolls x kept.sound.course o in_es e t found (enlistment-allowed o (may_roll_back_by x) e is tests)) caller Done)
+    pub facts-rollback_enlistment : Passes (enlistment_tests o (may_roll_back_by x)) → FactsOf x (answering x o (λ e. PhaseInput.Rollback))
+    facts-rollback_enlistment tests = answers o (λ e. PhaseInput.Rollback) (λ e is t at own found.
+        sym (ap (facts_apply x.recorded) (arrival x (led PhaseInput.Rollback (course_of x t (Some e))) Done).events)
+        ∙ facts-aborted_by x kept.sound.course kept.agrees t at (rolls x kept.sound.course o in_es e t found (enlistment-allowed o (may_roll_back_by x) e is tests)) (Some e) Done)
 
-    pub facts-pre_prepare_enlistment : Passes (superior_tests x o before_pre_prepare) → FactsOf x (answering x o (λ c e. to_pre_prepare c))
-    facts-pre_prepare_enlistment tests = answers o (λ c e. to_pre_prepare c) (λ e is t caller at own found.
+    pub facts-pre_prepare_enlistment : Passes (superior_tests x o before_pre_prepare) → FactsOf x (answering x o (λ e. PhaseInput.PrePrepare))
+    facts-pre_prepare_enlistment tests = answers o (λ e. PhaseInput.PrePrepare) (λ e is t at own found.
         let early = early-pre_prepare t.phase (phase-passed x before_pre_prepare e t found (superior-allowed x o before_pre_prepare e is tests)) in
-        facts-to_pre_prepare x.recorded (course_of x t caller) (is-early t at caller early) (is-unrecorded t at caller early))
+        facts-to_pre_prepare x.recorded (course_of x t (Some e)) (is-early t at (Some e) early) (is-unrecorded t at (Some e) early))
 
-    pub facts-prepare_enlistment : Passes (superior_tests x o before_prepare) → FactsOf x (answering x o (λ c e. to_prepare c))
-    facts-prepare_enlistment tests = answers o (λ c e. to_prepare c) (λ e is t caller at own found.
+    pub facts-prepare_enlistment : Passes (superior_tests x o before_prepare) → FactsOf x (answering x o (λ e. PhaseInput.Prepare))
+    facts-prepare_enlistment tests = answers o (λ e. PhaseInput.Prepare) (λ e is t at own found.
         let early = early-prepare t.phase (phase-passed x before_prepare e t found (superior-allowed x o before_prepare e is tests)) in
-        facts-to_prepare x.recorded (course_of x t caller) (is-early t at caller early) (is-unrecorded t at caller early))
+        facts-to_prepare x.recorded (course_of x t (Some e)) (is-early t at (Some e) early) (is-unrecorded t at (Some e) early))
 
-    pub facts-commit_enlistment : Passes (superior_tests x o waits_for_superior) → FactsOf x (answering x o (λ c e. committing c))
-    facts-commit_enlistment tests = answers o (λ c e. committing c) (λ e is t caller at own found.
+    pub facts-commit_enlistment : Passes (superior_tests x o waits_for_superior) → FactsOf x (answering x o (λ e. PhaseInput.Commit))
+    facts-commit_enlistment tests = answers o (λ e. PhaseInput.Commit) (λ e is t at own found.
         let held = held-waiting t.phase (phase-passed x waits_for_superior e t found (superior-allowed x o waits_for_superior e is tests)) in
-        facts-committing x.recorded (course_of x t caller) refl (can-decide x kept t at caller (held.1 x.managers x.transactions.enlistments t.id t.is_recorded (is-recorded t at caller)) held.0))
+        by (rows_law.commits (course_of x t (Some e))) (facts-committing x.recorded (course_of x t (Some e)) refl (can-decide x kept t at (Some e) (held.1 x.managers x.transactions.enlistments t.id t.is_recorded (is-recorded t at (Some e))) held.0)))

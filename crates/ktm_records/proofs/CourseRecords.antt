@@ -1,6 +1,5 @@
 -- What a transaction on its way records applies, but for the limits.
-use Rattle.std.specs.Prelude.{if◌then◌else◌}
-use Rattle.std.proofs.Common.{◌≡◌, ℕ, ◌==◌, ◌&&◌, ◌||◌, Bool, true, false, is_none, is_some, List, [], ◌∷◌, ◌++◌, zero, suc, Option, Some, None, refl, sym, ◌∙◌, ap, subst, inl, inr}
+use Rattle.std.proofs.Common.{◌≡◌, ◌==◌, ◌&&◌, ◌||◌, Bool, true, false, is_none, is_some, List, [], ◌∷◌, ◌++◌, Option, Some, None, refl, sym, ◌∙◌, ap, subst, inl, inr}
 use Rattle.std.proofs.lemmas.Bool.{cases_Bool, and_from, and_parts, or_from, or_parts, or_right, true≢false}
 use Rattle.std.proofs.lemmas.List.Sums.{fold-append}
 use Rattle.std.specs.List.{list_any}
@@ -10,21 +9,25 @@ use Rattle.ktm_types.specs.declared.event.DonePart.{DonePart}
 use Rattle.ktm_types.specs.declared.event.Event.{Event}
 use Rattle.ktm_types.specs.declared.event.Part.{Part}
 use Rattle.ktm_types.specs.declared.event.Part.TheVariants.{Changes, Settings}
+use Rattle.ktm_types.specs.declared.input.PhaseInput.{PhaseInput}
 use Rattle.ktm_types.specs.declared.object.Phase.{Phase}
 use Rattle.ktm_types.specs.declared.object.TransactionOutcome.{TransactionOutcome}
 use Rattle.ktm_types.specs.declared.object.TransactionOutcome.TheVariants.{Committed}
 use Rattle.ktm_types.specs.declared.step.Owed.{Owed}
 use Rattle.ktm_world.specs.Changes.{has_changes}
 use Rattle.ktm_world.specs.Durable.{Durable, Recorded, after_event, after_events, fact_applies, has_part, is_new_enlistment, is_ready, is_sole, may_get_ready, part_applies, recorded_at, recorded_or_new}
-use Rattle.ktm_world.specs.Enlistments.{Enlistment, Sent, is_superior, has_id, is_durable_at, is_unfinished, allows_one_phase, asks_pre_prepare, takes_part, with_enlistments}
-use Rattle.ktm_world.specs.Phases.{Course, all_ready, changing_one, commit_answered, committing, decided, ended, ended_if_finished, enlistment_part, event_if, finished, has_settings, held_or_committing, in_phase, is_its_superior, is_single_phase, one_participant, one_phase, owing, participants, pre_prepare_answered, pre_prepared, prepare_alone, prepare_answered, preparing, read_only_answered, readied, ready_of_enlistment, ready_parts, recorded, recording, single, some_enlistment, someone_owes, superior, telling, to_commit, to_pre_prepare, to_prepare, when_none_owes, without_its_answer, work_of}
+use Rattle.ktm_world.specs.Enlistments.{Enlistment, Sent, is_superior, has_id, is_durable_at, is_unfinished, takes_part, with_enlistments}
+use Rattle.ktm_world.specs.Phases.{Course, changing_one, decided, ended, ended_if_finished, enlistment_part, event_if, has_settings, in_phase, is_its_superior, is_single_phase, owing, recording, superior, telling, work_of}
+use Rattle.ktm_world.specs.Steps.{led, run}
 use Rattle.ktm_world.specs.Transactions.{same_id}
+use Rattle.ktm_steps.proofs.offered.Table.{all_readies-run}
+use Rattle.ktm_steps.proofs.offered.Ways.{Ways, commit-by, pre_prepare-by, prepare-by, proceed-by}
+use Rattle.ktm_steps.specs.Procedures.{all_ready, commit_answered, committing, finished, held_or_committing, participants, pre_prepare_answered, pre_prepared, prepare_answered, read_only_answered, readied, ready_of_enlistment, ready_parts, recorded, someone_owes, when_none_owes, without_its_answer}
 use Rattle.txf_laws.specs.Elements.{IsIn}
 use Rattle.ktm_records.specs.Kept.{facts_apply}
 use Rattle.ktm_records.proofs.Facts.{MayDecide, awaits, decision-applies, facts-append, facts-if, facts-one}
 use Rattle.txf_laws.proofs.offered.Lists.{IsIn-unmap}
 use Rattle.ktm_courses.proofs.offered.Moves.{IsSame, IsSame-refl, find-found, if_cases, stepped}
-use Rattle.ktm_courses.proofs.offered.Procedures.{alike-owing}
 use Rattle.ktm_records.proofs.AddedParts.{pushed-awaits, pushed-changes, pushed-known, pushed-may, pushed-new, pushed-part, pushed-settings, pushed-still}
 
 -- ---- a decision
@@ -203,53 +206,47 @@ module _ (s : Durable) where
   unfolding all_ready
   facts-all_ready c on = facts-held_or_committing c on (superior c) refl
 
-  pub facts-preparing : (c : Course) → IsOn s c → Facts (preparing c)
-  facts-preparing c on =
-      let asked = in_phase (telling c (takes_part c.transaction.id) Notify.Prepare (owing Owed.Prepare)) Phase.Preparing in
-      if_cases (λ (d : Course). facts_apply s d.events ≡ true) (some_enlistment c (λ e. true)) asked (all_ready asked) (λ some. on.facts)
-      (λ none. facts-all_ready asked (told-on c Phase.Preparing (takes_part c.transaction.id) (owing Owed.Prepare) _ (λ e. (alike-owing Owed.Prepare e).same) on))
-
   -- ---- of a transaction that the log does not have
 
   -- the files or the keys alone commit
-  facts-single : (c : Course) (part : Part) → IsOn s c → recorded_at (after_events s c.events).transactions c.transaction.id ≡ None → is_sole part ≡ true → part_applies (after_events s c.events) c.transaction.id part ≡ true → Facts (single c part)
+  facts-single : (c : Course) (part : Part) → IsOn s c → recorded_at (after_events s c.events).transactions c.transaction.id ≡ None → is_sole part ≡ true → part_applies (after_events s c.events) c.transaction.id part ≡ true
+      → Facts (ended (record (recording c (Event.Single c.transaction.id part ∷ [])) { works = c.works ++ work_of c }) Committed)
   unfolding ended
   facts-single c part on new sole applies = facts-append c.events (Event.Single c.transaction.id part ∷ []) s on.facts (facts-one (after_events s c.events) (Event.Single c.transaction.id part)
       (and_from _ _ (and_from _ _ (and_from _ _ (and_parts (c.transaction.id.boot == (after_events s c.events).boots) (is_ready (recorded_or_new (after_events s c.events).transactions c.transaction.id).stage) (on.may).may).0 (ap is_none new)) sole) applies))
+
+  facts-nobody : (c : Course) → Facts c → Facts (ended c Committed)
+  unfolding ended
+  facts-nobody c is = is
 
   module _ (c : Course) (on : IsOn s c) (unrecorded : c.transaction.is_recorded ≡ false) where
     abbrev none-yet : recorded_at (after_events s c.events).transactions c.transaction.id ≡ None
     none-yet = (on.may).new unrecorded
 
-    facts-one_participant : Facts (one_participant c)
-    facts-one_participant = if_cases (λ (d : Course). facts_apply s d.events ≡ true) (has_changes c.changes) (single c (Changes c.changes)) (if has_settings c.settings then single c (Settings c.settings) else one_phase c)
-        (λ files. facts-single c (Changes c.changes) on none-yet refl ((on.may).files files))
-        (λ no_files. if_cases (λ (d : Course). facts_apply s d.events ≡ true) (has_settings c.settings) (single c (Settings c.settings)) (one_phase c)
-        (λ keys. facts-single c (Settings c.settings) on none-yet refl ((on.may).keys keys))
-        (λ no_keys. if_cases (λ (d : Course). facts_apply s d.events ≡ true) (some_enlistment c allows_one_phase) (in_phase (telling c (takes_part c.transaction.id) Notify.SinglePhaseCommit (owing Owed.Commit)) Phase.SinglePhase) (preparing c)
-        (λ some. on.facts) (λ none. facts-preparing c on)))
+    facts-ways : Ways (λ steps. Facts (run steps c)) c
+    facts-ways = record {
+      requested = λ has. on.facts;
+      pre_prepared = λ has. on.facts;
+      pre_preparing = λ some. on.facts;
+      preparing = λ some. on.facts;
+      one_phase = λ alone one no_files no_keys some. on.facts;
+      files = λ one files. facts-single c (Changes c.changes) on none-yet refl ((on.may).files files);
+      keys = λ one no_files keys. facts-single c (Settings c.settings) on none-yet refl ((on.may).keys keys);
+      nobody = λ none. facts-nobody c on.facts;
+      ready = λ none. subst Facts (sym (all_readies-run c)) (facts-all_ready c on);
+    }
 
-    facts-alone : (n : ℕ) → Facts (prepare_alone c n)
-    unfolding ended
-    facts-alone zero = on.facts
-    facts-alone (suc zero) = facts-one_participant
-    facts-alone (suc (suc more)) = facts-preparing c on
-
-    pub facts-to_prepare : Facts (to_prepare c)
-    unfolding to_prepare
-    facts-to_prepare = if_cases (λ (d : Course). facts_apply s d.events ≡ true) (is_some (superior c)) (preparing c) (prepare_alone c (participants c)) (λ has. facts-preparing c on) (λ alone. facts-alone (participants c))
+    pub facts-to_prepare : Facts (led PhaseInput.Prepare c)
+    facts-to_prepare = prepare-by Facts c facts-ways
 
     pub facts-pre_prepared : Facts (pre_prepared c)
-    unfolding pre_prepared
-    facts-pre_prepared = if_cases (λ (d : Course). facts_apply s d.events ≡ true) (is_some (superior c)) _ (to_prepare c) (λ has. on.facts) (λ alone. facts-to_prepare)
+    facts-pre_prepared = proceed-by Facts c facts-ways
 
-    pub facts-to_pre_prepare : Facts (to_pre_prepare c)
-    unfolding to_pre_prepare
-    facts-to_pre_prepare = if_cases (λ (d : Course). facts_apply s d.events ≡ true) (some_enlistment c asks_pre_prepare) _ (pre_prepared c) (λ some. on.facts) (λ none. facts-pre_prepared)
+    pub facts-to_pre_prepare : Facts (led PhaseInput.PrePrepare c)
+    facts-to_pre_prepare = pre_prepare-by Facts c facts-ways
 
-    pub facts-to_commit : Facts (to_commit c)
-    unfolding to_commit
-    facts-to_commit = if_cases (λ (d : Course). facts_apply s d.events ≡ true) (is_some (superior c)) _ (to_pre_prepare c) (λ has. on.facts) (λ alone. facts-to_pre_prepare)
+    pub facts-to_commit : Facts (led PhaseInput.CommitTransaction c)
+    facts-to_commit = commit-by Facts c facts-ways
 
   -- ---- the answers of enlistments
 

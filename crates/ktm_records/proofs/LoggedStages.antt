@@ -165,12 +165,12 @@ module _ (x : Present) (kept : IsKept x) (t : Transaction) (there : IsIn t x.tra
     module _ (here : nat_lt t.id.boot x.recorded.boots ≡ false) (undecided' : is_undecided t ≡ true) where
       boot : t.id.boot ≡ x.recorded.boots
       boot =
-          let counted = counted-parts x.recorded.boots x.transactions.last_transaction t.id (list_all-at (λ t. is_counted x.recorded.boots x.transactions.last_transaction t.id) x.transactions.items kept.sound.course.transactions_counted t there) in
+          let counted = counted-parts x.recorded.boots x.transactions.last_transaction t.id (list_all-at (λ t. is_counted x.recorded.boots x.transactions.last_transaction t.id) x.transactions.items kept.sound.course.transactions.counted t there) in
           omega (arith, leb-true _ _ counted.1, ltb-false _ _ here)
 
       -- an enlistment of it is of this boot too
       pub boot-of : (e : Enlistment) → IsIn e x.transactions.enlistments → same_id e.transaction t.id ≡ true → e.id.boot ≡ x.recorded.boots
-      boot-of e in_es own = elim (or_cases (nat_lt e.transaction.boot x.recorded.boots) (e.id.boot == x.recorded.boots) (list_all-at (is_made_with_it x.recorded.boots) x.transactions.enlistments kept.sound.course.enlistments_made e in_es)) [
+      boot-of e in_es own = elim (or_cases (nat_lt e.transaction.boot x.recorded.boots) (e.id.boot == x.recorded.boots) (list_all-at (is_made_with_it x.recorded.boots) x.transactions.enlistments kept.sound.course.enlistments.made e in_es)) [
         | inl earlier ↦ absurd (true≢false (sym earlier ∙ ap (λ (i : Id). nat_lt i.boot x.recorded.boots) (same_id-equal e.transaction t.id own) ∙ here))
         | inr now ↦ eqb-true _ _ now
       ]
@@ -202,7 +202,7 @@ module _ (x : Present) (kept : IsKept x) (t : Transaction) (there : IsIn t x.tra
           among = IsIn-kept (λ (v : Transaction). is_undecided v && not (is_of v.id None)) x.transactions.items t there (and_from _ _ undecided' refl)
 
           durable-above : (e : Enlistment) → IsIn e x.transactions.enlistments → is_superior e ≡ true → is_durable_at x.managers e.manager ≡ true
-          durable-above e in_es above = elim (or_cases (not (is_superior e)) (is_durable_at x.managers e.manager) (list_all-at (is_superior_durable x.managers) x.transactions.enlistments kept.sound.course.superiors_durable e in_es)) [
+          durable-above e in_es above = elim (or_cases (not (is_superior e)) (is_durable_at x.managers e.manager) (list_all-at (is_superior_durable x.managers) x.transactions.enlistments kept.sound.course.enlistments.superiors_durable e in_es)) [
             | inl below ↦ absurd (true≢false (sym above ∙ not-true _ below))
             | inr durable ↦ durable
           ]

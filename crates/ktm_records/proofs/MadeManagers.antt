@@ -51,7 +51,7 @@ module _ (x : Present) (process : Pid) (label : Label) (sound : IsSoundCourse x)
   new-id = ap (list_any (λ other. same_id other id)) agrees.managers ∙ none-from (λ other. same_id other id) (durable_ids x.managers) (λ a there.
       let from = IsIn-unmap (λ (m : Manager). m.id) a (filter (λ (m : Manager). m.is_durable) x.managers) there in
       subst (λ b. same_id b id ≡ false) from.1 (next-other x.recorded.boots x.transactions.last_manager (from.0).id
-      (list_all-at (λ (m : Manager). is_counted x.recorded.boots x.transactions.last_manager m.id) x.managers sound.managers_counted from.0 (IsIn-filter (λ (m : Manager). m.is_durable) x.managers from.0 from.2).0)))
+      (list_all-at (λ (m : Manager). is_counted x.recorded.boots x.transactions.last_manager m.id) x.managers sound.managers.counted from.0 (IsIn-filter (λ (m : Manager). m.is_durable) x.managers from.0 from.2).0)))
 
   made-applies : (durability : Durability) → length x.managers + 1 ≤ MOST_LIVE → events_apply x.recorded (create_resource_manager x process label durability).events ≡ true
   unfolding create_resource_manager

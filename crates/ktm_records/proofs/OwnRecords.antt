@@ -26,6 +26,7 @@ use Rattle.ktm_types.specs.declared.options.ShareMode.{ShareMode}
 use Rattle.ktm_types.specs.declared.reply.Reply.{Reply}
 use Rattle.ktm_types.specs.declared.reply.Reply.TheVariants.{Done, Refused}
 use Rattle.ktm_types.specs.Values.{IsCommand, IsText}
+use Rattle.ktm_types.specs.declared.input.PhaseInput.{PhaseInput}
 use Rattle.ktm_world.specs.Decide.{bound_file, caller, command_effect, command_tests, decide, events_of, of_files, of_keys, on_file, on_file_tests, opening, own_tests, with_room}
 use Rattle.ktm_world.specs.Enlistments.{Enlistment, Manager}
 use Rattle.ktm_world.specs.FileCalls.{Whereabouts, no_path, no_way, free, at_root, at_node, create_at, create_directory, create_file, delete_file, drop_at, empties, find_files, find_path, flush_file, get_size, make_at, move_at, move_file, read_file, remove_directory, set_end, write_file, write_file_tests}
@@ -37,19 +38,20 @@ use Rattle.ktm_world.specs.KeyCalls.{with_setting}
 use Rattle.ktm_world.specs.Keys.{OwnSettings, own_settings}
 use Rattle.ktm_world.specs.Labels.{enlistment_named, file_named, file_tests, manager_named, transaction_named}
 use Rattle.ktm_world.specs.Outcome.{Outcome, and_then, apply, first_refusal, is_full, only_reply, refuse_or, within_log}
-use Rattle.ktm_world.specs.Phases.{Course, aborting, event_if}
+use Rattle.ktm_world.specs.Phases.{Course, event_if}
 use Rattle.ktm_world.specs.Present.{Present}
-use Rattle.ktm_world.specs.TransactionCalls.{aborted_by, aborted_if_due, aborted_in_turn, answering, arrived, commit_complete, commit_enlistment, commit_of, commit_reply, commit_transaction, course_of, create_enlistment, create_resource_manager, create_transaction, enlist, enlistment_with, get_information, get_notification, get_transaction_information, goes_on, is_due, keep_information, manager_with, open_enlistment, open_resource_manager, open_to_enlistment, open_to_manager, open_to_transaction, open_transaction, pre_prepare_complete, pre_prepare_enlistment, prepare_complete, prepare_enlistment, read_only_enlistment, recover_all, recover_enlistment, recover_resource_manager, rollback_complete, rollback_enlistment, rollback_of, rollback_transaction, set_information, single_phase_reject, take_first, tick, transaction_in, transaction_with, with_clock}
-use Rattle.ktm_world.specs.Phases.{to_commit, committing, to_pre_prepare, to_prepare, pre_prepare_answered, prepare_answered, read_only_answered, commit_answered, rollback_answered, single_phase_rejected, recovered}
+use Rattle.ktm_world.specs.TransactionCalls.{aborted_by, aborted_if_due, aborted_in_turn, answering, arrived, commit_complete, commit_enlistment, commit_of, commit_reply, commit_transaction, course_of, create_enlistment, create_resource_manager, create_transaction, enlist, enlistment_with, get_information, get_notification, get_transaction_information, goes_on, is_due, keep_information, manager_with, open_enlistment, open_resource_manager, open_to_enlistment, open_to_manager, open_to_transaction, open_transaction, pre_prepare_complete, pre_prepare_enlistment, prepare_complete, prepare_enlistment, read_only_enlistment, recover_all, recover_enlistment, recover_resource_manager, rollback_complete, rollback_enlistment, rollback_of, rollback_transaction, set_information, single_phase_reject, take_first, tick, transaction_in, transaction_with, with_clock, recovery_of}
+use Rattle.ktm_world.specs.Steps.{led, share_of}
 use Rattle.ktm_world.specs.Transactions.{is_active, is_undecided, transaction_at}
 use Rattle.ktm_world.specs.Uses.{file_room}
 use Rattle.ktm_world.specs.World.{decide_tick}
+use Rattle.ktm_steps.proofs.offered.Recorded.{all-append}
 use Rattle.ktm_courses.proofs.offered.Calls.{Passes, passed}
 use Rattle.ktm_records.proofs.offered.AgreementOfCourses.{arrival}
 use Rattle.ktm_courses.proofs.offered.Moves.{if_cases}
-use Rattle.ktm_records.proofs.OwnEvents.{Has, IsOwnEvent, IsSpelledPut, all-append, commit_answered-has, committing-has, pre_prepare_answered-has, prepare_answered-has, read_only_answered-has, recovered-has, rollback_answered-has, single_phase_rejected-has, to_commit-has, to_pre_prepare-has, to_prepare-has}
+use Rattle.ktm_records.proofs.OwnEvents.{IsOwnEvent, IsSpelledPut, few-led, own-led}
 use Rattle.ktm_records.proofs.OwnTexts.{Texts, texts-with_own, texts-without_own}
-use Rattle.ktm_records.proofs.offered.AgreementOfRollbacks.{aborting-undone}
+use Rattle.ktm_records.proofs.offered.AgreementOfRollbacks.{rollback-undone}
 
 -- ---- texts
 
@@ -82,10 +84,10 @@ rolls-same x o own none = record { texts = subst Texts (sym own); undos = subst 
 rolls-reply : (x : Present) (reply : Reply) → Rolls x (only_reply x reply)
 rolls-reply x reply = rolls-same x (only_reply x reply) refl refl
 
-rolls-back : (x : Present) (t : Transaction) (caller : Option Enlistment) (reply : Reply) → Rolls x (arrived x (aborting (course_of x t caller)) reply)
+rolls-back : (x : Present) (t : Transaction) (caller : Option Enlistment) (reply : Reply) → Rolls x (arrived x (led PhaseInput.Rollback (course_of x t caller)) reply)
 rolls-back x t caller reply = record {
-  texts = texts-arrived x (aborting (course_of x t caller)) reply;
-  undos = subst (AllByRecursion IsUndo) (sym ((arrival x (aborting (course_of x t caller)) reply).events ∙ (aborting-undone (course_of x t caller)).events)) (undo t.is_recorded);
+  texts = texts-arrived x (led PhaseInput.Rollback (course_of x t caller)) reply;
+  undos = subst (AllByRecursion IsUndo) (sym ((arrival x (led PhaseInput.Rollback (course_of x t caller)) reply).events ∙ (rollback-undone (course_of x t caller)).events)) (undo t.is_recorded);
 }
   where
     undo : (b : Bool) → AllByRecursion IsUndo (event_if b (Undo t.id))
@@ -174,36 +176,30 @@ module _ (Files : List Change → Type 0) (Keys : OwnSettings → Type 0) where
   does-reply x reply = does-same x (only_reply x reply) refl refl
 
   module _ (x : Present) (owned : Owned x) where
-    begun : (t : Transaction) (caller : Option Enlistment) → Has Files Keys 0 (course_of x t caller)
-    begun t caller = record { changes = owned.files t.id; settings = owned.keys t.id; events = tt; few = omega arith }
-
-    does-arrived : (n : ℕ) (d : Course) (reply : Reply) → n ≤ 6 → Has Files Keys n d → Does x (arrived x d reply)
-    does-arrived n d reply less has = record {
-      texts = texts-arrived x d reply;
-      group = subst IsShortGroup (sym (arrival x d reply).events) (inr (has.events, omega (arith, less, has.few)));
-    }
+    -- a row of any transaction
+    does-led : (input : PhaseInput) (t : Transaction) (caller : Option Enlistment) (reply : Reply) → Does x (arrived x (led input (course_of x t caller)) reply)
+    does-led input t caller reply =
+        let c = course_of x t caller in
+        record {
+          texts = texts-arrived x (led input c) reply;
+          group = subst IsShortGroup (sym (arrival x (led input c) reply).events) (inr (own-led Files Keys input c refl (owned.files t.id) (owned.keys t.id), few-led input c refl));
+        }
 
     does-commit : (o : Option Transaction) → Does x (commit_of x o)
     does-commit None = does-reply x Done
-    does-commit (Some t) = let c = to_commit (course_of x t None) in does-arrived 5 c (commit_reply c) (omega arith) (to_commit-has Files Keys 0 (course_of x t None) (begun t None))
+    does-commit (Some t) = does-led PhaseInput.CommitTransaction t None (commit_reply (led PhaseInput.CommitTransaction (course_of x t None)))
 
     does-rollback : (o : Option Transaction) → Does x (rollback_of x o)
     does-rollback None = does-reply x Done
     does-rollback (Some t) = does-rolled x _ (rolls-back x t None Done)
 
-    does-going : (o : Option Enlistment) (step : Course → Enlistment → Course) → ((e : Enlistment) (t : Transaction) (caller : Option Enlistment) → Does x (arrived x (step (course_of x t caller) e) Done)) → Does x (answering x o step)
-    does-going None step each = does-reply x Done
-    does-going (Some e) step each = go (transaction_in x e)
+    does-answering : (o : Option Enlistment) (input : Enlistment → PhaseInput) → Does x (answering x o input)
+    does-answering None input = does-reply x Done
+    does-answering (Some e) input = go (transaction_in x e)
       where
-        go : (o : Option Transaction) → Does x (goes_on x e o step)
+        go : (o : Option Transaction) → Does x (goes_on x e o (input e))
         go None = does-reply x Done
-        go (Some t) = each e t (Some e)
-
-    does-answering : (n : ℕ) (o : Option Enlistment) (step : Course → Enlistment → Course) → n ≤ 6 → ((c : Course) (e : Enlistment) → Has Files Keys 0 c → Has Files Keys n (step c e)) → Does x (answering x o step)
-    does-answering n o step less steps = does-going o step (λ e t caller. does-arrived n (step (course_of x t caller) e) Done less (steps (course_of x t caller) e (begun t caller)))
-
-    does-rollback_enlistment : (o : Option Enlistment) → Does x (answering x o (λ c e. aborting c))
-    does-rollback_enlistment o = does-going o (λ c e. aborting c) (λ e t caller. does-rolled x _ (rolls-back x t caller Done))
+        go (Some t) = does-led (input e) t (Some e) Done
 
     -- ---- objects
 
@@ -373,17 +369,17 @@ module _ (Files : List Change → Type 0) (Keys : OwnSettings → Type 0) where
     does-command process (GetNotificationResourceManager label) is passes = taken (manager_named x process label)
     does-command process (CreateEnlistment label manager transaction kind) is passes = enlisted process label (manager_named x process manager) (transaction_named x process transaction) kind
     does-command process (OpenEnlistment label manager guid) is passes = opened-enlistment process label (enlistment_with x (manager_named x process manager) guid)
-    does-command process (RecoverEnlistment label) is passes = does-answering 0 (enlistment_named x process label) recovered (omega arith) (recovered-has Files Keys 0)
-    does-command process (PrePrepareComplete label) is passes = does-answering 5 (enlistment_named x process label) pre_prepare_answered (omega arith) (pre_prepare_answered-has Files Keys 0)
-    does-command process (PrepareComplete label) is passes = does-answering 6 (enlistment_named x process label) prepare_answered (omega arith) (prepare_answered-has Files Keys 0)
-    does-command process (ReadOnlyEnlistment label) is passes = does-answering 5 (enlistment_named x process label) read_only_answered (omega arith) (read_only_answered-has Files Keys 0)
-    does-command process (CommitComplete label) is passes = does-answering 1 (enlistment_named x process label) commit_answered (omega arith) (commit_answered-has Files Keys 0)
-    does-command process (RollbackComplete label) is passes = does-answering 0 (enlistment_named x process label) rollback_answered (omega arith) (rollback_answered-has Files Keys 0)
-    does-command process (SinglePhaseReject label) is passes = does-answering 0 (enlistment_named x process label) single_phase_rejected (omega arith) (single_phase_rejected-has Files Keys 0)
-    does-command process (RollbackEnlistment label) is passes = does-rollback_enlistment (enlistment_named x process label)
-    does-command process (PrePrepareEnlistment label) is passes = does-answering 5 (enlistment_named x process label) (λ c e. to_pre_prepare c) (omega arith) (λ c e. to_pre_prepare-has Files Keys 0 c)
-    does-command process (PrepareEnlistment label) is passes = does-answering 5 (enlistment_named x process label) (λ c e. to_prepare c) (omega arith) (λ c e. to_prepare-has Files Keys 0 c)
-    does-command process (CommitEnlistment label) is passes = does-answering 3 (enlistment_named x process label) (λ c e. committing c) (omega arith) (λ c e. committing-has Files Keys 0 c)
+    does-command process (RecoverEnlistment label) is passes = does-answering (enlistment_named x process label) recovery_of
+    does-command process (PrePrepareComplete label) is passes = does-answering (enlistment_named x process label) (λ e. PhaseInput.PrePrepareComplete)
+    does-command process (PrepareComplete label) is passes = does-answering (enlistment_named x process label) (λ e. PhaseInput.PrepareComplete)
+    does-command process (ReadOnlyEnlistment label) is passes = does-answering (enlistment_named x process label) (λ e. PhaseInput.ReadOnly (share_of e))
+    does-command process (CommitComplete label) is passes = does-answering (enlistment_named x process label) (λ e. PhaseInput.CommitComplete)
+    does-command process (RollbackComplete label) is passes = does-answering (enlistment_named x process label) (λ e. PhaseInput.RollbackComplete)
+    does-command process (SinglePhaseReject label) is passes = does-answering (enlistment_named x process label) (λ e. PhaseInput.SinglePhaseReject)
+    does-command process (RollbackEnlistment label) is passes = does-answering (enlistment_named x process label) (λ e. PhaseInput.Rollback)
+    does-command process (PrePrepareEnlistment label) is passes = does-answering (enlistment_named x process label) (λ e. PhaseInput.PrePrepare)
+    does-command process (PrepareEnlistment label) is passes = does-answering (enlistment_named x process label) (λ e. PhaseInput.Prepare)
+    does-command process (CommitEnlistment label) is passes = does-answering (enlistment_named x process label) (λ e. PhaseInput.Commit)
     does-command process (SetEnlistmentRecoveryInformation label information) is passes = informed (enlistment_named x process label) information
     does-command process (GetEnlistmentRecoveryInformation label) is passes = does-same x _ refl refl
     does-command process (CreateFile label path access share disposition) is passes = does-opening process label None (create_file x.files None path access share disposition) (put-created None path access share disposition)

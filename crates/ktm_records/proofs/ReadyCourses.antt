@@ -18,12 +18,13 @@ use Rattle.ktm_world.specs.Enlistments.{Enlistment, Sent, has_id, is_durable_at,
 use Rattle.ktm_world.specs.Keys.{OwnSettings}
 use Rattle.ktm_world.specs.Lawful.{Summary, brought_back, stage_in, summary_of}
 use Rattle.ktm_world.specs.Outcome.{committed_now}
-use Rattle.ktm_world.specs.Phases.{Course, changing_one, enlistment_part, recorded, recording}
+use Rattle.ktm_world.specs.Phases.{Course, changing_one, enlistment_part, recording}
 use Rattle.ktm_world.specs.Present.{Present}
 use Rattle.ktm_world.specs.TransactionCalls.{course_of}
 use Rattle.ktm_world.specs.Transactions.{same_id}
 use Rattle.ktm_world.specs.World.{by_rising_id, enlistment_back}
 use Rattle.ktm_world.proofs.offered.Durables.{after_events-append}
+use Rattle.ktm_steps.specs.Procedures.{recorded}
 use Rattle.txf_laws.specs.Elements.{IsIn, each_pair}
 use Rattle.ktm_states.specs.GoodState.{IsGoodState}
 use Rattle.ktm_records.specs.Kept.{is_carried_out}

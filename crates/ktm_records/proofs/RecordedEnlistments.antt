@@ -56,7 +56,7 @@ module _ (x : Present) (sound : IsSoundCourse x) (agrees : Agrees x) (t : Transa
   pub recalled-as : (stage : Stage) → stage_in t.phase ≡ Some stage → (r : Recorded) → IsIn r x.recorded.transactions → r.id ≡ t.id → (t.is_recorded ≡ true) × (summary_of r ≡ summary_now x t stage)
   recalled-as stage stands r in_record same =
       let now = is-now x agrees r in_record in
-      let one : now.u ≡ t = same-by_id (λ (u : Transaction). u.id) x.transactions.items sound.transactions_rise now.u t now.there there (ap (λ (s : Summary). s.id) now.is ∙ same) in (
+      let one : now.u ≡ t = same-by_id (λ (u : Transaction). u.id) x.transactions.items sound.transactions.rise now.u t now.there there (ap (λ (s : Summary). s.id) now.is ∙ same) in (
         subst (λ (u : Transaction). u.is_recorded ≡ true) one now.recorded,
         sym now.is ∙ (λ i. summary_now x (one i) now.stage) ∙ ap (summary_now x t) (same_Some now.stage stage (sym now.stands ∙ ap (λ (u : Transaction). stage_in u.phase) one ∙ stands)),
       )
@@ -153,7 +153,7 @@ pub new-in-record : (x : Present) → IsSoundCourse x → Agrees x → (e : Enli
 new-in-record x sound agrees e there boot durable none = and_from _ _ (and_from _ _ (and_from _ _ (eq-eqb _ _ boot) (not_from_false _
     (none-from (λ t. list_any (λ other. same_id other e.id) (enlistments_of t)) x.recorded.transactions (λ r in_record. none-from (λ other. same_id other e.id) (enlistments_of r) (λ a has. false_from_ne_true _ (λ same.
     let k = known x agrees r in_record a has in
-    let one : k.e ≡ e = same-by_id (λ (f : Enlistment). f.id) x.transactions.enlistments sound.enlistments_rise k.e e k.there there (k.is ∙ same_id-equal a e.id same) in
+    let one : k.e ≡ e = same-by_id (λ (f : Enlistment). f.id) x.transactions.enlistments sound.enlistments.rise k.e e k.there there (k.is ∙ same_id-equal a e.id same) in
     none r in_record (subst (λ (f : Enlistment). same_id f.transaction r.id ≡ true) one k.own)
     (subst (λ (f : Enlistment). ((takes_part r.id f ≡ true) × (f.is_prepared ≡ true)) ⊎ ((is_superior f ≡ true) × (is_ready r.stage ≡ false))) one k.how))))))) (manager-recorded x agrees e.manager durable))
-    (list_all-at (λ (f : Enlistment). nat_le (length f.information) MOST_INFORMATION_BYTES) x.transactions.enlistments sound.information_fits e there)
+    (list_all-at (λ (f : Enlistment). nat_le (length f.information) MOST_INFORMATION_BYTES) x.transactions.enlistments sound.enlistments.information_fits e there)

@@ -112,7 +112,7 @@ module _ (lists : ListsLaw) (formed : FormedLaw) (x : Present) (kept : IsKept x)
   next-manager = ap (list_any (λ other. same_id other (new_id x x.transactions.last_manager))) kept.agrees.managers ∙ none-from (λ other. same_id other (new_id x x.transactions.last_manager)) (durable_ids x.managers) (λ a there.
       let from = IsIn-unmap (λ (m : Manager). m.id) a (filter (λ (m : Manager). m.is_durable) x.managers) there in
       subst (λ b. same_id b (new_id x x.transactions.last_manager) ≡ false) from.1 (next-other x.recorded.boots x.transactions.last_manager (from.0).id
-      (list_all-at (λ (m : Manager). is_counted x.recorded.boots x.transactions.last_manager m.id) x.managers kept.sound.course.managers_counted from.0 (IsIn-filter (λ (m : Manager). m.is_durable) x.managers from.0 from.2).0)))
+      (list_all-at (λ (m : Manager). is_counted x.recorded.boots x.transactions.last_manager m.id) x.managers kept.sound.course.managers.counted from.0 (IsIn-filter (λ (m : Manager). m.is_durable) x.managers from.0 from.2).0)))
 
   made : (process : Pid) (label : Label) (durability : Durability) → FactsOf x (create_resource_manager x process label durability)
   unfolding create_resource_manager

@@ -3,6 +3,7 @@ use Rattle.std.specs.Prelude.{if◌then◌else◌}
 use Rattle.std.proofs.Common.{◌≡◌, ◌+◌, ◌<◌, ◌^◌, ◌&&◌, ◌||◌, not, Bool, true, false, [], ◌∷◌, Option, Some, refl, sym, ◌∙◌, ap, subst, inl}
 use Rattle.std.proofs.lemmas.Bool.{and_from, lt-ltb, not_from_false, true≢false}
 use Rattle.ktm_types.specs.declared.event.Event.{Event}
+use Rattle.ktm_types.specs.declared.input.PhaseInput.{PhaseInput}
 use Rattle.ktm_types.specs.declared.object.Phase.{Phase}
 use Rattle.ktm_types.specs.declared.object.Transaction.{Transaction}
 use Rattle.ktm_types.specs.declared.object.TransactionOutcome.{TransactionOutcome}
@@ -12,8 +13,9 @@ use Rattle.ktm_types.specs.declared.reply.Reply.{Reply}
 use Rattle.ktm_world.specs.Enlistments.{Enlistment}
 use Rattle.ktm_world.specs.Durable.{Recorded, events_apply, is_decided, without_recorded}
 use Rattle.ktm_world.specs.Lawful.{Agrees, Summary, stage_in, summary_of}
-use Rattle.ktm_world.specs.Phases.{Course, aborting, event_if}
+use Rattle.ktm_world.specs.Phases.{Course, event_if}
 use Rattle.ktm_world.specs.Present.{Present}
+use Rattle.ktm_world.specs.Steps.{led}
 use Rattle.ktm_world.specs.TransactionCalls.{aborted_by, course_of}
 use Rattle.ktm_world.specs.Transactions.{is_aborted, is_committed, is_undecided, same_id}
 use Rattle.txf_laws.specs.Elements.{IsIn}
@@ -26,7 +28,7 @@ use Rattle.ktm_states.proofs.offered.Limits.{Less-filter, limits-less}
 use Rattle.txf_laws.proofs.offered.Lists.{IsIn-unmap}
 use Rattle.ktm_records.proofs.LoggedOrder.{if_there}
 use Rattle.txf_laws.proofs.offered.Tables.{same_id-from}
-use Rattle.ktm_records.proofs.offered.AgreementOfRollbacks.{aborting-undone}
+use Rattle.ktm_records.proofs.offered.AgreementOfRollbacks.{rollback-undone}
 
 -- an outcome that is not known is neither
 unknown : (t : Transaction) → is_undecided t ≡ true → (is_committed t ≡ false) × (is_aborted t ≡ false)
@@ -57,7 +59,7 @@ module _ (x : Present) (t : Transaction) (caller : Option Enlistment) (sound : I
   c = course_of x t caller
 
   at : Waits t.phase
-  at = waits t undecided t.phase (list_all-at (λ t. is_outcome_of t.phase t) x.transactions.items sound.outcomes t there)
+  at = waits t undecided t.phase (list_all-at (λ t. is_outcome_of t.phase t) x.transactions.items sound.transactions.outcomes t there)
 
   one : (stage : Stage) → is_decided stage ≡ false → course_in c (Some stage) ≡ course_now c stage ∷ []
   one Stage.Ready is = refl
@@ -84,7 +86,7 @@ module _ (x : Present) (t : Transaction) (caller : Option Enlistment) (sound : I
       (lt-ltb _ _ few)) refl
 
   undo-applies : (reply : Reply) → events_apply x.recorded (aborted_by x t caller reply).events ≡ true
-  undo-applies reply = ap (events_apply x.recorded) ((arrival x (aborting c) reply).events ∙ (aborting-undone c).events) ∙ applies t.is_recorded refl
+  undo-applies reply = ap (events_apply x.recorded) ((arrival x (led PhaseInput.Rollback c) reply).events ∙ (rollback-undone c).events) ∙ applies t.is_recorded refl
 
 pub rollbacks_law : RollbacksLaw
 rollbacks_law x t caller reply sound good agrees there undecided few = undo-applies x t caller sound good agrees there undecided few reply

@@ -21,6 +21,7 @@ use Rattle.ktm_world.specs.Present.{Present}
 use Rattle.ktm_world.specs.Transactions.{same_id}
 use Rattle.ktm_world.specs.Tree.{Tree, is_file}
 use Rattle.ktm_world.specs.World.{decide_tick, done_if, own_events, own_group}
+use Rattle.ktm_steps.proofs.offered.Recorded.{all-append}
 use Rattle.txf_laws.specs.Elements.{IsIn}
 use Rattle.ktm_states.specs.GoodState.{IsGoodState, is_drawn, is_of_object}
 use Rattle.ktm_states.specs.Grammatical.{ids_done, ids_in, names_objects}
@@ -30,7 +31,7 @@ use Rattle.ktm_records.specs.RecordedFacts.{RecordedFactsLaw}
 use Rattle.ktm_records.specs.Spelling.{AreSpelled, SpellingLaw}
 use Rattle.ktm_records.proofs.offered.DurableLimits.{limits-kept}
 use Rattle.txf_laws.proofs.offered.Elements.{list_all-at, list_any-at, length-filter-less}
-use Rattle.ktm_records.proofs.OwnEvents.{IsOwnEvent, IsSpelledPut, all-append}
+use Rattle.ktm_records.proofs.OwnEvents.{IsOwnEvent, IsSpelledPut}
 use Rattle.ktm_records.proofs.OwnRecords.{IsShortGroup, IsUndo, Owned, does-decided, does-tick}
 use Rattle.ktm_records.proofs.offered.OwnSizes.{spelled-name, spelled-owned}
 use Rattle.ktm_records.proofs.OwnTexts.{grouped-texts, recorded-texts, restarted-texts, spelled-texts}

@@ -4,6 +4,7 @@ use Rattle.std.proofs.lemmas.Bool.{and_from, and_parts, not_from_false, true≢f
 use Rattle.ktm_base.specs.declared.id.Label.{Label}
 use Rattle.ktm_base.specs.declared.id.Pid.{Pid}
 use Rattle.ktm_types.specs.declared.event.Event.{Event}
+use Rattle.ktm_types.specs.declared.input.PhaseInput.{PhaseInput}
 use Rattle.ktm_types.specs.declared.object.Object.{Object}
 use Rattle.ktm_types.specs.declared.object.Object.TheVariants.{Transaction as TransactionObject, Manager as ManagerObject, Enlistment as EnlistmentObject, File as FileObject}
 use Rattle.ktm_types.specs.declared.object.Transaction.{Transaction}
@@ -16,8 +17,8 @@ use Rattle.ktm_world.specs.HandleCalls.{abort_active, close_handle, closed_in_tu
 use Rattle.ktm_world.specs.Handles.{object_at}
 use Rattle.ktm_world.specs.Lawful.{Agrees, Summary, stays, summary_now}
 use Rattle.ktm_world.specs.Outcome.{Outcome, and_then, apply, only_reply}
-use Rattle.ktm_world.specs.Phases.{aborting}
 use Rattle.ktm_world.specs.Present.{Present}
+use Rattle.ktm_world.specs.Steps.{led}
 use Rattle.ktm_world.specs.TransactionCalls.{aborted_by, aborted_if_due, aborted_in_turn, course_of, is_due, may_roll_back, tick, with_clock}
 use Rattle.ktm_world.specs.Transactions.{is_active, is_undecided, same_id, transaction_at}
 use Rattle.txf_laws.specs.Elements.{IsIn}
@@ -36,7 +37,7 @@ use Rattle.ktm_courses.proofs.offered.Moves.{if_cases}
 use Rattle.ktm_records.proofs.RecordedEnlistments.{recalled-of, summaries-at}
 use Rattle.ktm_records.proofs.Rollbacks.{Waits, waits}
 use Rattle.txf_laws.proofs.offered.Tables.{same_id-from}
-use Rattle.ktm_records.proofs.offered.AgreementOfRollbacks.{aborting-undone}
+use Rattle.ktm_records.proofs.offered.AgreementOfRollbacks.{rollback-undone}
 
 -- what an outcome records applies
 abbrev pub FactsOf : Present → Outcome → Type 0
@@ -48,14 +49,14 @@ module _ (x : Present) (sound : IsSoundCourse x) (agrees : Agrees x) (t : Transa
   -- an undecided transaction that the log has may be undone
   undo-fact : is_undecided t ≡ true → (caller : Option Enlistment) (reply : Reply) → FactsOf x (aborted_by x t caller reply)
   undo-fact undecided caller reply =
-      ap (facts_apply x.recorded) ((arrival x (aborting (course_of x t caller)) reply).events ∙ (aborting-undone (course_of x t caller)).events)
+      ap (facts_apply x.recorded) ((arrival x (led PhaseInput.Rollback (course_of x t caller)) reply).events ∙ (rollback-undone (course_of x t caller)).events)
       ∙ facts-if x.recorded t.is_recorded (Event.Undo t.id) (λ recorded.
       let r = recalled-of x sound agrees t there (summary_now x t at.stage) (subst (IsIn (summary_now x t at.stage)) (sym (summaries-at x t at.stage recorded at.stands (stays-in at.stage at.waiting))) (inl refl)) in
       list_any-from (λ (u : Recorded). same_id u.id t.id && not (is_decided u.stage)) x.recorded.transactions r.0 r.2
       (and_from _ _ (same_id-from r.0.id t.id (ap (λ (s : Summary). s.id) r.1)) (not_from_false _ (ap (λ (s : Summary). is_decided s.stage) r.1 ∙ at.waiting))))
     where
       at : Waits t.phase
-      at = waits t undecided t.phase (list_all-at (λ t. is_outcome_of t.phase t) x.transactions.items sound.outcomes t there)
+      at = waits t undecided t.phase (list_all-at (λ t. is_outcome_of t.phase t) x.transactions.items sound.transactions.outcomes t there)
 
       stays-in : (stage : Stage) → is_decided stage ≡ false → stays (summary_now x t stage) ≡ true
       stays-in Stage.Ready is = refl
@@ -63,7 +64,7 @@ module _ (x : Present) (sound : IsSoundCourse x) (agrees : Agrees x) (t : Transa
       stays-in Stage.Decided is = absurd (true≢false is)
 
   pub facts-aborted_by : can_roll_back t.phase ≡ true → (caller : Option Enlistment) (reply : Reply) → FactsOf x (aborted_by x t caller reply)
-  facts-aborted_by can = undo-fact (undecided-rolls t can (list_all-at (λ t. is_outcome_of t.phase t) x.transactions.items sound.outcomes t there))
+  facts-aborted_by can = undo-fact (undecided-rolls t can (list_all-at (λ t. is_outcome_of t.phase t) x.transactions.items sound.transactions.outcomes t there))
 
 -- ---- several, one after another
 

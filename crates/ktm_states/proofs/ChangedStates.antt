@@ -5,14 +5,12 @@ use Rattle.std.specs.List.{list_all}
 use Rattle.ktm_base.specs.declared.id.Id.{Id}
 use Rattle.ktm_world.specs.Changes.{applies, changes_apply}
 use Rattle.ktm_world.specs.Durable.{Durable, Recorded, is_ready, is_manager, is_new_in, has_part, changes_of, is_within_limits}
-use Rattle.ktm_keyed.specs.Keyed.{is_rising}
 use Rattle.ktm_world.specs.Keys.{Store}
-use Rattle.ktm_world.specs.Tree.{Tree, IsWellFormed}
+use Rattle.ktm_world.specs.Tree.{Tree}
 use Rattle.txf_laws.specs.Footprint.{footprint, AreFootprintsApart}
-use Rattle.txf_laws.specs.Contents.{is_good_entry}
 use Rattle.ktm_states.specs.GoodState.{is_of_object, is_drawn}
-use Rattle.ktm_states.proofs.offered.GoodTransactions.{Core, Fitting, Beside, Rest}
-use Rattle.txf_laws.proofs.offered.NodeNumbers.{all_made_below-more, is_below}
+use Rattle.ktm_states.proofs.offered.GoodTransactions.{Core, Fitting, Beside, GoodFiles, GoodKeys, Rest}
+use Rattle.txf_laws.proofs.offered.NodeNumbers.{all_made_below-more}
 
 -- ---- the rest of a state
 
@@ -25,28 +23,18 @@ abbrev pub with_all : Durable → Tree → Store → ℕ → List Recorded → �
 with_all s tree keys next ts events = record s { tree = tree; keys = keys; next_node = next; transactions = ts; events = events }
 
 pub Rest-with : (s : Durable) (tree : Tree) (keys : Store) (next : ℕ) (ts : List Recorded) (events : ℕ) → Rest s → is_within_limits (with_all s tree keys next ts events) ≡ true → events < 2 ^ 63
-    → IsWellFormed tree → list_all (is_below next) tree ≡ true → s.next_node ≤ next → next ≤ 2 ^ 63 → is_rising keys ≡ true → list_all is_good_entry keys ≡ true
-    → Rest (with_all s tree keys next ts events)
-Rest-with s tree keys next ts events rest limits few files below more low rises good = record {
-  image_fits = rest.image_fits;
-  managers_rise = rest.managers_rise;
-  managers_drawn = rest.managers_drawn;
-  limits = limits;
-  events_left = few;
-  boots_left = rest.boots_left;
+    → GoodFiles tree next → GoodKeys keys → Rest (with_all s tree keys next ts events)
+Rest-with s tree keys next ts events rest limits few files good = record {
+  counts = record { image_fits = rest.counts.image_fits; limits = limits; events_left = few; boots_left = rest.counts.boots_left };
+  managers = record { rise = rest.managers.rise; drawn = rest.managers.drawn };
   files = files;
-  nodes_below = below;
-  next_from = omega (arith, rest.next_from);
-  next_to = low;
-  keys_rise = rises;
-  keys_good = good;
+  keys = good;
 }
 
 -- transactions alone have changed
 pub Rest-transactions : (s : Durable) (ts : List Recorded) (events : ℕ) → Rest s → is_within_limits (with_all s s.tree s.keys s.next_node ts events) ≡ true → events < 2 ^ 63
     → Rest (with_all s s.tree s.keys s.next_node ts events)
-Rest-transactions s ts events rest limits few =
-    Rest-with s s.tree s.keys s.next_node ts events rest limits few rest.files rest.nodes_below (omega arith) rest.next_to rest.keys_rise rest.keys_good
+Rest-transactions s ts events rest limits few = Rest-with s s.tree s.keys s.next_node ts events rest limits few rest.files rest.keys
 
 -- ---- a transaction in another state
 

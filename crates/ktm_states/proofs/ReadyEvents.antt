@@ -1,5 +1,5 @@
 -- Events by which a transaction gets ready, and waits for its superior.
-use Rattle.std.proofs.Common.{◌≡◌, ℕ, ◌+◌, ◌<◌, ◌^◌, ◌==◌, ◌&&◌, ◌||◌, not, Bool, true, false, cond, is_none, List, [], ◌∷◌, ◌++◌, length, nat_le, Option, Some, None, refl, sym, ◌∙◌, ap, subst, append_assoc, arith, inl, inr, ◌⊎◌}
+use Rattle.std.proofs.Common.{◌≤◌, ◌≡◌, ℕ, ◌+◌, ◌<◌, ◌^◌, ◌==◌, ◌&&◌, ◌||◌, not, Bool, true, false, cond, is_none, List, [], ◌∷◌, ◌++◌, length, nat_le, Option, Some, None, refl, sym, ◌∙◌, ap, subst, append_assoc, arith, inl, inr, ◌⊎◌}
 use Rattle.std.proofs.lemmas.Bool.{and_parts, and_from, or_cases, or_left, or_right, le-leb, leb-true, eqb-true, eq-eqb, not-true, not_from_false, true≢false}
 use Rattle.std.proofs.lemmas.List.Folds.{list_all-append}
 use Rattle.std.specs.List.{list_all, list_any}
@@ -216,10 +216,18 @@ module _ (s : Durable) (id : Id) (t : Recorded) (start : Begun s id t) (part : P
       (λ u v there there' other other' sides. Beside-carried s s' u v refl sides)
       Fitting-pushed
       (λ u there other. let sides = Beside-pushed u there (λ e. other (e ∙ sym start.is)) in (sides, Beside-sym s' (pushed t part) u sides)))
-      (Rest-with s s.tree s.keys (next_after_all s.next_node (changes_in part)) (with_recorded s.transactions (pushed t part)) (s.events + 1) rest limits few rest.files
-      (below-more s.next_node (next_after_all s.next_node (changes_in part)) s.tree (next-rises (changes_in part) s.next_node) rest.nodes_below) (next-rises (changes_in part) s.next_node)
-      (next-to s.tree (changes_in part) s.next_node adds.all rest.next_to) rest.keys_rise rest.keys_good)
+      (Rest-with s s.tree s.keys (next_after_all s.next_node (changes_in part)) (with_recorded s.transactions (pushed t part)) (s.events + 1) rest limits few
+      record {
+        formed = rest.files.formed;
+        below = below-more s.next_node (next_after_all s.next_node (changes_in part)) s.tree more rest.files.below;
+        from = omega (arith, more, rest.files.from);
+        to = next-to s.tree (changes_in part) s.next_node adds.all rest.files.to;
+      }
+      rest.keys)
     where
+      more : s.next_node ≤ next_after_all s.next_node (changes_in part)
+      more = next-rises (changes_in part) s.next_node
+
       rest : Rest s
       rest = rest-of s good
 

@@ -41,18 +41,13 @@ pub boot-keeps : (s : Durable) (boot : ℕ) → Keeps s (Boot boot)
 boot-keeps s boot good spelled applies limits few = good-from s' (Table-filter (Fitting s) (Beside s) (Fitting s') (Beside s') (λ t. not (is_ready t.stage)) s.transactions (table-of s good)
     (λ t there keep fits. record { core = Core-carried s s' t later (λ m is. is) (omega arith) fits.core.apply fits.core.new fits.core; ready = or_left _ _ keep })
     (λ t u there there' keep keep' other sides. Beside-carried s s' t u refl sides)) record {
-      image_fits = rest.image_fits;
-      managers_rise = rest.managers_rise;
-      managers_drawn = list_all-from (is_drawn s') s.managers (λ id there. is_drawn-later s s' id later (list_all-at (is_drawn s) s.managers rest.managers_drawn id there));
-      limits = limits-counted (fact_of s (Boot boot)) (s.events + 1) limits;
-      events_left = few;
-      boots_left = ltb-true boot (2 ^ 32 - 1) parts.1;
+      counts = record { image_fits = rest.counts.image_fits; limits = limits-counted (fact_of s (Boot boot)) (s.events + 1) limits; events_left = few; boots_left = ltb-true boot (2 ^ 32 - 1) parts.1 };
+      managers = record {
+        rise = rest.managers.rise;
+        drawn = list_all-from (is_drawn s') s.managers (λ id there. is_drawn-later s s' id later (list_all-at (is_drawn s) s.managers rest.managers.drawn id there));
+      };
       files = rest.files;
-      nodes_below = rest.nodes_below;
-      next_from = rest.next_from;
-      next_to = rest.next_to;
-      keys_rise = rest.keys_rise;
-      keys_good = rest.keys_good;
+      keys = rest.keys;
     }
   where
     s' : Durable
@@ -108,21 +103,16 @@ pub made-keeps : (s : Durable) (manager : Id) → Keeps s (MadeRm manager)
 made-keeps s manager good spelled applies limits few = good-from s' (Table-map (Fitting s) (Beside s) (Fitting s') (Beside s') s.transactions (table-of s good)
     (λ t there fits. Fitting-carried s s' t refl managers (omega arith) fits.core.apply fits.core.new fits)
     (λ t u there there' other sides. Beside-carried s s' t u refl sides)) record {
-      image_fits = rest.image_fits;
-      managers_rise = rises-with_manager s.managers manager rest.managers_rise (not-true _ parts.1);
-      managers_drawn = list_all-from (is_drawn s') (with_manager s.managers manager) (λ id there. elim (IsIn-with_manager s.managers manager id there) [
-        | inl e ↦ subst (λ (x : Id). is_drawn s x ≡ true) (sym e) (is_drawn-now s manager counts (eqb-true _ _ parts.0))
-        | inr old ↦ list_all-at (is_drawn s) s.managers rest.managers_drawn id old
-      ]);
-      limits = limits-counted (fact_of s (MadeRm manager)) (s.events + 1) limits;
-      events_left = few;
-      boots_left = rest.boots_left;
+      counts = record { image_fits = rest.counts.image_fits; limits = limits-counted (fact_of s (MadeRm manager)) (s.events + 1) limits; events_left = few; boots_left = rest.counts.boots_left };
+      managers = record {
+        rise = rises-with_manager s.managers manager rest.managers.rise (not-true _ parts.1);
+        drawn = list_all-from (is_drawn s') (with_manager s.managers manager) (λ id there. elim (IsIn-with_manager s.managers manager id there) [
+          | inl e ↦ subst (λ (x : Id). is_drawn s x ≡ true) (sym e) (is_drawn-now s manager counts (eqb-true _ _ parts.0))
+          | inr old ↦ list_all-at (is_drawn s) s.managers rest.managers.drawn id old
+        ]);
+      };
       files = rest.files;
-      nodes_below = rest.nodes_below;
-      next_from = rest.next_from;
-      next_to = rest.next_to;
-      keys_rise = rest.keys_rise;
-      keys_good = rest.keys_good;
+      keys = rest.keys;
     }
   where
     s' : Durable
@@ -171,8 +161,13 @@ module _ (lists : ListsLaw) (formed : FormedLaw) where
       → Rest (with_all s (changed_all s.tree cs) (stored_all s.keys ss) (next_after_all s.next_node cs) ts (s.events + 1))
   Rest-committed s cs ss ts rest all good limits few =
       Rest-with s (changed_all s.tree cs) (stored_all s.keys ss) (next_after_all s.next_node cs) ts (s.events + 1) rest limits few
-      (formed.1 s.tree cs rest.files all) (below-changed_all cs s.next_node s.tree rest.nodes_below) (next-rises cs s.next_node) (next-to s.tree cs s.next_node all rest.next_to)
-      (stored_all-rises s.keys ss rest.keys_rise) (stored_all-good s.keys ss good rest.keys_good)
+      record {
+        formed = formed.1 s.tree cs rest.files.formed all;
+        below = below-changed_all cs s.next_node s.tree rest.files.below;
+        from = let more = next-rises cs s.next_node in omega (arith, more, rest.files.from);
+        to = next-to s.tree cs s.next_node all rest.files.to;
+      }
+      record { rise = stored_all-rises s.keys ss rest.keys.rise; good = stored_all-good s.keys ss good rest.keys.good }
 
   commit-keeps : (s : Durable) (cs : List Change) (ss : OwnSettings) → IsGoodState s → changes_apply s.tree cs ≡ true → ((u : Recorded) → IsIn u s.transactions → SparesWaiting s cs u)
       → list_all is_good_setting ss ≡ true

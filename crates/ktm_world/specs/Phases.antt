@@ -1,22 +1,21 @@
--- How a transaction goes on to its end: the procedures, each of which sends notifications, records events and moves the phase.
-use Rattle.std.specs.Prelude.{ℕ, zero, suc, ◌+◌, ◌==◌, ◌&&◌, ◌||◌, not, Bool, true, false, List, [], ◌∷◌, ◌++◌, length, map, filter, Option, Some, None, is_some, if◌then◌else◌}
+-- The course of a transaction to its end: what is read of it, and how it is changed.
+use Rattle.std.specs.Prelude.{ℕ, ◌&&◌, ◌||◌, Bool, true, false, List, [], ◌∷◌, ◌++◌, map, filter, Option, Some, if◌then◌else◌}
 use Rattle.std.specs.List.{list_any}
 use Rattle.ktm_base.specs.declared.id.Id.{Id}
 use Rattle.ktm_base.specs.declared.notify.Notify.{Notify}
 use Rattle.ktm_types.specs.declared.change.Change.{Change}
-use Rattle.ktm_types.specs.declared.event.DonePart.{DonePart}
 use Rattle.ktm_types.specs.declared.event.Event.{Event}
 use Rattle.ktm_types.specs.declared.event.Part.{Part}
 use Rattle.ktm_types.specs.declared.object.Phase.{Phase}
-use Rattle.ktm_types.specs.declared.object.Phase.TheVariants.{Requested, PrePreparing, PrePrepared, Preparing, SinglePhase, Held, InDoubt, Committing, Aborting, Ended}
+use Rattle.ktm_types.specs.declared.object.Phase.TheVariants.{SinglePhase, Ended}
 use Rattle.ktm_types.specs.declared.object.Transaction.{Transaction}
 use Rattle.ktm_types.specs.declared.object.TransactionOutcome.{TransactionOutcome}
-use Rattle.ktm_types.specs.declared.object.TransactionOutcome.TheVariants.{Committed, Aborted}
+use Rattle.ktm_types.specs.declared.object.TransactionOutcome.TheVariants.{Aborted}
 use Rattle.ktm_types.specs.declared.step.Owed.{Owed}
 use Rattle.ktm_world.specs.Keys.{OwnSettings}
 use Rattle.ktm_world.specs.Transactions.{same_id}
 use Rattle.ktm_world.specs.Committed.{Work}
-use Rattle.ktm_world.specs.Enlistments.{Enlistment, Sent, Manager, is_superior, asks_pre_prepare, allows_one_phase, takes_part, is_unfinished, is_durable_at, with_enlistments, superior_of, has_id, is_given, id_of, tell}
+use Rattle.ktm_world.specs.Enlistments.{Enlistment, Sent, Manager, is_superior, is_unfinished, with_enlistments, superior_of, has_id, tell}
 use Rattle.ktm_world.specs.Changes.{has_changes}
 
 -- a transaction on its way, with all that one command does to it
@@ -46,10 +45,6 @@ decided c outcome = record c { transaction = record c.transaction { outcome = ou
 abbrev pub recording : Course → List Event → Course
 recording c events = record c { events = c.events ++ events }
 
--- it has a Ready or a Held in the log from now on
-abbrev pub recorded : Course → Course
-recorded c = record c { transaction = record c.transaction { is_recorded = true } }
-
 -- each of its enlistments that passes the test is sent this, in order, and is changed
 abbrev pub telling : Course → (Enlistment → Bool) → Notify → (Enlistment → Enlistment) → Course
 telling c test kind f = record c {
@@ -73,10 +68,6 @@ superior c = superior_of c.enlistments c.transaction.id
 abbrev pub is_its_superior : Course → Enlistment → Bool
 is_its_superior c e = same_id e.transaction c.transaction.id && is_superior e
 
--- does some enlistment of it pass the test
-abbrev pub some_enlistment : Course → (Enlistment → Bool) → Bool
-some_enlistment c test = list_any (λ e. takes_part c.transaction.id e && test e) c.enlistments
-
 -- do the keys take part
 abbrev pub has_settings : OwnSettings → Bool
 has_settings [] = false
@@ -86,16 +77,6 @@ has_settings (s ∷ ss) = true
 abbrev pub one_if : Bool → ℕ
 one_if true = 1
 one_if false = 0
-
--- the enlistments that take part, in order
-abbrev pub taking_part : Course → List Enlistment
-taking_part c = filter (takes_part c.transaction.id) c.enlistments
-
--- how many participants there are: enlistments, the files and the keys
-abbrev pub participants : Course → ℕ
-participants c = length (taking_part c) + one_if (has_changes c.changes) + one_if (has_settings c.settings)
-
--- ---- the end
 
 -- the notification by which a superior is told of this outcome
 abbrev pub end_notice : TransactionOutcome → Notify
@@ -119,188 +100,15 @@ abbrev pub event_if : Bool → Event → List Event
 event_if true event = event ∷ []
 event_if false event = []
 
--- it commits: the decision is recorded where the log has a Ready or a Held of it, the files and the keys commit and are done, and the
--- prepared enlistments are told
-unfoldable pub committing : Course → Course
-committing c =
-    let id = c.transaction.id in
-    let told = telling (record (recording c (
-    event_if c.transaction.is_recorded (Event.Decide id)
-    ++ event_if (has_changes c.changes) (Event.Done id DonePart.Files)
-    ++ event_if (has_settings c.settings) (Event.Done id DonePart.Keys)))
-    { works = c.works ++ work_of c })
-    (λ e. takes_part id e && e.is_prepared && e.is_recovered) Notify.Commit (owing Owed.Commit) in
-    ended_if_finished (in_phase (decided told Committed) Committing) Committed
-
--- is the enlistment the one that made the call
-abbrev pub is_caller : Course → Enlistment → Bool
-is_caller c e = is_given (id_of c.caller) e
-
--- it rolls back: that is recorded where the log has a Ready or a Held of it, and its enlistments are told, the superior last unless it
--- asked for it
-unfoldable pub aborting : Course → Course
-aborting c =
-    let id = c.transaction.id in
-    let undone = recording c (event_if c.transaction.is_recorded (Event.Undo id)) in
-    let told = telling undone (λ e. takes_part id e && e.is_recovered) Notify.Rollback (owing Owed.Rollback) in
-    let all_told = telling told (λ e. is_its_superior c e && not (is_caller c e)) Notify.Rollback unchanged in
-    ended_if_finished (in_phase (decided all_told Aborted) Aborting) Aborted
-
--- ---- all are prepared
-
--- the parts of the files and of the keys
-abbrev pub ready_parts : Course → List Event
-ready_parts c =
-    event_if (has_changes c.changes) (Event.Ready c.transaction.id (Part.Changes c.changes))
-    ++ event_if (has_settings c.settings) (Event.Ready c.transaction.id (Part.Settings c.settings))
-
--- the files and the keys are prepared, which is recorded of those that take part
-abbrev pub readied : Course → Course
-readied c = record (recording c (ready_parts c)) { transaction = record c.transaction { is_recorded = c.transaction.is_recorded || has_changes c.changes || has_settings c.settings } }
-
--- it waits for its superior, or goes on to commit
-abbrev pub held_or_committing : Course → Option Enlistment → Course
-held_or_committing c (Some e) =
-    in_phase (telling (recorded (recording c (Event.Held c.transaction.id e.id e.manager e.information ∷ []))) (is_its_superior c) Notify.PrepareComplete unchanged) Held
-held_or_committing c None = if participants c == 0 then ended c Committed else committing c
-
--- all enlistments are prepared: the files and the keys prepare too, and it waits for its superior, or commits
-unfoldable pub all_ready : Course → Course
-all_ready c = held_or_committing (readied c) (superior c)
-
--- ---- preparing
-
--- all that take part are asked to prepare
-abbrev pub preparing : Course → Course
-preparing c =
-    let asked = in_phase (telling c (takes_part c.transaction.id) Notify.Prepare (owing Owed.Prepare)) Preparing in
-    if some_enlistment c (λ e. true) then asked else all_ready asked
-
--- the files or the keys alone commit by one event
-abbrev pub single : Course → Part → Course
-single c part = ended (record (recording c (Event.Single c.transaction.id part ∷ [])) { works = c.works ++ work_of c }) Committed
-
--- one enlistment alone commits in one phase, where it can
-abbrev pub one_phase : Course → Course
-one_phase c =
-    if some_enlistment c allows_one_phase
-    then in_phase (telling c (takes_part c.transaction.id) Notify.SinglePhaseCommit (owing Owed.Commit)) SinglePhase
-    else preparing c
-
--- one participant alone
-abbrev pub one_participant : Course → Course
-one_participant c =
-    if has_changes c.changes then single c (Part.Changes c.changes) else
-    (if has_settings c.settings then single c (Part.Settings c.settings) else one_phase c)
-
--- without a superior: it has ended where nobody takes part, may commit in one step where one does, and is prepared where more do
-abbrev pub prepare_alone : Course → ℕ → Course
-prepare_alone c zero = ended c Committed
-prepare_alone c (suc zero) = one_participant c
-prepare_alone c (suc (suc more)) = preparing c
-
--- it is to be prepared; with a superior all are asked, however many take part
-unfoldable pub to_prepare : Course → Course
-to_prepare c = if is_some (superior c) then preparing c else prepare_alone c (participants c)
-
--- ---- pre-preparing
-
--- all have pre-prepared: its superior is told, or it goes on
-unfoldable pub pre_prepared : Course → Course
-pre_prepared c = if is_some (superior c) then in_phase (telling c (is_its_superior c) Notify.PrePrepareComplete unchanged) PrePrepared else to_prepare c
-
--- those that ask for it are to pre-prepare; where nobody does, all have
-unfoldable pub to_pre_prepare : Course → Course
-to_pre_prepare c =
-    if some_enlistment c asks_pre_prepare
-    then in_phase (telling c (λ e. takes_part c.transaction.id e && asks_pre_prepare e) Notify.PrePrepare (owing Owed.PrePrepare)) PrePreparing
-    else pre_prepared c
-
--- a commit was asked for: its superior is told, or it begins
-unfoldable pub to_commit : Course → Course
-to_commit c = if is_some (superior c) then in_phase (telling c (is_its_superior c) Notify.CommitRequest unchanged) Requested else to_pre_prepare c
-
--- ---- the answers of enlistments
-
--- does some enlistment of it owe an answer
-abbrev pub someone_owes : Course → Bool
-someone_owes c = some_enlistment c (λ e. is_some e.owes)
-
 -- the enlistment with this Id is changed
 abbrev pub changing_one : Course → Id → (Enlistment → Enlistment) → Course
 changing_one c id f = record c { enlistments = with_enlistments (has_id id) f c.enlistments }
-
--- the transaction goes on where nobody owes an answer
-abbrev pub when_none_owes : Course → (Course → Course) → Course
-when_none_owes c next = if someone_owes c then c else next c
-
--- an enlistment has pre-prepared, and the transaction goes on where it was the last to
-unfoldable pub pre_prepare_answered : Course → Enlistment → Course
-pre_prepare_answered c e = when_none_owes (changing_one c e.id (λ e. record e { owes = None })) pre_prepared
 
 -- the part that an enlistment records
 abbrev pub enlistment_part : Enlistment → Part
 enlistment_part e = Part.Enlistment e.id e.manager e.information
 
--- it is prepared, which is recorded where its resource manager is durable
-abbrev pub ready_of_enlistment : Course → Enlistment → Course
-ready_of_enlistment c e =
-    if is_durable_at c.managers e.manager then recorded (recording c (Event.Ready c.transaction.id (enlistment_part e) ∷ [])) else c
-
--- an enlistment is prepared, and the transaction goes on where it was the last to be
-unfoldable pub prepare_answered : Course → Enlistment → Course
-prepare_answered c e = when_none_owes (ready_of_enlistment (changing_one c e.id (λ e. record e { owes = None; is_prepared = true })) e) all_ready
-
--- the transaction goes on, where the last one that owed took no part any more
-abbrev pub without_its_answer : Phase → Course → Course
-without_its_answer PrePreparing c = pre_prepared c
-without_its_answer Preparing c = all_ready c
-without_its_answer SinglePhase c = ended c Committed
-without_its_answer _ c = c
-
--- an enlistment takes part in the outcome no more; the transaction goes on where it was the last to owe an answer
-unfoldable pub read_only_answered : Course → Enlistment → Course
-read_only_answered c e =
-    let left = changing_one c e.id (λ e. record e { owes = None; is_read_only = true }) in
-    if is_some e.owes then when_none_owes left (without_its_answer c.transaction.phase) else left
-
--- one phase is not for it: it is asked to prepare
-unfoldable pub single_phase_rejected : Course → Enlistment → Course
-single_phase_rejected c e = in_phase (telling c (has_id e.id) Notify.Prepare (owing Owed.Prepare)) Preparing
-
--- an enlistment has finished, and owes nothing
-abbrev pub finished : Course → Enlistment → Course
-finished c e = changing_one c e.id (λ e. record e { owes = None; is_finished = true })
-
 -- does one enlistment commit in one phase
 abbrev pub is_single_phase : Phase → Bool
 is_single_phase SinglePhase = true
 is_single_phase _ = false
-
--- it has committed, which is recorded where its resource manager is durable
-unfoldable pub commit_answered : Course → Enlistment → Course
-commit_answered c e =
-    if is_single_phase c.transaction.phase then ended (finished c e) Committed else
-    ended_if_finished (recording (finished c e) (event_if (is_durable_at c.managers e.manager) (Event.Done c.transaction.id (DonePart.Enlistment e.id)))) Committed
-
--- an enlistment has rolled back, and the transaction has ended where it was the last to
-unfoldable pub rollback_answered : Course → Enlistment → Course
-rollback_answered c e = ended_if_finished (finished c e) Aborted
-
--- ---- recovering an enlistment that a restart brought back
-
--- the enlistment is recovered from now on
-abbrev pub recovering : Course → Enlistment → Course
-recovering c e = changing_one c e.id (λ e. record e { is_recovered = true })
-
--- the enlistment is told how its transaction stands in this phase
-abbrev pub recovered_in : Phase → Course → Enlistment → Course
-recovered_in InDoubt c e = telling c (has_id e.id) Notify.Indoubt unchanged
-recovered_in Committing c e = telling c (has_id e.id) Notify.Commit (owing Owed.Commit)
-recovered_in Aborting c e = telling c (has_id e.id) Notify.Rollback (owing Owed.Rollback)
-recovered_in _ c e = c
-
--- an enlistment recovers: a superior is asked to decide, and another one is told how its transaction stands
-unfoldable pub recovered : Course → Enlistment → Course
-recovered c e =
-    if is_superior e then telling (recovering c e) (has_id e.id) Notify.RecoverQuery unchanged else recovered_in c.transaction.phase (recovering c e) e

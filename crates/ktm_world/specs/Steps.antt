@@ -5,6 +5,7 @@ use Rattle.ktm_types.specs.declared.change.Change.{Change}
 use Rattle.ktm_types.specs.declared.event.DonePart.{DonePart}
 use Rattle.ktm_types.specs.declared.event.Event.{Event}
 use Rattle.ktm_types.specs.declared.event.Part.{Part}
+use Rattle.ktm_types.specs.declared.input.PhaseInput.{PhaseInput}
 use Rattle.ktm_types.specs.declared.input.Seen.{Seen}
 use Rattle.ktm_types.specs.declared.input.Share.{Share}
 use Rattle.ktm_types.specs.declared.step.Answered.{Answered}
@@ -17,6 +18,7 @@ use Rattle.ktm_world.specs.Enlistments.{Enlistment, Manager, allows_one_phase, a
 use Rattle.ktm_world.specs.Transactions.{same_id}
 use Rattle.ktm_world.specs.Keys.{OwnSettings}
 use Rattle.ktm_world.specs.Phases.{Course, in_phase, decided, recording, telling, owing, unchanged, superior, has_settings, event_if, work_of, ended, ended_if_finished, changing_one, enlistment_part}
+use Rattle.ktm_world.specs.Rows.{row}
 
 -- ---- what counts of a course
 
@@ -156,3 +158,7 @@ carried (Step.EndWhereFinished outcome) c = ended_if_finished c outcome
 abbrev pub run : List Step → Course → Course
 run [] c = c
 run (step ∷ steps) c = run steps (carried step c)
+
+-- where a transaction has come to by the row of what comes to it
+unfoldable pub led : PhaseInput → Course → Course
+led input c = run (row (seen c) input) c

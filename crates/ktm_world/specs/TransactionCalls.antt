@@ -10,6 +10,7 @@ use Rattle.ktm_base.specs.declared.notify.Notify.{Notify}
 use Rattle.ktm_base.specs.declared.refusal.Refusal.{Refusal}
 use Rattle.ktm_base.specs.declared.refusal.Refusal.TheVariants.{EnlistmentNotSuperior, TransactionRequestNotValid, InvalidParameter, TransactionNotFound, ResourceManagerNotFound, EnlistmentNotFound, TransactionSuperiorExists, WaitTimeout, NotEnoughQuota}
 use Rattle.ktm_types.specs.declared.event.Event.TheVariants.{MadeRm}
+use Rattle.ktm_types.specs.declared.input.PhaseInput.{PhaseInput}
 use Rattle.ktm_types.specs.declared.object.Object.{Object}
 use Rattle.ktm_types.specs.declared.object.Phase.{Phase}
 use Rattle.ktm_types.specs.declared.object.Phase.TheVariants.{Active, Requested, PrePreparing, PrePrepared, Preparing, SinglePhase, Held, InDoubt, Committing}
@@ -29,8 +30,9 @@ use Rattle.ktm_world.specs.Enlistments.{Enlistment, Manager, Note, Sent, is_supe
 use Rattle.ktm_world.specs.Files.{own_changes, without_transaction}
 use Rattle.ktm_world.specs.Labels.{is_bound, holds_of, invalid_handle, outcome_tests, transaction_tests, binding}
 use Rattle.ktm_world.specs.Outcome.{Outcome, only_reply, and_then}
-use Rattle.ktm_world.specs.Phases.{Course, aborting, committing, to_commit, to_pre_prepare, to_prepare, pre_prepare_answered, prepare_answered, read_only_answered, commit_answered, rollback_answered, single_phase_rejected, recovered, is_single_phase}
+use Rattle.ktm_world.specs.Phases.{Course, is_single_phase}
 use Rattle.ktm_world.specs.Present.{Present, Transactions}
+use Rattle.ktm_world.specs.Steps.{led, share_of}
 
 -- ---- a transaction's course, and what it comes to
 
@@ -139,7 +141,7 @@ commit_reply c = if is_ended c.transaction.phase then Committed else Pending
 -- a transaction is asked to commit, and goes as far as it can
 abbrev pub commit_of : Present → Option Transaction → Outcome
 commit_of x None = only_reply x Done
-commit_of x (Some t) = let c = to_commit (course_of x t None) in arrived x c (commit_reply c)
+commit_of x (Some t) = let c = led PhaseInput.CommitTransaction (course_of x t None) in arrived x c (commit_reply c)
 
 -- CommitTransaction asks the transaction to commit
 unfoldable pub commit_transaction : Present → Option Transaction → Outcome
@@ -151,7 +153,7 @@ may_roll_back t = elim t.phase as (λ _. Bool) [ Active ↦ true | Requested ↦
 
 -- a transaction rolls back, by this enlistment, if one asks for it
 abbrev pub aborted_by : Present → Transaction → Option Enlistment → Reply → Outcome
-aborted_by x t caller reply = arrived x (aborting (course_of x t caller)) reply
+aborted_by x t caller reply = arrived x (led PhaseInput.Rollback (course_of x t caller)) reply
 
 -- a transaction rolls back, and no enlistment asks for it
 abbrev pub rollback_of : Present → Option Transaction → Outcome
@@ -430,59 +432,63 @@ superior_tests x e allowed =
 
 -- ---- what a call of an enlistment does
 
--- a transaction goes on by this step of an enlistment
-abbrev pub goes_on : Present → Enlistment → Option Transaction → (Course → Enlistment → Course) → Outcome
-goes_on x e None step = only_reply x Done
-goes_on x e (Some t) step = arrived x (step (course_of x t (Some e)) e) Done
+-- a transaction goes on by what comes to it from an enlistment
+abbrev pub goes_on : Present → Enlistment → Option Transaction → PhaseInput → Outcome
+goes_on x e None input = only_reply x Done
+goes_on x e (Some t) input = arrived x (led input (course_of x t (Some e))) Done
 
--- the enlistment's transaction goes on by this step
-abbrev pub answering : Present → Option Enlistment → (Course → Enlistment → Course) → Outcome
-answering x None step = only_reply x Done
-answering x (Some e) step = goes_on x e (transaction_in x e) step
+-- the enlistment's transaction goes on by what comes to it
+abbrev pub answering : Present → Option Enlistment → (Enlistment → PhaseInput) → Outcome
+answering x None input = only_reply x Done
+answering x (Some e) input = goes_on x e (transaction_in x e) (input e)
 
 -- PrePrepareComplete: the enlistment has pre-prepared
 unfoldable pub pre_prepare_complete : Present → Option Enlistment → Outcome
-pre_prepare_complete x e = answering x e pre_prepare_answered
+pre_prepare_complete x e = answering x e (λ e. PhaseInput.PrePrepareComplete)
 
 -- PrepareComplete: the enlistment is prepared
 unfoldable pub prepare_complete : Present → Option Enlistment → Outcome
-prepare_complete x e = answering x e prepare_answered
+prepare_complete x e = answering x e (λ e. PhaseInput.PrepareComplete)
 
 -- ReadOnlyEnlistment: the enlistment takes no part in the outcome
 unfoldable pub read_only_enlistment : Present → Option Enlistment → Outcome
-read_only_enlistment x e = answering x e read_only_answered
+read_only_enlistment x e = answering x e (λ e. PhaseInput.ReadOnly (share_of e))
 
 -- CommitComplete: the enlistment has committed
 unfoldable pub commit_complete : Present → Option Enlistment → Outcome
-commit_complete x e = answering x e commit_answered
+commit_complete x e = answering x e (λ e. PhaseInput.CommitComplete)
 
 -- RollbackComplete: the enlistment has rolled back
 unfoldable pub rollback_complete : Present → Option Enlistment → Outcome
-rollback_complete x e = answering x e rollback_answered
+rollback_complete x e = answering x e (λ e. PhaseInput.RollbackComplete)
 
 -- SinglePhaseReject: the enlistment wants two phases
 unfoldable pub single_phase_reject : Present → Option Enlistment → Outcome
-single_phase_reject x e = answering x e single_phase_rejected
+single_phase_reject x e = answering x e (λ e. PhaseInput.SinglePhaseReject)
 
 -- RollbackEnlistment rolls the enlistment's transaction back
 unfoldable pub rollback_enlistment : Present → Option Enlistment → Outcome
-rollback_enlistment x e = answering x e (λ c e. aborting c)
+rollback_enlistment x e = answering x e (λ e. PhaseInput.Rollback)
 
 -- PrePrepareEnlistment: the superior asks that its transaction pre-prepares
 unfoldable pub pre_prepare_enlistment : Present → Option Enlistment → Outcome
-pre_prepare_enlistment x e = answering x e (λ c e. to_pre_prepare c)
+pre_prepare_enlistment x e = answering x e (λ e. PhaseInput.PrePrepare)
 
 -- PrepareEnlistment: the superior asks that its transaction prepares
 unfoldable pub prepare_enlistment : Present → Option Enlistment → Outcome
-prepare_enlistment x e = answering x e (λ c e. to_prepare c)
+prepare_enlistment x e = answering x e (λ e. PhaseInput.Prepare)
 
 -- CommitEnlistment: the superior decides that its transaction commits
 unfoldable pub commit_enlistment : Present → Option Enlistment → Outcome
-commit_enlistment x e = answering x e (λ c e. committing c)
+commit_enlistment x e = answering x e (λ e. PhaseInput.Commit)
+
+-- what comes to its transaction where an enlistment recovers
+abbrev pub recovery_of : Enlistment → PhaseInput
+recovery_of e = if is_superior e then PhaseInput.RecoverSuperior else PhaseInput.Recover
 
 -- RecoverEnlistment: the enlistment is recovered, and told how its transaction stands
 unfoldable pub recover_enlistment : Present → Option Enlistment → Outcome
-recover_enlistment x e = answering x e recovered
+recover_enlistment x e = answering x e recovery_of
 
 -- the tests of SetEnlistmentRecoveryInformation
 abbrev pub set_information_tests : Present → Option Enlistment → List ℕ → List (Bool × Refusal)

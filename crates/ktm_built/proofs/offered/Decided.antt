@@ -10,6 +10,7 @@ use Rattle.ktm_types.specs.declared.command.Command.{Command}
 use Rattle.ktm_types.specs.declared.command.Command.TheVariants.{CreateTransaction, OpenTransaction, CommitTransaction, RollbackTransaction, GetTransactionInformation, CreateFile, CreateFileTransacted, ReadFile, WriteFile, SetEndOfFile, GetFileSizeEx, FlushFileBuffers, DeleteFile, CreateDirectory, RemoveDirectory, MoveFile, DeleteFileTransacted, CreateDirectoryTransacted, RemoveDirectoryTransacted, MoveFileTransacted, FindFiles, FindFilesTransacted, KvSet, KvUnset, KvGet, KvList, CloseHandle, DuplicateHandle, Exit}
 use Rattle.ktm_types.specs.declared.command.View.TheVariants.{Plain, Transaction as Through}
 use Rattle.ktm_types.specs.declared.event.Event.{Event}
+use Rattle.ktm_types.specs.declared.input.PhaseInput.{PhaseInput}
 use Rattle.ktm_types.specs.declared.object.Object.{Object}
 use Rattle.ktm_types.specs.declared.object.Object.TheVariants.{Transaction as TransactionObject, Manager as ManagerObject, Enlistment as EnlistmentObject, File as FileObject}
 use Rattle.ktm_types.specs.declared.object.Transaction.{Transaction}
@@ -32,8 +33,9 @@ use Rattle.ktm_world.specs.KeyCalls.{reply_of_value}
 use Rattle.ktm_world.specs.Holds.{Act}
 use Rattle.ktm_world.specs.Labels.{file_named, transaction_named}
 use Rattle.ktm_world.specs.Outcome.{Outcome, apply, only_reply, and_then, refuse_or, first_refusal, is_full, within_log}
-use Rattle.ktm_world.specs.Phases.{Course, aborting, to_commit}
+use Rattle.ktm_world.specs.Phases.{Course}
 use Rattle.ktm_world.specs.Present.{Present}
+use Rattle.ktm_world.specs.Steps.{led}
 use Rattle.ktm_world.specs.TransactionCalls.{course_of, released, commit_reply, create_transaction, create_transaction_tests, commit_transaction, aborted_by, rollback_transaction, information_of, get_transaction_information, transaction_with, open_to_transaction, open_transaction, open_transaction_tests, tick}
 use Rattle.ktm_world.specs.Uses.{file_room}
 use Rattle.ktm_world.specs.World.{decide_tick}
@@ -83,7 +85,7 @@ done_bind x process label None = record { goes_on = refl; says = refl }
 done_bind x process label (Some object) = record { goes_on = refl; says = refl }
 
 done_aborted : (x : Present) (t : Transaction) → IsDone (aborted_by x t None Done)
-done_aborted x t = let c = aborting (course_of x t None) in record { goes_on = released_goes_on c _; says = released_says c _ }
+done_aborted x t = let c = led PhaseInput.Rollback (course_of x t None) in record { goes_on = released_goes_on c _; says = released_says c _ }
 
 pub done_rollback : (x : Present) (named : Option Transaction) → IsDone (rollback_transaction x named)
 unfolding rollback_transaction
@@ -199,7 +201,7 @@ moved_says files who source target = go (find_path (tree_seen files who) source)
 commit_goes_on : (x : Present) (t : Option Transaction) → (commit_transaction x t).stops ≡ false
 unfolding commit_transaction
 commit_goes_on x None = refl
-commit_goes_on x (Some t) = released_goes_on (to_commit (course_of x t None)) _
+commit_goes_on x (Some t) = released_goes_on (led PhaseInput.CommitTransaction (course_of x t None)) _
 
 effect_goes_on : (x : Present) (process : Pid) (command : Command) → is_built_command command ≡ true → (command_effect x process command).stops ≡ false
 unfolding create_transaction open_transaction get_transaction_information duplicate_handle
@@ -353,7 +355,7 @@ commit_reply_not_down c = go (is_ended c.transaction.phase)
 commit_not_down : (x : Present) (t : Option Transaction) → (commit_transaction x t).reply ≡ Refused MachineDown → ⊥
 unfolding commit_transaction
 commit_not_down x None e = cc
-commit_not_down x (Some t) e = let c = to_commit (course_of x t None) in commit_reply_not_down c (sym (released_says c _) ∙ e)
+commit_not_down x (Some t) e = let c = led PhaseInput.CommitTransaction (course_of x t None) in commit_reply_not_down c (sym (released_says c _) ∙ e)
 
 says_not_down : (reply : Reply) → reply ≡ Done → reply ≡ Refused MachineDown → ⊥
 says_not_down reply says e = cc

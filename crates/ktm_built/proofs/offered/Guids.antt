@@ -72,5 +72,5 @@ all_lead boots last image guid found (t ∷ ts) fits leads_to counted =
 pub guid_law : GuidLaw
 guid_law x guid found course leads_to =
     find_alike _ _ x.transactions.items
-    (all_lead x.recorded.boots x.transactions.last_transaction x.recorded.image guid found x.transactions.items course.boots_fit leads_to course.transactions_counted)
+    (all_lead x.recorded.boots x.transactions.last_transaction x.recorded.image guid found x.transactions.items course.numbers.boots_fit leads_to course.transactions.counted)
     ∙ find_of x.transactions.items found

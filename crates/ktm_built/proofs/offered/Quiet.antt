@@ -19,8 +19,9 @@ use Rattle.ktm_world.specs.Files.{FirstOpen}
 use Rattle.ktm_world.specs.HandleCalls.{has_handle, labels_of, closed_file, abort_active, handle_gone, close_handle, closed_in_turn, exit}
 use Rattle.ktm_world.specs.Handles.{object_at}
 use Rattle.ktm_world.specs.Outcome.{Outcome, apply, only_reply, is_forgotten, joined, and_then}
-use Rattle.ktm_world.specs.Phases.{ended, aborting}
+use Rattle.ktm_world.specs.Phases.{ended}
 use Rattle.ktm_world.specs.Present.{Present}
+use Rattle.ktm_world.specs.Steps.{led}
 use Rattle.ktm_world.specs.Transactions.{same_id, transaction_at, change_at, is_active}
 use Rattle.ktm_world.specs.TransactionCalls.{aborted_by, is_due, may_roll_back, aborted_if_due, aborted_in_turn, with_clock, tick}
 use Rattle.ktm_owned.proofs.offered.OwnedAfterCourses.{both-forgotten}
@@ -119,7 +120,7 @@ rolled_back x t reply = record (quiet x reply (t.id ∷ []) (with_rollback x t))
 
 -- it has no enlistments, and nothing of it is in the log, so it ends at once
 aborted_alone : (x : Present) (t : Transaction) (reply : Reply) → aborted_by (alone x) (record t { is_recorded = false }) None reply ≡ rolled_back (alone x) (record t { is_recorded = false }) reply
-unfolding aborting ended
+unfolding led ended
 aborted_alone x t reply = refl
 
 -- nothing of a transaction that has not ended is in the log

@@ -24,4 +24,4 @@ in_turn x (t ∷ ts) rise found =
     ]
 
 pub timeout_law : TimeoutLaw
-timeout_law x ms course = in_turn (with_clock x ms) x.transactions.items course.transactions_rise (rise-found x.transactions.items course.transactions_rise)
+timeout_law x ms course = in_turn (with_clock x ms) x.transactions.items course.transactions.rise (rise-found x.transactions.items course.transactions.rise)

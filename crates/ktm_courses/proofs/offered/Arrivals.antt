@@ -22,7 +22,7 @@ use Rattle.ktm_world.specs.TransactionCalls.{course_of}
 use Rattle.ktm_world.specs.Transactions.{same_id, change_at}
 use Rattle.ktm_world.specs.Changes.{has_changes}
 use Rattle.txf_laws.specs.Elements.{IsIn, each_pair}
-use Rattle.ktm_courses.specs.SoundCourse.{IsSoundCourse, is_counted, is_made_with_it, has_transaction, has_manager, has_enlistment, is_object_there, is_last_recover, is_note_of, are_not_both_superiors, is_superior_durable, is_unrecovered_well, is_outcome_of, is_of_its_boot, is_superior_as, has_superior_as_asked, is_idle, is_part_as, is_enlistment_as, are_enlistments_as_asked, is_awaited_as, is_awaited, is_recorded_as, is_recorded_as_asked, is_alone_in_one_phase}
+use Rattle.ktm_courses.specs.SoundCourse.{IsSoundCourse, is_counted, is_made_with_it, has_transaction, has_manager, has_enlistment, is_there, is_last_recover, is_note_of, are_not_both_superiors, is_superior_durable, is_unrecovered_well, is_outcome_of, is_of_its_boot, is_superior_as, has_superior_as_asked, is_idle, is_part_as, is_enlistment_as, are_enlistments_as_asked, is_awaited_as, is_awaited, is_recorded_as, is_recorded_as_asked, is_alone_in_one_phase}
 use Rattle.txf_laws.proofs.offered.Lists.{IsIn-unmap}
 use Rattle.txf_laws.proofs.offered.Elements.{list_all-at, list_all-from, list_any-from}
 use Rattle.txf_laws.proofs.offered.Tables.{same_id-equal, same_id-from, same_id-sym, before_other}
@@ -138,17 +138,17 @@ told-note es s told = subst (λ (o : Option Id). is_note_of es s.manager (record
 
 pub stands-now : (x : Present) (t : Transaction) (caller : Option Enlistment) → IsSoundCourse x → IsIn t (x.transactions).items → Stands (x.recorded).boots (course_of x t caller)
 stands-now x t caller sound there = record {
-  outcome = list_all-at (λ (t : Transaction). is_outcome_of t.phase t) (x.transactions).items sound.outcomes t there;
-  boots = list_all-at (is_of_its_boot (x.recorded).boots) (x.transactions).items sound.boots t there;
-  superior = list_all-at (has_superior_as_asked (x.transactions).enlistments) (x.transactions).items sound.superiors t there;
-  stand = stand-from (x.transactions).enlistments t (list_all-at (are_enlistments_as_asked (x.transactions).enlistments) (x.transactions).items sound.enlistments t there);
-  awaited = list_all-at (is_awaited (x.transactions).enlistments) (x.transactions).items sound.awaited t there;
-  alone = list_all-at (is_alone_in_one_phase x) (x.transactions).items sound.alone t there;
-  recorded = list_all-at (is_recorded_as_asked x.managers (x.transactions).enlistments) (x.transactions).items sound.recorded t there;
+  outcome = list_all-at (λ (t : Transaction). is_outcome_of t.phase t) (x.transactions).items sound.transactions.outcomes t there;
+  boots = list_all-at (is_of_its_boot (x.recorded).boots) (x.transactions).items sound.transactions.boots t there;
+  superior = list_all-at (has_superior_as_asked (x.transactions).enlistments) (x.transactions).items sound.phases.superiors t there;
+  stand = stand-from (x.transactions).enlistments t (list_all-at (are_enlistments_as_asked (x.transactions).enlistments) (x.transactions).items sound.phases.enlistments t there);
+  awaited = list_all-at (is_awaited (x.transactions).enlistments) (x.transactions).items sound.phases.awaited t there;
+  alone = list_all-at (is_alone_in_one_phase ((x.files).table).own (x.keys).own) (x.transactions).items sound.alone t there;
+  recorded = list_all-at (is_recorded_as_asked x.managers (x.transactions).enlistments) (x.transactions).items sound.phases.recorded t there;
 }
 
 pub brought-now : (x : Present) (t : Transaction) (caller : Option Enlistment) → IsSoundCourse x → (e : Enlistment) → IsIn e (course_of x t caller).enlistments → is_unrecovered_well (x.recorded).boots (course_of x t caller).managers e ≡ true
-brought-now x t caller sound e there = list_all-at (is_unrecovered_well (x.recorded).boots x.managers) (x.transactions).enlistments sound.unrecovered e there
+brought-now x t caller sound e there = list_all-at (is_unrecovered_well (x.recorded).boots x.managers) (x.transactions).enlistments sound.enlistments.unrecovered e there
 
 -- the transactions once a course has come so far
 abbrev pub with_course : Present → Course → Present
@@ -165,7 +165,7 @@ module _ (x : Present) (sound : IsSoundCourse x) (t : Transaction) (there : IsIn
   ts = (x.transactions).items
 
   abbrev es' : List Enlistment
-  es' = map moved.step es
+  es' = map moved.enlistments.step es
 
   abbrev u : Transaction
   u = d.transaction
@@ -174,43 +174,43 @@ module _ (x : Present) (sound : IsSoundCourse x) (t : Transaction) (there : IsIn
   abbrev y : Present
   y = record x { transactions = record x.transactions { items = changed_to ts u; enlistments = es' } }
 
-  id-same : (e : Enlistment) → (moved.step e).id ≡ e.id
-  id-same e = (moved.same e).id
+  id-same : (e : Enlistment) → (moved.enlistments.step e).id ≡ e.id
+  id-same e = (moved.enlistments.same e).id
 
   stands-u : Stands (x.recorded).boots (record d { enlistments = es' })
-  stands-u = subst (λ xs. Stands (x.recorded).boots (record d { enlistments = xs })) moved.enlistments arrives.stands
+  stands-u = subst (λ xs. Stands (x.recorded).boots (record d { enlistments = xs })) moved.enlistments.is arrives.stands
 
   -- what is so of each transaction
   each : (test : Transaction → Bool) → test u ≡ true → ((v : Transaction) → IsIn v ts → same_id v.id t.id ≡ false → test v ≡ true) → list_all test (changed_to ts u) ≡ true
-  each test here others = list_all-from test (changed_to ts u) (λ v is. elim (IsIn-changed ts u v sound.transactions_rise is) [
+  each test here others = list_all-from test (changed_to ts u) (λ v is. elim (IsIn-changed ts u v sound.transactions.rise is) [
     | inl e ↦ subst (λ w. test w ≡ true) (sym e) here
-    | inr (old, other) ↦ others v old (subst (λ id. same_id v.id id ≡ false) moved.id other)
+    | inr (old, other) ↦ others v old (subst (λ id. same_id v.id id ≡ false) moved.stays.id other)
   ])
 
   -- what is so of each enlistment
-  each-enlistment : (test : Enlistment → Bool) → ((e : Enlistment) → IsIn e es → test (moved.step e) ≡ true) → list_all test es' ≡ true
-  each-enlistment test old = list_all-from test es' (λ e is. let from = IsIn-unmap moved.step e es is in subst (λ f. test f ≡ true) from.1 (old from.0 from.2))
+  each-enlistment : (test : Enlistment → Bool) → ((e : Enlistment) → IsIn e es → test (moved.enlistments.step e) ≡ true) → list_all test es' ≡ true
+  each-enlistment test old = list_all-from test es' (λ e is. let from = IsIn-unmap moved.enlistments.step e es is in subst (λ f. test f ≡ true) from.1 (old from.0 from.2))
 
   -- what is asked of the enlistments of another transaction stays
   module _ (v : Transaction) (other : same_id v.id t.id ≡ false) where
-    foreign : (e : Enlistment) → IsIn e es → (P : Enlistment → Enlistment → Type 0) → P e e → (same_id e.transaction v.id ≡ false → same_id (moved.step e).transaction v.id ≡ false → P (moved.step e) e) → P (moved.step e) e
+    foreign : (e : Enlistment) → IsIn e es → (P : Enlistment → Enlistment → Type 0) → P e e → (same_id e.transaction v.id ≡ false → same_id (moved.enlistments.step e).transaction v.id ≡ false → P (moved.enlistments.step e) e) → P (moved.enlistments.step e) e
     foreign e is P still away = elim (cases_Bool (same_id e.transaction t.id)) [
-      | inr far ↦ subst (λ f. P f e) (sym (moved.others e is far)) still
+      | inr far ↦ subst (λ f. P f e) (sym (moved.enlistments.others e is far)) still
       | inl near ↦
           let not_v : same_id e.transaction v.id ≡ false = subst (λ id. same_id id v.id ≡ false) (sym (same_id-equal e.transaction t.id near)) (same_id-sym v.id t.id other) in
-          away not_v (subst (λ id. same_id id v.id ≡ false) (sym (moved.same e).transaction) not_v)
+          away not_v (subst (λ id. same_id id v.id ≡ false) (sym (moved.enlistments.same e).transaction) not_v)
     ]
 
-    list_any-foreign : (test : Enlistment → Bool) → ((e : Enlistment) → same_id e.transaction v.id ≡ false → test e ≡ false) → (xs : List Enlistment) → ((e : Enlistment) → IsIn e xs → IsIn e es) → list_any test (map moved.step xs) ≡ list_any test xs
+    list_any-foreign : (test : Enlistment → Bool) → ((e : Enlistment) → same_id e.transaction v.id ≡ false → test e ≡ false) → (xs : List Enlistment) → ((e : Enlistment) → IsIn e xs → IsIn e es) → list_any test (map moved.enlistments.step xs) ≡ list_any test xs
     list_any-foreign test none [] are = refl
     list_any-foreign test none (e ∷ xs) are = λ i.
-        foreign e (are e (inl refl)) (λ f g. test f ≡ test g) refl (λ away away'. none (moved.step e) away' ∙ sym (none e away)) i || list_any-foreign test none xs (λ f is. are f (inr is)) i
+        foreign e (are e (inl refl)) (λ f g. test f ≡ test g) refl (λ away away'. none (moved.enlistments.step e) away' ∙ sym (none e away)) i || list_any-foreign test none xs (λ f is. are f (inr is)) i
 
     count-foreign : (test : Enlistment → Bool) → ((e : Enlistment) → same_id e.transaction v.id ≡ false → test e ≡ false) → (xs : List Enlistment) → ((e : Enlistment) → IsIn e xs → IsIn e es)
-        → length (filter test (map moved.step xs)) ≡ length (filter test xs)
+        → length (filter test (map moved.enlistments.step xs)) ≡ length (filter test xs)
     count-foreign test none [] are = refl
     count-foreign test none (e ∷ xs) are =
-        let first : test (moved.step e) ≡ test e = foreign e (are e (inl refl)) (λ f g. test f ≡ test g) refl (λ away away'. none (moved.step e) away' ∙ sym (none e away)) in
+        let first : test (moved.enlistments.step e) ≡ test e = foreign e (are e (inl refl)) (λ f g. test f ≡ test g) refl (λ away away'. none (moved.enlistments.step e) away' ∙ sym (none e away)) in
         let rest = count-foreign test none xs (λ f is. are f (inr is)) in
         elim (cases_Bool (test e)) [ inl is ↦ rw (first ∙ is, is) (ap (λ n. Rattle.std.specs.Prelude.suc n) rest) | inr fails ↦ rw (first ∙ fails, fails) rest ]
 
@@ -239,7 +239,7 @@ module _ (x : Present) (sound : IsSoundCourse x) (t : Transaction) (there : IsIn
   transaction-there id is = has-changed ts u id ∙ is
 
   enlistment-there : (id : Id) → has_enlistment es' id ≡ has_enlistment es id
-  enlistment-there id = list_any-map (λ (e : Enlistment). same_id e.id id) (λ e. same_id e.id id) moved.step (λ e i. same_id (id-same e i) id) es
+  enlistment-there id = list_any-map (λ (e : Enlistment). same_id e.id id) (λ e. same_id e.id id) moved.enlistments.step (λ e i. same_id (id-same e i) id) es
 
   pub note-there : (manager : Id) (note : Note) → is_note_of es manager note ≡ true → is_note_of es' manager note ≡ true
   note-there manager note is = go note.enlistment is
@@ -247,9 +247,9 @@ module _ (x : Present) (sound : IsSoundCourse x) (t : Transaction) (there : IsIn
       go : (o : Option Id) → is_note_of es manager (record note { enlistment = o }) ≡ true → is_note_of es' manager (record note { enlistment = o }) ≡ true
       go None is = is
       go (Some id) is = ap (λ b. not (is_last_recover note.kind) && b)
-          (list_any-map (λ (e : Enlistment). same_id e.id id && same_id e.manager manager) (λ e. same_id e.id id && same_id e.manager manager) moved.step (λ e i. same_id (id-same e i) id && same_id ((moved.same e).manager i) manager) es) ∙ is
+          (list_any-map (λ (e : Enlistment). same_id e.id id && same_id e.manager manager) (λ e. same_id e.id id && same_id e.manager manager) moved.enlistments.step (λ e i. same_id (id-same e i) id && same_id ((moved.enlistments.same e).manager i) manager) es) ∙ is
 
-  object-there : (object : Object) → is_object_there x object ≡ true → is_object_there y object ≡ true
+  object-there : (object : Object) → is_there x object ≡ true → is_there y object ≡ true
   object-there (TransactionObject id) is = transaction-there id is
   object-there (ManagerObject id) is = is
   object-there (EnlistmentObject id) is = enlistment-there id ∙ is
@@ -257,58 +257,65 @@ module _ (x : Present) (sound : IsSoundCourse x) (t : Transaction) (there : IsIn
 
   sound-y : IsSoundCourse y
   sound-y = record {
-    transactions_rise = rises-changed ts u sound.transactions_rise;
-    enlistments_rise = each_pair-map _ _ moved.step (λ e f i. is_before (id-same e i) (id-same f i)) es ∙ sound.enlistments_rise;
-    managers_rise = sound.managers_rise;
-    transactions_counted = each (λ v. is_counted (x.recorded).boots (x.transactions).last_transaction v.id)
-        (subst (λ id. is_counted (x.recorded).boots (x.transactions).last_transaction id ≡ true) (sym moved.id) (list_all-at (λ (v : Transaction). is_counted (x.recorded).boots (x.transactions).last_transaction v.id) ts sound.transactions_counted t there))
-        (λ v is other. list_all-at (λ (v : Transaction). is_counted (x.recorded).boots (x.transactions).last_transaction v.id) ts sound.transactions_counted v is);
-    enlistments_counted = each-enlistment (λ e. is_counted (x.recorded).boots (x.transactions).last_enlistment e.id)
-        (λ e is. subst (λ id. is_counted (x.recorded).boots (x.transactions).last_enlistment id ≡ true) (sym (id-same e)) (list_all-at (λ (e : Enlistment). is_counted (x.recorded).boots (x.transactions).last_enlistment e.id) es sound.enlistments_counted e is));
-    enlistments_made = each-enlistment (is_made_with_it (x.recorded).boots)
-        (λ e is. (λ i. is_made_with_it (x.recorded).boots (record e { id = id-same e i; transaction = (moved.same e).transaction i })) ∙ list_all-at (is_made_with_it (x.recorded).boots) es sound.enlistments_made e is);
-    managers_counted = sound.managers_counted;
-    labels_differ = sound.labels_differ;
-    booted = sound.booted;
-    boots_fit = sound.boots_fit;
-    image_fits = sound.image_fits;
-    objects_there = list_all-from (λ (h : Handle). is_object_there y h.object) x.handles (λ h is. object-there h.object (list_all-at (λ (h : Handle). is_object_there x h.object) x.handles sound.objects_there h is));
-    transactions_there = each-enlistment (λ e. has_transaction (changed_to ts u) e.transaction) (λ e is.
-        subst (λ id. has_transaction (changed_to ts u) id ≡ true) (sym (moved.same e).transaction) (transaction-there e.transaction (list_all-at (λ (e : Enlistment). has_transaction ts e.transaction) es sound.transactions_there e is)));
-    managers_there = each-enlistment (λ e. has_manager x.managers e.manager) (λ e is.
-        subst (λ id. has_manager x.managers id ≡ true) (sym (moved.same e).manager) (list_all-at (λ (e : Enlistment). has_manager x.managers e.manager) es sound.managers_there e is));
-    superiors_durable = each-enlistment (is_superior_durable x.managers) (λ e is.
-        (λ i. is_superior_durable x.managers (record e { kind = (moved.same e).kind i; manager = (moved.same e).manager i })) ∙ list_all-at (is_superior_durable x.managers) es sound.superiors_durable e is);
-    superiors_differ = each_pair-map are_not_both_superiors are_not_both_superiors moved.step (λ e f i.
-        are_not_both_superiors (record e { kind = (moved.same e).kind i; transaction = (moved.same e).transaction i }) (record f { kind = (moved.same f).kind i; transaction = (moved.same f).transaction i })) es ∙ sound.superiors_differ;
-    notes_there = list_all-from (λ (m : Manager). list_all (is_note_of es' m.id) m.queue) x.managers (λ m is. list_all-from (is_note_of es' m.id) m.queue (λ note waits. note-there m.id note
-        (list_all-at (is_note_of es m.id) m.queue (list_all-at (λ (m : Manager). list_all (is_note_of es m.id) m.queue) x.managers sound.notes_there m is) note waits)));
-    outcomes = each (λ v. is_outcome_of v.phase v) (arrives.stands).outcome (λ v is other. list_all-at (λ (v : Transaction). is_outcome_of v.phase v) ts sound.outcomes v is);
-    boots = each (is_of_its_boot (x.recorded).boots) (arrives.stands).boots (λ v is other. list_all-at (is_of_its_boot (x.recorded).boots) ts sound.boots v is);
-    superiors = each (has_superior_as_asked es') stands-u.superior (λ v is other.
-        ap (is_superior_as v.phase) (superior-with v.id moved.step moved.same es) ∙ list_all-at (has_superior_as_asked es) ts sound.superiors v is);
-    enlistments = each (are_enlistments_as_asked es') (stand-into es' u stands-u.stand) (λ v is other. as_asked-foreign v other (list_all-at (are_enlistments_as_asked es) ts sound.enlistments v is));
-    awaited = each (is_awaited es') stands-u.awaited (λ v is other. awaited-foreign v other v.phase ∙ list_all-at (is_awaited es) ts sound.awaited v is);
-    alone = each (is_alone_in_one_phase x) alone-u (λ v is other. list_all-at (is_alone_in_one_phase x) ts sound.alone v is);
-    recorded = each (is_recorded_as_asked x.managers es') (subst (λ ms. is_recorded_as_asked ms es' u ≡ true) moved.managers stands-u.recorded)
-        (λ v is other. recorded-foreign v other v.phase v.is_recorded ∙ list_all-at (is_recorded_as_asked x.managers es) ts sound.recorded v is);
-    unrecovered = list_all-from (is_unrecovered_well (x.recorded).boots x.managers) es' (λ e is. subst (λ ms. is_unrecovered_well (x.recorded).boots ms e ≡ true) moved.managers
-        (unrecovered-moved (course_of x t caller) d (x.recorded).boots moved (brought-now x t caller sound) e (subst (λ xs. IsIn e xs) (sym moved.enlistments) is)));
-    information_fits = each-enlistment (λ e. nat_le (length e.information) MOST_INFORMATION_BYTES) (λ e is.
-        subst (λ bytes. nat_le (length bytes) MOST_INFORMATION_BYTES ≡ true) (sym (moved.same e).information) (list_all-at (λ (e : Enlistment). nat_le (length e.information) MOST_INFORMATION_BYTES) es sound.information_fits e is));
-    begun = each (λ v. nat_le v.created (x.transactions).clock)
-        (subst (λ n. nat_le n (x.transactions).clock ≡ true) (sym moved.created) (list_all-at (λ (v : Transaction). nat_le v.created (x.transactions).clock) ts sound.begun t there))
-        (λ v is other. list_all-at (λ (v : Transaction). nat_le v.created (x.transactions).clock) ts sound.begun v is);
-    clock_fits = sound.clock_fits;
+    numbers = sound.numbers;
+    transactions = record {
+      rise = rises-changed ts u sound.transactions.rise;
+      counted = each (λ v. is_counted (x.recorded).boots (x.transactions).last_transaction v.id)
+          (subst (λ id. is_counted (x.recorded).boots (x.transactions).last_transaction id ≡ true) (sym moved.stays.id) (list_all-at (λ (v : Transaction). is_counted (x.recorded).boots (x.transactions).last_transaction v.id) ts sound.transactions.counted t there))
+          (λ v is other. list_all-at (λ (v : Transaction). is_counted (x.recorded).boots (x.transactions).last_transaction v.id) ts sound.transactions.counted v is);
+      boots = each (is_of_its_boot (x.recorded).boots) (arrives.stands).boots (λ v is other. list_all-at (is_of_its_boot (x.recorded).boots) ts sound.transactions.boots v is);
+      outcomes = each (λ v. is_outcome_of v.phase v) (arrives.stands).outcome (λ v is other. list_all-at (λ (v : Transaction). is_outcome_of v.phase v) ts sound.transactions.outcomes v is);
+      begun = each (λ v. nat_le v.created (x.transactions).clock)
+          (subst (λ n. nat_le n (x.transactions).clock ≡ true) (sym moved.stays.created) (list_all-at (λ (v : Transaction). nat_le v.created (x.transactions).clock) ts sound.transactions.begun t there))
+          (λ v is other. list_all-at (λ (v : Transaction). nat_le v.created (x.transactions).clock) ts sound.transactions.begun v is);
+    };
+    enlistments = record {
+      rise = each_pair-map _ _ moved.enlistments.step (λ e f i. is_before (id-same e i) (id-same f i)) es ∙ sound.enlistments.rise;
+      counted = each-enlistment (λ e. is_counted (x.recorded).boots (x.transactions).last_enlistment e.id)
+          (λ e is. subst (λ id. is_counted (x.recorded).boots (x.transactions).last_enlistment id ≡ true) (sym (id-same e)) (list_all-at (λ (e : Enlistment). is_counted (x.recorded).boots (x.transactions).last_enlistment e.id) es sound.enlistments.counted e is));
+      made = each-enlistment (is_made_with_it (x.recorded).boots)
+          (λ e is. (λ i. is_made_with_it (x.recorded).boots (record e { id = id-same e i; transaction = (moved.enlistments.same e).transaction i })) ∙ list_all-at (is_made_with_it (x.recorded).boots) es sound.enlistments.made e is);
+      transactions_there = each-enlistment (λ e. has_transaction (changed_to ts u) e.transaction) (λ e is.
+          subst (λ id. has_transaction (changed_to ts u) id ≡ true) (sym (moved.enlistments.same e).transaction) (transaction-there e.transaction (list_all-at (λ (e : Enlistment). has_transaction ts e.transaction) es sound.enlistments.transactions_there e is)));
+      managers_there = each-enlistment (λ e. has_manager x.managers e.manager) (λ e is.
+          subst (λ id. has_manager x.managers id ≡ true) (sym (moved.enlistments.same e).manager) (list_all-at (λ (e : Enlistment). has_manager x.managers e.manager) es sound.enlistments.managers_there e is));
+      superiors_durable = each-enlistment (is_superior_durable x.managers) (λ e is.
+          (λ i. is_superior_durable x.managers (record e { kind = (moved.enlistments.same e).kind i; manager = (moved.enlistments.same e).manager i })) ∙ list_all-at (is_superior_durable x.managers) es sound.enlistments.superiors_durable e is);
+      superiors_differ = each_pair-map are_not_both_superiors are_not_both_superiors moved.enlistments.step (λ e f i.
+          are_not_both_superiors (record e { kind = (moved.enlistments.same e).kind i; transaction = (moved.enlistments.same e).transaction i }) (record f { kind = (moved.enlistments.same f).kind i; transaction = (moved.enlistments.same f).transaction i })) es ∙ sound.enlistments.superiors_differ;
+      unrecovered = list_all-from (is_unrecovered_well (x.recorded).boots x.managers) es' (λ e is. subst (λ ms. is_unrecovered_well (x.recorded).boots ms e ≡ true) moved.stays.managers
+          (unrecovered-moved (course_of x t caller) d (x.recorded).boots moved (brought-now x t caller sound) e (subst (λ xs. IsIn e xs) (sym moved.enlistments.is) is)));
+      information_fits = each-enlistment (λ e. nat_le (length e.information) MOST_INFORMATION_BYTES) (λ e is.
+          subst (λ bytes. nat_le (length bytes) MOST_INFORMATION_BYTES ≡ true) (sym (moved.enlistments.same e).information) (list_all-at (λ (e : Enlistment). nat_le (length e.information) MOST_INFORMATION_BYTES) es sound.enlistments.information_fits e is));
+    };
+    managers = record {
+      rise = sound.managers.rise;
+      counted = sound.managers.counted;
+      notes_there = list_all-from (λ (m : Manager). list_all (is_note_of es' m.id) m.queue) x.managers (λ m is. list_all-from (is_note_of es' m.id) m.queue (λ note waits. note-there m.id note
+          (list_all-at (is_note_of es m.id) m.queue (list_all-at (λ (m : Manager). list_all (is_note_of es m.id) m.queue) x.managers sound.managers.notes_there m is) note waits)));
+    };
+    handles = record {
+      labels_differ = sound.handles.labels_differ;
+      objects_there = list_all-from (λ (h : Handle). is_there y h.object) x.handles (λ h is. object-there h.object (list_all-at (λ (h : Handle). is_there x h.object) x.handles sound.handles.objects_there h is));
+    };
+    phases = record {
+      superiors = each (has_superior_as_asked es') stands-u.superior (λ v is other.
+          ap (is_superior_as v.phase) (superior-with v.id moved.enlistments.step moved.enlistments.same es) ∙ list_all-at (has_superior_as_asked es) ts sound.phases.superiors v is);
+      enlistments = each (are_enlistments_as_asked es') (stand-into es' u stands-u.stand) (λ v is other. as_asked-foreign v other (list_all-at (are_enlistments_as_asked es) ts sound.phases.enlistments v is));
+      awaited = each (is_awaited es') stands-u.awaited (λ v is other. awaited-foreign v other v.phase ∙ list_all-at (is_awaited es) ts sound.phases.awaited v is);
+      recorded = each (is_recorded_as_asked x.managers es') (subst (λ ms. is_recorded_as_asked ms es' u ≡ true) moved.stays.managers stands-u.recorded)
+          (λ v is other. recorded-foreign v other v.phase v.is_recorded ∙ list_all-at (is_recorded_as_asked x.managers es) ts sound.phases.recorded v is);
+    };
+    alone = each (is_alone_in_one_phase ((x.files).table).own (x.keys).own) alone-u (λ v is other. list_all-at (is_alone_in_one_phase ((x.files).table).own (x.keys).own) ts sound.alone v is);
   }
     where
-      alone-u : is_alone_in_one_phase x u ≡ true
-      alone-u = subst (λ id. (not (is_single_phase u.phase) || (not (has_changes (own_changes ((x.files).table).own id)) && not (has_settings (own_settings (x.keys).own id)))) ≡ true) (sym moved.id)
-          ((λ i. not (is_single_phase u.phase) || (not (has_changes (sym moved.changes i)) && not (has_settings (sym moved.settings i)))) ∙ (arrives.stands).alone)
+      alone-u : is_alone_in_one_phase ((x.files).table).own (x.keys).own u ≡ true
+      alone-u = subst (λ id. (not (is_single_phase u.phase) || (not (has_changes (own_changes ((x.files).table).own id)) && not (has_settings (own_settings (x.keys).own id)))) ≡ true) (sym moved.stays.id)
+          ((λ i. not (is_single_phase u.phase) || (not (has_changes (sym moved.stays.changes i)) && not (has_settings (sym moved.stays.settings i)))) ∙ (arrives.stands).alone)
 
   pub sound-course : IsSoundCourse (with_course x d)
-  sound-course = subst (λ xs. IsSoundCourse (record x { transactions = record x.transactions { items = changed_to ts u; enlistments = xs } })) (sym moved.enlistments) sound-y
+  sound-course = subst (λ xs. IsSoundCourse (record x { transactions = record x.transactions { items = changed_to ts u; enlistments = xs } })) (sym moved.enlistments.is) sound-y
 
   -- what it sent tells enlistments of their resource managers
   pub notes-course : (s : Sent) → IsIn s d.sent → is_note_of d.enlistments s.manager s.note ≡ true
-  notes-course s sent = subst (λ xs. is_note_of xs s.manager s.note ≡ true) (sym moved.enlistments) (note-there s.manager s.note (elim (moved.sent s sent) [ inl none ↦ absurd none | inr told ↦ told-note es s told ]))
+  notes-course s sent = subst (λ xs. is_note_of xs s.manager s.note ≡ true) (sym moved.enlistments.is) (note-there s.manager s.note (elim (moved.sent s sent) [ inl none ↦ absurd none | inr told ↦ told-note es s told ]))

@@ -18,7 +18,7 @@ use Rattle.ktm_world.specs.Enlistments.{Enlistment, Manager, Note, is_superior, 
 use Rattle.ktm_world.specs.Present.{Present}
 use Rattle.ktm_world.specs.Transactions.{same_id}
 use Rattle.txf_laws.specs.Elements.{IsIn, each_pair}
-use Rattle.ktm_courses.specs.SoundCourse.{IsSoundCourse, is_counted, is_made_with_it, has_transaction, has_manager, has_enlistment_of, is_object_there, is_last_recover, is_note_of, are_not_both_superiors, is_superior_durable, is_unrecovered_well, is_outcome_of, is_of_its_boot, is_superior_as, has_superior_as_asked, is_enlistment_as, are_enlistments_as_asked, is_awaited_as, is_awaited, is_recorded_as, is_recorded_as_asked, is_alone_in_one_phase}
+use Rattle.ktm_courses.specs.SoundCourse.{IsSoundCourse, is_counted, is_made_with_it, has_transaction, has_manager, has_enlistment_of, is_last_recover, is_note_of, are_not_both_superiors, is_superior_durable, is_unrecovered_well, is_outcome_of, is_of_its_boot, is_superior_as, has_superior_as_asked, is_enlistment_as, are_enlistments_as_asked, is_awaited_as, is_awaited, is_recorded_as, is_recorded_as_asked, is_alone_in_one_phase, is_there}
 use Rattle.txf_laws.proofs.offered.Lists.{IsIn-unmap}
 use Rattle.txf_laws.proofs.offered.Elements.{list_all-at, list_all-from, list_any-at, list_any-from}
 use Rattle.txf_laws.proofs.offered.Tables.{same_id-equal, same_id-from, same_id-sym}
@@ -60,7 +60,7 @@ module _ (x : Present) (timeout : ℕ) (sound : IsSoundCourse x) (fits : (x.tran
   has-pushed : (id : Id) → has_transaction ts id ≡ true → has_transaction (ts ++ t ∷ []) id ≡ true
   has-pushed id there = list_any-push (λ (t : Transaction). same_id t.id id) ts t there
 
-  object-pushed : (object : Object) → is_object_there x object ≡ true → is_object_there y object ≡ true
+  object-pushed : (object : Object) → is_there x object ≡ true → is_there y object ≡ true
   object-pushed (TransactionObject id) is = has-pushed id is
   object-pushed (ManagerObject id) is = is
   object-pushed (EnlistmentObject id) is = is
@@ -69,46 +69,49 @@ module _ (x : Present) (timeout : ℕ) (sound : IsSoundCourse x) (fits : (x.tran
   -- no enlistment is one of it
   no-enlistment : (e : Enlistment) → IsIn e es → same_id e.transaction t.id ≡ false
   no-enlistment e there =
-      let some = list_any-at (λ (t : Transaction). same_id t.id e.transaction) ts (list_all-at (λ (e : Enlistment). has_transaction ts e.transaction) es sound.transactions_there e there) in
+      let some = list_any-at (λ (t : Transaction). same_id t.id e.transaction) ts (list_all-at (λ (e : Enlistment). has_transaction ts e.transaction) es sound.enlistments.transactions_there e there) in
       subst (λ id. same_id id t.id ≡ false) (same_id-equal (some.0).id e.transaction some.2)
-      (next-other (x.recorded).boots (x.transactions).last_transaction (some.0).id (list_all-at (λ (t : Transaction). is_counted (x.recorded).boots (x.transactions).last_transaction t.id) ts sound.transactions_counted some.0 some.1))
+      (next-other (x.recorded).boots (x.transactions).last_transaction (some.0).id (list_all-at (λ (t : Transaction). is_counted (x.recorded).boots (x.transactions).last_transaction t.id) ts sound.transactions.counted some.0 some.1))
 
   pub sound-with_transaction : IsSoundCourse (with_transaction x timeout)
   sound-with_transaction = record {
-    transactions_rise = each_pair-push (λ (t u : Transaction). is_before t.id u.id) ts t sound.transactions_rise (λ u there. counted-before (x.recorded).boots (x.transactions).last_transaction u.id
-        (list_all-at (λ (t : Transaction). is_counted (x.recorded).boots (x.transactions).last_transaction t.id) ts sound.transactions_counted u there));
-    enlistments_rise = sound.enlistments_rise;
-    managers_rise = sound.managers_rise;
-    transactions_counted = pushed (λ t. is_counted (x.recorded).boots ((x.transactions).last_transaction + 1) t.id)
-        (list_all-from (λ (t : Transaction). is_counted (x.recorded).boots ((x.transactions).last_transaction + 1) t.id) ts (λ u there. counted-more (x.recorded).boots (x.transactions).last_transaction u.id
-        (list_all-at (λ (t : Transaction). is_counted (x.recorded).boots (x.transactions).last_transaction t.id) ts sound.transactions_counted u there)))
-        (counted-next (x.recorded).boots (x.transactions).last_transaction sound.booted fits);
-    enlistments_counted = sound.enlistments_counted;
-    enlistments_made = sound.enlistments_made;
-    managers_counted = sound.managers_counted;
-    labels_differ = sound.labels_differ;
-    booted = sound.booted;
-    boots_fit = sound.boots_fit;
-    image_fits = sound.image_fits;
-    objects_there = list_all-from (λ (h : Handle). is_object_there y h.object) x.handles (λ h there. object-pushed h.object (list_all-at (λ (h : Handle). is_object_there x h.object) x.handles sound.objects_there h there));
-    transactions_there = list_all-from (λ (e : Enlistment). has_transaction (ts ++ t ∷ []) e.transaction) es
-        (λ e there. has-pushed e.transaction (list_all-at (λ (e : Enlistment). has_transaction ts e.transaction) es sound.transactions_there e there));
-    managers_there = sound.managers_there;
-    superiors_durable = sound.superiors_durable;
-    superiors_differ = sound.superiors_differ;
-    notes_there = sound.notes_there;
-    outcomes = pushed (λ t. is_outcome_of t.phase t) sound.outcomes refl;
-    boots = pushed (is_of_its_boot (x.recorded).boots) sound.boots (rw (not-less (x.recorded).boots) refl);
-    superiors = pushed (has_superior_as_asked es) sound.superiors refl;
-    enlistments = pushed (are_enlistments_as_asked es) sound.enlistments
-        (list_all-from (λ (e : Enlistment). not (same_id e.transaction t.id) || is_enlistment_as Active e) es (λ e there. or_left _ _ (not_from_false _ (no-enlistment e there))));
-    awaited = pushed (is_awaited es) sound.awaited refl;
-    alone = pushed (is_alone_in_one_phase x) sound.alone refl;
-    recorded = pushed (is_recorded_as_asked x.managers es) sound.recorded refl;
-    unrecovered = sound.unrecovered;
-    information_fits = sound.information_fits;
-    begun = pushed (λ t. nat_le t.created (x.transactions).clock) sound.begun (le-leb (x.transactions).clock (x.transactions).clock (omega arith));
-    clock_fits = sound.clock_fits;
+    numbers = sound.numbers;
+    transactions = record {
+      rise = each_pair-push (λ (t u : Transaction). is_before t.id u.id) ts t sound.transactions.rise (λ u there. counted-before (x.recorded).boots (x.transactions).last_transaction u.id
+          (list_all-at (λ (t : Transaction). is_counted (x.recorded).boots (x.transactions).last_transaction t.id) ts sound.transactions.counted u there));
+      counted = pushed (λ t. is_counted (x.recorded).boots ((x.transactions).last_transaction + 1) t.id)
+          (list_all-from (λ (t : Transaction). is_counted (x.recorded).boots ((x.transactions).last_transaction + 1) t.id) ts (λ u there. counted-more (x.recorded).boots (x.transactions).last_transaction u.id
+          (list_all-at (λ (t : Transaction). is_counted (x.recorded).boots (x.transactions).last_transaction t.id) ts sound.transactions.counted u there)))
+          (counted-next (x.recorded).boots (x.transactions).last_transaction sound.numbers.booted fits);
+      boots = pushed (is_of_its_boot (x.recorded).boots) sound.transactions.boots (rw (not-less (x.recorded).boots) refl);
+      outcomes = pushed (λ t. is_outcome_of t.phase t) sound.transactions.outcomes refl;
+      begun = pushed (λ t. nat_le t.created (x.transactions).clock) sound.transactions.begun (le-leb (x.transactions).clock (x.transactions).clock (omega arith));
+    };
+    enlistments = record {
+      rise = sound.enlistments.rise;
+      counted = sound.enlistments.counted;
+      made = sound.enlistments.made;
+      transactions_there = list_all-from (λ (e : Enlistment). has_transaction (ts ++ t ∷ []) e.transaction) es
+          (λ e there. has-pushed e.transaction (list_all-at (λ (e : Enlistment). has_transaction ts e.transaction) es sound.enlistments.transactions_there e there));
+      managers_there = sound.enlistments.managers_there;
+      superiors_durable = sound.enlistments.superiors_durable;
+      superiors_differ = sound.enlistments.superiors_differ;
+      unrecovered = sound.enlistments.unrecovered;
+      information_fits = sound.enlistments.information_fits;
+    };
+    managers = sound.managers;
+    handles = record {
+      labels_differ = sound.handles.labels_differ;
+      objects_there = list_all-from (λ (h : Handle). is_there y h.object) x.handles (λ h there. object-pushed h.object (list_all-at (λ (h : Handle). is_there x h.object) x.handles sound.handles.objects_there h there));
+    };
+    phases = record {
+      superiors = pushed (has_superior_as_asked es) sound.phases.superiors refl;
+      enlistments = pushed (are_enlistments_as_asked es) sound.phases.enlistments
+          (list_all-from (λ (e : Enlistment). not (same_id e.transaction t.id) || is_enlistment_as Active e) es (λ e there. or_left _ _ (not_from_false _ (no-enlistment e there))));
+      awaited = pushed (is_awaited es) sound.phases.awaited refl;
+      recorded = pushed (is_recorded_as_asked x.managers es) sound.phases.recorded refl;
+    };
+    alone = pushed (is_alone_in_one_phase ((x.files).table).own (x.keys).own) sound.alone refl;
   }
     where
       not-less : (n : ℕ) → nat_lt n n ≡ false
@@ -134,19 +137,19 @@ module _ (x : Present) (durable : Bool) (sound : IsSoundCourse x) (fits : (x.tra
   ms = x.managers ++ m ∷ []
 
   counted-manager : (n : Manager) → IsIn n x.managers → is_counted (x.recorded).boots (x.transactions).last_manager n.id ≡ true
-  counted-manager n there = list_all-at (λ (m : Manager). is_counted (x.recorded).boots (x.transactions).last_manager m.id) x.managers sound.managers_counted n there
+  counted-manager n there = list_all-at (λ (m : Manager). is_counted (x.recorded).boots (x.transactions).last_manager m.id) x.managers sound.managers.counted n there
 
   -- it is not that of any enlistment
   durable-same : (e : Enlistment) → IsIn e es-m → is_durable_at ms e.manager ≡ is_durable_at x.managers e.manager
   durable-same e there =
-      let some = list_any-at (λ (m : Manager). same_id m.id e.manager) x.managers (list_all-at (λ (e : Enlistment). has_manager x.managers e.manager) es-m sound.managers_there e there) in
+      let some = list_any-at (λ (m : Manager). same_id m.id e.manager) x.managers (list_all-at (λ (e : Enlistment). has_manager x.managers e.manager) es-m sound.enlistments.managers_there e there) in
       list_any-silent (λ (n : Manager). same_id n.id e.manager && n.is_durable) x.managers m (and_left _ _
       (subst (λ id. same_id m.id id ≡ false) (same_id-equal (some.0).id e.manager some.2) (same_id-sym (some.0).id m.id (next-other (x.recorded).boots (x.transactions).last_manager (some.0).id (counted-manager some.0 some.1)))))
 
   has-manager : (id : Id) → has_manager x.managers id ≡ true → has_manager ms id ≡ true
   has-manager id there = list_any-push (λ (m : Manager). same_id m.id id) x.managers m there
 
-  object-manager : (object : Object) → is_object_there x object ≡ true → is_object_there (with_manager x durable) object ≡ true
+  object-manager : (object : Object) → is_there x object ≡ true → is_there (with_manager x durable) object ≡ true
   object-manager (TransactionObject id) is = is
   object-manager (ManagerObject id) is = has-manager id is
   object-manager (EnlistmentObject id) is = is
@@ -154,39 +157,40 @@ module _ (x : Present) (durable : Bool) (sound : IsSoundCourse x) (fits : (x.tra
 
   pub sound-with_manager : IsSoundCourse (with_manager x durable)
   sound-with_manager = record {
-    transactions_rise = sound.transactions_rise;
-    enlistments_rise = sound.enlistments_rise;
-    managers_rise = each_pair-push (λ (m n : Manager). is_before m.id n.id) x.managers m sound.managers_rise (λ n there. counted-before (x.recorded).boots (x.transactions).last_manager n.id (counted-manager n there));
-    transactions_counted = sound.transactions_counted;
-    enlistments_counted = sound.enlistments_counted;
-    enlistments_made = sound.enlistments_made;
-    managers_counted = list_all-push (λ (n : Manager). is_counted (x.recorded).boots ((x.transactions).last_manager + 1) n.id) x.managers m
-        (list_all-from (λ (n : Manager). is_counted (x.recorded).boots ((x.transactions).last_manager + 1) n.id) x.managers (λ n there. counted-more (x.recorded).boots (x.transactions).last_manager n.id (counted-manager n there)))
-        (counted-next (x.recorded).boots (x.transactions).last_manager sound.booted fits);
-    labels_differ = sound.labels_differ;
-    booted = sound.booted;
-    boots_fit = sound.boots_fit;
-    image_fits = sound.image_fits;
-    objects_there = list_all-from (λ (h : Handle). is_object_there (with_manager x durable) h.object) x.handles (λ h there. object-manager h.object (list_all-at (λ (h : Handle). is_object_there x h.object) x.handles sound.objects_there h there));
-    transactions_there = sound.transactions_there;
-    managers_there = list_all-from (λ (e : Enlistment). has_manager ms e.manager) es-m (λ e there. has-manager e.manager (list_all-at (λ (e : Enlistment). has_manager x.managers e.manager) es-m sound.managers_there e there));
-    superiors_durable = list_all-from (is_superior_durable ms) es-m (λ e there. ap (λ b. not (is_superior e) || b) (durable-same e there) ∙ list_all-at (is_superior_durable x.managers) es-m sound.superiors_durable e there);
-    superiors_differ = sound.superiors_differ;
-    notes_there = list_all-push (λ (n : Manager). list_all (is_note_of es-m n.id) n.queue) x.managers m sound.notes_there refl;
-    outcomes = sound.outcomes;
-    boots = sound.boots;
-    superiors = sound.superiors;
-    enlistments = sound.enlistments;
-    awaited = sound.awaited;
+    numbers = sound.numbers;
+    transactions = sound.transactions;
+    enlistments = record {
+      rise = sound.enlistments.rise;
+      counted = sound.enlistments.counted;
+      made = sound.enlistments.made;
+      transactions_there = sound.enlistments.transactions_there;
+      managers_there = list_all-from (λ (e : Enlistment). has_manager ms e.manager) es-m (λ e there. has-manager e.manager (list_all-at (λ (e : Enlistment). has_manager x.managers e.manager) es-m sound.enlistments.managers_there e there));
+      superiors_durable = list_all-from (is_superior_durable ms) es-m (λ e there. ap (λ b. not (is_superior e) || b) (durable-same e there) ∙ list_all-at (is_superior_durable x.managers) es-m sound.enlistments.superiors_durable e there);
+      superiors_differ = sound.enlistments.superiors_differ;
+      unrecovered = list_all-from (is_unrecovered_well (x.recorded).boots ms) es-m (λ e there.
+          ap (λ b. e.is_recovered || (nat_lt (e.id).boot (x.recorded).boots && b && not e.is_read_only && not e.is_finished && is_none e.owes && (is_superior e || e.is_prepared))) (durable-same e there)
+          ∙ list_all-at (is_unrecovered_well (x.recorded).boots x.managers) es-m sound.enlistments.unrecovered e there);
+      information_fits = sound.enlistments.information_fits;
+    };
+    managers = record {
+      rise = each_pair-push (λ (m n : Manager). is_before m.id n.id) x.managers m sound.managers.rise (λ n there. counted-before (x.recorded).boots (x.transactions).last_manager n.id (counted-manager n there));
+      counted = list_all-push (λ (n : Manager). is_counted (x.recorded).boots ((x.transactions).last_manager + 1) n.id) x.managers m
+          (list_all-from (λ (n : Manager). is_counted (x.recorded).boots ((x.transactions).last_manager + 1) n.id) x.managers (λ n there. counted-more (x.recorded).boots (x.transactions).last_manager n.id (counted-manager n there)))
+          (counted-next (x.recorded).boots (x.transactions).last_manager sound.numbers.booted fits);
+      notes_there = list_all-push (λ (n : Manager). list_all (is_note_of es-m n.id) n.queue) x.managers m sound.managers.notes_there refl;
+    };
+    handles = record {
+      labels_differ = sound.handles.labels_differ;
+      objects_there = list_all-from (λ (h : Handle). is_there (with_manager x durable) h.object) x.handles (λ h there. object-manager h.object (list_all-at (λ (h : Handle). is_there x h.object) x.handles sound.handles.objects_there h there));
+    };
+    phases = record {
+      superiors = sound.phases.superiors;
+      enlistments = sound.phases.enlistments;
+      awaited = sound.phases.awaited;
+      recorded = list_all-from (is_recorded_as_asked ms es-m) (x.transactions).items (λ t there. recorded-durable x.managers ms es-m durable-same t.phase t.id t.is_recorded
+          ∙ list_all-at (is_recorded_as_asked x.managers es-m) (x.transactions).items sound.phases.recorded t there);
+    };
     alone = sound.alone;
-    recorded = list_all-from (is_recorded_as_asked ms es-m) (x.transactions).items (λ t there. recorded-durable x.managers ms es-m durable-same t.phase t.id t.is_recorded
-        ∙ list_all-at (is_recorded_as_asked x.managers es-m) (x.transactions).items sound.recorded t there);
-    unrecovered = list_all-from (is_unrecovered_well (x.recorded).boots ms) es-m (λ e there.
-        ap (λ b. e.is_recovered || (nat_lt (e.id).boot (x.recorded).boots && b && not e.is_read_only && not e.is_finished && is_none e.owes && (is_superior e || e.is_prepared))) (durable-same e there)
-        ∙ list_all-at (is_unrecovered_well (x.recorded).boots x.managers) es-m sound.unrecovered e there);
-    information_fits = sound.information_fits;
-    begun = sound.begun;
-    clock_fits = sound.clock_fits;
   }
 
 -- ---- an enlistment
@@ -226,9 +230,9 @@ module _ (x : Present) (m : Manager) (t : Transaction) (kind : EnlistmentKind) (
   z = with_new_enlistment x m t kind
 
   counted-enlistment : (f : Enlistment) → IsIn f es-e → is_counted (x.recorded).boots (x.transactions).last_enlistment f.id ≡ true
-  counted-enlistment f there = list_all-at (λ (e : Enlistment). is_counted (x.recorded).boots (x.transactions).last_enlistment e.id) es-e sound.enlistments_counted f there
+  counted-enlistment f there = list_all-at (λ (e : Enlistment). is_counted (x.recorded).boots (x.transactions).last_enlistment e.id) es-e sound.enlistments.counted f there
 
-  object-enlistment : (object : Object) → is_object_there x object ≡ true → is_object_there z object ≡ true
+  object-enlistment : (object : Object) → is_there x object ≡ true → is_there z object ≡ true
   object-enlistment (TransactionObject id) is = is
   object-enlistment (ManagerObject id) is = is
   object-enlistment (EnlistmentObject id) is = list_any-push (λ (e : Enlistment). same_id e.id id) es-e e is
@@ -249,7 +253,7 @@ module _ (x : Present) (m : Manager) (t : Transaction) (kind : EnlistmentKind) (
   each-transaction test test' all its others = list_all-from test' ts-e (λ v there. elim (cases_Bool (same_id t.id v.id)) [
     | inl same ↦
         let is = same_id-equal t.id v.id same in
-        its v (ap (λ (w : Transaction). w.phase) (sym (same-by_id (λ (u : Transaction). u.id) ts-e sound.transactions_rise t v transaction there is)) ∙ active) (sym is) (list_all-at test ts-e all v there)
+        its v (ap (λ (w : Transaction). w.phase) (sym (same-by_id (λ (u : Transaction). u.id) ts-e sound.transactions.rise t v transaction there is)) ∙ active) (sym is) (list_all-at test ts-e all v there)
     | inr other ↦ others v other (list_all-at test ts-e all v there)
   ])
 
@@ -277,92 +281,76 @@ module _ (x : Present) (m : Manager) (t : Transaction) (kind : EnlistmentKind) (
 
   pub sound-with_enlistment : IsSoundCourse (with_new_enlistment x m t kind)
   sound-with_enlistment = record {
-    transactions_rise = sound.transactions_rise;
-    enlistments_rise = each_pair-push (λ (e f : Enlistment). is_before e.id f.id) es-e e sound.enlistments_rise (λ f there. counted-before (x.recorded).boots (x.transactions).last_enlistment f.id (counted-enlistment f there));
-    managers_rise = sound.managers_rise;
-    transactions_counted = sound.transactions_counted;
-    enlistments_counted = list_all-push (λ (f : Enlistment). is_counted (x.recorded).boots ((x.transactions).last_enlistment + 1) f.id) es-e e
-        (list_all-from (λ (f : Enlistment). is_counted (x.recorded).boots ((x.transactions).last_enlistment + 1) f.id) es-e (λ f there. counted-more (x.recorded).boots (x.transactions).last_enlistment f.id (counted-enlistment f there)))
-        (counted-next (x.recorded).boots (x.transactions).last_enlistment sound.booted fits);
-    enlistments_made = list_all-push (is_made_with_it (x.recorded).boots) es-e e sound.enlistments_made (or_right _ _ (eq-eqb (x.recorded).boots (x.recorded).boots refl));
-    managers_counted = sound.managers_counted;
-    labels_differ = sound.labels_differ;
-    booted = sound.booted;
-    boots_fit = sound.boots_fit;
-    image_fits = sound.image_fits;
-    objects_there = list_all-from (λ (h : Handle). is_object_there z h.object) x.handles (λ h there. object-enlistment h.object (list_all-at (λ (h : Handle). is_object_there x h.object) x.handles sound.objects_there h there));
-    transactions_there = list_all-push (λ (e : Enlistment). has_transaction ts-e e.transaction) es-e e sound.transactions_there (list_any-from (λ (v : Transaction). same_id v.id t.id) ts-e t transaction (same_id-from t.id t.id refl));
-    managers_there = list_all-push (λ (e : Enlistment). has_manager x.managers e.manager) es-e e sound.managers_there (list_any-from (λ (n : Manager). same_id n.id m.id) x.managers m manager (same_id-from m.id m.id refl));
-    superiors_durable = list_all-push (is_superior_durable x.managers) es-e e sound.superiors_durable durable;
-    superiors_differ = each_pair-push are_not_both_superiors es-e e sound.superiors_differ (λ f there. not_from_false _ (false_from_ne_true _ (λ both.
-        let two = and_parts (is_superior f && is_superior e) (same_id f.transaction t.id) both in
-        let one = and_parts (is_superior f) (is_superior e) two.0 in
-        true≢false (sym (superior-found t.id es-e f there (and_from _ _ two.1 one.0)) ∙ alone one.1))));
-    notes_there = list_all-from (λ (n : Manager). list_all (is_note_of (es-e ++ e ∷ []) n.id) n.queue) x.managers (λ n is. list_all-from (is_note_of (es-e ++ e ∷ []) n.id) n.queue (λ note waits. note-enlistment n.id note
-        (list_all-at (is_note_of es-e n.id) n.queue (list_all-at (λ (n : Manager). list_all (is_note_of es-e n.id) n.queue) x.managers sound.notes_there n is) note waits)));
-    outcomes = sound.outcomes;
-    boots = sound.boots;
-    superiors = each-transaction (has_superior_as_asked es-e) (has_superior_as_asked (es-e ++ e ∷ [])) sound.superiors
-        (λ v phase is old. subst (λ p. is_superior_as p (is_some (superior_of (es-e ++ e ∷ []) v.id)) ≡ true) (sym phase) refl)
-        (λ v other old. subst (λ o. is_superior_as v.phase (is_some o) ≡ true) (sym (superior-silent v.id es-e e (and_left _ _ other))) old);
-    enlistments = each-transaction (are_enlistments_as_asked es-e) (are_enlistments_as_asked (es-e ++ e ∷ [])) sound.enlistments
-        (λ v phase is old. asked-new v old (or_right _ _ (subst (λ p. is_enlistment_as p e ≡ true) (sym phase) idle-new)))
-        (λ v other old. asked-new v old (or_left _ _ (not_from_false _ other)));
-    awaited = each-transaction (is_awaited es-e) (is_awaited (es-e ++ e ∷ [])) sound.awaited
-        (λ v phase is old. subst (λ p. is_awaited_as p (es-e ++ e ∷ []) v.id ≡ true) (sym phase) refl)
-        (λ v other old. awaited-new v.phase v.id other ∙ old);
+    numbers = sound.numbers;
+    transactions = sound.transactions;
+    enlistments = record {
+      rise = each_pair-push (λ (e f : Enlistment). is_before e.id f.id) es-e e sound.enlistments.rise (λ f there. counted-before (x.recorded).boots (x.transactions).last_enlistment f.id (counted-enlistment f there));
+      counted = list_all-push (λ (f : Enlistment). is_counted (x.recorded).boots ((x.transactions).last_enlistment + 1) f.id) es-e e
+          (list_all-from (λ (f : Enlistment). is_counted (x.recorded).boots ((x.transactions).last_enlistment + 1) f.id) es-e (λ f there. counted-more (x.recorded).boots (x.transactions).last_enlistment f.id (counted-enlistment f there)))
+          (counted-next (x.recorded).boots (x.transactions).last_enlistment sound.numbers.booted fits);
+      made = list_all-push (is_made_with_it (x.recorded).boots) es-e e sound.enlistments.made (or_right _ _ (eq-eqb (x.recorded).boots (x.recorded).boots refl));
+      transactions_there = list_all-push (λ (e : Enlistment). has_transaction ts-e e.transaction) es-e e sound.enlistments.transactions_there (list_any-from (λ (v : Transaction). same_id v.id t.id) ts-e t transaction (same_id-from t.id t.id refl));
+      managers_there = list_all-push (λ (e : Enlistment). has_manager x.managers e.manager) es-e e sound.enlistments.managers_there (list_any-from (λ (n : Manager). same_id n.id m.id) x.managers m manager (same_id-from m.id m.id refl));
+      superiors_durable = list_all-push (is_superior_durable x.managers) es-e e sound.enlistments.superiors_durable durable;
+      superiors_differ = each_pair-push are_not_both_superiors es-e e sound.enlistments.superiors_differ (λ f there. not_from_false _ (false_from_ne_true _ (λ both.
+          let two = and_parts (is_superior f && is_superior e) (same_id f.transaction t.id) both in
+          let one = and_parts (is_superior f) (is_superior e) two.0 in
+          true≢false (sym (superior-found t.id es-e f there (and_from _ _ two.1 one.0)) ∙ alone one.1))));
+      unrecovered = list_all-push (is_unrecovered_well (x.recorded).boots x.managers) es-e e sound.enlistments.unrecovered refl;
+      information_fits = list_all-push (λ (e : Enlistment). nat_le (length e.information) MOST_INFORMATION_BYTES) es-e e sound.enlistments.information_fits refl;
+    };
+    managers = record {
+      rise = sound.managers.rise;
+      counted = sound.managers.counted;
+      notes_there = list_all-from (λ (n : Manager). list_all (is_note_of (es-e ++ e ∷ []) n.id) n.queue) x.managers (λ n is. list_all-from (is_note_of (es-e ++ e ∷ []) n.id) n.queue (λ note waits. note-enlistment n.id note
+          (list_all-at (is_note_of es-e n.id) n.queue (list_all-at (λ (n : Manager). list_all (is_note_of es-e n.id) n.queue) x.managers sound.managers.notes_there n is) note waits)));
+    };
+    handles = record {
+      labels_differ = sound.handles.labels_differ;
+      objects_there = list_all-from (λ (h : Handle). is_there z h.object) x.handles (λ h there. object-enlistment h.object (list_all-at (λ (h : Handle). is_there x h.object) x.handles sound.handles.objects_there h there));
+    };
+    phases = record {
+      superiors = each-transaction (has_superior_as_asked es-e) (has_superior_as_asked (es-e ++ e ∷ [])) sound.phases.superiors
+          (λ v phase is old. subst (λ p. is_superior_as p (is_some (superior_of (es-e ++ e ∷ []) v.id)) ≡ true) (sym phase) refl)
+          (λ v other old. subst (λ o. is_superior_as v.phase (is_some o) ≡ true) (sym (superior-silent v.id es-e e (and_left _ _ other))) old);
+      enlistments = each-transaction (are_enlistments_as_asked es-e) (are_enlistments_as_asked (es-e ++ e ∷ [])) sound.phases.enlistments
+          (λ v phase is old. asked-new v old (or_right _ _ (subst (λ p. is_enlistment_as p e ≡ true) (sym phase) idle-new)))
+          (λ v other old. asked-new v old (or_left _ _ (not_from_false _ other)));
+      awaited = each-transaction (is_awaited es-e) (is_awaited (es-e ++ e ∷ [])) sound.phases.awaited
+          (λ v phase is old. subst (λ p. is_awaited_as p (es-e ++ e ∷ []) v.id ≡ true) (sym phase) refl)
+          (λ v other old. awaited-new v.phase v.id other ∙ old);
+      recorded = each-transaction (is_recorded_as_asked x.managers es-e) (is_recorded_as_asked x.managers (es-e ++ e ∷ [])) sound.phases.recorded
+          (λ v phase is old. subst (λ p. is_recorded_as p x.managers (es-e ++ e ∷ []) v.id v.is_recorded ≡ true) (sym phase) (subst (λ p. is_recorded_as p x.managers es-e v.id v.is_recorded ≡ true) phase old))
+          (λ v other old. recorded-new v.phase v.id v.is_recorded other ∙ old);
+    };
     alone = sound.alone;
-    recorded = each-transaction (is_recorded_as_asked x.managers es-e) (is_recorded_as_asked x.managers (es-e ++ e ∷ [])) sound.recorded
-        (λ v phase is old. subst (λ p. is_recorded_as p x.managers (es-e ++ e ∷ []) v.id v.is_recorded ≡ true) (sym phase) (subst (λ p. is_recorded_as p x.managers es-e v.id v.is_recorded ≡ true) phase old))
-        (λ v other old. recorded-new v.phase v.id v.is_recorded other ∙ old);
-    unrecovered = list_all-push (is_unrecovered_well (x.recorded).boots x.managers) es-e e sound.unrecovered refl;
-    information_fits = list_all-push (λ (e : Enlistment). nat_le (length e.information) MOST_INFORMATION_BYTES) es-e e sound.information_fits refl;
-    begun = sound.begun;
-    clock_fits = sound.clock_fits;
   }
 
 -- ---- time, and recovery information
 
 pub sound-clock : (x : Present) (ms : ℕ) → IsSoundCourse x → IsSoundCourse (record x { transactions = record x.transactions { clock = later (x.transactions).clock ms } })
 sound-clock x ms sound = record {
-  transactions_rise = sound.transactions_rise;
-  enlistments_rise = sound.enlistments_rise;
-  managers_rise = sound.managers_rise;
-  transactions_counted = sound.transactions_counted;
-  enlistments_counted = sound.enlistments_counted;
-  enlistments_made = sound.enlistments_made;
-  managers_counted = sound.managers_counted;
-  labels_differ = sound.labels_differ;
-  booted = sound.booted;
-  boots_fit = sound.boots_fit;
-  image_fits = sound.image_fits;
-  objects_there = list_all-from (λ (h : Handle). is_object_there (record x { transactions = record x.transactions { clock = later (x.transactions).clock ms } }) h.object) x.handles
-      (λ h there. object h.object (list_all-at (λ (h : Handle). is_object_there x h.object) x.handles sound.objects_there h there));
-  transactions_there = sound.transactions_there;
-  managers_there = sound.managers_there;
-  superiors_durable = sound.superiors_durable;
-  superiors_differ = sound.superiors_differ;
-  notes_there = sound.notes_there;
-  outcomes = sound.outcomes;
-  boots = sound.boots;
-  superiors = sound.superiors;
+  numbers = record {
+    booted = sound.numbers.booted;
+    boots_fit = sound.numbers.boots_fit;
+    image_fits = sound.numbers.image_fits;
+    clock_fits = omega arith;
+  };
+  transactions = record {
+    rise = sound.transactions.rise;
+    counted = sound.transactions.counted;
+    boots = sound.transactions.boots;
+    outcomes = sound.transactions.outcomes;
+    begun = list_all-from (λ (t : Transaction). nat_le t.created (later (x.transactions).clock ms)) (x.transactions).items (λ t there.
+        let began = leb-true _ _ (list_all-at (λ (t : Transaction). nat_le t.created (x.transactions).clock) (x.transactions).items sound.transactions.begun t there) in
+        le-leb t.created (later (x.transactions).clock ms) (let fits = sound.numbers.clock_fits in omega arith));
+  };
   enlistments = sound.enlistments;
-  awaited = sound.awaited;
+  managers = sound.managers;
+  handles = sound.handles;
+  phases = sound.phases;
   alone = sound.alone;
-  recorded = sound.recorded;
-  unrecovered = sound.unrecovered;
-  information_fits = sound.information_fits;
-  begun = list_all-from (λ (t : Transaction). nat_le t.created (later (x.transactions).clock ms)) (x.transactions).items (λ t there.
-      let began = leb-true _ _ (list_all-at (λ (t : Transaction). nat_le t.created (x.transactions).clock) (x.transactions).items sound.begun t there) in
-      le-leb t.created (later (x.transactions).clock ms) (let fits = sound.clock_fits in omega arith));
-  clock_fits = omega arith;
 }
-  where
-    object : (object : Object) → is_object_there x object ≡ true → is_object_there (record x { transactions = record x.transactions { clock = later (x.transactions).clock ms } }) object ≡ true
-    object (TransactionObject id) is = is
-    object (ManagerObject id) is = is
-    object (EnlistmentObject id) is = is
-    object (FileObject number) is = is
 
 -- the enlistment with an Id keeps these bytes
 abbrev pub with_information : Present → Id → List ℕ → Present
@@ -406,7 +394,7 @@ module _ (x : Present) (id : Id) (information : List ℕ) (sound : IsSoundCourse
       let first = same-informed (λ e. same_id e.transaction k && is_superior e) (λ e. refl) f in
       elim (cases_Bool (same_id f.transaction k && is_superior f)) [ inl is ↦ rw (first ∙ is, is) refl | inr other ↦ rw (first ∙ other, other) (same-superior k fs) ]
 
-  object-informed : (object : Object) → is_object_there x object ≡ true → is_object_there (with_information x id information) object ≡ true
+  object-informed : (object : Object) → is_there x object ≡ true → is_there (with_information x id information) object ≡ true
   object-informed (TransactionObject k) is = is
   object-informed (ManagerObject k) is = is
   object-informed (EnlistmentObject k) is = same-any (λ (e : Enlistment). same_id e.id k) (λ e. refl) ∙ is
@@ -450,38 +438,39 @@ module _ (x : Present) (id : Id) (information : List ℕ) (sound : IsSoundCourse
 
   pub sound-with_information : IsSoundCourse (with_information x id information)
   sound-with_information = record {
-    transactions_rise = sound.transactions_rise;
-    enlistments_rise = same-pairs (λ (e f : Enlistment). is_before e.id f.id) (λ e f. refl) (λ e f. refl) ∙ sound.enlistments_rise;
-    managers_rise = sound.managers_rise;
-    transactions_counted = sound.transactions_counted;
-    enlistments_counted = same-all (λ e. is_counted (x.recorded).boots (x.transactions).last_enlistment e.id) (λ e. refl) ∙ sound.enlistments_counted;
-    enlistments_made = same-all (is_made_with_it (x.recorded).boots) (λ e. refl) ∙ sound.enlistments_made;
-    managers_counted = sound.managers_counted;
-    labels_differ = sound.labels_differ;
-    booted = sound.booted;
-    boots_fit = sound.boots_fit;
-    image_fits = sound.image_fits;
-    objects_there = list_all-from (λ (h : Handle). is_object_there (with_information x id information) h.object) x.handles
-        (λ h there. object-informed h.object (list_all-at (λ (h : Handle). is_object_there x h.object) x.handles sound.objects_there h there));
-    transactions_there = same-all (λ e. has_transaction (x.transactions).items e.transaction) (λ e. refl) ∙ sound.transactions_there;
-    managers_there = same-all (λ e. has_manager x.managers e.manager) (λ e. refl) ∙ sound.managers_there;
-    superiors_durable = same-all (is_superior_durable x.managers) (λ e. refl) ∙ sound.superiors_durable;
-    superiors_differ = same-pairs are_not_both_superiors (λ e f. refl) (λ e f. refl) ∙ sound.superiors_differ;
-    notes_there = list_all-from (λ (m : Manager). list_all (is_note_of es-i' m.id) m.queue) x.managers (λ m is. list_all-from (is_note_of es-i' m.id) m.queue (λ note waits. note-informed m.id note
-        (list_all-at (is_note_of es-i m.id) m.queue (list_all-at (λ (m : Manager). list_all (is_note_of es-i m.id) m.queue) x.managers sound.notes_there m is) note waits)));
-    outcomes = sound.outcomes;
-    boots = sound.boots;
-    superiors = each-item (has_superior_as_asked es-i) (has_superior_as_asked es-i') (λ t. ap (is_superior_as t.phase) (same-superior t.id es-i)) sound.superiors;
-    enlistments = each-item (are_enlistments_as_asked es-i) (are_enlistments_as_asked es-i') (λ t. same-all (λ e. not (same_id e.transaction t.id) || is_enlistment_as t.phase e) (λ e. ap (λ b. not (same_id e.transaction t.id) || b) (asked-informed t.phase e))) sound.enlistments;
-    awaited = each-item (is_awaited es-i) (is_awaited es-i') (λ t. awaited-informed t.phase t.id) sound.awaited;
+    numbers = sound.numbers;
+    transactions = sound.transactions;
+    enlistments = record {
+      rise = same-pairs (λ (e f : Enlistment). is_before e.id f.id) (λ e f. refl) (λ e f. refl) ∙ sound.enlistments.rise;
+      counted = same-all (λ e. is_counted (x.recorded).boots (x.transactions).last_enlistment e.id) (λ e. refl) ∙ sound.enlistments.counted;
+      made = same-all (is_made_with_it (x.recorded).boots) (λ e. refl) ∙ sound.enlistments.made;
+      transactions_there = same-all (λ e. has_transaction (x.transactions).items e.transaction) (λ e. refl) ∙ sound.enlistments.transactions_there;
+      managers_there = same-all (λ e. has_manager x.managers e.manager) (λ e. refl) ∙ sound.enlistments.managers_there;
+      superiors_durable = same-all (is_superior_durable x.managers) (λ e. refl) ∙ sound.enlistments.superiors_durable;
+      superiors_differ = same-pairs are_not_both_superiors (λ e f. refl) (λ e f. refl) ∙ sound.enlistments.superiors_differ;
+      unrecovered = same-all (is_unrecovered_well (x.recorded).boots x.managers) (λ e. refl) ∙ sound.enlistments.unrecovered;
+      information_fits = list_all-from (λ (e : Enlistment). nat_le (length e.information) MOST_INFORMATION_BYTES) es-i' (λ e there.
+          let from = IsIn-unmap informed e es-i there in
+          subst (λ (f : Enlistment). nat_le (length f.information) MOST_INFORMATION_BYTES ≡ true) from.1
+          (if_cases (λ (f : Enlistment). nat_le (length f.information) MOST_INFORMATION_BYTES ≡ true) (has_id id from.0) (record from.0 { information = information }) from.0
+          (λ is. le-leb (length information) MOST_INFORMATION_BYTES short) (λ is. list_all-at (λ (e : Enlistment). nat_le (length e.information) MOST_INFORMATION_BYTES) es-i sound.enlistments.information_fits from.0 from.2)));
+    };
+    managers = record {
+      rise = sound.managers.rise;
+      counted = sound.managers.counted;
+      notes_there = list_all-from (λ (m : Manager). list_all (is_note_of es-i' m.id) m.queue) x.managers (λ m is. list_all-from (is_note_of es-i' m.id) m.queue (λ note waits. note-informed m.id note
+          (list_all-at (is_note_of es-i m.id) m.queue (list_all-at (λ (m : Manager). list_all (is_note_of es-i m.id) m.queue) x.managers sound.managers.notes_there m is) note waits)));
+    };
+    handles = record {
+      labels_differ = sound.handles.labels_differ;
+      objects_there = list_all-from (λ (h : Handle). is_there (with_information x id information) h.object) x.handles
+          (λ h there. object-informed h.object (list_all-at (λ (h : Handle). is_there x h.object) x.handles sound.handles.objects_there h there));
+    };
+    phases = record {
+      superiors = each-item (has_superior_as_asked es-i) (has_superior_as_asked es-i') (λ t. ap (is_superior_as t.phase) (same-superior t.id es-i)) sound.phases.superiors;
+      enlistments = each-item (are_enlistments_as_asked es-i) (are_enlistments_as_asked es-i') (λ t. same-all (λ e. not (same_id e.transaction t.id) || is_enlistment_as t.phase e) (λ e. ap (λ b. not (same_id e.transaction t.id) || b) (asked-informed t.phase e))) sound.phases.enlistments;
+      awaited = each-item (is_awaited es-i) (is_awaited es-i') (λ t. awaited-informed t.phase t.id) sound.phases.awaited;
+      recorded = each-item (is_recorded_as_asked x.managers es-i) (is_recorded_as_asked x.managers es-i') (λ t. recorded-informed t.phase t.id t.is_recorded) sound.phases.recorded;
+    };
     alone = sound.alone;
-    recorded = each-item (is_recorded_as_asked x.managers es-i) (is_recorded_as_asked x.managers es-i') (λ t. recorded-informed t.phase t.id t.is_recorded) sound.recorded;
-    unrecovered = same-all (is_unrecovered_well (x.recorded).boots x.managers) (λ e. refl) ∙ sound.unrecovered;
-    information_fits = list_all-from (λ (e : Enlistment). nat_le (length e.information) MOST_INFORMATION_BYTES) es-i' (λ e there.
-        let from = IsIn-unmap informed e es-i there in
-        subst (λ (f : Enlistment). nat_le (length f.information) MOST_INFORMATION_BYTES ≡ true) from.1
-        (if_cases (λ (f : Enlistment). nat_le (length f.information) MOST_INFORMATION_BYTES ≡ true) (has_id id from.0) (record from.0 { information = information }) from.0
-        (λ is. le-leb (length information) MOST_INFORMATION_BYTES short) (λ is. list_all-at (λ (e : Enlistment). nat_le (length e.information) MOST_INFORMATION_BYTES) es-i sound.information_fits from.0 from.2)));
-    begun = sound.begun;
-    clock_fits = sound.clock_fits;
   }

@@ -10,6 +10,7 @@ use Rattle.ktm_base.specs.declared.id.Label.{Label}
 use Rattle.ktm_base.specs.declared.id.Pid.{Pid}
 use Rattle.ktm_base.specs.declared.id.ObjectKind.{ObjectKind}
 use Rattle.ktm_types.specs.declared.event.Event.TheVariants.{MadeRm}
+use Rattle.ktm_types.specs.declared.input.PhaseInput.{PhaseInput}
 use Rattle.ktm_types.specs.declared.object.Handle.{Handle}
 use Rattle.ktm_types.specs.declared.object.Object.{Object}
 use Rattle.ktm_types.specs.declared.object.Object.TheVariants.{Transaction as TransactionObject, Manager as ManagerObject, Enlistment as EnlistmentObject, File as FileObject}
@@ -23,12 +24,12 @@ use Rattle.ktm_world.specs.Handles.{object_at}
 use Rattle.ktm_world.specs.HandleCalls.{is_handle, without_handle, has_handle, closed_file, abort_active, last_handle_gone, handle_gone, close_handle, closed_in_turn, exit, labels_of, bind_to, duplicate_handle, duplicate_handle_tests}
 use Rattle.ktm_world.specs.Labels.{binding, is_bound}
 use Rattle.ktm_world.specs.Outcome.{Outcome, only_reply, apply, and_then}
-use Rattle.ktm_world.specs.Phases.{aborting}
 use Rattle.ktm_world.specs.Present.{Present}
 use Rattle.ktm_world.specs.TransactionCalls.{course_of, guid_in, create_transaction, create_transaction_tests, transaction_with, open_to_transaction, open_transaction, open_transaction_tests, is_durable, create_resource_manager, create_resource_manager_tests, manager_with, open_to_manager, open_resource_manager, open_resource_manager_tests, is_superior_kind, create_enlistment, create_enlistment_tests, enlistment_with, open_to_enlistment, open_enlistment, open_enlistment_tests, aborted_by, is_due, aborted_if_due, aborted_in_turn, with_clock, tick, keep_information, set_information_tests, may_roll_back}
 use Rattle.ktm_world.specs.Transactions.{same_id, transaction_at, is_active}
+use Rattle.ktm_world.specs.Steps.{led}
 use Rattle.txf_laws.specs.Elements.{IsIn}
-use Rattle.ktm_courses.specs.SoundCourse.{IsSoundCourse, is_object_there, have_labels_apart}
+use Rattle.ktm_courses.specs.SoundCourse.{IsSoundCourse, have_labels_apart, is_there}
 use Rattle.txf_laws.proofs.offered.Elements.{IsIn-filter, list_all-at, list_any-from, each_pair-filter, not-not}
 use Rattle.txf_laws.proofs.offered.Tables.{same_id-from}
 use Rattle.ktm_courses.proofs.offered.EnlistmentAnswers.{can_roll_back}
@@ -43,7 +44,7 @@ use Rattle.ktm_courses.proofs.offered.Calls.{Passes, passed, transaction_at-foun
 
 -- ---- labels
 
-pub sound-binding : (x : Present) (process : Pid) (label : Label) (object : Object) (o : Outcome) → IsSoundOutcome x o → is_some (object_at o.handles process label) ≡ false → is_object_there (settled x o) object ≡ true
+pub sound-binding : (x : Present) (process : Pid) (label : Label) (object : Object) (o : Outcome) → IsSoundOutcome x o → is_some (object_at o.handles process label) ≡ false → is_there (settled x o) object ≡ true
     → IsSoundOutcome x (binding process label object o)
 sound-binding x process label object o sound free there = record {
   settled = sound-bound (settled x o) process label object sound.settled free there;
@@ -55,7 +56,7 @@ sound-binding x process label object o sound free there = record {
 }
 
 -- a label is bound to what is there
-sound-bound_only : (x : Present) (process : Pid) (label : Label) (object : Object) (reply : Reply) → IsSoundCourse x → is_bound x process label ≡ false → is_object_there x object ≡ true → IsSoundOutcome x (binding process label object (only_reply x reply))
+sound-bound_only : (x : Present) (process : Pid) (label : Label) (object : Object) (reply : Reply) → IsSoundCourse x → is_bound x process label ≡ false → is_there x object ≡ true → IsSoundOutcome x (binding process label object (only_reply x reply))
 sound-bound_only x process label object reply sound free there = sound-binding x process label object (only_reply x reply) (sound-only_reply x reply sound) free there
 
 -- ---- objects are made
@@ -96,7 +97,7 @@ sound-create_manager x process label durability sound passes =
     let kept = events-kept _ x.recorded events in
     let fits = number-fits (x.transactions).last_manager few.1 in
     let made = sound-with_manager x durable sound fits in
-    let drawn = counted-parts (x.recorded).boots ((x.transactions).last_manager + 1) id (counted-next (x.recorded).boots (x.transactions).last_manager sound.booted fits) in
+    let drawn = counted-parts (x.recorded).boots ((x.transactions).last_manager + 1) id (counted-next (x.recorded).boots (x.transactions).last_manager sound.numbers.booted fits) in
     let named : list_all names_objects (MadeRm id ∷ []) ≡ true = and_from _ _ (and_from _ _ (and_from _ _ (and_from _ _ drawn.0 drawn.2) drawn.3) refl) refl in
     let bound = sound-bound (with_manager x durable) process label (ManagerObject id) made free.0 (list_any-last (λ (m : Manager). same_id m.id id) x.managers _ (same_id-from id id refl)) in
     record {
@@ -176,7 +177,7 @@ sound-duplicate x process label from source sound passes = go (object_at x.handl
     go (Some object) is =
         let h = object_at-found x.handles from source object is in
         sound-bound_only x process label object Done sound (passed (passed (passed passes).1).1).0
-        (subst (λ object. is_object_there x object ≡ true) h.2 (list_all-at (λ (h : Handle). is_object_there x h.object) x.handles sound.objects_there h.0 h.1))
+        (subst (λ object. is_there x object ≡ true) h.2 (list_all-at (λ (h : Handle). is_there x h.object) x.handles sound.handles.objects_there h.0 h.1))
 
 -- ---- recovery information
 
@@ -204,7 +205,7 @@ soundly-reply x reply sound = record { sound = sound-only_reply x reply sound; q
 soundly-abort_active : (x : Present) (o : Option Transaction) → IsSoundCourse x → ((t : Transaction) → o ≡ Some t → IsIn t (x.transactions).items) → IsSoundly x (abort_active x o)
 soundly-abort_active x None sound there = soundly-reply x Done sound
 soundly-abort_active x (Some t) sound there = if_cases (λ o. IsSoundly x o) (is_active t) (aborted_by x t None Done) (only_reply x Done)
-    (λ active. record { sound = sound-aborted_by x sound t (there t refl) None Done (subst (λ phase. can_roll_back phase ≡ true) (sym (active-phase t active)) refl); quiet = quiet-arrived x (aborting (course_of x t None)) Done })
+    (λ active. record { sound = sound-aborted_by x sound t (there t refl) None Done (subst (λ phase. can_roll_back phase ≡ true) (sym (active-phase t active)) refl); quiet = quiet-arrived x (led PhaseInput.Rollback (course_of x t None)) Done })
     (λ other. soundly-reply x Done sound)
 
 soundly-last : (x : Present) (object : Object) → IsSoundCourse x → IsSoundly x (last_handle_gone x object)
@@ -240,8 +241,8 @@ stays-then x a next first second = let rest = second first.sound in record { sou
 pub stays-unbound : (x : Present) (process : Pid) (label : Label) → IsSoundCourse x → StaysSound x (record (only_reply x Done) { handles = without_handle x.handles process label })
 stays-unbound x process label sound = stays-sound x _ (record {
   sound = record {
-    settled = sound-handles x (without_handle x.handles process label) sound (each_pair-filter have_labels_apart (λ h. not (is_handle process label h)) x.handles sound.labels_differ)
-        (λ h there. list_all-at (λ (h : Handle). is_object_there x h.object) x.handles sound.objects_there h (IsIn-filter (λ h. not (is_handle process label h)) x.handles h there).0);
+    settled = sound-handles x (without_handle x.handles process label) sound (each_pair-filter have_labels_apart (λ h. not (is_handle process label h)) x.handles sound.handles.labels_differ)
+        (λ h there. list_all-at (λ (h : Handle). is_there x h.object) x.handles sound.handles.objects_there h (IsIn-filter (λ h. not (is_handle process label h)) x.handles h there).0);
     events = NoBoots-none;
     made = refl;
     outcomes = stay-refl (x.transactions).items;
@@ -273,7 +274,7 @@ sound-exit x process sound = keeps-of x (closed_in_turn x process (labels_of x.h
 pub stays-due : (x : Present) (o : Option Transaction) → IsSoundCourse x → ((t : Transaction) → o ≡ Some t → IsIn t (x.transactions).items) → StaysSound x (aborted_if_due x o)
 stays-due x None sound there = stays-sound x (only_reply x Done) (soundly-reply x Done sound)
 stays-due x (Some t) sound there = if_cases (λ o. StaysSound x o) (is_due (x.transactions).clock t) (aborted_by x t None Done) (only_reply x Done)
-    (λ due. stays-sound x _ (record { sound = sound-aborted_by x sound t (there t refl) None Done (may-roll t (and_parts _ (may_roll_back t) due).1); quiet = quiet-arrived x (aborting (course_of x t None)) Done }))
+    (λ due. stays-sound x _ (record { sound = sound-aborted_by x sound t (there t refl) None Done (may-roll t (and_parts _ (may_roll_back t) due).1); quiet = quiet-arrived x (led PhaseInput.Rollback (course_of x t None)) Done }))
     (λ other. stays-sound x (only_reply x Done) (soundly-reply x Done sound))
 
 pub stays-in_turn : (ts : List Transaction) (x : Present) → IsSoundCourse x → StaysSound x (aborted_in_turn x ts)

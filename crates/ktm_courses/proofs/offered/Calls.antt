@@ -8,6 +8,7 @@ use Rattle.ktm_base.specs.declared.id.Label.{Label}
 use Rattle.ktm_base.specs.declared.id.Pid.{Pid}
 use Rattle.ktm_base.specs.declared.notify.Notify.{Notify}
 use Rattle.ktm_base.specs.declared.refusal.Refusal.{Refusal}
+use Rattle.ktm_types.specs.declared.input.PhaseInput.{PhaseInput}
 use Rattle.ktm_types.specs.declared.object.Phase.{Phase}
 use Rattle.ktm_types.specs.declared.object.Phase.TheVariants.{Active, Requested, PrePrepared, SinglePhase, Held, InDoubt, Committing, Aborting, Ended}
 use Rattle.ktm_types.specs.declared.object.Transaction.{Transaction}
@@ -17,18 +18,22 @@ use Rattle.ktm_world.specs.Enlistments.{Enlistment, Manager, Sent, is_superior, 
 use Rattle.ktm_world.specs.Handles.{object_at, transaction_id}
 use Rattle.ktm_world.specs.Labels.{transaction_named, manager_named, manager_id, enlistment_named, enlistment_id, holds_of, transaction_tests}
 use Rattle.ktm_world.specs.Outcome.{first_refusal}
-use Rattle.ktm_world.specs.Phases.{Course, aborting, committing, to_commit, to_pre_prepare, to_prepare, pre_prepare_answered, prepare_answered, read_only_answered, commit_answered, rollback_answered, single_phase_rejected, recovered, is_single_phase}
+use Rattle.ktm_world.specs.Phases.{Course, is_single_phase}
 use Rattle.ktm_world.specs.Present.{Present}
-use Rattle.ktm_world.specs.TransactionCalls.{course_of, commit_reply, commit_of, aborted_by, rollback_of, may_roll_back, rollback_transaction_tests, transaction_in, phase_passes, is_voting, lets_superior_roll_back, before_pre_prepare, before_prepare, waits_for_superior, may_vote, may_roll_back_by, may_reject_one_phase, may_recover, enlistment_tests, superior_tests, goes_on, answering, is_to_recover, recover_notes, recover_all, take_first}
+use Rattle.ktm_world.specs.TransactionCalls.{course_of, commit_reply, commit_of, aborted_by, rollback_of, may_roll_back, rollback_transaction_tests, transaction_in, phase_passes, is_voting, lets_superior_roll_back, before_pre_prepare, before_prepare, waits_for_superior, may_vote, may_roll_back_by, may_reject_one_phase, may_recover, enlistment_tests, superior_tests, goes_on, answering, is_to_recover, recover_notes, recover_all, take_first, recovery_of}
+use Rattle.ktm_world.specs.Steps.{led, share_of}
 use Rattle.ktm_world.specs.Transactions.{same_id, transaction_at, is_active, is_undecided}
+use Rattle.ktm_steps.specs.Procedures.{committing, pre_prepare_answered, prepare_answered, read_only_answered, single_phase_rejected}
+use Rattle.ktm_steps.proofs.offered.Table.{rows_law}
 use Rattle.txf_laws.specs.Elements.{IsIn}
-use Rattle.ktm_courses.specs.SoundCourse.{IsSoundCourse, is_note_of}
+use Rattle.ktm_courses.specs.SoundCourse.{IsSoundCourse, is_note_of, is_unrecovered_well}
 use Rattle.txf_laws.proofs.offered.Lists.{IsIn-cases, IsIn-unmap}
 use Rattle.txf_laws.proofs.offered.Elements.{IsIn-filter, list_any-from, not-not}
 use Rattle.txf_laws.proofs.offered.Tables.{same_id-equal, same_id-from}
 use Rattle.ktm_courses.proofs.offered.Procedures.{Stands, Arrives, is_backed-from, arrives-committing}
 use Rattle.ktm_courses.proofs.offered.CommitsBegun.{Fresh, arrives-to_prepare, arrives-to_pre_prepare, arrives-to_commit}
 use Rattle.ktm_courses.proofs.offered.EnlistmentAnswers.{stands-in, here-from, fresh-from, can_roll_back, voting-rolls, undecided-rolls, undecided-pre_prepare, undecided-prepare, known-commit_answered, known-rollback_answered, known-recovered, arrives-rolled_back, arrives-pre_prepare_answered, arrives-prepare_answered, arrives-read_only_answered, arrives-single_phase_rejected, arrives-commit_answered, arrives-rollback_answered, arrives-recovered}
+use Rattle.ktm_courses.proofs.offered.Leads.{leads-pre_prepare, leads-prepare, leads-read_only}
 use Rattle.ktm_courses.proofs.offered.Arrivals.{stands-now, brought-now}
 use Rattle.ktm_courses.proofs.offered.Outcomes.{stay-refl, undecided-free}
 use Rattle.ktm_courses.proofs.offered.OutcomesMade.{IsSoundOutcome, sound-only_reply, sound-arrived}
@@ -134,18 +139,24 @@ module _ (x : Present) (sound : IsSoundCourse x) (t : Transaction) (there : IsIn
   commits-waiting InDoubt is waits = let at = stands-in boot c InDoubt is stands in arrives-committing boot c (record { backed = is_backed-from boot t stands.boots; stand = at.stand; recorded = or_left _ _ at.recorded })
   commits-waiting _ is waits = absurd (true≢false (sym waits))
 
+  -- it rolls back
+  pub rolled_back : can_roll_back t.phase ≡ true → Arrives boot c (led PhaseInput.Rollback c)
+  rolled_back can = subst (Arrives boot c) (sym (rows_law.aborts c)) (arrives-rolled_back boot c stands (brought-now x t caller sound) can)
+
   pub sound-aborted_by : (reply : Reply) → can_roll_back t.phase ≡ true → IsSoundOutcome x (aborted_by x t caller reply)
-  sound-aborted_by reply can = sound-arrived x t caller (aborting c) reply sound there (arrives-rolled_back boot c stands (brought-now x t caller sound) can)
-      (undecided-free t (aborting c).transaction (undecided-rolls t can stands.outcome))
+  sound-aborted_by reply can =
+      let goes = rolled_back can in sound-arrived x t caller (led PhaseInput.Rollback c) reply sound there goes (undecided-free t (led PhaseInput.Rollback c).transaction (undecided-rolls t can stands.outcome))
 
 pub sound-commit_of : (x : Present) (o : Option Transaction) → IsSoundCourse x → ((t : Transaction) → o ≡ Some t → IsIn t (x.transactions).items) → Passes (transaction_tests o) → IsSoundOutcome x (commit_of x o)
 sound-commit_of x None sound there tests = sound-only_reply x Done sound
 sound-commit_of x (Some t) sound there tests =
     let here = passed tests in let committed = passed here.1 in let aborted = passed committed.1 in let active = passed aborted.1 in
     let is = active-phase t (not-not _ active.0) in
-    sound-arrived x t None (to_commit (course_of x t None)) (commit_reply (to_commit (course_of x t None))) sound (there t refl)
-    (arrives-to_commit (x.recorded).boots (course_of x t None) (fresh-active x sound t (there t refl) None is))
-    (undecided-free t (to_commit (course_of x t None)).transaction ((fresh-active x sound t (there t refl) None is).undecided))
+    let c = course_of x t None in
+    let fresh = fresh-active x sound t (there t refl) None is in
+    sound-arrived x t None (led PhaseInput.CommitTransaction c) (commit_reply (led PhaseInput.CommitTransaction c)) sound (there t refl)
+    (arrives-to_commit (x.recorded).boots c fresh)
+    (undecided-free t (led PhaseInput.CommitTransaction c).transaction fresh.undecided)
 
 pub sound-rollback_of : (x : Present) (o : Option Transaction) → IsSoundCourse x → ((t : Transaction) → o ≡ Some t → IsIn t (x.transactions).items) → Passes (rollback_transaction_tests o) → IsSoundOutcome x (rollback_of x o)
 sound-rollback_of x None sound there tests = sound-only_reply x Done sound
@@ -164,20 +175,20 @@ pub record Goes (boot : ℕ) (c d : Course) : Type 0 where
 goes-undecided : (n : ℕ) (a b : Course) → Arrives n a b → is_undecided a.transaction ≡ true → Goes n a b
 goes-undecided n a b arrives is = record { arrives = arrives; known = undecided-free a.transaction b.transaction is }
 
--- a transaction goes on by what an enlistment answers
-abbrev pub Answers : Present → (Course → Enlistment → Course) → Enlistment → Type 0
-Answers x step e = (t : Transaction) (caller : Option Enlistment) → IsIn t (x.transactions).items → same_id e.transaction t.id ≡ true → transaction_in x e ≡ Some t → Goes (x.recorded).boots (course_of x t caller) (step (course_of x t caller) e)
+-- a transaction goes on by what comes from an enlistment
+abbrev pub Answers : Present → PhaseInput → Enlistment → Type 0
+Answers x input e = (t : Transaction) → IsIn t (x.transactions).items → same_id e.transaction t.id ≡ true → transaction_in x e ≡ Some t → Goes (x.recorded).boots (course_of x t (Some e)) (led input (course_of x t (Some e)))
 
-sound-goes_on : (x : Present) (e : Enlistment) (o : Option Transaction) (step : Course → Enlistment → Course) → IsSoundCourse x → transaction_in x e ≡ o → Answers x step e → IsSoundOutcome x (goes_on x e o step)
-sound-goes_on x e None step sound is answers = sound-only_reply x Done sound
-sound-goes_on x e (Some t) step sound is answers =
+sound-goes_on : (x : Present) (e : Enlistment) (o : Option Transaction) (input : PhaseInput) → IsSoundCourse x → transaction_in x e ≡ o → Answers x input e → IsSoundOutcome x (goes_on x e o input)
+sound-goes_on x e None input sound is answers = sound-only_reply x Done sound
+sound-goes_on x e (Some t) input sound is answers =
     let found = transaction_at-found (x.transactions).items e.transaction t is in
-    let goes = answers t (Some e) found.0 (same_id-from e.transaction t.id (sym found.1)) is in
-    sound-arrived x t (Some e) (step (course_of x t (Some e)) e) Done sound found.0 (goes.arrives) (goes.known)
+    let goes = answers t found.0 (same_id-from e.transaction t.id (sym found.1)) is in
+    sound-arrived x t (Some e) (led input (course_of x t (Some e))) Done sound found.0 (goes.arrives) (goes.known)
 
-pub sound-answering : (x : Present) (o : Option Enlistment) (step : Course → Enlistment → Course) → IsSoundCourse x → ((e : Enlistment) → o ≡ Some e → Answers x step e) → IsSoundOutcome x (answering x o step)
-sound-answering x None step sound answers = sound-only_reply x Done sound
-sound-answering x (Some e) step sound answers = sound-goes_on x e (transaction_in x e) step sound refl (answers e refl)
+pub sound-answering : (x : Present) (o : Option Enlistment) (input : Enlistment → PhaseInput) → IsSoundCourse x → ((e : Enlistment) → o ≡ Some e → Answers x (input e) e) → IsSoundOutcome x (answering x o input)
+sound-answering x None input sound answers = sound-only_reply x Done sound
+sound-answering x (Some e) input sound answers = sound-goes_on x e (transaction_in x e) (input e) sound refl (answers e refl)
 
 pub enlistment-allowed : (o : Option Enlistment) (allowed : Enlistment → Bool) (e : Enlistment) → o ≡ Some e → Passes (enlistment_tests o allowed) → allowed e ≡ true
 enlistment-allowed o allowed e is tests =
@@ -193,58 +204,80 @@ superior-allowed x o allowed e is tests =
 pub phase-passed : (x : Present) (test : Phase → Bool) (e : Enlistment) (t : Transaction) → transaction_in x e ≡ Some t → phase_passes x test e ≡ true → test t.phase ≡ true
 phase-passed x test e t is passes = subst (λ (o : Option Transaction). holds_of (λ t. test t.phase) o ≡ true) is passes
 
+module _ (x : Present) (sound : IsSoundCourse x) (e : Enlistment) (in_es : IsIn e (x.transactions).enlistments) (t : Transaction) (there : IsIn t (x.transactions).items) (own : same_id e.transaction t.id ≡ true) where
+  abbrev n : ℕ
+  n = (x.recorded).boots
+
+  abbrev c_by : Course
+  c_by = course_of x t (Some e)
+
+  stands_by : Stands n c_by
+  stands_by = stands-now x t (Some e) sound there
+
+  brought : (f : Enlistment) → IsIn f c_by.enlistments → is_unrecovered_well n c_by.managers f ≡ true
+  brought = brought-now x t (Some e) sound
+
+  -- where a row leads, as its procedure says, while the outcome is not known
+  goes : (d f : Course) → d ≡ f → Arrives n c_by f → can_roll_back t.phase ≡ true → Goes n c_by d
+  goes d f is arrives can = subst (Goes n c_by) (sym is) (goes-undecided n c_by f arrives (undecided-rolls t can stands_by.outcome))
+
+  pre_prepares : owes_pre_prepare e ≡ true → Goes n c_by (led PhaseInput.PrePrepareComplete c_by)
+  pre_prepares owes = subst (Goes n c_by) (sym (leads-pre_prepare x sound t there e in_es own owes))
+      (goes-undecided n c_by (pre_prepare_answered c_by e) (arrives-pre_prepare_answered n c_by stands_by brought sound.enlistments.rise e in_es own owes) (undecided-pre_prepare n c_by stands_by brought sound.enlistments.rise e in_es own owes))
+
+  prepares : owes_prepare e ≡ true → Goes n c_by (led PhaseInput.PrepareComplete c_by)
+  prepares owes = subst (Goes n c_by) (sym (leads-prepare x sound t there e in_es own owes))
+      (goes-undecided n c_by (prepare_answered c_by e) (arrives-prepare_answered n c_by stands_by brought sound.enlistments.rise e in_es own owes) (undecided-prepare n c_by stands_by brought sound.enlistments.rise e in_es own owes))
+
+  reads_only : is_superior e ≡ false → is_open_for_votes e ≡ true → is_voting t.phase ≡ true → Goes n c_by (led (PhaseInput.ReadOnly (share_of e)) c_by)
+  reads_only ordinary votes voting = goes _ (read_only_answered c_by e) (leads-read_only x sound t there e in_es own ordinary (not-true _ (and_parts (not e.is_read_only) (not e.is_prepared) votes).0))
+      (arrives-read_only_answered n c_by stands_by brought sound.enlistments.rise e in_es own ordinary votes voting) (voting-rolls t.phase voting)
+
+  commits : owes_commit e ≡ true → Goes n c_by (led PhaseInput.CommitComplete c_by)
+  commits owes = subst (Goes n c_by) (sym (rows_law.commit_completes c_by e refl)) (record {
+    arrives = arrives-commit_answered n c_by stands_by brought sound.enlistments.rise e in_es own owes;
+    known = known-commit_answered n c_by stands_by brought sound.enlistments.rise e in_es own owes;
+  })
+
+  rolls_back : owes_rollback e ≡ true → Goes n c_by (led PhaseInput.RollbackComplete c_by)
+  rolls_back owes = subst (Goes n c_by) (sym (rows_law.rollback_completes c_by e refl)) (record {
+    arrives = arrives-rollback_answered n c_by stands_by brought sound.enlistments.rise e in_es own owes;
+    known = λ is_known. known-rollback_answered n c_by stands_by brought sound.enlistments.rise e in_es own owes;
+  })
+
+  rejects : t.phase ≡ SinglePhase → owes_commit e ≡ true → Goes n c_by (led PhaseInput.SinglePhaseReject c_by)
+  rejects single owes = goes _ (single_phase_rejected c_by e) (rows_law.rejects_one_phase c_by e refl)
+      (arrives-single_phase_rejected n c_by stands_by brought sound.enlistments.rise e in_es own single owes) (subst (λ p. can_roll_back p ≡ true) (sym single) refl)
+
+  recovers : e.is_recovered ≡ false → Goes n c_by (led (recovery_of e) c_by)
+  recovers back = subst (Goes n c_by) (sym (rows_law.recovers c_by e refl)) (record {
+    arrives = arrives-recovered n c_by stands_by brought sound.enlistments.rise e in_es own back;
+    known = λ is_known. known-recovered n c_by stands_by brought sound.enlistments.rise e in_es own;
+  })
+
 module _ (x : Present) (sound : IsSoundCourse x) (o : Option Enlistment) (there : (e : Enlistment) → o ≡ Some e → IsIn e (x.transactions).enlistments) where
-  -- a call that is made while the outcome is not known, as the phase tells
-  goes : (t : Transaction) (caller : Option Enlistment) → IsIn t (x.transactions).items → (d : Course) → Arrives (x.recorded).boots (course_of x t caller) d → can_roll_back t.phase ≡ true → Goes (x.recorded).boots (course_of x t caller) d
-  goes t caller at d arrives can = goes-undecided (x.recorded).boots (course_of x t caller) d arrives (undecided-rolls t can (stands-now x t caller sound at).outcome)
+  pub sound-pre_prepare_complete : Passes (enlistment_tests o owes_pre_prepare) → IsSoundOutcome x (answering x o (λ e. PhaseInput.PrePrepareComplete))
+  sound-pre_prepare_complete tests = sound-answering x o (λ e. PhaseInput.PrePrepareComplete) sound (λ e is t at own found. pre_prepares x sound e (there e is) t at own (enlistment-allowed o owes_pre_prepare e is tests))
 
-  pub sound-pre_prepare_complete : Passes (enlistment_tests o owes_pre_prepare) → IsSoundOutcome x (answering x o pre_prepare_answered)
-  sound-pre_prepare_complete tests = sound-answering x o pre_prepare_answered sound (λ e is t caller at own found.
-      let owes = enlistment-allowed o owes_pre_prepare e is tests in
-      goes-undecided (x.recorded).boots (course_of x t caller) (pre_prepare_answered (course_of x t caller) e)
-      (arrives-pre_prepare_answered (x.recorded).boots (course_of x t caller) (stands-now x t caller sound at) (brought-now x t caller sound) sound.enlistments_rise e (there e is) own owes)
-      (undecided-pre_prepare (x.recorded).boots (course_of x t caller) (stands-now x t caller sound at) (brought-now x t caller sound) sound.enlistments_rise e (there e is) own owes))
+  pub sound-prepare_complete : Passes (enlistment_tests o owes_prepare) → IsSoundOutcome x (answering x o (λ e. PhaseInput.PrepareComplete))
+  sound-prepare_complete tests = sound-answering x o (λ e. PhaseInput.PrepareComplete) sound (λ e is t at own found. prepares x sound e (there e is) t at own (enlistment-allowed o owes_prepare e is tests))
 
-  pub sound-prepare_complete : Passes (enlistment_tests o owes_prepare) → IsSoundOutcome x (answering x o prepare_answered)
-  sound-prepare_complete tests = sound-answering x o prepare_answered sound (λ e is t caller at own found.
-      let owes = enlistment-allowed o owes_prepare e is tests in
-      goes-undecided (x.recorded).boots (course_of x t caller) (prepare_answered (course_of x t caller) e)
-      (arrives-prepare_answered (x.recorded).boots (course_of x t caller) (stands-now x t caller sound at) (brought-now x t caller sound) sound.enlistments_rise e (there e is) own owes)
-      (undecided-prepare (x.recorded).boots (course_of x t caller) (stands-now x t caller sound at) (brought-now x t caller sound) sound.enlistments_rise e (there e is) own owes))
-
-  pub sound-read_only : Passes (enlistment_tests o (may_vote x)) → IsSoundOutcome x (answering x o read_only_answered)
-  sound-read_only tests = sound-answering x o read_only_answered sound (λ e is t caller at own found.
-      let may = enlistment-allowed o (may_vote x) e is tests in
-      let phase = and_parts (not (is_superior e) && is_open_for_votes e) (phase_passes x is_voting e) may in
+  pub sound-read_only : Passes (enlistment_tests o (may_vote x)) → IsSoundOutcome x (answering x o (λ e. PhaseInput.ReadOnly (share_of e)))
+  sound-read_only tests = sound-answering x o (λ e. PhaseInput.ReadOnly (share_of e)) sound (λ e is t at own found.
+      let phase = and_parts (not (is_superior e) && is_open_for_votes e) (phase_passes x is_voting e) (enlistment-allowed o (may_vote x) e is tests) in
       let both = and_parts (not (is_superior e)) (is_open_for_votes e) phase.0 in
-      let voting = phase-passed x is_voting e t found phase.1 in
-      goes t caller at (read_only_answered (course_of x t caller) e)
-      (arrives-read_only_answered (x.recorded).boots (course_of x t caller) (stands-now x t caller sound at) (brought-now x t caller sound) sound.enlistments_rise e (there e is) own (not-true _ both.0) both.1 voting)
-      (voting-rolls t.phase voting))
+      reads_only x sound e (there e is) t at own (not-true _ both.0) both.1 (phase-passed x is_voting e t found phase.1))
 
-  pub sound-commit_complete : Passes (enlistment_tests o owes_commit) → IsSoundOutcome x (answering x o commit_answered)
-  sound-commit_complete tests = sound-answering x o commit_answered sound (λ e is t caller at own found.
-      let owes = enlistment-allowed o owes_commit e is tests in
-      record {
-        arrives = arrives-commit_answered (x.recorded).boots (course_of x t caller) (stands-now x t caller sound at) (brought-now x t caller sound) sound.enlistments_rise e (there e is) own owes;
-        known = known-commit_answered (x.recorded).boots (course_of x t caller) (stands-now x t caller sound at) (brought-now x t caller sound) sound.enlistments_rise e (there e is) own owes;
-      })
+  pub sound-commit_complete : Passes (enlistment_tests o owes_commit) → IsSoundOutcome x (answering x o (λ e. PhaseInput.CommitComplete))
+  sound-commit_complete tests = sound-answering x o (λ e. PhaseInput.CommitComplete) sound (λ e is t at own found. commits x sound e (there e is) t at own (enlistment-allowed o owes_commit e is tests))
 
-  pub sound-rollback_complete : Passes (enlistment_tests o owes_rollback) → IsSoundOutcome x (answering x o rollback_answered)
-  sound-rollback_complete tests = sound-answering x o rollback_answered sound (λ e is t caller at own found.
-      let owes = enlistment-allowed o owes_rollback e is tests in
-      record {
-        arrives = arrives-rollback_answered (x.recorded).boots (course_of x t caller) (stands-now x t caller sound at) (brought-now x t caller sound) sound.enlistments_rise e (there e is) own owes;
-        known = λ is_known. known-rollback_answered (x.recorded).boots (course_of x t caller) (stands-now x t caller sound at) (brought-now x t caller sound) sound.enlistments_rise e (there e is) own owes;
-      })
+  pub sound-rollback_complete : Passes (enlistment_tests o owes_rollback) → IsSoundOutcome x (answering x o (λ e. PhaseInput.RollbackComplete))
+  sound-rollback_complete tests = sound-answering x o (λ e. PhaseInput.RollbackComplete) sound (λ e is t at own found. rolls_back x sound e (there e is) t at own (enlistment-allowed o owes_rollback e is tests))
 
-  pub sound-single_phase_reject : Passes (enlistment_tests o (may_reject_one_phase x)) → IsSoundOutcome x (answering x o single_phase_rejected)
-  sound-single_phase_reject tests = sound-answering x o single_phase_rejected sound (λ e is t caller at own found.
+  pub sound-single_phase_reject : Passes (enlistment_tests o (may_reject_one_phase x)) → IsSoundOutcome x (answering x o (λ e. PhaseInput.SinglePhaseReject))
+  sound-single_phase_reject tests = sound-answering x o (λ e. PhaseInput.SinglePhaseReject) sound (λ e is t at own found.
       let both = and_parts (phase_passes x is_single_phase e) (owes_commit e) (enlistment-allowed o (may_reject_one_phase x) e is tests) in
-      let single = single-phase t.phase (phase-passed x is_single_phase e t found both.0) in
-      goes t caller at (single_phase_rejected (course_of x t caller) e)
-      (arrives-single_phase_rejected (x.recorded).boots (course_of x t caller) (stands-now x t caller sound at) (brought-now x t caller sound) sound.enlistments_rise e (there e is) own single both.1)
-      (subst (λ p. can_roll_back p ≡ true) (sym single) refl))
+      rejects x sound e (there e is) t at own (single-phase t.phase (phase-passed x is_single_phase e t found both.0)) both.1)
 
   -- an enlistment that may roll its transaction back does so in a phase in which that is possible
   pub rolls : (e : Enlistment) (t : Transaction) → transaction_in x e ≡ Some t → may_roll_back_by x e ≡ true → can_roll_back t.phase ≡ true
@@ -253,25 +286,28 @@ module _ (x : Present) (sound : IsSoundCourse x) (o : Option Enlistment) (there 
     | inr below ↦ voting-rolls t.phase (phase-passed x is_voting e t found (and_parts (not (is_superior e) && is_open_for_votes e) (phase_passes x is_voting e) below.1).1)
   ]
 
-  pub sound-rollback_enlistment : Passes (enlistment_tests o (may_roll_back_by x)) → IsSoundOutcome x (answering x o (λ c e. aborting c))
-  sound-rollback_enlistment tests = sound-answering x o (λ c e. aborting c) sound (λ e is t caller at own found.
+  pub sound-rollback_enlistment : Passes (enlistment_tests o (may_roll_back_by x)) → IsSoundOutcome x (answering x o (λ e. PhaseInput.Rollback))
+  sound-rollback_enlistment tests = sound-answering x o (λ e. PhaseInput.Rollback) sound (λ e is t at own found.
       let can = rolls e t found (enlistment-allowed o (may_roll_back_by x) e is tests) in
-      goes t caller at (aborting (course_of x t caller)) (arrives-rolled_back (x.recorded).boots (course_of x t caller) (stands-now x t caller sound at) (brought-now x t caller sound) can) can)
+      goes x sound e (there e is) t at own _ (led PhaseInput.Rollback (course_of x t (Some e))) refl (rolled_back x sound t at (Some e) can) can)
 
-  pub sound-pre_prepare_enlistment : Passes (superior_tests x o before_pre_prepare) → IsSoundOutcome x (answering x o (λ c e. to_pre_prepare c))
-  sound-pre_prepare_enlistment tests = sound-answering x o (λ c e. to_pre_prepare c) sound (λ e is t caller at own found.
-      let fresh = fresh-before_pre_prepare x sound t at caller t.phase refl (phase-passed x before_pre_prepare e t found (superior-allowed x o before_pre_prepare e is tests)) in
-      goes-undecided (x.recorded).boots (course_of x t caller) (to_pre_prepare (course_of x t caller)) (arrives-to_pre_prepare (x.recorded).boots (course_of x t caller) fresh) fresh.undecided)
+  pub sound-pre_prepare_enlistment : Passes (superior_tests x o before_pre_prepare) → IsSoundOutcome x (answering x o (λ e. PhaseInput.PrePrepare))
+  sound-pre_prepare_enlistment tests = sound-answering x o (λ e. PhaseInput.PrePrepare) sound (λ e is t at own found.
+      let c = course_of x t (Some e) in
+      let fresh = fresh-before_pre_prepare x sound t at (Some e) t.phase refl (phase-passed x before_pre_prepare e t found (superior-allowed x o before_pre_prepare e is tests)) in
+      goes-undecided (x.recorded).boots c (led PhaseInput.PrePrepare c) (arrives-to_pre_prepare (x.recorded).boots c fresh) fresh.undecided)
 
-  pub sound-prepare_enlistment : Passes (superior_tests x o before_prepare) → IsSoundOutcome x (answering x o (λ c e. to_prepare c))
-  sound-prepare_enlistment tests = sound-answering x o (λ c e. to_prepare c) sound (λ e is t caller at own found.
-      let fresh = fresh-before_prepare x sound t at caller t.phase refl (phase-passed x before_prepare e t found (superior-allowed x o before_prepare e is tests)) in
-      goes-undecided (x.recorded).boots (course_of x t caller) (to_prepare (course_of x t caller)) (arrives-to_prepare (x.recorded).boots (course_of x t caller) fresh) fresh.undecided)
+  pub sound-prepare_enlistment : Passes (superior_tests x o before_prepare) → IsSoundOutcome x (answering x o (λ e. PhaseInput.Prepare))
+  sound-prepare_enlistment tests = sound-answering x o (λ e. PhaseInput.Prepare) sound (λ e is t at own found.
+      let c = course_of x t (Some e) in
+      let fresh = fresh-before_prepare x sound t at (Some e) t.phase refl (phase-passed x before_prepare e t found (superior-allowed x o before_prepare e is tests)) in
+      goes-undecided (x.recorded).boots c (led PhaseInput.Prepare c) (arrives-to_prepare (x.recorded).boots c fresh) fresh.undecided)
 
-  pub sound-commit_enlistment : Passes (superior_tests x o waits_for_superior) → IsSoundOutcome x (answering x o (λ c e. committing c))
-  sound-commit_enlistment tests = sound-answering x o (λ c e. committing c) sound (λ e is t caller at own found.
+  pub sound-commit_enlistment : Passes (superior_tests x o waits_for_superior) → IsSoundOutcome x (answering x o (λ e. PhaseInput.Commit))
+  sound-commit_enlistment tests = sound-answering x o (λ e. PhaseInput.Commit) sound (λ e is t at own found.
+      let c = course_of x t (Some e) in
       let waits = phase-passed x waits_for_superior e t found (superior-allowed x o waits_for_superior e is tests) in
-      goes t caller at (committing (course_of x t caller)) (commits-waiting x sound t at caller t.phase refl waits) (waiting-rolls t.phase waits))
+      goes x sound e (there e is) t at own _ (committing c) (rows_law.commits c) (commits-waiting x sound t at (Some e) t.phase refl waits) (waiting-rolls t.phase waits))
     where
       waiting-rolls : (phase : Phase) → waits_for_superior phase ≡ true → can_roll_back phase ≡ true
       waiting-rolls Committing is = is
@@ -279,12 +315,8 @@ module _ (x : Present) (sound : IsSoundCourse x) (o : Option Enlistment) (there 
       waiting-rolls Ended is = is
       waiting-rolls _ is = refl
 
-  pub sound-recover_enlistment : Passes (enlistment_tests o (may_recover x)) → IsSoundOutcome x (answering x o recovered)
-  sound-recover_enlistment tests = sound-answering x o recovered sound (λ e is t caller at own found. record {
-    arrives = arrives-recovered (x.recorded).boots (course_of x t caller) (stands-now x t caller sound at) (brought-now x t caller sound) sound.enlistments_rise e (there e is) own
-        (not-true _ (and_parts (not e.is_recovered) _ (enlistment-allowed o (may_recover x) e is tests)).0);
-    known = λ is_known. known-recovered (x.recorded).boots (course_of x t caller) (stands-now x t caller sound at) (brought-now x t caller sound) sound.enlistments_rise e (there e is) own;
-  })
+  pub sound-recover_enlistment : Passes (enlistment_tests o (may_recover x)) → IsSoundOutcome x (answering x o recovery_of)
+  sound-recover_enlistment tests = sound-answering x o recovery_of sound (λ e is t at own found. recovers x sound e (there e is) t at own (not-true _ (and_parts (not e.is_recovered) _ (enlistment-allowed o (may_recover x) e is tests)).0))
 
 -- ---- queues
 

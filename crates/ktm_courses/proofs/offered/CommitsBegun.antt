@@ -1,26 +1,30 @@
 -- How a commit begins: what a transaction comes to, of which nobody is prepared yet, is sound again.
-use Rattle.std.proofs.Common.{◌≡◌, ℕ, ◌&&◌, not, Bool, true, false, List, [], ◌∷◌, ◌++◌, length, zero, suc, count_by, nat_lt, is_some, refl, sym, ◌∙◌, ap, subst, arith, inl, inr, ◌⊎◌}
+use Rattle.std.proofs.Common.{◌≡◌, ℕ, ◌&&◌, not, Bool, true, false, List, [], ◌∷◌, ◌++◌, length, count_by, nat_lt, is_some, refl, sym, ◌∙◌, ap, subst, arith, inl, inr, ◌⊎◌}
 use Rattle.std.proofs.lemmas.Bool.{cases_Bool, and_parts, and_from, or_left, eq-eqb, not-true, not_from_false, true≢false}
 use Rattle.std.proofs.lemmas.List.Sums.{length-filter}
 use Rattle.ktm_base.specs.declared.notify.Notify.{Notify}
 use Rattle.ktm_types.specs.declared.event.Event.{Event}
 use Rattle.ktm_types.specs.declared.event.Part.{Part}
+use Rattle.ktm_types.specs.declared.input.PhaseInput.{PhaseInput}
 use Rattle.ktm_types.specs.declared.object.Phase.{Phase}
 use Rattle.ktm_types.specs.declared.object.Phase.TheVariants.{Requested, PrePreparing, PrePrepared, Preparing, SinglePhase, Ended}
 use Rattle.ktm_types.specs.declared.object.TransactionOutcome.TheVariants.{Committed}
 use Rattle.ktm_types.specs.declared.step.Owed.{Owed}
 use Rattle.ktm_world.specs.Enlistments.{Enlistment, asks_pre_prepare, allows_one_phase, takes_part, is_durable_at, superior_of}
-use Rattle.ktm_world.specs.Phases.{Course, in_phase, recording, telling, owing, unchanged, superior, is_its_superior, some_enlistment, has_settings, one_if, taking_part, participants, work_of, all_ready, preparing, single, one_phase, one_participant, prepare_alone, to_prepare, pre_prepared, to_pre_prepare, to_commit, is_single_phase}
+use Rattle.ktm_world.specs.Phases.{Course, ended, in_phase, recording, telling, owing, unchanged, superior, is_its_superior, has_settings, one_if, work_of, is_single_phase}
 use Rattle.ktm_world.specs.Transactions.{is_undecided}
 use Rattle.ktm_world.specs.Changes.{has_changes}
+use Rattle.ktm_world.specs.Steps.{led, run}
+use Rattle.ktm_steps.proofs.offered.Table.{all_readies-run}
+use Rattle.ktm_steps.proofs.offered.Ways.{Ways, commit-by, pre_prepare-by, prepare-by, proceed-by}
+use Rattle.ktm_steps.specs.Procedures.{some_enlistment, taking_part, pre_prepared}
 use Rattle.txf_laws.specs.Elements.{IsIn}
 use Rattle.ktm_courses.specs.SoundCourse.{is_last_recover, is_unrecovered_well, is_outcome_of, is_of_its_boot, is_superior_as, is_idle, is_waiting, is_part_as, is_awaited, has_durable_part, is_recorded_as_asked}
 use Rattle.txf_laws.proofs.offered.Diamonds.{none-from}
-use Rattle.txf_laws.proofs.offered.Lists.{IsIn-unmap}
 use Rattle.txf_laws.proofs.offered.Elements.{list_any-at, list_any-from}
 use Rattle.ktm_states.specs.Grammatical.{ids_in}
 use Rattle.ktm_courses.proofs.offered.Moves.{if_cases, IsIn-map, IsSame, IsSame-refl, Moved, Moved-then, moved-transaction, moved-recording, moved-telling, Changes, changes-none, stepped, with-unchanged, Stand, Stand-with, AreOwn-one, knows-own}
-use Rattle.ktm_courses.proofs.offered.Procedures.{none-at, filter-with, superior-with, idle-parts, part-parts, unprepared-recovered, Arrives, arrives-then, its-own, arrives-ended, alike-owing, no-parts, Stand-nobody, only-one, arrives-all_ready}
+use Rattle.ktm_courses.proofs.offered.Procedures.{none-at, filter-with, superior-with, idle-parts, part-parts, unprepared-recovered, Arrives, arrives-then, its-own, arrives-ended, alike-owing, no-parts, Stand-nobody, only-one, arrives-all_ready, AllReady}
 
 -- nothing of the transaction is prepared, and the outcome is not known
 pub record Fresh (boot : ℕ) (c : Course) : Type 0 where
@@ -96,53 +100,37 @@ module _ (boot : ℕ) (c : Course) (fresh : Fresh boot c) where
   asked-stand = Stand-with c.enlistments (c.transaction).id is_idle (is_part_as Preparing) take_part (owing Owed.Prepare) fresh.stand (λ e there is. is) (alike-owing Owed.Prepare)
       (λ e there part idle is. rw ((idle-parts e idle).1, (idle-parts e idle).2) refl) (λ e there part idle silent. absurd (true≢false (sym part ∙ silent)))
 
-  pub arrives-preparing : Arrives boot c (preparing c)
-  arrives-preparing = if_cases (λ d. Arrives boot c d) (some_enlistment c (λ e. true)) c_asked (all_ready c_asked)
-      (λ some. record {
-        moved = asked-moved;
-        stands = record {
-          outcome = fresh.undecided;
-          boots = rw fresh.here refl;
-          superior = refl;
-          stand = asked-stand;
-          awaited =
-              let one = list_any-at _ c.enlistments some in
-              let part = (and_parts (takes_part (c.transaction).id one.0) true one.2).0 in
-              list_any-from _ c_asked.enlistments (stepped take_part (owing Owed.Prepare) one.0) (IsIn-map (stepped take_part (owing Owed.Prepare)) one.0 c.enlistments one.1)
-              (rw part (rw part refl));
-          alone = refl;
-          recorded = rw asked-none (not_from_false _ fresh.unrecorded);
-        };
-      })
-      (λ none. arrives-then boot asked-moved (arrives-all_ready boot c_asked (record {
-        here = fresh.here;
-        undecided = fresh.undecided;
-        stand = Stand-nobody c_asked.enlistments (c.transaction).id (is_part_as Preparing) is_waiting asked-stand (λ e there part. nobody none e there part);
-        recorded = λ some. absurd (true≢false (sym some ∙ asked-none));
-      })))
-    where
-      nobody : some_enlistment c (λ e. true) ≡ false → (e : Enlistment) → IsIn e c_asked.enlistments → takes_part (c.transaction).id e ≡ true → ⊥
-      nobody none e there part =
-          let from = IsIn-unmap (stepped take_part (owing Owed.Prepare)) e c.enlistments there in
-          let part' : takes_part (c.transaction).id from.0 ≡ true =
-          sym (if_cases (λ x. takes_part (c.transaction).id x ≡ takes_part (c.transaction).id from.0) (take_part from.0) (owing Owed.Prepare from.0) from.0 (λ is. refl) (λ is. refl))
-          ∙ ap (takes_part (c.transaction).id) from.1 ∙ part in
-          true≢false (sym (and_from _ _ part' refl) ∙ none-at _ c.enlistments none from.0 from.2)
+  -- nobody takes part
+  nobody : some_enlistment c (λ e. true) ≡ false → (e : Enlistment) → IsIn e c.enlistments → takes_part (c.transaction).id e ≡ true → ⊥
+  nobody none e there part = true≢false (sym (and_from _ _ part refl) ∙ none-at _ c.enlistments none e there)
+
+  all-ready : some_enlistment c (λ e. true) ≡ false → AllReady boot c
+  all-ready none = record {
+    here = fresh.here;
+    undecided = fresh.undecided;
+    stand = Stand-nobody c.enlistments (c.transaction).id is_idle is_waiting fresh.stand (nobody none);
+    recorded = λ some. let one = list_any-at _ c.enlistments some in absurd (nobody none one.0 one.1 (and_parts (takes_part (c.transaction).id one.0) _ one.2).0);
+  }
 
   -- ---- one participant alone
 
-  arrives-single : (part : Part) → ids_in part ≡ [] → length (taking_part c) ≡ 0 → Arrives boot c (single c part)
-  arrives-single part nobody none =
+  arrives-single : (part : Part) → ids_in part ≡ [] → length (taking_part c) ≡ 0 → Arrives boot c (ended (record (recording c (Event.Single (c.transaction).id part ∷ [])) { works = c.works ++ work_of c }) Committed)
+  arrives-single part none_in none =
       let d = record (recording c (Event.Single (c.transaction).id part ∷ [])) { works = c.works ++ work_of c } in
-      arrives-then boot (moved-recording c _ (c.works ++ work_of c) (AreOwn-one c (Event.Single (c.transaction).id part) refl (λ id is. knows-own c id (subst (λ ids. IsIn id ((c.transaction).id ∷ ids)) nobody is))))
+      arrives-then boot (moved-recording c _ (c.works ++ work_of c) (AreOwn-one c (Event.Single (c.transaction).id part) refl (λ id is. knows-own c id (subst (λ ids. IsIn id ((c.transaction).id ∷ ids)) none_in is))))
       (arrives-ended boot d Committed refl (rw fresh.here refl) (Stand-nobody c.enlistments (c.transaction).id is_idle (is_part_as Ended) fresh.stand (no-parts c none)))
 
   abbrev c_single : Course
   c_single = in_phase (telling c take_part Notify.SinglePhaseCommit (owing Owed.Commit)) SinglePhase
 
-  pub arrives-one_phase : length (taking_part c) ≡ 1 → has_changes c.changes ≡ false → has_settings c.settings ≡ false → is_some (superior c) ≡ false → Arrives boot c (one_phase c)
-  arrives-one_phase one changes settings alone = if_cases (λ d. Arrives boot c d) (some_enlistment c allows_one_phase) c_single (preparing c)
-      (λ some.
+  one_if-true : (b : Bool) → b ≡ true → one_if b ≡ 1
+  one_if-true b is = ap one_if is
+
+  one_if-false : (b : Bool) → b ≡ false → one_if b ≡ 0
+  one_if-false b is = ap one_if is
+
+  arrives-one_phase : length (taking_part c) ≡ 1 → has_changes c.changes ≡ false → has_settings c.settings ≡ false → is_some (superior c) ≡ false → some_enlistment c allows_one_phase ≡ true → Arrives boot c c_single
+  arrives-one_phase one changes settings alone some =
       let first = list_any-at _ c.enlistments some in
       let parts = and_parts (takes_part (c.transaction).id first.0) (allows_one_phase first.0) first.2 in
       record {
@@ -163,41 +151,9 @@ module _ (boot : ℕ) (c : Course) (fresh : Fresh boot c) where
           alone = and_from _ _ (not_from_false _ changes) (not_from_false _ settings);
           recorded = not_from_false _ fresh.unrecorded;
         };
-      })
-      (λ none. arrives-preparing)
-
-  one_if-true : (b : Bool) → b ≡ true → one_if b ≡ 1
-  one_if-true b is = ap one_if is
-
-  one_if-false : (b : Bool) → b ≡ false → one_if b ≡ 0
-  one_if-false b is = ap one_if is
-
-  arrives-one_participant : participants c ≡ 1 → is_some (superior c) ≡ false → Arrives boot c (one_participant c)
-  arrives-one_participant one alone = if_cases (λ d. Arrives boot c d) (has_changes c.changes) (single c (Part.Changes c.changes)) _
-      (λ changes. let counted = one_if-true _ changes in arrives-single (Part.Changes c.changes) refl (omega arith))
-      (λ no_changes. if_cases (λ d. Arrives boot c d) (has_settings c.settings) (single c (Part.Settings c.settings)) (one_phase c)
-      (λ settings. let counted = one_if-true _ settings in arrives-single (Part.Settings c.settings) refl (omega arith))
-      (λ no_settings.
-      let none = one_if-false _ no_changes in
-      let none' = one_if-false _ no_settings in
-      arrives-one_phase (omega arith) no_changes no_settings alone))
-
-  arrives-alone : (n : ℕ) → participants c ≡ n → is_some (superior c) ≡ false → Arrives boot c (prepare_alone c n)
-  arrives-alone zero none alone = arrives-ended boot c Committed refl (rw fresh.here refl) (Stand-nobody c.enlistments (c.transaction).id is_idle (is_part_as Ended) fresh.stand (no-parts c (omega arith)))
-  arrives-alone (suc zero) one alone = arrives-one_participant one alone
-  arrives-alone (suc (suc more)) several alone = arrives-preparing
-
-  pub arrives-to_prepare : Arrives boot c (to_prepare c)
-  unfolding to_prepare
-  arrives-to_prepare = if_cases (λ d. Arrives boot c d) (is_some (superior c)) (preparing c) (prepare_alone c (participants c)) (λ has. arrives-preparing) (λ alone. arrives-alone (participants c) refl alone)
+      }
 
   -- ---- pre-preparing
-
-  pub arrives-pre_prepared : Arrives boot c (pre_prepared c)
-  unfolding pre_prepared
-  arrives-pre_prepared = if_cases (λ d. Arrives boot c d) (is_some (superior c)) (in_phase (telling c (is_its_superior c) Notify.PrePrepareComplete unchanged) PrePrepared) (to_prepare c)
-      (λ has. arrives-superior_told PrePrepared Notify.PrePrepareComplete refl fresh.undecided (rw fresh.here refl) refl has (λ es stand. stand) (λ es. refl) refl (λ es. not_from_false _ fresh.unrecorded))
-      (λ alone. arrives-to_prepare)
 
   -- those that ask for it
   abbrev ask : Enlistment → Bool
@@ -206,33 +162,69 @@ module _ (boot : ℕ) (c : Course) (fresh : Fresh boot c) where
   abbrev c_pre_preparing : Course
   c_pre_preparing = in_phase (telling c ask Notify.PrePrepare (owing Owed.PrePrepare)) PrePreparing
 
-  pub arrives-to_pre_prepare : Arrives boot c (to_pre_prepare c)
-  unfolding to_pre_prepare
-  arrives-to_pre_prepare = if_cases (λ d. Arrives boot c d) (some_enlistment c asks_pre_prepare) c_pre_preparing (pre_prepared c)
-      (λ some. record {
-        moved = Moved-then (moved-telling c ask Notify.PrePrepare (owing Owed.PrePrepare) refl (changes-parts ask Owed.PrePrepare (λ e is. (and_parts (takes_part (c.transaction).id e) (asks_pre_prepare e) is).0)))
-            (moved-transaction (telling c ask Notify.PrePrepare (owing Owed.PrePrepare)) c_pre_preparing.transaction refl refl refl);
-        stands = record {
-          outcome = fresh.undecided;
-          boots = rw fresh.here refl;
-          superior = refl;
-          stand = Stand-with c.enlistments (c.transaction).id is_idle (is_part_as PrePreparing) ask (owing Owed.PrePrepare) fresh.stand
-              (λ e there is. (and_parts (takes_part (c.transaction).id e) (asks_pre_prepare e) is).0) (alike-owing Owed.PrePrepare)
-              (λ e there part idle is. rw ((idle-parts e idle).1, (idle-parts e idle).2) (and_parts (takes_part (c.transaction).id e) (asks_pre_prepare e) is).1)
-              (λ e there part idle silent. rw ((idle-parts e idle).0, (idle-parts e idle).1, (idle-parts e idle).2) refl);
-          awaited =
-              let one = list_any-at _ c.enlistments some in
-              let part = (and_parts (takes_part (c.transaction).id one.0) (asks_pre_prepare one.0) one.2).0 in
-              list_any-from _ c_pre_preparing.enlistments (stepped ask (owing Owed.PrePrepare) one.0) (IsIn-map (stepped ask (owing Owed.PrePrepare)) one.0 c.enlistments one.1)
-              (rw one.2 (rw part refl));
-          alone = refl;
-          recorded = not_from_false _ fresh.unrecorded;
-        };
-      })
-      (λ none. arrives-pre_prepared)
+  arrives-pre_preparing : some_enlistment c asks_pre_prepare ≡ true → Arrives boot c c_pre_preparing
+  arrives-pre_preparing some = record {
+    moved = Moved-then (moved-telling c ask Notify.PrePrepare (owing Owed.PrePrepare) refl (changes-parts ask Owed.PrePrepare (λ e is. (and_parts (takes_part (c.transaction).id e) (asks_pre_prepare e) is).0)))
+        (moved-transaction (telling c ask Notify.PrePrepare (owing Owed.PrePrepare)) c_pre_preparing.transaction refl refl refl);
+    stands = record {
+      outcome = fresh.undecided;
+      boots = rw fresh.here refl;
+      superior = refl;
+      stand = Stand-with c.enlistments (c.transaction).id is_idle (is_part_as PrePreparing) ask (owing Owed.PrePrepare) fresh.stand
+          (λ e there is. (and_parts (takes_part (c.transaction).id e) (asks_pre_prepare e) is).0) (alike-owing Owed.PrePrepare)
+          (λ e there part idle is. rw ((idle-parts e idle).1, (idle-parts e idle).2) (and_parts (takes_part (c.transaction).id e) (asks_pre_prepare e) is).1)
+          (λ e there part idle silent. rw ((idle-parts e idle).0, (idle-parts e idle).1, (idle-parts e idle).2) refl);
+      awaited =
+          let one = list_any-at _ c.enlistments some in
+          let part = (and_parts (takes_part (c.transaction).id one.0) (asks_pre_prepare one.0) one.2).0 in
+          list_any-from _ c_pre_preparing.enlistments (stepped ask (owing Owed.PrePrepare) one.0) (IsIn-map (stepped ask (owing Owed.PrePrepare)) one.0 c.enlistments one.1)
+          (rw one.2 (rw part refl));
+      alone = refl;
+      recorded = not_from_false _ fresh.unrecorded;
+    };
+  }
 
-  pub arrives-to_commit : Arrives boot c (to_commit c)
-  unfolding to_commit
-  arrives-to_commit = if_cases (λ d. Arrives boot c d) (is_some (superior c)) (in_phase (telling c (is_its_superior c) Notify.CommitRequest unchanged) Requested) (to_pre_prepare c)
-      (λ has. arrives-superior_told Requested Notify.CommitRequest refl fresh.undecided (rw fresh.here refl) refl has (λ es stand. stand) (λ es. refl) refl (λ es. not_from_false _ fresh.unrecorded))
-      (λ alone. arrives-to_pre_prepare)
+  arrives-preparing : some_enlistment c (λ e. true) ≡ true → Arrives boot c c_asked
+  arrives-preparing some = record {
+    moved = asked-moved;
+    stands = record {
+      outcome = fresh.undecided;
+      boots = rw fresh.here refl;
+      superior = refl;
+      stand = asked-stand;
+      awaited =
+          let one = list_any-at _ c.enlistments some in
+          let part = (and_parts (takes_part (c.transaction).id one.0) true one.2).0 in
+          list_any-from _ c_asked.enlistments (stepped take_part (owing Owed.Prepare) one.0) (IsIn-map (stepped take_part (owing Owed.Prepare)) one.0 c.enlistments one.1)
+          (rw part (rw part refl));
+      alone = refl;
+      recorded = rw asked-none (not_from_false _ fresh.unrecorded);
+    };
+  }
+
+  -- ---- each way to go on
+
+  ways : Ways (λ steps. Arrives boot c (run steps c)) c
+  ways = record {
+    requested = λ has. arrives-superior_told Requested Notify.CommitRequest refl fresh.undecided (rw fresh.here refl) refl has (λ es stand. stand) (λ es. refl) refl (λ es. not_from_false _ fresh.unrecorded);
+    pre_prepared = λ has. arrives-superior_told PrePrepared Notify.PrePrepareComplete refl fresh.undecided (rw fresh.here refl) refl has (λ es stand. stand) (λ es. refl) refl (λ es. not_from_false _ fresh.unrecorded);
+    pre_preparing = arrives-pre_preparing;
+    preparing = arrives-preparing;
+    one_phase = λ alone one changes settings some. let no_files = one_if-false _ changes in let no_keys = one_if-false _ settings in arrives-one_phase (omega arith) changes settings alone some;
+    files = λ one changes. let counted = one_if-true _ changes in arrives-single (Part.Changes c.changes) refl (omega arith);
+    keys = λ one changes settings. let counted = one_if-true _ settings in arrives-single (Part.Settings c.settings) refl (omega arith);
+    nobody = λ none. arrives-ended boot c Committed refl (rw fresh.here refl) (Stand-nobody c.enlistments (c.transaction).id is_idle (is_part_as Ended) fresh.stand (no-parts c (omega arith)));
+    ready = λ none. subst (Arrives boot c) (sym (all_readies-run c)) (arrives-all_ready boot c (all-ready none));
+  }
+
+  pub arrives-pre_prepared : Arrives boot c (pre_prepared c)
+  arrives-pre_prepared = proceed-by (Arrives boot c) c ways
+
+  pub arrives-to_prepare : Arrives boot c (led PhaseInput.Prepare c)
+  arrives-to_prepare = prepare-by (Arrives boot c) c ways
+
+  pub arrives-to_pre_prepare : Arrives boot c (led PhaseInput.PrePrepare c)
+  arrives-to_pre_prepare = pre_prepare-by (Arrives boot c) c ways
+
+  pub arrives-to_commit : Arrives boot c (led PhaseInput.CommitTransaction c)
+  arrives-to_commit = commit-by (Arrives boot c) c ways

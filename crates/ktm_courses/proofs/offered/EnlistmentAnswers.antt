@@ -14,7 +14,7 @@ use Rattle.ktm_types.specs.declared.object.Transaction.{Transaction}
 use Rattle.ktm_types.specs.declared.object.TransactionOutcome.{TransactionOutcome}
 use Rattle.ktm_types.specs.declared.step.Owed.{Owed}
 use Rattle.ktm_world.specs.Enlistments.{has_id, Sent, Enlistment, Manager, is_superior, is_open_for_votes, asks_pre_prepare, allows_one_phase, owes_pre_prepare, owes_prepare, owes_commit, owes_rollback, takes_part, is_unfinished, is_durable_at, with_enlistments, superior_of}
-use Rattle.ktm_world.specs.Phases.{Course, changing_one, someone_owes, when_none_owes, pre_prepare_answered, enlistment_part, prepare_answered, without_its_answer, recovered as recovered_by, read_only_answered, single_phase_rejected, finished, is_single_phase, commit_answered, rollback_answered, recovering, recovered_in, in_phase, recording, telling, owing, unchanged, superior, ended, ended_if_finished, event_if, aborting, all_ready, pre_prepared}
+use Rattle.ktm_world.specs.Phases.{Course, changing_one, enlistment_part, is_single_phase, in_phase, recording, telling, owing, unchanged, superior, ended, ended_if_finished, event_if}
 use Rattle.ktm_world.specs.Transactions.{same_id, is_undecided}
 use Rattle.txf_laws.specs.Elements.{IsIn, each_pair}
 use Rattle.ktm_courses.specs.SoundCourse.{is_last_recover, is_phase_back, is_unrecovered_well, is_outcome_of, is_of_its_boot, is_superior_as, is_idle, is_waiting, owes_until_finished, is_part_as, has_part, is_awaited_as, is_recorded_as, has_durable_part}
@@ -25,6 +25,7 @@ use Rattle.ktm_courses.proofs.offered.Moves.{same-by_id, if_parts, moved-changin
 use Rattle.ktm_courses.proofs.offered.Procedures.{is_backed-from, waiting-parts, over-part, arrives-if_finished, may_be_told, arrives-aborting, none-at, list_any-told, list_any-with, filter-with, superior-with, idle-parts, part-parts, unprepared-recovered, Arrives, Stands, arrives-then, alike-owing, Stand-nobody, only-one, arrives-ended, arrives-all_ready}
 use Rattle.ktm_world.specs.Durable.{is_before}
 use Rattle.ktm_world.specs.TransactionCalls.{is_voting}
+use Rattle.ktm_steps.specs.Procedures.{someone_owes, when_none_owes, pre_prepare_answered, prepare_answered, without_its_answer, recovered as recovered_by, read_only_answered, single_phase_rejected, finished, commit_answered, rollback_answered, recovering, recovered_in, aborting, all_ready, pre_prepared}
 use Rattle.txf_laws.proofs.offered.Tables.{same_id-equal, same_id-from}
 use Rattle.ktm_courses.proofs.offered.Outcomes.{committed-outcome, aborted-outcome}
 use Rattle.ktm_courses.proofs.offered.CommitsBegun.{Fresh, arrives-pre_prepared}

@@ -133,7 +133,7 @@ caller-active x process label tests sound passes = go (transaction_named x proce
         let here = passed passes' in let committed = passed here.1 in let aborted = passed committed.1 in let active = passed aborted.1 in (
           record {
             active = λ id same u there is_id.
-                let one : u ≡ t = same-by_id (λ (v : Transaction). v.id) (x.transactions).items sound.transactions_rise u t there (transaction-named x process label t is) (is_id ∙ sym (same_Some t.id id same)) in
+                let one : u ≡ t = same-by_id (λ (v : Transaction). v.id) (x.transactions).items sound.transactions.rise u t there (transaction-named x process label t is) (is_id ∙ sym (same_Some t.id id same)) in
                 ap (λ (v : Transaction). v.phase) one ∙ active-phase t (not-not _ active.0);
           },
           active.1,
@@ -157,7 +157,7 @@ file-active x process label o sound is passes = record {
       let at = transaction_at-there (x.transactions).items t there in
       let found : transaction_of x o ≡ Some at.0 = ap (option_and_then (transaction_at (x.transactions).items)) owner ∙ ap (transaction_at (x.transactions).items) (sym same) ∙ at.1 in
       let in_items = transaction_at-found (x.transactions).items t.id at.0 at.1 in
-      let one : t ≡ at.0 = same-by_id (λ (v : Transaction). v.id) (x.transactions).items sound.transactions_rise t at.0 there in_items.0 (sym in_items.1) in
+      let one : t ≡ at.0 = same-by_id (λ (v : Transaction). v.id) (x.transactions).items sound.transactions.rise t at.0 there in_items.0 (sym in_items.1) in
       ap (λ (v : Transaction). v.phase) one ∙ active-phase at.0 (not-not _ (ap (holds_of (λ t. not (is_active t))) (sym found) ∙ free));
 }
 

@@ -19,6 +19,7 @@ use Rattle.ktm_states.specs.Grammatical.{ids_of}
 use Rattle.ktm_courses.specs.SoundCourse.{is_last_recover, is_idle, is_unrecovered_well}
 use Rattle.txf_laws.proofs.offered.Lists.{IsIn-cases, IsIn-unmap}
 use Rattle.ktm_world.specs.Durable.{is_before}
+use Rattle.ktm_steps.proofs.offered.Staying.{Stays, stays, stays-then}
 use Rattle.txf_laws.proofs.offered.Elements.{IsIn-filter, each_pair-either}
 use Rattle.txf_laws.proofs.offered.Tables.{before_other}
 
@@ -166,38 +167,27 @@ knows-one c e there id (inr (inr (inr none))) = absurd none
 
 -- ---- steps
 
--- a transaction has gone on: what it changed of enlistments is its own, and it sent and recorded what a transaction on its way does
-pub record Moved (c d : Course) : Type 0 where
+-- what was changed of enlistments: those of the transaction, each of which is the same, and recovered where it is changed
+pub record Moves (c d : Course) : Type 0 where
   pub step : Enlistment → Enlistment
-  pub enlistments : d.enlistments ≡ map step c.enlistments
+  pub is : d.enlistments ≡ map step c.enlistments
   pub same : (e : Enlistment) → IsSame e (step e)
   pub others : (e : Enlistment) → IsIn e c.enlistments → same_id e.transaction (c.transaction).id ≡ false → step e ≡ e
   pub recovered : (e : Enlistment) → IsIn e c.enlistments → (step e ≡ e) ⊎ ((step e).is_recovered ≡ true)
-  pub id : (d.transaction).id ≡ (c.transaction).id
-  pub timeout : (d.transaction).timeout ≡ (c.transaction).timeout
-  pub created : (d.transaction).created ≡ (c.transaction).created
-  pub managers : d.managers ≡ c.managers
-  pub changes : d.changes ≡ c.changes
-  pub settings : d.settings ≡ c.settings
+
+-- a transaction has gone on, and it sent and recorded what a transaction on its way does
+pub record Moved (c d : Course) : Type 0 where
+  pub stays : Stays c d
+  pub enlistments : Moves c d
   pub sent : (s : Sent) → IsIn s d.sent → IsIn s c.sent ⊎ IsTold c.enlistments s
   pub events : AreOwn c c.events → AreOwn c d.events
 
+-- no enlistment is changed
+moves-none : (c d : Course) → d.enlistments ≡ c.enlistments → Moves c d
+moves-none c d same = record { step = λ e. e; is = same ∙ sym (map-id c.enlistments); same = IsSame-refl; others = λ e there other. refl; recovered = λ e there. inl refl }
+
 pub Moved-refl : (c : Course) → Moved c c
-Moved-refl c = record {
-  step = λ e. e;
-  enlistments = sym (map-id c.enlistments);
-  same = IsSame-refl;
-  others = λ e there other. refl;
-  recovered = λ e there. inl refl;
-  id = refl;
-  timeout = refl;
-  created = refl;
-  managers = refl;
-  changes = refl;
-  settings = refl;
-  sent = λ s there. inl there;
-  events = λ none. none;
-}
+Moved-refl c = record { stays = stays c; enlistments = moves-none c c refl; sent = λ s there. inl there; events = λ none. none }
 
 IsTold-back : (es : List Enlistment) (step : Enlistment → Enlistment) → ((e : Enlistment) → IsSame e (step e)) → (s : Sent) → IsTold (map step es) s → IsTold es s
 IsTold-back es step same s told =
@@ -212,23 +202,23 @@ IsTold-back es step same s told =
     }
 
 pub knows-moved : (c d : Course) → Moved c d → (id : Id) → Knows c id → Knows d id
-knows-moved c d moved id (inl is) = inl (is ∙ sym moved.id)
+knows-moved c d moved id (inl is) = inl (is ∙ sym moved.stays.id)
 knows-moved c d moved id (inr (e, there, is)) = inr (
-  moved.step e,
-  subst (λ es. IsIn (moved.step e) es) (sym moved.enlistments) (IsIn-map moved.step e c.enlistments there),
-  elim is [ inl own ↦ inl (own ∙ sym (moved.same e).id) | inr manager ↦ inr (manager ∙ sym (moved.same e).manager) ],
+  moved.enlistments.step e,
+  subst (λ es. IsIn (moved.enlistments.step e) es) (sym moved.enlistments.is) (IsIn-map moved.enlistments.step e c.enlistments there),
+  elim is [ inl own ↦ inl (own ∙ sym (moved.enlistments.same e).id) | inr manager ↦ inr (manager ∙ sym (moved.enlistments.same e).manager) ],
 )
 
 knows-before : (c d : Course) → Moved c d → (id : Id) → Knows d id → Knows c id
-knows-before c d moved id (inl is) = inl (is ∙ moved.id)
+knows-before c d moved id (inl is) = inl (is ∙ moved.stays.id)
 knows-before c d moved id (inr (e, there, is)) =
-    let from = IsIn-unmap moved.step e c.enlistments (subst (λ es. IsIn e es) moved.enlistments there) in
+    let from = IsIn-unmap moved.enlistments.step e c.enlistments (subst (λ es. IsIn e es) moved.enlistments.is there) in
     inr (
       from.0,
       from.2,
       elim is [
-        | inl own ↦ inl (own ∙ ap (λ (f : Enlistment). f.id) (sym from.1) ∙ (moved.same from.0).id)
-        | inr manager ↦ inr (manager ∙ ap (λ (f : Enlistment). f.manager) (sym from.1) ∙ (moved.same from.0).manager)
+        | inl own ↦ inl (own ∙ ap (λ (f : Enlistment). f.id) (sym from.1) ∙ (moved.enlistments.same from.0).id)
+        | inr manager ↦ inr (manager ∙ ap (λ (f : Enlistment). f.manager) (sym from.1) ∙ (moved.enlistments.same from.0).manager)
       ],
     )
 
@@ -239,66 +229,49 @@ own-moved c d events moved own = record { none = own.none; named = λ event ther
 own-before : (c d : Course) (events : List Event) → Moved c d → AreOwn d events → AreOwn c events
 own-before c d events moved own = record { none = own.none; named = λ event there id is. knows-before c d moved id (own.named event there id is) }
 
-pub Moved-then : {c d e : Course} → Moved c d → Moved d e → Moved c e
-Moved-then {c} {d} {e} a b = record {
+-- one move after another
+moves-then : (c d e : Course) → Stays c d → Moves c d → Moves d e → Moves c e
+moves-then c d e stays a b = record {
   step = λ x. b.step (a.step x);
-  enlistments = b.enlistments ∙ ap (map b.step) a.enlistments ∙ map-map b.step a.step c.enlistments;
+  is = b.is ∙ ap (map b.step) a.is ∙ map-map b.step a.step c.enlistments;
   same = λ x. IsSame-then (a.same x) (b.same (a.step x));
   others = λ x there other.
-      b.others (a.step x) (in_d x there) (subst (λ id. same_id (a.step x).transaction id ≡ false) (sym a.id) (subst (λ id. same_id id (c.transaction).id ≡ false) (sym (a.same x).transaction) other))
+      b.others (a.step x) (in_d x there) (subst (λ id. same_id (a.step x).transaction id ≡ false) (sym stays.id) (subst (λ id. same_id id (c.transaction).id ≡ false) (sym (a.same x).transaction) other))
       ∙ a.others x there other;
   recovered = λ x there. elim (b.recovered (a.step x) (in_d x there)) [
     | inl still ↦ elim (a.recovered x there) [ inl still' ↦ inl (still ∙ still') | inr recovered ↦ inr (ap (λ (y : Enlistment). y.is_recovered) still ∙ recovered) ]
     | inr recovered ↦ inr recovered
   ];
-  id = b.id ∙ a.id;
-  timeout = b.timeout ∙ a.timeout;
-  created = b.created ∙ a.created;
-  managers = b.managers ∙ a.managers;
-  changes = b.changes ∙ a.changes;
-  settings = b.settings ∙ a.settings;
-  sent = λ s there. elim (b.sent s there) [
-    | inl before ↦ a.sent s before
-    | inr told ↦ inr (IsTold-back c.enlistments a.step a.same s (subst (λ es. IsTold es s) a.enlistments told))
-  ];
-  events = λ own. own-before c d e.events a (b.events (own-moved c d d.events a (a.events own)));
 }
   where
     in_d : (x : Enlistment) → IsIn x c.enlistments → IsIn (a.step x) d.enlistments
-    in_d x there = subst (λ es. IsIn (a.step x) es) (sym a.enlistments) (IsIn-map a.step x c.enlistments there)
+    in_d x there = subst (λ es. IsIn (a.step x) es) (sym a.is) (IsIn-map a.step x c.enlistments there)
+
+pub Moved-then : {c d e : Course} → Moved c d → Moved d e → Moved c e
+Moved-then {c} {d} {e} first second = let a = first.enlistments in record {
+  stays = stays-then c d e first.stays second.stays;
+  enlistments = moves-then c d e first.stays a second.enlistments;
+  sent = λ s there. elim (second.sent s there) [
+    | inl before ↦ first.sent s before
+    | inr told ↦ inr (IsTold-back c.enlistments a.step a.same s (subst (λ es. IsTold es s) a.is told))
+  ];
+  events = λ own. own-before c d e.events first (second.events (own-moved c d d.events first (first.events own)));
+}
 
 -- of the transaction itself something else is so
 pub moved-transaction : (c : Course) (t : Transaction) → t.id ≡ (c.transaction).id → t.timeout ≡ (c.transaction).timeout → t.created ≡ (c.transaction).created → Moved c (record c { transaction = t })
 moved-transaction c t id timeout created = record {
-  step = λ e. e;
-  enlistments = sym (map-id c.enlistments);
-  same = IsSame-refl;
-  others = λ e there other. refl;
-  recovered = λ e there. inl refl;
-  id = id;
-  timeout = timeout;
-  created = created;
-  managers = refl;
-  changes = refl;
-  settings = refl;
+  stays = record { id = id; timeout = timeout; created = created; managers = refl; changes = refl; settings = refl; caller = refl };
+  enlistments = moves-none c (record c { transaction = t }) refl;
   sent = λ s there. inl there;
   events = λ none. none;
 }
 
 -- it recorded events, and committed works
 pub moved-recording : (c : Course) (events : List Event) (works : List Work) → AreOwn c events → Moved c (record c { events = c.events ++ events; works = works })
-moved-recording c events works none = record {
-  step = λ e. e;
-  enlistments = sym (map-id c.enlistments);
-  same = IsSame-refl;
-  others = λ e there other. refl;
-  recovered = λ e there. inl refl;
-  id = refl;
-  timeout = refl;
-  created = refl;
-  managers = refl;
-  changes = refl;
-  settings = refl;
+moved-recording c events works none = let d = record c { events = c.events ++ events; works = works } in record {
+  stays = record { id = refl; timeout = refl; created = refl; managers = refl; changes = refl; settings = refl; caller = refl };
+  enlistments = moves-none c d refl;
   sent = λ s there. inl there;
   events = λ before. AreOwn-append before none;
 }
@@ -318,17 +291,14 @@ pub moved-changing : (c : Course) (test : Enlistment → Bool) (f : Enlistment �
     → ((s : Sent) → IsIn s sent → IsIn s c.sent ⊎ IsTold c.enlistments s)
     → Moved c (record c { sent = sent; enlistments = with_enlistments test f c.enlistments })
 moved-changing c test f sent changes told = record {
-  step = stepped test f;
-  enlistments = refl;
-  same = λ e. if_cases (λ x. IsSame e x) (test e) (f e) e (λ is. changes.same e) (λ is. IsSame-refl e);
-  others = λ e there other. if_cases (λ x. x ≡ e) (test e) (f e) e (λ is. absurd (true≢false (sym (changes.own e there is) ∙ other))) (λ is. refl);
-  recovered = λ e there. if_cases (λ (x : Enlistment). (x ≡ e) ⊎ (x.is_recovered ≡ true)) (test e) (f e) e (λ is. changes.recovered e there is) (λ is. inl refl);
-  id = refl;
-  timeout = refl;
-  created = refl;
-  managers = refl;
-  changes = refl;
-  settings = refl;
+  stays = record { id = refl; timeout = refl; created = refl; managers = refl; changes = refl; settings = refl; caller = refl };
+  enlistments = record {
+    step = stepped test f;
+    is = refl;
+    same = λ e. if_cases (λ x. IsSame e x) (test e) (f e) e (λ is. changes.same e) (λ is. IsSame-refl e);
+    others = λ e there other. if_cases (λ x. x ≡ e) (test e) (f e) e (λ is. absurd (true≢false (sym (changes.own e there is) ∙ other))) (λ is. refl);
+    recovered = λ e there. if_cases (λ (x : Enlistment). (x ≡ e) ⊎ (x.is_recovered ≡ true)) (test e) (f e) e (λ is. changes.recovered e there is) (λ is. inl refl);
+  };
   sent = told;
   events = λ none. none;
 }
@@ -362,8 +332,8 @@ changes-none c test own = record { own = own; same = IsSame-refl; recovered = λ
 pub unrecovered-moved : (c d : Course) (boot : ℕ) → Moved c d → ((e : Enlistment) → IsIn e c.enlistments → is_unrecovered_well boot c.managers e ≡ true)
     → (e : Enlistment) → IsIn e d.enlistments → is_unrecovered_well boot d.managers e ≡ true
 unrecovered-moved c d boot moved all e there =
-    let from = IsIn-unmap moved.step e c.enlistments (subst (λ es. IsIn e es) moved.enlistments there) in
-    subst (λ ms. is_unrecovered_well boot ms e ≡ true) (sym moved.managers) (subst (λ x. is_unrecovered_well boot c.managers x ≡ true) from.1 (elim (moved.recovered from.0 from.2) [
+    let from = IsIn-unmap moved.enlistments.step e c.enlistments (subst (λ es. IsIn e es) moved.enlistments.is there) in
+    subst (λ ms. is_unrecovered_well boot ms e ≡ true) (sym moved.stays.managers) (subst (λ x. is_unrecovered_well boot c.managers x ≡ true) from.1 (elim (moved.enlistments.recovered from.0 from.2) [
       | inl still ↦ subst (λ x. is_unrecovered_well boot c.managers x ≡ true) (sym still) (all from.0 from.2)
       | inr recovered ↦ rw recovered refl
     ]))

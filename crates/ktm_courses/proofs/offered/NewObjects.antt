@@ -8,14 +8,13 @@ use Rattle.ktm_base.specs.declared.id.Label.{Label}
 use Rattle.ktm_base.specs.declared.id.Pid.{Pid}
 use Rattle.ktm_types.specs.declared.object.Handle.{Handle}
 use Rattle.ktm_types.specs.declared.object.Object.{Object}
-use Rattle.ktm_types.specs.declared.object.Object.TheVariants.{Transaction as TransactionObject, Manager as ManagerObject, Enlistment as EnlistmentObject, File as FileObject}
 use Rattle.ktm_world.specs.Durable.{is_before}
 use Rattle.ktm_world.specs.Enlistments.{Enlistment, is_superior, superior_of}
 use Rattle.ktm_world.specs.Handles.{object_at}
 use Rattle.ktm_world.specs.Present.{Present}
 use Rattle.ktm_world.specs.Transactions.{same_id}
 use Rattle.txf_laws.specs.Elements.{IsIn, each_pair}
-use Rattle.ktm_courses.specs.SoundCourse.{IsSoundCourse, is_counted, have_labels_apart, is_object_there}
+use Rattle.ktm_courses.specs.SoundCourse.{IsSoundCourse, is_counted, have_labels_apart, is_there}
 use Rattle.txf_laws.proofs.offered.Lists.{IsIn-cases}
 use Rattle.txf_laws.proofs.offered.Elements.{list_all-at, list_all-from, each_pair-append}
 
@@ -100,43 +99,19 @@ next-other boot last id is = false_from_ne_true _ (λ same.
 
 -- ---- handles
 
-pub sound-handles : (x : Present) (handles : List Handle) → IsSoundCourse x → each_pair have_labels_apart handles ≡ true → ((h : Handle) → IsIn h handles → is_object_there x h.object ≡ true) → IsSoundCourse (record x { handles = handles })
+pub sound-handles : (x : Present) (handles : List Handle) → IsSoundCourse x → each_pair have_labels_apart handles ≡ true → ((h : Handle) → IsIn h handles → is_there x h.object ≡ true) → IsSoundCourse (record x { handles = handles })
 sound-handles x handles sound apart there = record {
-  transactions_rise = sound.transactions_rise;
-  enlistments_rise = sound.enlistments_rise;
-  managers_rise = sound.managers_rise;
-  transactions_counted = sound.transactions_counted;
-  enlistments_counted = sound.enlistments_counted;
-  enlistments_made = sound.enlistments_made;
-  managers_counted = sound.managers_counted;
-  labels_differ = apart;
-  booted = sound.booted;
-  boots_fit = sound.boots_fit;
-  image_fits = sound.image_fits;
-  objects_there = list_all-from (λ (h : Handle). is_object_there (record x { handles = handles }) h.object) handles (λ h is. object h.object (there h is));
-  transactions_there = sound.transactions_there;
-  managers_there = sound.managers_there;
-  superiors_durable = sound.superiors_durable;
-  superiors_differ = sound.superiors_differ;
-  notes_there = sound.notes_there;
-  outcomes = sound.outcomes;
-  boots = sound.boots;
-  superiors = sound.superiors;
+  numbers = sound.numbers;
+  transactions = sound.transactions;
   enlistments = sound.enlistments;
-  awaited = sound.awaited;
+  managers = sound.managers;
+  handles = record {
+    labels_differ = apart;
+    objects_there = list_all-from (λ (h : Handle). is_there x h.object) handles there;
+  };
+  phases = sound.phases;
   alone = sound.alone;
-  recorded = sound.recorded;
-  unrecovered = sound.unrecovered;
-  information_fits = sound.information_fits;
-  begun = sound.begun;
-  clock_fits = sound.clock_fits;
 }
-  where
-    object : (object : Object) → is_object_there x object ≡ true → is_object_there (record x { handles = handles }) object ≡ true
-    object (TransactionObject id) is = is
-    object (ManagerObject id) is = is
-    object (EnlistmentObject id) is = is
-    object (FileObject number) is = is
 
 eqb-sym : (a b : ℕ) → (a == b) ≡ false → (b == a) ≡ false
 eqb-sym a b other = false_from_ne_true _ (λ same. true≢false (sym (eq-eqb a b (sym (eqb-true b a same))) ∙ other))
@@ -159,12 +134,12 @@ unbound-apart (g ∷ gs) process label object free h there = elim (cases_Bool ((
     and_cases' true b is = inr is
     and_cases' false b is = inl refl
 
-pub sound-bound : (x : Present) (process : Pid) (label : Label) (object : Object) → IsSoundCourse x → is_some (object_at x.handles process label) ≡ false → is_object_there x object ≡ true
+pub sound-bound : (x : Present) (process : Pid) (label : Label) (object : Object) → IsSoundCourse x → is_some (object_at x.handles process label) ≡ false → is_there x object ≡ true
     → IsSoundCourse (record x { handles = x.handles ++ record { process = process; label = label; object = object } ∷ [] })
 sound-bound x process label object sound free there = sound-handles x (x.handles ++ record { process = process; label = label; object = object } ∷ []) sound
-    (each_pair-push have_labels_apart x.handles _ sound.labels_differ (unbound-apart x.handles process label object free))
+    (each_pair-push have_labels_apart x.handles _ sound.handles.labels_differ (unbound-apart x.handles process label object free))
     (λ h is. elim (IsIn-cases h x.handles (record { process = process; label = label; object = object } ∷ []) is) [
-      | inl old ↦ list_all-at (λ (h : Handle). is_object_there x h.object) x.handles sound.objects_there h old
-      | inr (inl e) ↦ subst (λ (k : Handle). is_object_there x k.object ≡ true) e there
+      | inl old ↦ list_all-at (λ (h : Handle). is_there x h.object) x.handles sound.handles.objects_there h old
+      | inr (inl e) ↦ subst (λ (k : Handle). is_there x k.object ≡ true) e there
       | inr (inr none) ↦ absurd none
     ])

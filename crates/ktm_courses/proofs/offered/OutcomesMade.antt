@@ -10,10 +10,7 @@ use Rattle.ktm_base.specs.declared.id.Id.{Id}
 use Rattle.ktm_types.specs.declared.event.Event.{Event}
 use Rattle.ktm_types.specs.declared.event.Event.TheVariants.{Boot, MadeRm, Plain, Ready, Single, Held, Decide, Undo, Done}
 use Rattle.ktm_types.specs.declared.event.DonePart.{DonePart}
-use Rattle.ktm_types.specs.declared.object.Handle.{Handle}
 use Rattle.ktm_types.specs.declared.object.Transaction.{Transaction}
-use Rattle.ktm_types.specs.declared.object.Object.{Object}
-use Rattle.ktm_types.specs.declared.object.Object.TheVariants.{Transaction as TransactionObject, Manager as ManagerObject, Enlistment as EnlistmentObject, File as FileObject}
 use Rattle.ktm_types.specs.declared.object.Phase.{Phase}
 use Rattle.ktm_types.specs.declared.object.Phase.TheVariants.{SinglePhase}
 use Rattle.ktm_types.specs.declared.reply.Reply.{Reply}
@@ -29,7 +26,7 @@ use Rattle.ktm_world.specs.Transactions.{same_id, is_undecided}
 use Rattle.ktm_world.proofs.offered.Durables.{after_events-append}
 use Rattle.ktm_world.specs.Changes.{has_changes}
 use Rattle.txf_laws.specs.Elements.{IsIn}
-use Rattle.ktm_courses.specs.SoundCourse.{IsSoundCourse, is_object_there, is_note_of, is_outcome_of, is_alone_in_one_phase, is_counted, has_manager}
+use Rattle.ktm_courses.specs.SoundCourse.{IsSoundCourse, is_note_of, is_outcome_of, is_alone_in_one_phase, is_counted, has_manager}
 use Rattle.ktm_courses.specs.Outcomes.{OutcomesStay}
 use Rattle.ktm_courses.proofs.offered.Outcomes.{stay-refl, stay-changed}
 use Rattle.txf_laws.proofs.offered.Elements.{list_all-at, list_all-from, list_any-at}
@@ -113,44 +110,17 @@ pub sound-own : (x : Present) (table : FileTable) (own : List Own) → IsSoundCo
     → ((t : Transaction) → IsIn t (x.transactions).items → is_single_phase t.phase ≡ true → (own_changes table.own t.id ≡ own_changes ((x.files).table).own t.id) × (own_settings own t.id ≡ own_settings (x.keys).own t.id))
     → IsSoundCourse (record x { files = record x.files { table = table }; keys = record x.keys { own = own } })
 sound-own x table own sound same = record {
-  transactions_rise = sound.transactions_rise;
-  enlistments_rise = sound.enlistments_rise;
-  managers_rise = sound.managers_rise;
-  transactions_counted = sound.transactions_counted;
-  enlistments_counted = sound.enlistments_counted;
-  enlistments_made = sound.enlistments_made;
-  managers_counted = sound.managers_counted;
-  labels_differ = sound.labels_differ;
-  booted = sound.booted;
-  boots_fit = sound.boots_fit;
-  image_fits = sound.image_fits;
-  objects_there = list_all-from (λ (h : Handle). is_object_there (record x { files = record x.files { table = table }; keys = record x.keys { own = own } }) h.object) x.handles (λ h there. object h.object (list_all-at (λ (h : Handle). is_object_there x h.object) x.handles sound.objects_there h there));
-  transactions_there = sound.transactions_there;
-  managers_there = sound.managers_there;
-  superiors_durable = sound.superiors_durable;
-  superiors_differ = sound.superiors_differ;
-  notes_there = sound.notes_there;
-  outcomes = sound.outcomes;
-  boots = sound.boots;
-  superiors = sound.superiors;
+  numbers = sound.numbers;
+  transactions = sound.transactions;
   enlistments = sound.enlistments;
-  awaited = sound.awaited;
-  alone = list_all-from (is_alone_in_one_phase (record x { files = record x.files { table = table }; keys = record x.keys { own = own } })) (x.transactions).items (λ t there. elim (cases_Bool (is_single_phase t.phase)) [
+  managers = sound.managers;
+  handles = sound.handles;
+  phases = sound.phases;
+  alone = list_all-from (is_alone_in_one_phase table.own own) (x.transactions).items (λ t there. elim (cases_Bool (is_single_phase t.phase)) [
     | inr several ↦ or_left _ _ (not_from_false _ several)
-    | inl one ↦ (λ i. not (is_single_phase t.phase) || (not (has_changes ((same t there one).0 i)) && not (has_settings ((same t there one).1 i)))) ∙ list_all-at (is_alone_in_one_phase x) (x.transactions).items sound.alone t there
+    | inl one ↦ (λ i. not (is_single_phase t.phase) || (not (has_changes ((same t there one).0 i)) && not (has_settings ((same t there one).1 i)))) ∙ list_all-at (is_alone_in_one_phase ((x.files).table).own (x.keys).own) (x.transactions).items sound.alone t there
   ]);
-  recorded = sound.recorded;
-  unrecovered = sound.unrecovered;
-  information_fits = sound.information_fits;
-  begun = sound.begun;
-  clock_fits = sound.clock_fits;
 }
-  where
-    object : (object : Object) → is_object_there x object ≡ true → is_object_there (record x { files = record x.files { table = table }; keys = record x.keys { own = own } }) object ≡ true
-    object (TransactionObject id) is = is
-    object (ManagerObject id) is = is
-    object (EnlistmentObject id) is = is
-    object (FileObject number) is = is
 
 -- those of another transaction stay
 pub own_changes-without : (own : List OwnChanges) (id other : Id) → same_id other id ≡ false → own_changes (filter (λ o. not (same_id o.transaction id)) own) other ≡ own_changes own other
@@ -189,13 +159,13 @@ object-counted boot last id is = let parts = counted-parts boot last id is in an
 
 object-known : (x : Present) (t : Transaction) (caller : Option Enlistment) → IsSoundCourse x → IsIn t (x.transactions).items → (id : Id) → Knows (course_of x t caller) id → is_of_object id ≡ true
 object-known x t caller sound there id (inl is) = subst (λ id. is_of_object id ≡ true) (sym is)
-    (object-counted _ _ t.id (list_all-at (λ (t : Transaction). is_counted (x.recorded).boots (x.transactions).last_transaction t.id) (x.transactions).items sound.transactions_counted t there))
+    (object-counted _ _ t.id (list_all-at (λ (t : Transaction). is_counted (x.recorded).boots (x.transactions).last_transaction t.id) (x.transactions).items sound.transactions.counted t there))
 object-known x t caller sound there id (inr (e, in_es, inl is)) = subst (λ id. is_of_object id ≡ true) (sym is)
-    (object-counted _ _ e.id (list_all-at (λ (e : Enlistment). is_counted (x.recorded).boots (x.transactions).last_enlistment e.id) (x.transactions).enlistments sound.enlistments_counted e in_es))
+    (object-counted _ _ e.id (list_all-at (λ (e : Enlistment). is_counted (x.recorded).boots (x.transactions).last_enlistment e.id) (x.transactions).enlistments sound.enlistments.counted e in_es))
 object-known x t caller sound there id (inr (e, in_es, inr is)) =
-    let m = list_any-at (λ (m : Manager). same_id m.id e.manager) x.managers (list_all-at (λ (e : Enlistment). has_manager x.managers e.manager) (x.transactions).enlistments sound.managers_there e in_es) in
+    let m = list_any-at (λ (m : Manager). same_id m.id e.manager) x.managers (list_all-at (λ (e : Enlistment). has_manager x.managers e.manager) (x.transactions).enlistments sound.enlistments.managers_there e in_es) in
     subst (λ id. is_of_object id ≡ true) (same_id-equal (m.0).id e.manager m.2 ∙ sym is)
-    (object-counted _ _ (m.0).id (list_all-at (λ (m : Manager). is_counted (x.recorded).boots (x.transactions).last_manager m.id) x.managers sound.managers_counted m.0 m.1))
+    (object-counted _ _ (m.0).id (list_all-at (λ (m : Manager). is_counted (x.recorded).boots (x.transactions).last_manager m.id) x.managers sound.managers.counted m.0 m.1))
 
 pub sound-arrived : (x : Present) (t : Transaction) (caller : Option Enlistment) (d : Course) (reply : Reply) → IsSoundCourse x → IsIn t (x.transactions).items → Arrives (x.recorded).boots (course_of x t caller) d
     → (is_undecided t ≡ false → (d.transaction).outcome ≡ t.outcome) → IsSoundOutcome x (arrived x d reply)
@@ -204,8 +174,8 @@ sound-arrived x t caller d reply sound there arrives known =
     (λ undecided. record { settled = went; events = events; made = refl; notes = notes; outcomes = outcomes; objects = objects })
     (λ decided. record {
       settled = sound-own (with_course x d) (without_transaction (x.files).table (d.transaction).id) (without_own (x.keys).own (d.transaction).id) went (λ v is one.
-          elim (IsIn-changed (x.transactions).items d.transaction v sound.transactions_rise is) [
-            | inl e ↦ absurd (true≢false (sym (undecided-one v.phase v one (list_all-at (λ (v : Transaction). is_outcome_of v.phase v) (changed_to (x.transactions).items d.transaction) went.outcomes v is)) ∙ ap is_undecided e ∙ decided))
+          elim (IsIn-changed (x.transactions).items d.transaction v sound.transactions.rise is) [
+            | inl e ↦ absurd (true≢false (sym (undecided-one v.phase v one (list_all-at (λ (v : Transaction). is_outcome_of v.phase v) (changed_to (x.transactions).items d.transaction) went.transactions.outcomes v is)) ∙ ap is_undecided e ∙ decided))
             | inr old ↦ (own_changes-without ((x.files).table).own (d.transaction).id v.id old.1, own_settings-without (x.keys).own (d.transaction).id v.id old.1)
           ]);
       events = events;
@@ -236,7 +206,7 @@ sound-arrived x t caller d reply sound there arrives known =
     events = own.none
 
     outcomes : OutcomesStay (x.transactions).items (changed_to (x.transactions).items d.transaction)
-    outcomes = stay-changed (x.transactions).items t d.transaction sound.transactions_rise there (arrives.moved).id known
+    outcomes = stay-changed (x.transactions).items t d.transaction sound.transactions.rise there (arrives.moved).stays.id known
 
     notes : (s : Sent) → IsIn s d.sent → is_note_of d.enlistments s.manager s.note ≡ true
     notes = notes-course x sound t there caller d arrives

@@ -13,9 +13,10 @@ use Rattle.ktm_types.specs.declared.object.TransactionOutcome.{TransactionOutcom
 use Rattle.ktm_types.specs.declared.object.TransactionOutcome.TheVariants.{Undetermined, Committed, Aborted}
 use Rattle.ktm_types.specs.declared.step.Owed.{Owed}
 use Rattle.ktm_world.specs.Enlistments.{Enlistment, Manager, is_superior, owes_commit, owes_rollback, takes_part, is_unfinished, is_durable_at, with_enlistments, superior_of}
-use Rattle.ktm_world.specs.Phases.{Course, in_phase, decided, recording, recorded, telling, owing, unchanged, superior, is_its_superior, has_settings, taking_part, participants, end_notice, ended, ended_if_finished, work_of, event_if, committing, is_caller, aborting, ready_parts, readied, held_or_committing, all_ready, is_single_phase}
+use Rattle.ktm_world.specs.Phases.{Course, in_phase, decided, recording, telling, owing, unchanged, superior, is_its_superior, has_settings, end_notice, ended, ended_if_finished, work_of, event_if, is_single_phase}
 use Rattle.ktm_world.specs.Transactions.{same_id, is_committed, is_aborted, is_undecided}
 use Rattle.ktm_world.specs.Changes.{has_changes}
+use Rattle.ktm_steps.specs.Procedures.{recorded, taking_part, participants, committing, is_caller, aborting, ready_parts, readied, held_or_committing, all_ready}
 use Rattle.txf_laws.specs.Elements.{IsIn}
 use Rattle.ktm_courses.specs.SoundCourse.{is_last_recover, is_unrecovered_well, is_outcome_of, is_of_its_boot, has_superior_as_asked, is_idle, is_waiting, owes_until_finished, is_part_as, is_awaited, has_durable_part, is_recorded_as_asked}
 use Rattle.txf_laws.proofs.offered.Elements.{IsIn-kept, list_any-at, list_any-from}

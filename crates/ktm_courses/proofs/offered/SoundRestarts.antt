@@ -265,58 +265,70 @@ module _ (base : Durable) (room : ℕ) (log : List Group) (good : IsGoodState (s
 
   sound-y : IsSoundCourse y
   sound-y = record {
-    transactions_rise = each_pair-map (λ (t u : Transaction). is_before t.id u.id) (λ (t u : Recorded). is_before t.id u.id) transaction_back (λ t u. refl) (back s) ∙ each_pair-filter (λ (t u : Recorded). is_before t.id u.id) is_brought_back s.transactions good.transactions_rise;
-    enlistments_rise = rises;
-    managers_rise = each_pair-map (λ (m n : Manager). is_before m.id n.id) (λ (m n : ManagerPast). is_before m.id n.id) manager_now (λ m n. refl) (map manager_back s.managers) ∙ each_pair-map (λ (m n : ManagerPast). is_before m.id n.id) is_before manager_back (λ m n. refl) s.managers ∙ good.managers_rise;
-    transactions_counted = each (λ t. is_counted (s.boots + 1) 0 t.id) (λ t there brought. counted t.id (list_all-at (λ (t : Recorded). is_drawn s t.id) s.transactions good.transactions_drawn t there));
-    enlistments_counted = list_all-from (λ (e : Enlistment). is_counted (s.boots + 1) 0 e.id) es (λ e there.
-        counted e.id (enlisted-fact (λ (e : Superior). is_drawn s e.enlistment) good.enlistments_drawn e there));
-    enlistments_made = list_all-from (is_made_with_it (s.boots + 1)) es (λ e there.
-        let f = from e there in
-        or_left _ _ (subst (λ (id : Id). nat_lt id.boot (s.boots + 1) ≡ true) (sym (f.is).transaction) (lt-ltb _ _ (let boot = drawn-boot f.t.id (list_all-at (λ (t : Recorded). is_drawn s t.id) s.transactions good.transactions_drawn f.t f.there) in omega (arith, boot)))));
-    managers_counted = list_all-map (λ (m : Manager). is_counted (s.boots + 1) 0 m.id) (λ (m : ManagerPast). is_counted (s.boots + 1) 0 m.id) manager_now (λ m. refl) (map manager_back s.managers)
-        ∙ list_all-map (λ (m : ManagerPast). is_counted (s.boots + 1) 0 m.id) (λ id. is_counted (s.boots + 1) 0 id) manager_back (λ id. refl) s.managers
-        ∙ list_all-from (λ id. is_counted (s.boots + 1) 0 id) s.managers (λ id there. counted id (list_all-at (is_drawn s) s.managers good.managers_drawn id there));
-    labels_differ = refl;
-    booted = omega arith;
-    boots_fit = let left = good.boots_left in omega arith;
-    image_fits = good.image_fits;
-    objects_there = refl;
-    transactions_there = list_all-from (λ (e : Enlistment). has_transaction ts e.transaction) es (λ e there. let f = from e there in subst (λ id. has_transaction ts id ≡ true) (sym (f.is).transaction) (has-back f.t f.there f.brought));
-    managers_there = list_all-from (λ (e : Enlistment). has_manager ms e.manager) es (λ e there. (manager-back e.manager (managers-known e there)).0);
-    superiors_durable = list_all-from (is_superior_durable ms) es (λ e there. or_right _ _ (manager-back e.manager (managers-known e there)).1);
-    superiors_differ = each_pair-from earlier are_not_both_superiors es rises (λ a b there there' before. not_from_false _ (false_from_ne_true _ (λ both.
-        let two = and_parts (is_superior a && is_superior b) (same_id a.transaction b.transaction) both in
-        let one = and_parts (is_superior a) (is_superior b) two.0 in
-        let f = from a there in
-        let other = own f.t f.there b there' (same_id-from b.transaction (f.t).id (sym (same_id-equal a.transaction b.transaction two.1) ∙ (f.is).transaction)) in
-        let same : recorded_as a ≡ recorded_as b = same_Some _ _ (sym ((f.is).superior one.0) ∙ other.superior one.1) in
-        before_other a.id b.id before (ap (λ (e : Superior). e.enlistment) same))));
-    notes_there = list_all-map (λ (m : Manager). list_all (is_note_of es m.id) m.queue) (λ (m : ManagerPast). list_all (is_note_of es m.id) m.queue) manager_now (λ m. refl) (map manager_back s.managers)
-        ∙ list_all-map (λ (m : ManagerPast). list_all (is_note_of es m.id) m.queue) (λ id. true) manager_back (λ id. refl) s.managers ∙ list_all-from (λ id. true) s.managers (λ id there. refl);
-    outcomes = each (λ t. is_outcome_of t.phase t) (λ t there brought. stages t brought (λ u. is_outcome_of u.phase u ≡ true) (λ held. refl) (λ commits. refl));
-    boots = each (is_of_its_boot (s.boots + 1)) (λ t there brought.
-        let earlier' : nat_lt (t.id).boot (s.boots + 1) ≡ true = lt-ltb (t.id).boot (s.boots + 1) (let boot = drawn-boot t.id (list_all-at (λ (t : Recorded). is_drawn s t.id) s.transactions good.transactions_drawn t there) in omega (arith, boot)) in
-        stages t brought (λ u. is_of_its_boot (s.boots + 1) u ≡ true) (λ held. rw earlier' refl) (λ commits. rw earlier' refl));
-    superiors = each (has_superior_as_asked es) (λ t there brought. stages t brought (λ u. has_superior_as_asked es u ≡ true) (λ held. superior-back t there brought held) (λ commits. refl));
-    enlistments = each (are_enlistments_as_asked es) (λ t there brought. list_all-from (λ (e : Enlistment). not (same_id e.transaction t.id) || is_enlistment_as (transaction_back t).phase e) es (λ e in_es. elim (cases_Bool (same_id e.transaction t.id)) [
-      | inr other ↦ or_left _ _ (not_from_false _ other)
-      | inl same ↦ or_right _ _ (let b = own t there e in_es same in stages t brought (λ u. is_enlistment_as u.phase e ≡ true)
-          (λ held. back-waits t e b is_waiting (λ prepared. and_from _ _ (and_from _ _ b.owes prepared) (not_from_false _ b.finished)))
-          (λ commits. back-waits t e b (is_part_as Committing) (λ prepared. and_from _ _ prepared (if_second (e.is_recovered && not e.is_finished) _ _ (and_left _ _ b.recovered) b.owes))))
-    ]));
-    awaited = each (is_awaited es) (λ t there brought. stages t brought (λ u. is_awaited es u ≡ true) (λ held. refl) (λ commits. unfinished-back t there brought commits));
-    alone = each (is_alone_in_one_phase y) (λ t there brought. stages t brought (λ u. is_alone_in_one_phase y u ≡ true) (λ held. refl) (λ commits. refl));
-    recorded = each (is_recorded_as_asked ms es) (λ t there brought. stages t brought (λ u. is_recorded_as_asked ms es u ≡ true) (λ held. refl) (λ commits. refl));
-    unrecovered = list_all-from (is_unrecovered_well (s.boots + 1) ms) es (λ e there.
-        let is = (from e there).is in
-        or_right _ _ (and_from _ _ (and_from _ _ (and_from _ _ (and_from _ _ (and_from _ _
-        (lt-ltb (e.id).boot (s.boots + 1) (let boot = drawn-boot e.id (enlisted-fact (λ (e : Superior). is_drawn s e.enlistment) good.enlistments_drawn e there) in omega (arith, boot)))
-        (manager-back e.manager (managers-known e there)).1) (not_from_false _ is.read_only)) (not_from_false _ is.finished)) is.owes)
-        (elim is.prepared [ inl above ↦ or_left _ _ above.0 | inr below ↦ or_right _ _ below.1 ])));
-    information_fits = list_all-from (λ (e : Enlistment). nat_le (length e.information) MOST_INFORMATION_BYTES) es (λ e there. enlisted-fact (λ (e : Superior). nat_le (length e.information) MOST_INFORMATION_BYTES) good.information_fits e there);
-    begun = each (λ t. nat_le t.created 0) (λ t there brought. refl);
-    clock_fits = omega arith;
+    numbers = record {
+      booted = omega arith;
+      boots_fit = let left = good.boots_left in omega arith;
+      image_fits = good.image_fits;
+      clock_fits = omega arith;
+    };
+    transactions = record {
+      rise = each_pair-map (λ (t u : Transaction). is_before t.id u.id) (λ (t u : Recorded). is_before t.id u.id) transaction_back (λ t u. refl) (back s) ∙ each_pair-filter (λ (t u : Recorded). is_before t.id u.id) is_brought_back s.transactions good.transactions_rise;
+      counted = each (λ t. is_counted (s.boots + 1) 0 t.id) (λ t there brought. counted t.id (list_all-at (λ (t : Recorded). is_drawn s t.id) s.transactions good.transactions_drawn t there));
+      boots = each (is_of_its_boot (s.boots + 1)) (λ t there brought.
+          let earlier' : nat_lt (t.id).boot (s.boots + 1) ≡ true = lt-ltb (t.id).boot (s.boots + 1) (let boot = drawn-boot t.id (list_all-at (λ (t : Recorded). is_drawn s t.id) s.transactions good.transactions_drawn t there) in omega (arith, boot)) in
+          stages t brought (λ u. is_of_its_boot (s.boots + 1) u ≡ true) (λ held. rw earlier' refl) (λ commits. rw earlier' refl));
+      outcomes = each (λ t. is_outcome_of t.phase t) (λ t there brought. stages t brought (λ u. is_outcome_of u.phase u ≡ true) (λ held. refl) (λ commits. refl));
+      begun = each (λ t. nat_le t.created 0) (λ t there brought. refl);
+    };
+    enlistments = record {
+      rise = rises;
+      counted = list_all-from (λ (e : Enlistment). is_counted (s.boots + 1) 0 e.id) es (λ e there.
+          counted e.id (enlisted-fact (λ (e : Superior). is_drawn s e.enlistment) good.enlistments_drawn e there));
+      made = list_all-from (is_made_with_it (s.boots + 1)) es (λ e there.
+          let f = from e there in
+          or_left _ _ (subst (λ (id : Id). nat_lt id.boot (s.boots + 1) ≡ true) (sym (f.is).transaction) (lt-ltb _ _ (let boot = drawn-boot f.t.id (list_all-at (λ (t : Recorded). is_drawn s t.id) s.transactions good.transactions_drawn f.t f.there) in omega (arith, boot)))));
+      transactions_there = list_all-from (λ (e : Enlistment). has_transaction ts e.transaction) es (λ e there. let f = from e there in subst (λ id. has_transaction ts id ≡ true) (sym (f.is).transaction) (has-back f.t f.there f.brought));
+      managers_there = list_all-from (λ (e : Enlistment). has_manager ms e.manager) es (λ e there. (manager-back e.manager (managers-known e there)).0);
+      superiors_durable = list_all-from (is_superior_durable ms) es (λ e there. or_right _ _ (manager-back e.manager (managers-known e there)).1);
+      superiors_differ = each_pair-from earlier are_not_both_superiors es rises (λ a b there there' before. not_from_false _ (false_from_ne_true _ (λ both.
+          let two = and_parts (is_superior a && is_superior b) (same_id a.transaction b.transaction) both in
+          let one = and_parts (is_superior a) (is_superior b) two.0 in
+          let f = from a there in
+          let other = own f.t f.there b there' (same_id-from b.transaction (f.t).id (sym (same_id-equal a.transaction b.transaction two.1) ∙ (f.is).transaction)) in
+          let same : recorded_as a ≡ recorded_as b = same_Some _ _ (sym ((f.is).superior one.0) ∙ other.superior one.1) in
+          before_other a.id b.id before (ap (λ (e : Superior). e.enlistment) same))));
+      unrecovered = list_all-from (is_unrecovered_well (s.boots + 1) ms) es (λ e there.
+          let is = (from e there).is in
+          or_right _ _ (and_from _ _ (and_from _ _ (and_from _ _ (and_from _ _ (and_from _ _
+          (lt-ltb (e.id).boot (s.boots + 1) (let boot = drawn-boot e.id (enlisted-fact (λ (e : Superior). is_drawn s e.enlistment) good.enlistments_drawn e there) in omega (arith, boot)))
+          (manager-back e.manager (managers-known e there)).1) (not_from_false _ is.read_only)) (not_from_false _ is.finished)) is.owes)
+          (elim is.prepared [ inl above ↦ or_left _ _ above.0 | inr below ↦ or_right _ _ below.1 ])));
+      information_fits = list_all-from (λ (e : Enlistment). nat_le (length e.information) MOST_INFORMATION_BYTES) es (λ e there. enlisted-fact (λ (e : Superior). nat_le (length e.information) MOST_INFORMATION_BYTES) good.information_fits e there);
+    };
+    managers = record {
+      rise = each_pair-map (λ (m n : Manager). is_before m.id n.id) (λ (m n : ManagerPast). is_before m.id n.id) manager_now (λ m n. refl) (map manager_back s.managers) ∙ each_pair-map (λ (m n : ManagerPast). is_before m.id n.id) is_before manager_back (λ m n. refl) s.managers ∙ good.managers_rise;
+      counted = list_all-map (λ (m : Manager). is_counted (s.boots + 1) 0 m.id) (λ (m : ManagerPast). is_counted (s.boots + 1) 0 m.id) manager_now (λ m. refl) (map manager_back s.managers)
+          ∙ list_all-map (λ (m : ManagerPast). is_counted (s.boots + 1) 0 m.id) (λ id. is_counted (s.boots + 1) 0 id) manager_back (λ id. refl) s.managers
+          ∙ list_all-from (λ id. is_counted (s.boots + 1) 0 id) s.managers (λ id there. counted id (list_all-at (is_drawn s) s.managers good.managers_drawn id there));
+      notes_there = list_all-map (λ (m : Manager). list_all (is_note_of es m.id) m.queue) (λ (m : ManagerPast). list_all (is_note_of es m.id) m.queue) manager_now (λ m. refl) (map manager_back s.managers)
+          ∙ list_all-map (λ (m : ManagerPast). list_all (is_note_of es m.id) m.queue) (λ id. true) manager_back (λ id. refl) s.managers ∙ list_all-from (λ id. true) s.managers (λ id there. refl);
+    };
+    handles = record {
+      labels_differ = refl;
+      objects_there = refl;
+    };
+    phases = record {
+      superiors = each (has_superior_as_asked es) (λ t there brought. stages t brought (λ u. has_superior_as_asked es u ≡ true) (λ held. superior-back t there brought held) (λ commits. refl));
+      enlistments = each (are_enlistments_as_asked es) (λ t there brought. list_all-from (λ (e : Enlistment). not (same_id e.transaction t.id) || is_enlistment_as (transaction_back t).phase e) es (λ e in_es. elim (cases_Bool (same_id e.transaction t.id)) [
+        | inr other ↦ or_left _ _ (not_from_false _ other)
+        | inl same ↦ or_right _ _ (let b = own t there e in_es same in stages t brought (λ u. is_enlistment_as u.phase e ≡ true)
+            (λ held. back-waits t e b is_waiting (λ prepared. and_from _ _ (and_from _ _ b.owes prepared) (not_from_false _ b.finished)))
+            (λ commits. back-waits t e b (is_part_as Committing) (λ prepared. and_from _ _ prepared (if_second (e.is_recovered && not e.is_finished) _ _ (and_left _ _ b.recovered) b.owes))))
+      ]));
+      awaited = each (is_awaited es) (λ t there brought. stages t brought (λ u. is_awaited es u ≡ true) (λ held. refl) (λ commits. unfinished-back t there brought commits));
+      recorded = each (is_recorded_as_asked ms es) (λ t there brought. stages t brought (λ u. is_recorded_as_asked ms es u ≡ true) (λ held. refl) (λ commits. refl));
+    };
+    alone = each (is_alone_in_one_phase ((y.files).table).own (y.keys).own) (λ t there brought. stages t brought (λ u. is_alone_in_one_phase ((y.files).table).own (y.keys).own u ≡ true) (λ held. refl) (λ commits. refl));
   }
     where
       differ : each_pair differ_in_id (flat_map enlistments_back (back s)) ≡ true

@@ -15,7 +15,7 @@ use Rattle.ktm_world.specs.Outcome.{served}
 use Rattle.ktm_world.specs.Present.{Present, Transactions}
 use Rattle.ktm_world.specs.Transactions.{same_id}
 use Rattle.txf_laws.specs.Elements.{IsIn, each_pair}
-use Rattle.ktm_courses.specs.SoundCourse.{IsSoundCourse, has_manager, is_object_there, is_note_of, is_superior_durable, is_unrecovered_well, has_durable_part, is_recorded_as, is_recorded_as_asked}
+use Rattle.ktm_courses.specs.SoundCourse.{IsSoundCourse, has_manager, is_object_there, is_note_of, is_superior_durable, is_unrecovered_well, has_durable_part, is_recorded_as, is_recorded_as_asked, is_there}
 use Rattle.txf_laws.proofs.offered.Lists.{IsIn-cases, IsIn-unmap}
 use Rattle.txf_laws.proofs.offered.Elements.{IsIn-filter, list_all-at, list_all-from}
 use Rattle.txf_laws.proofs.offered.Tables.{same_id-equal}
@@ -49,43 +49,14 @@ sound-alike x y alike sound = subst IsSoundCourse
   where
     viewed : IsSoundCourse (with_view y (x.recorded).boots (x.recorded).image x.transactions x.managers x.handles ((x.files).table).own (x.keys).own)
     viewed = record {
-      transactions_rise = sound.transactions_rise;
-      enlistments_rise = sound.enlistments_rise;
-      managers_rise = sound.managers_rise;
-      transactions_counted = sound.transactions_counted;
-      enlistments_counted = sound.enlistments_counted;
-      enlistments_made = sound.enlistments_made;
-      managers_counted = sound.managers_counted;
-      labels_differ = sound.labels_differ;
-      booted = sound.booted;
-      boots_fit = sound.boots_fit;
-      image_fits = sound.image_fits;
-      objects_there = list_all-from (λ (h : Handle). is_object_there (with_view y (x.recorded).boots (x.recorded).image x.transactions x.managers x.handles ((x.files).table).own (x.keys).own) h.object) x.handles
-          (λ h there. one h.object (list_all-at (λ (h : Handle). is_object_there x h.object) x.handles sound.objects_there h there));
-      transactions_there = sound.transactions_there;
-      managers_there = sound.managers_there;
-      superiors_durable = sound.superiors_durable;
-      superiors_differ = sound.superiors_differ;
-      notes_there = sound.notes_there;
-      outcomes = sound.outcomes;
-      boots = sound.boots;
-      superiors = sound.superiors;
+      numbers = sound.numbers;
+      transactions = sound.transactions;
       enlistments = sound.enlistments;
-      awaited = sound.awaited;
+      managers = sound.managers;
+      handles = sound.handles;
+      phases = sound.phases;
       alone = sound.alone;
-      recorded = sound.recorded;
-      unrecovered = sound.unrecovered;
-      information_fits = sound.information_fits;
-      begun = sound.begun;
-      clock_fits = sound.clock_fits;
     }
-      where
-        one : (object : Object) → is_object_there x object ≡ true
-            → is_object_there (with_view y (x.recorded).boots (x.recorded).image x.transactions x.managers x.handles ((x.files).table).own (x.keys).own) object ≡ true
-        one (TransactionObject id) is = is
-        one (ManagerObject id) is = is
-        one (EnlistmentObject id) is = is
-        one (FileObject number) is = is
 
 -- ---- lists whose elements are changed alike
 
@@ -128,50 +99,51 @@ recorded-durable ms ns es same phase id r = go phase
 pub sound-served : (x : Present) (took : Option Id) (sent : List Sent) → IsSoundCourse x → ((s : Sent) → IsIn s sent → is_note_of (x.transactions).enlistments s.manager s.note ≡ true)
     → IsSoundCourse (record x { managers = map (served took sent) x.managers })
 sound-served x took sent sound told = record {
-  transactions_rise = sound.transactions_rise;
-  enlistments_rise = sound.enlistments_rise;
-  managers_rise = each_pair-map _ _ (served took sent) (λ m n. refl) x.managers ∙ sound.managers_rise;
-  transactions_counted = sound.transactions_counted;
-  enlistments_counted = sound.enlistments_counted;
-  enlistments_made = sound.enlistments_made;
-  managers_counted = list_all-map _ _ (served took sent) (λ m. refl) x.managers ∙ sound.managers_counted;
-  labels_differ = sound.labels_differ;
-  booted = sound.booted;
-  boots_fit = sound.boots_fit;
-  image_fits = sound.image_fits;
-  objects_there = list_all-from (λ (h : Handle). is_object_there (record x { managers = map (served took sent) x.managers }) h.object) x.handles
-      (λ h there. object h.object (list_all-at (λ (h : Handle). is_object_there x h.object) x.handles sound.objects_there h there));
-  transactions_there = sound.transactions_there;
-  managers_there = list_all-from (λ (e : Enlistment). has_manager (map (served took sent) x.managers) e.manager) (x.transactions).enlistments
-      (λ e there. manager-there e.manager ∙ list_all-at (λ (e : Enlistment). has_manager x.managers e.manager) (x.transactions).enlistments sound.managers_there e there);
-  superiors_durable = list_all-from (is_superior_durable (map (served took sent) x.managers)) (x.transactions).enlistments
-      (λ e there. ap (λ b. not (is_superior e) || b) (durable-served took sent x.managers e.manager) ∙ list_all-at (is_superior_durable x.managers) (x.transactions).enlistments sound.superiors_durable e there);
-  superiors_differ = sound.superiors_differ;
-  notes_there = list_all-from (λ (m : Manager). list_all (is_note_of (x.transactions).enlistments m.id) m.queue) (map (served took sent) x.managers)
-      (λ m there.
-      let from = IsIn-unmap (served took sent) m x.managers there in
-      subst (λ (n : Manager). list_all (is_note_of (x.transactions).enlistments n.id) n.queue ≡ true) from.1 (queue from.0 from.2));
-  outcomes = sound.outcomes;
-  boots = sound.boots;
-  superiors = sound.superiors;
-  enlistments = sound.enlistments;
-  awaited = sound.awaited;
+  numbers = sound.numbers;
+  transactions = sound.transactions;
+  enlistments = record {
+    rise = sound.enlistments.rise;
+    counted = sound.enlistments.counted;
+    made = sound.enlistments.made;
+    transactions_there = sound.enlistments.transactions_there;
+    managers_there = list_all-from (λ (e : Enlistment). has_manager (map (served took sent) x.managers) e.manager) (x.transactions).enlistments
+        (λ e there. manager-there e.manager ∙ list_all-at (λ (e : Enlistment). has_manager x.managers e.manager) (x.transactions).enlistments sound.enlistments.managers_there e there);
+    superiors_durable = list_all-from (is_superior_durable (map (served took sent) x.managers)) (x.transactions).enlistments
+        (λ e there. ap (λ b. not (is_superior e) || b) (durable-served took sent x.managers e.manager) ∙ list_all-at (is_superior_durable x.managers) (x.transactions).enlistments sound.enlistments.superiors_durable e there);
+    superiors_differ = sound.enlistments.superiors_differ;
+    unrecovered = list_all-from (is_unrecovered_well (x.recorded).boots (map (served took sent) x.managers)) (x.transactions).enlistments
+        (λ e there. ap (λ b. e.is_recovered || (Rattle.std.specs.Prelude.nat_lt (e.id).boot (x.recorded).boots && b && not e.is_read_only && not e.is_finished && Rattle.std.specs.Prelude.is_none e.owes && (is_superior e || e.is_prepared))) (durable-served took sent x.managers e.manager)
+        ∙ list_all-at (is_unrecovered_well (x.recorded).boots x.managers) (x.transactions).enlistments sound.enlistments.unrecovered e there);
+    information_fits = sound.enlistments.information_fits;
+  };
+  managers = record {
+    rise = each_pair-map _ _ (served took sent) (λ m n. refl) x.managers ∙ sound.managers.rise;
+    counted = list_all-map _ _ (served took sent) (λ m. refl) x.managers ∙ sound.managers.counted;
+    notes_there = list_all-from (λ (m : Manager). list_all (is_note_of (x.transactions).enlistments m.id) m.queue) (map (served took sent) x.managers)
+        (λ m there.
+        let from = IsIn-unmap (served took sent) m x.managers there in
+        subst (λ (n : Manager). list_all (is_note_of (x.transactions).enlistments n.id) n.queue ≡ true) from.1 (queue from.0 from.2));
+  };
+  handles = record {
+    labels_differ = sound.handles.labels_differ;
+    objects_there = list_all-from (λ (h : Handle). is_object_there (x.transactions).items (map (served took sent) x.managers) (x.transactions).enlistments h.object) x.handles
+        (λ h there. object h.object (list_all-at (λ (h : Handle). is_there x h.object) x.handles sound.handles.objects_there h there));
+  };
+  phases = record {
+    superiors = sound.phases.superiors;
+    enlistments = sound.phases.enlistments;
+    awaited = sound.phases.awaited;
+    recorded = list_all-from (is_recorded_as_asked (map (served took sent) x.managers) (x.transactions).enlistments) (x.transactions).items
+        (λ t there. recorded-durable x.managers (map (served took sent) x.managers) (x.transactions).enlistments (λ e is. durable-served took sent x.managers e.manager) t.phase t.id t.is_recorded
+        ∙ list_all-at (is_recorded_as_asked x.managers (x.transactions).enlistments) (x.transactions).items sound.phases.recorded t there);
+  };
   alone = sound.alone;
-  recorded = list_all-from (is_recorded_as_asked (map (served took sent) x.managers) (x.transactions).enlistments) (x.transactions).items
-      (λ t there. recorded-durable x.managers (map (served took sent) x.managers) (x.transactions).enlistments (λ e is. durable-served took sent x.managers e.manager) t.phase t.id t.is_recorded
-      ∙ list_all-at (is_recorded_as_asked x.managers (x.transactions).enlistments) (x.transactions).items sound.recorded t there);
-  unrecovered = list_all-from (is_unrecovered_well (x.recorded).boots (map (served took sent) x.managers)) (x.transactions).enlistments
-      (λ e there. ap (λ b. e.is_recovered || (Rattle.std.specs.Prelude.nat_lt (e.id).boot (x.recorded).boots && b && not e.is_read_only && not e.is_finished && Rattle.std.specs.Prelude.is_none e.owes && (is_superior e || e.is_prepared))) (durable-served took sent x.managers e.manager)
-      ∙ list_all-at (is_unrecovered_well (x.recorded).boots x.managers) (x.transactions).enlistments sound.unrecovered e there);
-  information_fits = sound.information_fits;
-  begun = sound.begun;
-  clock_fits = sound.clock_fits;
 }
   where
     manager-there : (id : Id) → has_manager (map (served took sent) x.managers) id ≡ has_manager x.managers id
     manager-there id = list_any-map (λ (m : Manager). same_id m.id id) (λ m. same_id m.id id) (served took sent) (λ m. refl) x.managers
 
-    object : (object : Object) → is_object_there x object ≡ true → is_object_there (record x { managers = map (served took sent) x.managers }) object ≡ true
+    object : (object : Object) → is_there x object ≡ true → is_object_there (x.transactions).items (map (served took sent) x.managers) (x.transactions).enlistments object ≡ true
     object (TransactionObject id) is = is
     object (ManagerObject id) is = manager-there id ∙ is
     object (EnlistmentObject id) is = is
@@ -181,7 +153,7 @@ sound-served x took sent sound told = record {
     queue m there = list_all-from (is_note_of (x.transactions).enlistments m.id) (drop (taken_count m.id took) m.queue ++ notes_for m.id sent) (λ note is.
         elim (IsIn-cases note (drop (taken_count m.id took) m.queue) (notes_for m.id sent) is) [
           | inl waits ↦ list_all-at (is_note_of (x.transactions).enlistments m.id) m.queue
-              (list_all-at (λ (n : Manager). list_all (is_note_of (x.transactions).enlistments n.id) n.queue) x.managers sound.notes_there m there) note (IsIn-drop (taken_count m.id took) m.queue note waits)
+              (list_all-at (λ (n : Manager). list_all (is_note_of (x.transactions).enlistments n.id) n.queue) x.managers sound.managers.notes_there m there) note (IsIn-drop (taken_count m.id took) m.queue note waits)
           | inr new ↦
               let from = IsIn-unmap (λ (s : Sent). s.note) note (filter (λ (s : Sent). same_id s.manager m.id) sent) new in
               let at = IsIn-filter (λ (s : Sent). same_id s.manager m.id) sent from.0 from.2 in

@@ -8,6 +8,7 @@ use Rattle.std.specs.Prelude.{nat_le}
 use Rattle.ktm_base.specs.declared.id.Id.{Id}
 use Rattle.ktm_base.specs.declared.id.Label.{Label}
 use Rattle.ktm_base.specs.declared.id.Pid.{Pid}
+use Rattle.ktm_types.specs.declared.input.PhaseInput.{PhaseInput}
 use Rattle.ktm_types.specs.declared.object.Handle.{Handle}
 use Rattle.ktm_types.specs.declared.object.Object.{Object}
 use Rattle.ktm_types.specs.declared.object.Object.TheVariants.{Transaction as TransactionObject, Manager as ManagerObject, Enlistment as EnlistmentObject, File as FileObject}
@@ -23,7 +24,6 @@ use Rattle.ktm_world.specs.Lawful.{are_apart, is_alone, is_touched_by, others_un
 use Rattle.ktm_world.specs.Outcome.{Outcome, apply, only_reply, joined, and_then}
 use Rattle.ktm_world.specs.Present.{Present}
 use Rattle.ktm_world.specs.TransactionCalls.{aborted_by}
-use Rattle.ktm_world.specs.Phases.{aborting}
 use Rattle.ktm_world.specs.Transactions.{is_active, is_of, transaction_at}
 use Rattle.ktm_world.specs.Tree.{is_file}
 use Rattle.txf_laws.specs.Elements.{IsIn, each_pair}
@@ -32,7 +32,6 @@ use Rattle.txf_laws.specs.Formed.{FormedLaw}
 use Rattle.txf_laws.specs.SoundFiles.{IsSoundFiles, is_undecided_in, opens_rise, made_or_opened, is_change_of_opened, has_dropped, is_open_last, is_plain_well, is_own_well, may_use, files_apart, all_files_apart, opens_no_directory, is_gone}
 use Rattle.txf_laws.proofs.offered.Reservations.{named}
 use Rattle.ktm_owned.proofs.offered.OwnedAfterCourses.{Goes, only_reply-goes, and_then-goes, either-goes, course-goes}
-use Rattle.ktm_owned.proofs.offered.CoursesKept.{aborting-is}
 use Rattle.txf_laws.proofs.offered.Diamonds.{IsIn-map, IsIn-right, no_test, none-from}
 use Rattle.txf_laws.proofs.offered.Elements.{IsIn-filter, IsIn-kept, list_all-at, list_all-from, list_any-at, list_any-from, each_pair-filter, filter-true}
 use Rattle.txf_laws.proofs.offered.Lists.{IsIn-left, IsIn-cases, IsIn-unmap}
@@ -233,7 +232,7 @@ module _ (lists : ListsLaw) (formed : FormedLaw) where
       go None found = only_reply-goes lists formed y Done
       go (Some t) found =
           either-goes lists formed y (is_active t) (aborted_by y t None Done) (only_reply y Done)
-          (course-goes lists formed y t None aborting (λ c. Done) (transaction_at-in y.transactions.items id t found) aborting-is) (only_reply-goes lists formed y Done)
+          (course-goes lists formed y t None PhaseInput.Rollback (λ c. Done) (transaction_at-in y.transactions.items id t found)) (only_reply-goes lists formed y Done)
 
   -- the last handle of a transaction, a resource manager or an enlistment is gone
   pub gone-goes : (y : Present) (object : Object) → Goes lists formed y (last_handle_gone y object) → Goes lists formed y (handle_gone (Some object) y)

@@ -9,6 +9,7 @@ use Rattle.ktm_base.specs.declared.refusal.Refusal.TheVariants.{LogFull, Machine
 use Rattle.std.specs.Prelude.{option_and_then}
 use Rattle.ktm_types.specs.declared.command.Command.{Command}
 use Rattle.ktm_types.specs.declared.command.Command.TheVariants.{CreateFile, CreateFileTransacted, WriteFile, SetEndOfFile, DeleteFileTransacted, CreateDirectoryTransacted, RemoveDirectoryTransacted, MoveFileTransacted, Exit, CloseHandle, MoveFile, RemoveDirectory, CreateDirectory, DeleteFile, OpenTransaction, CommitTransaction, RollbackTransaction, GetTransactionInformation, CreateResourceManager, OpenResourceManager, RecoverResourceManager, GetNotificationResourceManager, CreateEnlistment, OpenEnlistment, RecoverEnlistment, PrePrepareComplete, PrepareComplete, ReadOnlyEnlistment, CommitComplete, RollbackComplete, SinglePhaseReject, RollbackEnlistment, PrePrepareEnlistment, PrepareEnlistment, CommitEnlistment, SetEnlistmentRecoveryInformation, GetEnlistmentRecoveryInformation, ReadFile, GetFileSizeEx, FlushFileBuffers, FindFiles, FindFilesTransacted, KvSet, KvUnset, KvGet, KvList, DuplicateHandle, CreateTransaction}
+use Rattle.ktm_types.specs.declared.input.PhaseInput.{PhaseInput}
 use Rattle.ktm_types.specs.declared.object.Object.{Object}
 use Rattle.ktm_types.specs.declared.object.Transaction.{Transaction}
 use Rattle.ktm_types.specs.declared.options.Durability.{Durability}
@@ -23,14 +24,14 @@ use Rattle.ktm_world.specs.HandleCalls.{exit, close_handle, duplicate_handle, bi
 use Rattle.ktm_world.specs.Handles.{object_at, transaction_id}
 use Rattle.ktm_world.specs.Labels.{transaction_named, manager_named, enlistment_named, file_named}
 use Rattle.ktm_world.specs.Outcome.{apply, Outcome, only_reply, first_refusal, refuse_or, within_log, is_full}
-use Rattle.ktm_world.specs.Phases.{Course, to_commit, aborting, committing, to_pre_prepare, to_prepare, pre_prepare_answered, prepare_answered, read_only_answered, commit_answered, rollback_answered, single_phase_rejected, recovered}
+use Rattle.ktm_world.specs.Phases.{Course}
 use Rattle.ktm_world.specs.Present.{Present}
-use Rattle.ktm_world.specs.TransactionCalls.{bound_test, course_of, arrived, open_transaction, open_to_transaction, transaction_with, commit_transaction, commit_reply, rollback_transaction, get_transaction_information, information_of, information_in, create_resource_manager, open_resource_manager, open_to_manager, manager_with, recover_resource_manager, get_notification, create_enlistment, open_enlistment, open_to_enlistment, enlistment_with, goes_on, answering, transaction_in, pre_prepare_complete, prepare_complete, read_only_enlistment, commit_complete, rollback_complete, single_phase_reject, rollback_enlistment, pre_prepare_enlistment, prepare_enlistment, commit_enlistment, recover_enlistment, set_information, get_information, tick, new_id, create_transaction}
+use Rattle.ktm_world.specs.Steps.{led, share_of}
+use Rattle.ktm_world.specs.TransactionCalls.{bound_test, course_of, arrived, open_transaction, open_to_transaction, transaction_with, commit_transaction, commit_reply, rollback_transaction, get_transaction_information, information_of, information_in, create_resource_manager, open_resource_manager, open_to_manager, manager_with, recover_resource_manager, get_notification, create_enlistment, open_enlistment, open_to_enlistment, enlistment_with, goes_on, answering, transaction_in, pre_prepare_complete, prepare_complete, read_only_enlistment, commit_complete, rollback_complete, single_phase_reject, rollback_enlistment, pre_prepare_enlistment, prepare_enlistment, commit_enlistment, recover_enlistment, set_information, get_information, tick, new_id, create_transaction, recovery_of}
 use Rattle.ktm_world.specs.Transactions.{transaction_at}
 use Rattle.ktm_world.specs.Uses.{file_room}
 use Rattle.txf_laws.specs.Elements.{IsIn}
 use Rattle.txf_laws.specs.Footprint.{ListsLaw}
-use Rattle.ktm_owned.proofs.offered.CoursesKept.{Steps, to_commit-is, aborting-is, committing-is, to_pre_prepare-is, to_prepare-is, pre_prepare_answered-is, prepare_answered-is, read_only_answered-is, commit_answered-is, rollback_answered-is, single_phase_rejected-is, recovered-is}
 use Rattle.ktm_owned.specs.FilesKept.{FilesKeptLaw}
 use Rattle.ktm_courses.specs.SoundCourse.{IsSoundCourse, is_counted}
 use Rattle.ktm_courses.proofs.offered.Calls.{Passes, passed, transaction_at-found}
@@ -60,16 +61,16 @@ module _ (lists : ListsLaw) (formed : FormedLaw) where
   by : (x : Present) (o : Outcome) → Goes lists formed x o → Keeps x o
   by x o goes order sound = (goes.keeps order sound).1
 
-  step : (x : Present) (t : Transaction) (caller : Option Enlistment) (f : Course → Course) (reply : Course → Reply) → IsIn t x.transactions.items → Steps f → Keeps x (arrived x (f (course_of x t caller)) (reply (f (course_of x t caller))))
-  step x t caller f reply there steps = by x _ (course-goes lists formed x t caller f reply there steps)
+  step : (x : Present) (t : Transaction) (caller : Option Enlistment) (input : PhaseInput) (reply : Course → Reply) → IsIn t x.transactions.items → Keeps x (arrived x (led input (course_of x t caller)) (reply (led input (course_of x t caller))))
+  step x t caller input reply there = by x _ (course-goes lists formed x t caller input reply there)
 
-  answers : (x : Present) (e : Option Enlistment) (f : Course → Enlistment → Course) → ((e : Enlistment) → Steps (λ c. f c e)) → Keeps x (answering x e f)
-  answers x None f steps = replies lists formed x Done
-  answers x (Some e) f steps = go (transaction_in x e) refl
+  answers : (x : Present) (e : Option Enlistment) (input : Enlistment → PhaseInput) → Keeps x (answering x e input)
+  answers x None input = replies lists formed x Done
+  answers x (Some e) input = go (transaction_in x e) refl
     where
-      go : (t : Option Transaction) → transaction_in x e ≡ t → Keeps x (goes_on x e t f)
+      go : (t : Option Transaction) → transaction_in x e ≡ t → Keeps x (goes_on x e t (input e))
       go None found = replies lists formed x Done
-      go (Some t) found = step x t (Some e) (λ c. f c e) (λ c. Done) (transaction_at-in x.transactions.items e.transaction t found) (steps e)
+      go (Some t) found = step x t (Some e) (input e) (λ c. Done) (transaction_at-in x.transactions.items e.transaction t found)
 
   -- the transaction that a label names is there
   named-there : (x : Present) (process : Pid) (label : Label) (t : Transaction) → transaction_named x process label ≡ Some t → IsIn t x.transactions.items
@@ -82,12 +83,12 @@ module _ (lists : ListsLaw) (formed : FormedLaw) where
   commits : (x : Present) (t : Option Transaction) → ((u : Transaction) → t ≡ Some u → IsIn u x.transactions.items) → Keeps x (commit_transaction x t)
   unfolding commit_transaction
   commits x None there = replies lists formed x Done
-  commits x (Some t) there = step x t None to_commit commit_reply (there t refl) to_commit-is
+  commits x (Some t) there = step x t None PhaseInput.CommitTransaction commit_reply (there t refl)
 
   rolls_back : (x : Present) (t : Option Transaction) → ((u : Transaction) → t ≡ Some u → IsIn u x.transactions.items) → Keeps x (rollback_transaction x t)
   unfolding rollback_transaction
   rolls_back x None there = replies lists formed x Done
-  rolls_back x (Some t) there = step x t None aborting (λ c. Done) (there t refl) aborting-is
+  rolls_back x (Some t) there = step x t None PhaseInput.Rollback (λ c. Done) (there t refl)
 
   opens_transaction : (x : Present) (process : Pid) (label : Label) (guid : List ℕ) → Keeps x (open_transaction x process label guid)
   unfolding open_transaction
@@ -137,50 +138,6 @@ module _ (lists : ListsLaw) (formed : FormedLaw) where
       go : (e : Option Enlistment) → Keeps x (open_to_enlistment x process label e)
       go None = replies lists formed x Done
       go (Some e) = labelled lists formed x process label (Object.Enlistment e.id) Done
-
-  recovers : (x : Present) (e : Option Enlistment) → Keeps x (recover_enlistment x e)
-  unfolding recover_enlistment
-  recovers x e = answers x e recovered (λ e t cs ss c is. recovered-is t cs ss c e is)
-
-  pre_prepares : (x : Present) (e : Option Enlistment) → Keeps x (pre_prepare_complete x e)
-  unfolding pre_prepare_complete
-  pre_prepares x e = answers x e pre_prepare_answered (λ e t cs ss c is. pre_prepare_answered-is t cs ss c e is)
-
-  prepares : (x : Present) (e : Option Enlistment) → Keeps x (prepare_complete x e)
-  unfolding prepare_complete
-  prepares x e = answers x e prepare_answered (λ e t cs ss c is. prepare_answered-is t cs ss c e is)
-
-  reads_only : (x : Present) (e : Option Enlistment) → Keeps x (read_only_enlistment x e)
-  unfolding read_only_enlistment
-  reads_only x e = answers x e read_only_answered (λ e t cs ss c is. read_only_answered-is t cs ss c e is)
-
-  has_committed : (x : Present) (e : Option Enlistment) → Keeps x (commit_complete x e)
-  unfolding commit_complete
-  has_committed x e = answers x e commit_answered (λ e t cs ss c is. commit_answered-is t cs ss c e is)
-
-  has_rolled_back : (x : Present) (e : Option Enlistment) → Keeps x (rollback_complete x e)
-  unfolding rollback_complete
-  has_rolled_back x e = answers x e rollback_answered (λ e t cs ss c is. rollback_answered-is t cs ss c e is)
-
-  rejects : (x : Present) (e : Option Enlistment) → Keeps x (single_phase_reject x e)
-  unfolding single_phase_reject
-  rejects x e = answers x e single_phase_rejected (λ e t cs ss c is. single_phase_rejected-is t cs ss c e is)
-
-  rolls_back_by : (x : Present) (e : Option Enlistment) → Keeps x (rollback_enlistment x e)
-  unfolding rollback_enlistment
-  rolls_back_by x e = answers x e (λ c e. aborting c) (λ e. aborting-is)
-
-  asks_pre_prepare : (x : Present) (e : Option Enlistment) → Keeps x (pre_prepare_enlistment x e)
-  unfolding pre_prepare_enlistment
-  asks_pre_prepare x e = answers x e (λ c e. to_pre_prepare c) (λ e. to_pre_prepare-is)
-
-  asks_prepare : (x : Present) (e : Option Enlistment) → Keeps x (prepare_enlistment x e)
-  unfolding prepare_enlistment
-  asks_prepare x e = answers x e (λ c e. to_prepare c) (λ e. to_prepare-is)
-
-  decides : (x : Present) (e : Option Enlistment) → Keeps x (commit_enlistment x e)
-  unfolding commit_enlistment
-  decides x e = answers x e (λ c e. committing c) (λ e. committing-is)
 
   keeps_information : (x : Present) (e : Option Enlistment) (information : List ℕ) → Keeps x (set_information x e information)
   unfolding set_information
@@ -236,7 +193,7 @@ module _ (lists : ListsLaw) (formed : FormedLaw) where
       go (Some t) found =
           let there = transaction_at-found x.transactions.items (new_id x x.transactions.last_transaction) t found in
           absurd (before_other t.id (new_id x x.transactions.last_transaction) (counted-before x.recorded.boots x.transactions.last_transaction t.id
-          (list_all-at (λ (t : Transaction). is_counted x.recorded.boots x.transactions.last_transaction t.id) x.transactions.items course.transactions_counted t there.0)) there.1)
+          (list_all-at (λ (t : Transaction). is_counted x.recorded.boots x.transactions.last_transaction t.id) x.transactions.items course.transactions.counted t there.0)) there.1)
 
   -- the tests of a command on a machine that is up
   pub up-passes : (x : Present) (process : Pid) (command : Command) → refusal_of x process command ≡ None → Passes (command_tests x process command)
@@ -252,6 +209,7 @@ module _ (lists : ListsLaw) (formed : FormedLaw) where
   -- ---- every call
 
   effect : (x : Present) (process : Pid) (command : Command) → IsSoundCourse x → refusal_of x process command ≡ None → Keeps x (command_effect x process command)
+  unfolding recover_enlistment pre_prepare_complete prepare_complete read_only_enlistment commit_complete rollback_complete single_phase_reject rollback_enlistment pre_prepare_enlistment prepare_enlistment commit_enlistment
   effect x process (CreateTransaction label timeout) course none = λ order sound. begins x process label timeout (new-begins x course) sound
   effect x process (OpenTransaction label guid) course none = opens_transaction x process label guid
   effect x process (CommitTransaction label) course none = commits x (transaction_named x process label) (named-there x process label)
@@ -263,17 +221,17 @@ module _ (lists : ListsLaw) (formed : FormedLaw) where
   effect x process (GetNotificationResourceManager label) course none = takes x (manager_named x process label)
   effect x process (CreateEnlistment label manager transaction kind) course none = enlists x process label (manager_named x process manager) (transaction_named x process transaction) kind
   effect x process (OpenEnlistment label manager guid) course none = opens_enlistment x process label (manager_named x process manager) guid
-  effect x process (RecoverEnlistment label) course none = recovers x (enlistment_named x process label)
-  effect x process (PrePrepareComplete label) course none = pre_prepares x (enlistment_named x process label)
-  effect x process (PrepareComplete label) course none = prepares x (enlistment_named x process label)
-  effect x process (ReadOnlyEnlistment label) course none = reads_only x (enlistment_named x process label)
-  effect x process (CommitComplete label) course none = has_committed x (enlistment_named x process label)
-  effect x process (RollbackComplete label) course none = has_rolled_back x (enlistment_named x process label)
-  effect x process (SinglePhaseReject label) course none = rejects x (enlistment_named x process label)
-  effect x process (RollbackEnlistment label) course none = rolls_back_by x (enlistment_named x process label)
-  effect x process (PrePrepareEnlistment label) course none = asks_pre_prepare x (enlistment_named x process label)
-  effect x process (PrepareEnlistment label) course none = asks_prepare x (enlistment_named x process label)
-  effect x process (CommitEnlistment label) course none = decides x (enlistment_named x process label)
+  effect x process (RecoverEnlistment label) course none = answers x (enlistment_named x process label) recovery_of
+  effect x process (PrePrepareComplete label) course none = answers x (enlistment_named x process label) (λ e. PhaseInput.PrePrepareComplete)
+  effect x process (PrepareComplete label) course none = answers x (enlistment_named x process label) (λ e. PhaseInput.PrepareComplete)
+  effect x process (ReadOnlyEnlistment label) course none = answers x (enlistment_named x process label) (λ e. PhaseInput.ReadOnly (share_of e))
+  effect x process (CommitComplete label) course none = answers x (enlistment_named x process label) (λ e. PhaseInput.CommitComplete)
+  effect x process (RollbackComplete label) course none = answers x (enlistment_named x process label) (λ e. PhaseInput.RollbackComplete)
+  effect x process (SinglePhaseReject label) course none = answers x (enlistment_named x process label) (λ e. PhaseInput.SinglePhaseReject)
+  effect x process (RollbackEnlistment label) course none = answers x (enlistment_named x process label) (λ e. PhaseInput.Rollback)
+  effect x process (PrePrepareEnlistment label) course none = answers x (enlistment_named x process label) (λ e. PhaseInput.PrePrepare)
+  effect x process (PrepareEnlistment label) course none = answers x (enlistment_named x process label) (λ e. PhaseInput.Prepare)
+  effect x process (CommitEnlistment label) course none = answers x (enlistment_named x process label) (λ e. PhaseInput.Commit)
   effect x process (SetEnlistmentRecoveryInformation label information) course none = keeps_information x (enlistment_named x process label) information
   effect x process (GetEnlistmentRecoveryInformation label) course none = tells_information x (enlistment_named x process label)
   effect x process (ReadFile file offset many) course none = reads_file x (file_named x process file) offset many
@@ -331,7 +289,7 @@ module _ (lists : ListsLaw) (formed : FormedLaw) where
       go false = keeps
 
   order-of : (x : Present) → IsSoundCourse x → AreInOrder x
-  order-of x course = record { transactions_rise = course.transactions_rise; labels_differ = course.labels_differ }
+  order-of x course = record { transactions_rise = course.transactions.rise; labels_differ = course.handles.labels_differ }
 
   pub files_kept_law : FilesKeptLaw
   files_kept_law = record {

@@ -13,6 +13,7 @@ use Rattle.std.specs.Prelude.{option_and_then}
 use Rattle.ktm_types.specs.declared.change.Change.{Change}
 use Rattle.ktm_types.specs.declared.command.Command.{Command}
 use Rattle.ktm_types.specs.declared.command.Command.TheVariants.{CreateTransaction, OpenTransaction, CommitTransaction, RollbackTransaction, GetTransactionInformation, CreateResourceManager, OpenResourceManager, RecoverResourceManager, GetNotificationResourceManager, CreateEnlistment, OpenEnlistment, RecoverEnlistment, PrePrepareComplete, PrepareComplete, ReadOnlyEnlistment, CommitComplete, RollbackComplete, SinglePhaseReject, RollbackEnlistment, PrePrepareEnlistment, PrepareEnlistment, CommitEnlistment, SetEnlistmentRecoveryInformation, GetEnlistmentRecoveryInformation, CreateFile, CreateFileTransacted, ReadFile, WriteFile, SetEndOfFile, GetFileSizeEx, FlushFileBuffers, DeleteFile, CreateDirectory, RemoveDirectory, MoveFile, DeleteFileTransacted, CreateDirectoryTransacted, RemoveDirectoryTransacted, MoveFileTransacted, FindFiles, FindFilesTransacted, KvSet, KvUnset, KvGet, KvList, CloseHandle, DuplicateHandle, Exit}
+use Rattle.ktm_types.specs.declared.input.PhaseInput.{PhaseInput}
 use Rattle.ktm_types.specs.declared.object.Object.{Object}
 use Rattle.ktm_types.specs.declared.object.Object.TheVariants.{Transaction as TransactionObject, Manager as ManagerObject, Enlistment as EnlistmentObject, File as FileObject}
 use Rattle.ktm_types.specs.declared.object.Transaction.{Transaction}
@@ -36,14 +37,14 @@ use Rattle.ktm_world.specs.Lawful.{set_both, others_undecided, undecided}
 use Rattle.ktm_world.specs.Outcome.{Outcome, apply, only_reply, committed_now, first_refusal, refuse_or, within_log, is_full, and_then}
 use Rattle.ktm_world.specs.Phases.{Course}
 use Rattle.ktm_world.specs.Present.{Present, Transactions}
-use Rattle.ktm_world.specs.TransactionCalls.{course_of, arrived, create_transaction, open_transaction, open_to_transaction, transaction_with, commit_transaction, commit_reply, aborted_by, rollback_transaction, get_transaction_information, information_of, information_in, create_resource_manager, open_resource_manager, open_to_manager, manager_with, recover_resource_manager, get_notification, create_enlistment, open_enlistment, open_to_enlistment, enlistment_with, goes_on, answering, transaction_in, pre_prepare_complete, prepare_complete, read_only_enlistment, commit_complete, rollback_complete, single_phase_reject, rollback_enlistment, pre_prepare_enlistment, prepare_enlistment, commit_enlistment, recover_enlistment, set_information, get_information, tick, with_clock, aborted_in_turn, aborted_if_due, is_due}
-use Rattle.ktm_world.specs.Phases.{to_commit, aborting, committing, to_pre_prepare, to_prepare, pre_prepare_answered, prepare_answered, read_only_answered, commit_answered, rollback_answered, single_phase_rejected, recovered}
+use Rattle.ktm_world.specs.Steps.{led, share_of}
+use Rattle.ktm_world.specs.TransactionCalls.{course_of, arrived, create_transaction, open_transaction, open_to_transaction, transaction_with, commit_transaction, commit_reply, aborted_by, rollback_transaction, get_transaction_information, information_of, information_in, create_resource_manager, open_resource_manager, open_to_manager, manager_with, recover_resource_manager, get_notification, create_enlistment, open_enlistment, open_to_enlistment, enlistment_with, goes_on, answering, transaction_in, pre_prepare_complete, prepare_complete, read_only_enlistment, commit_complete, rollback_complete, single_phase_reject, rollback_enlistment, pre_prepare_enlistment, prepare_enlistment, commit_enlistment, recover_enlistment, set_information, get_information, tick, with_clock, aborted_in_turn, aborted_if_due, is_due, recovery_of}
 use Rattle.ktm_world.specs.Transactions.{is_of, same_id, transaction_at, change_at, is_undecided, is_active, is_committed, is_aborted}
 use Rattle.txf_laws.specs.Elements.{IsIn, each_pair}
 use Rattle.txf_laws.specs.Contents.{is_good_entry}
 use Rattle.ktm_owned.specs.OwnKeys.{OwnKeysLaw}
 use Rattle.txf_laws.specs.SoundFiles.{is_undecided_in, IsSoundKeys, all_set_apart, set_no_key, set_by_two}
-use Rattle.ktm_owned.proofs.offered.CoursesKept.{IsCourse, IsBegun, OneWork, Steps, to_commit-is, aborting-is, committing-is, to_pre_prepare-is, to_prepare-is, pre_prepare_answered-is, prepare_answered-is, read_only_answered-is, commit_answered-is, rollback_answered-is, single_phase_rejected-is, recovered-is}
+use Rattle.ktm_owned.proofs.offered.CoursesKept.{IsCourse, IsBegun, OneWork, led-is}
 use Rattle.txf_laws.proofs.offered.Elements.{IsIn-filter, list_all-at, list_all-from}
 use Rattle.ktm_owned.proofs.offered.OwnSettings.{own_settings-found, own_settings-good, own_settings-apart, all-with_own, pairs-with_own, entry-good, entry-apart, IsIn-without_own, pairs-without_own}
 use Rattle.ktm_states.proofs.offered.Settings.{stored_all-rises, stored_all-good, set_both-sym}
@@ -170,21 +171,21 @@ arrived-keeps x t changes c reply is sound = released-sound (is_undecided c.tran
 course-begun : (x : Present) (t : Transaction) (caller : Option Enlistment) → IsBegun t (own_changes x.files.table.own t.id) (own_settings x.keys.own t.id) (course_of x t caller)
 course-begun x t caller = record { id = refl; changes = refl; settings = refl; works = refl; events = refl; outcome = refl }
 
-step-keeps : (x : Present) (t : Transaction) (caller : Option Enlistment) (f : Course → Course) (reply : Course → Reply) → Steps f → Keeps x (arrived x (f (course_of x t caller)) (reply (f (course_of x t caller))))
-step-keeps x t caller f reply steps =
-    arrived-keeps x t (own_changes x.files.table.own t.id) (f (course_of x t caller)) (reply (f (course_of x t caller)))
-    (steps t (own_changes x.files.table.own t.id) (own_settings x.keys.own t.id) (course_of x t caller) (course-begun x t caller))
+step-keeps : (x : Present) (t : Transaction) (caller : Option Enlistment) (input : PhaseInput) (reply : Course → Reply) → Keeps x (arrived x (led input (course_of x t caller)) (reply (led input (course_of x t caller))))
+step-keeps x t caller input reply =
+    arrived-keeps x t (own_changes x.files.table.own t.id) (led input (course_of x t caller)) (reply (led input (course_of x t caller)))
+    (led-is t (own_changes x.files.table.own t.id) (own_settings x.keys.own t.id) input (course_of x t caller) (course-begun x t caller))
 
-answering-keeps : (x : Present) (e : Option Enlistment) (step : Course → Enlistment → Course) → ((e : Enlistment) → Steps (λ c. step c e)) → Keeps x (answering x e step)
-answering-keeps x None step steps = only_reply-keeps x Done
-answering-keeps x (Some e) step steps = go (transaction_in x e)
+answering-keeps : (x : Present) (e : Option Enlistment) (input : Enlistment → PhaseInput) → Keeps x (answering x e input)
+answering-keeps x None input = only_reply-keeps x Done
+answering-keeps x (Some e) input = go (transaction_in x e)
   where
-    go : (t : Option Transaction) → Keeps x (goes_on x e t step)
+    go : (t : Option Transaction) → Keeps x (goes_on x e t (input e))
     go None = only_reply-keeps x Done
-    go (Some t) = step-keeps x t (Some e) (λ c. step c e) (λ c. Done) (steps e)
+    go (Some t) = step-keeps x t (Some e) (input e) (λ c. Done)
 
 aborted_by-keeps : (x : Present) (t : Transaction) → Keeps x (aborted_by x t None Done)
-aborted_by-keeps x t = step-keeps x t None aborting (λ c. Done) aborting-is
+aborted_by-keeps x t = step-keeps x t None PhaseInput.Rollback (λ c. Done)
 
 -- ---- calls of transactions and resource managers
 
@@ -203,7 +204,7 @@ open_transaction-keeps x process label guid = go (transaction_with x guid)
 commit_transaction-keeps : (x : Present) (t : Option Transaction) → Keeps x (commit_transaction x t)
 unfolding commit_transaction
 commit_transaction-keeps x None = only_reply-keeps x Done
-commit_transaction-keeps x (Some t) = step-keeps x t None to_commit commit_reply to_commit-is
+commit_transaction-keeps x (Some t) = step-keeps x t None PhaseInput.CommitTransaction commit_reply
 
 rollback_transaction-keeps : (x : Present) (t : Option Transaction) → Keeps x (rollback_transaction x t)
 unfolding rollback_transaction
@@ -251,50 +252,6 @@ open_enlistment-keeps x process label m guid = go (enlistment_with x m guid)
     go : (e : Option Enlistment) → Keeps x (open_to_enlistment x process label e)
     go None = only_reply-keeps x Done
     go (Some e) = same x _ (λ id is. is) refl refl
-
-recover_enlistment-keeps : (x : Present) (e : Option Enlistment) → Keeps x (recover_enlistment x e)
-unfolding recover_enlistment
-recover_enlistment-keeps x e = answering-keeps x e recovered (λ e t cs ss c is. recovered-is t cs ss c e is)
-
-pre_prepare_complete-keeps : (x : Present) (e : Option Enlistment) → Keeps x (pre_prepare_complete x e)
-unfolding pre_prepare_complete
-pre_prepare_complete-keeps x e = answering-keeps x e pre_prepare_answered (λ e t cs ss c is. pre_prepare_answered-is t cs ss c e is)
-
-prepare_complete-keeps : (x : Present) (e : Option Enlistment) → Keeps x (prepare_complete x e)
-unfolding prepare_complete
-prepare_complete-keeps x e = answering-keeps x e prepare_answered (λ e t cs ss c is. prepare_answered-is t cs ss c e is)
-
-read_only_enlistment-keeps : (x : Present) (e : Option Enlistment) → Keeps x (read_only_enlistment x e)
-unfolding read_only_enlistment
-read_only_enlistment-keeps x e = answering-keeps x e read_only_answered (λ e t cs ss c is. read_only_answered-is t cs ss c e is)
-
-commit_complete-keeps : (x : Present) (e : Option Enlistment) → Keeps x (commit_complete x e)
-unfolding commit_complete
-commit_complete-keeps x e = answering-keeps x e commit_answered (λ e t cs ss c is. commit_answered-is t cs ss c e is)
-
-rollback_complete-keeps : (x : Present) (e : Option Enlistment) → Keeps x (rollback_complete x e)
-unfolding rollback_complete
-rollback_complete-keeps x e = answering-keeps x e rollback_answered (λ e t cs ss c is. rollback_answered-is t cs ss c e is)
-
-single_phase_reject-keeps : (x : Present) (e : Option Enlistment) → Keeps x (single_phase_reject x e)
-unfolding single_phase_reject
-single_phase_reject-keeps x e = answering-keeps x e single_phase_rejected (λ e t cs ss c is. single_phase_rejected-is t cs ss c e is)
-
-rollback_enlistment-keeps : (x : Present) (e : Option Enlistment) → Keeps x (rollback_enlistment x e)
-unfolding rollback_enlistment
-rollback_enlistment-keeps x e = answering-keeps x e (λ c e. aborting c) (λ e. aborting-is)
-
-pre_prepare_enlistment-keeps : (x : Present) (e : Option Enlistment) → Keeps x (pre_prepare_enlistment x e)
-unfolding pre_prepare_enlistment
-pre_prepare_enlistment-keeps x e = answering-keeps x e (λ c e. to_pre_prepare c) (λ e. to_pre_prepare-is)
-
-prepare_enlistment-keeps : (x : Present) (e : Option Enlistment) → Keeps x (prepare_enlistment x e)
-unfolding prepare_enlistment
-prepare_enlistment-keeps x e = answering-keeps x e (λ c e. to_prepare c) (λ e. to_prepare-is)
-
-commit_enlistment-keeps : (x : Present) (e : Option Enlistment) → Keeps x (commit_enlistment x e)
-unfolding commit_enlistment
-commit_enlistment-keeps x e = answering-keeps x e (λ c e. committing c) (λ e. committing-is)
 
 set_information-keeps : (x : Present) (e : Option Enlistment) (information : List ℕ) → Keeps x (set_information x e information)
 unfolding set_information
@@ -429,6 +386,7 @@ kv_unset-keeps x process label key none =
 -- ---- every command
 
 effect-keeps : (x : Present) (process : Pid) (command : Command) → refusal_of x process command ≡ None → Keeps x (command_effect x process command)
+unfolding recover_enlistment pre_prepare_complete prepare_complete read_only_enlistment commit_complete rollback_complete single_phase_reject rollback_enlistment pre_prepare_enlistment prepare_enlistment commit_enlistment
 effect-keeps x process (CreateTransaction label timeout) none = create_transaction-keeps x process label timeout
 effect-keeps x process (OpenTransaction label guid) none = open_transaction-keeps x process label guid
 effect-keeps x process (CommitTransaction label) none = commit_transaction-keeps x (transaction_named x process label)
@@ -440,17 +398,17 @@ effect-keeps x process (RecoverResourceManager label) none = recover_resource_ma
 effect-keeps x process (GetNotificationResourceManager label) none = get_notification-keeps x (manager_named x process label)
 effect-keeps x process (CreateEnlistment label manager transaction kind) none = create_enlistment-keeps x process label (manager_named x process manager) (transaction_named x process transaction) kind
 effect-keeps x process (OpenEnlistment label manager guid) none = open_enlistment-keeps x process label (manager_named x process manager) guid
-effect-keeps x process (RecoverEnlistment label) none = recover_enlistment-keeps x (enlistment_named x process label)
-effect-keeps x process (PrePrepareComplete label) none = pre_prepare_complete-keeps x (enlistment_named x process label)
-effect-keeps x process (PrepareComplete label) none = prepare_complete-keeps x (enlistment_named x process label)
-effect-keeps x process (ReadOnlyEnlistment label) none = read_only_enlistment-keeps x (enlistment_named x process label)
-effect-keeps x process (CommitComplete label) none = commit_complete-keeps x (enlistment_named x process label)
-effect-keeps x process (RollbackComplete label) none = rollback_complete-keeps x (enlistment_named x process label)
-effect-keeps x process (SinglePhaseReject label) none = single_phase_reject-keeps x (enlistment_named x process label)
-effect-keeps x process (RollbackEnlistment label) none = rollback_enlistment-keeps x (enlistment_named x process label)
-effect-keeps x process (PrePrepareEnlistment label) none = pre_prepare_enlistment-keeps x (enlistment_named x process label)
-effect-keeps x process (PrepareEnlistment label) none = prepare_enlistment-keeps x (enlistment_named x process label)
-effect-keeps x process (CommitEnlistment label) none = commit_enlistment-keeps x (enlistment_named x process label)
+effect-keeps x process (RecoverEnlistment label) none = answering-keeps x (enlistment_named x process label) recovery_of
+effect-keeps x process (PrePrepareComplete label) none = answering-keeps x (enlistment_named x process label) (λ e. PhaseInput.PrePrepareComplete)
+effect-keeps x process (PrepareComplete label) none = answering-keeps x (enlistment_named x process label) (λ e. PhaseInput.PrepareComplete)
+effect-keeps x process (ReadOnlyEnlistment label) none = answering-keeps x (enlistment_named x process label) (λ e. PhaseInput.ReadOnly (share_of e))
+effect-keeps x process (CommitComplete label) none = answering-keeps x (enlistment_named x process label) (λ e. PhaseInput.CommitComplete)
+effect-keeps x process (RollbackComplete label) none = answering-keeps x (enlistment_named x process label) (λ e. PhaseInput.RollbackComplete)
+effect-keeps x process (SinglePhaseReject label) none = answering-keeps x (enlistment_named x process label) (λ e. PhaseInput.SinglePhaseReject)
+effect-keeps x process (RollbackEnlistment label) none = answering-keeps x (enlistment_named x process label) (λ e. PhaseInput.Rollback)
+effect-keeps x process (PrePrepareEnlistment label) none = answering-keeps x (enlistment_named x process label) (λ e. PhaseInput.PrePrepare)
+effect-keeps x process (PrepareEnlistment label) none = answering-keeps x (enlistment_named x process label) (λ e. PhaseInput.Prepare)
+effect-keeps x process (CommitEnlistment label) none = answering-keeps x (enlistment_named x process label) (λ e. PhaseInput.Commit)
 effect-keeps x process (SetEnlistmentRecoveryInformation label information) none = set_information-keeps x (enlistment_named x process label) information
 effect-keeps x process (GetEnlistmentRecoveryInformation label) none = get_information-keeps x (enlistment_named x process label)
 effect-keeps x process (CreateFile label path access share disposition) none = opening-keeps x process label None (create_file x.files None path access share disposition)

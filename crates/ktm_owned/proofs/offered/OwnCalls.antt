@@ -70,9 +70,9 @@ caller-may x process label tests sound passes = go (transaction_named x process 
   where
     now : (t : Transaction) → IsIn t x.transactions.items → t.phase ≡ Active → (t.id.boot == x.recorded.boots) ≡ true
     now t there active =
-        let counted = counted-parts x.recorded.boots x.transactions.last_transaction t.id (list_all-at (λ (t : Transaction). is_counted x.recorded.boots x.transactions.last_transaction t.id) x.transactions.items sound.transactions_counted t there) in
+        let counted = counted-parts x.recorded.boots x.transactions.last_transaction t.id (list_all-at (λ (t : Transaction). is_counted x.recorded.boots x.transactions.last_transaction t.id) x.transactions.items sound.transactions.counted t there) in
         elim (cases_Bool (nat_lt t.id.boot x.recorded.boots)) [
-          | inl earlier ↦ absurd (true≢false (sym (rw (earlier, active) at (list_all-at (is_of_its_boot x.recorded.boots) x.transactions.items sound.boots t there))))
+          | inl earlier ↦ absurd (true≢false (sym (rw (earlier, active) at (list_all-at (is_of_its_boot x.recorded.boots) x.transactions.items sound.transactions.boots t there))))
           | inr later ↦ eq-eqb _ _ (omega (arith, ltb-false _ _ later, leb-true _ _ counted.1))
         ]
 

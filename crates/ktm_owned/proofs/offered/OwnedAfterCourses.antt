@@ -7,6 +7,7 @@ use Rattle.std.proofs.lemmas.List.Sums.{fold-append}
 use Rattle.std.proofs.lemmas.List.Folds.{list_any-append}
 use Rattle.ktm_base.specs.declared.id.Id.{Id}
 use Rattle.ktm_types.specs.declared.change.Change.{Change}
+use Rattle.ktm_types.specs.declared.input.PhaseInput.{PhaseInput}
 use Rattle.ktm_types.specs.declared.object.Transaction.{Transaction}
 use Rattle.ktm_types.specs.declared.reply.Reply.{Reply}
 use Rattle.ktm_types.specs.declared.reply.Reply.TheVariants.{Done}
@@ -16,15 +17,16 @@ use Rattle.ktm_world.specs.Durable.{Durable, after_event, after_events}
 use Rattle.ktm_world.specs.Files.{FirstOpen, OpenFile, OwnChanges, first_open, own_changes, committed_files, without_transaction}
 use Rattle.ktm_world.specs.Keys.{OwnSettings, own_settings, without_own}
 use Rattle.ktm_world.specs.Outcome.{Outcome, apply, only_reply, committed_now, is_forgotten, first_opens_after, and_then}
-use Rattle.ktm_world.specs.Phases.{Course, aborting}
+use Rattle.ktm_world.specs.Phases.{Course}
 use Rattle.ktm_world.specs.Present.{Present}
+use Rattle.ktm_world.specs.Steps.{led}
 use Rattle.ktm_world.specs.TransactionCalls.{course_of, arrived, aborted_by, aborted_if_due, aborted_in_turn, is_due, tick, with_clock}
 use Rattle.ktm_world.specs.Transactions.{is_of, is_undecided, same_id, change_at, transaction_at}
 use Rattle.txf_laws.specs.Elements.{IsIn}
 use Rattle.txf_laws.specs.Footprint.{ListsLaw}
 use Rattle.txf_laws.specs.Formed.{FormedLaw}
 use Rattle.txf_laws.specs.SoundFiles.{IsSoundFiles}
-use Rattle.ktm_owned.proofs.offered.CoursesKept.{IsCourse, OneWork, Steps, aborting-is}
+use Rattle.ktm_owned.proofs.offered.CoursesKept.{IsCourse, OneWork, led-is}
 use Rattle.txf_laws.proofs.offered.Elements.{IsIn-filter, IsIn-kept, filter-true}
 use Rattle.txf_laws.proofs.offered.CommitsOfOthers.{Spares, passed, passed-sound, spares-none}
 use Rattle.ktm_owned.proofs.offered.EndedTransactions.{AreInOrder, filter-same, same_id-turned, IsIn-change_at, order-changed, transaction_at-in, boots-all, tree-store, versions-store, spares-end, unchanged}
@@ -217,11 +219,11 @@ module _ (lists : ListsLaw) (formed : FormedLaw) where
   one-opens true o p first second = first
   one-opens false o p first second = second
 
-  pub course-goes : (x : Present) (t : Transaction) (caller : Option Enlistment) (f : Course → Course) (reply : Course → Reply) → IsIn t x.transactions.items → Steps f → Goes x (arrived x (f (course_of x t caller)) (reply (f (course_of x t caller))))
-  course-goes x t caller f reply there steps =
+  pub course-goes : (x : Present) (t : Transaction) (caller : Option Enlistment) (input : PhaseInput) (reply : Course → Reply) → IsIn t x.transactions.items → Goes x (arrived x (led input (course_of x t caller)) (reply (led input (course_of x t caller))))
+  course-goes x t caller input reply there =
       let ss = own_settings x.keys.own t.id in
-      let c = f (course_of x t caller) in
-      let is = steps t (own_changes x.files.table.own t.id) ss (course_of x t caller) (record { id = refl; changes = refl; settings = refl; works = refl; events = refl; outcome = refl }) in
+      let c = led input (course_of x t caller) in
+      let is = led-is t (own_changes x.files.table.own t.id) ss input (course_of x t caller) (record { id = refl; changes = refl; settings = refl; works = refl; events = refl; outcome = refl }) in
       record {
         opens = one-opens (is_undecided c.transaction) _ _ refl refl;
         keeps = λ order sound. (arrived-order x order sound t there ss c (reply c) is, arrived-sound x order sound t there ss c (reply c) is);
@@ -238,7 +240,7 @@ module _ (lists : ListsLaw) (formed : FormedLaw) where
       go None found = only_reply-goes x Done
       go (Some t) found =
           either-goes x (is_due x.transactions.clock t) (aborted_by x t None Done) (only_reply x Done)
-          (course-goes x t None aborting (λ c. Done) (transaction_at-in x.transactions.items id t found) aborting-is) (only_reply-goes x Done)
+          (course-goes x t None PhaseInput.Rollback (λ c. Done) (transaction_at-in x.transactions.items id t found)) (only_reply-goes x Done)
 
   aborted_in_turn-goes : (ts : List Transaction) (x : Present) → Goes x (aborted_in_turn x ts)
   aborted_in_turn-goes [] x = only_reply-goes x Done

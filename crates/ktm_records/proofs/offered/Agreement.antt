@@ -131,7 +131,7 @@ enlistments-kept x y id same durable =
 -- a transaction that the log has is not active
 pub recorded-later : (x : Present) (t : Transaction) → IsSoundCourse x → IsIn t x.transactions.items → t.is_recorded ≡ true → t.phase ≡ Active → ⊥
 recorded-later x t sound there recorded active =
-    let asked = list_all-at (λ t. is_recorded_as t.phase x.managers x.transactions.enlistments t.id t.is_recorded) x.transactions.items sound.recorded t there in
+    let asked = list_all-at (λ t. is_recorded_as t.phase x.managers x.transactions.enlistments t.id t.is_recorded) x.transactions.items sound.phases.recorded t there in
     absurd (true≢false (sym asked ∙ (λ i. is_recorded_as (active i) x.managers x.transactions.enlistments t.id (recorded i))))
 
 -- ---- node numbers

@@ -186,7 +186,7 @@ summary-none None all = refl
 summary-none (Some r) all = absurd (some-not_none (summary_of r) [] all)
 
 pub placed-at : (x : Present) → IsSoundCourse x → (t : Transaction) → IsIn t x.transactions.items → Place x.transactions.items t
-placed-at x sound t there = place x.transactions.items t sound.transactions_rise there
+placed-at x sound t there = place x.transactions.items t sound.transactions.rise there
 
 pub was : (x : Present) (sound : IsSoundCourse x) (t : Transaction) (there : IsIn t x.transactions.items) → Agrees x → Was x t (placed-at x sound t there)
 was x sound t there agrees = go (one-there own.0 (summaries x t) own.3 (summaries-one x t))
@@ -250,10 +250,10 @@ module _ (x : Present) (sound : IsSoundCourse x) (agreed : Agreed x) (t : Transa
   module _ (caller : Option Enlistment) (d : Course) (moved : Moved (course_of x t caller) d) where
     -- what only another transaction's enlistments pass, those pass that passed it
     stays-of : (u : Transaction) → same_id u.id t.id ≡ false → (test : Enlistment → Bool) → ((e : Enlistment) → same_id e.transaction u.id ≡ false → test e ≡ false) → (e : Enlistment) → IsIn e x.transactions.enlistments
-        → ((test (moved.step e) ≡ false) × (test e ≡ false)) ⊎ (moved.step e ≡ e)
+        → ((test (moved.enlistments.step e) ≡ false) × (test e ≡ false)) ⊎ (moved.enlistments.step e ≡ e)
     stays-of u other test away e there' = elim (cases_Bool (same_id e.transaction u.id)) [
-      | inr elsewhere ↦ inl (away (moved.step e) (ap (λ id. same_id id u.id) (moved.same e).transaction ∙ elsewhere), away e elsewhere)
-      | inl own ↦ inr (moved.others e there' (subst (λ id. same_id id t.id ≡ false) (sym (same_id-equal e.transaction u.id own)) other))
+      | inr elsewhere ↦ inl (away (moved.enlistments.step e) (ap (λ id. same_id id u.id) (moved.enlistments.same e).transaction ∙ elsewhere), away e elsewhere)
+      | inl own ↦ inr (moved.enlistments.others e there' (subst (λ id. same_id id t.id ≡ false) (sym (same_id-equal e.transaction u.id own)) other))
     ]
 
     module _ (outcome : is_outcome_of d.transaction.phase d.transaction ≡ true) (o : Outcome) (is : IsArrival x d o) where
@@ -264,23 +264,23 @@ module _ (x : Present) (sound : IsSoundCourse x) (agreed : Agreed x) (t : Transa
       kept : (u : Transaction) → same_id u.id t.id ≡ false → summaries y u ≡ summaries x u
       kept u other = summaries-kept x y u (λ recorded. record {
         enlistments =
-            ap (λ es. by_rising_id (map brought_back (filter (λ e. takes_part u.id e && is_durable_at y.managers e.manager && e.is_prepared && not e.is_finished) es))) (is.enlistments ∙ moved.enlistments)
+            ap (λ es. by_rising_id (map brought_back (filter (λ e. takes_part u.id e && is_durable_at y.managers e.manager && e.is_prepared && not e.is_finished) es))) (is.enlistments ∙ moved.enlistments.is)
             ∙ ap (λ es. by_rising_id (map brought_back es))
-            (filter-step (λ e. takes_part u.id e && is_durable_at y.managers e.manager && e.is_prepared && not e.is_finished) moved.step x.transactions.enlistments
+            (filter-step (λ e. takes_part u.id e && is_durable_at y.managers e.manager && e.is_prepared && not e.is_finished) moved.enlistments.step x.transactions.enlistments
             (stays-of u other (λ e. takes_part u.id e && is_durable_at y.managers e.manager && e.is_prepared && not e.is_finished) (λ e elsewhere. rw elsewhere refl)))
             ∙ ap (λ es. by_rising_id (map brought_back es))
             (filter-alike (λ e. takes_part u.id e && is_durable_at y.managers e.manager && e.is_prepared && not e.is_finished) (λ e. takes_part u.id e && is_durable_at x.managers e.manager && e.is_prepared && not e.is_finished)
             x.transactions.enlistments (λ e there' i. takes_part u.id e && durable-stays x o e.manager is.made i && e.is_prepared && not e.is_finished));
-        superior = λ stage stands later. ap superior_now (ap (λ es. superior_of es u.id) (is.enlistments ∙ moved.enlistments) ∙ find-step (λ e. same_id e.transaction u.id && is_superior e) moved.step x.transactions.enlistments (stays-of u other (λ e. same_id e.transaction u.id && is_superior e) (λ e elsewhere. and_left _ _ elsewhere)));
-        changes = is.changes u.id (subst (λ id. same_id u.id id ≡ false) (sym moved.id) other);
-        settings = is.settings u.id (subst (λ id. same_id u.id id ≡ false) (sym moved.id) other);
+        superior = λ stage stands later. ap superior_now (ap (λ es. superior_of es u.id) (is.enlistments ∙ moved.enlistments.is) ∙ find-step (λ e. same_id e.transaction u.id && is_superior e) moved.enlistments.step x.transactions.enlistments (stays-of u other (λ e. same_id e.transaction u.id && is_superior e) (λ e elsewhere. and_left _ _ elsewhere)));
+        changes = is.changes u.id (subst (λ id. same_id u.id id ≡ false) (sym moved.stays.id) other);
+        settings = is.settings u.id (subst (λ id. same_id u.id id ≡ false) (sym moved.stays.id) other);
       })
 
       -- of one that is undecided what it changed and set is left
       own-left : is_undecided d.transaction ≡ true → (own_changes y.files.table.own d.transaction.id ≡ d.changes) × (own_settings y.keys.own d.transaction.id ≡ d.settings)
       own-left undecided = let own = is.owned undecided in (
-        (λ i. own_changes (own.0 i) (moved.id i)) ∙ sym moved.changes,
-        (λ i. own_settings (own.1 i) (moved.id i)) ∙ sym moved.settings,
+        (λ i. own_changes (own.0 i) (moved.stays.id i)) ∙ sym moved.stays.changes,
+        (λ i. own_settings (own.1 i) (moved.stays.id i)) ∙ sym moved.stays.settings,
       )
 
       held-undecided : (phase : Phase) → is_outcome_of phase d.transaction ≡ true → (stage : Stage) → stage_in phase ≡ Some stage → is_held_stage stage ≡ true → is_undecided d.transaction ≡ true
@@ -298,7 +298,7 @@ module _ (x : Present) (sound : IsSoundCourse x) (agreed : Agreed x) (t : Transa
               ap (λ es. by_rising_id (map brought_back (filter (λ e. takes_part d.transaction.id e && is_durable_at y.managers e.manager && e.is_prepared && not e.is_finished) es))) is.enlistments
               ∙ ap (λ es. by_rising_id (map brought_back es))
               (filter-alike (λ e. takes_part d.transaction.id e && is_durable_at y.managers e.manager && e.is_prepared && not e.is_finished) (λ e. takes_part d.transaction.id e && is_durable_at d.managers e.manager && e.is_prepared && not e.is_finished)
-              d.enlistments (λ e there' i. takes_part d.transaction.id e && (durable-stays x o e.manager is.made ∙ ap (λ ms. is_durable_at ms e.manager) (sym moved.managers)) i && e.is_prepared && not e.is_finished))
+              d.enlistments (λ e there' i. takes_part d.transaction.id e && (durable-stays x o e.manager is.made ∙ ap (λ ms. is_durable_at ms e.manager) (sym moved.stays.managers)) i && e.is_prepared && not e.is_finished))
 
           held : {X : Type 0} (none a b : X) (c : Bool) → (c ≡ true → a ≡ b) → (if c then a else none) ≡ (if c then b else none)
           held none a b true same = same refl
@@ -317,7 +317,7 @@ module _ (x : Present) (sound : IsSoundCourse x) (agreed : Agreed x) (t : Transa
 
       now : summaries_now y ≡ map summary_of had.before ++ (course_summaries d ++ map summary_of had.behind)
       now =
-          ap (flat_map (summaries y)) (is.items ∙ (λ i. change_at (at.all i) (moved.id i) (λ v. d.transaction)) ∙ placed at.before at.behind t d.transaction at.earlier)
+          ap (flat_map (summaries y)) (is.items ∙ (λ i. change_at (at.all i) (moved.stays.id i) (λ v. d.transaction)) ∙ placed at.before at.behind t d.transaction at.earlier)
           ∙ gathered-at (summaries y) at.before at.behind d.transaction
           ∙ (λ i. flat_map-alike (summaries y) (summaries x) at.before (λ u before. kept u (earlier-other u.id t.id (at.earlier u before))) i
           ++ (itself i ++ flat_map-alike (summaries y) (summaries x) at.behind (λ u behind. kept u (later-other t.id u.id (at.later u behind))) i))

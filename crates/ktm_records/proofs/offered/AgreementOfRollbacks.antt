@@ -1,24 +1,29 @@
 -- What was recorded agrees with what is so now after a transaction has rolled back.
-use Rattle.std.proofs.Common.{◌≡◌, Bool, true, false, [], ◌∷◌, ◌++◌, Option, None, refl, sym, ◌∙◌, ap, ◌&&◌, not}
+use Rattle.std.proofs.Common.{◌≡◌, Bool, true, false, [], ◌∷◌, ◌++◌, Option, None, refl, sym, ◌∙◌, ap, List}
 use Rattle.std.specs.List.{list_any}
 use Rattle.ktm_base.specs.declared.notify.Notify.{Notify}
 use Rattle.ktm_types.specs.declared.event.Event.{Event}
+use Rattle.ktm_types.specs.declared.input.PhaseInput.{PhaseInput}
 use Rattle.ktm_types.specs.declared.object.Phase.TheVariants.{Aborting}
 use Rattle.ktm_types.specs.declared.object.Transaction.{Transaction}
 use Rattle.ktm_types.specs.declared.object.TransactionOutcome.TheVariants.{Aborted}
 use Rattle.ktm_types.specs.declared.reply.Reply.{Reply}
+use Rattle.ktm_types.specs.declared.step.Fact.{Fact}
 use Rattle.ktm_types.specs.declared.step.Owed.{Owed}
-use Rattle.ktm_world.specs.Enlistments.{Enlistment, is_unfinished, takes_part}
+use Rattle.ktm_types.specs.declared.step.Step.{Step}
+use Rattle.ktm_types.specs.declared.step.Who.{Who}
+use Rattle.ktm_world.specs.Enlistments.{Enlistment, is_unfinished}
 use Rattle.ktm_world.specs.Lawful.{stage_in}
 use Rattle.ktm_world.specs.Outcome.{apply, committed_now}
-use Rattle.ktm_world.specs.Phases.{Course, aborting, decided, ended, event_if, in_phase, is_caller, is_its_superior, owing, recording, telling, unchanged}
+use Rattle.ktm_world.specs.Phases.{Course, ended, event_if}
 use Rattle.ktm_world.specs.Present.{Present}
+use Rattle.ktm_world.specs.Steps.{led, run}
 use Rattle.ktm_world.specs.TransactionCalls.{aborted_by, course_of}
 use Rattle.txf_laws.specs.Elements.{IsIn}
 use Rattle.ktm_courses.specs.SoundCourse.{IsSoundCourse}
 use Rattle.ktm_records.proofs.offered.Agreement.{Agreed}
-use Rattle.ktm_courses.proofs.offered.EnlistmentAnswers.{arrives-rolled_back, can_roll_back}
-use Rattle.ktm_courses.proofs.offered.Arrivals.{stands-now, brought-now}
+use Rattle.ktm_courses.proofs.offered.EnlistmentAnswers.{can_roll_back}
+use Rattle.ktm_courses.proofs.offered.Calls.{rolled_back}
 use Rattle.ktm_records.proofs.offered.AgreementOfCourses.{Follows, Was, agreed-arrived, begun, carried-itself, follows-from, none-in, none-unrecorded, placed-at, was}
 use Rattle.ktm_courses.proofs.offered.Moves.{if_cases}
 use Rattle.ktm_records.proofs.LoggedTransaction.{tracks-undone}
@@ -29,16 +34,14 @@ pub record HasUndone (c d : Course) : Type 0 where
   pub works : d.works ≡ c.works
   pub stage : stage_in d.transaction.phase ≡ None
 
--- its enlistments are told
-abbrev told : Course → Course
-told c =
-    let undone = recording c (event_if c.transaction.is_recorded (Event.Undo c.transaction.id)) in
-    telling (telling undone (λ e. takes_part c.transaction.id e && e.is_recovered) Notify.Rollback (owing Owed.Rollback)) (λ e. is_its_superior c e && not (is_caller c e)) Notify.Rollback unchanged
+-- it rolls back, before it has ended
+abbrev undoing : List Step
+undoing = Step.Record Fact.Undo ∷ Step.Decide Aborted ∷ Step.Enter Aborting ∷ Step.Ask Who.Recovered Notify.Rollback Owed.Rollback ∷ Step.Tell Who.OtherSuperior Notify.Rollback ∷ []
 
-pub aborting-undone : (c : Course) → HasUndone c (aborting c)
-unfolding aborting ended
-aborting-undone c =
-    let d = in_phase (decided (told c) Aborted) Aborting in
+pub rollback-undone : (c : Course) → HasUndone c (led PhaseInput.Rollback c)
+unfolding led ended
+rollback-undone c =
+    let d = run undoing c in
     if_cases (λ d. HasUndone c d) (list_any (is_unfinished d.transaction.id) d.enlistments) d (ended d Aborted) (λ some. record { events = refl; works = refl; stage = refl }) (λ none. record { events = refl; works = refl; stage = refl })
 
 module _ (x : Present) (sound : IsSoundCourse x) (agreed : Agreed x) (t : Transaction) (there : IsIn t x.transactions.items) (caller : Option Enlistment) where
@@ -60,5 +63,5 @@ module _ (x : Present) (sound : IsSoundCourse x) (agreed : Agreed x) (t : Transa
 
   pub agreed-aborted_by : (reply : Reply) → can_roll_back t.phase ≡ true → Agreed (apply x (aborted_by x t caller reply))
   agreed-aborted_by reply can =
-      let arrives = arrives-rolled_back x.recorded.boots c (stands-now x t caller sound there) (brought-now x t caller sound) can in
-      agreed-arrived x sound agreed t there caller (aborting c) arrives.moved reply arrives.stands.outcome (undo-follows (aborting c) (aborting-undone c))
+      let arrives = rolled_back x sound t there caller can in
+      agreed-arrived x sound agreed t there caller (led PhaseInput.Rollback c) arrives.moved reply arrives.stands.outcome (undo-follows (led PhaseInput.Rollback c) (rollback-undone c))

@@ -1,21 +1,21 @@
--- No procedure of a transaction's course makes an enlistment live again, and so no more are live then.
-use Rattle.std.specs.Prelude.{if◌then◌else◌}
-use Rattle.std.proofs.Common.{◌≡◌, ℕ, zero, suc, ◌≤◌, ◌==◌, ◌&&◌, ◌||◌, not, Bool, true, false, is_some, List, [], ◌∷◌, map, count_by, Option, Some, None, refl, sym, ◌∙◌, ap, subst, arith, inl, inr, ◌⊎◌}
+-- No row makes an enlistment live again, and so no more are live then.
+use Rattle.std.proofs.Common.{◌≡◌, ◌≤◌, ◌&&◌, ◌||◌, not, Bool, true, false, List, [], ◌∷◌, map, count_by, Some, refl, sym, ◌∙◌, ap, subst, arith, inl, inr, ◌⊎◌}
 use Rattle.std.proofs.lemmas.Bool.{cases_Bool, and_parts, and_from, or_cases, or_left, or_right, not-true, not_from_false, true≢false, false_from_ne_true}
 use Rattle.std.proofs.lemmas.List.{map-id}
 use Rattle.std.proofs.lemmas.Option.{same_Some}
 use Rattle.std.proofs.lemmas.Simd.{map-map}
-use Rattle.std.specs.List.{list_any}
 use Rattle.ktm_base.specs.declared.id.Id.{Id}
+use Rattle.ktm_types.specs.declared.input.PhaseInput.{PhaseInput}
 use Rattle.ktm_types.specs.declared.object.Phase.{Phase}
-use Rattle.ktm_types.specs.declared.object.Phase.TheVariants.{PrePreparing, Preparing, SinglePhase, InDoubt, Committing, Aborting, Ended}
+use Rattle.ktm_types.specs.declared.object.Phase.TheVariants.{Ended}
 use Rattle.ktm_types.specs.declared.object.Transaction.{Transaction}
-use Rattle.ktm_types.specs.declared.object.TransactionOutcome.{TransactionOutcome}
 use Rattle.ktm_types.specs.declared.step.Owed.{Owed}
-use Rattle.ktm_world.specs.Changes.{has_changes}
-use Rattle.ktm_world.specs.Enlistments.{Enlistment, allows_one_phase, asks_pre_prepare, has_id, is_ended, is_live_enlistment, is_live_in, is_superior, is_unfinished, is_durable_at, takes_part, with_enlistments}
-use Rattle.ktm_world.specs.Phases.{Course, aborting, all_ready, committing, commit_answered, ended, ended_if_finished, has_settings, held_or_committing, one_phase, one_participant, owing, participants, pre_prepare_answered, pre_prepared, prepare_alone, prepare_answered, preparing, read_only_answered, ready_of_enlistment, changing_one, recovered, recovered_in, recovering, rollback_answered, single_phase_rejected, some_enlistment, someone_owes, superior, to_commit, to_pre_prepare, to_prepare, is_single_phase, unchanged, when_none_owes, without_its_answer, readied}
+use Rattle.ktm_world.specs.Enlistments.{Enlistment, has_id, is_ended, is_live_enlistment, is_live_in, is_superior, with_enlistments}
+use Rattle.ktm_world.specs.Phases.{Course, owing, changing_one, unchanged}
+use Rattle.ktm_world.specs.Rows.{row}
+use Rattle.ktm_world.specs.Steps.{led, seen}
 use Rattle.ktm_world.specs.Transactions.{change_at, is_live, same_id, transaction_at}
+use Rattle.ktm_steps.proofs.offered.Fading.{fades-run}
 use Rattle.txf_laws.specs.Elements.{IsIn}
 use Rattle.txf_laws.proofs.offered.Elements.{list_any-at, list_any-from}
 use Rattle.ktm_courses.proofs.offered.Moves.{if_cases, stepped}
@@ -68,138 +68,31 @@ fade-owing test owed es = fade-with test (owing owed) es (λ e. record { transac
 pub fade-told : (test : Enlistment → Bool) (es : List Enlistment) → Fade es (with_enlistments test unchanged es)
 fade-told test es = fade-with test unchanged es declines-stays
 
--- ---- procedures
+-- ---- courses
 
 -- no enlistment is live again
 abbrev pub Fades : Course → Course → Type 0
 Fades c d = Fade c.enlistments d.enlistments
 
-either : (c : Course) (b : Bool) (d e : Course) → Fades c d → Fades c e → Fades c (if b then d else e)
-either c b d e first second = if_cases (Fades c) b d e (λ is. first) (λ is. second)
-
 -- one enlistment is changed
 pub fades-one : (c : Course) (id : Id) (f : Enlistment → Enlistment) → ((e : Enlistment) → Declines e (f e)) → Fades c (changing_one c id f)
 fades-one c id f each = fade-with (has_id id) f c.enlistments each
 
-fades-ended : (c : Course) (outcome : TransactionOutcome) → Fades c (ended c outcome)
-unfolding ended
-fades-ended c outcome = fade-told _ c.enlistments
-
-fades-if_finished : (c d : Course) (outcome : TransactionOutcome) → Fades c d → Fades c (ended_if_finished d outcome)
-fades-if_finished c d outcome fades = either c (list_any (is_unfinished d.transaction.id) d.enlistments) d (ended d outcome) fades (fade-then c.enlistments d.enlistments (ended d outcome).enlistments fades (fades-ended d outcome))
-
-pub fades-committing : (c : Course) → Fades c (committing c)
-unfolding committing
-fades-committing c = fades-if_finished c _ TransactionOutcome.Committed (fade-owing _ Owed.Commit c.enlistments)
-
-pub fades-aborting : (c : Course) → Fades c (aborting c)
-unfolding aborting
-fades-aborting c = fades-if_finished c _ TransactionOutcome.Aborted (fade-then c.enlistments _ _ (fade-owing (λ e. takes_part c.transaction.id e && e.is_recovered) Owed.Rollback c.enlistments) (fade-told _ _))
-
-fades-held : (c : Course) (e : Option Enlistment) → Fades c (held_or_committing c e)
-fades-held c (Some e) = fade-told _ c.enlistments
-fades-held c None = either c (participants c == 0) (ended c TransactionOutcome.Committed) (committing c) (fades-ended c TransactionOutcome.Committed) (fades-committing c)
-
-pub fades-all_ready : (c : Course) → Fades c (all_ready c)
-unfolding all_ready
-fades-all_ready c = fades-held (readied c) (superior c)
-
-fades-preparing : (c : Course) → Fades c (preparing c)
-fades-preparing c =
-    either c (some_enlistment c (λ e. true)) _ _ (fade-owing (takes_part c.transaction.id) Owed.Prepare c.enlistments)
-    (fade-then c.enlistments _ _ (fade-owing (takes_part c.transaction.id) Owed.Prepare c.enlistments) (fades-all_ready _))
-
-fades-one_phase : (c : Course) → Fades c (one_phase c)
-fades-one_phase c = either c (some_enlistment c allows_one_phase) _ (preparing c) (fade-owing (takes_part c.transaction.id) Owed.Commit c.enlistments) (fades-preparing c)
-
-fades-one_participant : (c : Course) → Fades c (one_participant c)
-fades-one_participant c = either c (has_changes c.changes) _ _ (fades-ended _ TransactionOutcome.Committed) (either c (has_settings c.settings) _ (one_phase c) (fades-ended _ TransactionOutcome.Committed) (fades-one_phase c))
-
-fades-alone : (c : Course) (n : ℕ) → Fades c (prepare_alone c n)
-fades-alone c zero = fades-ended c TransactionOutcome.Committed
-fades-alone c (suc zero) = fades-one_participant c
-fades-alone c (suc (suc more)) = fades-preparing c
-
-pub fades-to_prepare : (c : Course) → Fades c (to_prepare c)
-unfolding to_prepare
-fades-to_prepare c = either c (is_some (superior c)) (preparing c) (prepare_alone c (participants c)) (fades-preparing c) (fades-alone c (participants c))
-
-pub fades-pre_prepared : (c : Course) → Fades c (pre_prepared c)
-unfolding pre_prepared
-fades-pre_prepared c = either c (is_some (superior c)) _ (to_prepare c) (fade-told _ c.enlistments) (fades-to_prepare c)
-
-pub fades-to_pre_prepare : (c : Course) → Fades c (to_pre_prepare c)
-unfolding to_pre_prepare
-fades-to_pre_prepare c = either c (some_enlistment c asks_pre_prepare) _ (pre_prepared c) (fade-owing _ Owed.PrePrepare c.enlistments) (fades-pre_prepared c)
-
-pub fades-to_commit : (c : Course) → Fades c (to_commit c)
-unfolding to_commit
-fades-to_commit c = either c (is_some (superior c)) _ (to_pre_prepare c) (fade-told _ c.enlistments) (fades-to_pre_prepare c)
-
-fades-when_none_owes : (c d : Course) (next : Course → Course) → Fades c d → ((d : Course) → Fades d (next d)) → Fades c (when_none_owes d next)
-fades-when_none_owes c d next first rest = either c (someone_owes d) d (next d) first (fade-then c.enlistments d.enlistments (next d).enlistments first (rest d))
-
-pub fades-pre_prepare_answered : (c : Course) (e : Enlistment) → Fades c (pre_prepare_answered c e)
-unfolding pre_prepare_answered
-fades-pre_prepare_answered c e = fades-when_none_owes c (changing_one c e.id (λ e. record e { owes = None })) pre_prepared
-    (fades-one c e.id (λ e. record e { owes = None }) (λ e. record { transaction = refl; kind = refl; read_only = λ is. is; finished = λ is. is })) fades-pre_prepared
-
-fades-ready : (c : Course) (e : Enlistment) → Fades c (ready_of_enlistment c e)
-fades-ready c e = either c (is_durable_at c.managers e.manager) _ c (fade-stays c.enlistments) (fade-stays c.enlistments)
-
-pub fades-prepare_answered : (c : Course) (e : Enlistment) → Fades c (prepare_answered c e)
-unfolding prepare_answered
-fades-prepare_answered c e =
-    let prepared = changing_one c e.id (λ e. record e { owes = None; is_prepared = true }) in
-    fades-when_none_owes c (ready_of_enlistment prepared e) all_ready
-    (fade-then c.enlistments prepared.enlistments (ready_of_enlistment prepared e).enlistments
-    (fades-one c e.id (λ e. record e { owes = None; is_prepared = true }) (λ e. record { transaction = refl; kind = refl; read_only = λ is. is; finished = λ is. is })) (fades-ready prepared e)) fades-all_ready
-
-fades-without : (phase : Phase) (c : Course) → Fades c (without_its_answer phase c)
-fades-without PrePreparing c = fades-pre_prepared c
-fades-without Preparing c = fades-all_ready c
-fades-without SinglePhase c = fades-ended c TransactionOutcome.Committed
-fades-without _ c = fade-stays c.enlistments
-
-pub fades-read_only_answered : (c : Course) (e : Enlistment) → Fades c (read_only_answered c e)
-unfolding read_only_answered
-fades-read_only_answered c e =
-    let left = changing_one c e.id (λ e. record e { owes = None; is_read_only = true }) in
-    let fades : Fades c left = fades-one c e.id (λ e. record e { owes = None; is_read_only = true }) (λ e. record { transaction = refl; kind = refl; read_only = λ is. refl; finished = λ is. is }) in
-    either c (is_some e.owes) (when_none_owes left (without_its_answer c.transaction.phase)) left (fades-when_none_owes c left (without_its_answer c.transaction.phase) fades (fades-without c.transaction.phase)) fades
-
-pub fades-single_phase_rejected : (c : Course) (e : Enlistment) → Fades c (single_phase_rejected c e)
-unfolding single_phase_rejected
-fades-single_phase_rejected c e = fade-owing _ Owed.Prepare c.enlistments
-
-fades-finished : (c : Course) (id : Id) → Fades c (changing_one c id (λ e. record e { owes = None; is_finished = true }))
-fades-finished c id = fades-one c id (λ e. record e { owes = None; is_finished = true }) (λ e. record { transaction = refl; kind = refl; read_only = λ is. is; finished = λ is. refl })
-
-pub fades-commit_answered : (c : Course) (e : Enlistment) → Fades c (commit_answered c e)
-unfolding commit_answered
-fades-commit_answered c e =
-    let done = changing_one c e.id (λ e. record e { owes = None; is_finished = true }) in
-    either c (is_single_phase c.transaction.phase) (ended done TransactionOutcome.Committed) _
-    (fade-then c.enlistments done.enlistments (ended done TransactionOutcome.Committed).enlistments (fades-finished c e.id) (fades-ended done TransactionOutcome.Committed))
-    (fades-if_finished c _ TransactionOutcome.Committed (fades-finished c e.id))
-
-pub fades-rollback_answered : (c : Course) (e : Enlistment) → Fades c (rollback_answered c e)
-unfolding rollback_answered
-fades-rollback_answered c e = fades-if_finished c _ TransactionOutcome.Aborted (fades-finished c e.id)
-
-fades-recovered_in : (phase : Phase) (c : Course) (e : Enlistment) → Fades c (recovered_in phase c e)
-fades-recovered_in InDoubt c e = fade-told _ c.enlistments
-fades-recovered_in Committing c e = fade-owing _ Owed.Commit c.enlistments
-fades-recovered_in Aborting c e = fade-owing _ Owed.Rollback c.enlistments
-fades-recovered_in _ c e = fade-stays c.enlistments
-
-pub fades-recovered : (c : Course) (e : Enlistment) → Fades c (recovered c e)
-unfolding recovered
-fades-recovered c e =
-    let back = recovering c e in
-    let fades : Fades c back = fades-one c e.id (λ e. record e { is_recovered = true }) (λ e. record { transaction = refl; kind = refl; read_only = λ is. is; finished = λ is. is }) in
-    either c (is_superior e) _ (recovered_in c.transaction.phase back e) (fade-then c.enlistments back.enlistments _ fades (fade-told _ back.enlistments))
-    (fade-then c.enlistments back.enlistments (recovered_in c.transaction.phase back e).enlistments fades (fades-recovered_in c.transaction.phase back e))
+-- so it is by each row
+pub fades-led : (input : PhaseInput) (c : Course) → Fades c (led input c)
+unfolding led
+fades-led input c =
+    let fades = fades-run (row (seen c) input) c in
+    record {
+      step = fades.change;
+      is = fades.is;
+      declines = λ e. let goes = fades.each e in record {
+        transaction = ap (λ (x : Enlistment). x.transaction) goes.lasts;
+        kind = ap (λ (x : Enlistment). x.kind) goes.lasts;
+        read_only = goes.read_only;
+        finished = goes.finished;
+      };
+    }
 
 -- ---- what is live
 

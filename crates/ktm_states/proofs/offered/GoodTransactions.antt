@@ -1,5 +1,5 @@
 -- A good durable state as what is so of each transaction, of each two, and of the rest.
-use Rattle.std.proofs.Common.{◌≡◌, ◌-◌, ◌<◌, ◌≤◌, ◌^◌, not, Bool, true, false, List, length, nat_lt, nat_le, ap, inl, inr}
+use Rattle.std.proofs.Common.{ℕ, ◌≡◌, ◌-◌, ◌<◌, ◌≤◌, ◌^◌, not, Bool, true, false, List, length, nat_lt, nat_le, ap, inl, inr}
 use Rattle.std.proofs.lemmas.Bool.{and_parts, and_from, not-true, not_from_false}
 use Rattle.std.specs.List.{list_all, flat_map}
 use Rattle.ktm_base.specs.declared.limits.TheConstants.{MOST_INFORMATION_BYTES}
@@ -8,9 +8,10 @@ use Rattle.ktm_types.specs.declared.recorded.Superior.{Superior}
 use Rattle.ktm_world.specs.Changes.{changes_apply}
 use Rattle.ktm_world.specs.Durable.{Durable, Recorded, is_decided, is_manager, is_new_in, is_before, changes_of, settings_of, enlistments_of, holds_in, is_within_limits, waiting}
 use Rattle.ktm_keyed.specs.Keyed.{is_rising}
+use Rattle.ktm_world.specs.Keys.{Store}
 use Rattle.ktm_world.specs.Lawful.{are_apart, set_both}
 use Rattle.ktm_world.specs.Transactions.{same_id}
-use Rattle.ktm_world.specs.Tree.{IsWellFormed}
+use Rattle.ktm_world.specs.Tree.{Tree, IsWellFormed}
 use Rattle.txf_laws.specs.Elements.{IsIn, each_pair}
 use Rattle.txf_laws.specs.Footprint.{footprint, AreFootprintsApart}
 use Rattle.txf_laws.specs.Contents.{is_made_below, puts_some, is_good_entry}
@@ -65,20 +66,36 @@ Beside-sym s t u sides = record {
   keys = λ waits waits'. set_both-sym (settings_of t) (settings_of u) (sides.keys waits' waits);
 }
 
--- what is so of a state beside its transactions
-pub record Rest (s : Durable) : Type 0 where
+-- the numbers and limits of a state
+pub record GoodCounts (s : Durable) : Type 0 where
   pub image_fits : s.image < 2 ^ 16
-  pub managers_rise : each_pair is_before s.managers ≡ true
-  pub managers_drawn : list_all (is_drawn s) s.managers ≡ true
   pub limits : is_within_limits s ≡ true
   pub events_left : s.events < 2 ^ 63
   pub boots_left : s.boots < 2 ^ 32 - 1
-  pub files : IsWellFormed s.tree
-  pub nodes_below : list_all (λ node. nat_lt node.number s.next_node) s.tree ≡ true
-  pub next_from : 2 ≤ s.next_node
-  pub next_to : s.next_node ≤ 2 ^ 63
-  pub keys_rise : is_rising s.keys ≡ true
-  pub keys_good : list_all is_good_entry s.keys ≡ true
+
+-- its managers
+pub record GoodManagers (s : Durable) : Type 0 where
+  pub rise : each_pair is_before s.managers ≡ true
+  pub drawn : list_all (is_drawn s) s.managers ≡ true
+
+-- files, and the number that the next node takes
+pub record GoodFiles (tree : Tree) (next : ℕ) : Type 0 where
+  pub formed : IsWellFormed tree
+  pub below : list_all (λ node. nat_lt node.number next) tree ≡ true
+  pub from : 2 ≤ next
+  pub to : next ≤ 2 ^ 63
+
+-- keys
+pub record GoodKeys (keys : Store) : Type 0 where
+  pub rise : is_rising keys ≡ true
+  pub good : list_all is_good_entry keys ≡ true
+
+-- what is so of a state beside its transactions
+pub record Rest (s : Durable) : Type 0 where
+  pub counts : GoodCounts s
+  pub managers : GoodManagers s
+  pub files : GoodFiles s.tree s.next_node
+  pub keys : GoodKeys s.keys
 
 -- the transactions of a state, with what is so of them there
 abbrev pub TableOf : Durable → List Recorded → Type 0
@@ -89,13 +106,13 @@ waits t = not (is_decided t.stage)
 
 pub good-from : (s : Durable) → TableOf s s.transactions → Rest s → IsGoodState s
 good-from s table rest = record {
-  image_fits = rest.image_fits;
+  image_fits = rest.counts.image_fits;
   transactions_rise = table.rises;
-  managers_rise = rest.managers_rise;
+  managers_rise = rest.managers.rise;
   enlistments_differ = each_pair-flat is_earlier differ enlistments_of s.transactions table.rises (λ t there. (table.fit t there).core.differ)
       (λ t u there there' earlier a b has has'. not_from_false _ ((table.beside t u there there' (before_other t.id u.id earlier)).enlistments a b has has'));
   transactions_drawn = list_all-from (λ t. is_drawn s t.id) s.transactions (λ t there. (table.fit t there).core.drawn);
-  managers_drawn = rest.managers_drawn;
+  managers_drawn = rest.managers.drawn;
   enlistments_drawn = list_all-from (λ e. is_drawn s e.enlistment) (flat_map enlisted s.transactions) (λ e there. (enlistments e there).drawn);
   managers_there = list_all-from (λ e. is_manager s e.manager) (flat_map enlisted s.transactions) (λ e there. (enlistments e there).manager);
   information_fits = list_all-from (λ e. nat_le (length e.information) MOST_INFORMATION_BYTES) (flat_map enlisted s.transactions) (λ e there. (enlistments e there).information);
@@ -117,15 +134,15 @@ good-from s table rest = record {
       (are_apart-from s.tree (changes_of u) (changes_of t) (AreFootprintsApart-sym (footprint s.tree (changes_of t)) (footprint s.tree (changes_of u)) apart)));
   keys_apart = each_pair-from is_earlier set_no_key_both (waiting s) (each_pair-filter is_earlier waits s.transactions table.rises) (λ t u there there' earlier.
       let both = pair t u there there' earlier in not_from_false _ (both.0.keys both.1 both.2));
-  limits = rest.limits;
-  events_left = rest.events_left;
-  boots_left = rest.boots_left;
-  files = rest.files;
-  nodes_below = rest.nodes_below;
-  next_from = rest.next_from;
-  next_to = rest.next_to;
-  keys_rise = rest.keys_rise;
-  keys_good = rest.keys_good;
+  limits = rest.counts.limits;
+  events_left = rest.counts.events_left;
+  boots_left = rest.counts.boots_left;
+  files = rest.files.formed;
+  nodes_below = rest.files.below;
+  next_from = rest.files.from;
+  next_to = rest.files.to;
+  keys_rise = rest.keys.rise;
+  keys_good = rest.keys.good;
 }
   where
     enlistments : (e : Superior) → IsIn e (flat_map enlisted s.transactions) → IsEnlisted s e
@@ -187,16 +204,8 @@ table-of s good = record {
 
 pub rest-of : (s : Durable) → IsGoodState s → Rest s
 rest-of s good = record {
-  image_fits = good.image_fits;
-  managers_rise = good.managers_rise;
-  managers_drawn = good.managers_drawn;
-  limits = good.limits;
-  events_left = good.events_left;
-  boots_left = good.boots_left;
-  files = good.files;
-  nodes_below = good.nodes_below;
-  next_from = good.next_from;
-  next_to = good.next_to;
-  keys_rise = good.keys_rise;
-  keys_good = good.keys_good;
+  counts = record { image_fits = good.image_fits; limits = good.limits; events_left = good.events_left; boots_left = good.boots_left };
+  managers = record { rise = good.managers_rise; drawn = good.managers_drawn };
+  files = record { formed = good.files; below = good.nodes_below; from = good.next_from; to = good.next_to };
+  keys = record { rise = good.keys_rise; good = good.keys_good };
 }

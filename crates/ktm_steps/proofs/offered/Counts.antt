@@ -8,10 +8,11 @@ use Rattle.std.proofs.lemmas.List.Sums.{length-filter, sum_by-append, sum_by-con
 use Rattle.std.specs.List.{list_any}
 use Rattle.ktm_world.specs.Changes.{has_changes}
 use Rattle.ktm_world.specs.Enlistments.{Enlistment, allows_one_phase, asks_pre_prepare, has_id, is_ordinary, takes_part, with_enlistments}
-use Rattle.ktm_world.specs.Phases.{Course, changing_one, has_settings, one_if, participants as participants_of, someone_owes, superior, taking_part}
+use Rattle.ktm_world.specs.Phases.{Course, changing_one, has_settings, one_if, superior}
 use Rattle.ktm_world.specs.Rows.{participants, without}
 use Rattle.ktm_world.specs.Steps.{counted, lasting, seen, share_of}
-use Rattle.ktm_phase.specs.Laws.{IsPart}
+use Rattle.ktm_steps.specs.Procedures.{participants as participants_of, someone_owes, taking_part}
+use Rattle.ktm_steps.specs.Laws.{IsPart}
 
 -- ---- counts
 

@@ -8,7 +8,7 @@ use Rattle.ktm_types.specs.declared.step.Step.{Step}
 use Rattle.ktm_world.specs.Enlistments.{Enlistment, has_id, is_unfinished}
 use Rattle.ktm_world.specs.Phases.{Course, ended, is_its_superior, owing, unchanged}
 use Rattle.ktm_world.specs.Steps.{answered, carried, changing, basis, events_ahead, events_of, is_meant, run}
-use Rattle.ktm_phase.proofs.Lasting.{basis-with, lasting-answered}
+use Rattle.ktm_steps.proofs.offered.Lasting.{basis-with, lasting-answered}
 
 basis-ended : (c : Course) (outcome : TransactionOutcome) → basis (ended c outcome) ≡ basis c
 unfolding ended

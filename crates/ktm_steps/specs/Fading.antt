@@ -4,7 +4,6 @@ use Rattle.ktm_types.specs.declared.step.Step.{Step}
 use Rattle.ktm_world.specs.Enlistments.{Enlistment}
 use Rattle.ktm_world.specs.Phases.{Course}
 use Rattle.ktm_world.specs.Steps.{lasting, run}
-use Rattle.ktm_phase.specs.Procedures.{AreProcedures}
 
 -- what lasts of an enlistment is as it was, and it is read-only, prepared, finished and recovered where it was
 pub record GoesOn (e f : Enlistment) : Type 0 where
@@ -20,7 +19,6 @@ pub record Fades (c d : Course) : Type 0 where
   pub is : d.enlistments ≡ map change c.enlistments
   pub each : (e : Enlistment) → GoesOn e (change e)
 
--- so it is by steps, and by each procedure
-pub record FadingLaw : Type 0 where
-  pub steps : (steps : List Step) (c : Course) → Fades c (run steps c)
-  pub procedures : AreProcedures Fades
+-- so it is by steps
+abbrev pub FadingLaw : Type 0
+FadingLaw = (steps : List Step) (c : Course) → Fades c (run steps c)

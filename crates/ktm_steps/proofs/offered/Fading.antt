@@ -1,6 +1,6 @@
--- No step makes an enlistment live again, and so no procedure does.
+-- No step makes an enlistment live again.
 use Rattle.std.specs.Prelude.{if◌then◌else◌}
-use Rattle.std.proofs.Common.{◌≡◌, Bool, true, false, List, [], ◌∷◌, map, Option, Some, None, refl, sym, ◌∙◌, ap, subst}
+use Rattle.std.proofs.Common.{◌≡◌, Bool, true, false, List, [], ◌∷◌, map, Option, Some, None, refl, sym, ◌∙◌, ap}
 use Rattle.std.proofs.lemmas.List.{map-id}
 use Rattle.std.proofs.lemmas.Simd.{map-map}
 use Rattle.std.specs.List.{list_any}
@@ -11,9 +11,7 @@ use Rattle.ktm_types.specs.declared.step.Step.{Step}
 use Rattle.ktm_world.specs.Enlistments.{Enlistment, has_id, is_unfinished, with_enlistments}
 use Rattle.ktm_world.specs.Phases.{Course, ended, is_its_superior, owing, unchanged}
 use Rattle.ktm_world.specs.Steps.{answered, carried, changing, is_meant, run}
-use Rattle.ktm_phase.specs.Fading.{Fades, FadingLaw, GoesOn}
-use Rattle.ktm_phase.specs.Procedures.{IsRun}
-use Rattle.ktm_phase.proofs.Table.{of_runs}
+use Rattle.ktm_steps.specs.Fading.{Fades, GoesOn}
 
 -- ---- enlistments
 
@@ -78,12 +76,6 @@ fades-step (Step.End outcome) c = fades-ended c outcome
 fades-step (Step.EndWhereFinished outcome) c = fades-either c c (ended c outcome) (list_any (is_unfinished c.transaction.id) c.enlistments) (fades-same c c refl) (fades-ended c outcome)
 fades-step _ c = fades-same c _ refl
 
-fades-run : (steps : List Step) (c : Course) → Fades c (run steps c)
+pub fades-run : (steps : List Step) (c : Course) → Fades c (run steps c)
 fades-run [] c = fades-same c c refl
 fades-run (step ∷ steps) c = fades-then c _ _ (fades-step step c) (fades-run steps (carried step c))
-
-fades-ran : (c d : Course) → IsRun c d → Fades c d
-fades-ran c d ran = subst (Fades c) ran.is (fades-run ran.steps c)
-
-pub fading_law : FadingLaw
-fading_law = record { steps = fades-run; procedures = of_runs Fades fades-ran }

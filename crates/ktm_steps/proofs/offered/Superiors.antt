@@ -6,7 +6,7 @@ use Rattle.ktm_base.specs.declared.id.Id.{Id}
 use Rattle.ktm_world.specs.Enlistments.{Enlistment, has_id, is_given, is_ordinary, is_superior, takes_part, id_of}
 use Rattle.ktm_world.specs.Phases.{Course, is_its_superior}
 use Rattle.ktm_world.specs.Transactions.{same_id}
-use Rattle.ktm_phase.specs.Laws.{IsPart, TellsSuperior}
+use Rattle.ktm_steps.specs.Laws.{IsPart, TellsSuperior}
 
 and-true : (b : Bool) → (b && true) ≡ b
 and-true true = refl

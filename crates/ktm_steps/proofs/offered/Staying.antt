@@ -1,0 +1,62 @@
+-- What no step changes of a course: which transaction it is, what it has to commit, and who makes the call.
+use Rattle.std.specs.Prelude.{if◌then◌else◌}
+use Rattle.std.proofs.Common.{◌≡◌, Bool, true, false, List, [], ◌∷◌, Option, Some, None, refl, ◌∙◌}
+use Rattle.std.specs.List.{list_any}
+use Rattle.ktm_types.specs.declared.input.PhaseInput.{PhaseInput}
+use Rattle.ktm_types.specs.declared.object.TransactionOutcome.{TransactionOutcome}
+use Rattle.ktm_types.specs.declared.step.Step.{Step}
+use Rattle.ktm_world.specs.Enlistments.{Enlistment, is_unfinished}
+use Rattle.ktm_world.specs.Phases.{Course, ended}
+use Rattle.ktm_world.specs.Rows.{row}
+use Rattle.ktm_world.specs.Steps.{carried, changing, led, run, seen}
+
+-- so much of it is as before
+pub record Stays (c d : Course) : Type 0 where
+  pub id : d.transaction.id ≡ c.transaction.id
+  pub timeout : d.transaction.timeout ≡ c.transaction.timeout
+  pub created : d.transaction.created ≡ c.transaction.created
+  pub managers : d.managers ≡ c.managers
+  pub changes : d.changes ≡ c.changes
+  pub settings : d.settings ≡ c.settings
+  pub caller : d.caller ≡ c.caller
+
+pub stays : (c : Course) → Stays c c
+stays c = record { id = refl; timeout = refl; created = refl; managers = refl; changes = refl; settings = refl; caller = refl }
+
+pub stays-then : (b c d : Course) → Stays b c → Stays c d → Stays b d
+stays-then b c d first second = record {
+  id = second.id ∙ first.id;
+  timeout = second.timeout ∙ first.timeout;
+  created = second.created ∙ first.created;
+  managers = second.managers ∙ first.managers;
+  changes = second.changes ∙ first.changes;
+  settings = second.settings ∙ first.settings;
+  caller = second.caller ∙ first.caller;
+}
+
+-- one of two courses is so
+pub either-course : (P : Course → Type 0) (b : Bool) (c d : Course) → P c → P d → P (if b then c else d)
+either-course P true c d first second = first
+either-course P false c d first second = second
+
+stays-ended : (c : Course) (outcome : TransactionOutcome) → Stays c (ended c outcome)
+unfolding ended
+stays-ended c outcome = record { id = refl; timeout = refl; created = refl; managers = refl; changes = refl; settings = refl; caller = refl }
+
+stays-changing : (c : Course) (e : Option Enlistment) (f : Enlistment → Enlistment) → Stays c (changing c e f)
+stays-changing c None f = stays c
+stays-changing c (Some e) f = record { id = refl; timeout = refl; created = refl; managers = refl; changes = refl; settings = refl; caller = refl }
+
+pub stays-step : (step : Step) (c : Course) → Stays c (carried step c)
+stays-step (Step.Change answer) c = stays-changing c c.caller _
+stays-step (Step.End outcome) c = stays-ended c outcome
+stays-step (Step.EndWhereFinished outcome) c = either-course (Stays c) (list_any (is_unfinished c.transaction.id) c.enlistments) c (ended c outcome) (stays c) (stays-ended c outcome)
+stays-step _ c = record { id = refl; timeout = refl; created = refl; managers = refl; changes = refl; settings = refl; caller = refl }
+
+pub stays-run : (steps : List Step) (c : Course) → Stays c (run steps c)
+stays-run [] c = stays c
+stays-run (step ∷ steps) c = stays-then c (carried step c) (run steps (carried step c)) (stays-step step c) (stays-run steps (carried step c))
+
+pub stays-led : (input : PhaseInput) (c : Course) → Stays c (led input c)
+unfolding led
+stays-led input c = stays-run (row (seen c) input) c

@@ -1,0 +1,4 @@
+pub mod Laws
+pub mod Procedures
+pub mod Fading
+pub mod Outcomes
