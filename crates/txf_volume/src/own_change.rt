@@ -50,7 +50,7 @@ fn put(
     ensures ok { OnOk result ((tree : Nodes) → StandsOver tree overlay.old → IsChanged tree fixed.now transaction (Put node offset contents.now) overlay.old overlay.new reserve.old reserve.new) }
     ensures err { OnErr result (bare overlay.new ≡ bare overlay.old) }
     ensures same { OnErr result (reserve.new ≡ reserve.old) }
-    ensures enough { HasBytes overlay.old node (offset + length (bytes_in contents.now)) → IsOk result }
+    ensures enough { HasBytes overlay.old.written node (offset + length (bytes_in contents.now)) → IsOk result }
 {
     let first = starts(overlay, fixed, node);
     if let Err(NoMemory) = overlay.put(node, first, offset, bytes_in(contents)) {
@@ -74,7 +74,7 @@ fn cut(
     ensures ok { OnOk result ((tree : Nodes) (pages : List ℕ) → StandsOver tree overlay.old → IsChanged tree fixed.now transaction (Cut node size pages) overlay.old overlay.new reserve.old reserve.new) }
     ensures err { OnErr result (bare overlay.new ≡ bare overlay.old) }
     ensures same { OnErr result (reserve.new ≡ reserve.old) }
-    ensures enough { HasBytes overlay.old node size → IsOk result }
+    ensures enough { HasBytes overlay.old.written node size → IsOk result }
 {
     let first = starts(overlay, fixed, node);
     if let Err(NoMemory) = overlay.cut(node, first, size) {
