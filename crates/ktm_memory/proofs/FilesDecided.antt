@@ -36,10 +36,10 @@ use Rattle.ktm_memory.specs.Route.{IsFreeLabel, IsReadyCall, files_outcome}
 use Rattle.ktm_memory.specs.Takes.{is_quiet}
 use Rattle.ktm_memory.proofs.Decides.{nothing_appended}
 use Rattle.txf_calls.specs.Calls.{file_effect, file_outcome, file_tests, unless_refused}
-use Rattle.txf_calls.specs.Views.{open_of}
+use Rattle.txf_opens.specs.Acts.{open_of}
 use Rattle.txf_calls.specs.declared.call.FileCall.{FileCall}
 use Rattle.txf_calls.specs.declared.call.FileCall.TheVariants.{Create, Read, Write, SetEnd, Size, Flush, Delete, MakeDirectory, RemoveDirectory, Move, Find}
-use Rattle.txf_calls.specs.declared.call.OpenFile.{OpenFile as Kept}
+use Rattle.txf_opens.specs.declared.file.OpenFile.{OpenFile as Kept}
 use Rattle.txf_volume.specs.Plain.{IsReady}
 
 -- ---- the room that the files have

@@ -15,7 +15,7 @@ use Rattle.ktm_world.specs.Outcome.{Outcome, apply, is_full}
 use Rattle.ktm_memory.specs.declared.settlement.Decision.{Decision}
 use Rattle.ktm_memory.specs.declared.settlement.Settlement.{Settlement}
 use Rattle.ktm_memory.specs.declared.settlement.Settlement.TheVariants.{Nothing, Bind}
-use Rattle.txf_calls.specs.declared.call.OpenFile.{OpenFile}
+use Rattle.txf_opens.specs.declared.file.OpenFile.{OpenFile}
 use Rattle.ktm_memory.specs.Memory.{Held, MemoryState, MaySettle, appended, held, now_of, settled}
 
 -- the reply and the events are those of the outcome; once they are recorded and memory has settled, what is so is what the outcome makes of
