@@ -20,12 +20,10 @@ use crate::nodes::Nodes;
 use crate::stored::Stored;
 use ktm_base::{Bytes, MOST_NAME_BYTES, NoMemory, Text, read_at};
 use ktm_links::{Chains, Name};
+use ktm_names::ROOT;
 use ktm_types::{Change, Contents, Node, NodeKind};
 use std::alloc::Global;
 use std::marker::Model;
-
-/// The number of the root.
-pub(crate) const ROOT: u64 = 1;
 
 /// The committed files and directories.
 #[derive(Drop)]
