@@ -10,12 +10,12 @@ use Rattle.std.specs.List.Sorted.{IsBinarySearchResult, IsNonDecreasingBy, IsPar
 use Rattle.std.proofs.lemmas.Bool.{cases_lt, cases_Bool}
 use Rattle.std.proofs.lemmas.Option.{get_or_from_slice_get, same_Some, slice_get-get_or, slice_get_within}
 use Rattle.ktm_links.specs.declared.list.Key.{Key}
-use Rattle.ktm_links.specs.Items.{Listed, IsSpent as IsSpentKey, Item, item, same_key, value_at, without}
-use Rattle.ktm_links.specs.Mapped.{Mapped, IsSpent, NameAndValue, NamedItem, name_cmp, at, first_from, key_at, put, without_name, value_of, IsFirstOf, IsNoneOf, IsNotBelow}
-use Rattle.ktm_links.specs.Order.{order_in, order_at, entries_of, AreAbove, IsRising, ArePresent, HasKey, IsInOrder, IsFirstNotBelow}
+use Rattle.ktm_links.specs.Items.{Listed, IsSpent as IsSpentKey, Item, item, same_key, value_at, with_value, without}
+use Rattle.ktm_links.specs.Mapped.{Mapped, IsSpent, NameAndValue, NamedItem, name_cmp, at, first_from, key_at, put, with_value as with_named, without_name, value_of, IsFirstOf, IsNoneOf, IsNotBelow}
+use Rattle.ktm_links.specs.Order.{order_in, order_at, entries_of, revalued, AreAbove, IsRising, ArePresent, HasKey, IsInOrder, IsFirstNotBelow}
 use Rattle.ktm_links.proofs.Blocks.{no_key}
 use Rattle.ktm_links.proofs.offered.Names.{less_equal, index_rises, name_equal, name_same, from_is_eq}
-use Rattle.ktm_links.proofs.offered.Keys.{on_some, same_key-true, same_key-self, some_of, none_of, value_at-kept, value_at-last, value_at-others, value_at-append}
+use Rattle.ktm_links.proofs.offered.Keys.{cases_key, on_some, same_key-true, same_key-self, some_of, none_of, value_at-kept, value_at-last, value_at-others, value_at-with_same, value_at-with_other, value_at-append}
 use Rattle.ktm_links.proofs.offered.Entries.{key_at-at, key_at-same, key_at-less, key_at-differs, put-lower, put-higher, rising_put, without_name-same, without_name-less, at-same, at-less, rising_without, value_of-same, value_of-other, first_from-least, first_from-nothing}
 
 HasKey-inserted : (ks : List Key) (i : ℕ) (key other : Key) → (key ≡ other) ⊎ HasKey other ks → HasKey other (take i ks ++ key ∷ drop i ks)
@@ -207,15 +207,17 @@ module _ {T : Type 0} where
       let less' : name_cmp m.name m.name ≡ Less = ap (λ (x : NameAndValue T). name_cmp x.name m.name) (sym (same_Some n m both)) ∙ less in
       absurd (cc)
 
-  entries_of-without : (items : List (Item (NameAndValue T))) (key : Key) (n : NameAndValue T) (ks : List Key) → value_at items key ≡ Some n → ArePresent items ks
-      → AreAbove n.name (entries_of items ks) → (entries_of (without items key) ks ≡ entries_of items ks) × ArePresent (without items key) ks
-  entries_of-without items key n [] is present above = (refl, tt)
-  entries_of-without items key n (k ∷ ks) is present above =
+  -- keys of higher names name what they named, where other keys than this do
+  entries_of-others : (items new : List (Item (NameAndValue T))) (key : Key) (n : NameAndValue T) (ks : List Key)
+      → ((other : Key) → (key ≡ other → ⊥) → value_at new other ≡ value_at items other) → value_at items key ≡ Some n → ArePresent items ks
+      → AreAbove n.name (entries_of items ks) → (entries_of new ks ≡ entries_of items ks) × ArePresent new ks
+  entries_of-others items new key n [] others is present above = (refl, tt)
+  entries_of-others items new key n (k ∷ ks) others is present above =
       let s = some_of (value_at items k) present.0 in
       let above' = rw (entries_of-cons items k ks s.0 s.1) at above in
-      let rest = entries_of-without items key n ks is present.1 above'.1 in
-      let stays : value_at (without items key) k ≡ Some s.0 = value_at-others items key k (not_above items key k n is s.0 s.1 above'.0) ∙ s.1 in (
-        entries_of-cons (without items key) k ks s.0 stays ∙ ap (λ l. entry k s.0 ∷ l) rest.0 ∙ sym (entries_of-cons items k ks s.0 s.1),
+      let rest = entries_of-others items new key n ks others is present.1 above'.1 in
+      let stays : value_at new k ≡ Some s.0 = others k (not_above items key k n is s.0 s.1 above'.0) ∙ s.1 in (
+        entries_of-cons new k ks s.0 stays ∙ ap (λ l. entry k s.0 ∷ l) rest.0 ∙ sym (entries_of-cons items k ks s.0 s.1),
         (rw stays refl, rest.1),
       )
 
@@ -235,7 +237,7 @@ module _ {T : Type 0} where
       let equal' : name_cmp s.0.name name ≡ Equal = ap (λ o. order_in o name) (sym s.1) ∙ equal in
       let cons = entries_of-cons items k ks s.0 s.1 in
       let rising' = rw cons at rising in
-      let rest = entries_of-without items k s.0 ks s.1 present.1 rising'.0 in
+      let rest = entries_of-others items (without items k) k s.0 ks (λ other differs. value_at-others items k other differs) s.1 present.1 rising'.0 in
       record {
         named = s.0;
         stood = s.1;
@@ -343,6 +345,94 @@ module _ {T : Type 0} where
   pub at-stands : (items : List (Item (NameAndValue T))) (ks : List Key) (q : List ℕ) (key : Key) (v : T) → IsInOrder items ks
       → at (entries_of items ks) q ≡ Some (key, v) → (n : NameAndValue T) × (value_at items key ≡ Some n) × (n.name ≡ q) × (n.value ≡ v)
   at-stands items ks q key v ordered found = at-stands_present items ks q key v ordered.present found
+
+  -- ---- another value
+  valued_at : (items : List (Item (NameAndValue T))) (key : Key) (n : NameAndValue T) (w : T) (ks : List Key) → value_at items key ≡ Some n → ArePresent items ks
+      → IsRising (entries_of items ks) → key_at (entries_of items ks) n.name ≡ Some key
+      → (entries_of (with_value items key (record n { value = w })) ks ≡ with_named (entries_of items ks) n.name w)
+      × ArePresent (with_value items key (record n { value = w })) ks
+  valued_at items key n w [] is present rising here = absurd (cc)
+  valued_at items key n w (k ∷ ks) is present rising here =
+      let s = some_of (value_at items k) present.0 in
+      let x : NameAndValue T = record n { value = w } in
+      let new = with_value items key x in
+      let cons = entries_of-cons items k ks s.0 s.1 in
+      let rising' = rw cons at rising in
+      let here' = rw cons at here in
+      let others : (other : Key) → (key ≡ other → ⊥) → value_at new other ≡ value_at items other = λ other differs. value_at-with_other items key other x (λ same. differs (sym same)) in
+      elim (cases_Bool (is_eq (name_cmp s.0.name n.name))) [
+        | inl this ↦
+            let key_is : k ≡ key = same_Some k key (rw this at here') in
+            let same : s.0 ≡ n = same_Some s.0 n (sym s.1 ∙ ap (value_at items) key_is ∙ is) in
+            let rest = entries_of-others items new key n ks others is present.1 (rw same at rising'.0) in
+            let there : value_at new k ≡ Some x = ap (value_at new) key_is ∙ value_at-with_same items key x (ap is_some is) in (
+              entries_of-cons new k ks x there ∙ ap (λ l. entry k x ∷ l) rest.0
+                  ∙ ap (λ (m : NameAndValue T). record { name = m.name; key = k; value = w } ∷ entries_of items ks) (sym same)
+                  ∙ sym (ap (λ es. with_named es n.name w) cons ∙ rw this refl),
+              (rw there refl, rest.1),
+            )
+        | inr other ↦
+            let differs : key ≡ k → ⊥ = λ same. absurd (
+            let one : n ≡ s.0 = same_Some n s.0 (sym is ∙ ap (value_at items) same ∙ s.1) in
+            let equal = name_same s.0.name in
+            let not_equal : is_eq (name_cmp s.0.name s.0.name) ≡ false = ap (λ (m : NameAndValue T). is_eq (name_cmp s.0.name m.name)) (sym one) ∙ other in
+            cc) in
+            let stays : value_at new k ≡ Some s.0 = others k differs ∙ s.1 in
+            let inner = valued_at items key n w ks is present.1 rising'.1 (rw other at here') in (
+              entries_of-cons new k ks s.0 stays ∙ ap (λ l. entry k s.0 ∷ l) inner.0
+                  ∙ sym (ap (λ es. with_named es n.name w) cons ∙ rw other refl),
+              (rw stays refl, inner.1),
+            )
+      ]
+
+  AreAbove-valued : (a name : List ℕ) (w : T) (es : List (NamedItem T)) → AreAbove a es → AreAbove a (with_named es name w)
+  AreAbove-valued a name w [] above = tt
+  AreAbove-valued a name w (e ∷ es) above =
+      elim (cases_Bool (is_eq (name_cmp e.name name))) [
+        | inl this ↦ rw this above
+        | inr other ↦ rw other ((above.0, AreAbove-valued a name w es above.1))
+      ]
+
+  IsRising-valued : (name : List ℕ) (w : T) (es : List (NamedItem T)) → IsRising es → IsRising (with_named es name w)
+  IsRising-valued name w [] rising = tt
+  IsRising-valued name w (e ∷ es) rising =
+      elim (cases_Bool (is_eq (name_cmp e.name name))) [
+        | inl this ↦ rw this rising
+        | inr other ↦ rw other ((AreAbove-valued e.name name w es rising.0, IsRising-valued name w es rising.1))
+      ]
+
+  some_revalued : (items : List (Item (NameAndValue T))) (key other : Key) (x : NameAndValue T) → is_some (value_at items key) ≡ true
+      → is_some (value_at (with_value items key x) other) ≡ true → is_some (value_at items other) ≡ true
+  some_revalued items key other x here some =
+      elim (cases_key other key) [
+        | inl same ↦ ap (λ k. is_some (value_at items k)) same ∙ here
+        | inr differs ↦ rw (value_at-with_other items key other x differs) at some
+      ]
+
+  -- the entries once another value stands under the name that has this key
+  pub order_revalued : (items : List (Item (NameAndValue T))) (ks : List Key) (name : List ℕ) (key : Key) (w : T) → IsInOrder items ks
+      → Some key ≡ key_at (entries_of items ks) name
+      → IsInOrder (revalued items key w) ks × (entries_of (revalued items key w) ks ≡ with_named (entries_of items ks) name w)
+  order_revalued items ks name key w ordered found = by_cases (at (entries_of items ks) name) refl (found ∙ key_at-at (entries_of items ks) name)
+    where
+      by_cases : (o : Option (Key × T)) → at (entries_of items ks) name ≡ o → Some key ≡ option_map (λ e. e.0) o
+          → IsInOrder (revalued items key w) ks × (entries_of (revalued items key w) ks ≡ with_named (entries_of items ks) name w)
+      by_cases None is none = absurd (cc)
+      by_cases (Some e) is some =
+          let this : e.0 ≡ key = same_Some e.0 key (sym some) in
+          let n = at-stands items ks name key e.1 ordered (is ∙ ap (λ k. Some (k, e.1)) this) in
+          let valued = valued_at items key n.0 w ks n.1 ordered.present ordered.rising (sym (found ∙ ap (key_at (entries_of items ks)) (sym n.2))) in
+          let entries : entries_of (with_value items key (record n.0 { value = w })) ks ≡ with_named (entries_of items ks) name w =
+          valued.0 ∙ ap (λ q. with_named (entries_of items ks) q w) n.2 in
+          rw n.1
+          ((
+            record {
+              present = valued.1;
+              rising = rw entries (IsRising-valued name w (entries_of items ks) ordered.rising);
+              complete = λ other some. ordered.complete other (some_revalued items key other (record n.0 { value = w }) (ap is_some n.1) some);
+            },
+            entries,
+          ))
 
   -- the key of what was removed is spent
   pub taken_spent : (items : List (Item (NameAndValue T))) (name : List ℕ) (ks : List Key) (i : ℕ) (key : Key) (unlinked : Listed (NameAndValue T)) (new : Mapped T)

@@ -111,6 +111,11 @@ module _ {T : Type 0} where
   without_name [] name = []
   without_name (e ∷ es) name = if is_eq (name_cmp e.name name) then es else e ∷ without_name es name
 
+  -- the entries with another value under the name, where it has one
+  abbrev pub with_value : List (NamedItem T) → List ℕ → T → List (NamedItem T)
+  with_value [] name value = []
+  with_value (e ∷ es) name value = if is_eq (name_cmp e.name name) then record e { value = value } ∷ es else e ∷ with_value es name value
+
   -- the key was given out, and names nothing any more
   pub record IsSpent (map : Mapped T) (key : Key) : Type 0 where
     pub before : key.generation < map.next

@@ -5,7 +5,7 @@ use Rattle.std.specs.declared.cmp.Ordering.{Ordering}
 use Rattle.std.specs.List.{slice_get}
 use Rattle.std.specs.Ordering.{is_lt}
 use Rattle.ktm_links.specs.declared.list.Key.{Key}
-use Rattle.ktm_links.specs.Items.{Item, value_at}
+use Rattle.ktm_links.specs.Items.{Item, value_at, with_value}
 use Rattle.ktm_links.specs.Mapped.{NameAndValue, NamedItem, name_cmp}
 
 -- the key is among these
@@ -51,6 +51,14 @@ module _ {T : Type 0} where
   abbrev pub entries_of : List (Item (NameAndValue T)) → List Key → List (NamedItem T)
   entries_of items [] = []
   entries_of items (k ∷ ks) = entry_from k (value_at items k) (entries_of items ks)
+
+  -- the items with another value under the name of the key's, if it names one
+  abbrev pub revalued_from : List (Item (NameAndValue T)) → Key → Option (NameAndValue T) → T → List (Item (NameAndValue T))
+  revalued_from items key None value = items
+  revalued_from items key (Some n) value = with_value items key (record n { value = value })
+
+  abbrev pub revalued : List (Item (NameAndValue T)) → Key → T → List (Item (NameAndValue T))
+  revalued items key value = revalued_from items key (value_at items key) value
 
   -- each key names a value
   abbrev pub ArePresent : List (Item (NameAndValue T)) → List Key → Type 0

@@ -1,6 +1,9 @@
 // A map from names.
 ghost use Rattle.std.specs.Prelude.{◌≡◌, ◌≢◌, ℕ, List as Seq, ◌<◌, ◌≤◌, ◌+◌, ◌-◌, ◌^◌, min, [], Some, None, IsOk, OnOk, OnSome, IfSome, IfNone, option_copied};
-ghost use Rattle.std.specs.Option.{option_map};
+ghost use Rattle.std.specs.Borrow.{sem};
+ghost use Rattle.std.specs.Option.{option_copied_mut, option_map};
+ghost use Rattle.ktm_links.specs.Items.{value_at};
+ghost use Rattle.ktm_links.specs.Lends.{lends_item};
 ghost use Rattle.ktm_links.specs.declared.list.Key.{Key};
 ghost use Rattle.ktm_links.specs.Mapped.{at, first_from, key_at, put, value_of, without_name, Begins, IsFirstOf, IsNoneOf, IsNotBelow, IsSpent, KeepsSpent};
 
@@ -50,7 +53,20 @@ fn value_in<K: Name, T>(named: Option<Named<K, T>>) -> Option<T>
     }
 }
 
+// The value of what the key names, for writing.
+fn value_mut<K: Name, T>(values: &mut List<Named<K, T>>, key: Key) -> Option<&mut T>
+    ensures* writes_back { sem 𝓛 (lends_item K.row T.row K.Name values.entry key result) }
+    ensures value { option_copied_mut result ≡ option_map (λ n. n.value) (value_at values.old.items key) }
+{
+    match values.get_mut(key) {
+        Some(named) => Some(named.value_mut()),
+        None => None,
+    }
+}
+
 impl<K: Name, T> Chains<K, T> {
+    ghost use Rattle.ktm_links.specs.Lends.{lends_found};
+
     /// A map of nothing.
     pub fn new(alloc: Global) -> Self
         ensures entries { result.entries ≡ [] }
@@ -123,6 +139,17 @@ impl<K: Name, T> Chains<K, T> {
     {
         match self.values.get(key) {
             Some(named) => Some(named.value()),
+            None => None,
+        }
+    }
+
+    /// The value under the name, for writing.
+    pub fn find_mut(&mut self, name: &[u8]) -> Option<&mut T>
+        ensures* writes_back { sem 𝓛 (lends_found K.row T.row K.Name self.entry name.now result) }
+        ensures value { option_copied_mut result ≡ option_map (λ e. e.1) (at self.old.entries name.now) }
+    {
+        match self.find(name) {
+            Some(key) => value_mut(&mut self.values, key),
             None => None,
         }
     }

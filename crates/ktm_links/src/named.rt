@@ -25,6 +25,9 @@ impl<K: Name, T> Model for Named<K, T> {
 }
 
 impl<K: Name, T> Named<K, T> {
+    ghost use Rattle.std.specs.Borrow.{sem};
+    ghost use Rattle.ktm_links.specs.Lends.{lends_named};
+
     pub(crate) fn new(name: K, value: T) -> Self
         ensures { result ≡ record { name = K.bytes name; value = value } }
     {
@@ -41,6 +44,14 @@ impl<K: Name, T> Named<K, T> {
         ensures { result.now ≡ self.now.value }
     {
         &self.value
+    }
+
+    /// The value, for writing.
+    pub(crate) fn value_mut(&mut self) -> &mut T
+        ensures* writes_back { sem 𝓛 (lends_named K.row T.row K.Name self.entry result) }
+        ensures value { result.now ≡ self.old.value }
+    {
+        &mut self.value
     }
 
     pub(crate) fn into_value(self) -> T

@@ -29,10 +29,10 @@ use Rattle.ktm_built.specs.Laws.{FilesLaw}
 use Rattle.ktm_built.specs.Standing.{IsStandingNow}
 use Rattle.txf_calls.specs.Calls.{file_effect, file_outcome, file_tests, takes_memory as decision_takes_memory, unless_refused}
 use Rattle.txf_calls.specs.Fits.{MayBeUsed}
-use Rattle.txf_calls.specs.Views.{open_of}
+use Rattle.txf_opens.specs.Acts.{open_of}
 use Rattle.txf_calls.specs.declared.call.FileCall.{FileCall}
 use Rattle.txf_calls.specs.declared.call.FileCall.TheVariants.{Create, Read, Write, SetEnd, Size, Flush, Delete, MakeDirectory, RemoveDirectory as Remove, Move, Find}
-use Rattle.txf_calls.specs.declared.call.OpenFile.{OpenFile as Kept}
+use Rattle.txf_opens.specs.declared.file.OpenFile.{OpenFile as Kept}
 use Rattle.ktm_memory.specs.Route.{IsFreeLabel, IsRouted, Routes}
 use Rattle.ktm_memory.specs.Opening.{files_outcome}
 use Rattle.ktm_memory.specs.Takes.{early_tests, effect_takes_memory, files_take_memory, has_log_room, is_quiet, takes_memory}

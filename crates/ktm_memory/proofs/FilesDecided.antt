@@ -40,10 +40,10 @@ use Rattle.ktm_memory.specs.Settled.{handles_then, left_to_do}
 use Rattle.ktm_memory.specs.declared.settlement.Labels.TheVariants.{Bind}
 use Rattle.ktm_types.specs.declared.object.Object.TheVariants.{File as FileObject}
 use Rattle.txf_calls.specs.Calls.{file_effect, file_outcome, file_tests, unless_refused}
-use Rattle.txf_calls.specs.Views.{open_of}
+use Rattle.txf_opens.specs.Acts.{open_of}
 use Rattle.txf_calls.specs.declared.call.FileCall.{FileCall}
 use Rattle.txf_calls.specs.declared.call.FileCall.TheVariants.{Create, Read, Write, SetEnd, Size, Flush, Delete, MakeDirectory, RemoveDirectory, Move, Find}
-use Rattle.txf_calls.specs.declared.call.OpenFile.{OpenFile as Kept}
+use Rattle.txf_opens.specs.declared.file.OpenFile.{OpenFile as Kept}
 use Rattle.txf_volume.specs.Plain.{IsReady}
 
 -- ---- the room that the files have

@@ -15,7 +15,7 @@ use Rattle.ktm_memory.specs.declared.settlement.Decision.{Decision}
 use Rattle.ktm_memory.specs.declared.settlement.Settlement.{Settlement}
 use Rattle.ktm_memory.specs.declared.settlement.Settlement.TheVariants.{Nothing, Handles}
 use Rattle.ktm_memory.specs.declared.settlement.Labels.TheVariants.{Bind}
-use Rattle.txf_calls.specs.declared.call.OpenFile.{OpenFile}
+use Rattle.txf_opens.specs.declared.file.OpenFile.{OpenFile}
 use Rattle.ktm_built.specs.Standing.{IsBuiltNow}
 use Rattle.ktm_memory.specs.Memory.{Held, MemoryState, MaySettle, held, now_of, present_of}
 use Rattle.ktm_memory.specs.Settled.{left_to_do}

@@ -8,7 +8,7 @@ ghost use Rattle.ktm_world.specs.Handles.{transaction_id};
 ghost use Rattle.ktm_world.specs.Labels.{file_named, file_number, file_tests, is_dead, is_suspended, transaction_named, transaction_tests, view_tests, viewer};
 ghost use Rattle.ktm_world.specs.Outcome.{first_refusal};
 ghost use Rattle.ktm_world.specs.TransactionCalls.{transaction_with};
-ghost use Rattle.txf_calls.specs.Views.{open_of};
+ghost use Rattle.txf_opens.specs.Acts.{open_of};
 ghost use Rattle.txf_volume.specs.Held.{files_of};
 
 use crate::memory::Memory;

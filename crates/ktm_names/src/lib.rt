@@ -10,6 +10,6 @@ mod wildcard;
 
 pub use fault::PathFault;
 pub use parts::is_name;
-pub use path::{Path, law_of_one_path};
+pub use path::{Path, ROOT, law_of_one_path};
 pub use pattern::{Pattern, law_of_one_pattern};
 pub use wildcard::law_of_star;

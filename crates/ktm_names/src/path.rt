@@ -10,6 +10,9 @@ use ktm_base::NoMemory;
 use std::alloc::Global;
 use std::marker::Model;
 
+/// The number of the root, which is a directory and has no name.
+pub const ROOT: u64 = 1;
+
 /// A path: the names from the root on, which has none.
 #[derive(Drop)]
 pub struct Path {

@@ -11,8 +11,8 @@ use Rattle.ktm_world.specs.FileUses.{file_changes_waiting}
 use Rattle.ktm_world.specs.Outcome.{first_refusal}
 use Rattle.txf_calls.specs.Calls.{unless_refused}
 use Rattle.txf_calls.specs.Steps.{checked, held_tests}
-use Rattle.txf_calls.specs.Views.{act_of, is_against_sharing}
-use Rattle.txf_calls.specs.declared.act.Act.{Act}
+use Rattle.txf_opens.specs.Acts.{act_of, violates}
+use Rattle.txf_opens.specs.declared.act.Act.{Act}
 use Rattle.ktm_world.specs.Files.{FilesNow, OpenFile}
 
 -- a test that holds among others
@@ -34,7 +34,7 @@ no-number-left files room who o f opened next last =
 -- what nobody refuses, and passes a quota
 pub over-quota : (files : FilesNow) (room : FileRoom) (who : Option Id) (act : Act) (o : FileOutcome) → first_refusal (held_tests files who act []) ≡ None → lacks_quota files room who o ≡ true
     → checked files room who act o ≡ answering (Refused NotEnoughQuota)
-over-quota files room who act o passes over = on (conflicts files who (act_of act)) (is_against_sharing files who act) passes
+over-quota files room who act o passes over = on (conflicts files who (act_of act)) (violates files.table.opens who act) passes
   where
     on : (a b : Bool) → first_refusal ((a, TransactionalConflict) ∷ (b, SharingViolation) ∷ []) ≡ None
         → unless_refused (first_refusal ((a, TransactionalConflict) ∷ (b, SharingViolation) ∷ limit_tests files room who o)) o ≡ answering (Refused NotEnoughQuota)

@@ -9,7 +9,7 @@ use Rattle.ktm_world.specs.Files.{FilesNow}
 use Rattle.ktm_world.specs.Outcome.{first_refusal}
 use Rattle.txf_calls.specs.declared.call.FileCall.{FileCall}
 use Rattle.txf_calls.specs.declared.call.FileCall.TheVariants.{Create, Read, Write, SetEnd, Size, Flush, Delete, MakeDirectory, RemoveDirectory, Move, Find}
-use Rattle.txf_calls.specs.Views.{open_of}
+use Rattle.txf_opens.specs.Acts.{open_of}
 
 -- the tests of the call
 abbrev pub file_tests : FilesNow → FileRoom → Option Id → FileCall → List (Bool × Refusal)

@@ -8,7 +8,7 @@ use Rattle.ktm_world.specs.Conflicts.{writes}
 use Rattle.ktm_world.specs.FileOutcome.{FileOutcome}
 use Rattle.ktm_world.specs.Files.{FilesNow, FirstOpen, OpenFile}
 use Rattle.ktm_world.specs.Tree.{Tree, is_file, node_at}
-use Rattle.txf_calls.specs.Views.{open_of}
+use Rattle.txf_opens.specs.Acts.{open_of}
 use Rattle.txf_calls.specs.declared.call.FileCall.{FileCall}
 use Rattle.txf_calls.specs.declared.call.FileCall.TheVariants.{Write, SetEnd}
 

@@ -4,4 +4,3 @@ pub mod Found
 pub mod Leads
 pub mod Steps
 pub mod There
-pub mod Views

@@ -13,8 +13,8 @@ use Rattle.ktm_names.specs.Value.{PatternValue}
 use Rattle.ktm_world.specs.Outcome.{first_refusal}
 use Rattle.ktm_world.specs.Paths.{Search}
 use Rattle.txf_calls.specs.Calls.{unless_refused}
-use Rattle.txf_calls.specs.Views.{act_of, is_against_sharing}
-use Rattle.txf_calls.specs.declared.act.Act.{Act}
+use Rattle.txf_opens.specs.Acts.{act_of, violates}
+use Rattle.txf_opens.specs.declared.act.Act.{Act}
 
 -- why a name that is taken is refused
 abbrev pub taken : Disposition → Refusal
@@ -22,7 +22,7 @@ taken disposition = if wants_new disposition then FileExists else AccessDenied
 
 -- the tests of what others hold and have open, and then these
 abbrev pub held_tests : FilesNow → Option Id → Act → List (Bool × Refusal) → List (Bool × Refusal)
-held_tests files who act tests = (conflicts files who (act_of act), TransactionalConflict) ∷ (is_against_sharing files who act, SharingViolation) ∷ tests
+held_tests files who act tests = (conflicts files who (act_of act), TransactionalConflict) ∷ (violates files.table.opens who act, SharingViolation) ∷ tests
 
 -- what is done, unless others or the limits refuse it
 abbrev pub checked : FilesNow → FileRoom → Option Id → Act → FileOutcome → FileOutcome

@@ -5,10 +5,7 @@ ghost use Rattle.ktm_world.specs.Tree.{child_of, root};
 ghost use Rattle.txf_calls.specs.Leads.{Leads, way};
 
 use crate::view::{Seen, View};
-use ktm_names::Path;
-
-/// The number of the root.
-const ROOT: u64 = 1;
+use ktm_names::{Path, ROOT};
 
 /// Where a path leads.
 #[derive(Clone, Copy)]

@@ -1,18 +1,8 @@
 // The calls on files.
-use ktm_base::{Bytes, Id, Text};
+use ktm_base::{Bytes, Text};
 use ktm_types::{Access, Disposition, ShareMode};
 use std::marker::Model;
-
-/// An open file; a plain one has no transaction.
-#[derive(Clone, Copy)]
-pub struct OpenFile {
-    /// It counts from 1 in each boot, and is never used again in that boot.
-    pub number: u32,
-    pub node: u64,
-    pub transaction: Option<Id>,
-    pub access: Access,
-    pub share: ShareMode,
-}
+use txf_opens::OpenFile;
 
 /// How many handles are free, how many changes of files may wait, and how many units of 4,096 bytes, and as many nodes,
 /// may be in use.

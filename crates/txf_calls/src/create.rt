@@ -10,22 +10,22 @@ ghost use Rattle.txf_laws.specs.FileEffects.{IsOrderly};
 ghost use Rattle.txf_calls.specs.Found.{IsFound, has_file};
 ghost use Rattle.txf_calls.specs.Steps.{checked, taken};
 ghost use Rattle.txf_calls.specs.There.{create_there};
-ghost use Rattle.txf_calls.specs.Views.{open_of};
-ghost use Rattle.txf_calls.specs.declared.act.Act.TheVariants.{Make, Open};
+ghost use Rattle.txf_opens.specs.Acts.{open_of};
+ghost use Rattle.txf_opens.specs.declared.act.Act.TheVariants.{Make, Open};
 ghost use Rattle.txf_calls.specs.declared.call.FileCall.TheVariants.{Create};
 ghost use Rattle.txf_calls.specs.Leads.{Leads, seen_of};
 
-use crate::act::{Act, Place};
 use crate::along::Whereabouts;
-use crate::call::{OpenFile, Room};
+use crate::call::Room;
 use crate::caller::{path_of, whereabouts};
-use crate::modes::{empties, wants_existing, wants_new, wants_write, writes};
+use crate::modes::{empties, wants_existing, wants_new, wants_write};
 use crate::plan::{Plan, making, within_limits};
 use crate::view::Seen;
 use crate::volume::Volume;
 use ktm_base::{Id, NoMemory, PageList, Refusal, Text};
 use ktm_types::{Access, Change, Disposition, NodeKind, Reply, ShareMode};
 use std::alloc::Global;
+use txf_opens::{Act, OpenFile, Place, writes};
 
 // What a file is opened for.
 #[derive(Clone, Copy)]

@@ -10,7 +10,6 @@ ghost use Rattle.txf_calls.specs.There.{make_there};
 ghost use Rattle.txf_calls.specs.declared.call.FileCall.TheVariants.{MakeDirectory};
 ghost use Rattle.txf_calls.specs.Leads.{Leads};
 
-use crate::act::{Act, Place};
 use crate::along::Whereabouts;
 use crate::call::Room;
 use crate::caller::{path_of, whereabouts};
@@ -19,6 +18,7 @@ use crate::volume::Volume;
 use ktm_base::{Id, NoMemory, Refusal, Text};
 use ktm_types::NodeKind;
 use std::alloc::Global;
+use txf_opens::{Act, Place};
 
 // A directory is made under a free name.
 fn make<V: Volume>(

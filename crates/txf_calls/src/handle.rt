@@ -8,16 +8,16 @@ ghost use Rattle.ktm_world.specs.Files.{bytes_seen};
 ghost use Rattle.ktm_world.specs.Outcome.{first_refusal};
 ghost use Rattle.txf_calls.specs.Calls.{file_outcome, unless_refused};
 ghost use Rattle.txf_calls.specs.Fits.{IsFit, IsOnFile};
-ghost use Rattle.txf_calls.specs.Views.{open_of};
+ghost use Rattle.txf_opens.specs.Acts.{open_of};
 ghost use Rattle.txf_calls.specs.declared.call.FileCall.TheVariants.{Flush, Read, SetEnd, Size, Write};
 
-use crate::call::{OpenFile, Room};
-use crate::modes::{reads, writes};
+use crate::call::Room;
 use crate::plan::{Plan, unless_refused};
 use crate::volume::Volume;
 use ktm_base::{Bytes, Id, MOST_AT_ONCE, NoMemory, PageList, Refusal};
 use ktm_types::{Change, Contents, Reply};
 use std::alloc::Global;
+use txf_opens::{OpenFile, reads, writes};
 
 // Why a plan that fills the disk is refused.
 fn disk_refusal<V: Volume>(volume: &V, who: Option<Id>, plan: &Plan, room: &Room) -> Option<Refusal>

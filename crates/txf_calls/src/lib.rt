@@ -1,7 +1,6 @@
 //! The calls on files: each is refused, or planned, by the files that its caller sees and by what others hold.
 #![tactic(auto)]
 
-mod act;
 mod along;
 mod call;
 mod caller;
@@ -17,9 +16,9 @@ mod search;
 mod view;
 mod volume;
 
-pub use act::{Act, Place};
-pub use call::{FileCall, OpenFile, Room};
+pub use call::{FileCall, Room};
 pub use forms::decide;
 pub use plan::Plan;
+pub use txf_opens::OpenFile;
 pub use view::Seen;
 pub use volume::Volume;

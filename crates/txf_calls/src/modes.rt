@@ -1,29 +1,8 @@
-// What access and dispositions include.
+// What dispositions include.
 ghost use Rattle.std.specs.Prelude.{◌≡◌};
-ghost use Rattle.ktm_world.specs.Conflicts.{reads, writes};
 ghost use Rattle.ktm_world.specs.FileCalls.{empties, is_truncate_existing, wants_existing, wants_new};
 
-use ktm_types::{Access, Disposition};
-
-pub(crate) fn reads(access: Access) -> bool
-    ensures { result ≡ reads access }
-{
-    match access {
-        Access::Read => true,
-        Access::Write => false,
-        Access::ReadWrite => true,
-    }
-}
-
-pub(crate) fn writes(access: Access) -> bool
-    ensures { result ≡ writes access }
-{
-    match access {
-        Access::Read => false,
-        Access::Write => true,
-        Access::ReadWrite => true,
-    }
-}
+use ktm_types::Disposition;
 
 /// Does the call empty a file that is there.
 pub(crate) fn empties(disposition: Disposition) -> bool

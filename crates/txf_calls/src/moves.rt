@@ -16,7 +16,6 @@ ghost use Rattle.txf_calls.specs.There.{move_there};
 ghost use Rattle.txf_calls.specs.declared.call.FileCall.TheVariants.{Move};
 ghost use Rattle.txf_calls.specs.Leads.{Leads, seen_of};
 
-use crate::act::{Act, Place};
 use crate::along::Whereabouts;
 use crate::call::Room;
 use crate::caller::{path_of, whereabouts};
@@ -26,6 +25,7 @@ use crate::volume::Volume;
 use ktm_base::{Id, NoMemory, Refusal, Text};
 use ktm_types::Change;
 use std::alloc::Global;
+use txf_opens::{Act, Place};
 
 // Is the move refused for what others hold and have open.
 fn check<V: Volume>(

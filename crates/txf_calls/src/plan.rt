@@ -10,13 +10,13 @@ ghost use Rattle.ktm_world.specs.Outcome.{first_refusal};
 ghost use Rattle.txf_calls.specs.Calls.{unless_refused};
 ghost use Rattle.txf_calls.specs.Fits.{IsFit};
 
-use crate::act::Place;
-use crate::call::{OpenFile, Room};
+use crate::call::Room;
 use crate::volume::Volume;
 use ktm_base::{Id, NoMemory, Refusal, Text};
 use ktm_types::{Change, NodeKind, Reply};
 use std::alloc::Global;
 use std::marker::Model;
+use txf_opens::{OpenFile, Place};
 
 /// What a call comes to: its reply, and what of the files it changes.
 #[derive(Drop)]
@@ -33,7 +33,7 @@ pub struct Plan {
 impl Model for Plan {
     ghost use Rattle.std.specs.Option.{option_map};
     ghost use Rattle.ktm_world.specs.FileOutcome.{FileOutcome};
-    ghost use Rattle.txf_calls.specs.Views.{open_of};
+    ghost use Rattle.txf_opens.specs.Acts.{open_of};
 
     ghost Value = { FileOutcome };
 

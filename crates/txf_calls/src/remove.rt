@@ -9,11 +9,10 @@ ghost use Rattle.txf_calls.specs.Calls.{file_outcome};
 ghost use Rattle.txf_calls.specs.Found.{IsFound};
 ghost use Rattle.txf_calls.specs.Steps.{dropped};
 ghost use Rattle.txf_calls.specs.There.{delete_there, remove_there};
-ghost use Rattle.txf_calls.specs.Views.{HasShortNames};
+ghost use Rattle.txf_opens.specs.Acts.{HasShortNames};
 ghost use Rattle.txf_calls.specs.declared.call.FileCall.TheVariants.{Delete, RemoveDirectory};
 ghost use Rattle.txf_calls.specs.Leads.{Leads, seen_of};
 
-use crate::act::{Act, Place};
 use crate::along::Whereabouts;
 use crate::call::Room;
 use crate::caller::{path_of, whereabouts};
@@ -23,6 +22,7 @@ use crate::volume::Volume;
 use ktm_base::{Id, NoMemory, Refusal, Text};
 use ktm_types::Change;
 use std::alloc::Global;
+use txf_opens::{Act, Place};
 
 // A node is dropped, where nothing that others hold or have open is against it, and no quota is passed.
 fn drop_node<V: Volume>(volume: &V, who: Option<Id>, act: Act, node: u64, room: &Room) -> Plan

@@ -10,16 +10,16 @@ ghost use Rattle.ktm_world.specs.Files.{FilesNow, bytes_seen, tree_seen};
 ghost use Rattle.ktm_world.specs.Outcome.{first_refusal};
 ghost use Rattle.ktm_world.specs.Tree.{child_of, has_entries, is_at_or_below, is_there};
 ghost use Rattle.txf_calls.specs.Fits.{IsFit};
-ghost use Rattle.txf_calls.specs.Views.{HasShortNames, act_of, is_against_sharing};
+ghost use Rattle.txf_opens.specs.Acts.{HasShortNames, act_of, violates};
 ghost use Rattle.txf_calls.specs.Leads.{seen_of};
 
-use crate::act::Act;
 use crate::call::Room;
 use crate::plan::Plan;
 use crate::view::Seen;
 use ktm_base::{Id, NoMemory, Refusal, TextList};
 use ktm_names::Pattern;
 use std::alloc::Global;
+use txf_opens::Act;
 
 /// The files, as the calls ask for them. A caller is a transaction, or none for a plain call; it sees the committed files
 /// with its own changes.
@@ -76,7 +76,7 @@ pub trait Volume {
     /// mode of an open file.
     fn check(&self, who: Option<Id>, act: Act<'_>) -> Option<Refusal>
         requires { HasShortNames act }
-        ensures { result ≡ first_refusal ((conflicts (files self.now) who (act_of act.entry), TransactionalConflict) ∷ (is_against_sharing (files self.now) who act.entry, SharingViolation) ∷ []) };
+        ensures { result ≡ first_refusal ((conflicts (files self.now) who (act_of act.entry), TransactionalConflict) ∷ (violates (files self.now).table.opens who act.entry, SharingViolation) ∷ []) };
 
     /// Would a quota be passed: changes that wait, handles, the numbers of open files and nodes.
     fn lacks_quota(&self, who: Option<Id>, plan: &Plan, room: &Room) -> bool

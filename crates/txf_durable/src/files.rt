@@ -50,12 +50,12 @@ pub struct FilesRead {
     pub next_node: u64,
 }
 
-// The units of so many bytes.
-fn units_in(bytes: &[u8]) -> u64
-    ensures units { result ≡ units_of bytes.now }
+// The units of a file.
+fn units_at(tree: &Tree, file: u64) -> u64
+    ensures units { result ≡ units_of (bytes_of (tree_of tree.now) file) }
     ensures few { result ≤ 2 ^ 52 }
 {
-    (bytes.len() as u64).div_ceil(UNIT_BYTES)
+    tree.size(file).div_ceil(UNIT_BYTES)
 }
 
 // Takes the memory that a change needs if it applies, where there are few enough units, and tells whether it applies.
@@ -90,10 +90,10 @@ fn restore(tree: &mut Tree, units: u64, change: Change) -> u64
 {
     let node = node_of(&change);
     tree.law_of_numbers();
-    let others = units - units_in(tree.content(node));
+    let others = units - units_at(tree, node);
     tree.restore(change);
     tree.law_of_numbers();
-    others + units_in(tree.content(node))
+    others + units_at(tree, node)
 }
 
 impl DurableFiles {
@@ -143,7 +143,7 @@ impl DurableFiles {
     {
         let mut units = 0;
         for file in files {
-            units += u128::from(units_in(self.tree.content(*file)));
+            units += u128::from(units_at(&self.tree, *file));
         }
         units
     }

@@ -10,7 +10,7 @@ use Rattle.txf_opens.specs.declared.file.OpenFile.{OpenFile as Kept}
 use Rattle.txf_opens.specs.declared.uses.Uses.{Uses}
 use Rattle.txf_opens.specs.Indexed.{is_any, is_denying_read, is_denying_write, is_reader, is_writer, Adds, AddsUse, AreUses, IsFree, IsIndex, Takes, TakesUse}
 use Rattle.txf_opens.specs.Names.{number_name, use_name}
-use Rattle.txf_opens.specs.OpensState.{open_of}
+use Rattle.txf_opens.specs.Acts.{open_of}
 use Rattle.txf_opens.proofs.Bytes.{use_name-tells}
 use Rattle.ktm_links.proofs.offered.Comparing.{cases_name}
 use Rattle.txf_opens.proofs.Found.{one_key}

@@ -14,7 +14,8 @@ use Rattle.ktm_links.specs.Indexed.{AreDistinct, IsFirstUnder, IsNoneUnder}
 use Rattle.txf_opens.specs.declared.file.OpenFile.{OpenFile as Kept}
 use Rattle.txf_opens.specs.Indexed.{is_any, opens_of, IsIndex, IsNumberOf}
 use Rattle.txf_opens.specs.Names.{group_bytes, group_name, number_name}
-use Rattle.txf_opens.specs.OpensState.{is_not_of, is_other_number, open_of}
+use Rattle.txf_opens.specs.Acts.{open_of}
+use Rattle.txf_opens.specs.OpensState.{is_not_of, is_other_number}
 use Rattle.txf_opens.proofs.Adding.{one_number}
 use Rattle.txf_opens.proofs.Bytes.{begins_group, group_begins, is_of-group, same_group-true}
 use Rattle.txf_opens.proofs.Found.{found_at}

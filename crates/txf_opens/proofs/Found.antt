@@ -12,7 +12,7 @@ use Rattle.ktm_links.specs.Mapped.{NamedItem, Begins, key_under}
 use Rattle.ktm_links.specs.Indexed.{AreDistinct, IsNoneUnder}
 use Rattle.txf_opens.specs.declared.file.OpenFile.{OpenFile as Kept}
 use Rattle.txf_opens.specs.Indexed.{is_any, opens_of, HasUnder, IsIndex}
-use Rattle.txf_opens.specs.OpensState.{open_of}
+use Rattle.txf_opens.specs.Acts.{open_of}
 use Rattle.ktm_links.specs.Numbers.{number_bytes}
 use Rattle.txf_opens.specs.Names.{number_name}
 use Rattle.txf_opens.proofs.Bytes.{number_tells}

@@ -10,7 +10,7 @@ use Rattle.ktm_links.specs.Indexed.{AreDistinct}
 use Rattle.ktm_links.proofs.offered.Keys.{same_key-true, same_key-self}
 use Rattle.txf_opens.specs.declared.file.OpenFile.{OpenFile as Kept}
 use Rattle.txf_opens.specs.Indexed.{opens_of}
-use Rattle.txf_opens.specs.OpensState.{open_of}
+use Rattle.txf_opens.specs.Acts.{open_of}
 
 -- the first one is there under its key
 pub value_at-here : (x : Item Kept) (xs : List (Item Kept)) → value_at (x ∷ xs) x.key ≡ Some x.value

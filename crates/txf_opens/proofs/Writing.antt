@@ -18,7 +18,8 @@ use Rattle.txf_opens.specs.declared.file.OpenFile.{OpenFile as Kept}
 use Rattle.txf_opens.specs.Indexed.{is_writer, opens_of, IsIndex}
 use Rattle.ktm_links.specs.Numbers.{number_bytes, long_bytes}
 use Rattle.txf_opens.specs.Names.{group_bytes, number_name, past, use_name}
-use Rattle.txf_opens.specs.OpensState.{is_other_writer, open_of}
+use Rattle.txf_opens.specs.Acts.{open_of}
+use Rattle.txf_opens.specs.OpensState.{is_other_writer}
 use Rattle.txf_opens.specs.Writers.{IsFirstWriter, IsNoWriter}
 use Rattle.txf_opens.proofs.Bytes.{begins_transacted, group_tells, node_leaves, same_group-true, transacted_begins}
 use Rattle.txf_opens.proofs.Found.{found_at}

@@ -12,7 +12,7 @@ use Rattle.ktm_links.specs.Indexed.{AreDistinct, IsFirstUnder}
 use Rattle.txf_opens.specs.declared.file.OpenFile.{OpenFile as Kept}
 use Rattle.txf_opens.specs.declared.uses.Uses.{Uses}
 use Rattle.txf_opens.specs.Names.{number_name, group_name, use_name}
-use Rattle.txf_opens.specs.OpensState.{open_of}
+use Rattle.txf_opens.specs.Acts.{open_of}
 
 -- the open file of an item
 abbrev pub open_in : Item Kept → OpenFile

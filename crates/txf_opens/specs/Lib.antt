@@ -1,3 +1,4 @@
+pub mod Acts
 pub mod Indexed
 pub mod Names
 pub mod OpensState

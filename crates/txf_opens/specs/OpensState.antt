@@ -6,17 +6,12 @@ use Rattle.ktm_types.specs.declared.options.ShareMode.{ShareMode}
 use Rattle.ktm_world.specs.Conflicts.{same_group, writes}
 use Rattle.ktm_world.specs.Files.{OpenFile}
 use Rattle.ktm_world.specs.Transactions.{is_of}
-use Rattle.txf_opens.specs.declared.file.OpenFile.{OpenFile as Kept}
 
 -- the open files in the order in which they were opened, the number of the one opened last, or 0, and how many can be opened without memory
 pub record OpensState : Type 0 where
   pub opens : List OpenFile
   pub last : ℕ
   pub spare : ℕ
-
--- the open file that the code keeps so
-abbrev pub open_of : Kept → OpenFile
-open_of k = record { number = k.number; node = k.node; transaction = k.transaction; access = k.access; share = k.share }
 
 -- an open file
 abbrev pub opened : ℕ → ℕ → Option Id → Access → ShareMode → OpenFile

@@ -6,7 +6,7 @@ use Rattle.ktm_links.specs.Mapped.{IsNotBelow}
 use Rattle.txf_opens.specs.declared.file.OpenFile.{OpenFile as Kept}
 use Rattle.txf_opens.specs.Indexed.{is_writer}
 use Rattle.txf_opens.specs.Names.{use_name}
-use Rattle.txf_opens.specs.OpensState.{open_of}
+use Rattle.txf_opens.specs.Acts.{open_of}
 
 -- it is open for writing, by the first of the names of which this is so
 pub record IsFirstWriter (P : List ℕ → Type 0) (items : List (Item Kept)) (file : Kept) : Type 0 where

@@ -6,7 +6,8 @@ ghost use Rattle.ktm_world.specs.Conflicts.{is_open_in, is_shared, lets_read, le
 ghost use Rattle.ktm_world.specs.Holds.{is_in};
 ghost use Rattle.ktm_world.specs.Transactions.{is_of};
 ghost use Rattle.txf_opens.specs.Indexed.{IsNumberOf};
-ghost use Rattle.txf_opens.specs.OpensState.{is_not_of, is_other_number, is_other_writer, open_of, opened};
+ghost use Rattle.txf_opens.specs.Acts.{open_of};
+ghost use Rattle.txf_opens.specs.OpensState.{is_not_of, is_other_number, is_other_writer, opened};
 
 use crate::file::{OpenFile, asks_write, is_same_group, lets_read, lets_write, reads};
 use crate::index::{add, has_under, take};

@@ -4,7 +4,7 @@ ghost use Rattle.std.specs.Bool.{MatchBool};
 ghost use Rattle.ktm_links.specs.Mapped.{Begins, IsNotBelow};
 ghost use Rattle.txf_opens.specs.Indexed.{AddsUse, AreSame, IsFree, IsIndex, TakesUse, is_writer, uses_spare};
 ghost use Rattle.txf_opens.specs.Names.{use_name};
-ghost use Rattle.txf_opens.specs.OpensState.{open_of};
+ghost use Rattle.txf_opens.specs.Acts.{open_of};
 ghost use Rattle.txf_opens.specs.Writers.{IsFirstWriter, IsNoWriter};
 
 use crate::file::{OpenFile, lets_read, lets_write, reads, writes};

@@ -1,6 +1,5 @@
 -- Lemmas on values under names.
 use Rattle.std.proofs.Common.{◌≡◌, List, ℕ, Option, Some, None, refl, sym, ap, ◌∙◌}
-use Rattle.std.specs.Prelude.{IfNone}
 use Rattle.std.specs.Option.{option_map}
 use Rattle.ktm_links.specs.declared.list.Key.{Key}
 use Rattle.ktm_links.specs.Mapped.{NamedItem, at, key_at, without_name}
@@ -21,7 +20,3 @@ module _ {T : Type 0} where
   -- what is not there is not taken out
   pub without-absent : (es : List (NamedItem T)) (name : List ℕ) → under es name ≡ None → without_name es name ≡ es
   without-absent es name none = sym (none_at es name (sym (key_at-free es name (at-none es name none)))).1
-
-  pub without-none : (es new : List (NamedItem T)) (name : List ℕ) (r : Option T) → r ≡ under es name → new ≡ without_name es name → IfNone r (new ≡ es)
-  without-none es new name None is new_is = new_is ∙ without-absent es name (sym is)
-  without-none es new name (Some x) is new_is = tt

@@ -8,19 +8,18 @@ use Rattle.std.proofs.lemmas.List.{append-nil}
 use Rattle.std.proofs.lemmas.List.Sums.{sum_by-cons}
 use Rattle.std.proofs.lemmas.Option.{same_Some}
 use Rattle.ktm_links.specs.declared.list.Key.{Key}
-use Rattle.ktm_links.specs.Mapped.{NamedItem, name_cmp, first_from as entries_from, put, without_name}
+use Rattle.ktm_links.specs.Mapped.{NamedItem, name_cmp, first_from as entries_from, key_at, put, with_value, without_name}
 use Rattle.ktm_types.specs.declared.change.Change.{Change}
-use Rattle.ktm_types.specs.declared.change.NodeKind.{NodeKind}
-use Rattle.ktm_types.specs.declared.change.NodeKind.TheVariants.{File, Directory}
 use Rattle.ktm_world.specs.Changes.{has_changes}
 use Rattle.ktm_world.specs.Committed.{final_bytes}
 use Rattle.ktm_world.specs.Tree.{units_of}
 use Rattle.std.specs.List.{flat_map}
-use Rattle.txf_overlay.specs.Files.{AreFiles, files_in, IsFilesMap}
-use Rattle.txf_overlay.specs.Written.{AreOver, IsRising, bytes_at, bytes_or, file_of, first_from, with_bytes, with_file, with_made, without_file, total_units, units_in}
+use Rattle.txf_overlay.specs.Files.{AreCounted, AreFiles, files_in, IsFilesMap}
+use Rattle.txf_overlay.specs.Written.{AreOver, IsRising, bytes_at, bytes_or, file_of, first_from, with_bytes, with_file, without_file, total_units, units_in}
 use Rattle.txf_overlay.specs.Maps.{under, IsSet}
 use Rattle.txf_tree.specs.Places.{number_bytes}
 use Rattle.txf_overlay.specs.OverlayState.{Written, final_of}
+use Rattle.txf_overlay.proofs.Entries.{at-none, key_at-free, without-absent}
 use Rattle.txf_overlay.proofs.Numbers.{name_cmp-numbers, cmp-less, cmp-same, cmp-more}
 
 -- how the name of an entry stands to that of a number
@@ -219,17 +218,17 @@ units-with (w ∷ ws) file bytes rise = elim (cases_Bool (w.file == file)) [
     new : Written
     new = record { file = file; bytes = bytes }
 
-without-absent : (ws : List Written) (file n : ℕ) → AreOver n ws → file ≤ n → without_file ws file ≡ ws
-without-absent [] file n over low = refl
-without-absent (w ∷ ws) file n over low =
-    rw (ne_eqb w.file file (λ same. omega (arith, over.0))) (ap (λ l. w ∷ l) (without-absent ws file n over.1 low))
+without_file-absent : (ws : List Written) (file n : ℕ) → AreOver n ws → file ≤ n → without_file ws file ≡ ws
+without_file-absent [] file n over low = refl
+without_file-absent (w ∷ ws) file n over low =
+    rw (ne_eqb w.file file (λ same. omega (arith, over.0))) (ap (λ l. w ∷ l) (without_file-absent ws file n over.1 low))
 
 pub units-without : (ws : List Written) (file : ℕ) → IsRising ws → total_units (without_file ws file) + units_at ws file ≡ total_units ws
 units-without [] file rise = omega arith
 units-without (w ∷ ws) file rise = elim (cases_Bool (w.file == file)) [
   | inl this ↦
       let same : w.file ≡ file = eqb-true w.file file this in
-      rw (this, without-absent ws file w.file rise.0 (omega arith)) (omega (arith, more w ws))
+      rw (this, without_file-absent ws file w.file rise.0 (omega arith)) (omega (arith, more w ws))
   | inr other ↦ rw other (omega (arith, more w ws, more w (without_file ws file), units-without ws file rise.1))
 ]
 
@@ -245,6 +244,100 @@ with_bytes-same (w ∷ ws) file bytes rise is = elim (cases_Bool (w.file == file
     | inr before ↦ absurd (let none : bytes_at ws file ≡ None = bytes_at-over ws file w.file rise.0 before in let some : bytes_at ws file ≡ Some bytes = rw other at is in cc)
   ]
 ]
+
+-- ---- one of them where it stands
+-- a file that stands under its number
+pub record IsWritten (es : List (NamedItem Written)) (file : ℕ) (w : Written) : Type 0 where
+  pub bytes : bytes_at (files_in es) file ≡ Some w.bytes
+  pub number : w.file ≡ file
+
+pub is_written : (es : List (NamedItem Written)) (file : ℕ) (w : Written) → AreFiles es → file < 2 ^ 64 → Some w ≡ under es (number_bytes file) → IsWritten es file w
+is_written es file w are small is = by_cases (bytes_at (files_in es) file) refl (is ∙ under-bytes es file are small)
+  where
+    by_cases : (o : Option (List ℕ)) → bytes_at (files_in es) file ≡ o → Some w ≡ option_map (file_of file) o → IsWritten es file w
+    by_cases None none is = absurd (cc)
+    by_cases (Some bytes) some is =
+        let same : file_of file bytes ≡ w = sym (same_Some w (file_of file bytes) is) in
+        record { bytes = some ∙ ap (λ (w : Written). Some w.bytes) same; number = ap (λ (w : Written). w.file) (sym same) }
+
+pub not_written : (es : List (NamedItem Written)) (file : ℕ) → AreFiles es → file < 2 ^ 64 → None ≡ under es (number_bytes file) → bytes_at (files_in es) file ≡ None
+not_written es file are small none = sym (bytes_at-under es file are small) ∙ ap (option_map (λ (w : Written). w.bytes)) (sym none)
+
+-- the map has a file with these bytes, in place of what it had
+pub record IsEdited (es new : List (NamedItem Written)) (file : ℕ) (bytes : List ℕ) : Type 0 where
+  pub files : files_in new ≡ with_bytes (files_in es) file bytes
+  pub map : IsFilesMap new
+
+files-valued : (es : List (NamedItem Written)) (w : Written) → AreFiles es → IsRising (files_in es) → w.file < 2 ^ 64 → is_some (bytes_at (files_in es) w.file) ≡ true
+    → (files_in (with_value es (number_bytes w.file) w) ≡ with_bytes (files_in es) w.file w.bytes) × AreFiles (with_value es (number_bytes w.file) w)
+files-valued [] w are rise small some = absurd (cc)
+files-valued (e ∷ es) w are rise small some =
+    let test : is_eq (name_cmp e.name (number_bytes w.file)) ≡ (e.value.file == w.file) = rw are.0 (same-name e.value.file w.file are.1 small) in
+    elim (cases_Bool (e.value.file == w.file)) [
+      | inl this ↦ rw (test, this) ((refl, (are.0 ∙ ap number_bytes (eqb-true e.value.file w.file this), small, are.2)))
+      | inr other ↦
+          let there : is_some (bytes_at (files_in es) w.file) ≡ true = rw other at some in
+          elim (cases_lt e.value.file w.file) [
+            | inl behind ↦
+                let rest = files-valued es w are.2 rise.1 small there in
+                rw (test, other, le-ltb w.file e.value.file (omega arith)) ((ap (λ l. e.value ∷ l) rest.0, (are.0, are.1, rest.1)))
+            | inr before ↦ absurd (let none : bytes_at (files_in es) w.file ≡ None = bytes_at-over (files_in es) w.file e.value.file rise.0 before in cc)
+          ]
+    ]
+
+pub edited_there : (es : List (NamedItem Written)) (file : ℕ) (w w' : Written) → IsFilesMap es → file < 2 ^ 64 → IsWritten es file w → w'.file ≡ w.file
+    → IsEdited es (with_value es (number_bytes file) w') file w'.bytes
+edited_there es file w w' is small there same =
+    let number : w'.file ≡ file = same ∙ there.number in
+    let some : is_some (bytes_at (files_in es) w'.file) ≡ true = ap (λ n. is_some (bytes_at (files_in es) n)) number ∙ ap is_some there.bytes in
+    let both = files-valued es w' is.are is.rise (rw number small) some in
+    rw (← number)
+    (record {
+      files = both.0;
+      map = record { are = both.1; rise = rw both.0 (IsRising-with (files_in es) w'.file w'.bytes is.rise) };
+    })
+
+-- a file that is not written comes to the others
+pub edited_new : (es new : List (NamedItem Written)) (file : ℕ) (key : Key) (w : Written) (name : List ℕ) → IsFilesMap es → file < 2 ^ 64 → bytes_at (files_in es) file ≡ None
+    → name ≡ number_bytes file → w.file ≡ file → new ≡ put es (record { name = name; key = key; value = w }) → IsEdited es new file w.bytes
+edited_new es new file key w name is small none named number new_is =
+    let absent : without_name es name ≡ es = without-absent es name (ap (under es) named ∙ under-bytes es file is.are small ∙ ap (option_map (file_of file)) none) in
+    let set : IsSet es new name w = record { key = key; entries = rw absent new_is } in
+    let name_is : name ≡ number_bytes w.file = named ∙ ap number_bytes (sym number) in
+    let few : w.file < 2 ^ 64 = rw number small in
+    rw (← number) (record { files = files-set es new name w is set name_is few; map = IsFilesMap-set es new name w is set name_is few })
+
+pub free_name : (es : List (NamedItem Written)) (file : ℕ) (name : List ℕ) → AreFiles es → file < 2 ^ 64 → bytes_at (files_in es) file ≡ None → name ≡ number_bytes file
+    → key_at es name ≡ None
+free_name es file name are small none named =
+    key_at-free es name (at-none es name (ap (under es) named ∙ under-bytes es file are small ∙ ap (option_map (file_of file)) none))
+
+-- the units of all files, once one of them has other bytes
+pub counted_edited : (es new : List (NamedItem Written)) (units units' file : ℕ) (was bytes : List ℕ) → AreCounted es units → IsEdited es new file bytes
+    → bytes_or [] (bytes_at (files_in es) file) ≡ was → units' + units_of was ≡ units + units_of bytes → AreCounted new units'
+counted_edited es new units units' file was bytes is edit was_is after =
+    let known : units_at (files_in es) file ≡ units_of was = ap units_of was_is in
+    record {
+      map = edit.map;
+      sum = rw edit.files (omega (arith, after, known, is.sum, units-with (files_in es) file bytes is.map.rise));
+    }
+
+pub counted_without : (es new : List (NamedItem Written)) (units units' file : ℕ) (was : List ℕ) → AreCounted es units → file < 2 ^ 64 → new ≡ without_name es (number_bytes file)
+    → bytes_or [] (bytes_at (files_in es) file) ≡ was → units' + units_of was ≡ units → AreCounted new units'
+counted_without es new units units' file was is small new_is was_is after =
+    let known : units_at (files_in es) file ≡ units_of was = ap units_of was_is in
+    record {
+      map = rw new_is (IsFilesMap-without es file is.map small);
+      sum = rw (new_is, files-without es file is.map small) (omega (arith, after, known, is.sum, units-without (files_in es) file is.map.rise));
+    }
+
+pub none_there : (o : Option (List ℕ)) (file : ℕ) → None ≡ option_map (file_of file) o → o ≡ None
+none_there None file none = refl
+none_there (Some bytes) file none = absurd (cc)
+
+pub some_there : (o : Option (List ℕ)) (file : ℕ) (w : Written) → Some w ≡ option_map (file_of file) o → is_some o ≡ true
+some_there None file w some = absurd (cc)
+some_there (Some bytes) file w some = refl
 
 -- ---- one after another
 pub first_from-files : (es : List (NamedItem Written)) (from : ℕ) → AreFiles es → from < 2 ^ 64
@@ -297,23 +390,12 @@ changes-none names [] none = no_names names ∙ ap (λ cs. not (has_changes cs))
 changes-none names (w ∷ ws) none = absurd (let some : None ≡ Some w = none ∙ rw (le-ltb w.file 0 (omega arith)) refl in cc)
 
 -- ---- a file that is made
-pub added : (ws : List Written) (file : ℕ) → is_some (bytes_at ws file) ≡ false → with_bytes ws file [] ≡ with_file ws file
-added ws file none = go (bytes_at ws file) none
-  where
-    go : (o : Option (List ℕ)) → is_some o ≡ false → with_bytes ws file [] ≡ with_bytes ws file (bytes_or [] o)
-    go None none = refl
-    go (Some bytes) none = absurd (cc)
-
 pub kept_there : (ws : List Written) (file : ℕ) → IsRising ws → is_some (bytes_at ws file) ≡ true → ws ≡ with_file ws file
 kept_there ws file rise some = go (bytes_at ws file) refl some
   where
     go : (o : Option (List ℕ)) → bytes_at ws file ≡ o → is_some o ≡ true → ws ≡ with_bytes ws file (bytes_or [] o)
     go None is some = absurd (cc)
     go (Some bytes) is some = sym (with_bytes-same ws file bytes rise is)
-
-pub total-made : (ws : List Written) (node : ℕ) (kind : NodeKind) → IsRising ws → total_units (with_made ws node kind) ≡ total_units ws
-total-made ws node File rise = omega (arith, units-with ws node (bytes_or [] (bytes_at ws node)) rise)
-total-made ws node Directory rise = refl
 
 -- ---- the first of them
 pub first-none : (ws : List Written) → None ≡ first_from ws 0 → ws ≡ []
@@ -333,5 +415,5 @@ first-some (v ∷ ws) w rise some =
     let over : w.file ≤ v.file = let e : w.file ≡ v.file = ap (λ (w : Written). w.file) is in omega arith in
     record {
       there = rw same (ap (λ (w : Written). Some w.bytes) (sym is));
-      rest = rw (same, without-absent ws w.file v.file rise.0 over) (ap (λ v. v ∷ ws) (sym is));
+      rest = rw (same, without_file-absent ws w.file v.file rise.0 over) (ap (λ v. v ∷ ws) (sym is));
     }

@@ -1,5 +1,5 @@
 -- Lemmas on one change of names more.
-use Rattle.std.proofs.Common.{◌≡◌, ℕ, ◌+◌, ◌≤◌, ◌==◌, ◌&&◌, not, Bool, true, false, is_some, List, [], ◌∷◌, ◌++◌, map, length, Option, Some, None, refl, sym, ap, ◌∙◌, subst, arith, inl, inr}
+use Rattle.std.proofs.Common.{◌≡◌, ℕ, ◌+◌, ◌≤◌, ◌==◌, ◌&&◌, not, Bool, true, false, is_some, List, [], ◌∷◌, ◌++◌, length, Option, Some, None, refl, sym, ap, ◌∙◌, subst, arith, inl, inr}
 use Rattle.std.specs.Prelude.{bytes_eq, nat_le}
 use Rattle.std.specs.List.{list_all}
 use Rattle.std.specs.Option.{option_map}
@@ -22,16 +22,14 @@ use Rattle.ktm_world.specs.Holds.{each_change, place}
 use Rattle.ktm_world.specs.Paths.{is_name}
 use Rattle.ktm_world.specs.Tree.{Tree, IsWellFormed, node_at}
 use Rattle.txf_overlay.specs.declared.node.NodeSeen.{NodeSeen}
-use Rattle.txf_overlay.specs.Files.{files_in, IsFilesMap}
 use Rattle.txf_overlay.specs.Kept.{seats_in, IsKept}
-use Rattle.txf_overlay.specs.OverlayState.{is_of_names, OverlayState, Written, seen}
+use Rattle.txf_overlay.specs.OverlayState.{is_of_names, OverlayState, seen}
 use Rattle.txf_overlay.specs.Maps.{under}
 use Rattle.txf_tree.specs.Places.{number_bytes}
 use Rattle.txf_tree.proofs.Digits.{length-number_bytes}
 use Rattle.txf_overlay.specs.Names.{place_bytes, place_in}
 use Rattle.txf_overlay.specs.Nodes.{drop_it, given, one_if, times_made, was_counted, IsShort, WasSeen}
 use Rattle.txf_overlay.specs.Views.{if_at, last_seat, left_by, or_before, seat_at, seats_of, StandsOver}
-use Rattle.txf_overlay.specs.Written.{total_units}
 use Rattle.txf_overlay.proofs.NodesSeen.{made-push, made-drop, was-counted, drops, lasts, AreSeen-push, IsNext}
 use Rattle.txf_overlay.proofs.Options.{or_some, or-assoc}
 use Rattle.txf_overlay.proofs.Views.{come_to, come-some, last_seat-append, left-some, puts, seats-are}
@@ -231,16 +229,14 @@ times-absent (c ∷ cs) t node all none =
     ]
 
 -- with one change more the parts still stand to each other
-pub kept-next : (names names' : List Change) (es es' : List (NamedItem NodeSeen)) (fs fs' : List (NamedItem Written)) (made made' units units' : ℕ) (c : Change) (name : List ℕ) (s : NodeSeen)
-    → IsKept names es fs made units → names' ≡ names ++ c ∷ [] → is_of_names c ≡ true → name ≡ number_bytes (node_of c)
+pub kept-next : (names names' : List Change) (es es' : List (NamedItem NodeSeen)) (made made' : ℕ) (c : Change) (name : List ℕ) (s : NodeSeen)
+    → IsKept names es made → names' ≡ names ++ c ∷ [] → is_of_names c ≡ true → name ≡ number_bytes (node_of c)
     → under es' name ≡ Some s → ((q : List ℕ) → (q ≡ name → ⊥) → under es' q ≡ under es q) → IsNext names c s
-    → IsFilesMap fs' → made' ≡ nodes_made (names ++ c ∷ []) → units' ≡ total_units (files_in fs') → IsKept names' es' fs' made' units'
-kept-next names names' es es' fs fs' made made' units units' c name s is names'_is of_names name_is here others next map count sum = record {
+    → made' ≡ nodes_made (names ++ c ∷ []) → IsKept names' es' made'
+kept-next names names' es es' made made' c name s is names'_is of_names name_is here others next count = record {
   only = rw names'_is (only-push names c is.only of_names);
   nodes = rw names'_is (AreSeen-push names c es es' name s is.nodes name_is here others next);
-  files = map;
   count = count ∙ ap nodes_made (sym names'_is);
-  sum = sum;
 }
 
 pub count-make : (names : List Change) (made made' node parent : ℕ) (kind : NodeKind) (name : List ℕ) → made ≡ nodes_made names → made' ≡ made + 1

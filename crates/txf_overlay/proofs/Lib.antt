@@ -1,4 +1,3 @@
-pub mod Edits
 pub mod Entering
 pub mod Entries
 pub mod FilesMap

@@ -1,9 +1,9 @@
--- How the map of the files that are written stands for them. No public clause cites this module.
-use Rattle.std.specs.Prelude.{◌≡◌, ◌<◌, ◌^◌, List, [], ◌∷◌, map}
+-- The files that are written, and how a map of them stands for them. No public clause cites this module.
+use Rattle.std.specs.Prelude.{◌≡◌, ℕ, ◌<◌, ◌^◌, List, [], ◌∷◌, map}
 use Rattle.ktm_links.specs.Mapped.{NamedItem}
 use Rattle.txf_tree.specs.Places.{number_bytes}
 use Rattle.txf_overlay.specs.OverlayState.{Written}
-use Rattle.txf_overlay.specs.Written.{IsRising}
+use Rattle.txf_overlay.specs.Written.{IsRising, total_units}
 
 -- the file of an entry
 abbrev pub file_in : NamedItem Written → Written
@@ -22,3 +22,13 @@ AreFiles (e ∷ es) = (e.name ≡ number_bytes e.value.file) × (e.value.file < 
 pub record IsFilesMap (entries : List (NamedItem Written)) : Type 0 where
   pub are : AreFiles entries
   pub rise : IsRising (files_in entries)
+
+-- the map, and how many units all files take
+pub record AreCounted (entries : List (NamedItem Written)) (units : ℕ) : Type 0 where
+  pub map : IsFilesMap entries
+  pub sum : units ≡ total_units (files_in entries)
+
+-- the files by rising number, and how many can come without memory
+pub record FilesState : Type 0 where
+  pub written : List Written
+  pub spare : ℕ

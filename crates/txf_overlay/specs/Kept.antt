@@ -5,10 +5,8 @@ use Rattle.ktm_links.specs.Mapped.{NamedItem}
 use Rattle.ktm_types.specs.declared.change.Change.{Change}
 use Rattle.ktm_world.specs.Changes.{nodes_made}
 use Rattle.txf_overlay.specs.declared.node.NodeSeen.{NodeSeen}
-use Rattle.txf_overlay.specs.Files.{files_in, IsFilesMap}
 use Rattle.txf_overlay.specs.Nodes.{AreSeen}
-use Rattle.txf_overlay.specs.OverlayState.{Seat, Written, is_of_names}
-use Rattle.txf_overlay.specs.Written.{total_units}
+use Rattle.txf_overlay.specs.OverlayState.{Seat, is_of_names}
 
 -- the seat of an entry
 abbrev pub seat_in : NamedItem (Option ℕ) → Seat
@@ -18,10 +16,8 @@ seat_in e = record { place = e.name; node = e.value }
 abbrev pub seats_in : List (NamedItem (Option ℕ)) → List Seat
 seats_in entries = map seat_in entries
 
--- the maps and the counts stand for the changes of names and for the files
-pub record IsKept (names : List Change) (seen : List (NamedItem NodeSeen)) (entries : List (NamedItem Written)) (made units : ℕ) : Type 0 where
+-- the map and the count stand for the changes of names
+pub record IsKept (names : List Change) (seen : List (NamedItem NodeSeen)) (made : ℕ) : Type 0 where
   pub only : list_all is_of_names names ≡ true
   pub nodes : AreSeen names seen
-  pub files : IsFilesMap entries
   pub count : made ≡ nodes_made names
-  pub sum : units ≡ total_units (files_in entries)

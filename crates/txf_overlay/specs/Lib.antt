@@ -1,3 +1,4 @@
+pub mod Edits
 pub mod Files
 pub mod Kept
 pub mod Laws

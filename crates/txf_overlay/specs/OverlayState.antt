@@ -26,8 +26,6 @@ pub record OverlayState : Type 0 where
   pub written : List Written
   -- for so many changes more of names there is room
   pub spare : ℕ
-  -- and for so many files more that are written
-  pub places : ℕ
 
 -- does the change make, move or drop a node
 abbrev pub is_of_names : Change → Bool

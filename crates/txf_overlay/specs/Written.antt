@@ -3,7 +3,7 @@ use Rattle.std.specs.Prelude.{ℕ, ◌<◌, ◌≤◌, ◌==◌, not, List, [], 
 use Rattle.ktm_types.specs.declared.change.NodeKind.{NodeKind}
 use Rattle.ktm_types.specs.declared.change.NodeKind.TheVariants.{File, Directory}
 use Rattle.ktm_world.specs.Tree.{units_of}
-use Rattle.txf_overlay.specs.OverlayState.{OverlayState, Written}
+use Rattle.txf_overlay.specs.OverlayState.{Written}
 
 -- the bytes of a file, if it is written
 abbrev pub bytes_at : List Written → ℕ → Option (List ℕ)
@@ -43,10 +43,9 @@ with_made ws node Directory = ws
 abbrev pub first_from : List Written → ℕ → Option Written
 first_from ws from = find (λ w. not (nat_lt w.file from)) ws
 
--- the file is written and has so many bytes, and there is a place for it while these are changed
-pub record HasBytes (o : OverlayState) (file size : ℕ) : Type 0 where
-  pub places : o.spare < o.places
-  pub bytes : IsSomeAnd (bytes_at o.written file) (λ bytes. size ≤ length bytes)
+-- the file is written, and has so many bytes
+abbrev pub HasBytes : List Written → ℕ → ℕ → Type 0
+HasBytes ws file size = IsSomeAnd (bytes_at ws file) (λ bytes. size ≤ length bytes)
 
 -- the units that the bytes of a file take
 abbrev pub units_in : Written → ℕ

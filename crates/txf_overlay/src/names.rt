@@ -15,7 +15,6 @@ ghost use Rattle.txf_overlay.specs.Written.{with_made, without_file};
 use crate::maps::set;
 use crate::node::{NodeSeen, dropped, given, less, moved, one_more, seen};
 use crate::overlay::Overlay;
-use crate::written::{add_made, drop_file};
 use ktm_base::Text;
 use ktm_types::{Change, NodeKind};
 use txf_tree::{ChildName, Tree, child_name, number_bytes};
@@ -91,7 +90,7 @@ impl Overlay {
         let place = child_name(parent, name.as_slice());
         set(&mut self.seats, place, Some(node));
         set(&mut self.nodes, number_bytes(node), made);
-        add_made(&mut self.files, self.alloc, node, kind);
+        self.files.add(node, kind);
         push(
             &mut self.names,
             Change::Make {
@@ -138,7 +137,7 @@ impl Overlay {
         let after = dropped(before, count(&self.names));
         set(&mut self.seats, from, None);
         set(&mut self.nodes, number_bytes(node), after);
-        self.units -= drop_file(&mut self.files, node);
+        self.files.remove(node);
         self.made = less(self.made, before);
         push(&mut self.names, Change::Drop { node });
     }

@@ -8,10 +8,9 @@ ghost use Rattle.txf_overlay.specs.OverlayState.{is_of_names, own_of};
 ghost use Rattle.ktm_world.specs.Changes.{has_changes, has_made, nodes_made};
 ghost use Rattle.ktm_world.specs.Tree.{cut_to, put_over};
 
+use crate::files::WrittenFiles;
 use crate::node::{Nodes, seen};
-use crate::written::{
-    Files, WrittenFile, bytes_of, close, file_behind, file_from, open, take_file,
-};
+use crate::written::{Edit, WrittenFile};
 use ktm_base::{NoMemory, read_if};
 use ktm_links::Chains;
 use ktm_types::Change;
@@ -29,10 +28,9 @@ pub struct Overlay {
     pub(crate) nodes: Nodes,
     // Which node stands now at each place that it held.
     pub(crate) seats: Chains<ChildName, Option<u64>>,
-    pub(crate) files: Files,
-    // How many nodes it made and did not drop, and how many units its files take.
+    pub(crate) files: WrittenFiles,
+    // How many nodes it made and did not drop.
     pub(crate) made: usize,
-    pub(crate) units: u64,
 }
 
 impl Model for Overlay {
@@ -41,18 +39,16 @@ impl Model for Overlay {
 
     ghost Value = { OverlayState };
 
-    ghost use Rattle.txf_overlay.specs.Files.{files_in};
     ghost use Rattle.txf_overlay.specs.Kept.{seats_in, IsKept};
 
     ghost view = { λ o. record {
       names = o.names.items;
       held = seats_in o.seats.entries;
-      written = files_in o.files.entries;
+      written = o.files.written;
       spare = min (vec_capacity o.names - vec_len o.names) (min o.nodes.spare (min (o.seats.spare / 2) o.files.spare));
-      places = o.files.spare;
     } };
 
-    ghost invariant = { λ o. IsKept o.names.items o.nodes.entries o.files.entries o.made o.units };
+    ghost invariant = { λ o. IsKept o.names.items o.nodes.entries o.made };
 }
 
 impl Overlay {
@@ -67,9 +63,8 @@ impl Overlay {
             names: Vec::new(alloc),
             nodes: Chains::new(alloc),
             seats: Chains::new(alloc),
-            files: Chains::new(alloc),
+            files: WrittenFiles::new(alloc),
             made: 0,
-            units: 0,
         }
     }
 
@@ -79,6 +74,7 @@ impl Overlay {
         ensures only { list_all is_of_names self.now.names ≡ true }
         ensures rise { IsRising self.now.written }
     {
+        self.files.law_of_numbers();
         &self.names
     }
 
@@ -103,14 +99,14 @@ impl Overlay {
     pub fn written_from(&self, from: u64) -> Option<&WrittenFile>
         ensures { option_copied result ≡ first_from self.now.written from }
     {
-        file_from(&self.files, from)
+        self.files.first_from(from)
     }
 
     /// The first file, by number, that is written behind this one.
     pub fn written_behind(&self, file: u64) -> Option<&WrittenFile>
         ensures { option_copied result ≡ first_from self.now.written (file + 1) }
     {
-        file_behind(&self.files, file)
+        self.files.first_behind(file)
     }
 
     /// Has it made the node, whatever it did with it then.
@@ -127,7 +123,7 @@ impl Overlay {
     fn bytes(&self, file: u64) -> Option<&[u8]>
         ensures { option_copied result ≡ bytes_at self.now.written file }
     {
-        bytes_of(&self.files, file)
+        self.files.bytes(file)
     }
 
     /// How many bytes a file has that it wrote.
@@ -158,7 +154,7 @@ impl Overlay {
     pub fn units(&self) -> u64
         ensures { result ≡ total_units self.now.written }
     {
-        self.units
+        self.files.units()
     }
 
     /// For how many changes of names, and files, there is room.
@@ -204,16 +200,14 @@ impl Overlay {
         requires few { total_units (with_bytes self.old.written file (put_over (bytes_or first.now (bytes_at self.old.written file)) offset bytes.now)) < 2 ^ 64 }
         ensures ok { OnOk result (self.new.written ≡ with_bytes self.old.written file (put_over (bytes_or first.now (bytes_at self.old.written file)) offset bytes.now)) }
         ensures err { OnErr result (self.new.written ≡ self.old.written) }
-        ensures enough { HasBytes self.old file (offset + length bytes.now) → IsOk result }
+        ensures enough { HasBytes self.old.written file (offset + length bytes.now) → IsOk result }
         ensures names { self.new.names ≡ self.old.names }
         ensures held { self.new.held ≡ self.old.held }
         ensures spare { self.old.spare ≤ self.new.spare }
     {
         let room = self.spare() + 1;
-        self.files.reserve(room)?;
-        let mut opened = open(&mut self.files, self.alloc, file, first)?;
-        let done = opened.file.put(offset, bytes);
-        close(&mut self.files, &mut self.units, opened, done)
+        self.files
+            .edit(room, file, first, Edit::Put { offset, bytes })
     }
 
     /// Leaves so many bytes of a file: it is cut, or filled with zeros. A file that is not written has these first bytes
@@ -222,16 +216,13 @@ impl Overlay {
         requires few { total_units (with_bytes self.old.written file (cut_to (bytes_or first.now (bytes_at self.old.written file)) size)) < 2 ^ 64 }
         ensures ok { OnOk result (self.new.written ≡ with_bytes self.old.written file (cut_to (bytes_or first.now (bytes_at self.old.written file)) size)) }
         ensures err { OnErr result (self.new.written ≡ self.old.written) }
-        ensures enough { HasBytes self.old file size → IsOk result }
+        ensures enough { HasBytes self.old.written file size → IsOk result }
         ensures names { self.new.names ≡ self.old.names }
         ensures held { self.new.held ≡ self.old.held }
         ensures spare { self.old.spare ≤ self.new.spare }
     {
         let room = self.spare() + 1;
-        self.files.reserve(room)?;
-        let mut opened = open(&mut self.files, self.alloc, file, first)?;
-        let done = opened.file.cut(size);
-        close(&mut self.files, &mut self.units, opened, done)
+        self.files.edit(room, file, first, Edit::Cut { size })
     }
 
     /// Takes out the first file, by number, with its bytes, as a commit needs them. It takes no memory.
@@ -242,13 +233,7 @@ impl Overlay {
         ensures held { self.new.held ≡ self.old.held }
         ensures spare { self.old.spare ≤ self.new.spare }
     {
-        let file = match self.written_from(0) {
-            Some(written) => written.file(),
-            None => return None,
-        };
-        let (written, units) = take_file(&mut self.files, file);
-        self.units -= units;
-        written
+        self.files.pop()
     }
 
     /// Hands out what it made, moved and dropped, in order, with its memory, and leaves what it wrote. It takes no memory.

@@ -18,11 +18,9 @@ use crate::node::{given_parent, seen};
 use crate::overlay::Overlay;
 use ktm_base::MOST_NAME_BYTES;
 use ktm_links::Name;
+use ktm_names::ROOT;
 use ktm_types::NodeKind;
 use txf_tree::{Tree, child_name};
-
-/// The number of the root.
-const ROOT: u64 = 1;
 
 /// A node as a transaction sees it.
 #[derive(Clone, Copy)]

@@ -1,4 +1,5 @@
 pub mod Changing
+pub mod Folding
 pub mod Holding
 pub mod Meets
 pub mod Others

@@ -1,19 +1,13 @@
-// What a change holds, and what a call does.
+// What a change holds, and what a call does, part by part.
 ghost use Rattle.std.specs.Prelude.{◌≡◌, ◌||◌};
 ghost use Rattle.ktm_world.specs.Conflicts.{writes};
 ghost use Rattle.ktm_world.specs.Holds.{directories_of, file_overwritten, nodes_changed, opens};
-ghost use Rattle.txf_reserve.specs.Acts.{act_of, listed, listed_place};
+ghost use Rattle.txf_opens.specs.Acts.{act_of};
+ghost use Rattle.txf_reserve.specs.Acts.{listed, listed_place};
 ghost use Rattle.txf_reserve.specs.Parts.{ArePartsOf};
 
-use ktm_types::{Access, ShareMode};
-use txf_opens::asks_write;
-
-/// A name in a directory, folded, of at most 255 bytes.
-#[derive(Clone, Copy)]
-pub struct Place<'a> {
-    pub directory: u64,
-    pub name: &'a [u8],
-}
+use ktm_types::Access;
+use txf_opens::{Act, Place, asks_write};
 
 /// What a transaction holds by one change.
 #[derive(Clone, Copy)]
@@ -28,40 +22,6 @@ pub struct Held<'a> {
     pub dropped: Option<u64>,
     /// Does it move a directory.
     pub moves: bool,
-}
-
-/// What a call does.
-#[derive(Clone, Copy)]
-pub enum Act<'a> {
-    /// It opens a file, which it changes where it may write or empties it.
-    Opens {
-        file: u64,
-        access: Access,
-        truncates: bool,
-        share: ShareMode,
-    },
-    Deletes {
-        file: u64,
-        at: Place<'a>,
-    },
-    MovesFile {
-        file: u64,
-        from: Place<'a>,
-        to: Place<'a>,
-    },
-    /// It makes a file or a directory.
-    Makes {
-        at: Place<'a>,
-    },
-    DropsDirectory {
-        directory: u64,
-        at: Place<'a>,
-    },
-    MovesDirectory {
-        directory: u64,
-        from: Place<'a>,
-        to: Place<'a>,
-    },
 }
 
 /// What a call does, part by part.
@@ -118,7 +78,7 @@ pub(crate) fn parts_of<'a>(act: &Act<'a>) -> Parts<'a>
         overwritten: None,
     };
     match *act {
-        Act::Opens {
+        Act::Open {
             file,
             access,
             truncates,
@@ -132,31 +92,31 @@ pub(crate) fn parts_of<'a>(act: &Act<'a>) -> Parts<'a>
                 ..nothing
             }
         }
-        Act::Deletes { file, at } => Parts {
+        Act::Delete { file, at } => Parts {
             node: Some(file),
             from: Some(at),
             touched: Some(file),
             overwritten: Some(file),
             ..nothing
         },
-        Act::MovesFile { file, from, to } => Parts {
+        Act::MoveFile { file, from, to } => Parts {
             node: Some(file),
             from: Some(from),
             to: Some(to),
             touched: Some(file),
             ..nothing
         },
-        Act::Makes { at } => Parts {
+        Act::Make { at } => Parts {
             to: Some(at),
             ..nothing
         },
-        Act::DropsDirectory { directory, at } => Parts {
+        Act::DropDirectory { directory, at } => Parts {
             node: Some(directory),
             from: Some(at),
             dropped: Some(directory),
             ..nothing
         },
-        Act::MovesDirectory {
+        Act::MoveDirectory {
             directory,
             from,
             to,

@@ -4,16 +4,16 @@ ghost use Rattle.std.specs.List.{list_any};
 ghost use Rattle.ktm_base.specs.declared.id.Id.{Id};
 ghost use Rattle.ktm_world.specs.Conflicts.{changes_outdated, conflicts};
 ghost use Rattle.ktm_world.specs.Files.{FilesNow};
-ghost use Rattle.ktm_world.specs.Holds.{places_changed};
-ghost use Rattle.txf_reserve.specs.Acts.{act_of, listed, listed_place, violates, HaveShortNames};
+ghost use Rattle.txf_opens.specs.Acts.{act_of, violates, HasShortNames, HaveShortNames};
+ghost use Rattle.txf_reserve.specs.Acts.{listed, listed_place};
 ghost use Rattle.txf_reserve.specs.Checks.{is_conflict, overwrites_transacted, refusal_of, touches_plain};
 ghost use Rattle.txf_reserve.specs.Parts.{is_node_met, is_number_held, is_place_met, meets_parts};
 ghost use Rattle.txf_reserve.specs.ReserveState.{Keeps};
 
-use crate::act::{Act, Parts, Place, parts_of};
+use crate::act::{Parts, parts_of};
 use crate::reserve::Reserve;
 use ktm_base::{Id, Refusal};
-use txf_opens::Opens;
+use txf_opens::{Act, Opens, Place};
 
 // Does a transaction open or change a file that a plain handle may write.
 fn touches_plain(opens: &Opens, who: Option<Id>, touched: Option<u64>) -> bool
@@ -42,17 +42,17 @@ fn violates(opens: &Opens, who: Option<Id>, act: &Act) -> bool
     ensures { result ≡ violates opens.now.opens who act.now }
 {
     match *act {
-        Act::Opens {
+        Act::Open {
             file,
             access,
             truncates,
             share,
         } => opens.violates_sharing(who, file, access, truncates, share),
-        Act::Deletes { file, .. } => opens.is_open_in(who, file),
-        Act::MovesFile { file, .. } => opens.is_open_in(who, file),
-        Act::Makes { .. } => false,
-        Act::DropsDirectory { .. } => false,
-        Act::MovesDirectory { .. } => false,
+        Act::Delete { file, .. } => opens.is_open_in(who, file),
+        Act::MoveFile { file, .. } => opens.is_open_in(who, file),
+        Act::Make { .. } => false,
+        Act::DropDirectory { .. } => false,
+        Act::MoveDirectory { .. } => false,
     }
 }
 
@@ -117,7 +117,7 @@ impl Reserve {
 
     // Is the call refused for another transaction, or for plain handles.
     fn is_conflict(&self, opens: &Opens, who: Option<Id>, act: &Act, outdated: bool) -> bool
-        requires { HaveShortNames (places_changed (act_of act.now)) }
+        requires { HasShortNames act.now }
         ensures { result ≡ is_conflict self.now opens.now.opens who (act_of act.now) outdated }
     {
         self.are_in_conflict(opens, who, &parts_of(act), outdated)
@@ -133,7 +133,7 @@ impl Reserve {
         act: &Act,
         outdated: bool,
     ) -> Option<Refusal>
-        requires { HaveShortNames (places_changed (act_of act.now)) }
+        requires { HasShortNames act.now }
         ensures refusal { result ≡ refusal_of (is_conflict self.now opens.now.opens who (act_of act.now) outdated) (violates opens.now.opens who act.now) }
         ensures of_files { (files : FilesNow) → Keeps self.now files → files.table.opens ≡ opens.now.opens → outdated ≡ changes_outdated files who (act_of act.now) → result ≡ refusal_of (conflicts files who (act_of act.now)) (violates opens.now.opens who act.now) }
     {

@@ -7,5 +7,5 @@ mod name;
 mod pairs;
 mod reserve;
 
-pub use act::{Act, Held, Place};
+pub use act::Held;
 pub use reserve::Reserve;

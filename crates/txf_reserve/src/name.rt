@@ -1,13 +1,14 @@
 // Names of what transactions hold, by which it is sorted.
 ghost use Rattle.std.specs.Prelude.{◌≡◌, ℕ, ◌+◌, ◌<◌, ◌≤◌, ◌∷◌, ◌++◌, [], length, take};
 ghost use Rattle.ktm_base.specs.declared.limits.TheConstants.{MOST_NAME_BYTES};
-ghost use Rattle.txf_reserve.specs.Acts.{place_in};
+ghost use Rattle.ktm_base.specs.Names.{folded};
+ghost use Rattle.txf_opens.specs.Acts.{place_in};
 ghost use Rattle.txf_reserve.specs.HeldPairs.{id_bytes, key_bytes, key_name, owner_name};
 ghost use Rattle.txf_reserve.specs.ReserveKeys.{place_key};
 
-use crate::act::Place;
-use ktm_base::Id;
+use ktm_base::{Id, fold};
 use ktm_links::{InlineName, Name, long_bytes, number_bytes};
+use txf_opens::Place;
 
 // The most bytes of a name: those of a key, of how long it is, and of a transaction, and one more.
 const MOST: usize = 274;
@@ -73,6 +74,16 @@ fn put(room: &mut [u8], at: usize, bytes: &[u8])
     room[at..at + bytes.len()].copy_from_slice(bytes);
 }
 
+// Writes the folded name behind the bytes that are there.
+fn put_folded(room: &mut [u8], at: usize, name: &[u8])
+    requires { at + length name.now ≤ length room.old }
+    ensures { take (at + length name.now) room.new ≡ take at room.old ++ folded name.now }
+{
+    for (index, byte) in name.iter().enumerate() {
+        room[at + index] = fold(*byte);
+    }
+}
+
 /// What the names of all that hold the key begin with.
 pub(crate) fn key_bytes<K: PairName>(key: &[u8]) -> K
     requires fits { length key.now + 11 ≤ K.room }
@@ -121,6 +132,6 @@ pub(crate) fn place_key(place: Place) -> InlineName<263>
 {
     let mut room = [0; 263];
     put(&mut room, 0, &long_bytes(place.directory));
-    put(&mut room, 8, place.name);
+    put_folded(&mut room, 8, place.name);
     InlineName::new(&room[..8 + place.name.len()])
 }

@@ -5,19 +5,21 @@ ghost use Rattle.ktm_base.specs.declared.limits.TheConstants.{MOST_NAME_BYTES};
 ghost use Rattle.ktm_base.specs.declared.id.Id.{Id};
 ghost use Rattle.ktm_world.specs.Holds.{Place as HeldPlace, directories_of, is_in, is_place_in};
 ghost use Rattle.ktm_world.specs.Transactions.{is_of, same_id};
-ghost use Rattle.txf_reserve.specs.Acts.{listed, listed_place, place_in, places_held, HaveShortNames};
+ghost use Rattle.txf_opens.specs.Acts.{place_in, HaveShortNames};
+ghost use Rattle.txf_reserve.specs.Acts.{listed, listed_place, places_held};
 ghost use Rattle.txf_reserve.specs.HeldPairs.{has_pair};
 ghost use Rattle.txf_reserve.specs.Parts.{is_number_held, is_other_among, is_place_held};
 ghost use Rattle.txf_reserve.specs.ReserveKeys.{node_key, place_key, AreKeys, IsNodeKey, IsPlaceKey};
 ghost use Rattle.txf_reserve.specs.ReserveState.{holds_in};
 
-use crate::act::{Held, Place, directory_of};
+use crate::act::{Held, directory_of};
 use crate::name::{EmptyName, NodeName, PlaceName, place_key};
 use crate::pairs::Pairs;
 use ktm_base::{Id, NoMemory};
 use ktm_links::{Name, long_bytes};
 use std::alloc::Global;
 use std::marker::Model;
+use txf_opens::Place;
 
 /// What each undecided transaction holds by its changes.
 #[derive(Drop)]

@@ -1,15 +1,16 @@
 -- Lemmas on a node that is taken out, changed, and put back.
-use Rattle.std.proofs.Common.{◌≡◌, ℕ, ◌+◌, ◌-◌, ◌≤◌, true, false, eqb, List, [], ◌∷◌, ◌++◌, length, drop, replicate, fold, Option, Some, None, is_some, Result, Ok, Err, OnOk, refl, sym, ap, ◌∙◌, inl, inr, arith}
+use Rattle.std.proofs.Common.{◌≡◌, ℕ, ◌+◌, ◌-◌, ◌≤◌, true, false, Bool, eqb, List, [], ◌∷◌, ◌++◌, length, drop, replicate, fold, not, ◌||◌, nat_le, Option, Some, None, is_some, Result, Ok, Err, OnOk, refl, sym, ap, ◌∙◌, inl, inr, arith}
 use Rattle.std.specs.Option.{option_map}
-use Rattle.std.proofs.lemmas.Bool.{cases_Bool, cases_eq, leb-true, eqb-false}
+use Rattle.std.proofs.lemmas.Bool.{cases_Bool, cases_eq, leb-true, le-leb, eqb-false}
 use Rattle.std.proofs.lemmas.List.{append-nil, drop_all}
+use Rattle.std.proofs.lemmas.Option.{same_Some}
 use Rattle.ktm_types.specs.declared.recorded.Node.{Node}
 use Rattle.ktm_links.specs.Mapped.{NamedItem}
 use Rattle.ktm_world.specs.Changes.{changed_all}
 use Rattle.ktm_world.specs.Committed.{final_bytes, raised_version, version_of, versions_after}
 use Rattle.ktm_world.specs.Tree.{Tree, bytes_of, bytes_or_none, content_of, cut_to, is_file, put_over, with_changed}
-use Rattle.txf_tree.specs.Indexes.{AreRising, IsTree, replaced, with_content, with_now, without_now}
-use Rattle.txf_tree.specs.TreeState.{NodeNow, TreeState, has_room, now_at, plain, room_in, tree_in, versions_in}
+use Rattle.txf_tree.specs.Indexes.{AreRising, IsTree, content_now, refilled, refilled_in, replaced, with_content, with_content_now, with_now, without_now}
+use Rattle.txf_tree.specs.TreeState.{ContentNow, NodeNow, TreeState, has_room, now_at, plain, room_in, tree_in, versions_in}
 use Rattle.txf_tree.proofs.Changing.{AreRising-replaced, now_at-replaced_other, now_at-replaced_same, now_at-with_other, now_at-without_other, replaced-replaced, tree_in-replaced, versions_in-raised, versions_in-replaced}
 use Rattle.txf_tree.proofs.Counting.{version_of-now}
 use Rattle.txf_tree.proofs.Naming.{node_at-now, numbered_now}
@@ -26,11 +27,11 @@ file_there nodes n file = by_cases (now_at nodes n) (sym (file_now nodes n) ∙ 
     by_cases None file = absurd (cc)
     by_cases (Some x) file = refl
 
+pub no_file : (nodes : List NodeNow) (n : ℕ) → is_file (tree_in nodes) n ≡ true → now_at nodes n ≡ None → ⊥
+no_file nodes n file none = absurd (let there = file_there nodes n file in let gone = rw none at there in cc)
+
 pub file_content : (nodes : List NodeNow) (n : ℕ) (s : NodeNow) → is_file (tree_in nodes) n ≡ true → now_at nodes n ≡ Some s → is_some s.node.content ≡ true
 file_content nodes n s file found = rw found at (sym (file_now nodes n) ∙ file)
-
-pub file_room : (state : TreeState) (n size : ℕ) (s : NodeNow) → is_file (tree_in state.nodes) n ≡ true → has_room state n size ≡ true → now_at state.nodes n ≡ Some s → size ≤ s.room
-file_room state n size s file has found = leb-true size s.room (rw (file, found) at has)
 
 pub file_version : (nodes : List NodeNow) (n : ℕ) (s : NodeNow) → AreRising nodes → now_at nodes n ≡ Some s → version_of (versions_in nodes) n ≡ s.version
 file_version nodes n s rising found = version_of-now nodes n rising ∙ rw found refl
@@ -59,6 +60,38 @@ IsSwapped-from nodes hollowed new n h s x number found hollow same is =
           is ∙ ap (λ m. replaced hollowed m x) at
           ∙ ap (λ l. replaced l n x) (hollow ∙ ap (λ m. replaced nodes m h) number) ∙ replaced-replaced nodes n h x number;
     }
+
+-- a node whose content is lent, and is another one then
+pub record IsLent (nodes : List NodeNow) (n : ℕ) (r : ContentNow) : Type 0 where
+  pub node : NodeNow
+  pub found : now_at nodes n ≡ Some (with_content_now node r)
+  pub swap : (w : ContentNow) → IsSwapped nodes (refilled nodes n w) n (with_content_now node r) (with_content_now node w)
+
+pub lent : (nodes : List NodeNow) (n : ℕ) (r : ContentNow) → Some r ≡ option_map content_now (now_at nodes n) → IsLent nodes n r
+lent nodes n r is = by_cases (now_at nodes n) refl is
+  where
+    by_cases : (o : Option NodeNow) → now_at nodes n ≡ o → Some r ≡ option_map content_now o → IsLent nodes n r
+    by_cases None none is = absurd (cc)
+    by_cases (Some s) some is =
+        let found : now_at nodes n ≡ Some (with_content_now s r) = some ∙ ap (λ c. Some (with_content_now s c)) (sym (same_Some r (content_now s) is)) in
+        let number : s.node.number ≡ n = numbered_now nodes n (with_content_now s r) found in
+        record {
+          node = s;
+          found = found;
+          swap = λ w. record {
+            found = found;
+            number = number;
+            is = ap (λ o. refilled_in nodes o w) found ∙ ap (λ m. replaced nodes m (with_content_now s w)) number;
+          };
+        }
+
+-- the content of no node is lent
+pub lent_none : (nodes : List NodeNow) (n : ℕ) → ◌≡◌ {A = Option ContentNow} None (option_map content_now (now_at nodes n)) → now_at nodes n ≡ None
+lent_none nodes n is = by_cases (now_at nodes n) is
+  where
+    by_cases : (o : Option NodeNow) → ◌≡◌ {A = Option ContentNow} None (option_map content_now o) → o ≡ None
+    by_cases None is = refl
+    by_cases (Some s) is = absurd (cc)
 
 pub IsTree-swapped : (nodes new : List NodeNow) (names : List (NamedItem ℕ)) (n : ℕ) (s x : NodeNow) → IsTree nodes names → IsSwapped nodes new n s x
     → x.node.parent ≡ s.node.parent → x.node.name ≡ s.node.name → IsTree new names
@@ -121,13 +154,30 @@ with_changed-same (y ∷ ys) n =
 pub tree-kept : (nodes new : List NodeNow) (n : ℕ) (s x : NodeNow) → AreRising nodes → IsSwapped nodes new n s x → x.node ≡ s.node → tree_in new ≡ tree_in nodes
 tree-kept nodes new n s x rising swap node = tree-swapped nodes new n s x (λ node. node) rising swap node ∙ with_changed-same (tree_in nodes) n
 
+-- has the file, if it is one of these nodes, room for so many bytes
+abbrev room_for : List NodeNow → ℕ → ℕ → Bool
+room_for nodes n size = has_room (record { nodes = nodes; spare = 0 }) n size
+
+room_for-now : (nodes : List NodeNow) (n size : ℕ)
+    → room_for nodes n size ≡ (not (is_some (content_of (option_map (λ (x : NodeNow). x.node) (now_at nodes n)))) || nat_le size (room_in (now_at nodes n)))
+room_for-now nodes n size = ap (λ file. not file || nat_le size (room_in (now_at nodes n))) (file_now nodes n)
+
+pub room-lent : (nodes : List NodeNow) (n size : ℕ) (r : ContentNow) (it : IsLent nodes n r) → room_for nodes n size ≡ true → is_some r.bytes ≡ true → size ≤ r.room
+room-lent nodes n size r it has file = leb-true size r.room (rw (it.found, file) at (sym (room_for-now nodes n size) ∙ has))
+
+pub room-none : (nodes : List NodeNow) (n size : ℕ) → now_at nodes n ≡ None → room_for nodes n size ≡ true
+room-none nodes n size none = room_for-now nodes n size ∙ rw none refl
+
 pub room-swapped : {T E : Type 0} (nodes new : List NodeNow) (n : ℕ) (s x : NodeNow) (size : ℕ) (result : Result T E) → IsSwapped nodes new n s x
-    → is_some s.node.content ≡ true → OnOk result (is_some s.node.content ≡ true → size ≤ x.room) → OnOk result (size ≤ room_in (now_at new n))
-room-swapped nodes new n s x size (Err e) swap file room = tt
-room-swapped nodes new n s x size (Ok v) swap file room =
-    let more = room file in
-    let is : room_in (now_at new n) ≡ x.room = ap room_in (ap (λ l. now_at l n) swap.is ∙ now_at-replaced_same nodes n s x swap.found swap.number) in
-    omega (arith, more, is)
+    → OnOk result (is_some x.node.content ≡ true → size ≤ x.room) → OnOk result (room_for new n size ≡ true)
+room-swapped nodes new n s x size (Err e) swap room = tt
+room-swapped nodes new n s x size (Ok v) swap room =
+    let is : now_at new n ≡ Some x = ap (λ l. now_at l n) swap.is ∙ now_at-replaced_same nodes n s x swap.found swap.number in
+    room_for-now new n size
+    ∙ elim (cases_Bool (is_some x.node.content)) [
+      | inl file ↦ rw (is, file) (le-leb size x.room (room file))
+      | inr directory ↦ rw (is, directory) refl
+    ]
 
 -- ---- the bytes of a commit
 with_changed-twice : (tree : Tree) (n : ℕ) (f g : Node → Node) → ((node : Node) → (f node).number ≡ node.number)

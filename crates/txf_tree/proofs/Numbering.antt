@@ -8,10 +8,12 @@ use Rattle.ktm_links.specs.declared.list.Key.{Key}
 use Rattle.ktm_links.specs.Items.{Item, item, same_key, value_at, with_value, without}
 use Rattle.ktm_links.specs.Mapped.{NamedItem, at, key_at, name_cmp, put, without_name}
 use Rattle.ktm_links.proofs.offered.Entries.{at-put_other, at-without_other, key_at-at}
+use Rattle.ktm_links.proofs.offered.Keys.{value_at-with_same, value_at-with_other}
 use Rattle.ktm_links.proofs.offered.Names.{is_eq-other, name_same, not_lower}
-use Rattle.txf_tree.specs.Indexes.{AreNumbered, IsIndexed, IsNumberedAt, nodes_of, replaced, under, with_now, without_now}
+use Rattle.txf_tree.specs.Indexes.{AreNumbered, IsIndexed, IsNumberedAt, nodes_of, refilled, replaced, under, with_content_now, with_now, without_now}
+use Rattle.txf_tree.specs.Lends.{refilled_item}
 use Rattle.txf_tree.specs.Places.{number_bytes}
-use Rattle.txf_tree.specs.TreeState.{NodeNow, now_at}
+use Rattle.txf_tree.specs.TreeState.{ContentNow, NodeNow, now_at}
 use Rattle.txf_tree.proofs.Digits.{number_bytes-less, number_bytes-one}
 
 number_found : (m n : ℕ) → eqb m n ≡ true → is_eq (name_cmp (number_bytes m) (number_bytes n)) ≡ true
@@ -244,6 +246,21 @@ numbered items (e ∷ es) n k all here =
       | inr differs ↦
           numbered items es n k all.1 (sym (ap (λ o. option_map (λ (e : Key × Key). e.1) o) (at-other e es at.node.node.number n at.name differs)) ∙ here)
     ]
+
+-- ---- another content
+pub now_at-key : (items : List (Item NodeNow)) (es : List (NamedItem Key)) (n : ℕ) (k : Key) → AreNumbered items es → under es (number_bytes n) ≡ Some k
+    → now_at (nodes_of items es) n ≡ value_at items k
+now_at-key items es n k all here = now_at-under items es n all ∙ ap (option_and_then (value_at items)) here
+
+pub IsIndexed-refilled : (items : List (Item NodeNow)) (es : List (NamedItem Key)) (n : ℕ) (k : Key) (w : ContentNow) → IsIndexed items es → under es (number_bytes n) ≡ Some k
+    → IsIndexed (refilled_item items k (value_at items k) w) es × (nodes_of (refilled_item items k (value_at items k) w) es ≡ refilled (nodes_of items es) n w)
+IsIndexed-refilled items es n k w index here =
+    let at = numbered items es n k index.all here in
+    let x = with_content_now at.0 w in
+    let both =
+    IsIndexed-replaced items (with_value items k x) es k at.0 x index at.1 (ap (λ n. under es (number_bytes n)) at.2 ∙ here) refl refl
+    (value_at-with_same items k x (ap is_some at.1)) (λ key differs. value_at-with_other items k key x differs) in
+    rw (now_at-key items es n k index.all here, at.1) both
 
 -- ---- one node less
 without_now-gone : (items : List (Item NodeNow)) (es : List (NamedItem Key)) (n : ℕ) → AreNumbered items es → at es (number_bytes n) ≡ None

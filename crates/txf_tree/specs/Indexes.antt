@@ -10,7 +10,7 @@ use Rattle.ktm_links.specs.Mapped.{NamedItem, at, IsNotBelow}
 use Rattle.ktm_world.specs.Changes.{changed}
 use Rattle.ktm_world.specs.Committed.{versions_after}
 use Rattle.txf_tree.specs.Places.{child_name, number_bytes}
-use Rattle.txf_tree.specs.TreeState.{NodeNow, TreeState, is_numbered, now_at, takes, tree_of, versions_of, KeepsRoom}
+use Rattle.txf_tree.specs.TreeState.{ContentNow, NodeNow, TreeState, is_numbered, now_at, takes, tree_of, versions_of, KeepsRoom}
 
 -- ---- names
 
@@ -67,6 +67,23 @@ without_now nodes number = filter (λ n. not (is_numbered number n)) nodes
 -- the nodes with another one in place of that of the number
 abbrev pub replaced : List NodeNow → ℕ → NodeNow → List NodeNow
 replaced nodes number node = map (λ n. if is_numbered number n then node else n) nodes
+
+-- the content of the node
+abbrev pub content_now : NodeNow → ContentNow
+content_now n = record { bytes = n.node.content; version = n.version; room = n.room }
+
+-- the node with another content
+abbrev pub with_content_now : NodeNow → ContentNow → NodeNow
+with_content_now n content = record { node = record n.node { content = content.bytes }; version = content.version; room = content.room }
+
+-- the nodes with another content of this one, if it is one
+abbrev pub refilled_in : List NodeNow → Option NodeNow → ContentNow → List NodeNow
+refilled_in nodes None content = nodes
+refilled_in nodes (Some n) content = replaced nodes n.node.number (with_content_now n content)
+
+-- the nodes with another content of that of the number, if there is one
+abbrev pub refilled : List NodeNow → ℕ → ContentNow → List NodeNow
+refilled nodes number content = refilled_in nodes (now_at nodes number) content
 
 -- ---- nodes by name
 

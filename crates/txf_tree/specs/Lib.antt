@@ -1,5 +1,6 @@
 pub mod Children
 pub mod Found
 pub mod Indexes
+pub mod Lends
 pub mod Places
 pub mod TreeState

@@ -13,6 +13,12 @@ pub record NodeNow : Type 0 where
   pub version : ℕ
   pub room : ℕ
 
+-- the bytes of a node, if it is a file, how often they were changed since the restart, and for how many there is room
+pub record ContentNow : Type 0 where
+  pub bytes : Option (List ℕ)
+  pub version : ℕ
+  pub room : ℕ
+
 -- the nodes by rising number, and how many can come without memory
 pub record TreeState : Type 0 where
   pub nodes : List NodeNow

@@ -8,7 +8,8 @@ ghost use Rattle.ktm_world.specs.Tree.{is_there};
 ghost use Rattle.txf_tree.specs.TreeState.{tree_of};
 
 use crate::change::is_whole;
-use crate::tree::{ROOT, Tree};
+use crate::tree::Tree;
+use ktm_names::ROOT;
 use ktm_types::Change;
 use ktm_world::law_of_paths;
 

@@ -5,6 +5,7 @@
 mod applies;
 mod bytes;
 mod change;
+mod content;
 mod entry;
 mod matching;
 mod name;

@@ -1,11 +1,15 @@
 // The nodes by their numbers.
 ghost use Rattle.std.specs.Prelude.{◌≡◌, ◌+◌, ◌<◌, ◌≤◌, [], None, Some, length, option_copied, is_some, true, OnOk, IsOk};
-ghost use Rattle.std.specs.Option.{option_map};
+ghost use Rattle.std.specs.Borrow.{sem};
+ghost use Rattle.std.specs.Option.{option_map, option_copied_mut, option_and_then};
 ghost use Rattle.ktm_world.specs.Tree.{node_at};
-ghost use Rattle.txf_tree.specs.Indexes.{replaced, under, with_now, without_now};
+ghost use Rattle.ktm_links.specs.Items.{value_at};
+ghost use Rattle.txf_tree.specs.Indexes.{content_now, replaced, under, with_now, without_now};
+ghost use Rattle.txf_tree.specs.Lends.{lends_item};
 ghost use Rattle.txf_tree.specs.Places.{number_bytes};
 ghost use Rattle.txf_tree.specs.TreeState.{now_at, plain, tree_in};
 
+use crate::content::Content;
 use crate::name::{NumberName, number_bytes};
 use crate::stored::Stored;
 use ktm_base::NoMemory;
@@ -47,7 +51,20 @@ fn key_of(numbers: &Chains<NumberName, Key>, number: u64) -> Option<Key>
     }
 }
 
+// The content of the node that the key names, for writing.
+fn content_at(nodes: &mut List<Stored>, key: Key) -> Option<&mut Content>
+    ensures* writes_back { sem 𝓛 (lends_item nodes.entry key result) }
+    ensures value { option_copied_mut result ≡ option_map content_now (value_at nodes.old.items key) }
+{
+    match nodes.get_mut(key) {
+        Some(stored) => Some(stored.content_mut()),
+        None => None,
+    }
+}
+
 impl Nodes {
+    ghost use Rattle.txf_tree.specs.Lends.{lends_of};
+
     pub(crate) fn new(alloc: Global) -> Nodes
         ensures { result.nodes ≡ [] }
     {
@@ -112,6 +129,17 @@ impl Nodes {
                 self.numbers.remove(&number_bytes(number));
                 self.nodes.unlink(key)
             }
+            None => None,
+        }
+    }
+
+    /// The content of the node with the number, for writing.
+    pub(crate) fn content_mut(&mut self, number: u64) -> Option<&mut Content>
+        ensures* writes_back { sem 𝓛 (lends_of self.entry number result) }
+        ensures value { option_copied_mut result ≡ option_map content_now (now_at self.old.nodes number) }
+    {
+        match key_of(&self.numbers, number) {
+            Some(key) => content_at(&mut self.nodes, key),
             None => None,
         }
     }

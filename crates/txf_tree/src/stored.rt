@@ -1,56 +1,45 @@
 // A node as it is kept.
-ghost use Rattle.std.specs.Prelude.{◌≡◌, ◌+◌, ◌-◌, ◌^◌, ◌<◌, ◌≤◌, true, is_some, length, OnOk, IsOk};
-ghost use Rattle.std.specs.Option.{option_map};
+ghost use Rattle.std.specs.Prelude.{◌≡◌, ◌≤◌, length};
 ghost use Rattle.ktm_base.specs.declared.limits.TheConstants.{MOST_NAME_BYTES};
-ghost use Rattle.ktm_world.specs.Tree.{bytes_or_none, cut_to, put_over};
 ghost use Rattle.txf_tree.specs.Children.{entry_seen, node_seen, shown};
-ghost use Rattle.txf_tree.specs.Indexes.{with_content};
+ghost use Rattle.txf_tree.specs.Indexes.{content_now};
 
-use crate::bytes::{cut_to, put_over};
+use crate::content::Content;
 use crate::entry::{Entry, NodeRef};
-use ktm_base::{Bytes, NoMemory, Text};
+use ktm_base::{Bytes, Text};
 use ktm_types::Node;
 use std::alloc::Global;
 use std::marker::Model;
-use std::mem;
 
-/// A node, whose name has at most 255 bytes, and how often its bytes were changed since the restart.
+/// A node, whose name has at most 255 bytes.
 #[derive(Drop)]
 pub(crate) struct Stored {
     number: u64,
     parent: u64,
     name: Text,
-    content: Option<Vec<u8>>,
-    version: u64,
+    content: Content,
 }
 
 impl Model for Stored {
-    ghost use Rattle.std.specs.Prelude.{◌≤◌, length, vec_capacity};
-    ghost use Rattle.std.specs.Option.{option_map, unwrap_or};
+    ghost use Rattle.std.specs.Prelude.{◌≤◌, length};
     ghost use Rattle.ktm_base.specs.declared.limits.TheConstants.{MOST_NAME_BYTES};
     ghost use Rattle.txf_tree.specs.TreeState.{NodeNow};
 
     ghost Value = { NodeNow };
 
     ghost view = { λ s. record {
-      node = record { number = s.number; parent = s.parent; name = s.name; content = option_map (λ bytes. bytes.items) s.content };
-      version = s.version;
-      room = unwrap_or (option_map (λ bytes. vec_capacity bytes) s.content) 0;
+      node = record { number = s.number; parent = s.parent; name = s.name; content = s.content.bytes };
+      version = s.content.version;
+      room = s.content.room;
     } };
 
     ghost invariant = { λ s. length s.name ≤ MOST_NAME_BYTES };
 }
 
-fn bytes_in(content: Option<Bytes>) -> Option<Vec<u8>>
-    ensures { option_map (λ bytes. bytes.items) result ≡ content }
-{
-    match content {
-        Some(bytes) => Some(bytes.into_vec()),
-        None => None,
-    }
-}
-
 impl Stored {
+    ghost use Rattle.std.specs.Borrow.{sem};
+    ghost use Rattle.txf_tree.specs.Lends.{lends_content};
+
     /// A node whose bytes were never changed.
     pub(crate) fn new(node: Node) -> Stored
         requires { length node.name ≤ MOST_NAME_BYTES }
@@ -67,8 +56,7 @@ impl Stored {
             number,
             parent,
             name,
-            content: bytes_in(content),
-            version: 0,
+            content: Content::new(content),
         }
     }
 
@@ -80,8 +68,7 @@ impl Stored {
             number,
             parent: 0,
             name: Text::new(Vec::new(alloc)),
-            content: None,
-            version: 0,
+            content: Content::new(None),
         }
     }
 
@@ -104,43 +91,18 @@ impl Stored {
         self.name.as_slice()
     }
 
-    pub(crate) fn is_file(&self) -> bool
-        ensures { result ≡ is_some self.now.node.content }
+    pub(crate) fn content(&self) -> &Content
+        ensures { result.now ≡ content_now self.now }
     {
-        self.content.is_some()
+        &self.content
     }
 
-    /// The bytes of a file; a directory has none.
-    pub(crate) fn bytes(&self) -> &[u8]
-        ensures { result.now ≡ bytes_or_none self.now.node.content }
+    /// The content, for writing.
+    pub(crate) fn content_mut(&mut self) -> &mut Content
+        ensures* writes_back { sem 𝓛 (lends_content self.entry result) }
+        ensures value { result.now ≡ content_now self.old }
     {
-        match &self.content {
-            Some(bytes) => bytes.as_slice(),
-            None => &[],
-        }
-    }
-
-    /// How many bytes the file has; a directory has none.
-    pub(crate) fn size(&self) -> u64
-        ensures { result ≡ length (bytes_or_none self.now.node.content) }
-    {
-        self.bytes().len() as u64
-    }
-
-    pub(crate) fn version(&self) -> u64
-        ensures { result ≡ self.now.version }
-    {
-        self.version
-    }
-
-    /// For how many bytes the content has room.
-    pub(crate) fn room(&self) -> usize
-        ensures { result ≡ self.now.room }
-    {
-        match &self.content {
-            Some(bytes) => bytes.capacity(),
-            None => 0,
-        }
+        &mut self.content
     }
 
     pub(crate) fn as_node(&self) -> NodeRef<'_>
@@ -150,10 +112,7 @@ impl Stored {
             number: self.number,
             parent: self.parent,
             name: self.name.as_slice(),
-            content: match &self.content {
-                Some(bytes) => Some(bytes.as_slice()),
-                None => None,
-            },
+            content: self.content.as_slice(),
         }
     }
 
@@ -164,7 +123,7 @@ impl Stored {
     {
         Entry {
             name: self.name(),
-            is_directory: !self.is_file(),
+            is_directory: !self.content.is_file(),
         }
     }
 
@@ -172,83 +131,7 @@ impl Stored {
     pub(crate) fn into_bytes(self) -> Option<Bytes>
         ensures { result ≡ self.node.content }
     {
-        let Stored { content, .. } = self;
-        match content {
-            Some(bytes) => Some(Bytes::new(bytes)),
-            None => None,
-        }
-    }
-
-    /// Takes the memory with which a file can have so many bytes.
-    pub(crate) fn reserve(&mut self, size: usize) -> Result<(), NoMemory>
-        ensures node { self.new.node ≡ self.old.node }
-        ensures version { self.new.version ≡ self.old.version }
-        ensures room { OnOk result (is_some self.old.node.content ≡ true → size ≤ self.new.room) }
-        ensures grows { self.old.room ≤ self.new.room }
-        ensures enough { size ≤ self.old.room → IsOk result }
-    {
-        if let Some(bytes) = &mut self.content {
-            if let Err(_) = bytes.reserve(size.saturating_sub(bytes.len())) {
-                return Err(NoMemory);
-            }
-        }
-        Ok(())
-    }
-
-    /// Puts bytes over those of a file.
-    pub(crate) fn put(&mut self, offset: usize, new: &[u8])
-        requires file { is_some self.old.node.content ≡ true }
-        requires room { offset + length new.now ≤ self.old.room }
-        requires few { self.old.version < 2 ^ 64 - 1 }
-        ensures node { self.new.node ≡ with_content self.old.node (put_over (bytes_or_none self.old.node.content) offset new.now) }
-        ensures version { self.new.version ≡ self.old.version + 1 }
-        ensures room { self.old.room ≤ self.new.room }
-    {
-        match &mut self.content {
-            Some(bytes) => put_over(bytes, offset, new),
-            None => unreachable!(),
-        }
-        self.version += 1;
-    }
-
-    /// Makes the bytes of a file so many.
-    pub(crate) fn cut(&mut self, size: usize)
-        requires file { is_some self.old.node.content ≡ true }
-        requires room { size ≤ self.old.room }
-        requires few { self.old.version < 2 ^ 64 - 1 }
-        ensures node { self.new.node ≡ with_content self.old.node (cut_to (bytes_or_none self.old.node.content) size) }
-        ensures version { self.new.version ≡ self.old.version + 1 }
-        ensures room { self.old.room ≤ self.new.room }
-    {
-        match &mut self.content {
-            Some(bytes) => cut_to(bytes, size),
-            None => unreachable!(),
-        }
-        self.version += 1;
-    }
-
-    /// Gives the file other bytes, which count as so many changes, and hands out those that it had.
-    pub(crate) fn replace(&mut self, bytes: Bytes, changes: u64) -> Bytes
-        requires file { is_some self.old.node.content ≡ true }
-        requires few { self.old.version + changes < 2 ^ 64 }
-        ensures was { result ≡ bytes_or_none self.old.node.content }
-        ensures node { self.new.node ≡ with_content self.old.node bytes }
-        ensures version { self.new.version ≡ self.old.version + changes }
-    {
-        self.version += changes;
-        match mem::replace(&mut self.content, Some(bytes.into_vec())) {
-            Some(was) => Bytes::new(was),
-            None => unreachable!(),
-        }
-    }
-
-    /// The bytes count as never changed.
-    pub(crate) fn forget_version(&mut self)
-        ensures node { self.new.node ≡ self.old.node }
-        ensures version { self.new.version ≡ 0 }
-        ensures room { self.new.room ≡ self.old.room }
-    {
-        self.version = 0;
+        self.content.into_bytes()
     }
 
     /// Gives the node another directory and another name.

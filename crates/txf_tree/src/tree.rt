@@ -20,12 +20,10 @@ use crate::nodes::Nodes;
 use crate::stored::Stored;
 use ktm_base::{Bytes, MOST_NAME_BYTES, NoMemory, Text, read_at};
 use ktm_links::{Chains, Name};
+use ktm_names::ROOT;
 use ktm_types::{Change, Contents, Node, NodeKind};
 use std::alloc::Global;
 use std::marker::Model;
-
-/// The number of the root.
-pub(crate) const ROOT: u64 = 1;
 
 /// The committed files and directories.
 #[derive(Drop)]
@@ -149,7 +147,7 @@ impl Tree {
         ensures { result ≡ is_file (tree_of self.now) number }
     {
         match self.nodes.get(number) {
-            Some(node) => node.is_file(),
+            Some(node) => node.content().is_file(),
             None => false,
         }
     }
@@ -159,7 +157,7 @@ impl Tree {
         ensures { result ≡ is_directory (tree_of self.now) number }
     {
         match self.nodes.get(number) {
-            Some(node) => !node.is_file(),
+            Some(node) => !node.content().is_file(),
             None => number == ROOT,
         }
     }
@@ -169,7 +167,7 @@ impl Tree {
         ensures { result.now ≡ bytes_of (tree_of self.now) file }
     {
         match self.nodes.get(file) {
-            Some(node) => node.bytes(),
+            Some(node) => node.content().bytes(),
             None => &[],
         }
     }
@@ -178,10 +176,7 @@ impl Tree {
     pub fn size(&self, file: u64) -> u64
         ensures { result ≡ length (bytes_of (tree_of self.now) file) }
     {
-        match self.nodes.get(file) {
-            Some(node) => node.size(),
-            None => 0,
-        }
+        self.content(file).len() as u64
     }
 
     /// Reads bytes of a file from the offset on, and says how many.
@@ -196,7 +191,7 @@ impl Tree {
         ensures { result ≡ version_of (versions_of self.now) file }
     {
         match self.nodes.get(file) {
-            Some(node) => node.version(),
+            Some(node) => node.content().version(),
             None => 0,
         }
     }
@@ -384,10 +379,10 @@ impl Tree {
         ensures spare { self.new.spare ≡ self.old.spare }
     {
         let changes = changes_to(&bytes);
-        let mut stored = self.nodes.replace(Stored::hollow(self.alloc, file));
-        let was = stored.replace(bytes, changes);
-        self.nodes.replace(stored);
-        was
+        match self.nodes.content_mut(file) {
+            Some(content) => content.replace(bytes, changes),
+            None => unreachable!(),
+        }
     }
 
     // The number of the directory that the node is in. The root is its own parent.
@@ -450,9 +445,10 @@ impl Tree {
         requires few { version_of (versions_of self.old) node < 2 ^ 64 - 2 }
         ensures { IsApplied self.old self.new (Put node offset contents.now) }
     {
-        let mut stored = self.nodes.replace(Stored::hollow(self.alloc, node));
-        stored.put(offset as usize, bytes_in(contents));
-        self.nodes.replace(stored);
+        match self.nodes.content_mut(node) {
+            Some(content) => content.put(offset as usize, bytes_in(contents)),
+            None => unreachable!(),
+        }
     }
 
     // Cuts a file, or fills it up within its room.
@@ -462,9 +458,10 @@ impl Tree {
         requires few { version_of (versions_of self.old) node < 2 ^ 64 - 2 }
         ensures { IsApplied self.old self.new (Cut node size []) }
     {
-        let mut stored = self.nodes.replace(Stored::hollow(self.alloc, node));
-        stored.cut(size as usize);
-        self.nodes.replace(stored);
+        match self.nodes.content_mut(node) {
+            Some(content) => content.cut(size as usize),
+            None => unreachable!(),
+        }
     }
 
     // Gives a node another name, or another directory.
@@ -488,12 +485,10 @@ impl Tree {
         ensures rooms { KeepsRooms self.old self.new }
         ensures spare { self.new.spare ≡ self.old.spare }
     {
-        if self.nodes.get(number).is_none() {
+        let Some(content) = self.nodes.content_mut(number) else {
             return;
-        }
-        let mut stored = self.nodes.replace(Stored::hollow(self.alloc, number));
-        stored.forget_version();
-        self.nodes.replace(stored);
+        };
+        content.forget_version();
     }
 
     // Takes a node out, and hands out the bytes of a file.
@@ -520,41 +515,9 @@ impl Tree {
         ensures rooms { KeepsRooms self.old self.new }
         ensures spare { self.new.spare ≡ self.old.spare }
     {
-        let Some(room) = self.room(file) else {
+        let Some(content) = self.nodes.content_mut(file) else {
             return Ok(());
         };
-        let Some(size) = (offset as usize).checked_add(many) else {
-            return Err(NoMemory);
-        };
-        if size <= room {
-            return Ok(());
-        }
-        self.grow(file, size)
-    }
-
-    // For how many bytes a file has room, if it is one.
-    fn room(&self, file: u64) -> Option<usize>
-        ensures some { IfSome result (λ room. room ≡ room_of self.now file) }
-        ensures file { is_some result ≡ is_file (tree_of self.now) file }
-    {
-        match self.nodes.get(file) {
-            Some(node) if node.is_file() => Some(node.room()),
-            _ => None,
-        }
-    }
-
-    // Takes the memory with which a file can have so many bytes.
-    fn grow(&mut self, file: u64, size: usize) -> Result<(), NoMemory>
-        requires { is_file (tree_of self.old) file ≡ true }
-        ensures room { OnOk result (size ≤ room_of self.new file) }
-        ensures tree { tree_of self.new ≡ tree_of self.old }
-        ensures versions { versions_of self.new ≡ versions_of self.old }
-        ensures rooms { KeepsRooms self.old self.new }
-        ensures spare { self.new.spare ≡ self.old.spare }
-    {
-        let mut stored = self.nodes.replace(Stored::hollow(self.alloc, file));
-        let outcome = stored.reserve(size);
-        self.nodes.replace(stored);
-        outcome
+        content.reserve(offset, many)
     }
 }

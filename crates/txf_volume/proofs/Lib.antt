@@ -14,7 +14,6 @@ pub mod Steady
 pub mod Counted
 pub mod Sights
 pub mod Beginning
-pub mod Folding
 pub mod Reading
 pub mod Recording
 pub mod TransactedEnds

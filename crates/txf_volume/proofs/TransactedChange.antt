@@ -421,7 +421,7 @@ module _ (h : FilesHeld) (units : ℕ) (tied : AreTied h units) (law : OwnFormLa
   -- there is room for the units that it writes
   pub units-few : CanBeCounted (owned (files_of h) id c) → total_units (written_next old fixed c) < 2 ^ 64
   units-few counted =
-      let new : OverlayState = record { names = old.names ++ filter is_of_names (c ∷ []); held = []; written = written_next old fixed c; spare = 0; places = 0 } in
+      let new : OverlayState = record { names = old.names ++ filter is_of_names (c ∷ []); held = []; written = written_next old fixed c; spare = 0 } in
       let few = (few-then new refl refl counted).units in
       let it = entry-counts h.overlays id new in
       omega arith

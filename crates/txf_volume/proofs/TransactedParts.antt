@@ -95,7 +95,7 @@ pub few-new : (o : OverlayState) (fixed : List ℕ) (c : Change) → o.names ≡
 few-new o fixed c names written few = subst (λ n. n < 2 ^ 64) (sym (λ i. total_units (written_with (λ file. if has_made (names i) file then [] else fixed) (written i) c))) few
 
 pub bare-same : (o o' : OverlayState) → o'.names ≡ o.names → o'.held ≡ o.held → o'.written ≡ o.written → bare o' ≡ bare o
-bare-same o o' names held written = λ i. record { names = names i; held = held i; written = written i; spare = 0; places = 0 }
+bare-same o o' names held written = λ i. record { names = names i; held = held i; written = written i; spare = 0 }
 
 -- ---- the list of what transactions changed
 

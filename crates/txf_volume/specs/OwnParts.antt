@@ -30,7 +30,7 @@ pub record IsPlace (overlays : List OwnHeld) (id : Id) (i : ℕ) : Type 0 where
 
 -- a transaction that changed nothing
 abbrev pub unchanged : OverlayState
-unchanged = record { names = []; held = []; written = []; spare = 0; places = 0 }
+unchanged = record { names = []; held = []; written = []; spare = 0 }
 
 -- what a transaction changed, or that it changed nothing
 abbrev pub or_unchanged : Option OverlayState → OverlayState
@@ -39,7 +39,7 @@ or_unchanged (Some o) = o
 
 -- without how much memory there is
 abbrev pub bare : OverlayState → OverlayState
-bare o = record o { spare = 0; places = 0 }
+bare o = record o { spare = 0 }
 
 -- the same of an entry
 abbrev pub bare_own : OwnHeld → OwnHeld

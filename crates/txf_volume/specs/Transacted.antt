@@ -38,8 +38,8 @@ spare_in (Some o) = o.spare
 
 -- the bytes that a change puts or leaves are among those that the transaction wrote of the file
 abbrev pub IsWithin : Option OverlayState → Change → Type 0
-IsWithin (Some o) (Put node offset contents) = HasBytes o node (offset + length (bytes_in contents))
-IsWithin (Some o) (Cut node size pages) = HasBytes o node size
+IsWithin (Some o) (Put node offset contents) = HasBytes o.written node (offset + length (bytes_in contents))
+IsWithin (Some o) (Cut node size pages) = HasBytes o.written node size
 IsWithin _ _ = Unit {0}
 
 -- the memory is there with which the change, if there is one, is the transaction's own: there is room for one more change of names, and bytes take none

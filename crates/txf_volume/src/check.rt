@@ -1,59 +1,26 @@
 // Whether a call is refused for what others hold and have open.
-ghost use Rattle.std.specs.Prelude.{◌≡◌, ◌==◌, ◌&&◌, ◌≤◌, length, take};
-ghost use Rattle.ktm_base.specs.Names.{folded};
+ghost use Rattle.std.specs.Prelude.{◌≡◌, ◌==◌, ◌&&◌};
 ghost use Rattle.ktm_world.specs.Conflicts.{changes_outdated, conflicts, is_outdated};
 ghost use Rattle.ktm_world.specs.Files.{first_open_of};
 ghost use Rattle.ktm_world.specs.Holds.{Act as Deed, file_changed};
-ghost use Rattle.txf_reserve.specs.Acts.{act_of as deed_of, place_in, listed, violates, HaveShortNames};
+ghost use Rattle.txf_opens.specs.Acts.{act_of, violates, HasShortNames};
+ghost use Rattle.txf_reserve.specs.Acts.{listed};
 ghost use Rattle.txf_reserve.specs.Checks.{refusal_of};
-ghost use Rattle.ktm_world.specs.Holds.{places_changed};
 ghost use Rattle.ktm_world.specs.Committed.{version_of};
 ghost use Rattle.ktm_world.specs.Tree.{is_file};
 ghost use Rattle.txf_tree.specs.TreeState.{tree_of, versions_of};
 ghost use Rattle.txf_volume.specs.Held.{files_of};
 
 use crate::files::Files;
-use ktm_base::{Id, MOST_NAME_BYTES, Refusal, fold};
-use ktm_links::{InlineName, Name};
-use txf_opens::asks_write;
-use txf_reserve::{Act as Held, Place};
-
-// Writes the folded name.
-fn write_folded(room: &mut [u8], name: &[u8])
-    requires { length name.now ≤ length room.old }
-    ensures { take (length name.now) room.new ≡ folded name.now }
-{
-    for (index, byte) in name.iter().enumerate() {
-        room[index] = fold(*byte);
-    }
-}
-
-/// The folded name.
-pub(crate) fn folded_name(name: &[u8]) -> InlineName<MOST_NAME_BYTES>
-    requires { length name.now ≤ MOST_NAME_BYTES }
-    ensures { result ≡ folded name.now }
-{
-    let mut room = [0; MOST_NAME_BYTES];
-    write_folded(&mut room, name);
-    InlineName::new(&room[..name.len()])
-}
-
-/// The name in the directory.
-pub(crate) fn place(directory: u64, name: &InlineName<MOST_NAME_BYTES>) -> Place<'_>
-    ensures { place_in result ≡ record { directory = directory; name = name.now } }
-{
-    Place {
-        directory,
-        name: name.as_slice(),
-    }
-}
+use ktm_base::{Id, Refusal};
+use txf_opens::{Act, asks_write};
 
 // The file that a call changes.
-fn changed_file(act: &Held) -> Option<u64>
-    ensures { listed result ≡ file_changed (deed_of act.now) }
+fn changed_file(act: &Act<'_>) -> Option<u64>
+    ensures { listed result ≡ file_changed (act_of act.now) }
 {
     match *act {
-        Held::Opens {
+        Act::Open {
             file,
             access,
             truncates,
@@ -65,11 +32,11 @@ fn changed_file(act: &Held) -> Option<u64>
                 None
             }
         }
-        Held::Deletes { file, .. } => Some(file),
-        Held::MovesFile { file, .. } => Some(file),
-        Held::Makes { .. } => None,
-        Held::DropsDirectory { .. } => None,
-        Held::MovesDirectory { .. } => None,
+        Act::Delete { file, .. } => Some(file),
+        Act::MoveFile { file, .. } => Some(file),
+        Act::Make { .. } => None,
+        Act::DropDirectory { .. } => None,
+        Act::MoveDirectory { .. } => None,
     }
 }
 
@@ -101,10 +68,10 @@ impl Files {
         }
     }
 
-    // Why a call whose names are folded is refused, if it is.
-    pub(crate) fn check_folded(&self, who: Option<Id>, act: &Held) -> Option<Refusal>
-        requires { HaveShortNames (places_changed (deed_of act.now)) }
-        ensures { result ≡ refusal_of (conflicts (files_of self.now) who (deed_of act.now)) (violates self.now.opens.opens who act.now) }
+    // Why a call is refused, if it is.
+    pub(crate) fn check_act(&self, who: Option<Id>, act: &Act<'_>) -> Option<Refusal>
+        requires { HasShortNames act.now }
+        ensures { result ≡ refusal_of (conflicts (files_of self.now) who (act_of act.now)) (violates self.now.opens.opens who act.now) }
     {
         let outdated = self.changes_outdated(who, changed_file(act));
         self.reserve.check(&self.opens, who, act, outdated)

@@ -5,17 +5,16 @@ ghost use Rattle.ktm_base.specs.declared.limits.TheConstants.{MOST_NAME_BYTES};
 ghost use Rattle.ktm_types.specs.declared.recorded.Node.{Node};
 ghost use Rattle.ktm_world.specs.Holds.{place};
 ghost use Rattle.ktm_world.specs.Tree.{node_at};
-ghost use Rattle.txf_calls.specs.Views.{place_in};
+ghost use Rattle.txf_opens.specs.Acts.{place_in};
 ghost use Rattle.txf_overlay.specs.OverlayState.{seen};
 ghost use Rattle.txf_overlay.specs.Views.{StandsOver};
 ghost use Rattle.txf_reserve.specs.Acts.{listed};
 ghost use Rattle.txf_tree.specs.TreeState.{tree_of};
 ghost use Rattle.txf_volume.specs.OwnParts.{brought, HoldsToo};
 
-use crate::check::{folded_name, place};
 use ktm_base::Id;
 use ktm_types::Change;
-use txf_calls::Place;
+use txf_opens::Place;
 use txf_overlay::Overlay;
 use txf_reserve::{Held, Reserve};
 use txf_tree::Tree;
@@ -93,13 +92,12 @@ pub(crate) fn hold_made(reserve: &mut Reserve, transaction: Id, node: u64, at: P
     requires short { length at.name.now ≤ MOST_NAME_BYTES }
     ensures { HoldsToo node (place_in at.entry ∷ []) [] false transaction reserve.old reserve.new }
 {
-    let name = folded_name(at.name);
     reserve.hold(
         transaction,
         &Held {
             node: Some(node),
             from: None,
-            to: Some(place(at.directory, &name)),
+            to: Some(at),
             dropped: None,
             moves: false,
         },
@@ -120,14 +118,12 @@ pub(crate) fn hold_moved(
     requires short_to { length to.name.now ≤ MOST_NAME_BYTES }
     ensures { HoldsToo node (place_in from.entry ∷ place_in to.entry ∷ []) [] is_directory transaction reserve.old reserve.new }
 {
-    let left = folded_name(from.name);
-    let taken = folded_name(to.name);
     reserve.hold(
         transaction,
         &Held {
             node: Some(node),
-            from: Some(place(from.directory, &left)),
-            to: Some(place(to.directory, &taken)),
+            from: Some(from),
+            to: Some(to),
             dropped: None,
             moves: is_directory,
         },
@@ -146,12 +142,11 @@ pub(crate) fn hold_dropped(
     requires short { length at.name.now ≤ MOST_NAME_BYTES }
     ensures { HoldsToo node (place_in at.entry ∷ []) (listed dropped) false transaction reserve.old reserve.new }
 {
-    let name = folded_name(at.name);
     reserve.hold(
         transaction,
         &Held {
             node: Some(node),
-            from: Some(place(at.directory, &name)),
+            from: Some(at),
             to: None,
             dropped,
             moves: false,

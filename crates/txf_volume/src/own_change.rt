@@ -22,8 +22,8 @@ use crate::own::{Own, place_of};
 use ktm_base::{Id, NoMemory, Text};
 use ktm_types::{Change, Contents, NodeKind};
 use std::alloc::Global;
-use txf_calls::Place;
 use txf_laws::law_of_forms;
+use txf_opens::Place;
 use txf_overlay::Overlay;
 use txf_reserve::Reserve;
 use txf_tree::{Tree, bytes_in};
@@ -50,7 +50,7 @@ fn put(
     ensures ok { OnOk result ((tree : Nodes) → StandsOver tree overlay.old → IsChanged tree fixed.now transaction (Put node offset contents.now) overlay.old overlay.new reserve.old reserve.new) }
     ensures err { OnErr result (bare overlay.new ≡ bare overlay.old) }
     ensures same { OnErr result (reserve.new ≡ reserve.old) }
-    ensures enough { HasBytes overlay.old node (offset + length (bytes_in contents.now)) → IsOk result }
+    ensures enough { HasBytes overlay.old.written node (offset + length (bytes_in contents.now)) → IsOk result }
 {
     let first = starts(overlay, fixed, node);
     if let Err(NoMemory) = overlay.put(node, first, offset, bytes_in(contents)) {
@@ -74,7 +74,7 @@ fn cut(
     ensures ok { OnOk result ((tree : Nodes) (pages : List ℕ) → StandsOver tree overlay.old → IsChanged tree fixed.now transaction (Cut node size pages) overlay.old overlay.new reserve.old reserve.new) }
     ensures err { OnErr result (bare overlay.new ≡ bare overlay.old) }
     ensures same { OnErr result (reserve.new ≡ reserve.old) }
-    ensures enough { HasBytes overlay.old node size → IsOk result }
+    ensures enough { HasBytes overlay.old.written node size → IsOk result }
 {
     let first = starts(overlay, fixed, node);
     if let Err(NoMemory) = overlay.cut(node, first, size) {

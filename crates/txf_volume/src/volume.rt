@@ -1,14 +1,13 @@
 // The files in memory, as the calls ask for them.
 ghost use Rattle.txf_volume.specs.Held.{files_of};
 
-use crate::check::{folded_name, place};
 use crate::files::Files;
 use crate::limits::lacks_handles;
 use ktm_base::{Id, NoMemory, Refusal, TextList};
 use ktm_names::Pattern;
 use std::alloc::Global;
-use txf_calls::{Act, Plan, Room, Seen, Volume};
-use txf_reserve::Act as Held;
+use txf_calls::{Plan, Room, Seen, Volume};
+use txf_opens::Act;
 use txf_tree::matching_names;
 
 impl Volume for Files {
@@ -76,60 +75,7 @@ impl Volume for Files {
     }
 
     fn check(&self, who: Option<Id>, act: Act<'_>) -> Option<Refusal> {
-        match act {
-            Act::Open {
-                file,
-                access,
-                truncates,
-                share,
-            } => {
-                let act = Held::Opens {
-                    file,
-                    access,
-                    truncates,
-                    share,
-                };
-                self.check_folded(who, &act)
-            }
-            Act::Delete { file, at } => {
-                let name = folded_name(at.name);
-                let at = place(at.directory, &name);
-                self.check_folded(who, &Held::Deletes { file, at })
-            }
-            Act::MoveFile { file, from, to } => {
-                let left = folded_name(from.name);
-                let from = place(from.directory, &left);
-                let taken = folded_name(to.name);
-                let to = place(to.directory, &taken);
-                self.check_folded(who, &Held::MovesFile { file, from, to })
-            }
-            Act::Make { at } => {
-                let name = folded_name(at.name);
-                let at = place(at.directory, &name);
-                self.check_folded(who, &Held::Makes { at })
-            }
-            Act::DropDirectory { directory, at } => {
-                let name = folded_name(at.name);
-                let at = place(at.directory, &name);
-                self.check_folded(who, &Held::DropsDirectory { directory, at })
-            }
-            Act::MoveDirectory {
-                directory,
-                from,
-                to,
-            } => {
-                let left = folded_name(from.name);
-                let from = place(from.directory, &left);
-                let taken = folded_name(to.name);
-                let to = place(to.directory, &taken);
-                let act = Held::MovesDirectory {
-                    directory,
-                    from,
-                    to,
-                };
-                self.check_folded(who, &act)
-            }
-        }
+        self.check_act(who, &act)
     }
 
     #[tactic(auto, unfolding(ktm_world::specs::FileOutcome::lacks_quota))]

@@ -25,10 +25,10 @@ use Rattle.ktm_world.specs.Uses.{file_room, key_room}
 use Rattle.kv_rm.specs.Calls.{is_refused, key_outcome, unless_refused as refused_keys}
 use Rattle.kv_rm.specs.declared.call.KvCall.TheVariants.{Get, Set, Unset}
 use Rattle.txf_calls.specs.Calls.{file_effect, file_outcome, file_tests, takes_memory as decision_takes_memory, unless_refused}
-use Rattle.txf_calls.specs.Views.{open_of}
+use Rattle.txf_opens.specs.Acts.{open_of}
 use Rattle.txf_calls.specs.declared.call.FileCall.{FileCall}
 use Rattle.txf_calls.specs.declared.call.FileCall.TheVariants.{Flush, Size}
-use Rattle.txf_calls.specs.declared.call.OpenFile.{OpenFile as Kept}
+use Rattle.txf_opens.specs.declared.file.OpenFile.{OpenFile as Kept}
 use Rattle.ktm_memory.specs.Route.{source_tests}
 use Rattle.ktm_memory.specs.Opening.{files_outcome}
 use Rattle.ktm_memory.specs.Takes.{early_tests, effect_takes_memory, files_take_memory, has_log_room, has_work, is_quiet, plan_takes_memory, takes_memory}

@@ -1,7 +1,7 @@
 use Rattle.std.proofs.Common.{◌∙◌, sym, refl, arith}
 use Rattle.std.proofs.lemmas.Grind.{common_steps}
 use Rattle.ktm_world.specs.FileCalls.{create_at, free, new_open}
-use Rattle.txf_calls.specs.declared.act.Act.TheVariants.{Make}
+use Rattle.txf_opens.specs.declared.act.Act.TheVariants.{Make}
 use Rattle.txf_calls.proofs.Quotas.{no-number-left, over-quota}
 use Rattle.txf_calls.proofs.create.make_file.Goals as goal
 

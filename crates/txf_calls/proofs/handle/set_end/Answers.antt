@@ -1,6 +1,6 @@
 use Rattle.std.proofs.Common.{sym, ◌∙◌, subst}
 use Rattle.txf_calls.specs.Fits.{IsFit}
-use Rattle.txf_calls.specs.Views.{open_of}
+use Rattle.txf_opens.specs.Acts.{open_of}
 use Rattle.txf_calls.proofs.Fitting.{fit-set_end}
 use Rattle.txf_calls.proofs.handle.set_end.Goals as goal
 

@@ -1,16 +1,14 @@
-use Rattle.std.proofs.Common.{◌≤◌, ◌||◌, [], length, ap, ◌∙◌}
-use Rattle.std.proofs.lemmas.List.Elements.{All-head}
-use Rattle.ktm_base.specs.declared.limits.TheConstants.{MOST_NAME_BYTES}
-use Rattle.ktm_world.specs.Holds.{Place}
-use Rattle.txf_reserve.specs.Acts.{place_in}
+use Rattle.std.proofs.Common.{◌||◌, [], ap, ◌∙◌}
+use Rattle.txf_opens.specs.Acts.{place_in}
 use Rattle.txf_reserve.specs.HeldPairs.{has_pair, is_pair}
 use Rattle.txf_reserve.specs.ReserveKeys.{place_key, IsPlaceKey}
+use Rattle.txf_reserve.proofs.Folding.{short-first}
 use Rattle.txf_reserve.proofs.Holding.{is_pair-place, AreKeys-more}
 use Rattle.txf_reserve.proofs.Present.{pair}
 use Rattle.txf_reserve.proofs.reserve.hold_place.Goals as goal
 
 pub place_key-requires : goal.place_key-requires
-place_key-requires c = All-head (λ (p : Place). length p.name ≤ MOST_NAME_BYTES) (place_in c.in-Some.place) [] (rw c.in-Some.is at c.requires.short)
+place_key-requires c = short-first c.in-Some.place.directory c.in-Some.place.name.now [] (rw c.in-Some.is at c.requires.short)
 
 pub returns-in-Some-clause-held : goal.returns-in-Some-clause-held
 returns-in-Some-clause-held c = λ p id.

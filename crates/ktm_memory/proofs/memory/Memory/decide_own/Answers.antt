@@ -1,7 +1,7 @@
 use Rattle.std.proofs.Common.{◌≤◌, Some, ap, sym, subst, ◌∙◌}
 use Rattle.ktm_object.specs.Table.{handles_of}
 use Rattle.ktm_world.specs.FileOutcome.{files_after}
-use Rattle.txf_calls.specs.Views.{open_of}
+use Rattle.txf_opens.specs.Acts.{open_of}
 use Rattle.std.specs.Option.{option_map}
 use Rattle.ktm_memory.specs.Memory.{Held, MemoryState, held, now_of}
 use Rattle.ktm_memory.specs.Route.{IsFreeLabel}

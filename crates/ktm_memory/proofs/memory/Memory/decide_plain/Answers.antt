@@ -6,7 +6,7 @@ use Rattle.ktm_world.specs.Decide.{events_of}
 use Rattle.ktm_world.specs.FileOutcome.{FileOutcome}
 use Rattle.ktm_world.specs.Outcome.{is_full}
 use Rattle.ktm_world.specs.Files.{FilesNow}
-use Rattle.txf_calls.specs.Views.{open_of}
+use Rattle.txf_opens.specs.Acts.{open_of}
 use Rattle.txf_volume.specs.Plain.{IsReady}
 use Rattle.ktm_memory.specs.Memory.{MemoryState, held, present_of}
 use Rattle.ktm_memory.proofs.FilesDecided.{may_settle, opens_some, plain_decided}

@@ -2,7 +2,7 @@ use Rattle.std.proofs.Common.{false, true, Some, ap, option_map, sym, ◌∙◌}
 use Rattle.ktm_object.specs.Table.{handles_of}
 use Rattle.ktm_world.specs.Handles.{object_at}
 use Rattle.ktm_world.specs.Labels.{file_number, open_file_at}
-use Rattle.txf_calls.specs.Views.{open_of}
+use Rattle.txf_opens.specs.Acts.{open_of}
 use Rattle.txf_volume.specs.Held.{files_of}
 use Rattle.ktm_memory.specs.Memory.{present_of}
 use Rattle.ktm_memory.proofs.FileRoutes.{found_named, suspended_or}

@@ -1,6 +1,6 @@
 use Rattle.std.proofs.Common.{ap, ◌∙◌}
 use Rattle.std.specs.Option.{option_map}
-use Rattle.txf_opens.specs.OpensState.{open_of}
+use Rattle.txf_opens.specs.Acts.{open_of}
 use Rattle.txf_opens.proofs.Found.{find_by_number, none_by_number}
 use Rattle.txf_opens.proofs.opens.Opens.get.Goals as goal
 

@@ -4,7 +4,8 @@ use Rattle.ktm_links.specs.Mapped.{key_under}
 use Rattle.ktm_links.proofs.offered.Indexes.{AreDistinct-push}
 use Rattle.txf_opens.specs.Indexed.{is_any, IsFree}
 use Rattle.txf_opens.specs.Names.{group_name, number_name, use_name}
-use Rattle.txf_opens.specs.OpensState.{open_of, opened}
+use Rattle.txf_opens.specs.Acts.{open_of}
+use Rattle.txf_opens.specs.OpensState.{opened}
 use Rattle.txf_opens.proofs.Adding.{below_add, free_name, free_uses, AreUses-add, IsIndex-add, IsMore}
 use Rattle.txf_opens.proofs.Bytes.{group_name-tells, number_name-tells}
 use Rattle.txf_opens.proofs.opens.Opens.open.Goals as goal

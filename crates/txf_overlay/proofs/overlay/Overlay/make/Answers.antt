@@ -1,15 +1,12 @@
 use Rattle.std.proofs.Common.{◌≡◌, ◌+◌, ◌∙◌, ◌++◌, ◌∷◌, [], length, refl, sym, ap, Some, arith}
 use Rattle.ktm_types.specs.declared.change.Change.TheVariants.{Make}
 use Rattle.ktm_world.specs.Holds.{place}
-use Rattle.txf_overlay.specs.Files.{files_in}
 use Rattle.txf_overlay.specs.Names.{place_bytes}
 use Rattle.txf_overlay.specs.Nodes.{times_made}
 use Rattle.txf_overlay.specs.OverlayState.{OverlayState, seen}
 use Rattle.txf_overlay.specs.Views.{if_at, or_before, seat, seat_at}
-use Rattle.txf_overlay.specs.Written.{total_units}
 use Rattle.std.proofs.lemmas.List.{length_push}
 use Rattle.txf_overlay.specs.Maps.{under}
-use Rattle.txf_overlay.proofs.FilesMap.{total-made}
 use Rattle.txf_overlay.proofs.Keeping.{count-make, few-made, kept-next, seat_at-under, set-seat, short-from, stands-after, times-absent}
 use Rattle.txf_overlay.proofs.NodesSeen.{next-make}
 use Rattle.txf_overlay.proofs.Trees.{Applies-from, is_there-none}
@@ -34,15 +31,12 @@ invariant_of-self c =
     ∙ times-absent c.args.self.now.names c.requires.applies.0 c.args.node c.requires.applies.1.applies
     (is_there-none (seen c.requires.applies.0 c.args.self.now) c.args.node parts.0) in
     let last : c.count-last.result ≡ length c.self.inside.names.items = c.count-last.ensures ∙ ap length c.deref.ensures.value in
-    kept-next c.self.inside.names.items c.push.new.names.items c.self.inside.nodes.entries c.set-2.new.map.entries c.self.inside.files.entries
-    c.add_made.new.files.entries c.self.inside.made c.one_more-self-inside.result c.self.inside.units c.self.inside.units
-    (Make c.args.node c.args.parent c.args.kind c.args.name) c.number_bytes.result _ c.self.invariant c.push.ensures.names refl c.number_bytes.ensures
+    kept-next c.self.inside.names.items c.push.new.names.items c.self.inside.nodes.entries c.set-2.new.map.entries c.self.inside.made
+    c.one_more-self-inside.result (Make c.args.node c.args.parent c.args.kind c.args.name) c.number_bytes.result _ c.self.invariant c.push.ensures.names refl c.number_bytes.ensures
     c.set-2.ensures.under c.set-2.ensures.others
-    (next-make c.self.inside.names.items c.args.node c.args.parent c.args.kind c.args.name _ last refl refl new) c.add_made.ensures.map
+    (next-make c.self.inside.names.items c.args.node c.args.parent c.args.kind c.args.name _ last refl refl new)
     (count-make c.self.inside.names.items c.self.inside.made c.one_more-self-inside.result c.args.node c.args.parent c.args.kind c.args.name
     c.self.invariant.count c.one_more-self-inside.ensures)
-    (c.self.invariant.sum
-    ∙ sym (ap total_units c.add_made.ensures.files ∙ total-made (files_in c.self.inside.files.entries) c.args.node c.args.kind c.self.invariant.files.rise))
 
 pub returns-clause-stands : goal.returns-clause-stands
 returns-clause-stands c = λ tree stands is formed.

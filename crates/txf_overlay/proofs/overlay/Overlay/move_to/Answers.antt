@@ -29,13 +29,12 @@ invariant_of-self c =
     let was : WasSeen c.self.inside.names.items c.args.node c.seen.result =
     was-seen c.self.inside.names.items c.self.inside.nodes.entries c.args.node c.seen.result c.self.invariant.nodes c.ranges.node.fits c.seen.ensures in
     let last : c.moved-after.result.last ≡ length c.self.inside.names.items = c.moved-after.ensures.last ∙ c.count.ensures ∙ ap length c.deref.ensures.value in
-    kept-next c.self.inside.names.items c.push.new.names.items c.self.inside.nodes.entries c.set-3.new.map.entries c.self.inside.files.entries
-    c.self.inside.files.entries c.self.inside.made c.self.inside.made c.self.inside.units c.self.inside.units
-    (Move c.args.node c.args.parent c.args.name) c.number_bytes.result c.moved-after.result c.self.invariant c.push.ensures.names refl c.number_bytes.ensures
+    kept-next c.self.inside.names.items c.push.new.names.items c.self.inside.nodes.entries c.set-3.new.map.entries c.self.inside.made
+    c.self.inside.made (Move c.args.node c.args.parent c.args.name) c.number_bytes.result c.moved-after.result c.self.invariant c.push.ensures.names refl c.number_bytes.ensures
     c.set-3.ensures.under c.set-3.ensures.others
     (next-move c.self.inside.names.items c.args.node c.args.parent c.args.name c.seen.result c.moved-after.result was last c.moved-after.ensures.made
-    c.moved-after.ensures.counted) c.self.invariant.files
-    (count-move c.self.inside.names.items c.self.inside.made c.args.node c.args.parent c.args.name c.self.invariant.count) c.self.invariant.sum
+    c.moved-after.ensures.counted)
+    (count-move c.self.inside.names.items c.self.inside.made c.args.node c.args.parent c.args.name c.self.invariant.count)
 
 pub returns-clause-stands : goal.returns-clause-stands
 returns-clause-stands c = λ formed.

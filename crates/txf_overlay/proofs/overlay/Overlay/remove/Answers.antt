@@ -1,12 +1,10 @@
-use Rattle.std.proofs.Common.{◌≡◌, ◌-◌, ◌∙◌, ◌++◌, ◌∷◌, [], length, refl, sym, ap, None, arith}
+use Rattle.std.proofs.Common.{◌≡◌, ◌∙◌, ◌++◌, ◌∷◌, [], length, refl, sym, ap, None}
 use Rattle.ktm_types.specs.declared.change.Change.TheVariants.{Drop}
 use Rattle.ktm_world.specs.Tree.{node_at}
 use Rattle.txf_tree.specs.TreeState.{tree_of}
-use Rattle.txf_overlay.specs.Files.{files_in}
 use Rattle.txf_overlay.specs.Nodes.{WasSeen}
 use Rattle.txf_overlay.specs.OverlayState.{OverlayState, seen}
 use Rattle.txf_overlay.specs.Views.{left_by, last_seat, or_before, seat_at}
-use Rattle.txf_overlay.proofs.FilesMap.{units-without}
 use Rattle.std.proofs.Common.{Option}
 use Rattle.ktm_types.specs.declared.recorded.Node.{Node}
 use Rattle.txf_overlay.specs.Maps.{under}
@@ -20,10 +18,6 @@ place_of-from-requires-clause-there c =
     let parts = Applies-from (seen (tree_of c.args.tree.now) c.args.self.now) (Drop c.args.node) c.requires.applies in
     is_there-some (seen (tree_of c.args.tree.now) c.args.self.now) c.args.node parts.0 parts.1
 
-pub overflow_sub-self : goal.overflow_sub-self
-overflow_sub-self c =
-    omega (arith, c.drop_file.ensures.units, c.self.invariant.sum, units-without (files_in c.self.inside.files.entries) c.args.node c.self.invariant.files.rise)
-
 pub less-self-inside-requires : goal.less-self-inside-requires
 less-self-inside-requires c =
     counted-few c.self.inside.names.items c.self.inside.made c.args.node c.seen-before.result
@@ -35,16 +29,13 @@ invariant_of-self c =
     let was : WasSeen c.self.inside.names.items c.args.node c.seen-before.result =
     was-seen c.self.inside.names.items c.self.inside.nodes.entries c.args.node c.seen-before.result c.self.invariant.nodes c.ranges.node.fits c.seen-before.ensures in
     let last : c.dropped-after.result.last ≡ length c.self.inside.names.items = c.dropped-after.ensures.last ∙ c.count.ensures ∙ ap length c.deref.ensures.value in
-    kept-next c.self.inside.names.items c.push.new.names.items c.self.inside.nodes.entries c.set-2.new.map.entries c.self.inside.files.entries
-    c.drop_file.new.files.entries c.self.inside.made c.less-self-inside.result c.self.inside.units (c.self.inside.units - c.drop_file.result)
-    (Drop c.args.node) c.number_bytes.result c.dropped-after.result c.self.invariant c.push.ensures.names refl c.number_bytes.ensures
+    kept-next c.self.inside.names.items c.push.new.names.items c.self.inside.nodes.entries c.set-2.new.map.entries c.self.inside.made
+    c.less-self-inside.result (Drop c.args.node) c.number_bytes.result c.dropped-after.result c.self.invariant c.push.ensures.names refl c.number_bytes.ensures
     c.set-2.ensures.under c.set-2.ensures.others
     (next-drop c.self.inside.names.items c.args.node c.seen-before.result c.dropped-after.result was last c.dropped-after.ensures.made
-    c.dropped-after.ensures.counted) c.drop_file.ensures.map
+    c.dropped-after.ensures.counted)
     (count-drop c.self.inside.names.items c.self.inside.made c.less-self-inside.result c.args.node c.seen-before.result was c.self.invariant.count
     c.less-self-inside.ensures)
-    (rw c.drop_file.ensures.files
-    (omega (arith, c.drop_file.ensures.units, c.self.invariant.sum, units-without (files_in c.self.inside.files.entries) c.args.node c.self.invariant.files.rise)))
 
 pub returns-clause-stands : goal.returns-clause-stands
 returns-clause-stands c = λ formed.

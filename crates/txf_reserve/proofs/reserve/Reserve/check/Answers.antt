@@ -1,5 +1,5 @@
 use Rattle.std.proofs.Common.{sym, ap, ◌∙◌, false}
-use Rattle.txf_reserve.specs.Acts.{act_of, violates}
+use Rattle.txf_opens.specs.Acts.{act_of, violates}
 use Rattle.txf_reserve.specs.Checks.{refusal_of}
 use Rattle.txf_reserve.proofs.Meets.{conflict_of_files}
 use Rattle.txf_reserve.proofs.reserve.Reserve.check.Goals as goal

@@ -1,5 +1,5 @@
 use Rattle.std.proofs.Common.{◌∙◌}
-use Rattle.txf_reserve.specs.Acts.{act_of}
+use Rattle.txf_opens.specs.Acts.{act_of}
 use Rattle.txf_reserve.proofs.Meets.{is_conflict-parts}
 use Rattle.txf_reserve.proofs.reserve.Reserve.is_conflict.Goals as goal
 

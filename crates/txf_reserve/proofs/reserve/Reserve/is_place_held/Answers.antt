@@ -1,6 +1,6 @@
 use Rattle.std.proofs.Common.{ap, ◌∙◌}
 use Rattle.std.specs.List.{list_any}
-use Rattle.txf_reserve.specs.Acts.{place_in}
+use Rattle.txf_opens.specs.Acts.{place_in}
 use Rattle.txf_reserve.specs.HeldPairs.{is_of_other}
 use Rattle.txf_reserve.proofs.Holding.{place_others}
 use Rattle.txf_reserve.proofs.reserve.Reserve.is_place_held.Goals as goal

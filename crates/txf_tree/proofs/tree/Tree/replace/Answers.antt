@@ -1,58 +1,42 @@
-use Rattle.std.proofs.Common.{◌+◌, ◌<◌, ◌^◌, ◌-◌, ◌∙◌, ap, arith}
-use Rattle.ktm_types.specs.declared.recorded.Node.{Node}
+use Rattle.std.proofs.Common.{◌+◌, ◌<◌, ◌^◌, ◌-◌, ◌∙◌, ap, arith, refl}
 use Rattle.ktm_world.specs.Committed.{version_of}
 use Rattle.txf_tree.specs.TreeState.{versions_in}
-use Rattle.txf_tree.proofs.InPlace.{IsSwapped-from, IsTree-swapped, bytes_now, file_content, file_there, file_version, other-rooms, still_there, tree-final, versions-final}
+use Rattle.txf_tree.proofs.InPlace.{IsTree-swapped, bytes_now, file_content, file_version, lent, lent_none, no_file, other-rooms, tree-final, versions-final}
 use Rattle.txf_tree.proofs.tree.Tree.replace.Goals as goal
 
-pub replace-stored-requires : goal.replace-stored-requires
-replace-stored-requires c = rw c.hollow.ensures (file_there c.self.inside.nodes.nodes c.args.file (rw (← c.self.view_is) at c.requires.file))
+pub unreachable-requires : goal.unreachable-requires
+unreachable-requires c = no_file _ c.args.file (rw (← c.self.view_is) at c.requires.file) (lent_none _ c.args.file c.in-None.ensures.value)
 
-pub replace-was-requires-clause-file : goal.replace-was-requires-clause-file
-replace-was-requires-clause-file c =
-    file_content _ c.args.file _ (rw (← c.self.view_is) at c.requires.file) (rw c.hollow.ensures at c.replace-stored.ensures.was)
+pub replace-requires-clause-file : goal.replace-requires-clause-file
+replace-requires-clause-file c =
+    file_content _ c.args.file _ (rw (← c.self.view_is) at c.requires.file) (lent _ c.args.file _ c.in-Some.ensures.value).found
 
-pub replace-was-requires-clause-few : goal.replace-was-requires-clause-few
-replace-was-requires-clause-few c =
-    let is = file_version _ c.args.file _ c.self.invariant.rising (rw c.hollow.ensures at c.replace-stored.ensures.was) in
+pub replace-requires-clause-few : goal.replace-requires-clause-few
+replace-requires-clause-few c =
+    let is = file_version _ c.args.file _ c.self.invariant.rising (lent _ c.args.file _ c.in-Some.ensures.value).found in
     let few : version_of (versions_in c.self.inside.nodes.nodes) c.args.file < 2 ^ 64 - 2 = rw (← c.self.view_is) at c.requires.few in
     omega (arith, is, few, c.changes_to-changes.ensures.few)
 
-pub replace-requires : goal.replace-requires
-replace-requires c =
-    still_there _ _ c.args.file _ _ c.replace-was.new.self c.hollow.ensures c.replace-stored.ensures.was c.replace-stored.ensures.nodes
-    (ap (λ (n : Node). n.number) c.replace-was.ensures.node)
-
 pub invariant_of-self : goal.invariant_of-self
-invariant_of-self c =
-    let swap =
-    IsSwapped-from _ _ _ c.args.file _ _ _ c.hollow.ensures c.replace-stored.ensures.was c.replace-stored.ensures.nodes
-    (ap (λ (n : Node). n.number) c.replace-was.ensures.node) c.replace.ensures.nodes in
-    IsTree-swapped _ _ _ _ _ _ c.self.invariant swap (ap (λ (n : Node). n.parent) c.replace-was.ensures.node) (ap (λ (n : Node). n.name) c.replace-was.ensures.node)
+invariant_of-self c = IsTree-swapped _ _ _ _ _ _ c.self.invariant ((lent _ c.args.file _ c.in-Some.ensures.value).swap c.replace.new.self) refl refl
 
 pub returns-clause-bytes : goal.returns-clause-bytes
-returns-clause-bytes c =
-    rw (← c.self.view_is) (c.replace-was.ensures.was ∙ bytes_now _ c.args.file _ (rw c.hollow.ensures at c.replace-stored.ensures.was))
+returns-clause-bytes c = rw (← c.self.view_is) (c.replace.ensures.was ∙ bytes_now _ c.args.file _ (lent _ c.args.file _ c.in-Some.ensures.value).found)
 
 pub returns-clause-tree : goal.returns-clause-tree
 returns-clause-tree c =
-    let swap =
-    IsSwapped-from _ _ _ c.args.file _ _ _ c.hollow.ensures c.replace-stored.ensures.was c.replace-stored.ensures.nodes
-    (ap (λ (n : Node). n.number) c.replace-was.ensures.node) c.replace.ensures.nodes in
-    rw (← c.self.view_is) (tree-final _ _ c.args.file _ _ c.args.bytes c.self.invariant.rising swap c.replace-was.ensures.node)
+    let it = lent _ c.args.file _ c.in-Some.ensures.value in
+    rw (← c.self.view_is)
+    (tree-final _ _ c.args.file _ _ c.args.bytes c.self.invariant.rising (it.swap c.replace.new.self) (ap (λ bytes. record it.node.node { content = bytes }) c.replace.ensures.bytes))
 
 pub returns-clause-versions : goal.returns-clause-versions
 returns-clause-versions c =
-    let swap =
-    IsSwapped-from _ _ _ c.args.file _ _ _ c.hollow.ensures c.replace-stored.ensures.was c.replace-stored.ensures.nodes
-    (ap (λ (n : Node). n.number) c.replace-was.ensures.node) c.replace.ensures.nodes in
+    let it = lent _ c.args.file _ c.in-Some.ensures.value in
     rw (← c.self.view_is)
-    (versions-final _ _ c.args.file _ _ c.args.bytes c.self.invariant.rising swap
-    (c.replace-was.ensures.version ∙ ap (λ n. c.replace-stored.result.version + n) (c.changes_to-changes.ensures.changes c.args.file)))
+    (versions-final _ _ c.args.file _ _ c.args.bytes c.self.invariant.rising (it.swap c.replace.new.self)
+    (c.replace.ensures.version ∙ ap (λ n. c.in-Some.content.now.version + n) (c.changes_to-changes.ensures.changes c.args.file)))
 
 pub returns-clause-rooms : goal.returns-clause-rooms
 returns-clause-rooms c =
-    let swap =
-    IsSwapped-from _ _ _ c.args.file _ _ _ c.hollow.ensures c.replace-stored.ensures.was c.replace-stored.ensures.nodes
-    (ap (λ (n : Node). n.number) c.replace-was.ensures.node) c.replace.ensures.nodes in
-    rw (← c.self.view_is) (λ file other. other-rooms _ _ c.args.file _ _ swap file other)
+    let it = lent _ c.args.file _ c.in-Some.ensures.value in
+    rw (← c.self.view_is) (λ file other. other-rooms _ _ c.args.file _ _ (it.swap c.replace.new.self) file other)

@@ -5,7 +5,7 @@ use Rattle.std.proofs.lemmas.List.Elements.{All-head}
 use Rattle.ktm_base.specs.declared.limits.TheConstants.{MOST_NAME_BYTES}
 use Rattle.ktm_base.specs.Names.{folded_byte}
 use Rattle.ktm_world.specs.Holds.{Place, place}
-use Rattle.txf_reserve.specs.Acts.{HaveShortNames}
+use Rattle.txf_opens.specs.Acts.{HaveShortNames}
 
 -- the first of short names is short as it is written
 pub short-first : (directory : ℕ) (name : List ℕ) (rest : List Place) → HaveShortNames (place directory name ∷ rest) → length name ≤ MOST_NAME_BYTES

@@ -1,9 +1,0 @@
-use Rattle.std.proofs.Common.{◌∙◌, ap, length}
-use Rattle.ktm_world.specs.Tree.{bytes_or_none, content_of}
-use Rattle.txf_tree.proofs.tree.Tree.size.Goals as goal
-
-pub returns-in-Some : goal.returns-in-Some
-returns-in-Some c = rw (← c.self.view_is) (c.size.ensures ∙ ap (λ o. length (bytes_or_none (content_of o))) c.in-Some.ensures.node)
-
-pub returns-in-None : goal.returns-in-None
-returns-in-None c = rw (← c.self.view_is) (ap (λ o. length (bytes_or_none (content_of o))) c.in-None.ensures.node)
