@@ -1,8 +1,7 @@
 // Reading an area from its begin, in pieces.
-ghost use Rattle.std.specs.Prelude.{◌≡◌, ◌+◌, ◌^◌, ◌<◌, ◌≤◌, max, length, drop, None, OnOk, IfOk, is_err, vec_capacity, false, IsErrOf, IfSome};
-ghost use Rattle.ktm_log.specs.Fault.{frame_went_down};
-ghost use Rattle.ktm_log.specs.Log.{area_bytes, first_payload, IsTorn};
-ghost use Rattle.ktm_log.specs.Load.{Holds, Loads, WentOn, Finds, frame_reach, pieces};
+ghost use Rattle.std.specs.Prelude.{◌≡◌, ◌+◌, ◌^◌, ◌<◌, ◌≤◌, max, length, OnOk, is_err, vec_capacity};
+ghost use Rattle.ktm_log.specs.Load.{FrameLeaves, Holds, Loads, WentOn, pieces};
+ghost use Rattle.ktm_log.specs.OnDisk.{on};
 
 use crate::Area;
 use crate::fault::FrameFault;
@@ -68,16 +67,7 @@ pub(crate) fn next_frame<D: Disk>(
     requires room { area.len ≤ vec_capacity read.old }
     requires inside { at < area.len }
     requires holds { Holds area (D.told disk.old) (D.status disk.old).is_down read.old.items }
-    ensures same { D.told disk.new ≡ D.told disk.old }
-    ensures room { vec_capacity read.old ≤ vec_capacity read.new }
-    ensures holds { OnOk result (Holds area (D.told disk.new) (D.status disk.new).is_down read.new.items) }
-    ensures front { frame_went_down result ≡ false → WentOn read.old.items read.new.items }
-    ensures loads { Loads area (length read.old.items) (length read.new.items) (D.status disk.old) (D.status disk.new) (frame_went_down result) }
-    ensures few { frame_went_down result ≡ false → pieces (length read.new.items) ≤ max (pieces (length read.old.items)) (pieces (frame_reach at result)) }
-    ensures up { frame_went_down result ≡ false → (D.status disk.new).is_down ≡ false }
-    ensures found { IfOk result (λ found. Finds area read.new.items at found) }
-    ensures torn { IsErrOf result FrameFault.Torn → IfSome (D.told disk.new) (λ s. IsTorn (drop at (area_bytes area s.seen))) }
-    ensures no_frame { IsErrOf result FrameFault.Torn → first_payload (drop at read.new.items) ≡ None }
+    ensures { FrameLeaves area at (on read.old (D.told disk.old) (D.status disk.old)) (on read.new (D.told disk.new) (D.status disk.new)) result }
 {
     if let Err(Down) = load(disk, area, read, at + 1) {
         return Err(FrameFault::Down);
