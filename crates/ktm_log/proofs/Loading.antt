@@ -1,12 +1,12 @@
 -- An area that is read piece by piece.
 use Rattle.std.specs.Prelude.{IfSome, IsSomeAnd}
-use Rattle.std.proofs.Common.{◌≡◌, ℕ, ◌+◌, ◌-◌, ◌*◌, ◌/◌, ◌<◌, ◌≤◌, max, min, Bool, false, true, Option, Vec, vec_capacity, None, Some, List, [], ◌∷◌, ◌++◌, length, get_or, take, drop, sym, ◌∙◌, ap, subst, arith, length-take, length-drop, length-append}
+use Rattle.std.proofs.Common.{◌≡◌, ℕ, ◌+◌, ◌-◌, ◌*◌, ◌/◌, ◌<◌, ◌≤◌, max, min, Bool, false, true, Option, Vec, None, Some, List, [], ◌∷◌, ◌++◌, length, get_or, take, drop, sym, ◌∙◌, ap, subst, arith, length-take, length-drop, length-append}
 use Rattle.std.proofs.lemmas.List.{take_at, take_all, drop_all, take-append-drop, take-take, drop-take, drop-drop, append-nil}
 use borrow.Rule.Slice.PartMut.{put_mid}
 use Rattle.ktm_base.specs.Disk.{DiskState, DiskStatus, DeviceCalls, IsSafe, OnlyReads}
 use Rattle.ktm_log.specs.declared.area.Area.{Area}
 use Rattle.ktm_log.specs.Log.{area_bytes, size_at, IsClosed, IsTorn, IsFrame, IsLog, IsBadLog, Rests, end_of, first_payload, payloads_in}
-use Rattle.ktm_log.specs.Load.{EndFrames, Holds, IsRead, Loads, ReadOn, ReadRefused, WentOn, pieces}
+use Rattle.ktm_log.specs.Load.{EndFrames, IsRead, Loads, ReadOn, ReadRefused, WentOn, pieces}
 use Rattle.ktm_log.specs.OnDisk.{OnDisk, on}
 use Rattle.ktm_log.proofs.Reading.{calls_most}
 use Rattle.ktm_log.proofs.Parts.{area_part, length-area}
@@ -56,11 +56,6 @@ loads_then area a b d s t u refused first second = record {
   calls = subst (λ n. DeviceCalls n s u refused) (omega (arith, first.longer, second.longer)) (calls_law s t u (pieces b - pieces a) (pieces d - pieces b) refused first.calls second.calls);
   pending = second.pending ∙ first.pending;
 }
-
--- it was read on
-pub was_read_on : {Z : Type 0} (area : Area) (old new : Vec ℕ Z) (o n : Option DiskState) (s t : DiskStatus) → n ≡ o → vec_capacity old ≤ vec_capacity new → WentOn old.items new.items → Holds area n t.is_down new.items
-    → Loads area (length old.items) (length new.items) s t false → ReadOn area (on old o s) (on new n t)
-was_read_on area old new o n s t same room front holds loads = record { same = same; room = room; front = front; holds = holds; loads = loads }
 
 -- it was read on, and then once more
 module _ {Z : Type 0} (area : Area) (a b d : OnDisk (Vec ℕ Z)) (first : ReadOn area a b) where

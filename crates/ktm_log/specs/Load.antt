@@ -1,5 +1,6 @@
 -- The part of an area that was read so far, and what it took to read it.
 use Rattle.std.specs.Prelude.{◌≡◌, ℕ, ◌+◌, ◌-◌, ◌*◌, ◌/◌, ◌<◌, ◌≤◌, max, Bool, false, true, Option, None, Some, Result, Ok, Err, List, length, take, drop, Vec, vec_capacity, IfSome}
+use Rattle.ktm_base.specs.declared.fault.Down.{Down as NoPower}
 use Rattle.ktm_base.specs.Disk.{DiskState, DiskStatus, DeviceCalls}
 use Rattle.ktm_log.specs.declared.fault.FrameFault.{FrameFault}
 use Rattle.ktm_log.specs.declared.fault.FrameFault.TheVariants.{Down, Torn}
@@ -63,6 +64,11 @@ pub record ReadRefused {Z : Type 0} (area : Area) (old new : OnDisk (Vec ℕ Z))
   pub same : new.told ≡ old.told
   pub room : vec_capacity old.it ≤ vec_capacity new.it
   pub loads : Loads area (length old.it.items) (length new.it.items) old.status new.status true
+
+-- what reading on leaves
+abbrev pub ReadLeaves : {Z : Type 0} → Area → OnDisk (Vec ℕ Z) → OnDisk (Vec ℕ Z) → Result (Unit {0}) NoPower → Type 0
+ReadLeaves area old new (Ok done) = ReadOn area old new
+ReadLeaves area old new (Err down) = ReadRefused area old new
 
 -- it was read on, no further than this from the area's begin, and the disk is up
 pub record ReadUpTo {Z : Type 0} (area : Area) (upto : ℕ) (old new : OnDisk (Vec ℕ Z)) : Type 0 where

@@ -1,6 +1,6 @@
 // Reading an area from its begin, in pieces.
-ghost use Rattle.std.specs.Prelude.{◌≡◌, ◌+◌, ◌^◌, ◌<◌, ◌≤◌, max, length, OnOk, is_err, vec_capacity};
-ghost use Rattle.ktm_log.specs.Load.{FrameLeaves, Holds, Loads, WentOn, pieces};
+ghost use Rattle.std.specs.Prelude.{◌+◌, ◌^◌, ◌<◌, ◌≤◌, max, length, OnOk, vec_capacity};
+ghost use Rattle.ktm_log.specs.Load.{FrameLeaves, Holds, ReadLeaves, pieces};
 ghost use Rattle.ktm_log.specs.OnDisk.{on};
 
 use crate::Area;
@@ -17,13 +17,9 @@ fn load_piece<D: Disk>(disk: &mut D, area: Area, read: &mut Vec<u8>) -> Result<(
     requires room { area.len ≤ vec_capacity read.old }
     requires more { length read.old.items < area.len }
     requires holds { Holds area (D.told disk.old) (D.status disk.old).is_down read.old.items }
-    ensures same { D.told disk.new ≡ D.told disk.old }
-    ensures room { vec_capacity read.old ≤ vec_capacity read.new }
+    ensures leaves { ReadLeaves area (on read.old (D.told disk.old) (D.status disk.old)) (on read.new (D.told disk.new) (D.status disk.new)) result }
     ensures more { length read.old.items < length read.new.items }
     ensures few { pieces (length read.new.items) ≤ pieces (length read.old.items) + 1 }
-    ensures front { OnOk result (WentOn read.old.items read.new.items) }
-    ensures holds { OnOk result (Holds area (D.told disk.new) (D.status disk.new).is_down read.new.items) }
-    ensures loads { Loads area (length read.old.items) (length read.new.items) (D.status disk.old) (D.status disk.new) (is_err result) }
 {
     let from = read.len();
     let piece = PIECE.min(area.len - from as u64);
@@ -40,13 +36,9 @@ fn load<D: Disk>(disk: &mut D, area: Area, read: &mut Vec<u8>, upto: u64) -> Res
     requires room { area.len ≤ vec_capacity read.old }
     requires upto { upto ≤ area.len }
     requires holds { Holds area (D.told disk.old) (D.status disk.old).is_down read.old.items }
-    ensures same { D.told disk.new ≡ D.told disk.old }
-    ensures room { vec_capacity read.old ≤ vec_capacity read.new }
+    ensures leaves { ReadLeaves area (on read.old (D.told disk.old) (D.status disk.old)) (on read.new (D.told disk.new) (D.status disk.new)) result }
     ensures upto { OnOk result (upto ≤ length read.new.items) }
     ensures few { pieces (length read.new.items) ≤ max (pieces (length read.old.items)) (pieces upto) }
-    ensures front { OnOk result (WentOn read.old.items read.new.items) }
-    ensures holds { OnOk result (Holds area (D.told disk.new) (D.status disk.new).is_down read.new.items) }
-    ensures loads { Loads area (length read.old.items) (length read.new.items) (D.status disk.old) (D.status disk.new) (is_err result) }
 {
     while (read.len() as u64) < upto {
         if let Err(Down) = load_piece(disk, area, read) {

@@ -13,7 +13,7 @@ ghost use Rattle.ktm_journal.specs.Image.{IsFormatted, IsHeaded};
 ghost use Rattle.ktm_journal.specs.Bad.{load_went_down};
 ghost use Rattle.ktm_journal.specs.Open.{log_reads};
 ghost use Rattle.ktm_restart.specs.Bad.{IsBadPayload};
-ghost use Rattle.ktm_restart.specs.Load.{ComesTo, IsFirstBad};
+ghost use Rattle.ktm_restart.specs.Payloads.{ComesTo, IsFirstBad};
 ghost use Rattle.ktm_restart.specs.Loads.{LoadLeaves, ReplayLeaves};
 
 use crate::durable::Durable;

@@ -1,6 +1,6 @@
 use Rattle.std.proofs.Common.{◌≡◌, ◌+◌, Ok, Some, drop, ap, sym, subst, ◌∙◌, arith, rules}
 use Rattle.std.proofs.lemmas.List.{take_rest}
-use Rattle.ktm_restart.specs.Load.{IsFirstBad}
+use Rattle.ktm_restart.specs.Payloads.{IsFirstBad}
 use Rattle.ktm_log.specs.Log.{first_payload, payloads_in}
 use Rattle.ktm_restart.proofs.Folds.{folded_none, folded_more, folded_all, first_bad}
 use Rattle.ktm_restart.proofs.GoodLogs.{bytes_fit, comes_to_good}
