@@ -14,3 +14,4 @@ pub mod Writings
 pub mod Groups
 pub mod KeptLemmas
 pub mod LeastSizes
+pub mod GroupSizes

@@ -1,9 +1,9 @@
 // Laws of events and groups and their bytes, each but the last the contract of a function that does nothing.
-ghost use Rattle.std.specs.Prelude.{◌≡◌, ◌⊎◌, ℕ, List, Ok, Err};
+ghost use Rattle.std.specs.Prelude.{◌≡◌, ◌⊎◌, ℕ, List, length, Ok, Err};
 ghost use Rattle.ktm_base.specs.Bytes.{AreBytes};
 ghost use Rattle.ktm_codec.specs.Spans.{OneSpelling, Unambiguous};
 ghost use Rattle.ktm_types.specs.EventGrammar.{IsEventOf, IsGroupOf};
-ghost use Rattle.ktm_types.specs.Sizes.{event_size};
+ghost use Rattle.ktm_types.specs.Sizes.{event_size, group_size};
 ghost use Rattle.ktm_types.specs.declared.event.Event.{Event};
 ghost use Rattle.ktm_event.specs.declared.fault.EventFault.{EventFault};
 ghost use Rattle.ktm_event.specs.Kept.{EventsState, Holds};
@@ -22,10 +22,12 @@ pub fn law_of_events()
     ensures written { (event : Event) (bytes : List ℕ) → AreBytes bytes → IsEventOf event bytes → IsSpellableEvent event }
 {}
 
-/// Bytes spell one group at most, and a group has one spelling at most. What has one can be written.
+/// Bytes spell one group at most, and a group has one spelling at most, which takes as many bytes as are counted for it. What
+/// has one can be written.
 pub fn law_of_groups()
     ensures group { (a b : List Event) (bytes : List ℕ) → IsGroupOf a bytes → IsGroupOf b bytes → a ≡ b }
     ensures spelling { OneSpelling IsGroupOf }
+    ensures size { (events : List Event) (bytes : List ℕ) → IsGroupOf events bytes → length bytes ≡ group_size events }
     ensures written { (events : List Event) (bytes : List ℕ) → AreBytes bytes → IsGroupOf events bytes → AreSpellableEvents events }
 {}
 

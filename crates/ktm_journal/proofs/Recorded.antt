@@ -12,8 +12,7 @@ use Rattle.ktm_log.specs.OnDisk.{OnDisk, on}
 use Rattle.ktm_log.specs.Settle.{IsBodyOf}
 use Rattle.ktm_types.specs.EventGrammar.{IsGroupOf}
 use Rattle.ktm_types.specs.Sizes.{frame_size}
-use Rattle.ktm_world.specs.Logs.{Group}
-use Rattle.ktm_world.specs.Outcome.{is_full}
+use Rattle.ktm_types.specs.Groups.{Group, is_full}
 use Rattle.ktm_journal.specs.Append.{RecordLeaves, Records, has_no_room, with_group}
 use Rattle.ktm_journal.specs.Image.{IsFormatted, JournalState, log_area}
 use Rattle.ktm_journal.proofs.offered.Images.{group_added, group_or_not, stays_formatted}

@@ -6,8 +6,7 @@ use Rattle.ktm_log.specs.declared.fault.AppendFault.{AppendFault}
 use Rattle.ktm_log.specs.declared.fault.AppendFault.TheVariants.{Down, Full}
 use Rattle.ktm_log.specs.OnDisk.{AllSynced, OnDisk}
 use Rattle.ktm_types.specs.Sizes.{frame_size}
-use Rattle.ktm_world.specs.Logs.{Group}
-use Rattle.ktm_world.specs.Outcome.{is_full}
+use Rattle.ktm_types.specs.Groups.{Group, is_full}
 use Rattle.ktm_journal.specs.Image.{IsFormatted, JournalAt, JournalState, LeavesGroupOrNot}
 
 -- has the log no room for this group

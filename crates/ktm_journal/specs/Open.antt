@@ -1,9 +1,10 @@
 -- What the opening of an image's journal leaves, by its answer.
-use Rattle.std.specs.Prelude.{◌≡◌, ℕ, ◌+◌, ◌*◌, ◌<◌, ◌≤◌, true, false, List, Result, Ok, Err, Vec, vec_capacity, IfSome, IsSomeAnd}
+use Rattle.std.specs.Prelude.{◌≡◌, ℕ, ◌+◌, ◌*◌, ◌<◌, ◌≤◌, true, List, Result, Ok, Err, Vec, vec_capacity, IfSome, IsSomeAnd}
 use Rattle.ktm_base.specs.Disk.{IsSafe}
 use Rattle.ktm_log.specs.Log.{IsBadLog, IsLog, area_bytes, end_of, payloads_in}
 use Rattle.ktm_log.specs.OnDisk.{OnDisk, ReadsInto, WasRead}
-use Rattle.ktm_world.specs.Logs.{Group}
+use Rattle.ktm_log.specs.Scan.{IsTooShort}
+use Rattle.ktm_types.specs.Groups.{Group}
 use Rattle.ktm_journal.specs.declared.fault.LoadFault.{LoadFault}
 use Rattle.ktm_journal.specs.declared.fault.LoadFault.TheVariants.{Down, Bad, NoMemory}
 use Rattle.ktm_journal.specs.declared.header.Header.{Header}
@@ -40,4 +41,4 @@ abbrev pub OpenLeaves : {Z : Type 0} → Header → OnDisk (Vec ℕ Z) → OnDis
 OpenLeaves header old new (Ok journal) = IsOpened header old new journal
 OpenLeaves header old new (Err (Bad offset)) = EndsTorn header old new offset
 OpenLeaves header old new (Err Down) = ReadsInto (log_reads header.units) old new true
-OpenLeaves header old new (Err NoMemory) = ReadsInto (log_reads header.units) old new false
+OpenLeaves header old new (Err NoMemory) = IsTooShort (log_area header.units) old new

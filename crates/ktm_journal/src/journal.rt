@@ -4,7 +4,7 @@ ghost use Rattle.ktm_base.specs.declared.limits.TheConstants.{LEAST_UNITS, MOST_
 ghost use Rattle.ktm_base.specs.Told.{Goes};
 ghost use Rattle.ktm_base.specs.Disk.{DeviceCalls, IsSafe};
 ghost use Rattle.ktm_log.specs.OnDisk.{on};
-ghost use Rattle.ktm_world.specs.Logs.{Group};
+ghost use Rattle.ktm_types.specs.Groups.{Group};
 ghost use Rattle.ktm_types.specs.Sizes.{area_len, event_size, frame_size};
 ghost use Rattle.ktm_journal.specs.Append.{RecordLeaves, has_no_room};
 ghost use Rattle.ktm_journal.specs.Format.{Anything};

@@ -1,7 +1,7 @@
 // Laws of the definitions, each the contract of a function that does nothing.
 ghost use Rattle.std.specs.Prelude.{◌≡◌, ℕ, ◌-◌, List};
 ghost use Rattle.ktm_base.specs.Disk.{DiskState, MayLeave};
-ghost use Rattle.ktm_world.specs.Logs.{Group};
+ghost use Rattle.ktm_types.specs.Groups.{Group};
 ghost use Rattle.ktm_journal.specs.Image.{IsImage, JournalAt, JournalState, left_after};
 
 /// Of a journal that is answered a loss of power takes nothing.

@@ -1,12 +1,13 @@
 -- An area that is read piece by piece.
 use Rattle.std.specs.Prelude.{IfSome, IsSomeAnd}
-use Rattle.std.proofs.Common.{◌≡◌, ℕ, ◌+◌, ◌-◌, ◌*◌, ◌/◌, ◌<◌, ◌≤◌, max, min, Bool, false, Option, None, Some, List, [], ◌∷◌, ◌++◌, length, get_or, take, drop, sym, ◌∙◌, ap, subst, arith, length-take, length-drop, length-append}
+use Rattle.std.proofs.Common.{◌≡◌, ℕ, ◌+◌, ◌-◌, ◌*◌, ◌/◌, ◌<◌, ◌≤◌, max, min, Bool, false, true, Option, Vec, None, Some, List, [], ◌∷◌, ◌++◌, length, get_or, take, drop, sym, ◌∙◌, ap, subst, arith, length-take, length-drop, length-append}
 use Rattle.std.proofs.lemmas.List.{take_at, take_all, drop_all, take-append-drop, take-take, drop-take, drop-drop, append-nil}
 use borrow.Rule.Slice.PartMut.{put_mid}
 use Rattle.ktm_base.specs.Disk.{DiskState, DiskStatus, DeviceCalls, IsSafe, OnlyReads}
 use Rattle.ktm_log.specs.declared.area.Area.{Area}
 use Rattle.ktm_log.specs.Log.{area_bytes, size_at, IsClosed, IsTorn, IsFrame, IsLog, IsBadLog, Rests, end_of, first_payload, payloads_in}
-use Rattle.ktm_log.specs.Load.{EndFrames, IsRead, Loads, WentOn, pieces}
+use Rattle.ktm_log.specs.Load.{EndFrames, IsRead, Loads, ReadOn, ReadRefused, WentOn, pieces}
+use Rattle.ktm_log.specs.OnDisk.{OnDisk, on}
 use Rattle.ktm_log.proofs.Reading.{calls_most}
 use Rattle.ktm_log.proofs.Parts.{area_part, length-area}
 use Rattle.ktm_log.proofs.Frames.{first_at, begins-push, end_of-push}
@@ -55,6 +56,24 @@ loads_then area a b d s t u refused first second = record {
   calls = subst (λ n. DeviceCalls n s u refused) (omega (arith, first.longer, second.longer)) (calls_law s t u (pieces b - pieces a) (pieces d - pieces b) refused first.calls second.calls);
   pending = second.pending ∙ first.pending;
 }
+
+-- it was read on, and then once more
+module _ {Z : Type 0} (area : Area) (a b d : OnDisk (Vec ℕ Z)) (first : ReadOn area a b) where
+  pub read_on_then : ReadOn area b d → ReadOn area a d
+  read_on_then second = record {
+    same = second.same ∙ first.same;
+    room = omega (arith, first.room, second.room);
+    front = went_on_trans a.it.items b.it.items d.it.items first.front second.front;
+    holds = second.holds;
+    loads = loads_then area (length a.it.items) (length b.it.items) (length d.it.items) a.status b.status d.status false first.loads second.loads;
+  }
+
+  pub refused_then : ReadRefused area b d → ReadRefused area a d
+  refused_then second = record {
+    same = second.same ∙ first.same;
+    room = omega (arith, first.room, second.room);
+    loads = loads_then area (length a.it.items) (length b.it.items) (length d.it.items) a.status b.status d.status true first.loads second.loads;
+  }
 
 -- what was read of an area from its begin, as device calls
 pub only_read : (area : Area) (after most : ℕ) (o n : Option DiskState) (s t : DiskStatus) (refused : Bool) → n ≡ o → Loads area 0 after s t refused → pieces after ≤ most → OnlyReads most o n s t refused

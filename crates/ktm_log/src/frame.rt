@@ -12,8 +12,14 @@ pub(crate) fn payload_size(bytes: &[u8], at: usize) -> u32
     u32_in(bytes, at + 1)
 }
 
-/// The payload of the frame that the bytes begin with, if they begin with one. The next frame is five bytes behind as many
-/// as the payload has.
+/// How many bytes the frame of a payload takes, up to the gate behind it.
+pub fn frame_len(payload: &[u8]) -> usize
+    ensures { result ≡ length payload.now + 5 }
+{
+    payload.len() + 5
+}
+
+/// The payload of the frame that the bytes begin with, if they begin with one.
 pub fn first_payload(bytes: &[u8]) -> Option<&[u8]>
     ensures is { MatchOption result (first_payload bytes.now ≡ None) (λ payload. first_payload bytes.now ≡ Some payload.now) }
     ensures fits { IfSome result (λ payload. length payload.now + 6 ≤ length bytes.now) }

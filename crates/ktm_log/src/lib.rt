@@ -13,6 +13,6 @@ mod settle;
 
 pub use area::Area;
 pub use fault::{AppendFault, LogFault};
-pub use frame::first_payload;
+pub use frame::{first_payload, frame_len};
 pub use laws::{law_of_bad_logs, law_of_logs, law_of_one_kind, law_of_some_kind};
 pub use log::Log;

@@ -1,8 +1,7 @@
 // Reading an area from its begin, in pieces.
-ghost use Rattle.std.specs.Prelude.{◌≡◌, ◌+◌, ◌^◌, ◌<◌, ◌≤◌, max, length, drop, None, OnOk, IfOk, is_err, vec_capacity, false, IsErrOf, IfSome};
-ghost use Rattle.ktm_log.specs.Fault.{frame_went_down};
-ghost use Rattle.ktm_log.specs.Log.{area_bytes, first_payload, IsTorn};
-ghost use Rattle.ktm_log.specs.Load.{Holds, Loads, WentOn, Finds, frame_reach, pieces};
+ghost use Rattle.std.specs.Prelude.{◌+◌, ◌^◌, ◌<◌, ◌≤◌, max, length, OnOk, vec_capacity};
+ghost use Rattle.ktm_log.specs.Load.{FrameLeaves, Holds, ReadLeaves, pieces};
+ghost use Rattle.ktm_log.specs.OnDisk.{on};
 
 use crate::Area;
 use crate::fault::FrameFault;
@@ -18,13 +17,9 @@ fn load_piece<D: Disk>(disk: &mut D, area: Area, read: &mut Vec<u8>) -> Result<(
     requires room { area.len ≤ vec_capacity read.old }
     requires more { length read.old.items < area.len }
     requires holds { Holds area (D.told disk.old) (D.status disk.old).is_down read.old.items }
-    ensures same { D.told disk.new ≡ D.told disk.old }
-    ensures room { vec_capacity read.old ≤ vec_capacity read.new }
+    ensures leaves { ReadLeaves area (on read.old (D.told disk.old) (D.status disk.old)) (on read.new (D.told disk.new) (D.status disk.new)) result }
     ensures more { length read.old.items < length read.new.items }
     ensures few { pieces (length read.new.items) ≤ pieces (length read.old.items) + 1 }
-    ensures front { OnOk result (WentOn read.old.items read.new.items) }
-    ensures holds { OnOk result (Holds area (D.told disk.new) (D.status disk.new).is_down read.new.items) }
-    ensures loads { Loads area (length read.old.items) (length read.new.items) (D.status disk.old) (D.status disk.new) (is_err result) }
 {
     let from = read.len();
     let piece = PIECE.min(area.len - from as u64);
@@ -41,13 +36,9 @@ fn load<D: Disk>(disk: &mut D, area: Area, read: &mut Vec<u8>, upto: u64) -> Res
     requires room { area.len ≤ vec_capacity read.old }
     requires upto { upto ≤ area.len }
     requires holds { Holds area (D.told disk.old) (D.status disk.old).is_down read.old.items }
-    ensures same { D.told disk.new ≡ D.told disk.old }
-    ensures room { vec_capacity read.old ≤ vec_capacity read.new }
+    ensures leaves { ReadLeaves area (on read.old (D.told disk.old) (D.status disk.old)) (on read.new (D.told disk.new) (D.status disk.new)) result }
     ensures upto { OnOk result (upto ≤ length read.new.items) }
     ensures few { pieces (length read.new.items) ≤ max (pieces (length read.old.items)) (pieces upto) }
-    ensures front { OnOk result (WentOn read.old.items read.new.items) }
-    ensures holds { OnOk result (Holds area (D.told disk.new) (D.status disk.new).is_down read.new.items) }
-    ensures loads { Loads area (length read.old.items) (length read.new.items) (D.status disk.old) (D.status disk.new) (is_err result) }
 {
     while (read.len() as u64) < upto {
         if let Err(Down) = load_piece(disk, area, read) {
@@ -68,16 +59,7 @@ pub(crate) fn next_frame<D: Disk>(
     requires room { area.len ≤ vec_capacity read.old }
     requires inside { at < area.len }
     requires holds { Holds area (D.told disk.old) (D.status disk.old).is_down read.old.items }
-    ensures same { D.told disk.new ≡ D.told disk.old }
-    ensures room { vec_capacity read.old ≤ vec_capacity read.new }
-    ensures holds { OnOk result (Holds area (D.told disk.new) (D.status disk.new).is_down read.new.items) }
-    ensures front { frame_went_down result ≡ false → WentOn read.old.items read.new.items }
-    ensures loads { Loads area (length read.old.items) (length read.new.items) (D.status disk.old) (D.status disk.new) (frame_went_down result) }
-    ensures few { frame_went_down result ≡ false → pieces (length read.new.items) ≤ max (pieces (length read.old.items)) (pieces (frame_reach at result)) }
-    ensures up { frame_went_down result ≡ false → (D.status disk.new).is_down ≡ false }
-    ensures found { IfOk result (λ found. Finds area read.new.items at found) }
-    ensures torn { IsErrOf result FrameFault.Torn → IfSome (D.told disk.new) (λ s. IsTorn (drop at (area_bytes area s.seen))) }
-    ensures no_frame { IsErrOf result FrameFault.Torn → first_payload (drop at read.new.items) ≡ None }
+    ensures { FrameLeaves area at (on read.old (D.told disk.old) (D.status disk.old)) (on read.new (D.told disk.new) (D.status disk.new)) result }
 {
     if let Err(Down) = load(disk, area, read, at + 1) {
         return Err(FrameFault::Down);

@@ -13,7 +13,7 @@ use Rattle.ktm_types.specs.EventGrammar.{IsGroupOf}
 use Rattle.ktm_world.proofs.offered.Durables.{stand-append, log_applies-append}
 use Rattle.ktm_journal.specs.Image.{log_area}
 use Rattle.ktm_restart.specs.Bad.{IsBadPayload}
-use Rattle.ktm_restart.specs.Load.{ComesTo, IsFirstBad}
+use Rattle.ktm_restart.specs.Payloads.{ComesTo, IsFirstBad}
 use Rattle.ktm_journal.proofs.offered.Images.{groups-push}
 
 comes_to_empty : (units image : ℕ) (state : Durable) → state ≡ empty_state units image → ComesTo units image [] state

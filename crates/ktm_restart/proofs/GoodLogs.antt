@@ -11,7 +11,7 @@ use Rattle.ktm_log.specs.Log.{payloads_in}
 use Rattle.ktm_world.specs.Durable.{Durable, empty_state}
 use Rattle.ktm_world.specs.Logs.{Group}
 use Rattle.ktm_restart.specs.Logs.{AreSpelled}
-use Rattle.ktm_restart.specs.Load.{ComesTo}
+use Rattle.ktm_restart.specs.Payloads.{ComesTo}
 use Rattle.ktm_restart.proofs.Spelled.{groups_spelled, payload_bytes}
 
 -- numbers that are bytes at each place

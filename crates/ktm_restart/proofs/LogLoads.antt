@@ -19,7 +19,7 @@ use Rattle.ktm_journal.proofs.offered.GroupSizes.{groups_size}
 use Rattle.ktm_journal.proofs.offered.Images.{counted_at}
 use Rattle.ktm_restart.specs.Logs.{AreInLog, HoldsLog, StandsFor}
 use Rattle.ktm_restart.specs.Bad.{IsBadAt, IsBadPayload}
-use Rattle.ktm_restart.specs.Load.{ComesTo, IsFirstBad}
+use Rattle.ktm_restart.specs.Payloads.{ComesTo, IsFirstBad}
 
 -- all events take five bytes of the log at least
 log_size-least : (log : List Group) → 5 * count_events log ≤ log_size log

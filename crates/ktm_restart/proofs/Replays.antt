@@ -14,7 +14,7 @@ use Rattle.ktm_log.specs.Log.{BeginsWith, IsBadLog, IsLog, area_bytes, payloads_
 use Rattle.ktm_log.specs.OnDisk.{OnDisk, WasRead}
 use Rattle.ktm_states.specs.GoodState.{IsGoodState}
 use Rattle.ktm_world.specs.Durable.{Durable}
-use Rattle.ktm_restart.specs.Load.{ComesTo, IsFirstBad}
+use Rattle.ktm_restart.specs.Payloads.{ComesTo, IsFirstBad}
 use Rattle.ktm_restart.specs.Loads.{FaultLeaves, IsBadImage, IsLoaded, IsReplayed, KnowsLog}
 use Rattle.ktm_restart.proofs.LogLoads.{bad_payload_told, comes_to_built, comes_to_events, comes_to_image, comes_to_keys, comes_to_units, counted_told, image_told, stands_told, torn_told}
 use Rattle.ktm_restart.proofs.Spelled.{spelled_told}

@@ -1,6 +1,6 @@
 pub mod Logs
 pub mod Bad
-pub mod Load
+pub mod Payloads
 pub mod Replayed
 pub mod Waiting
 pub mod Loads

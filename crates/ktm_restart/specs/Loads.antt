@@ -15,7 +15,7 @@ use Rattle.ktm_world.specs.Durable.{Durable}
 use Rattle.ktm_world.specs.Logs.{Group}
 use Rattle.ktm_restart.specs.declared.replay.Loaded.{Loaded}
 use Rattle.ktm_restart.specs.Bad.{IsBadAt}
-use Rattle.ktm_restart.specs.Load.{ComesTo}
+use Rattle.ktm_restart.specs.Payloads.{ComesTo}
 use Rattle.ktm_restart.specs.Logs.{AreInLog, AreSpelled, HoldsLog, StandsFor}
 
 -- whatever log an image of this size and number holds on the disk is this journal's, and is spelled

@@ -13,14 +13,14 @@ ghost use Rattle.ktm_journal.specs.Image.{IsFormatted, IsHeaded};
 ghost use Rattle.ktm_journal.specs.Bad.{load_went_down};
 ghost use Rattle.ktm_journal.specs.Open.{log_reads};
 ghost use Rattle.ktm_restart.specs.Bad.{IsBadPayload};
-ghost use Rattle.ktm_restart.specs.Load.{ComesTo, IsFirstBad};
+ghost use Rattle.ktm_restart.specs.Payloads.{ComesTo, IsFirstBad};
 ghost use Rattle.ktm_restart.specs.Loads.{LoadLeaves, ReplayLeaves};
 
 use crate::durable::Durable;
 use ktm_base::{Disk, NoMemory};
 use ktm_event::{EventFault, read_group};
 use ktm_journal::{Header, Journal, LoadFault};
-use ktm_log::first_payload;
+use ktm_log::{first_payload, frame_len};
 use ktm_states::{law_of_good_states, law_of_grammar};
 use std::alloc::Global;
 
@@ -57,7 +57,7 @@ fn replay(alloc: Global, header: Header, bytes: &[u8], state: &mut Durable) -> R
     let mut at = 0;
     while let Some(payload) = first_payload(&bytes[at..]) {
         match apply(alloc, state, payload) {
-            Ok(true) => at += payload.len() + 5,
+            Ok(true) => at += frame_len(payload),
             Ok(false) => return Err(LoadFault::Bad(header.log_at() + at as u64)),
             Err(NoMemory) => return Err(LoadFault::NoMemory),
         }

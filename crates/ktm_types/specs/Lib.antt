@@ -2,3 +2,4 @@ pub mod Values
 pub mod Completions
 pub mod EventGrammar
 pub mod Sizes
+pub mod Groups

@@ -1,4 +1,3 @@
-pub mod SizeLaw
 pub mod Handles
 pub mod Transactions
 pub mod Keys

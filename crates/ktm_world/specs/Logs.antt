@@ -1,10 +1,7 @@
 -- Logs of groups of events, and what a loss of power may leave of one.
 use Rattle.std.specs.Prelude.{ℕ, ◌+◌, Bool, true, false, List, [], ◌∷◌, length, map, drop}
 use Rattle.ktm_types.specs.declared.event.Event.{Event}
-
--- the events of one command
-abbrev pub Group : Type 0
-Group = List Event
+pub use Rattle.ktm_types.specs.Groups.{Group}
 
 -- the machine is up, or it is down and one of these logs is on its disk
 pub data Power : Type 0 where

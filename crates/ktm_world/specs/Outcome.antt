@@ -1,5 +1,5 @@
 -- What a command does, as data, and what it makes of what is so now.
-use Rattle.std.specs.Prelude.{ℕ, ◌+◌, ◌-◌, ◌&&◌, ◌||◌, not, Bool, true, false, List, [], ◌∷◌, ◌++◌, map, filter, drop, nat_lt, Option, Some, None, if◌then◌else◌}
+use Rattle.std.specs.Prelude.{◌-◌, ◌&&◌, ◌||◌, not, Bool, true, false, List, [], ◌∷◌, ◌++◌, map, filter, drop, Option, Some, None, if◌then◌else◌}
 use Rattle.std.specs.List.{list_any}
 use Rattle.ktm_base.specs.declared.id.Id.{Id}
 use Rattle.ktm_base.specs.declared.refusal.Refusal.{Refusal}
@@ -9,7 +9,8 @@ use Rattle.ktm_types.specs.declared.object.Handle.{Handle}
 use Rattle.ktm_types.specs.declared.reply.Reply.{Reply}
 use Rattle.ktm_types.specs.declared.reply.Reply.TheVariants.{Refused}
 use Rattle.ktm_world.specs.Keys.{Own}
-use Rattle.ktm_types.specs.Sizes.{frame_size, log_size}
+use Rattle.ktm_types.specs.Sizes.{log_size}
+pub use Rattle.ktm_types.specs.Groups.{is_full}
 use Rattle.ktm_world.specs.Transactions.{same_id}
 use Rattle.ktm_world.specs.Logs.{as_groups}
 use Rattle.ktm_world.specs.Committed.{Committed, Work, committed_with}
@@ -126,11 +127,6 @@ first_refusal (test ∷ tests) = if test.0 then Some test.1 else first_refusal t
 abbrev pub refuse_or : Present → Option Refusal → Outcome → Outcome
 refuse_or x (Some refusal) effect = only_reply x (Refused refusal)
 refuse_or x None effect = effect
-
--- with so many bytes left, the log has no room for the frame of these events and a gate behind it; no events need no frame
-abbrev pub is_full : ℕ → List Event → Bool
-is_full left [] = false
-is_full left (event ∷ events) = nat_lt left (frame_size (event ∷ events) + 1)
 
 -- the outcome, where the log has room for its events; else nothing changes but that the machine is down
 abbrev pub within_log : Present → Outcome → Outcome

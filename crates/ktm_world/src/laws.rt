@@ -1,6 +1,5 @@
-// Laws of the model, over every world and every outcome, and of the sizes of events, each the contract of a function that does nothing.
+// Laws of the model, over every world and every outcome, each the contract of a function that does nothing.
 ghost use Rattle.ktm_world.specs.Laws.{StepLaw, FirstOpensLaw, RefusalLaw, FilesLaw, PathLaw, TranscriptLaw};
-ghost use Rattle.ktm_world.specs.SizeLaw.{SizeLaw};
 
 /// What is so after an outcome is what the outcome makes of what was so.
 pub fn law_of_step()
@@ -30,9 +29,4 @@ pub fn law_of_paths()
 /// What a script is answered is a transcript of its lines.
 pub fn law_of_transcripts()
     ensures { TranscriptLaw }
-{}
-
-/// A group takes as many bytes as are counted for it.
-pub fn law_of_sizes()
-    ensures { SizeLaw }
 {}

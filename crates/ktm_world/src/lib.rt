@@ -9,8 +9,7 @@ mod make;
 
 pub use durable::{Durable, Recorded};
 pub use laws::{
-    law_of_first_opens, law_of_paths, law_of_refusals, law_of_sizes, law_of_step,
-    law_of_transcripts,
+    law_of_first_opens, law_of_paths, law_of_refusals, law_of_step, law_of_transcripts,
 };
 pub use limits::{are_good_settings, is_bad_key, is_bad_value};
 pub use make::make_all;

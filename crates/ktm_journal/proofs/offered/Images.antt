@@ -8,7 +8,7 @@ use Rattle.ktm_base.proofs.offered.Images.{safe_law}
 use Rattle.ktm_log.specs.declared.area.Area.{Area}
 use Rattle.ktm_log.specs.Log.{LogState, IsLog, Rests, LeavesEither, SameElsewhere, area_bytes}
 use Rattle.ktm_log.proofs.Parts.{not_covered, same_part}
-use Rattle.ktm_world.specs.Logs.{Group}
+use Rattle.ktm_types.specs.Groups.{Group}
 use Rattle.ktm_types.specs.Sizes.{area_len}
 use Rattle.ktm_types.specs.EventGrammar.{IsGroupOf}
 use Rattle.ktm_journal.specs.Image.{IsFormatted, HoldGroups, IsImage, JournalState, JournalAt, LeavesGroupOrNot, log_area}

@@ -3,7 +3,7 @@ use Rattle.std.proofs.Common.{◌≡◌, ℕ, List, [], ◌∷◌, refl, sym, �
 use Rattle.ktm_log.specs.Log.{IsLog, area_bytes}
 use Rattle.ktm_log.proofs.GoodOrBad.{one_log}
 use Rattle.ktm_event.proofs.OneEvent.{one_group}
-use Rattle.ktm_world.specs.Logs.{Group}
+use Rattle.ktm_types.specs.Groups.{Group}
 use Rattle.ktm_journal.specs.Image.{IsHeaded, HoldGroups, IsImage, log_area}
 
 -- payloads are the groups of one log at most

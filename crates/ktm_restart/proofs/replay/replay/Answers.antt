@@ -1,6 +1,6 @@
 use Rattle.std.proofs.Common.{◌≡◌, ◌+◌, Ok, Some, drop, ap, sym, subst, ◌∙◌, arith, rules}
 use Rattle.std.proofs.lemmas.List.{take_rest}
-use Rattle.ktm_restart.specs.Load.{IsFirstBad}
+use Rattle.ktm_restart.specs.Payloads.{IsFirstBad}
 use Rattle.ktm_log.specs.Log.{first_payload, payloads_in}
 use Rattle.ktm_restart.proofs.Folds.{folded_none, folded_more, folded_all, first_bad}
 use Rattle.ktm_restart.proofs.GoodLogs.{bytes_fit, comes_to_good}
@@ -14,8 +14,9 @@ loop-payload-preserved c =
     let at = c.loop-payload.at in
     let rest = take_rest c.args.bytes.now at in
     let next : first_payload (drop at c.args.bytes.now) ≡ Some c.in-Some.payload.now = ap first_payload (sym rest) ∙ c.in-Some.ensures.is in
-    folded_more c.args.header.units c.args.header.image c.args.bytes.now at c.loop-payload.state c.loop-payload.invariant c.in-Some.payload.now next c.apply.new.state
-    (rw rest at c.in-Some.ensures.fits) (c.in-Ok-true.ensures.good (ap Ok c.in-Ok-true.field-0-test))
+    rw c.frame_len-at.ensures
+    (folded_more c.args.header.units c.args.header.image c.args.bytes.now at c.loop-payload.state c.loop-payload.invariant c.in-Some.payload.now next c.apply.new.state
+    (rw rest at c.in-Some.ensures.fits) (c.in-Ok-true.ensures.good (ap Ok c.in-Ok-true.field-0-test)))
 
 pub returns-in-Ok-false-clause-bad : goal.returns-in-Ok-false-clause-bad
 returns-in-Ok-false-clause-bad c offset is =

@@ -5,64 +5,60 @@ use Rattle.ktm_log.proofs.log.Log.scan.Goals as goal
 
 pub loop-size-preserved : goal.loop-size-preserved
 loop-size-preserved g c =
-    let found = rw c.in-Ok-Some.field-0-is at c.in-Ok-Some.ensures.found in
+    let frame = rw c.in-Ok-Some.field-0-is at c.in-Ok-Some.ensures in
+    let read = frame.reads.read in
     let before = c.loop-size.invariant in
     record {
-      same = c.next_frame.ensures.same ∙ before.same;
-      room = omega (arith, c.next_frame.ensures.room);
-      kept = omega (arith, c.next_frame.ensures.room);
-      holds = c.in-Ok-Some.ensures.holds;
-      loads = loads_then _ _ _ _ _ _ _ _ before.loads c.in-Ok-Some.ensures.loads;
-      few = reached_further (length c.loop-size.buffer.items) _ c.loop-size.end c.in-Ok-Some.size before.few ((rw c.in-Ok-Some.field-0-is at c.in-Ok-Some.ensures.few) refl);
-      inside = omega (arith, found.0);
-      frames = one_more c.args.area _ _ _ before.frames (c.in-Ok-Some.ensures.front refl) _ found.1;
+      same = read.same ∙ before.same;
+      room = omega (arith, read.room);
+      kept = omega (arith, read.room);
+      holds = read.holds;
+      loads = loads_then _ _ _ _ _ _ _ _ before.loads read.loads;
+      few = reached_further (length c.loop-size.buffer.items) _ c.loop-size.end c.in-Ok-Some.size before.few frame.reads.few;
+      inside = omega (arith, frame.finds.0);
+      frames = one_more c.args.area _ _ _ before.frames read.front _ frame.finds.1;
     }
 
 pub returns-in-Ok-None : goal.returns-in-Ok-None
 returns-in-Ok-None g c =
-    let closed = rw c.in-Ok-None.field-0-is at c.in-Ok-None.ensures.found in
-    let few = (rw c.in-Ok-None.field-0-is at c.in-Ok-None.ensures.few) refl in
+    let gate = rw c.in-Ok-None.field-0-is at c.in-Ok-None.ensures in
+    let read = gate.reads.read in
     let before = c.loop-size.invariant in
-    let same = c.next_frame.ensures.same ∙ before.same in
-    let on = c.in-Ok-None.ensures.front refl in
-    let end = end_found c.args.area _ _ _ before.frames on (none_closed _ closed) in
-    let log = log_found c.args.area _ _ _ before.frames on closed _ _ same c.in-Ok-None.ensures.holds.bytes in
+    let same = read.same ∙ before.same in
+    let end = end_found c.args.area _ _ _ before.frames read.front (none_closed _ gate.finds) in
+    let log = log_found c.args.area _ _ _ before.frames read.front gate.finds _ _ same read.holds.bytes in
     record {
       area_is = refl;
       end_is = end;
       inside = before.inside;
-      room = omega (arith, c.next_frame.ensures.room);
+      room = omega (arith, read.room);
       bytes = log;
       rests = rests_found c.args.area _ c.loop-size.end end _ _ same c.requires.within log;
       read = record {
         reads = record {
-          kept = omega (arith, c.next_frame.ensures.room);
-          reads = only_read c.args.area _ _ _ _ _ _ false same (loads_then _ _ _ _ _ _ _ _ before.loads c.in-Ok-None.ensures.loads) (few_closed _ _ c.loop-size.end before.few few);
+          kept = omega (arith, read.room);
+          reads = only_read c.args.area _ _ _ _ _ _ false same (loads_then _ _ _ _ _ _ _ _ before.loads read.loads) (few_closed _ _ c.loop-size.end before.few gate.reads.few);
         };
-        up = c.in-Ok-None.ensures.up refl;
+        up = gate.reads.up;
       };
     }
 
 pub returns-in-Err-Torn : goal.returns-in-Err-Torn
 returns-in-Err-Torn g c =
-    let none = (rw c.in-Err-Torn.field-0-is at c.in-Err-Torn.ensures.no_frame) refl in
-    let torn = (rw c.in-Err-Torn.field-0-is at c.in-Err-Torn.ensures.torn) refl in
-    let on = (rw c.in-Err-Torn.field-0-is at c.in-Err-Torn.ensures.front) refl in
-    let few = (rw c.in-Err-Torn.field-0-is at c.in-Err-Torn.ensures.few) refl in
-    let up = (rw c.in-Err-Torn.field-0-is at c.in-Err-Torn.ensures.up) refl in
-    let loads = rw c.in-Err-Torn.field-0-is at c.in-Err-Torn.ensures.loads in
+    let torn = rw c.in-Err-Torn.field-0-is at c.in-Err-Torn.ensures in
+    let read = torn.reads.read in
     let before = c.loop-size.invariant in
-    let same = c.next_frame.ensures.same ∙ before.same in
-    let end = end_found c.args.area _ _ _ before.frames on none in
+    let same = read.same ∙ before.same in
+    let end = end_found c.args.area _ _ _ before.frames read.front torn.none in
     record {
       at = ap (λ n. c.args.area.at + n) end;
       inside = omega (arith, end);
-      bytes = bad_found c.args.area _ _ _ before.frames on none _ _ same (rw before.same at before.holds.bytes) torn;
+      bytes = bad_found c.args.area _ _ _ before.frames read.front torn.none _ _ same (rw before.same at before.holds.bytes) torn.torn;
       read = record {
         reads = record {
-          kept = omega (arith, c.next_frame.ensures.room);
-          reads = only_read c.args.area _ _ _ _ _ _ false same (loads_then _ _ _ _ _ _ _ _ before.loads loads) (few_torn _ _ c.loop-size.end c.args.area.len _ end loads.inside before.few few);
+          kept = omega (arith, read.room);
+          reads = only_read c.args.area _ _ _ _ _ _ false same (loads_then _ _ _ _ _ _ _ _ before.loads read.loads) (few_torn _ _ c.loop-size.end c.args.area.len _ end read.loads.inside before.few torn.reads.few);
         };
-        up = up;
+        up = torn.reads.up;
       };
     }
