@@ -9,7 +9,7 @@ use Rattle.ktm_course.specs.declared.parts.Parts.{Parts}
 use Rattle.ktm_event.specs.Work.{changes_of as recorded_changes}
 use Rattle.ktm_event.specs.declared.work.FileBytes.{FileBytes}
 use Rattle.ktm_journal.specs.Image.{JournalState}
-use Rattle.ktm_phase.specs.Laws.{EventsAheadLaw, RowsLaw}
+use Rattle.ktm_steps.specs.Laws.{EventsAheadLaw}
 use Rattle.ktm_types.specs.declared.change.Change.{Change}
 use Rattle.ktm_types.specs.declared.event.Event.{Event}
 use Rattle.ktm_types.specs.declared.input.PhaseInput.{PhaseInput}
@@ -21,10 +21,10 @@ use Rattle.ktm_world.specs.Changes.{changes_apply, has_changes}
 use Rattle.ktm_world.specs.Enlistments.{Enlistment, is_ended, superior_of}
 use Rattle.ktm_world.specs.Files.{FilesNow, own_changes}
 use Rattle.ktm_world.specs.Keys.{OwnSettings, own_settings}
-use Rattle.ktm_world.specs.Phases.{Course, has_settings}
+use Rattle.ktm_world.specs.Phases.{has_settings}
 use Rattle.ktm_world.specs.Present.{Present}
 use Rattle.ktm_world.specs.Rows.{aborts, row}
-use Rattle.ktm_world.specs.Steps.{basis, lasting_of, run, seen}
+use Rattle.ktm_world.specs.Steps.{basis, lasting_of, led, run, seen}
 use Rattle.ktm_world.specs.TransactionCalls.{arrived, commit_reply, commit_transaction, course_of, rollback_transaction}
 use Rattle.ktm_world.specs.Transactions.{transaction_at}
 use Rattle.ktm_built.specs.Courses.{LeadsOn}
@@ -83,17 +83,15 @@ none_spelled es is = subst (All IsSpellableEvent) (sym is) (All-from_recursion I
 -- ---- a transaction that is asked to commit
 
 -- it goes on by these steps
-pub commit_is : RowsLaw → (x : Present) (t : Transaction) (reply : Reply) → (let c = course_of x t None in
+pub commit_is : (x : Present) (t : Transaction) (reply : Reply) → (let c = course_of x t None in
     reply ≡ commit_reply (run (row (seen c) PhaseInput.CommitTransaction) c) → commit_transaction x (Some t) ≡ arrived x (run (row (seen c) PhaseInput.CommitTransaction) c) reply)
-unfolding commit_transaction
-commit_is rows x t reply says =
-    let c = course_of x t None in
-    ap (λ (d : Course). arrived x d (commit_reply d)) (sym (rows.requests c)) ∙ ap (arrived x (run (row (seen c) PhaseInput.CommitTransaction) c)) (sym says)
+unfolding commit_transaction led
+commit_is x t reply says = let c = course_of x t None in ap (arrived x (run (row (seen c) PhaseInput.CommitTransaction) c)) (sym says)
 
 -- it rolls back by these
-pub rollback_is : RowsLaw → (x : Present) (t : Transaction) → rollback_transaction x (Some t) ≡ arrived x (run aborts (course_of x t None)) Done
-unfolding rollback_transaction
-rollback_is rows x t = ap (λ (d : Course). arrived x d Done) (sym (rows.aborts (course_of x t None)))
+pub rollback_is : (x : Present) (t : Transaction) → rollback_transaction x (Some t) ≡ arrived x (run aborts (course_of x t None)) Done
+unfolding rollback_transaction led
+rollback_is x t = refl
 
 -- the course is the same whatever the log has
 pub leads_commit : (h : Held) (n : MemoryState) (t : Transaction) (steps : List Step) → held n ≡ h → IsBuiltNow (now_of h) → t.is_recorded ≡ false

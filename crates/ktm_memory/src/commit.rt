@@ -29,7 +29,8 @@ use ktm_base::NoMemory;
 use ktm_course::Parts;
 use ktm_event::{Events, event_size};
 use ktm_journal::Journal;
-use ktm_phase::{law_of_events_ahead, law_of_rows, step};
+use ktm_phase::step;
+use ktm_steps::law_of_events_ahead;
 use ktm_types::{Change, Event, Phase, PhaseInput, Reply, Step, Transaction};
 use txf_calls::Plan;
 
@@ -158,7 +159,6 @@ impl Memory {
         ensures enough { length (own_settings self.old.keys.keys.own t.id) ≤ self.old.keys.room → MayCommit self.old.files t.id
             → list_all is_of_names (changes_of (present_of self.old) t) ≡ true → IsOk result }
     {
-        law_of_rows();
         law_of_events_ahead();
         self.keys.reserve(t.id)?;
         self.files.prepare_commit(t.id)?;
@@ -197,7 +197,6 @@ impl Memory {
         ensures ok { DecidesIf (held self.old) (rollback_transaction (present_of self.old) (Some t)) result events.new self.new }
         ensures room { events.new.room ≡ events.old.room }
     {
-        law_of_rows();
         law_of_events_ahead();
         let steps = step(&self.seen(&t), PhaseInput::Rollback);
         let parts = Parts::none();

@@ -97,7 +97,7 @@ pub returns-then-not-record_steps-clause-ok : goal.returns-then-not-record_steps
 returns-then-not-record_steps-clause-ok c =
     let d = (goal.at.returns-then-not-record_steps-clause-ok c).After-as_slice in
     let full = full_from _ (sym c.if-not-record_steps.true ∙ c.record_steps.ensures.full) in (
-      ap (λ (o : Outcome). is_full (x d).machine.left o.events) (commit_is c.law_of_rows.ensures (x d) (t d) _ refl)
+      ap (λ (o : Outcome). is_full (x d).machine.left o.events) (commit_is (x d) (t d) _ refl)
       ∙ ap (is_full (x d).machine.left) (arrived-events (x d) (run (row (seen (start d)) PhaseInput.CommitTransaction) (start d)) _)
       ∙ ap (λ (ss : List Step). is_full (x d).machine.left (run ss (start d)).events) (sym (row_is d))
       ∙ ap (is_full (x d).machine.left) (sym (records d)) ∙ sym (left d _) ∙ full,
@@ -120,7 +120,7 @@ returns-clause-ok c =
     let says = c.commit_reply-reply.ensures came (sym (c.moved.ensures ∙ ap (λ (g : Held). (run c.as_slice-2.result.now (course_of (now_of g) (t d) None)).transaction) (same d)
     ∙ ap (λ (ss : List Step). (run ss (start d)).transaction) (c.as_slice-2.ensures.value ∙ row_is d))) in
     course_decided (held c.args.self.now) (n d) (t d) c.step-steps.result (commit_transaction (x d) (Some (t d))) c.commit_reply-reply.result c.record_steps.new.events (is_built d)
-    (commit_is c.law_of_rows.ensures (x d) (t d) c.commit_reply-reply.result says ∙ ap (λ (ss : List Step). arrived (x d) (run ss (start d)) c.commit_reply-reply.result) (sym (row_is d)))
+    (commit_is (x d) (t d) c.commit_reply-reply.result says ∙ ap (λ (ss : List Step). arrived (x d) (run ss (start d)) c.commit_reply-reply.result) (sym (row_is d)))
     (subst (Holds c.record_steps.new.events) (records d) (c.record_steps.ensures.recorded c.if-not-record_steps.false)) room (same d)
     (record {
       there = subst (λ (g : Held). transaction_at g.transactions.items (t d).id ≡ Some (t d)) (sym (same d)) c.requires.there;

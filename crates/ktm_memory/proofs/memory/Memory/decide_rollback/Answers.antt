@@ -42,7 +42,7 @@ returns-clause-ok c =
     ∙ ap (λ (ss : List Step). (run ss (course_of x t None)).events) c.as_slice.ensures.value in
     rw (c.done.ensures.reply, c.done.ensures.settlement)
     (course_decided (held c.args.self.now) c.args.self.now t c.step-steps.result (rollback_transaction x (Some t)) Done c.record_steps.new.events (built x c.requires.standing)
-    (rollback_is c.law_of_rows.ensures x t ∙ ap (λ (ss : List Step). arrived x (run ss (course_of x t None)) Done) (sym row))
+    (rollback_is x t ∙ ap (λ (ss : List Step). arrived x (run ss (course_of x t None)) Done) (sym row))
     (subst (Holds c.record_steps.new.events) records (c.record_steps.ensures.recorded c.if-not-record_steps.false))
     (ap (λ (m : MemoryState). is_full (m.journal.log.area.len - m.journal.log.end) (run steps (course_of x t None)).events) (sym c.self.view_is)
     ∙ ap (is_full (c.self.inside.journal.log.area.len - c.self.inside.journal.log.end)) (sym records) ∙ room_from _ (sym c.if-not-record_steps.false ∙ c.record_steps.ensures.full)) refl
