@@ -141,7 +141,7 @@ module _ (x : Present) (sound : IsSoundCourse x) (t : Transaction) (there : IsIn
 
   -- it rolls back
   pub rolled_back : can_roll_back t.phase ≡ true → Arrives boot c (led PhaseInput.Rollback c)
-  rolled_back can = subst (Arrives boot c) (sym (rows_law.aborts c)) (arrives-rolled_back boot c stands (brought-now x t caller sound) can)
+  rolled_back can = arrives-rolled_back boot c stands (brought-now x t caller sound) can
 
   pub sound-aborted_by : (reply : Reply) → ((e : Enlistment) → caller ≡ Some e → IsIn e (x.transactions).enlistments) → can_roll_back t.phase ≡ true → IsSoundOutcome x (aborted_by x t caller reply)
   sound-aborted_by reply calls can =

@@ -7,6 +7,7 @@ use Rattle.std.specs.List.{list_any}
 use Rattle.ktm_base.specs.declared.notify.Notify.{Notify}
 use Rattle.ktm_types.specs.declared.event.DonePart.{DonePart}
 use Rattle.ktm_types.specs.declared.event.Event.{Event}
+use Rattle.ktm_types.specs.declared.input.PhaseInput.{PhaseInput}
 use Rattle.ktm_types.specs.declared.object.Phase.{Phase}
 use Rattle.ktm_types.specs.declared.object.Phase.TheVariants.{Active, Requested, PrePreparing, PrePrepared, Preparing, SinglePhase, Held, InDoubt, Committing, Aborting, Ended}
 use Rattle.ktm_types.specs.declared.object.Transaction.{Transaction}
@@ -23,8 +24,9 @@ use Rattle.txf_laws.proofs.offered.Elements.{list_any-at, list_any-from}
 use Rattle.ktm_courses.proofs.offered.Moves.{same-by_id, if_parts, moved-changing, unrecovered-moved, if_cases, IsIn-map, IsSame, IsSame-refl, IsAlike, Moved, Moved-then, moved-transaction, moved-recording, moved-telling, Changes, stepped, with-unchanged, is_bystander, Stand, Stand-with, Stand-as}
 use Rattle.ktm_courses.proofs.offered.Procedures.{is_backed-from, waiting-parts, over-part, arrives-if_finished, may_be_told, arrives-aborting, none-at, list_any-told, list_any-with, filter-with, superior-with, idle-parts, part-parts, unprepared-recovered, Arrives, Stands, arrives-then, alike-owing, Stand-nobody, only-one, arrives-ended, arrives-all_ready}
 use Rattle.ktm_world.specs.Durable.{is_before}
+use Rattle.ktm_world.specs.Steps.{led}
 use Rattle.ktm_world.specs.TransactionCalls.{is_voting}
-use Rattle.ktm_steps.specs.Procedures.{someone_owes, when_none_owes, pre_prepare_answered, prepare_answered, without_its_answer, recovered as recovered_by, read_only_answered, single_phase_rejected, finished, commit_answered, rollback_answered, recovering, recovered_in, aborting, all_ready, pre_prepared}
+use Rattle.ktm_steps.specs.Procedures.{someone_owes, when_none_owes, pre_prepare_answered, prepare_answered, without_its_answer, recovered as recovered_by, read_only_answered, single_phase_rejected, finished, commit_answered, rollback_answered, recovering, recovered_in, all_ready, pre_prepared}
 use Rattle.txf_laws.proofs.offered.Tables.{same_id-equal, same_id-from}
 use Rattle.ktm_courses.proofs.offered.Outcomes.{committed-outcome, aborted-outcome}
 use Rattle.ktm_courses.proofs.offered.CommitsBegun.{Fresh, arrives-pre_prepared}
@@ -204,7 +206,7 @@ unrecovered-parts boot ms e well unrecovered =
     (not-true _ f.1, not-true _ d.1, b.1, a.1)
 
 -- a transaction whose outcome is not known rolls back
-pub arrives-rolled_back : (boot : ℕ) (c : Course) → Stands boot c → ((e : Enlistment) → IsIn e c.enlistments → is_unrecovered_well boot c.managers e ≡ true) → can_roll_back (c.transaction).phase ≡ true → Arrives boot c (aborting c)
+pub arrives-rolled_back : (boot : ℕ) (c : Course) → Stands boot c → ((e : Enlistment) → IsIn e c.enlistments → is_unrecovered_well boot c.managers e ≡ true) → can_roll_back (c.transaction).phase ≡ true → Arrives boot c (led PhaseInput.Rollback c)
 arrives-rolled_back boot c stands brought can = arrives-aborting boot c (is_backed-from boot c.transaction stands.boots)
     (Stand-as c.enlistments (c.transaction).id (is_part_as (c.transaction).phase) may_be_told stands.stand (λ e there part fits.
     and_from _ _ (not_from_false _ (unfinished-in (c.transaction).phase e can fits)) (elim (cases_Bool e.is_recovered) [

@@ -6,6 +6,7 @@ use Rattle.ktm_base.specs.declared.id.Id.{Id}
 use Rattle.ktm_base.specs.declared.notify.Notify.{Notify}
 use Rattle.ktm_types.specs.declared.event.DonePart.{DonePart}
 use Rattle.ktm_types.specs.declared.event.Event.{Event}
+use Rattle.ktm_types.specs.declared.input.PhaseInput.{PhaseInput}
 use Rattle.ktm_types.specs.declared.object.Phase.TheVariants.{Held, Committing, Aborting, Ended}
 use Rattle.ktm_types.specs.declared.object.Transaction.{Transaction}
 use Rattle.ktm_types.specs.declared.object.TransactionOutcome.{TransactionOutcome}
@@ -15,7 +16,8 @@ use Rattle.ktm_world.specs.Enlistments.{Enlistment, Manager, is_superior, owes_c
 use Rattle.ktm_world.specs.Phases.{Course, in_phase, decided, recording, telling, owing, unchanged, superior, is_its_superior, has_settings, end_notice, ended, ended_if_finished, work_of, event_if, is_single_phase}
 use Rattle.ktm_world.specs.Transactions.{same_id, is_committed, is_aborted, is_undecided}
 use Rattle.ktm_world.specs.Changes.{has_changes}
-use Rattle.ktm_steps.specs.Procedures.{recorded, taking_part, participants, committing, is_caller, aborting, ready_parts, readied, held_or_committing, all_ready}
+use Rattle.ktm_world.specs.Steps.{led}
+use Rattle.ktm_steps.specs.Procedures.{recorded, taking_part, participants, committing, is_caller, ready_parts, readied, held_or_committing, all_ready}
 use Rattle.txf_laws.specs.Elements.{IsIn}
 use Rattle.ktm_courses.specs.SoundCourse.{is_last_recover, is_unrecovered_well, is_outcome_of, is_of_its_boot, has_superior_as_asked, is_idle, is_waiting, owes_until_finished, is_part_as, is_awaited, has_durable_part, is_recorded_as_asked}
 use Rattle.txf_laws.proofs.offered.Elements.{IsIn-kept, list_any-at, list_any-from}
@@ -311,8 +313,8 @@ module _ (boot : ℕ) (c : Course) (backed : is_backed boot c.transaction ≡ tr
             rw unrecovered none
       ]))
 
-  pub arrives-aborting : Arrives boot c (aborting c)
-  unfolding aborting
+  pub arrives-aborting : Arrives boot c (led PhaseInput.Rollback c)
+  unfolding led
   arrives-aborting = arrives-then boot aborting-moved (arrives-if_finished boot c_aborting Aborted (is_part_as Aborting) refl backed aborting-stand
       (λ e is finished. over-part owes_rollback e is finished)
       (λ some. record {
