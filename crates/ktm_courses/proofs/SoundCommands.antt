@@ -1,21 +1,24 @@
 -- Every command leaves a machine sound, and so does the passing of time.
 use Rattle.std.proofs.Common.{◌≡◌, ℕ, Bool, List, [], ◌∷◌, Option, Some, None, refl, not, sym, subst}
 use Rattle.ktm_courses.specs.NamedObjects.{NamedLaw}
+use Rattle.ktm_base.specs.declared.id.Label.{Label}
 use Rattle.ktm_base.specs.declared.id.Pid.{Pid}
 use Rattle.ktm_base.specs.declared.refusal.Refusal.{Refusal}
 use Rattle.ktm_base.specs.declared.refusal.Refusal.TheVariants.{LogFull, MachineDown}
 use Rattle.ktm_types.specs.declared.command.Command.{Command}
 use Rattle.ktm_types.specs.declared.command.Command.TheVariants.{CreateTransaction, OpenTransaction, CommitTransaction, RollbackTransaction, GetTransactionInformation, CreateResourceManager, OpenResourceManager, RecoverResourceManager, GetNotificationResourceManager, CreateEnlistment, OpenEnlistment, RecoverEnlistment, PrePrepareComplete, PrepareComplete, ReadOnlyEnlistment, CommitComplete, RollbackComplete, SinglePhaseReject, RollbackEnlistment, PrePrepareEnlistment, PrepareEnlistment, CommitEnlistment, SetEnlistmentRecoveryInformation, GetEnlistmentRecoveryInformation, CreateFile, CreateFileTransacted, ReadFile, WriteFile, SetEndOfFile, GetFileSizeEx, FlushFileBuffers, DeleteFile, CreateDirectory, RemoveDirectory, MoveFile, DeleteFileTransacted, CreateDirectoryTransacted, RemoveDirectoryTransacted, MoveFileTransacted, FindFiles, FindFilesTransacted, KvSet, KvUnset, KvGet, KvList, CloseHandle, DuplicateHandle, Exit}
+use Rattle.ktm_types.specs.declared.input.PhaseInput.{PhaseInput}
 use Rattle.ktm_types.specs.declared.reply.Reply.{Reply}
 use Rattle.ktm_types.specs.declared.reply.Reply.TheVariants.{Refused}
 use Rattle.ktm_world.specs.Decide.{decide, caller, command_tests, command_effect, with_room}
+use Rattle.ktm_world.specs.Enlistments.{Enlistment}
 use Rattle.ktm_world.specs.FileCalls.{create_file, read_file, write_file, set_end, get_size, flush_file, delete_file, create_directory, remove_directory, move_file, find_files}
 use Rattle.ktm_world.specs.KeyCalls.{kv_get, kv_list}
 use Rattle.ktm_world.specs.Labels.{transaction_named, manager_named, enlistment_named, viewer, file_tests}
 use Rattle.ktm_world.specs.Laws.{StepLaw}
 use Rattle.ktm_world.specs.Outcome.{Outcome, only_reply, apply, first_refusal, refuse_or, is_full, within_log}
 use Rattle.ktm_world.specs.Present.{Present}
-use Rattle.ktm_world.specs.TransactionCalls.{commit_transaction, rollback_transaction, get_transaction_information, information_of, recover_resource_manager, get_notification, pre_prepare_complete, prepare_complete, read_only_enlistment, commit_complete, rollback_complete, single_phase_reject, rollback_enlistment, pre_prepare_enlistment, prepare_enlistment, commit_enlistment, recover_enlistment, set_information, get_information, information_in, tick}
+use Rattle.ktm_world.specs.TransactionCalls.{answering, commit_transaction, rollback_transaction, get_transaction_information, information_of, recover_resource_manager, get_notification, pre_prepare_complete, prepare_complete, read_only_enlistment, commit_complete, rollback_complete, single_phase_reject, rollback_enlistment, pre_prepare_enlistment, prepare_enlistment, commit_enlistment, recover_enlistment, set_information, get_information, information_in, tick}
 use Rattle.ktm_world.specs.World.{present, decide_tick}
 use Rattle.ktm_courses.specs.SoundCourse.{IsSoundCourse}
 use Rattle.ktm_courses.specs.SoundCourses.{CoursesLaw}
@@ -24,7 +27,7 @@ use Rattle.ktm_courses.proofs.offered.Outcomes.{stay-refl}
 use Rattle.ktm_courses.proofs.offered.Moves.{if_cases}
 use Rattle.ktm_courses.proofs.offered.Views.{sound-alike}
 use Rattle.ktm_courses.proofs.offered.OutcomesMade.{IsSoundOutcome, sound-only_reply, Keeps, keeps-from}
-use Rattle.ktm_courses.proofs.offered.Calls.{Passes, passed, transaction-named, manager-named, enlistment-named, sound-commit_of, sound-rollback_of, sound-pre_prepare_complete, sound-prepare_complete, sound-read_only, sound-commit_complete, sound-rollback_complete, sound-single_phase_reject, sound-rollback_enlistment, sound-pre_prepare_enlistment, sound-prepare_enlistment, sound-commit_enlistment, sound-recover_enlistment, sound-recover_all, sound-take_first}
+use Rattle.ktm_courses.proofs.offered.Calls.{Answers, sound-answering, Passes, passed, transaction-named, manager-named, enlistment-named, sound-commit_of, sound-rollback_of, goes-pre_prepare_complete, goes-prepare_complete, goes-read_only, goes-commit_complete, goes-rollback_complete, goes-single_phase_reject, goes-rollback_enlistment, goes-pre_prepare_enlistment, goes-prepare_enlistment, goes-commit_enlistment, goes-recover_enlistment, sound-recover_all, sound-take_first}
 use Rattle.ktm_courses.proofs.offered.Bindings.{sound-create_transaction, sound-open_transaction, sound-create_manager, sound-open_manager, sound-create_enlistment, sound-open_enlistment, sound-duplicate, sound-keep_information, sound-close_handle, sound-exit, sound-tick}
 use Rattle.ktm_courses.proofs.offered.SoundRestarts.{sound-opened}
 use Rattle.ktm_courses.proofs.offered.FileSteps.{plain-caller, caller-active, passes-left, sound-of_files, sound-opening, sound-on_file, sound-of_keys, sound-with_setting}
@@ -36,6 +39,10 @@ module _ (x : Present) (sound : IsSoundCourse x) where
 
   replies : (reply : Reply) → Keeps x (only_reply x reply)
   replies reply = keeps-from x (only_reply x reply) (sound-only_reply x reply sound)
+
+  -- the transaction of an enlistment goes on by what comes from it
+  answers : (process : Pid) (label : Label) (input : Enlistment → PhaseInput) → ((e : Enlistment) → enlistment_named x process label ≡ Some e → Answers x (input e) e) → Keeps x (answering x (enlistment_named x process label) input)
+  answers process label input goes = go _ (sound-answering x (enlistment_named x process label) input sound (enlistment-named x process label) goes)
 
   sound-command : (process : Pid) (command : Command) → Passes (command_tests x process command) → Keeps x (command_effect x process command)
   unfolding commit_transaction rollback_transaction get_transaction_information recover_resource_manager get_notification pre_prepare_complete prepare_complete read_only_enlistment commit_complete rollback_complete single_phase_reject rollback_enlistment pre_prepare_enlistment prepare_enlistment commit_enlistment recover_enlistment set_information get_information
@@ -51,17 +58,17 @@ module _ (x : Present) (sound : IsSoundCourse x) where
   sound-command process (CreateEnlistment label manager transaction kind) passes =
       go _ (sound-create_enlistment x process label (manager_named x process manager) (transaction_named x process transaction) kind sound (manager-named x process manager) (transaction-named x process transaction) passes)
   sound-command process (OpenEnlistment label manager guid) passes = go _ (sound-open_enlistment x process label (manager_named x process manager) guid sound passes)
-  sound-command process (RecoverEnlistment label) passes = go _ (sound-recover_enlistment x sound (enlistment_named x process label) (enlistment-named x process label) passes)
-  sound-command process (PrePrepareComplete label) passes = go _ (sound-pre_prepare_complete x sound (enlistment_named x process label) (enlistment-named x process label) passes)
-  sound-command process (PrepareComplete label) passes = go _ (sound-prepare_complete x sound (enlistment_named x process label) (enlistment-named x process label) passes)
-  sound-command process (ReadOnlyEnlistment label) passes = go _ (sound-read_only x sound (enlistment_named x process label) (enlistment-named x process label) passes)
-  sound-command process (CommitComplete label) passes = go _ (sound-commit_complete x sound (enlistment_named x process label) (enlistment-named x process label) passes)
-  sound-command process (RollbackComplete label) passes = go _ (sound-rollback_complete x sound (enlistment_named x process label) (enlistment-named x process label) passes)
-  sound-command process (SinglePhaseReject label) passes = go _ (sound-single_phase_reject x sound (enlistment_named x process label) (enlistment-named x process label) passes)
-  sound-command process (RollbackEnlistment label) passes = go _ (sound-rollback_enlistment x sound (enlistment_named x process label) (enlistment-named x process label) passes)
-  sound-command process (PrePrepareEnlistment label) passes = go _ (sound-pre_prepare_enlistment x sound (enlistment_named x process label) (enlistment-named x process label) passes)
-  sound-command process (PrepareEnlistment label) passes = go _ (sound-prepare_enlistment x sound (enlistment_named x process label) (enlistment-named x process label) passes)
-  sound-command process (CommitEnlistment label) passes = go _ (sound-commit_enlistment x sound (enlistment_named x process label) (enlistment-named x process label) passes)
+  sound-command process (RecoverEnlistment label) passes = answers process label _ (goes-recover_enlistment x sound (enlistment_named x process label) (enlistment-named x process label) passes)
+  sound-command process (PrePrepareComplete label) passes = answers process label _ (goes-pre_prepare_complete x sound (enlistment_named x process label) (enlistment-named x process label) passes)
+  sound-command process (PrepareComplete label) passes = answers process label _ (goes-prepare_complete x sound (enlistment_named x process label) (enlistment-named x process label) passes)
+  sound-command process (ReadOnlyEnlistment label) passes = answers process label _ (goes-read_only x sound (enlistment_named x process label) (enlistment-named x process label) passes)
+  sound-command process (CommitComplete label) passes = answers process label _ (goes-commit_complete x sound (enlistment_named x process label) (enlistment-named x process label) passes)
+  sound-command process (RollbackComplete label) passes = answers process label _ (goes-rollback_complete x sound (enlistment_named x process label) (enlistment-named x process label) passes)
+  sound-command process (SinglePhaseReject label) passes = answers process label _ (goes-single_phase_reject x sound (enlistment_named x process label) (enlistment-named x process label) passes)
+  sound-command process (RollbackEnlistment label) passes = answers process label _ (goes-rollback_enlistment x sound (enlistment_named x process label) (enlistment-named x process label) passes)
+  sound-command process (PrePrepareEnlistment label) passes = answers process label _ (goes-pre_prepare_enlistment x sound (enlistment_named x process label) (enlistment-named x process label) passes)
+  sound-command process (PrepareEnlistment label) passes = answers process label _ (goes-prepare_enlistment x sound (enlistment_named x process label) (enlistment-named x process label) passes)
+  sound-command process (CommitEnlistment label) passes = answers process label _ (goes-commit_enlistment x sound (enlistment_named x process label) (enlistment-named x process label) passes)
   sound-command process (SetEnlistmentRecoveryInformation label information) passes = go _ (sound-keep_information x (enlistment_named x process label) information sound passes)
   sound-command process (GetEnlistmentRecoveryInformation label) passes = replies (information_in (enlistment_named x process label))
   sound-command process (CreateFile label path access share disposition) passes =

@@ -188,13 +188,13 @@ says-led input c silent none is only =
       events = λ puts. all-puts _ (all-led (λ e. puts_all e ≡ true) input c none record {
         ready_files = sym (ap (list_all puts_some) (stays-led input c).changes) ∙ puts;
         ready_keys = refl;
-        ready = λ e. refl;
-        held = λ e. refl;
+        ready = λ e is. refl;
+        held = λ e is. refl;
         decide = refl;
         undo = refl;
         done_files = refl;
         done_keys = refl;
-        done = λ e. refl;
+        done = λ e is. refl;
         single_files = sym (ap (list_all puts_some) (stays-led input c).changes) ∙ puts;
         single_keys = refl;
       });

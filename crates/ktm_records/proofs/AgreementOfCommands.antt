@@ -36,7 +36,7 @@ use Rattle.ktm_world.specs.TransactionCalls.{answering, arrived, commit_enlistme
 use Rattle.ktm_world.specs.Transactions.{same_id}
 use Rattle.ktm_world.specs.World.{decide_tick, present}
 use Rattle.ktm_steps.proofs.offered.Table.{rows_law}
-use Rattle.ktm_steps.specs.Procedures.{committing, recovered, rollback_answered, single_phase_rejected, commit_answered, pre_prepare_answered, prepare_answered, read_only_answered}
+use Rattle.ktm_steps.specs.Procedures.{committing, commit_answered, pre_prepare_answered, prepare_answered, read_only_answered}
 use Rattle.ktm_records.specs.Agreement.{AgreeingLaw}
 use Rattle.txf_laws.specs.Elements.{IsIn}
 use Rattle.ktm_states.specs.GoodState.{IsGoodState}
@@ -46,18 +46,17 @@ use Rattle.txf_laws.specs.SoundFiles.{IsSoundFiles}
 use Rattle.ktm_records.proofs.offered.Agreement.{Agreed, agreed-of_files, agreed-reply, agreed-still, as-owned, managers-stay, recorded-later, summaries-stay}
 use Rattle.ktm_records.proofs.AgreementOfAnswers.{follows-commit, follows-pre_prepare, follows-pre_prepare_answered, follows-prepare, follows-prepare_answered, follows-read_only_answered, is_preparing}
 use Rattle.ktm_records.proofs.AgreementOfCalls.{agreed-alike, agreed-closed, agreed-create_enlistment, agreed-create_manager, agreed-create_transaction, agreed-exit, agreed-keep_information, agreed-only_reply, agreed-tick}
-use Rattle.ktm_courses.proofs.offered.EnlistmentAnswers.{arrives-recovered, arrives-rollback_answered, arrives-single_phase_rejected, is-aborting, owed-rollback, phase-owing, arrives-commit_answered, arrives-pre_prepare_answered, arrives-prepare_answered, arrives-read_only_answered}
+use Rattle.ktm_courses.proofs.offered.EnlistmentAnswers.{is-aborting, owed-rollback, phase-owing}
 use Rattle.ktm_courses.proofs.offered.Arrivals.{brought-now, stands-now}
-use Rattle.ktm_courses.proofs.offered.Calls.{commits-waiting, superior-allowed, Passes, active-phase, phase-passed, single-phase, enlistment-allowed, enlistment-named, may-roll, passed, rolls, transaction-named, transaction_at-found, fresh-active, fresh-before_pre_prepare, fresh-before_prepare}
+use Rattle.ktm_courses.proofs.offered.Calls.{Answers, goes-pre_prepare_complete, goes-prepare_complete, goes-read_only, goes-commit_complete, goes-rollback_complete, goes-single_phase_reject, goes-pre_prepare_enlistment, goes-prepare_enlistment, goes-commit_enlistment, goes-recover_enlistment, superior-allowed, Passes, active-phase, phase-passed, single-phase, enlistment-allowed, enlistment-named, may-roll, passed, rolls, transaction-named, transaction_at-found, fresh-active}
 use Rattle.ktm_records.proofs.AgreementOfDecisions.{follows-commit_answered, follows-decision}
 use Rattle.txf_laws.proofs.offered.Elements.{list_all-at, not-not}
 use Rattle.ktm_courses.proofs.offered.FileSteps.{IsActiveCaller, caller-active, file-active, passes-left, plain-caller, with_setting-same}
 use Rattle.ktm_records.proofs.offered.AgreementOfCourses.{Follows, agreed-arrived, was}
 use Rattle.ktm_courses.proofs.offered.Moves.{if_cases}
-use Rattle.ktm_courses.proofs.offered.CommitsBegun.{arrives-to_commit, arrives-to_pre_prepare, arrives-to_prepare}
+use Rattle.ktm_courses.proofs.offered.CommitsBegun.{arrives-to_commit}
 use Rattle.ktm_courses.proofs.offered.Leads.{leads-pre_prepare, leads-prepare, leads-read_only}
-use Rattle.ktm_courses.proofs.offered.Procedures.{Arrives}
-use Rattle.ktm_records.proofs.AgreementOfSilentSteps.{agreed-silent, silent-recovered, silent-rollback_answered, silent-single_phase_rejected}
+use Rattle.ktm_records.proofs.AgreementOfSilentSteps.{IsSilent, agreed-silent, silent-recovered, silent-rollback_answered, silent-single_phase_rejected}
 use Rattle.txf_laws.proofs.offered.Tables.{same_id-from}
 use Rattle.ktm_records.proofs.AgreementOfRestarts.{agreed-opened}
 use Rattle.ktm_records.proofs.offered.AgreementOfRollbacks.{agreed-aborted_by}
@@ -111,41 +110,32 @@ module _ (x : Present) (sound : IsSoundCourse x) (agreed : Agreed x) where
       go None is = replies Done
       go (Some t) is = let found = transaction_at-found x.transactions.items e.transaction t is in each e refl t found.0 (same_id-from e.transaction t.id (sym found.1)) is
 
-  -- where a row leads, as its procedure says
-  by : (d e : Course) → d ≡ e → Agreed (apply x (arrived x e Done)) → Agreed (apply x (arrived x d Done))
-  by d e is agrees = subst (λ c. Agreed (apply x (arrived x c Done))) (sym is) agrees
-
   module _ (o : Option Enlistment) (there : (e : Enlistment) → o ≡ Some e → IsIn e x.transactions.enlistments) where
     rolled-by : Passes (enlistment_tests o (may_roll_back_by x)) → Agreed (apply x (answering x o (λ e. PhaseInput.Rollback)))
     rolled-by tests = answers o (λ e. PhaseInput.Rollback) (λ e is t at own found.
         agreed-aborted_by x sound agreed t at (Some e) Done (rolls x sound o there e t found (enlistment-allowed o (may_roll_back_by x) e is tests)))
 
+    -- a call by which the log has to have what it had to have
+    silently : (input : Enlistment → PhaseInput) → ((e : Enlistment) → o ≡ Some e → Answers x (input e) e)
+        → ((e : Enlistment) → o ≡ Some e → (t : Transaction) → IsIn t x.transactions.items → same_id e.transaction t.id ≡ true → transaction_in x e ≡ Some t → IsSilent (course_of x t (Some e)) (led (input e) (course_of x t (Some e))))
+        → Agreed (apply x (answering x o input))
+    silently input goes silent = answers o input (λ e is t at own found.
+        agreed-silent x t (Some e) (led (input e) (course_of x t (Some e))) Done sound agreed at (goes e is t at own found).arrives (silent e is t at own found))
+
     rolled-back : Passes (enlistment_tests o owes_rollback) → Agreed (apply x (answering x o (λ e. PhaseInput.RollbackComplete)))
-    rolled-back tests = answers o (λ e. PhaseInput.RollbackComplete) (λ e is t at own found.
-        let owes = enlistment-allowed o owes_rollback e is tests in
-        let c = course_of x t (Some e) in
-        let stands = stands-now x t (Some e) sound at in
-        let brought = brought-now x t (Some e) sound in
-        by _ _ (rows_law.rollback_completes (course_of x t (Some e)) e refl) (agreed-silent x t (Some e) (rollback_answered c e) Done sound agreed at (arrives-rollback_answered x.recorded.boots c stands brought sound.enlistments.rise e (there e is) own owes)
-        (silent-rollback_answered c e (is-aborting t.phase (phase-owing x.recorded.boots c stands brought sound.enlistments.rise e (there e is) own Owed.Rollback (owed-rollback e owes))))))
+    rolled-back tests = silently (λ e. PhaseInput.RollbackComplete) (goes-rollback_complete x sound o there tests) (λ e is t at own found.
+        silent-rollback_answered (course_of x t (Some e)) e refl (is-aborting t.phase
+        (phase-owing x.recorded.boots (course_of x t (Some e)) (stands-now x t (Some e) sound at) (brought-now x t (Some e) sound) sound.enlistments.rise e (there e is) own Owed.Rollback (owed-rollback e (enlistment-allowed o owes_rollback e is tests)))))
 
     rejected : Passes (enlistment_tests o (may_reject_one_phase x)) → Agreed (apply x (answering x o (λ e. PhaseInput.SinglePhaseReject)))
-    rejected tests = answers o (λ e. PhaseInput.SinglePhaseReject) (λ e is t at own found.
+    rejected tests = silently (λ e. PhaseInput.SinglePhaseReject) (goes-single_phase_reject x sound o there tests) (λ e is t at own found.
         let both = and_parts (phase_passes x is_single_phase e) (owes_commit e) (enlistment-allowed o (may_reject_one_phase x) e is tests) in
         let single = single-phase t.phase (phase-passed x is_single_phase e t found both.0) in
-        let c = course_of x t (Some e) in
-        by _ _ (rows_law.rejects_one_phase (course_of x t (Some e)) e refl) (agreed-silent x t (Some e) (single_phase_rejected c e) Done sound agreed at
-        (arrives-single_phase_rejected x.recorded.boots c (stands-now x t (Some e) sound at) (brought-now x t (Some e) sound) sound.enlistments.rise e (there e is) own single both.1)
-        (silent-single_phase_rejected c e (not-true _ (subst (λ phase. is_recorded_as phase x.managers x.transactions.enlistments t.id t.is_recorded ≡ true) single
-        (list_all-at (λ t. is_recorded_as t.phase x.managers x.transactions.enlistments t.id t.is_recorded) x.transactions.items sound.phases.recorded t at))))))
+        silent-single_phase_rejected (course_of x t (Some e)) (not-true _ (subst (λ phase. is_recorded_as phase x.managers x.transactions.enlistments t.id t.is_recorded ≡ true) single
+        (list_all-at (λ t. is_recorded_as t.phase x.managers x.transactions.enlistments t.id t.is_recorded) x.transactions.items sound.phases.recorded t at))))
 
     recovers : Passes (enlistment_tests o (may_recover x)) → Agreed (apply x (answering x o recovery_of))
-    recovers tests = answers o recovery_of (λ e is t at own found.
-        let c = course_of x t (Some e) in
-        by _ _ (rows_law.recovers c e refl) (agreed-silent x t (Some e) (recovered c e) Done sound agreed at
-        (arrives-recovered x.recorded.boots c (stands-now x t (Some e) sound at) (brought-now x t (Some e) sound) sound.enlistments.rise e (there e is) own
-        (not-true _ (and_parts (not e.is_recovered) _ (enlistment-allowed o (may_recover x) e is tests)).0))
-        (silent-recovered c e)))
+    recovers tests = silently recovery_of (goes-recover_enlistment x sound o there tests) (λ e is t at own found. silent-recovered (course_of x t (Some e)) e refl)
 
   files : (who : Option Id) (o : FileOutcome) → IsActiveCaller x who → Agreed (apply x (of_files x who o))
   files who o active = agreed-of_files x who o sound agreed active
@@ -205,59 +195,46 @@ module _ (x : Present) (sound : IsSoundCourse x) (agreed : Agreed x) where
         agreed-arrived x sound agreed t at None (led PhaseInput.CommitTransaction c) arrives.moved (commit_reply (led PhaseInput.CommitTransaction c)) arrives.stands.outcome
         (follows-commit x sound sound_files good agreed t at None (ap is_voting is) (ap is_preparing is))
 
-    -- the transaction of an enlistment goes on by what comes from it, as this procedure, to where it is sound and agrees
-    goes : (o : Option Enlistment) (input : Enlistment → PhaseInput) (step : Course → Enlistment → Course)
+    -- the transaction of an enlistment goes on by what comes from it, as this procedure, to where it agrees
+    goes : (o : Option Enlistment) (input : Enlistment → PhaseInput) (step : Course → Enlistment → Course) → ((e : Enlistment) → o ≡ Some e → Answers x (input e) e)
         → ((e : Enlistment) → o ≡ Some e → (t : Transaction) (at : IsIn t x.transactions.items) → same_id e.transaction t.id ≡ true → transaction_in x e ≡ Some t
-        → (led (input e) (course_of x t (Some e)) ≡ step (course_of x t (Some e)) e) × Arrives x.recorded.boots (course_of x t (Some e)) (step (course_of x t (Some e)) e)
+        → (led (input e) (course_of x t (Some e)) ≡ step (course_of x t (Some e)) e)
         × Follows x t.id (was x sound t at agreed.agrees).before (was x sound t at agreed.agrees).behind (step (course_of x t (Some e)) e))
         → Agreed (apply x (answering x o input))
-    goes o input step each = answers o input (λ e is t at own found.
+    goes o input step arrives each = answers o input (λ e is t at own found.
+        let there = (arrives e is t at own found).arrives in
         let all = each e is t at own found in
-        by (led (input e) (course_of x t (Some e))) (step (course_of x t (Some e)) e) all.0 (agreed-arrived x sound agreed t at (Some e) (step (course_of x t (Some e)) e) all.1.moved Done all.1.stands.outcome all.2))
+        let had = was x sound t at agreed.agrees in
+        agreed-arrived x sound agreed t at (Some e) (led (input e) (course_of x t (Some e))) there.moved Done there.stands.outcome (subst (Follows x t.id had.before had.behind) (sym all.0) all.1))
 
     module _ (o : Option Enlistment) (there : (e : Enlistment) → o ≡ Some e → IsIn e x.transactions.enlistments) where
       pre-prepared : Passes (enlistment_tests o owes_pre_prepare) → Agreed (apply x (answering x o (λ e. PhaseInput.PrePrepareComplete)))
-      pre-prepared tests = goes o (λ e. PhaseInput.PrePrepareComplete) pre_prepare_answered (λ e is t at own found.
-          let owes = enlistment-allowed o owes_pre_prepare e is tests in (
-            leads-pre_prepare x sound t at e (there e is) own owes,
-            arrives-pre_prepare_answered x.recorded.boots (course_of x t (Some e)) (stands-now x t (Some e) sound at) (brought-now x t (Some e) sound) sound.enlistments.rise e (there e is) own owes,
-            follows-pre_prepare_answered x sound sound_files good agreed t at (Some e) e (there e is) own owes,
-          ))
+      pre-prepared tests = goes o (λ e. PhaseInput.PrePrepareComplete) pre_prepare_answered (goes-pre_prepare_complete x sound o there tests) (λ e is t at own found.
+          let owes = enlistment-allowed o owes_pre_prepare e is tests in
+          (leads-pre_prepare x sound t at e (there e is) own owes, follows-pre_prepare_answered x sound sound_files good agreed t at (Some e) e (there e is) own owes))
 
       prepared : Passes (enlistment_tests o owes_prepare) → Agreed (apply x (answering x o (λ e. PhaseInput.PrepareComplete)))
-      prepared tests = goes o (λ e. PhaseInput.PrepareComplete) prepare_answered (λ e is t at own found.
-          let owes = enlistment-allowed o owes_prepare e is tests in (
-            leads-prepare x sound t at e (there e is) own owes,
-            arrives-prepare_answered x.recorded.boots (course_of x t (Some e)) (stands-now x t (Some e) sound at) (brought-now x t (Some e) sound) sound.enlistments.rise e (there e is) own owes,
-            follows-prepare_answered x sound sound_files good agreed t at (Some e) e (there e is) own owes,
-          ))
+      prepared tests = goes o (λ e. PhaseInput.PrepareComplete) prepare_answered (goes-prepare_complete x sound o there tests) (λ e is t at own found.
+          let owes = enlistment-allowed o owes_prepare e is tests in
+          (leads-prepare x sound t at e (there e is) own owes, follows-prepare_answered x sound sound_files good agreed t at (Some e) e (there e is) own owes))
 
       left : Passes (enlistment_tests o (may_vote x)) → Agreed (apply x (answering x o (λ e. PhaseInput.ReadOnly (share_of e))))
-      left tests = goes o (λ e. PhaseInput.ReadOnly (share_of e)) read_only_answered (λ e is t at own found.
+      left tests = goes o (λ e. PhaseInput.ReadOnly (share_of e)) read_only_answered (goes-read_only x sound o there tests) (λ e is t at own found.
           let phase = and_parts (not (is_superior e) && is_open_for_votes e) (phase_passes x is_voting e) (enlistment-allowed o (may_vote x) e is tests) in
           let both = and_parts (not (is_superior e)) (is_open_for_votes e) phase.0 in
-          let voting = phase-passed x is_voting e t found phase.1 in (
-            leads-read_only x sound t at e (there e is) own (not-true _ both.0) (not-true _ (and_parts (not e.is_read_only) (not e.is_prepared) both.1).0),
-            arrives-read_only_answered x.recorded.boots (course_of x t (Some e)) (stands-now x t (Some e) sound at) (brought-now x t (Some e) sound) sound.enlistments.rise e (there e is) own (not-true _ both.0) both.1 voting,
-            follows-read_only_answered x sound sound_files good agreed t at (Some e) e (there e is) own (not-true _ both.0) both.1 voting,
+          let ordinary = not-true _ both.0 in (
+            leads-read_only x sound t at e (there e is) own ordinary (not-true _ (and_parts (not e.is_read_only) (not e.is_prepared) both.1).0),
+            follows-read_only_answered x sound sound_files good agreed t at (Some e) e (there e is) own ordinary both.1 (phase-passed x is_voting e t found phase.1),
           ))
 
       committed : Passes (enlistment_tests o owes_commit) → Agreed (apply x (answering x o (λ e. PhaseInput.CommitComplete)))
-      committed tests = goes o (λ e. PhaseInput.CommitComplete) commit_answered (λ e is t at own found.
-          let owes = enlistment-allowed o owes_commit e is tests in (
-            rows_law.commit_completes (course_of x t (Some e)) e refl,
-            arrives-commit_answered x.recorded.boots (course_of x t (Some e)) (stands-now x t (Some e) sound at) (brought-now x t (Some e) sound) sound.enlistments.rise e (there e is) own owes,
-            follows-commit_answered x sound sound_files good agreed t at (Some e) e (there e is) own owes,
-          ))
+      committed tests = goes o (λ e. PhaseInput.CommitComplete) commit_answered (goes-commit_complete x sound o there tests) (λ e is t at own found.
+          (rows_law.commit_completes (course_of x t (Some e)) e refl, follows-commit_answered x sound sound_files good agreed t at (Some e) e (there e is) own (enlistment-allowed o owes_commit e is tests)))
 
       pre-prepares : Passes (superior_tests x o before_pre_prepare) → Agreed (apply x (answering x o (λ e. PhaseInput.PrePrepare)))
-      pre-prepares tests = goes o (λ e. PhaseInput.PrePrepare) (λ c e. led PhaseInput.PrePrepare c) (λ e is t at own found.
-          let early = phase-passed x before_pre_prepare e t found (superior-allowed x o before_pre_prepare e is tests) in
-          let votes = before t.phase early in (
-            refl,
-            arrives-to_pre_prepare x.recorded.boots (course_of x t (Some e)) (fresh-before_pre_prepare x sound t at (Some e) t.phase refl early),
-            follows-pre_prepare x sound sound_files good agreed t at (Some e) votes.0 votes.1,
-          ))
+      pre-prepares tests = goes o (λ e. PhaseInput.PrePrepare) (λ c e. led PhaseInput.PrePrepare c) (goes-pre_prepare_enlistment x sound o there tests) (λ e is t at own found.
+          let votes = before t.phase (phase-passed x before_pre_prepare e t found (superior-allowed x o before_pre_prepare e is tests)) in
+          (refl, follows-pre_prepare x sound sound_files good agreed t at (Some e) votes.0 votes.1))
         where
           before : (phase : Phase) → before_pre_prepare phase ≡ true → (is_voting phase ≡ true) × (is_preparing phase ≡ false)
           before Active early = (refl, refl)
@@ -265,13 +242,9 @@ module _ (x : Present) (sound : IsSoundCourse x) (agreed : Agreed x) where
           before _ early = absurd (true≢false (sym early))
 
       prepares : Passes (superior_tests x o before_prepare) → Agreed (apply x (answering x o (λ e. PhaseInput.Prepare)))
-      prepares tests = goes o (λ e. PhaseInput.Prepare) (λ c e. led PhaseInput.Prepare c) (λ e is t at own found.
-          let early = phase-passed x before_prepare e t found (superior-allowed x o before_prepare e is tests) in
-          let votes = before t.phase early in (
-            refl,
-            arrives-to_prepare x.recorded.boots (course_of x t (Some e)) (fresh-before_prepare x sound t at (Some e) t.phase refl early),
-            follows-prepare x sound sound_files good agreed t at (Some e) votes.0 votes.1,
-          ))
+      prepares tests = goes o (λ e. PhaseInput.Prepare) (λ c e. led PhaseInput.Prepare c) (goes-prepare_enlistment x sound o there tests) (λ e is t at own found.
+          let votes = before t.phase (phase-passed x before_prepare e t found (superior-allowed x o before_prepare e is tests)) in
+          (refl, follows-prepare x sound sound_files good agreed t at (Some e) votes.0 votes.1))
         where
           before : (phase : Phase) → before_prepare phase ≡ true → (is_voting phase ≡ true) × (is_preparing phase ≡ false)
           before Active early = (refl, refl)
@@ -280,11 +253,9 @@ module _ (x : Present) (sound : IsSoundCourse x) (agreed : Agreed x) where
           before _ early = absurd (true≢false (sym early))
 
       decides : Passes (superior_tests x o waits_for_superior) → Agreed (apply x (answering x o (λ e. PhaseInput.Commit)))
-      decides tests = goes o (λ e. PhaseInput.Commit) (λ c e. committing c) (λ e is t at own found.
-          let waits = phase-passed x waits_for_superior e t found (superior-allowed x o waits_for_superior e is tests) in
-          let held = held-in t.phase waits in (
+      decides tests = goes o (λ e. PhaseInput.Commit) (λ c e. committing c) (goes-commit_enlistment x sound o there tests) (λ e is t at own found.
+          let held = held-in t.phase (phase-passed x waits_for_superior e t found (superior-allowed x o waits_for_superior e is tests)) in (
             rows_law.commits (course_of x t (Some e)),
-            commits-waiting x sound t at (Some e) t.phase refl waits,
             follows-decision x sound sound_files good agreed t at (Some e) held.0
                 (held.1 t.id t.is_recorded (list_all-at (λ t. is_recorded_as t.phase x.managers x.transactions.enlistments t.id t.is_recorded) x.transactions.items sound.phases.recorded t at)),
           ))

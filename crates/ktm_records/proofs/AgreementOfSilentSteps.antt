@@ -1,10 +1,11 @@
 -- What was recorded agrees with what is so now after steps of a transaction that record nothing.
 use Rattle.std.specs.Prelude.{if◌then◌else◌}
-use Rattle.std.proofs.Common.{◌≡◌, ◌&&◌, not, Bool, true, false, List, [], ◌∷◌, map, filter, Option, Some, None, refl, sym, ◌∙◌, ap, inl, inr}
+use Rattle.std.proofs.Common.{subst, ◌≡◌, ◌&&◌, not, Bool, true, false, List, [], ◌∷◌, map, filter, Option, Some, None, refl, sym, ◌∙◌, ap, inl, inr}
 use Rattle.std.proofs.lemmas.Bool.{cases_Bool}
 use Rattle.std.specs.List.{list_any}
 use Rattle.ktm_base.specs.declared.id.Id.{Id}
 use Rattle.ktm_base.specs.declared.notify.Notify.{Notify}
+use Rattle.ktm_types.specs.declared.input.PhaseInput.{PhaseInput}
 use Rattle.ktm_types.specs.declared.object.Phase.{Phase}
 use Rattle.ktm_types.specs.declared.object.Phase.TheVariants.{InDoubt, Committing, Aborting}
 use Rattle.ktm_types.specs.declared.object.Transaction.{Transaction}
@@ -17,11 +18,13 @@ use Rattle.ktm_world.specs.Lawful.{brought_back, is_held_stage, stage_in, stays,
 use Rattle.ktm_world.specs.Outcome.{apply}
 use Rattle.ktm_world.specs.Phases.{Course, ended, owing, telling, unchanged}
 use Rattle.ktm_world.specs.Present.{Present}
-use Rattle.ktm_world.specs.TransactionCalls.{arrived, course_of}
+use Rattle.ktm_world.specs.TransactionCalls.{arrived, course_of, recovery_of}
 use Rattle.ktm_world.specs.Transactions.{same_id}
 use Rattle.ktm_world.specs.World.{by_rising_id}
 use Rattle.ktm_world.specs.Durable.{is_ready}
-use Rattle.ktm_steps.specs.Procedures.{recovering, finished, recovered, recovered_in, rollback_answered, single_phase_rejected}
+use Rattle.ktm_world.specs.Steps.{led}
+use Rattle.ktm_steps.proofs.offered.Table.{rows_law}
+use Rattle.ktm_steps.specs.Procedures.{recovering, finished, recovered, recovered_in, rollback_answered}
 use Rattle.txf_laws.specs.Elements.{IsIn}
 use Rattle.ktm_courses.specs.SoundCourse.{IsSoundCourse}
 use Rattle.ktm_records.proofs.offered.Agreement.{Agreed, filter-alike}
@@ -129,21 +132,21 @@ silent-unrecorded c d events works other same = record { events = events; works 
 silent-nothing : (c d : Course) → d.events ≡ c.events → d.works ≡ c.works → stage_in c.transaction.phase ≡ None → stage_in d.transaction.phase ≡ None → IsSilent c d
 silent-nothing c d events works before after = record { events = events; works = works; summaries = none-in d after ∙ sym (none-in c before) }
 
-pub silent-rollback_answered : (c : Course) (e : Enlistment) → c.transaction.phase ≡ Aborting → IsSilent c (rollback_answered c e)
+pub silent-rollback_answered : (c : Course) (e : Enlistment) → c.caller ≡ Some e → c.transaction.phase ≡ Aborting → IsSilent c (led PhaseInput.RollbackComplete c)
 unfolding rollback_answered ended
-silent-rollback_answered c e phase =
+silent-rollback_answered c e calls phase =
     let d = finished c e in
-    if_cases (λ x. IsSilent c x) (list_any (is_unfinished d.transaction.id) d.enlistments) d (ended d Aborted)
-    (λ some. silent-nothing c d refl refl (ap stage_in phase) (ap stage_in phase)) (λ none. silent-nothing c (ended d Aborted) refl refl (ap stage_in phase) refl)
+    subst (IsSilent c) (sym (rows_law.rollback_completes c e calls)) (if_cases (λ x. IsSilent c x) (list_any (is_unfinished d.transaction.id) d.enlistments) d (ended d Aborted)
+    (λ some. silent-nothing c d refl refl (ap stage_in phase) (ap stage_in phase)) (λ none. silent-nothing c (ended d Aborted) refl refl (ap stage_in phase) refl))
 
-pub silent-single_phase_rejected : (c : Course) (e : Enlistment) → c.transaction.is_recorded ≡ false → IsSilent c (single_phase_rejected c e)
-unfolding single_phase_rejected
-silent-single_phase_rejected c e other = silent-unrecorded c _ refl refl other refl
+pub silent-single_phase_rejected : (c : Course) → c.transaction.is_recorded ≡ false → IsSilent c (led PhaseInput.SinglePhaseReject c)
+unfolding led
+silent-single_phase_rejected c other = silent-unrecorded c _ refl refl other refl
 
-pub silent-recovered : (c : Course) (e : Enlistment) → IsSilent c (recovered c e)
+pub silent-recovered : (c : Course) (e : Enlistment) → c.caller ≡ Some e → IsSilent c (led (recovery_of e) c)
 unfolding recovered
-silent-recovered c e = if_cases (λ x. IsSilent c x) (is_superior e) (telling d (has_id e.id) Notify.RecoverQuery unchanged) (recovered_in c.transaction.phase d e)
-    (λ above. told Notify.RecoverQuery unchanged (λ f. alike-same f)) (λ below. in-phase c.transaction.phase)
+silent-recovered c e calls = subst (IsSilent c) (sym (rows_law.recovers c e calls)) (if_cases (λ x. IsSilent c x) (is_superior e) (telling d (has_id e.id) Notify.RecoverQuery unchanged) (recovered_in c.transaction.phase d e)
+    (λ above. told Notify.RecoverQuery unchanged (λ f. alike-same f)) (λ below. in-phase c.transaction.phase))
   where
     d : Course
     d = recovering c e

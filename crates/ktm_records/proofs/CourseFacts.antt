@@ -21,7 +21,7 @@ use Rattle.ktm_world.specs.Steps.{led, share_of}
 use Rattle.ktm_world.specs.TransactionCalls.{answering, before_pre_prepare, before_prepare, commit_of, commit_reply, course_of, enlistment_tests, goes_on, is_voting, may_roll_back_by, may_vote, phase_passes, rollback_of, rollback_transaction_tests, superior_tests, transaction_in, waits_for_superior, recovery_of}
 use Rattle.ktm_world.specs.Transactions.{is_undecided, same_id}
 use Rattle.ktm_steps.proofs.offered.Table.{rows_law}
-use Rattle.ktm_steps.specs.Procedures.{finished, rollback_answered, single_phase_rejected}
+use Rattle.ktm_steps.specs.Procedures.{finished}
 use Rattle.txf_laws.specs.Elements.{IsIn}
 use Rattle.ktm_records.specs.Kept.{IsKept, facts_apply}
 use Rattle.ktm_courses.specs.SoundCourse.{has_durable_part, is_outcome_of, is_part_as, is_phase_back, is_recorded_as, owes_until_finished}
@@ -204,15 +204,15 @@ module _ (x : Present) (kept : IsKept x) where
             ]
 
     pub facts-rollback_complete : FactsOf x (answering x o (λ e. PhaseInput.RollbackComplete))
-    unfolding rollback_answered
-    facts-rollback_complete = answers o (λ e. PhaseInput.RollbackComplete) (λ e is t at own found. by (rows_law.rollback_completes (course_of x t (Some e)) e refl) (facts-if_finished x.recorded (finished (course_of x t (Some e)) e) Aborted refl))
+    unfolding led
+    facts-rollback_complete = answers o (λ e. PhaseInput.RollbackComplete) (λ e is t at own found. facts-if_finished x.recorded (finished (course_of x t (Some e)) e) Aborted refl)
 
     pub facts-single_phase_reject : FactsOf x (answering x o (λ e. PhaseInput.SinglePhaseReject))
-    unfolding single_phase_rejected
-    facts-single_phase_reject = answers o (λ e. PhaseInput.SinglePhaseReject) (λ e is t at own found. by (rows_law.rejects_one_phase (course_of x t (Some e)) e refl) refl)
+    unfolding led
+    facts-single_phase_reject = answers o (λ e. PhaseInput.SinglePhaseReject) (λ e is t at own found. refl)
 
     pub facts-recover : FactsOf x (answering x o recovery_of)
-    facts-recover = answers o recovery_of (λ e is t at own found. by (rows_law.recovers (course_of x t (Some e)) e refl) (ap (facts_apply x.recorded) (silent-recovered (course_of x t (Some e)) e).events))
+    facts-recover = answers o recovery_of (λ e is t at own found. ap (facts_apply x.recorded) (silent-recovered (course_of x t (Some e)) e refl).events)
 
     pub facts-rollback_enlistment : Passes (enlistment_tests o (may_roll_back_by x)) → FactsOf x (answering x o (λ e. PhaseInput.Rollback))
     facts-rollback_enlistment tests = answers o (λ e. PhaseInput.Rollback) (λ e is t at own found.

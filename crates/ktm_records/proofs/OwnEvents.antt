@@ -45,13 +45,13 @@ module _ (Files : List Change → Type 0) (Keys : OwnSettings → Type 0) where
   own-led input c none files keys = all-led IsOwnEvent input c none record {
     ready_files = files;
     ready_keys = keys;
-    ready = λ e. tt;
-    held = λ e. tt;
+    ready = λ e is. tt;
+    held = λ e is. tt;
     decide = tt;
     undo = tt;
     done_files = tt;
     done_keys = tt;
-    done = λ e. tt;
+    done = λ e is. tt;
     single_files = files;
     single_keys = keys;
   }

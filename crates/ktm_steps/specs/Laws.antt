@@ -1,4 +1,4 @@
--- What is proved of the phase table: carried out, its rows of outcomes, answers and recovery are procedures on courses, and what steps record is known ahead.
+-- What is proved of the phase table: carried out, its rows of a commit, of answers and of recovery are procedures on courses, and what steps record is known ahead.
 use Rattle.std.specs.Prelude.{◌≡◌, ◌&&◌, not, true, false, List, ◌∷◌, ◌++◌, Some, is_some}
 use Rattle.std.specs.List.{AllByRecursion, list_any}
 use Rattle.ktm_types.specs.declared.input.PhaseInput.{PhaseInput}
@@ -7,7 +7,7 @@ use Rattle.ktm_world.specs.Enlistments.{Enlistment, has_id, takes_part}
 use Rattle.ktm_world.specs.Phases.{Course, is_its_superior}
 use Rattle.ktm_world.specs.Steps.{basis, events_ahead, led, run, share_of}
 use Rattle.ktm_world.specs.TransactionCalls.{recovery_of}
-use Rattle.ktm_steps.specs.Procedures.{aborting, commit_answered, committing, is_caller, pre_prepare_answered, prepare_answered, read_only_answered, recovered, rollback_answered, single_phase_rejected}
+use Rattle.ktm_steps.specs.Procedures.{commit_answered, committing, is_caller, pre_prepare_answered, prepare_answered, read_only_answered, recovered, rollback_answered, single_phase_rejected}
 
 -- the enlistment takes part, and is the only one with its Id
 pub record IsPart (c : Course) (e : Enlistment) : Type 0 where
@@ -26,7 +26,6 @@ TellsSuperior c = AllByRecursion (λ e. (is_its_superior c e && not (is_caller c
 pub record RowsLaw : Type 0 where
   -- whoever calls, if anyone does
   pub commits : (c : Course) → led PhaseInput.Commit c ≡ committing c
-  pub aborts : (c : Course) → led PhaseInput.Rollback c ≡ aborting c
   -- the answers of an enlistment, which makes the call
   pub pre_prepare_completes : (c : Course) (e : Enlistment) → c.caller ≡ Some e → IsPart c e → is_some e.owes ≡ true → led PhaseInput.PrePrepareComplete c ≡ pre_prepare_answered c e
   pub prepare_completes : (c : Course) (e : Enlistment) → c.caller ≡ Some e → IsPart c e → is_some e.owes ≡ true → led PhaseInput.PrepareComplete c ≡ prepare_answered c e

@@ -1,5 +1,5 @@
--- Rows of the phase table once more, as functions of courses: the procedures of outcomes, of answers and of recovery.
-use Rattle.std.specs.Prelude.{ℕ, ◌+◌, ◌==◌, ◌&&◌, ◌||◌, not, Bool, true, List, [], ◌∷◌, ◌++◌, length, filter, Option, Some, None, is_some, if◌then◌else◌}
+-- Rows of the phase table once more, as functions of courses: the procedures of a commit, of answers and of recovery.
+use Rattle.std.specs.Prelude.{ℕ, ◌+◌, ◌==◌, ◌&&◌, ◌||◌, Bool, true, List, [], ◌∷◌, ◌++◌, length, filter, Option, Some, None, is_some, if◌then◌else◌}
 use Rattle.std.specs.List.{list_any}
 use Rattle.ktm_base.specs.declared.notify.Notify.{Notify}
 use Rattle.ktm_types.specs.declared.event.DonePart.{DonePart}
@@ -49,16 +49,6 @@ committing c =
 -- is the enlistment the one that made the call
 abbrev pub is_caller : Course → Enlistment → Bool
 is_caller c e = is_given (id_of c.caller) e
-
--- it rolls back: that is recorded where the log has a Ready or a Held of it, and its enlistments are told, the superior last unless it
--- asked for it
-unfoldable pub aborting : Course → Course
-aborting c =
-    let id = c.transaction.id in
-    let undone = recording c (event_if c.transaction.is_recorded (Event.Undo id)) in
-    let told = telling undone (λ e. takes_part id e && e.is_recovered) Notify.Rollback (owing Owed.Rollback) in
-    let all_told = telling told (λ e. is_its_superior c e && not (is_caller c e)) Notify.Rollback unchanged in
-    ended_if_finished (in_phase (decided all_told Aborted) Aborting) Aborted
 
 -- ---- all are prepared
 

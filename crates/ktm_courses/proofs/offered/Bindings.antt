@@ -205,7 +205,7 @@ soundly-reply x reply sound = record { sound = sound-only_reply x reply sound; q
 soundly-abort_active : (x : Present) (o : Option Transaction) → IsSoundCourse x → ((t : Transaction) → o ≡ Some t → IsIn t (x.transactions).items) → IsSoundly x (abort_active x o)
 soundly-abort_active x None sound there = soundly-reply x Done sound
 soundly-abort_active x (Some t) sound there = if_cases (λ o. IsSoundly x o) (is_active t) (aborted_by x t None Done) (only_reply x Done)
-    (λ active. record { sound = sound-aborted_by x sound t (there t refl) None Done (subst (λ phase. can_roll_back phase ≡ true) (sym (active-phase t active)) refl); quiet = quiet-arrived x (led PhaseInput.Rollback (course_of x t None)) Done })
+    (λ active. record { sound = sound-aborted_by x sound t (there t refl) None Done (λ e is. absurd (none-some e is)) (subst (λ phase. can_roll_back phase ≡ true) (sym (active-phase t active)) refl); quiet = quiet-arrived x (led PhaseInput.Rollback (course_of x t None)) Done })
     (λ other. soundly-reply x Done sound)
 
 soundly-last : (x : Present) (object : Object) → IsSoundCourse x → IsSoundly x (last_handle_gone x object)
@@ -274,7 +274,7 @@ sound-exit x process sound = keeps-of x (closed_in_turn x process (labels_of x.h
 pub stays-due : (x : Present) (o : Option Transaction) → IsSoundCourse x → ((t : Transaction) → o ≡ Some t → IsIn t (x.transactions).items) → StaysSound x (aborted_if_due x o)
 stays-due x None sound there = stays-sound x (only_reply x Done) (soundly-reply x Done sound)
 stays-due x (Some t) sound there = if_cases (λ o. StaysSound x o) (is_due (x.transactions).clock t) (aborted_by x t None Done) (only_reply x Done)
-    (λ due. stays-sound x _ (record { sound = sound-aborted_by x sound t (there t refl) None Done (may-roll t (and_parts _ (may_roll_back t) due).1); quiet = quiet-arrived x (led PhaseInput.Rollback (course_of x t None)) Done }))
+    (λ due. stays-sound x _ (record { sound = sound-aborted_by x sound t (there t refl) None Done (λ e is. absurd (none-some e is)) (may-roll t (and_parts _ (may_roll_back t) due).1); quiet = quiet-arrived x (led PhaseInput.Rollback (course_of x t None)) Done }))
     (λ other. stays-sound x (only_reply x Done) (soundly-reply x Done sound))
 
 pub stays-in_turn : (ts : List Transaction) (x : Present) → IsSoundCourse x → StaysSound x (aborted_in_turn x ts)

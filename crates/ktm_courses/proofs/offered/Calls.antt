@@ -141,11 +141,11 @@ module _ (x : Present) (sound : IsSoundCourse x) (t : Transaction) (there : IsIn
 
   -- it rolls back
   pub rolled_back : can_roll_back t.phase ≡ true → Arrives boot c (led PhaseInput.Rollback c)
-  rolled_back can = subst (Arrives boot c) (sym (rows_law.aborts c)) (arrives-rolled_back boot c stands (brought-now x t caller sound) can)
+  rolled_back can = arrives-rolled_back boot c stands (brought-now x t caller sound) can
 
-  pub sound-aborted_by : (reply : Reply) → can_roll_back t.phase ≡ true → IsSoundOutcome x (aborted_by x t caller reply)
-  sound-aborted_by reply can =
-      let goes = rolled_back can in sound-arrived x t caller (led PhaseInput.Rollback c) reply sound there goes (undecided-free t (led PhaseInput.Rollback c).transaction (undecided-rolls t can stands.outcome))
+  pub sound-aborted_by : (reply : Reply) → ((e : Enlistment) → caller ≡ Some e → IsIn e (x.transactions).enlistments) → can_roll_back t.phase ≡ true → IsSoundOutcome x (aborted_by x t caller reply)
+  sound-aborted_by reply calls can =
+      let goes = rolled_back can in sound-arrived x t caller PhaseInput.Rollback reply sound there calls goes (undecided-free t (led PhaseInput.Rollback c).transaction (undecided-rolls t can stands.outcome))
 
 pub sound-commit_of : (x : Present) (o : Option Transaction) → IsSoundCourse x → ((t : Transaction) → o ≡ Some t → IsIn t (x.transactions).items) → Passes (transaction_tests o) → IsSoundOutcome x (commit_of x o)
 sound-commit_of x None sound there tests = sound-only_reply x Done sound
@@ -154,7 +154,7 @@ sound-commit_of x (Some t) sound there tests =
     let is = active-phase t (not-not _ active.0) in
     let c = course_of x t None in
     let fresh = fresh-active x sound t (there t refl) None is in
-    sound-arrived x t None (led PhaseInput.CommitTransaction c) (commit_reply (led PhaseInput.CommitTransaction c)) sound (there t refl)
+    sound-arrived x t None PhaseInput.CommitTransaction (commit_reply (led PhaseInput.CommitTransaction c)) sound (there t refl) (λ e is. absurd (none-some e is))
     (arrives-to_commit (x.recorded).boots c fresh)
     (undecided-free t (led PhaseInput.CommitTransaction c).transaction fresh.undecided)
 
@@ -162,7 +162,7 @@ pub sound-rollback_of : (x : Present) (o : Option Transaction) → IsSoundCourse
 sound-rollback_of x None sound there tests = sound-only_reply x Done sound
 sound-rollback_of x (Some t) sound there tests =
     let here = passed tests in let committed = passed here.1 in let aborted = passed committed.1 in let may = passed aborted.1 in
-    sound-aborted_by x sound t (there t refl) None Done (may-roll t (not-not _ may.0))
+    sound-aborted_by x sound t (there t refl) None Done (λ e is. absurd (none-some e is)) (may-roll t (not-not _ may.0))
 
 -- ---- enlistments
 
@@ -179,16 +179,16 @@ goes-undecided n a b arrives is = record { arrives = arrives; known = undecided-
 abbrev pub Answers : Present → PhaseInput → Enlistment → Type 0
 Answers x input e = (t : Transaction) → IsIn t (x.transactions).items → same_id e.transaction t.id ≡ true → transaction_in x e ≡ Some t → Goes (x.recorded).boots (course_of x t (Some e)) (led input (course_of x t (Some e)))
 
-sound-goes_on : (x : Present) (e : Enlistment) (o : Option Transaction) (input : PhaseInput) → IsSoundCourse x → transaction_in x e ≡ o → Answers x input e → IsSoundOutcome x (goes_on x e o input)
-sound-goes_on x e None input sound is answers = sound-only_reply x Done sound
-sound-goes_on x e (Some t) input sound is answers =
+sound-goes_on : (x : Present) (e : Enlistment) (o : Option Transaction) (input : PhaseInput) → IsSoundCourse x → IsIn e (x.transactions).enlistments → transaction_in x e ≡ o → Answers x input e → IsSoundOutcome x (goes_on x e o input)
+sound-goes_on x e None input sound in_es is answers = sound-only_reply x Done sound
+sound-goes_on x e (Some t) input sound in_es is answers =
     let found = transaction_at-found (x.transactions).items e.transaction t is in
     let goes = answers t found.0 (same_id-from e.transaction t.id (sym found.1)) is in
-    sound-arrived x t (Some e) (led input (course_of x t (Some e))) Done sound found.0 (goes.arrives) (goes.known)
+    sound-arrived x t (Some e) input Done sound found.0 (λ f is. subst (λ g. IsIn g (x.transactions).enlistments) (same_Some e f is) in_es) (goes.arrives) (goes.known)
 
-pub sound-answering : (x : Present) (o : Option Enlistment) (input : Enlistment → PhaseInput) → IsSoundCourse x → ((e : Enlistment) → o ≡ Some e → Answers x (input e) e) → IsSoundOutcome x (answering x o input)
-sound-answering x None input sound answers = sound-only_reply x Done sound
-sound-answering x (Some e) input sound answers = sound-goes_on x e (transaction_in x e) (input e) sound refl (answers e refl)
+pub sound-answering : (x : Present) (o : Option Enlistment) (input : Enlistment → PhaseInput) → IsSoundCourse x → ((e : Enlistment) → o ≡ Some e → IsIn e (x.transactions).enlistments) → ((e : Enlistment) → o ≡ Some e → Answers x (input e) e) → IsSoundOutcome x (answering x o input)
+sound-answering x None input sound there answers = sound-only_reply x Done sound
+sound-answering x (Some e) input sound there answers = sound-goes_on x e (transaction_in x e) (input e) sound (there e refl) refl (answers e refl)
 
 pub enlistment-allowed : (o : Option Enlistment) (allowed : Enlistment → Bool) (e : Enlistment) → o ≡ Some e → Passes (enlistment_tests o allowed) → allowed e ≡ true
 enlistment-allowed o allowed e is tests =
@@ -256,28 +256,28 @@ module _ (x : Present) (sound : IsSoundCourse x) (e : Enlistment) (in_es : IsIn 
   })
 
 module _ (x : Present) (sound : IsSoundCourse x) (o : Option Enlistment) (there : (e : Enlistment) → o ≡ Some e → IsIn e (x.transactions).enlistments) where
-  pub sound-pre_prepare_complete : Passes (enlistment_tests o owes_pre_prepare) → IsSoundOutcome x (answering x o (λ e. PhaseInput.PrePrepareComplete))
-  sound-pre_prepare_complete tests = sound-answering x o (λ e. PhaseInput.PrePrepareComplete) sound (λ e is t at own found. pre_prepares x sound e (there e is) t at own (enlistment-allowed o owes_pre_prepare e is tests))
+  pub goes-pre_prepare_complete : Passes (enlistment_tests o owes_pre_prepare) → (e : Enlistment) → o ≡ Some e → Answers x PhaseInput.PrePrepareComplete e
+  goes-pre_prepare_complete tests e is t at own found = pre_prepares x sound e (there e is) t at own (enlistment-allowed o owes_pre_prepare e is tests)
 
-  pub sound-prepare_complete : Passes (enlistment_tests o owes_prepare) → IsSoundOutcome x (answering x o (λ e. PhaseInput.PrepareComplete))
-  sound-prepare_complete tests = sound-answering x o (λ e. PhaseInput.PrepareComplete) sound (λ e is t at own found. prepares x sound e (there e is) t at own (enlistment-allowed o owes_prepare e is tests))
+  pub goes-prepare_complete : Passes (enlistment_tests o owes_prepare) → (e : Enlistment) → o ≡ Some e → Answers x PhaseInput.PrepareComplete e
+  goes-prepare_complete tests e is t at own found = prepares x sound e (there e is) t at own (enlistment-allowed o owes_prepare e is tests)
 
-  pub sound-read_only : Passes (enlistment_tests o (may_vote x)) → IsSoundOutcome x (answering x o (λ e. PhaseInput.ReadOnly (share_of e)))
-  sound-read_only tests = sound-answering x o (λ e. PhaseInput.ReadOnly (share_of e)) sound (λ e is t at own found.
+  pub goes-read_only : Passes (enlistment_tests o (may_vote x)) → (e : Enlistment) → o ≡ Some e → Answers x (PhaseInput.ReadOnly (share_of e)) e
+  goes-read_only tests e is t at own found =
       let phase = and_parts (not (is_superior e) && is_open_for_votes e) (phase_passes x is_voting e) (enlistment-allowed o (may_vote x) e is tests) in
       let both = and_parts (not (is_superior e)) (is_open_for_votes e) phase.0 in
-      reads_only x sound e (there e is) t at own (not-true _ both.0) both.1 (phase-passed x is_voting e t found phase.1))
+      reads_only x sound e (there e is) t at own (not-true _ both.0) both.1 (phase-passed x is_voting e t found phase.1)
 
-  pub sound-commit_complete : Passes (enlistment_tests o owes_commit) → IsSoundOutcome x (answering x o (λ e. PhaseInput.CommitComplete))
-  sound-commit_complete tests = sound-answering x o (λ e. PhaseInput.CommitComplete) sound (λ e is t at own found. commits x sound e (there e is) t at own (enlistment-allowed o owes_commit e is tests))
+  pub goes-commit_complete : Passes (enlistment_tests o owes_commit) → (e : Enlistment) → o ≡ Some e → Answers x PhaseInput.CommitComplete e
+  goes-commit_complete tests e is t at own found = commits x sound e (there e is) t at own (enlistment-allowed o owes_commit e is tests)
 
-  pub sound-rollback_complete : Passes (enlistment_tests o owes_rollback) → IsSoundOutcome x (answering x o (λ e. PhaseInput.RollbackComplete))
-  sound-rollback_complete tests = sound-answering x o (λ e. PhaseInput.RollbackComplete) sound (λ e is t at own found. rolls_back x sound e (there e is) t at own (enlistment-allowed o owes_rollback e is tests))
+  pub goes-rollback_complete : Passes (enlistment_tests o owes_rollback) → (e : Enlistment) → o ≡ Some e → Answers x PhaseInput.RollbackComplete e
+  goes-rollback_complete tests e is t at own found = rolls_back x sound e (there e is) t at own (enlistment-allowed o owes_rollback e is tests)
 
-  pub sound-single_phase_reject : Passes (enlistment_tests o (may_reject_one_phase x)) → IsSoundOutcome x (answering x o (λ e. PhaseInput.SinglePhaseReject))
-  sound-single_phase_reject tests = sound-answering x o (λ e. PhaseInput.SinglePhaseReject) sound (λ e is t at own found.
+  pub goes-single_phase_reject : Passes (enlistment_tests o (may_reject_one_phase x)) → (e : Enlistment) → o ≡ Some e → Answers x PhaseInput.SinglePhaseReject e
+  goes-single_phase_reject tests e is t at own found =
       let both = and_parts (phase_passes x is_single_phase e) (owes_commit e) (enlistment-allowed o (may_reject_one_phase x) e is tests) in
-      rejects x sound e (there e is) t at own (single-phase t.phase (phase-passed x is_single_phase e t found both.0)) both.1)
+      rejects x sound e (there e is) t at own (single-phase t.phase (phase-passed x is_single_phase e t found both.0)) both.1
 
   -- an enlistment that may roll its transaction back does so in a phase in which that is possible
   pub rolls : (e : Enlistment) (t : Transaction) → transaction_in x e ≡ Some t → may_roll_back_by x e ≡ true → can_roll_back t.phase ≡ true
@@ -286,28 +286,28 @@ module _ (x : Present) (sound : IsSoundCourse x) (o : Option Enlistment) (there 
     | inr below ↦ voting-rolls t.phase (phase-passed x is_voting e t found (and_parts (not (is_superior e) && is_open_for_votes e) (phase_passes x is_voting e) below.1).1)
   ]
 
-  pub sound-rollback_enlistment : Passes (enlistment_tests o (may_roll_back_by x)) → IsSoundOutcome x (answering x o (λ e. PhaseInput.Rollback))
-  sound-rollback_enlistment tests = sound-answering x o (λ e. PhaseInput.Rollback) sound (λ e is t at own found.
+  pub goes-rollback_enlistment : Passes (enlistment_tests o (may_roll_back_by x)) → (e : Enlistment) → o ≡ Some e → Answers x PhaseInput.Rollback e
+  goes-rollback_enlistment tests e is t at own found =
       let can = rolls e t found (enlistment-allowed o (may_roll_back_by x) e is tests) in
-      goes x sound e (there e is) t at own _ (led PhaseInput.Rollback (course_of x t (Some e))) refl (rolled_back x sound t at (Some e) can) can)
+      goes x sound e (there e is) t at own _ (led PhaseInput.Rollback (course_of x t (Some e))) refl (rolled_back x sound t at (Some e) can) can
 
-  pub sound-pre_prepare_enlistment : Passes (superior_tests x o before_pre_prepare) → IsSoundOutcome x (answering x o (λ e. PhaseInput.PrePrepare))
-  sound-pre_prepare_enlistment tests = sound-answering x o (λ e. PhaseInput.PrePrepare) sound (λ e is t at own found.
+  pub goes-pre_prepare_enlistment : Passes (superior_tests x o before_pre_prepare) → (e : Enlistment) → o ≡ Some e → Answers x PhaseInput.PrePrepare e
+  goes-pre_prepare_enlistment tests e is t at own found =
       let c = course_of x t (Some e) in
       let fresh = fresh-before_pre_prepare x sound t at (Some e) t.phase refl (phase-passed x before_pre_prepare e t found (superior-allowed x o before_pre_prepare e is tests)) in
-      goes-undecided (x.recorded).boots c (led PhaseInput.PrePrepare c) (arrives-to_pre_prepare (x.recorded).boots c fresh) fresh.undecided)
+      goes-undecided (x.recorded).boots c (led PhaseInput.PrePrepare c) (arrives-to_pre_prepare (x.recorded).boots c fresh) fresh.undecided
 
-  pub sound-prepare_enlistment : Passes (superior_tests x o before_prepare) → IsSoundOutcome x (answering x o (λ e. PhaseInput.Prepare))
-  sound-prepare_enlistment tests = sound-answering x o (λ e. PhaseInput.Prepare) sound (λ e is t at own found.
+  pub goes-prepare_enlistment : Passes (superior_tests x o before_prepare) → (e : Enlistment) → o ≡ Some e → Answers x PhaseInput.Prepare e
+  goes-prepare_enlistment tests e is t at own found =
       let c = course_of x t (Some e) in
       let fresh = fresh-before_prepare x sound t at (Some e) t.phase refl (phase-passed x before_prepare e t found (superior-allowed x o before_prepare e is tests)) in
-      goes-undecided (x.recorded).boots c (led PhaseInput.Prepare c) (arrives-to_prepare (x.recorded).boots c fresh) fresh.undecided)
+      goes-undecided (x.recorded).boots c (led PhaseInput.Prepare c) (arrives-to_prepare (x.recorded).boots c fresh) fresh.undecided
 
-  pub sound-commit_enlistment : Passes (superior_tests x o waits_for_superior) → IsSoundOutcome x (answering x o (λ e. PhaseInput.Commit))
-  sound-commit_enlistment tests = sound-answering x o (λ e. PhaseInput.Commit) sound (λ e is t at own found.
+  pub goes-commit_enlistment : Passes (superior_tests x o waits_for_superior) → (e : Enlistment) → o ≡ Some e → Answers x PhaseInput.Commit e
+  goes-commit_enlistment tests e is t at own found =
       let c = course_of x t (Some e) in
       let waits = phase-passed x waits_for_superior e t found (superior-allowed x o waits_for_superior e is tests) in
-      goes x sound e (there e is) t at own _ (committing c) (rows_law.commits c) (commits-waiting x sound t at (Some e) t.phase refl waits) (waiting-rolls t.phase waits))
+      goes x sound e (there e is) t at own _ (committing c) (rows_law.commits c) (commits-waiting x sound t at (Some e) t.phase refl waits) (waiting-rolls t.phase waits)
     where
       waiting-rolls : (phase : Phase) → waits_for_superior phase ≡ true → can_roll_back phase ≡ true
       waiting-rolls Committing is = is
@@ -315,8 +315,8 @@ module _ (x : Present) (sound : IsSoundCourse x) (o : Option Enlistment) (there 
       waiting-rolls Ended is = is
       waiting-rolls _ is = refl
 
-  pub sound-recover_enlistment : Passes (enlistment_tests o (may_recover x)) → IsSoundOutcome x (answering x o recovery_of)
-  sound-recover_enlistment tests = sound-answering x o recovery_of sound (λ e is t at own found. recovers x sound e (there e is) t at own (not-true _ (and_parts (not e.is_recovered) _ (enlistment-allowed o (may_recover x) e is tests)).0))
+  pub goes-recover_enlistment : Passes (enlistment_tests o (may_recover x)) → (e : Enlistment) → o ≡ Some e → Answers x (recovery_of e) e
+  goes-recover_enlistment tests e is t at own found = recovers x sound e (there e is) t at own (not-true _ (and_parts (not e.is_recovered) _ (enlistment-allowed o (may_recover x) e is tests)).0)
 
 -- ---- queues
 

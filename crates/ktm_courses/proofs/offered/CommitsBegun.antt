@@ -22,8 +22,7 @@ use Rattle.txf_laws.specs.Elements.{IsIn}
 use Rattle.ktm_courses.specs.SoundCourse.{is_last_recover, is_unrecovered_well, is_outcome_of, is_of_its_boot, is_superior_as, is_idle, is_waiting, is_part_as, is_awaited, has_durable_part, is_recorded_as_asked}
 use Rattle.txf_laws.proofs.offered.Diamonds.{none-from}
 use Rattle.txf_laws.proofs.offered.Elements.{list_any-at, list_any-from}
-use Rattle.ktm_states.specs.Grammatical.{ids_in}
-use Rattle.ktm_courses.proofs.offered.Moves.{if_cases, IsIn-map, IsSame, IsSame-refl, Moved, Moved-then, moved-transaction, moved-recording, moved-telling, Changes, changes-none, stepped, with-unchanged, Stand, Stand-with, AreOwn-one, knows-own}
+use Rattle.ktm_courses.proofs.offered.Moves.{if_cases, IsIn-map, IsSame, IsSame-refl, Moved, Moved-then, moved-transaction, moved-recording, moved-telling, Changes, changes-none, stepped, with-unchanged, Stand, Stand-with}
 use Rattle.ktm_courses.proofs.offered.Procedures.{none-at, filter-with, superior-with, idle-parts, part-parts, unprepared-recovered, Arrives, arrives-then, its-own, arrives-ended, alike-owing, no-parts, Stand-nobody, only-one, arrives-all_ready, AllReady}
 
 -- nothing of the transaction is prepared, and the outcome is not known
@@ -114,10 +113,10 @@ module _ (boot : ℕ) (c : Course) (fresh : Fresh boot c) where
 
   -- ---- one participant alone
 
-  arrives-single : (part : Part) → ids_in part ≡ [] → length (taking_part c) ≡ 0 → Arrives boot c (ended (record (recording c (Event.Single (c.transaction).id part ∷ [])) { works = c.works ++ work_of c }) Committed)
-  arrives-single part none_in none =
+  arrives-single : (part : Part) → length (taking_part c) ≡ 0 → Arrives boot c (ended (record (recording c (Event.Single (c.transaction).id part ∷ [])) { works = c.works ++ work_of c }) Committed)
+  arrives-single part none =
       let d = record (recording c (Event.Single (c.transaction).id part ∷ [])) { works = c.works ++ work_of c } in
-      arrives-then boot (moved-recording c _ (c.works ++ work_of c) (AreOwn-one c (Event.Single (c.transaction).id part) refl (λ id is. knows-own c id (subst (λ ids. IsIn id ((c.transaction).id ∷ ids)) none_in is))))
+      arrives-then boot (moved-recording c _ (c.works ++ work_of c))
       (arrives-ended boot d Committed refl (rw fresh.here refl) (Stand-nobody c.enlistments (c.transaction).id is_idle (is_part_as Ended) fresh.stand (no-parts c none)))
 
   abbrev c_single : Course
@@ -211,8 +210,8 @@ module _ (boot : ℕ) (c : Course) (fresh : Fresh boot c) where
     pre_preparing = arrives-pre_preparing;
     preparing = arrives-preparing;
     one_phase = λ alone one changes settings some. let no_files = one_if-false _ changes in let no_keys = one_if-false _ settings in arrives-one_phase (omega arith) changes settings alone some;
-    files = λ one changes. let counted = one_if-true _ changes in arrives-single (Part.Changes c.changes) refl (omega arith);
-    keys = λ one changes settings. let counted = one_if-true _ settings in arrives-single (Part.Settings c.settings) refl (omega arith);
+    files = λ one changes. let counted = one_if-true _ changes in arrives-single (Part.Changes c.changes) (omega arith);
+    keys = λ one changes settings. let counted = one_if-true _ settings in arrives-single (Part.Settings c.settings) (omega arith);
     nobody = λ none. arrives-ended boot c Committed refl (rw fresh.here refl) (Stand-nobody c.enlistments (c.transaction).id is_idle (is_part_as Ended) fresh.stand (no-parts c (omega arith)));
     ready = λ none. subst (Arrives boot c) (sym (all_readies-run c)) (arrives-all_ready boot c (all-ready none));
   }

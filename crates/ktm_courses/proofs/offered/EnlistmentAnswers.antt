@@ -4,10 +4,10 @@ use Rattle.std.proofs.Common.{◌≡◌, ℕ, ◌==◌, ◌&&◌, ◌||◌, not,
 use Rattle.std.proofs.lemmas.Bool.{cases_Bool, and_parts, and_from, and_cases, and_left, and_right, or_cases, or_left, or_right, eqb-true, not-true, not_from_false, true≢false, false_from_ne_true}
 use Rattle.std.proofs.lemmas.List.Sums.{length-filter}
 use Rattle.std.specs.List.{list_any}
-use Rattle.ktm_base.specs.declared.id.Id.{Id}
 use Rattle.ktm_base.specs.declared.notify.Notify.{Notify}
 use Rattle.ktm_types.specs.declared.event.DonePart.{DonePart}
 use Rattle.ktm_types.specs.declared.event.Event.{Event}
+use Rattle.ktm_types.specs.declared.input.PhaseInput.{PhaseInput}
 use Rattle.ktm_types.specs.declared.object.Phase.{Phase}
 use Rattle.ktm_types.specs.declared.object.Phase.TheVariants.{Active, Requested, PrePreparing, PrePrepared, Preparing, SinglePhase, Held, InDoubt, Committing, Aborting, Ended}
 use Rattle.ktm_types.specs.declared.object.Transaction.{Transaction}
@@ -21,11 +21,12 @@ use Rattle.ktm_courses.specs.SoundCourse.{is_last_recover, is_phase_back, is_unr
 use Rattle.txf_laws.proofs.offered.Diamonds.{none-from}
 use Rattle.txf_laws.proofs.offered.Lists.{IsIn-unmap}
 use Rattle.txf_laws.proofs.offered.Elements.{list_any-at, list_any-from}
-use Rattle.ktm_courses.proofs.offered.Moves.{same-by_id, if_parts, moved-changing, unrecovered-moved, if_cases, IsIn-map, IsSame, IsSame-refl, IsAlike, Moved, Moved-then, moved-transaction, moved-recording, moved-telling, Changes, stepped, with-unchanged, is_bystander, Stand, Stand-with, Stand-as, AreOwn-one, AreOwn-if, Knows, knows-one, knows-moved}
+use Rattle.ktm_courses.proofs.offered.Moves.{same-by_id, if_parts, moved-changing, unrecovered-moved, if_cases, IsIn-map, IsSame, IsSame-refl, IsAlike, Moved, Moved-then, moved-transaction, moved-recording, moved-telling, Changes, stepped, with-unchanged, is_bystander, Stand, Stand-with, Stand-as}
 use Rattle.ktm_courses.proofs.offered.Procedures.{is_backed-from, waiting-parts, over-part, arrives-if_finished, may_be_told, arrives-aborting, none-at, list_any-told, list_any-with, filter-with, superior-with, idle-parts, part-parts, unprepared-recovered, Arrives, Stands, arrives-then, alike-owing, Stand-nobody, only-one, arrives-ended, arrives-all_ready}
 use Rattle.ktm_world.specs.Durable.{is_before}
+use Rattle.ktm_world.specs.Steps.{led}
 use Rattle.ktm_world.specs.TransactionCalls.{is_voting}
-use Rattle.ktm_steps.specs.Procedures.{someone_owes, when_none_owes, pre_prepare_answered, prepare_answered, without_its_answer, recovered as recovered_by, read_only_answered, single_phase_rejected, finished, commit_answered, rollback_answered, recovering, recovered_in, aborting, all_ready, pre_prepared}
+use Rattle.ktm_steps.specs.Procedures.{someone_owes, when_none_owes, pre_prepare_answered, prepare_answered, without_its_answer, recovered as recovered_by, read_only_answered, single_phase_rejected, finished, commit_answered, rollback_answered, recovering, recovered_in, all_ready, pre_prepared}
 use Rattle.txf_laws.proofs.offered.Tables.{same_id-equal, same_id-from}
 use Rattle.ktm_courses.proofs.offered.Outcomes.{committed-outcome, aborted-outcome}
 use Rattle.ktm_courses.proofs.offered.CommitsBegun.{Fresh, arrives-pre_prepared}
@@ -205,7 +206,7 @@ unrecovered-parts boot ms e well unrecovered =
     (not-true _ f.1, not-true _ d.1, b.1, a.1)
 
 -- a transaction whose outcome is not known rolls back
-pub arrives-rolled_back : (boot : ℕ) (c : Course) → Stands boot c → ((e : Enlistment) → IsIn e c.enlistments → is_unrecovered_well boot c.managers e ≡ true) → can_roll_back (c.transaction).phase ≡ true → Arrives boot c (aborting c)
+pub arrives-rolled_back : (boot : ℕ) (c : Course) → Stands boot c → ((e : Enlistment) → IsIn e c.enlistments → is_unrecovered_well boot c.managers e ≡ true) → can_roll_back (c.transaction).phase ≡ true → Arrives boot c (led PhaseInput.Rollback c)
 arrives-rolled_back boot c stands brought can = arrives-aborting boot c (is_backed-from boot c.transaction stands.boots)
     (Stand-as c.enlistments (c.transaction).id (is_part_as (c.transaction).phase) may_be_told stands.stand (λ e there part fits.
     and_from _ _ (not_from_false _ (unfinished-in (c.transaction).phase e can fits)) (elim (cases_Bool e.is_recovered) [
@@ -438,7 +439,7 @@ module _ (boot : ℕ) (c : Course) (stands : Stands boot c) (brought : (e : Enli
     arrives-prepare_answered = if_cases (λ d. Arrives boot c (when_none_owes d all_ready)) (is_durable_at c.managers e.manager)
         (c_prepared (c.events ++ (Event.Ready (c.transaction).id (enlistment_part e) ∷ [])) true) (c_prepared c.events (c.transaction).is_recorded)
         (λ durable. goes-on (c.events ++ (Event.Ready (c.transaction).id (enlistment_part e) ∷ [])) true
-        (Moved-then (Moved-then prepared-moved (moved-recording (changing_one c e.id prepared) _ c.works (AreOwn-one (changing_one c e.id prepared) (Event.Ready (c.transaction).id (enlistment_part e)) refl (λ id is. knows-moved c (changing_one c e.id prepared) prepared-moved id (knows-one c e there id is)))))
+        (Moved-then (Moved-then prepared-moved (moved-recording (changing_one c e.id prepared) _ c.works))
         (moved-transaction (recording (changing_one c e.id prepared) (Event.Ready (c.transaction).id (enlistment_part e) ∷ [])) (record c.transaction { is_recorded = true }) refl refl refl))
         (rw (list_any-from (λ x. takes_part (c.transaction).id x && (x.is_prepared && is_durable_at c.managers x.manager)) (with_enlistments (has_id e.id) prepared c.enlistments) (stepped (has_id e.id) prepared e)
         (IsIn-map (stepped (has_id e.id) prepared) e c.enlistments there) (rw it-itself (and_from _ _ part_preparing durable))) refl))
@@ -671,14 +672,9 @@ module _ (boot : ℕ) (c : Course) (stands : Stands boot c) (brought : (e : Enli
     abbrev done_event : List Event
     done_event = event_if (is_durable_at c.managers e.manager) (Event.Done (c.transaction).id (DonePart.Enlistment e.id))
 
-    knows-two : (id : Id) → IsIn id ((c.transaction).id ∷ e.id ∷ []) → Knows c id
-    knows-two id (inl own') = inl (sym own')
-    knows-two id (inr (inl its)) = inr (e, there, inl (sym its))
-    knows-two id (inr (inr none)) = absurd none
-
     -- it was one of many
     one-committed : (c.transaction).phase ≡ Committing → Stands boot (in_phase c Committing) → Arrives boot c (ended_if_finished (recording (finished c e) done_event) TransactionOutcome.Committed)
-    one-committed phase at = arrives-then boot (Moved-then (finished-moved Owed.Commit is_commit) (moved-recording (finished c e) _ c.works (AreOwn-if (finished c e) (is_durable_at c.managers e.manager) (Event.Done (c.transaction).id (DonePart.Enlistment e.id)) refl (λ id is. knows-moved c (finished c e) (finished-moved Owed.Commit is_commit) id (knows-two id is)))))
+    one-committed phase at = arrives-then boot (Moved-then (finished-moved Owed.Commit is_commit) (moved-recording (finished c e) _ c.works))
         (arrives-if_finished boot (recording (finished c e) done_event) TransactionOutcome.Committed (is_part_as Committing) refl (is_backed-from boot c.transaction stands.boots) stand
         (λ x fits over. over-part owes_commit x (and_parts x.is_prepared _ fits).1 over)
         (λ some. stands-back boot (recording (finished c e) done_event) Committing phase (record {

@@ -12,10 +12,9 @@ use Rattle.ktm_types.specs.declared.event.Event.TheVariants.{Boot}
 use Rattle.ktm_types.specs.declared.object.Transaction.{Transaction}
 use Rattle.ktm_world.specs.Committed.{Work}
 use Rattle.ktm_world.specs.Enlistments.{Enlistment, Sent, is_superior, takes_part, with_enlistments, tell}
-use Rattle.ktm_world.specs.Phases.{Course, event_if, telling, unchanged}
+use Rattle.ktm_world.specs.Phases.{Course, telling, unchanged}
 use Rattle.ktm_world.specs.Transactions.{same_id}
 use Rattle.txf_laws.specs.Elements.{IsIn, each_pair}
-use Rattle.ktm_states.specs.Grammatical.{ids_of}
 use Rattle.ktm_courses.specs.SoundCourse.{is_last_recover, is_idle, is_unrecovered_well}
 use Rattle.txf_laws.proofs.offered.Lists.{IsIn-cases, IsIn-unmap}
 use Rattle.ktm_world.specs.Durable.{is_before}
@@ -118,53 +117,6 @@ NoBoots-none = record { none = λ event there. absurd there }
 pub NoBoots-one : (event : Event) → is_boot event ≡ false → NoBoots (event ∷ [])
 NoBoots-one event is = record { none = λ other there. elim there [ inl e ↦ subst (λ x. is_boot x ≡ false) e is | inr none ↦ absurd none ] }
 
--- an event that is recorded where this is so
-pub NoBoots-if : (b : Bool) (event : Event) → is_boot event ≡ false → NoBoots (event_if b event)
-NoBoots-if true event is = NoBoots-one event is
-NoBoots-if false event is = NoBoots-none
-
--- ---- what it names
-
--- the Id is the transaction's, or that of one of the enlistments or of its resource manager
-abbrev pub Knows : Course → Id → Type 0
-Knows c id = (id ≡ (c.transaction).id) ⊎ ((e : Enlistment) × IsIn e c.enlistments × ((id ≡ e.id) ⊎ (id ≡ e.manager)))
-
--- events that are no boots, and name what is known
-pub record AreOwn (c : Course) (events : List Event) : Type 0 where
-  pub none : NoBoots events
-  pub named : (event : Event) → IsIn event events → (id : Id) → IsIn id (ids_of event) → Knows c id
-
-pub AreOwn-append : {c : Course} {a b : List Event} → AreOwn c a → AreOwn c b → AreOwn c (a ++ b)
-AreOwn-append {c} {a} {b} first second = record {
-  none = NoBoots-append first.none second.none;
-  named = λ event there. elim (IsIn-cases event a b there) [ inl left ↦ first.named event left | inr right ↦ second.named event right ];
-}
-
-pub AreOwn-none : (c : Course) → AreOwn c []
-AreOwn-none c = record { none = NoBoots-none; named = λ event there. absurd there }
-
-pub AreOwn-one : (c : Course) (event : Event) → is_boot event ≡ false → ((id : Id) → IsIn id (ids_of event) → Knows c id) → AreOwn c (event ∷ [])
-AreOwn-one c event is known = record {
-  none = NoBoots-one event is;
-  named = λ other there id is_named. elim there [ inl e ↦ known id (subst (λ x. IsIn id (ids_of x)) (sym e) is_named) | inr none ↦ absurd none ];
-}
-
-pub AreOwn-if : (c : Course) (b : Bool) (event : Event) → is_boot event ≡ false → ((id : Id) → IsIn id (ids_of event) → Knows c id) → AreOwn c (event_if b event)
-AreOwn-if c true event is known = AreOwn-one c event is known
-AreOwn-if c false event is known = AreOwn-none c
-
--- the transaction alone
-pub knows-own : (c : Course) (id : Id) → IsIn id ((c.transaction).id ∷ []) → Knows c id
-knows-own c id (inl e) = inl (sym e)
-knows-own c id (inr none) = absurd none
-
--- the transaction, and an enlistment of the course
-pub knows-one : (c : Course) (e : Enlistment) → IsIn e c.enlistments → (id : Id) → IsIn id ((c.transaction).id ∷ e.id ∷ e.manager ∷ []) → Knows c id
-knows-one c e there id (inl is) = inl (sym is)
-knows-one c e there id (inr (inl is)) = inr (e, there, inl (sym is))
-knows-one c e there id (inr (inr (inl is))) = inr (e, there, inr (sym is))
-knows-one c e there id (inr (inr (inr none))) = absurd none
-
 -- ---- steps
 
 -- what was changed of enlistments: those of the transaction, each of which is the same, and recovered where it is changed
@@ -175,19 +127,18 @@ pub record Moves (c d : Course) : Type 0 where
   pub others : (e : Enlistment) → IsIn e c.enlistments → same_id e.transaction (c.transaction).id ≡ false → step e ≡ e
   pub recovered : (e : Enlistment) → IsIn e c.enlistments → (step e ≡ e) ⊎ ((step e).is_recovered ≡ true)
 
--- a transaction has gone on, and it sent and recorded what a transaction on its way does
+-- a transaction has gone on, and it sent what a transaction on its way does
 pub record Moved (c d : Course) : Type 0 where
   pub stays : Stays c d
   pub enlistments : Moves c d
   pub sent : (s : Sent) → IsIn s d.sent → IsIn s c.sent ⊎ IsTold c.enlistments s
-  pub events : AreOwn c c.events → AreOwn c d.events
 
 -- no enlistment is changed
 moves-none : (c d : Course) → d.enlistments ≡ c.enlistments → Moves c d
 moves-none c d same = record { step = λ e. e; is = same ∙ sym (map-id c.enlistments); same = IsSame-refl; others = λ e there other. refl; recovered = λ e there. inl refl }
 
 pub Moved-refl : (c : Course) → Moved c c
-Moved-refl c = record { stays = stays c; enlistments = moves-none c c refl; sent = λ s there. inl there; events = λ none. none }
+Moved-refl c = record { stays = stays c; enlistments = moves-none c c refl; sent = λ s there. inl there }
 
 IsTold-back : (es : List Enlistment) (step : Enlistment → Enlistment) → ((e : Enlistment) → IsSame e (step e)) → (s : Sent) → IsTold (map step es) s → IsTold es s
 IsTold-back es step same s told =
@@ -200,34 +151,6 @@ IsTold-back es step same s told =
       note = told.note ∙ ap (λ (e : Enlistment). Some e.id) (sym from.1) ∙ ap Some alike.id;
       kind = told.kind;
     }
-
-pub knows-moved : (c d : Course) → Moved c d → (id : Id) → Knows c id → Knows d id
-knows-moved c d moved id (inl is) = inl (is ∙ sym moved.stays.id)
-knows-moved c d moved id (inr (e, there, is)) = inr (
-  moved.enlistments.step e,
-  subst (λ es. IsIn (moved.enlistments.step e) es) (sym moved.enlistments.is) (IsIn-map moved.enlistments.step e c.enlistments there),
-  elim is [ inl own ↦ inl (own ∙ sym (moved.enlistments.same e).id) | inr manager ↦ inr (manager ∙ sym (moved.enlistments.same e).manager) ],
-)
-
-knows-before : (c d : Course) → Moved c d → (id : Id) → Knows d id → Knows c id
-knows-before c d moved id (inl is) = inl (is ∙ moved.stays.id)
-knows-before c d moved id (inr (e, there, is)) =
-    let from = IsIn-unmap moved.enlistments.step e c.enlistments (subst (λ es. IsIn e es) moved.enlistments.is there) in
-    inr (
-      from.0,
-      from.2,
-      elim is [
-        | inl own ↦ inl (own ∙ ap (λ (f : Enlistment). f.id) (sym from.1) ∙ (moved.enlistments.same from.0).id)
-        | inr manager ↦ inr (manager ∙ ap (λ (f : Enlistment). f.manager) (sym from.1) ∙ (moved.enlistments.same from.0).manager)
-      ],
-    )
-
--- what is named by one course is by the other
-own-moved : (c d : Course) (events : List Event) → Moved c d → AreOwn c events → AreOwn d events
-own-moved c d events moved own = record { none = own.none; named = λ event there id is. knows-moved c d moved id (own.named event there id is) }
-
-own-before : (c d : Course) (events : List Event) → Moved c d → AreOwn d events → AreOwn c events
-own-before c d events moved own = record { none = own.none; named = λ event there id is. knows-before c d moved id (own.named event there id is) }
 
 -- one move after another
 moves-then : (c d e : Course) → Stays c d → Moves c d → Moves d e → Moves c e
@@ -255,7 +178,6 @@ Moved-then {c} {d} {e} first second = let a = first.enlistments in record {
     | inl before ↦ first.sent s before
     | inr told ↦ inr (IsTold-back c.enlistments a.step a.same s (subst (λ es. IsTold es s) a.is told))
   ];
-  events = λ own. own-before c d e.events first (second.events (own-moved c d d.events first (first.events own)));
 }
 
 -- of the transaction itself something else is so
@@ -264,16 +186,14 @@ moved-transaction c t id timeout created = record {
   stays = record { id = id; timeout = timeout; created = created; managers = refl; changes = refl; settings = refl; caller = refl };
   enlistments = moves-none c (record c { transaction = t }) refl;
   sent = λ s there. inl there;
-  events = λ none. none;
 }
 
 -- it recorded events, and committed works
-pub moved-recording : (c : Course) (events : List Event) (works : List Work) → AreOwn c events → Moved c (record c { events = c.events ++ events; works = works })
-moved-recording c events works none = let d = record c { events = c.events ++ events; works = works } in record {
+pub moved-recording : (c : Course) (events : List Event) (works : List Work) → Moved c (record c { events = c.events ++ events; works = works })
+moved-recording c events works = let d = record c { events = c.events ++ events; works = works } in record {
   stays = record { id = refl; timeout = refl; created = refl; managers = refl; changes = refl; settings = refl; caller = refl };
   enlistments = moves-none c d refl;
   sent = λ s there. inl there;
-  events = λ before. AreOwn-append before none;
 }
 
 -- enlistments that pass a test are changed
@@ -300,7 +220,6 @@ moved-changing c test f sent changes told = record {
     recovered = λ e there. if_cases (λ (x : Enlistment). (x ≡ e) ⊎ (x.is_recovered ≡ true)) (test e) (f e) e (λ is. changes.recovered e there is) (λ is. inl refl);
   };
   sent = told;
-  events = λ none. none;
 }
 
 told-in : (c : Course) (test : Enlistment → Bool) (kind : Notify) → is_last_recover kind ≡ false → (s : Sent) → IsIn s (c.sent ++ map (tell kind) (filter test c.enlistments)) → IsIn s c.sent ⊎ IsTold c.enlistments s

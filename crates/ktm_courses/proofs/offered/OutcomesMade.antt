@@ -3,9 +3,10 @@ use Rattle.std.proofs.Common.{◌≡◌, ◌&&◌, ◌||◌, not, true, false, L
 use Rattle.std.proofs.lemmas.Bool.{cases_Bool, or_left, not_from_false, true≢false, and_from}
 use Rattle.std.proofs.lemmas.List.{append-nil}
 use Rattle.ktm_states.specs.GoodState.{is_of_object}
-use Rattle.ktm_states.specs.Grammatical.{ids_of, names_objects}
+use Rattle.ktm_states.specs.Grammatical.{names_objects}
 use Rattle.ktm_courses.proofs.offered.NewObjects.{counted-parts}
-use Rattle.std.specs.List.{list_all}
+use Rattle.std.specs.List.{AllByRecursion, list_all}
+use Rattle.std.proofs.lemmas.Option.{none-some, same_Some}
 use Rattle.ktm_base.specs.declared.id.Id.{Id}
 use Rattle.ktm_types.specs.declared.event.Event.{Event}
 use Rattle.ktm_types.specs.declared.event.Event.TheVariants.{Boot, MadeRm, Plain, Ready, Single, Held, Decide, Undo, Done}
@@ -13,15 +14,18 @@ use Rattle.ktm_types.specs.declared.event.DonePart.{DonePart}
 use Rattle.ktm_types.specs.declared.object.Transaction.{Transaction}
 use Rattle.ktm_types.specs.declared.object.Phase.{Phase}
 use Rattle.ktm_types.specs.declared.object.Phase.TheVariants.{SinglePhase}
+use Rattle.ktm_types.specs.declared.input.PhaseInput.{PhaseInput}
 use Rattle.ktm_types.specs.declared.reply.Reply.{Reply}
 use Rattle.ktm_world.specs.Durable.{Durable, Recorded, after_event, after_events, decide_recorded, finish_recorded, recorded_at}
-use Rattle.ktm_world.specs.Enlistments.{Manager, Sent, notes_for, taken_count, Enlistment}
+use Rattle.ktm_world.specs.Enlistments.{Manager, Sent, notes_for, taken_count, Enlistment, superior_of}
 use Rattle.ktm_world.specs.Files.{FileTable, OwnChanges, own_changes, without_transaction}
 use Rattle.ktm_world.specs.Keys.{Own, own_settings, without_own}
 use Rattle.ktm_world.specs.Outcome.{Outcome, only_reply, served, apply, joined}
 use Rattle.ktm_world.specs.Phases.{Course, has_settings, is_single_phase}
 use Rattle.ktm_world.specs.Present.{Present}
+use Rattle.ktm_world.specs.Steps.{lasting, lasting_of, led}
 use Rattle.ktm_world.specs.TransactionCalls.{course_of, arrived}
+use Rattle.ktm_steps.proofs.offered.Recorded.{all-led}
 use Rattle.ktm_world.specs.Transactions.{same_id, is_undecided}
 use Rattle.ktm_world.proofs.offered.Durables.{after_events-append}
 use Rattle.ktm_world.specs.Changes.{has_changes}
@@ -31,7 +35,7 @@ use Rattle.ktm_courses.specs.Outcomes.{OutcomesStay}
 use Rattle.ktm_courses.proofs.offered.Outcomes.{stay-refl, stay-changed}
 use Rattle.txf_laws.proofs.offered.Elements.{list_all-at, list_all-from, list_any-at}
 use Rattle.txf_laws.proofs.offered.Tables.{same_id-equal, same_id-sym}
-use Rattle.ktm_courses.proofs.offered.Moves.{if_cases, is_boot, NoBoots, NoBoots-none, AreOwn-none, AreOwn, Knows}
+use Rattle.ktm_courses.proofs.offered.Moves.{if_cases, is_boot, find-found, NoBoots, NoBoots-none, NoBoots-one, NoBoots-append}
 use Rattle.ktm_courses.proofs.offered.Procedures.{Arrives}
 use Rattle.ktm_courses.proofs.offered.Views.{sound-alike, sound-served}
 use Rattle.ktm_courses.proofs.offered.Arrivals.{with_course, changed_to, IsIn-changed, sound-course, notes-course}
@@ -157,34 +161,78 @@ undecided-one _ t one is = absurd (true≢false (sym one))
 object-counted : (boot last : ℕ) (id : Id) → is_counted boot last id ≡ true → is_of_object id ≡ true
 object-counted boot last id is = let parts = counted-parts boot last id is in and_from _ _ (and_from _ _ parts.0 parts.2) parts.3
 
-object-known : (x : Present) (t : Transaction) (caller : Option Enlistment) → IsSoundCourse x → IsIn t (x.transactions).items → (id : Id) → Knows (course_of x t caller) id → is_of_object id ≡ true
-object-known x t caller sound there id (inl is) = subst (λ id. is_of_object id ≡ true) (sym is)
-    (object-counted _ _ t.id (list_all-at (λ (t : Transaction). is_counted (x.recorded).boots (x.transactions).last_transaction t.id) (x.transactions).items sound.transactions.counted t there))
-object-known x t caller sound there id (inr (e, in_es, inl is)) = subst (λ id. is_of_object id ≡ true) (sym is)
-    (object-counted _ _ e.id (list_all-at (λ (e : Enlistment). is_counted (x.recorded).boots (x.transactions).last_enlistment e.id) (x.transactions).enlistments sound.enlistments.counted e in_es))
-object-known x t caller sound there id (inr (e, in_es, inr is)) =
-    let m = list_any-at (λ (m : Manager). same_id m.id e.manager) x.managers (list_all-at (λ (e : Enlistment). has_manager x.managers e.manager) (x.transactions).enlistments sound.enlistments.managers_there e in_es) in
-    subst (λ id. is_of_object id ≡ true) (same_id-equal (m.0).id e.manager m.2 ∙ sym is)
-    (object-counted _ _ (m.0).id (list_all-at (λ (m : Manager). is_counted (x.recorded).boots (x.transactions).last_manager m.id) x.managers sound.managers.counted m.0 m.1))
+-- an event is no boot, and names objects
+abbrev IsOwn : Event → Type 0
+IsOwn event = (is_boot event ≡ false) × (names_objects event ≡ true)
 
-pub sound-arrived : (x : Present) (t : Transaction) (caller : Option Enlistment) (d : Course) (reply : Reply) → IsSoundCourse x → IsIn t (x.transactions).items → Arrives (x.recorded).boots (course_of x t caller) d
+own-each : (events : List Event) → AllByRecursion IsOwn events → NoBoots events × (list_all names_objects events ≡ true)
+own-each [] all = (NoBoots-none, refl)
+own-each (event ∷ events) all = let rest = own-each events all.1 in (NoBoots-append (NoBoots-one event (all.0).0) rest.0, and_from _ _ (all.0).1 rest.1)
+
+module _ (x : Present) (t : Transaction) (caller : Option Enlistment) (sound : IsSoundCourse x) (there : IsIn t (x.transactions).items) (calls : (e : Enlistment) → caller ≡ Some e → IsIn e (x.transactions).enlistments) where
+  abbrev es : List Enlistment
+  es = (x.transactions).enlistments
+
+  object-itself : is_of_object t.id ≡ true
+  object-itself = object-counted _ _ t.id (list_all-at (λ (t : Transaction). is_counted (x.recorded).boots (x.transactions).last_transaction t.id) (x.transactions).items sound.transactions.counted t there)
+
+  object-enlistment : (e : Enlistment) → IsIn e es → is_of_object e.id ≡ true
+  object-enlistment e in_es = object-counted _ _ e.id (list_all-at (λ (e : Enlistment). is_counted (x.recorded).boots (x.transactions).last_enlistment e.id) es sound.enlistments.counted e in_es)
+
+  object-manager : (e : Enlistment) → IsIn e es → is_of_object e.manager ≡ true
+  object-manager e in_es =
+      let m = list_any-at (λ (m : Manager). same_id m.id e.manager) x.managers (list_all-at (λ (e : Enlistment). has_manager x.managers e.manager) es sound.enlistments.managers_there e in_es) in
+      subst (λ id. is_of_object id ≡ true) (same_id-equal (m.0).id e.manager m.2)
+      (object-counted _ _ (m.0).id (list_all-at (λ (m : Manager). is_counted (x.recorded).boots (x.transactions).last_manager m.id) x.managers sound.managers.counted m.0 m.1))
+
+  names-own : list_all is_of_object (t.id ∷ []) ≡ true
+  names-own = and_from _ _ object-itself refl
+
+  names-enlistment : (e : Enlistment) → IsIn e es → list_all is_of_object (t.id ∷ e.id ∷ e.manager ∷ []) ≡ true
+  names-enlistment e in_es = and_from _ _ object-itself (and_from _ _ (object-enlistment e in_es) (and_from _ _ (object-manager e in_es) refl))
+
+  names-superior : (o : Option Enlistment) → superior_of es t.id ≡ o → (e : Enlistment) → lasting_of o ≡ Some e → list_all is_of_object (t.id ∷ e.id ∷ e.manager ∷ []) ≡ true
+  names-superior None found e is = absurd (none-some e is)
+  names-superior (Some f) found e is = subst (λ (g : Enlistment). list_all is_of_object (t.id ∷ g.id ∷ g.manager ∷ []) ≡ true) (same_Some (lasting f) e is) (names-enlistment f (find-found _ es f found).0)
+
+  -- what a call records is no boot, and names objects
+  events-led : (input : PhaseInput) → let events = (led input (course_of x t caller)).events in NoBoots events × (list_all names_objects events ≡ true)
+  events-led input = own-each _ (all-led IsOwn input (course_of x t caller) refl record {
+    ready_files = (refl, names-own);
+    ready_keys = (refl, names-own);
+    ready = λ e is. (refl, names-enlistment e (calls e is));
+    held = λ e is. (refl, names-superior (superior_of es t.id) refl e is);
+    decide = (refl, names-own);
+    undo = (refl, names-own);
+    done_files = (refl, names-own);
+    done_keys = (refl, names-own);
+    done = λ e is. (refl, and_from _ _ object-itself (and_from _ _ (object-enlistment e (calls e is)) refl));
+    single_files = (refl, names-own);
+    single_keys = (refl, names-own);
+  })
+
+pub sound-arrived : (x : Present) (t : Transaction) (caller : Option Enlistment) (input : PhaseInput) (reply : Reply) → IsSoundCourse x → IsIn t (x.transactions).items
+    → ((e : Enlistment) → caller ≡ Some e → IsIn e (x.transactions).enlistments) → let d = led input (course_of x t caller) in Arrives (x.recorded).boots (course_of x t caller) d
     → (is_undecided t ≡ false → (d.transaction).outcome ≡ t.outcome) → IsSoundOutcome x (arrived x d reply)
-sound-arrived x t caller d reply sound there arrives known =
+sound-arrived x t caller input reply sound there calls arrives known =
     if_cases (λ o. IsSoundOutcome x o) (is_undecided d.transaction) on_its_way _
-    (λ undecided. record { settled = went; events = events; made = refl; notes = notes; outcomes = outcomes; objects = objects })
+    (λ undecided. record { settled = went; events = recorded.0; made = refl; notes = notes; outcomes = outcomes; objects = recorded.1 })
     (λ decided. record {
       settled = sound-own (with_course x d) (without_transaction (x.files).table (d.transaction).id) (without_own (x.keys).own (d.transaction).id) went (λ v is one.
           elim (IsIn-changed (x.transactions).items d.transaction v sound.transactions.rise is) [
             | inl e ↦ absurd (true≢false (sym (undecided-one v.phase v one (list_all-at (λ (v : Transaction). is_outcome_of v.phase v) (changed_to (x.transactions).items d.transaction) went.transactions.outcomes v is)) ∙ ap is_undecided e ∙ decided))
             | inr old ↦ (own_changes-without ((x.files).table).own (d.transaction).id v.id old.1, own_settings-without (x.keys).own (d.transaction).id v.id old.1)
           ]);
-      events = events;
+      events = recorded.0;
       made = refl;
       notes = notes;
       outcomes = outcomes;
-      objects = objects;
+      objects = recorded.1;
     })
   where
+    d : Course
+    d = led input (course_of x t caller)
+
     on_its_way : Outcome
     on_its_way = record (only_reply x reply) {
       events = d.events;
@@ -196,14 +244,8 @@ sound-arrived x t caller d reply sound there arrives known =
     went : IsSoundCourse (with_course x d)
     went = sound-course x sound t there caller d arrives
 
-    own : AreOwn (course_of x t caller) d.events
-    own = (arrives.moved).events (AreOwn-none (course_of x t caller))
-
-    objects : list_all names_objects d.events ≡ true
-    objects = list_all-from names_objects d.events (λ event is. list_all-from (is_of_object) (ids_of event) (λ id named. object-known x t caller sound there id (own.named event is id named)))
-
-    events : NoBoots d.events
-    events = own.none
+    recorded : NoBoots d.events × (list_all names_objects d.events ≡ true)
+    recorded = events-led x t caller sound there calls input
 
     outcomes : OutcomesStay (x.transactions).items (changed_to (x.transactions).items d.transaction)
     outcomes = stay-changed (x.transactions).items t d.transaction sound.transactions.rise there (arrives.moved).stays.id known

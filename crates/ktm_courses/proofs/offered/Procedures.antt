@@ -6,7 +6,7 @@ use Rattle.ktm_base.specs.declared.id.Id.{Id}
 use Rattle.ktm_base.specs.declared.notify.Notify.{Notify}
 use Rattle.ktm_types.specs.declared.event.DonePart.{DonePart}
 use Rattle.ktm_types.specs.declared.event.Event.{Event}
-use Rattle.ktm_types.specs.declared.event.Part.{Part}
+use Rattle.ktm_types.specs.declared.input.PhaseInput.{PhaseInput}
 use Rattle.ktm_types.specs.declared.object.Phase.TheVariants.{Held, Committing, Aborting, Ended}
 use Rattle.ktm_types.specs.declared.object.Transaction.{Transaction}
 use Rattle.ktm_types.specs.declared.object.TransactionOutcome.{TransactionOutcome}
@@ -16,11 +16,12 @@ use Rattle.ktm_world.specs.Enlistments.{Enlistment, Manager, is_superior, owes_c
 use Rattle.ktm_world.specs.Phases.{Course, in_phase, decided, recording, telling, owing, unchanged, superior, is_its_superior, has_settings, end_notice, ended, ended_if_finished, work_of, event_if, is_single_phase}
 use Rattle.ktm_world.specs.Transactions.{same_id, is_committed, is_aborted, is_undecided}
 use Rattle.ktm_world.specs.Changes.{has_changes}
-use Rattle.ktm_steps.specs.Procedures.{recorded, taking_part, participants, committing, is_caller, aborting, ready_parts, readied, held_or_committing, all_ready}
+use Rattle.ktm_world.specs.Steps.{led}
+use Rattle.ktm_steps.specs.Procedures.{recorded, taking_part, participants, committing, is_caller, ready_parts, readied, held_or_committing, all_ready}
 use Rattle.txf_laws.specs.Elements.{IsIn}
 use Rattle.ktm_courses.specs.SoundCourse.{is_last_recover, is_unrecovered_well, is_outcome_of, is_of_its_boot, has_superior_as_asked, is_idle, is_waiting, owes_until_finished, is_part_as, is_awaited, has_durable_part, is_recorded_as_asked}
 use Rattle.txf_laws.proofs.offered.Elements.{IsIn-kept, list_any-at, list_any-from}
-use Rattle.ktm_courses.proofs.offered.Moves.{if_cases, IsSame, IsAlike, Moved, Moved-then, moved-transaction, moved-recording, moved-telling, changes-none, stepped, with-unchanged, Stand, Stand-with, Stand-as, AreOwn-append, AreOwn-one, AreOwn-if, knows-own, knows-one, find-found}
+use Rattle.ktm_courses.proofs.offered.Moves.{if_cases, IsSame, IsAlike, Moved, Moved-then, moved-transaction, moved-recording, moved-telling, changes-none, stepped, with-unchanged, Stand, Stand-with, Stand-as}
 
 -- ---- tests on enlistments
 
@@ -230,9 +231,7 @@ module _ (boot : ℕ) (c : Course) (can : CanCommit boot c) where
   committing-moved : Moved c c_committing
   committing-moved = Moved-then
       (Moved-then
-      (moved-recording c _ (c.works ++ work_of c) (AreOwn-append
-      (AreOwn-append (AreOwn-if c (c.transaction).is_recorded (Event.Decide (c.transaction).id) refl (knows-own c)) (AreOwn-if c (has_changes c.changes) (Event.Done (c.transaction).id DonePart.Files) refl (knows-own c)))
-      (AreOwn-if c (has_settings c.settings) (Event.Done (c.transaction).id DonePart.Keys) refl (knows-own c))))
+      (moved-recording c _ (c.works ++ work_of c))
       (moved-telling c_decided to_commit_now Notify.Commit (owing Owed.Commit) refl (record {
         own = λ e there is. (part-parts (c.transaction).id e (commit-parts e is).0).0;
         same = λ e. (alike-owing Owed.Commit e).same;
@@ -291,7 +290,7 @@ module _ (boot : ℕ) (c : Course) (backed : is_backed boot c.transaction ≡ tr
   aborting-moved : Moved c c_aborting
   aborting-moved = Moved-then
       (Moved-then
-      (Moved-then (moved-recording c _ c.works (AreOwn-if c (c.transaction).is_recorded (Event.Undo (c.transaction).id) refl (knows-own c)))
+      (Moved-then (moved-recording c _ c.works)
       (moved-telling c_undone to_roll_back Notify.Rollback (owing Owed.Rollback) refl (record {
         own = λ e there is. (part-parts (c.transaction).id e (and_parts (takes_part (c.transaction).id e) e.is_recovered is).0).0;
         same = λ e. (alike-owing Owed.Rollback e).same;
@@ -314,8 +313,8 @@ module _ (boot : ℕ) (c : Course) (backed : is_backed boot c.transaction ≡ tr
             rw unrecovered none
       ]))
 
-  pub arrives-aborting : Arrives boot c (aborting c)
-  unfolding aborting
+  pub arrives-aborting : Arrives boot c (led PhaseInput.Rollback c)
+  unfolding led
   arrives-aborting = arrives-then boot aborting-moved (arrives-if_finished boot c_aborting Aborted (is_part_as Aborting) refl backed aborting-stand
       (λ e is finished. over-part owes_rollback e is finished)
       (λ some. record {
@@ -354,9 +353,7 @@ module _ (boot : ℕ) (c : Course) (all : AllReady boot c) where
 
   readied-moved : Moved c c_readied
   readied-moved = Moved-then
-      (moved-recording c _ c.works (AreOwn-append
-      (AreOwn-if c (has_changes c.changes) (Event.Ready (c.transaction).id (Part.Changes c.changes)) refl (knows-own c))
-      (AreOwn-if c (has_settings c.settings) (Event.Ready (c.transaction).id (Part.Settings c.settings)) refl (knows-own c))))
+      (moved-recording c _ c.works)
       (moved-transaction (recording c (ready_parts c)) c_readied.transaction refl refl refl)
 
   can-commit : CanCommit boot c_readied
@@ -386,7 +383,7 @@ module _ (boot : ℕ) (c : Course) (all : AllReady boot c) where
       record {
         moved = Moved-then
             (Moved-then
-            (Moved-then (moved-recording c_readied _ c.works (AreOwn-one c_readied (Event.Held (c.transaction).id e.id e.manager e.information) refl (knows-one c_readied e (find-found _ c.enlistments e is).0)))
+            (Moved-then (moved-recording c_readied _ c.works)
             (moved-transaction (recording c_readied (Event.Held (c.transaction).id e.id e.manager e.information ∷ [])) (c_held_recorded e).transaction refl refl refl))
             (moved-telling (c_held_recorded e) (is_its_superior c_readied) Notify.PrepareComplete unchanged refl (changes-none (c_held_recorded e) (is_its_superior c_readied) (its-own c_readied (c_held_recorded e) refl))))
             (moved-transaction told d.transaction refl refl refl);

@@ -188,13 +188,13 @@ led-is t cs ss input c is =
       events = no-boots _ (all-led (λ e. is_no_boot e ≡ true) input c is.events record {
         ready_files = refl;
         ready_keys = refl;
-        ready = λ e. refl;
-        held = λ e. refl;
+        ready = λ e is. refl;
+        held = λ e is. refl;
         decide = refl;
         undo = refl;
         done_files = refl;
         done_keys = refl;
-        done = λ e. refl;
+        done = λ e is. refl;
         single_files = refl;
         single_keys = refl;
       });

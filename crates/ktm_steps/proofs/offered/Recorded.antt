@@ -25,13 +25,13 @@ use Rattle.ktm_steps.proofs.offered.Lists.{Pass, row_lists, row-passes}
 pub record Facts (P : Event → Type 0) (b : Basis) : Type 0 where
   pub ready_files : P (Event.Ready b.id (Part.Changes b.changes))
   pub ready_keys : P (Event.Ready b.id (Part.Settings b.settings))
-  pub ready : (e : Enlistment) → P (Event.Ready b.id (enlistment_part e))
-  pub held : (e : Enlistment) → P (Event.Held b.id e.id e.manager e.information)
+  pub ready : (e : Enlistment) → b.caller ≡ Some e → P (Event.Ready b.id (enlistment_part e))
+  pub held : (e : Enlistment) → b.superior ≡ Some e → P (Event.Held b.id e.id e.manager e.information)
   pub decide : P (Event.Decide b.id)
   pub undo : P (Event.Undo b.id)
   pub done_files : P (Event.Done b.id DonePart.Files)
   pub done_keys : P (Event.Done b.id DonePart.Keys)
-  pub done : (e : Enlistment) → P (Event.Done b.id (DonePart.Enlistment e.id))
+  pub done : (e : Enlistment) → b.caller ≡ Some e → P (Event.Done b.id (DonePart.Enlistment e.id))
   pub single_files : P (Event.Single b.id (Part.Changes b.changes))
   pub single_keys : P (Event.Single b.id (Part.Settings b.settings))
 
@@ -39,13 +39,13 @@ all-if : (P : Event → Type 0) (is : Bool) (event : Event) → P event → AllB
 all-if P true event so = (so, tt)
 all-if P false event so = tt
 
-all-of_caller : (P : Event → Type 0) (o : Option Enlistment) (ms : List Manager) (event : Enlistment → Event) → ((e : Enlistment) → P (event e)) → AllByRecursion P (event_of_caller o ms event)
+all-of_caller : (P : Event → Type 0) (o : Option Enlistment) (ms : List Manager) (event : Enlistment → Event) → ((e : Enlistment) → o ≡ Some e → P (event e)) → AllByRecursion P (event_of_caller o ms event)
 all-of_caller P None ms event so = tt
-all-of_caller P (Some e) ms event so = all-if P (is_durable_at ms e.manager) (event e) (so e)
+all-of_caller P (Some e) ms event so = all-if P (is_durable_at ms e.manager) (event e) (so e refl)
 
-all-held : (P : Event → Type 0) (b : Basis) (o : Option Enlistment) → Facts P b → AllByRecursion P (held_event b.id o)
-all-held P b None facts = tt
-all-held P b (Some e) facts = (facts.held e, tt)
+all-held : (P : Event → Type 0) (b : Basis) (o : Option Enlistment) → b.superior ≡ o → Facts P b → AllByRecursion P (held_event b.id o)
+all-held P b None is facts = tt
+all-held P b (Some e) is facts = (facts.held e is, tt)
 
 pub all-append : {X : Type 0} (P : X → Type 0) (xs ys : List X) → AllByRecursion P xs → AllByRecursion P ys → AllByRecursion P (xs ++ ys)
 all-append P [] ys all all' = all'
@@ -55,7 +55,7 @@ all-of : (P : Event → Type 0) (fact : Fact) (b : Basis) → Facts P b → AllB
 all-of P Fact.ReadyFiles b facts = all-if P (has_changes b.changes) _ facts.ready_files
 all-of P Fact.ReadyKeys b facts = all-if P (has_settings b.settings) _ facts.ready_keys
 all-of P Fact.Ready b facts = all-of_caller P b.caller b.managers _ facts.ready
-all-of P Fact.Held b facts = all-held P b b.superior facts
+all-of P Fact.Held b facts = all-held P b b.superior refl facts
 all-of P Fact.Decide b facts = all-if P b.is_recorded _ facts.decide
 all-of P Fact.Undo b facts = all-if P b.is_recorded _ facts.undo
 all-of P Fact.DoneFiles b facts = all-if P (has_changes b.changes) _ facts.done_files

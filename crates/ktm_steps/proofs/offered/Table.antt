@@ -20,10 +20,10 @@ use Rattle.ktm_types.specs.declared.step.Who.{Who}
 use Rattle.ktm_world.specs.Changes.{has_changes}
 use Rattle.ktm_world.specs.Enlistments.{Enlistment, has_id, is_durable_at, is_superior, takes_part, with_enlistments}
 use Rattle.ktm_world.specs.Phases.{Course, changing_one, decided, ended, ended_if_finished, enlistment_part, event_if, has_settings, in_phase, is_its_superior, is_single_phase, owing, recording, superior, telling, unchanged, work_of}
-use Rattle.ktm_world.specs.Rows.{aborts, all_readies, commit_completes, commits, proceeds, proceeds_without, holds_or_commits, is_last, participants, pre_prepare_completes, prepare_completes, read_onlies, rejects_one_phase, rollback_completes, row, tells_in, without}
+use Rattle.ktm_world.specs.Rows.{all_readies, commit_completes, commits, proceeds, proceeds_without, holds_or_commits, is_last, participants, pre_prepare_completes, prepare_completes, read_onlies, rejects_one_phase, rollback_completes, row, tells_in, without}
 use Rattle.ktm_world.specs.Steps.{answered, held_event, lasting_of, led, run, seen, share_of}
 use Rattle.ktm_world.specs.TransactionCalls.{recovery_of}
-use Rattle.ktm_steps.specs.Procedures.{aborting, all_ready, commit_answered, committing, finished, held_or_committing, pre_prepare_answered, pre_prepared, prepare_answered, read_only_answered, readied, ready_of_enlistment, recorded, recovered, recovered_in, recovering, rollback_answered, single_phase_rejected, someone_owes, when_none_owes, without_its_answer}
+use Rattle.ktm_steps.specs.Procedures.{all_ready, commit_answered, committing, finished, held_or_committing, pre_prepare_answered, pre_prepared, prepare_answered, read_only_answered, readied, ready_of_enlistment, recorded, recovered, recovered_in, recovering, rollback_answered, single_phase_rejected, someone_owes, when_none_owes, without_its_answer}
 use Rattle.ktm_steps.specs.Laws.{IsPart, RowsLaw}
 use Rattle.ktm_steps.proofs.offered.Counts.{owed-less, participants-counted, seen-left, seen-settled}
 use Rattle.ktm_steps.proofs.offered.Superiors.{tells-superior}
@@ -66,10 +66,6 @@ commits-run c =
     let d = event_if (has_settings c.settings) (Event.Done id DonePart.Keys) in
     ap (λ es. ended_if_finished (in_phase (decided (telling (record c { events = es; works = c.works ++ work_of c }) (λ e. takes_part id e && e.is_prepared && e.is_recovered) Notify.Commit (owing Owed.Commit)) Committed) Committing) Committed)
     (ap (λ es. es ++ d) (append_assoc c.events a b) ∙ append_assoc c.events (a ++ b) d)
-
-pub aborts-run : (c : Course) → run aborts c ≡ aborting c
-unfolding aborting
-aborts-run c = refl
 
 -- ---- all are prepared
 
@@ -199,7 +195,6 @@ pub rows_law : RowsLaw
 unfolding led
 rows_law = record {
   commits = commits-run;
-  aborts = aborts-run;
   pre_prepare_completes = λ c e calls. of-caller (λ c. IsPart c e → is_some e.owes ≡ true → run (pre_prepare_completes (seen c)) c ≡ pre_prepare_answered c e) c e calls (pre_prepare_completes-run c e);
   prepare_completes = λ c e calls. of-caller (λ c. IsPart c e → is_some e.owes ≡ true → run (prepare_completes (seen c)) c ≡ prepare_answered c e) c e calls (prepare_completes-run c e);
   read_onlies = λ c e calls. of-caller (λ c. IsPart c e → run (read_onlies (seen c) (share_of e)) c ≡ read_only_answered c e) c e calls (read_onlies-run c e);
