@@ -1,11 +1,16 @@
 -- Lemmas on names that are compared byte by byte.
-use Rattle.std.proofs.Common.{◌≡◌, ℕ, zero, suc, ◌+◌, ◌<◌, min, List, [], ◌∷◌, length, get_or, drop, refl, sym, ap, ◌∙◌, arith}
+use Rattle.std.proofs.Common.{◌≡◌, ℕ, zero, suc, ◌+◌, ◌^◌, ◌<◌, ◌≤◌, min, List, [], ◌∷◌, ◌++◌, length, get_or, take, drop, refl, sym, ap, ◌∙◌, inl, inr, arith}
 use Rattle.std.specs.declared.cmp.Ordering.{Ordering}
 use Rattle.std.specs.declared.cmp.Ordering.TheVariants.{Less, Equal, Greater}
+use Rattle.std.specs.Int.{w64, from_be_bytes}
 use Rattle.std.specs.Ordering.{nat_cmp, ordering_then}
+use Rattle.std.proofs.lemmas.Bool.{cases_lt}
 use Rattle.std.proofs.lemmas.Cmp.{ranked}
-use Rattle.std.proofs.lemmas.List.{at_drop_more}
+use Rattle.std.proofs.lemmas.List.{at_drop_more, get_or-drop, get_or-take, get_or_past, length-take, take-append-drop}
+use Rattle.std.proofs.lemmas.Nat.{be_bytes_8}
 use Rattle.ktm_links.specs.Mapped.{name_cmp}
+use Rattle.ktm_links.specs.Numbers.{digits}
+use Rattle.ktm_links.proofs.offered.Digits.{digits-append, to_be_bytes-digits}
 
 -- the next bytes decide, or the rest does
 next_bytes : (xs ys : List ℕ) (i : ℕ) → i < length xs → i < length ys
@@ -62,3 +67,23 @@ ended (x ∷ xs) (y ∷ ys) (suc n) a b before is first second =
 
 pub by_lengths : (xs ys : List ℕ) (n : ℕ) → n ≡ min (length xs) (length ys) → name_cmp (drop n xs) (drop n ys) ≡ nat_cmp (length xs) (length ys)
 by_lengths xs ys n is = ended xs ys n (length xs) (length ys) 0 is (omega arith) (omega arith)
+
+-- ---- eight bytes at a time
+-- eight bytes are the digits of their number
+pub eight_bytes : (bs : List ℕ) (n : ℕ) → n < 2 ^ 64 → 8 ≤ length bs → ((i : ℕ) → get_or bs i 0 < 256) → n ≡ from_be_bytes w64 (take 8 bs) → bs ≡ digits 7 n (drop 8 bs)
+eight_bytes bs n fits long bytes is =
+    let len : length (take 8 bs) ≡ 8 = length-take 8 bs ∙ omega (arith, long) in
+    sym (take-append-drop 8 bs)
+    ∙ ap (λ l. l ++ drop 8 bs) (sym (be_bytes_8 (take 8 bs) n len taken is) ∙ to_be_bytes-digits n fits)
+    ∙ digits-append 7 n [] (drop 8 bs)
+  where
+    taken : (i : ℕ) → get_or (take 8 bs) i 0 < 256
+    taken i =
+        elim (cases_lt i 8) [
+          | inl within ↦ rw (get_or-take 8 bs i 0 within) (bytes i)
+          | inr past ↦ rw (get_or_past (take 8 bs) i 0 (omega (arith, past, length-take 8 bs))) (omega arith)
+        ]
+
+-- the bytes behind a place are bytes
+pub bytes_behind : (bs : List ℕ) (at : ℕ) → ((i : ℕ) → get_or bs i 0 < 256) → (i : ℕ) → get_or (drop at bs) i 0 < 256
+bytes_behind bs at bytes i = rw (get_or-drop at bs i 0) (bytes (at + i))

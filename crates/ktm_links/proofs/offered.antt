@@ -1,5 +1,6 @@
 -- Lemmas that other crates cite.
 pub mod Comparing
+pub mod Digits
 pub mod Entries
 pub mod Indexes
 pub mod Keys

@@ -1,9 +1,10 @@
 // Where a name stands among keys in order.
-ghost use Rattle.std.specs.Prelude.{◌≡◌, ◌≤◌, None, Err, IfOk, IfErr, length};
+ghost use Rattle.std.specs.Prelude.{◌≡◌, ◌≤◌, ◌+◌, None, Err, IfOk, IfErr, length, drop};
 ghost use Rattle.std.specs.List.Sorted.{IsBinarySearchResult, IsSearchInRange, IsPartitionPoint};
 ghost use Rattle.std.specs.declared.cmp.Ordering.TheVariants.{Less, Greater};
 ghost use Rattle.ktm_links.specs.Blocks.{flat, index_in, index_of, AreUsed, IsGap, IsSpot};
 ghost use Rattle.ktm_links.specs.Mapped.{key_at, name_cmp};
+ghost use Rattle.ktm_links.specs.Numbers.{digits};
 ghost use Rattle.ktm_links.specs.Order.{entries_of, last_order, order_at, IsFirstNotBelow, IsInOrder};
 
 use crate::block::{Block, Spot};
@@ -12,16 +13,44 @@ use crate::name::Name;
 use crate::named::Named;
 use std::cmp::Ordering;
 
-// Which of two names comes first, byte by byte. Most names are short, and differ early.
-fn compare(a: &[u8], b: &[u8]) -> Ordering
-    ensures { result ≡ name_cmp a.now b.now }
+// The eight bytes from this place on as a number, whose greatest byte is the first.
+fn number_at(bytes: &[u8], at: usize) -> u64
+    requires { at + 8 ≤ length bytes.now }
+    ensures { drop at bytes.now ≡ digits 7 result (drop (at + 8) bytes.now) }
 {
-    for at in 0..a.len().min(b.len()) {
+    match bytes[at..].first_chunk::<8>() {
+        Some(eight) => u64::from_be_bytes(*eight),
+        None => unreachable!(),
+    }
+}
+
+// Which of two names comes first from this place on, byte by byte.
+fn compare_from(a: &[u8], b: &[u8], from: usize) -> Ordering
+    requires first { from ≤ length a.now }
+    requires second { from ≤ length b.now }
+    ensures { result ≡ name_cmp (drop from a.now) (drop from b.now) }
+{
+    for at in from..a.len().min(b.len()) {
         if a[at] != b[at] {
             return a[at].cmp(&b[at]);
         }
     }
     a.len().cmp(&b.len())
+}
+
+// Which of two names comes first: eight bytes are one number, and so are most names.
+fn compare(a: &[u8], b: &[u8]) -> Ordering
+    ensures { result ≡ name_cmp a.now b.now }
+{
+    let eights = a.len().min(b.len()) / 8;
+    for eight in 0..eights {
+        let first = number_at(a, 8 * eight);
+        let second = number_at(b, 8 * eight);
+        if first != second {
+            return first.cmp(&second);
+        }
+    }
+    compare_from(a, b, 8 * eights)
 }
 
 // How the name of a value stands to this one.

@@ -18,7 +18,7 @@ use txf_tree::{NumberName, number_bytes};
 pub(crate) struct WrittenFiles {
     alloc: Global,
     map: Chains<NumberName, WrittenFile>,
-    // How many they take.
+    // How many units of 4,096 bytes all of them take.
     units: u64,
 }
 

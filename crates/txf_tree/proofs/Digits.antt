@@ -1,43 +1,11 @@
 -- Lemmas on the bytes of a number.
-use Rattle.std.proofs.Common.{◌≡◌, ℕ, zero, suc, ◌/◌, ◌%◌, ◌^◌, ◌<◌, List, [], ◌∷◌, ◌++◌, length, refl, sym, ap, ◌∙◌, inl, inr, arith}
+use Rattle.std.proofs.Common.{◌≡◌, ℕ, ◌^◌, ◌<◌, List, [], ◌++◌, length, refl, sym, ap, ◌∙◌}
 use Rattle.std.specs.Int.{w64, to_be_bytes}
 use Rattle.std.specs.declared.cmp.Ordering.TheVariants.{Less}
-use Rattle.std.proofs.lemmas.Bool.{cases_lt, lt-ltb}
-use Rattle.std.proofs.lemmas.Cmp.{nat_cmp_total, tied_itself}
 use Rattle.ktm_links.specs.Mapped.{name_cmp, Begins}
-use Rattle.txf_tree.specs.Places.{digits, number_bytes}
-
-first_less : (a b : ℕ) (r s : List ℕ) → a < b → name_cmp (a ∷ r) (b ∷ s) ≡ Less
-first_less a b r s less = rw (lt-ltb a b less) refl
-
-digits-alike : (k c : ℕ) (r s : List ℕ) → name_cmp (digits k c r) (digits k c s) ≡ name_cmp r s
-digits-alike zero c r s = rw (tied_itself nat_cmp_total c) refl
-digits-alike (suc k) c r s =
-    digits-alike k (c / 256) (c % 256 ∷ r) (c % 256 ∷ s) ∙ rw (tied_itself nat_cmp_total (c % 256)) refl
-
-digits-less : (k a b : ℕ) (r s : List ℕ) → a < b → name_cmp (digits k a r) (digits k b s) ≡ Less
-digits-less zero a b r s less = first_less a b r s less
-digits-less (suc k) a b r s less =
-    elim (cases_lt (a / 256) (b / 256)) [
-      | inl high ↦ digits-less k (a / 256) (b / 256) (a % 256 ∷ r) (b % 256 ∷ s) high
-      | inr low ↦
-          let same : a / 256 ≡ b / 256 = omega arith in
-          let rest : a % 256 < b % 256 = omega arith in
-          rw same (digits-alike k (b / 256) (a % 256 ∷ r) (b % 256 ∷ s) ∙ first_less (a % 256) (b % 256) r s rest)
-    ]
-
-digits-same : (k a b : ℕ) (r s : List ℕ) → digits k a r ≡ digits k b s → (a ≡ b) × (r ≡ s)
-digits-same zero a b r s same = (cc, cc)
-digits-same (suc k) a b r s same =
-    let inner = digits-same k (a / 256) (b / 256) (a % 256 ∷ r) (b % 256 ∷ s) same in
-    let high : a / 256 ≡ b / 256 = inner.0 in
-    let tails : a % 256 ∷ r ≡ b % 256 ∷ s = inner.1 in
-    let low : a % 256 ≡ b % 256 = cc in
-    (omega arith, cc)
-
-digits-append : (k n : ℕ) (r t : List ℕ) → digits k n r ++ t ≡ digits k n (r ++ t)
-digits-append zero n r t = refl
-digits-append (suc k) n r t = digits-append k (n / 256) (n % 256 ∷ r) t
+use Rattle.ktm_links.specs.Numbers.{digits}
+use Rattle.ktm_links.proofs.offered.Digits.{digits-alike, digits-append, digits-less, digits-same, to_be_bytes-digits}
+use Rattle.txf_tree.specs.Places.{number_bytes}
 
 -- bytes of numbers are in the order of the numbers
 pub number_bytes-less : (a b : ℕ) → a < b → name_cmp (number_bytes a) (number_bytes b) ≡ Less
@@ -69,11 +37,4 @@ length-number_bytes n = refl
 
 pub to_be_bytes-is : (n : ℕ) → n < 2 ^ 64 → to_be_bytes w64 n ≡ number_bytes n
 unfolding number_bytes
-to_be_bytes-is n fits =
-    let p2 : n / 65536 ≡ n / 256 / 256 = omega arith in
-    let p3 : n / 16777216 ≡ n / 256 / 256 / 256 = omega arith in
-    let p4 : n / 4294967296 ≡ n / 256 / 256 / 256 / 256 = omega arith in
-    let p5 : n / 1099511627776 ≡ n / 256 / 256 / 256 / 256 / 256 = omega arith in
-    let p6 : n / 281474976710656 ≡ n / 256 / 256 / 256 / 256 / 256 / 256 = omega arith in
-    let p7 : n / 72057594037927936 % 256 ≡ n / 256 / 256 / 256 / 256 / 256 / 256 / 256 = omega arith in
-    λ i. p7 i ∷ (p6 i % 256) ∷ (p5 i % 256) ∷ (p4 i % 256) ∷ (p3 i % 256) ∷ (p2 i % 256) ∷ (n / 256 % 256) ∷ (n % 256) ∷ []
+to_be_bytes-is n fits = to_be_bytes-digits n fits

@@ -10,7 +10,7 @@ use Rattle.ktm_world.specs.Changes.{changed_all}
 use Rattle.ktm_world.specs.Committed.{final_bytes, raised_version, version_of, versions_after}
 use Rattle.ktm_world.specs.Tree.{Tree, bytes_of, bytes_or_none, content_of, cut_to, is_file, put_over, with_changed}
 use Rattle.txf_tree.specs.Indexes.{AreRising, IsTree, content_now, refilled, refilled_in, replaced, with_content, with_content_now, with_now, without_now}
-use Rattle.txf_tree.specs.TreeState.{ContentNow, NodeNow, TreeState, has_room, now_at, plain, room_in, tree_in, versions_in}
+use Rattle.txf_tree.specs.TreeState.{ContentNow, NodeNow, has_room, now_at, plain, room_in, tree_in, versions_in}
 use Rattle.txf_tree.proofs.Changing.{AreRising-replaced, now_at-replaced_other, now_at-replaced_same, now_at-with_other, now_at-without_other, replaced-replaced, tree_in-replaced, versions_in-raised, versions_in-replaced}
 use Rattle.txf_tree.proofs.Counting.{version_of-now}
 use Rattle.txf_tree.proofs.Naming.{node_at-now, numbered_now}

@@ -1,15 +1,11 @@
 -- The places of entries in their directories, and the entries from a place on.
-use Rattle.std.specs.Prelude.{ℕ, zero, suc, ◌/◌, ◌%◌, not, List, [], ◌∷◌, ◌++◌, filter, Option, Some, None}
+use Rattle.std.specs.Prelude.{ℕ, not, List, [], ◌∷◌, ◌++◌, filter, Option, Some, None}
 use Rattle.std.specs.Ordering.{is_lt}
 use Rattle.ktm_base.specs.Names.{folded}
 use Rattle.ktm_links.specs.Mapped.{name_cmp}
+use Rattle.ktm_links.specs.Numbers.{digits}
 use Rattle.txf_tree.specs.Children.{Shown, entry_seen}
 use Rattle.txf_tree.specs.declared.entry.Entry.{Entry}
-
--- the digits of a number to the base 256, the lowest last, with these behind them; the first is what is left of the number
-abbrev pub digits : ℕ → ℕ → List ℕ → List ℕ
-digits zero n behind = n ∷ behind
-digits (suc more) n behind = digits more (n / 256) (n % 256 ∷ behind)
 
 -- the eight bytes of a number, the greatest first
 unfoldable pub number_bytes : ℕ → List ℕ

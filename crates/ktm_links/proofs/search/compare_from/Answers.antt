@@ -1,6 +1,6 @@
 use Rattle.std.proofs.Common.{◌∙◌, refl, sym, arith}
 use Rattle.ktm_links.proofs.Compared.{behind_same, by_differing, by_lengths}
-use Rattle.ktm_links.proofs.search.compare.Goals as goal
+use Rattle.ktm_links.proofs.search.compare_from.Goals as goal
 
 pub loop-at-init : goal.loop-at-init
 loop-at-init c = refl
