@@ -17,7 +17,8 @@ use Rattle.ktm_kernel.proofs.Left.{left_law}
 use Rattle.ktm_kernel.proofs.StartAgain.{found_law}
 use Rattle.ktm_run.proofs.Counting.{RoseBy-none}
 use Rattle.ktm_run.specs.Plan.{plan_of, falls_of, RoseBy}
-use Rattle.ktm_run.specs.Progress.{Scene, Counts, Answers, Unanswered}
+use Rattle.ktm_log.specs.OnDisk.{OnDisk, on}
+use Rattle.ktm_run.specs.Progress.{Counts, Answers, Unanswered}
 use Rattle.ktm_run.specs.Script.{Means}
 use Rattle.ktm_types.specs.declared.command.Command.{Command}
 use Rattle.ktm_types.specs.declared.command.Line.{Line}
@@ -46,12 +47,12 @@ off_of k told w off at = sym (up_of k told w at) ∙ off
 
 pub counted : (k n : KernelState) (before now : Option DiskState) (a b : DiskStatus) (most : ℕ) (plan : List PowerCall) (fell : ℕ)
     → RoseBy fell a.downs b.downs → b.plan ≡ a.plan ++ plan → b.calls ≤ a.calls + most
-    → Counts (record { machine = k; disk = before; status = a }) (record { machine = n; disk = now; status = b }) most plan fell
+    → Counts (on k before a) (on n now b) most plan fell
 counted k n before now a b most plan fell rose is few = record { rose = rose; plan_is = is; few = few }
 
 -- a line that changed no count
 quiet : (k n : KernelState) (before now : Option DiskState) (a b : DiskStatus) → b ≡ a
-    → Counts (record { machine = k; disk = before; status = a }) (record { machine = n; disk = now; status = b }) 0 [] 0
+    → Counts (on k before a) (on n now b) 0 [] 0
 quiet k n before now a b same = counted k n before now a b 0 [] 0
     (let is = ap (λ s. s.downs) same in omega arith)
     (ap (λ s. s.plan) same ∙ sym (append-nil a.plan))
@@ -74,7 +75,7 @@ call_rose k told w new a b process command (full log) reply at none cause later 
 pub called : (k n : KernelState) (before now : Option DiskState) (a b : DiskStatus) (process : Pid) (command : Command) (reply : Reply)
     → ((w : World) → KernelAt k before w → DoesLine w (Some (Process process command)) reply n now)
     → (reply ≡ Refused MachineDown → (k.now.machine.is_up ≡ false) ⊎ Rose a.downs b.downs) → DeviceCalls 4 a b b.is_down
-    → Answers (record { machine = k; disk = before; status = a }) (record { machine = n; disk = now; status = b }) (Some (Process process command)) reply
+    → Answers (on k before a) (on n now b) (Some (Process process command)) reply
 called k n before now a b process command reply does cause calls = λ w at.
     let (step, new, done, stands) = does w at in record {
       step = step;
@@ -92,7 +93,7 @@ called k n before now a b process command reply does cause calls = λ w at.
 -- it makes no call of the disk, and so the power does not go in it
 tick_counts : (k n : KernelState) (before now : Option DiskState) (w new : World) (a b : DiskStatus) (ms : ℕ) (step : Step) (reply : Reply)
     → KernelAt k before w → Does w (Some (Tick ms)) step reply new → (reply ≡ Refused MachineDown → k.now.machine.is_up ≡ false) → b ≡ a
-    → Counts (record { machine = k; disk = before; status = a }) (record { machine = n; disk = now; status = b }) 0 [] (falls_of (Some (Tick ms)) step reply)
+    → Counts (on k before a) (on n now b) 0 [] (falls_of (Some (Tick ms)) step reply)
 tick_counts k n before now w new a b ms answered reply at does cause same = quiet k n before now a b same
 tick_counts k n before now w new a b ms interrupted reply at (on, says, is) cause same = let wrong : true ≡ false = sym on ∙ off_of k before w (cause says) at in absurd (cc)
 tick_counts k n before now w new a b ms (found log) reply at none cause same = absurd none
@@ -101,7 +102,7 @@ tick_counts k n before now w new a b ms (full log) reply at none cause same = ab
 pub ticked : (k n : KernelState) (before now : Option DiskState) (a b : DiskStatus) (ms : ℕ) (reply : Reply)
     → ((w : World) → KernelAt k before w → DoesLine w (Some (Tick ms)) reply n now)
     → (reply ≡ Refused MachineDown → k.now.machine.is_up ≡ false) → b ≡ a
-    → Answers (record { machine = k; disk = before; status = a }) (record { machine = n; disk = now; status = b }) (Some (Tick ms)) reply
+    → Answers (on k before a) (on n now b) (Some (Tick ms)) reply
 ticked k n before now a b ms reply does cause same = λ w at.
     let (step, new, done, stands) = does w at in record {
       step = step;
@@ -113,7 +114,7 @@ ticked k n before now a b ms reply does cause same = λ w at.
 
 -- a line that changed nothing
 pub not_executed : (k n : KernelState) (before now : Option DiskState) (a b : DiskStatus) (line : List ℕ) → now ≡ before → b ≡ a → (w : World) → KernelAt k before w
-    → Unanswered w (record { machine = k; disk = before; status = a }) (record { machine = n; disk = now; status = b }) line
+    → Unanswered w (on k before a) (on n now b) line
 not_executed k n before now a b line told same w at = record {
   leaves = subst (λ (o : Option DiskState). IsSomeAnd o (LeavesStates w)) (sym told) (left_law k before w at);
   counts = inl (quiet k n before now a b same);
@@ -133,7 +134,7 @@ off_rose false w new a b (full log) is none = absurd none
 
 pub went_down : (k n : KernelState) (before now : Option DiskState) (a b : DiskStatus) → now ≡ before → b ≡ after_off a
     → ((told : Option DiskState) (w : World) → KernelAt k told w → DoesLine w (Some Crash) Done n told)
-    → Answers (record { machine = k; disk = before; status = a }) (record { machine = n; disk = now; status = b }) (Some Crash) Done
+    → Answers (on k before a) (on n now b) (Some Crash) Done
 went_down k n before now a b told is does = λ w at.
     let (step, new, done, stands) = does now w (subst (λ (o : Option DiskState). KernelAt k o w) (sym told) at) in record {
       step = step;
@@ -144,7 +145,7 @@ went_down k n before now a b told is does = λ w at.
     }
 
 pub is_down_still : (k : KernelState) (told : Option DiskState) (a : DiskStatus) → k.now.machine.is_up ≡ false
-    → Answers (record { machine = k; disk = told; status = a }) (record { machine = k; disk = told; status = a }) (Some Crash) (Refused MachineDown)
+    → Answers (on k told a) (on k told a) (Some Crash) (Refused MachineDown)
 is_down_still k told a off = λ w at. record {
   step = answered;
   world = w;
@@ -158,7 +159,7 @@ is_down_still k told a off = λ w at. record {
 -- the power failed again
 pub failed_again : PowerLaw → (k : KernelState) (before now : Option DiskState) (a b : DiskStatus) (pick : ℕ) → k.now.machine.is_up ≡ false
     → b ≡ record (planned a (Power pick)) { is_down = true; downs = b.downs } → Rose a.downs b.downs → Goes NotRestored before now
-    → Answers (record { machine = k; disk = before; status = a }) (record { machine = k; disk = now; status = b }) (Some (Restart pick)) (Refused MachineDown)
+    → Answers (on k before a) (on k now b) (Some (Restart pick)) (Refused MachineDown)
 failed_again law k before now a b pick off is rose goes = λ w at.
     let down = off_of k before w off at in record {
       step = interrupted;
@@ -200,14 +201,14 @@ module _ (law : PowerLaw) (k n : KernelState) (before mid now : Option DiskState
     (off : k.now.machine.is_up ≡ false) (power : m ≡ powered a pick) (goes : Goes Restored before mid)
     (calls : DeviceCalls (8 * MOST_UNITS + 68) m b b.is_down) (few : (w : World) → FoundAt k mid w → b.calls ≤ m.calls + (8 * w.base.units + 68)) where
   starts_counted : (w : World) (fell : ℕ) → KernelAt k before w → RoseBy fell m.downs b.downs
-      → Counts (record { machine = k; disk = before; status = a }) (record { machine = n; disk = now; status = b }) (8 * w.base.units + 68) (Power pick ∷ []) fell
+      → Counts (on k before a) (on n now b) (8 * w.base.units + 68) (Power pick ∷ []) fell
   starts_counted w fell at rose = counted k n before now a b (8 * w.base.units + 68) (Power pick ∷ []) fell
       (subst (λ d. RoseBy fell d b.downs) (ap (λ s. s.downs) power) rose)
       (calls.plan ∙ ap (λ s. s.plan) power)
       (subst (λ d. b.calls ≤ d + (8 * w.base.units + 68)) (ap (λ s. s.calls) power) (few w (found_at law k before mid off goes w at)))
 
   pub started : (reply : Reply) → ((pick : ℕ) (w : World) → FoundAt k mid w → DoesLine w (Some (Restart pick)) reply n now) → (reply ≡ Refused MachineDown → Rose m.downs b.downs)
-      → Answers (record { machine = k; disk = before; status = a }) (record { machine = n; disk = now; status = b }) (Some (Restart pick)) reply
+      → Answers (on k before a) (on n now b) (Some (Restart pick)) reply
   started reply does cause = λ w at.
       let (step, new, done, stands) = does pick w (found_at law k before mid off goes w at) in
       let starts = starts_of w new pick step reply (off_of k before w off at) done in record {
@@ -215,13 +216,13 @@ module _ (law : PowerLaw) (k n : KernelState) (before mid now : Option DiskState
         world = new;
         does = done;
         stands = stands;
-        counts = subst (λ (p : List PowerCall). Counts (record { machine = k; disk = before; status = a }) (record { machine = n; disk = now; status = b }) (8 * w.base.units + 68) p (falls_of (Some (Restart pick)) step reply))
+        counts = subst (λ (p : List PowerCall). Counts (on k before a) (on n now b) (8 * w.base.units + 68) p (falls_of (Some (Restart pick)) step reply))
             (sym (started_plan w new pick step reply starts))
             (starts_counted w (falls_of (Some (Restart pick)) step reply) at (started_rose w new pick step reply m b starts cause calls.later));
       }
 
   pub not_started : now ≡ mid → (line : List ℕ) (w : World) → Means line (Some (Restart pick)) → KernelAt k before w
-      → Unanswered w (record { machine = k; disk = before; status = a }) (record { machine = n; disk = now; status = b }) line
+      → Unanswered w (on k before a) (on n now b) line
   not_started same line w means at = record {
     leaves = subst (λ (o : Option DiskState). IsSomeAnd o (LeavesStates w)) (sym same) (found_law k mid w (found_at law k before mid off goes w at));
     counts = inr (pick, means, off_of k before w off at, starts_counted w 0 at (RoseBy-none m.downs b.downs calls.later));
@@ -232,7 +233,7 @@ module _ (law : PowerLaw) (k n : KernelState) (before mid now : Option DiskState
 pub meant : (bytes : List ℕ) (x y : Line) → x ≡ y → Means bytes (Some x) → Means bytes (Some y)
 meant bytes x y is means = subst (λ (line : Line). Means bytes (Some line)) is means
 
-pub answers_so : (r : Result Reply NoMemory) (old new : Scene) (bytes : List ℕ) (line : Option Line) → Means bytes line → IfOk r (λ reply. Answers old new line reply)
+pub answers_so : (r : Result Reply NoMemory) (old new : OnDisk KernelState) (bytes : List ℕ) (line : Option Line) → Means bytes line → IfOk r (λ reply. Answers old new line reply)
     → IfOk r (λ reply. (meant : Option Line) × Means bytes meant × Answers old new meant reply)
 answers_so (Ok reply) old new bytes line means answers = (line, means, answers)
 answers_so (Err fault) old new bytes line means answers = tt

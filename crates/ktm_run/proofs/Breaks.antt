@@ -9,7 +9,8 @@ use Rattle.ktm_kernel.proofs.Left.{left_law}
 use Rattle.ktm_run.proofs.Known.{Appends-none, Appends-trans}
 use Rattle.ktm_run.proofs.Counting.{RoseBy-none}
 use Rattle.ktm_run.proofs.Lines.{Means-kept}
-use Rattle.ktm_run.specs.Progress.{Scene, Counts, Did, Answers, Unanswered, HalfWritten}
+use Rattle.ktm_log.specs.OnDisk.{OnDisk, on}
+use Rattle.ktm_run.specs.Progress.{Counts, Did, Answers, Unanswered, HalfWritten}
 use Rattle.ktm_run.specs.Script.{AppendsPart, Means, kept_of, reply_line}
 use Rattle.ktm_types.specs.declared.command.Line.{Line}
 use Rattle.ktm_types.specs.declared.command.Line.TheVariants.{Restart}
@@ -17,14 +18,14 @@ use Rattle.ktm_types.specs.declared.reply.Reply.{Reply}
 use Rattle.ktm_world.specs.World.{World}
 
 -- a line that was not executed at all
-pub unanswered_here : (w : World) (s : Scene) (line : List ℕ) → KernelAt s.machine s.disk w → Unanswered w s s line
+pub unanswered_here : (w : World) (s : OnDisk KernelState) (line : List ℕ) → KernelAt s.it s.told w → Unanswered w s s line
 unanswered_here w s line stands = record {
-  leaves = left_law s.machine s.disk w stands;
+  leaves = left_law s.it s.told w stands;
   counts = inl (record { rose = RoseBy-none s.status.downs s.status.downs (omega arith); plan_is = sym (append-nil s.status.plan); few = omega arith });
 }
 
 -- what is kept of a line means what the line means
-pub unanswered_kept : (w : World) (a b : Scene) (line : List ℕ) → Unanswered w a b (kept_of line) → Unanswered w a b line
+pub unanswered_kept : (w : World) (a b : OnDisk KernelState) (line : List ℕ) → Unanswered w a b (kept_of line) → Unanswered w a b line
 unanswered_kept w a b line h = record {
   leaves = h.leaves;
   counts = elim h.counts [
@@ -34,12 +35,12 @@ unanswered_kept w a b line h = record {
 }
 
 -- what was counted from a status on whose plan there is more room
-module _ (machine : KernelState) (disk mid_disk : Option DiskState) (same : mid_disk ≡ disk) (old mid : DiskStatus) (new : Scene) (room : mid ≡ record old { places = mid.places }) where
-  abbrev pub before : Scene
-  before = record { machine = machine; disk = disk; status = old }
+module _ (machine : KernelState) (disk mid_disk : Option DiskState) (same : mid_disk ≡ disk) (old mid : DiskStatus) (new : OnDisk KernelState) (room : mid ≡ record old { places = mid.places }) where
+  abbrev pub before : OnDisk KernelState
+  before = on machine disk old
 
-  abbrev pub roomy : Scene
-  roomy = record { machine = machine; disk = mid_disk; status = mid }
+  abbrev pub roomy : OnDisk KernelState
+  roomy = on machine mid_disk mid
 
   counted : (most : ℕ) (plan : List PowerCall) (fell : ℕ) → Counts roomy new most plan fell → Counts before new most plan fell
   counted most plan fell h =
@@ -57,7 +58,7 @@ module _ (machine : KernelState) (disk mid_disk : Option DiskState) (same : mid_
       let did = answers w (subst (λ (d : Option DiskState). KernelAt machine d w) (sym same) stands) in
       record { step = did.step; world = did.world; does = did.does; stands = did.stands; counts = counted _ _ _ did.counts }
 
-  pub unanswered_planned : (w : World) (line : List ℕ) → ((w : World) → KernelAt roomy.machine roomy.disk w → Unanswered w roomy new line) → KernelAt machine disk w → Unanswered w before new line
+  pub unanswered_planned : (w : World) (line : List ℕ) → ((w : World) → KernelAt roomy.it roomy.told w → Unanswered w roomy new line) → KernelAt machine disk w → Unanswered w before new line
   unanswered_planned w line leaves stands =
       let h = leaves w (subst (λ (d : Option DiskState). KernelAt machine d w) (sym same) stands) in record {
         leaves = h.leaves;
@@ -72,7 +73,7 @@ module _ (machine : KernelState) (disk mid_disk : Option DiskState) (same : mid_
       → HalfWritten w (record { scene = before; taken = taken }) (record { scene = new; taken = now }) line
   half_written w taken now line meant reply means answers wrote stands =
       let did = did_planned w meant reply answers stands in
-      record { meant = meant; mean = means; reply = reply; did = did; wrote = wrote; leaves = left_law new.machine new.disk did.world did.stands }
+      record { meant = meant; mean = means; reply = reply; did = did; wrote = wrote; leaves = left_law new.it new.told did.world did.stands }
 
 pub AppendsPart-none : (o : Option (List ℕ)) (bytes : List ℕ) → AppendsPart o o bytes
 AppendsPart-none o bytes = ([], bytes, refl, Appends-none o)

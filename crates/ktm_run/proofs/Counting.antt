@@ -4,7 +4,9 @@ use Rattle.std.proofs.lemmas.List.{append-nil}
 use Rattle.ktm_base.specs.declared.power.PowerCall.{PowerCall}
 use Rattle.ktm_base.specs.declared.refusal.Refusal.TheVariants.{BadLine, MachineDown, MachineUp}
 use Rattle.ktm_run.specs.Plan.{plan_of, plans, falls, RoseBy, calls}
-use Rattle.ktm_run.specs.Progress.{Scene, Counts}
+use Rattle.ktm_kernel.specs.Stands.{KernelState}
+use Rattle.ktm_log.specs.OnDisk.{OnDisk, on}
+use Rattle.ktm_run.specs.Progress.{Counts}
 use Rattle.ktm_types.specs.declared.command.Line.{Line}
 use Rattle.ktm_types.specs.declared.command.Line.TheVariants.{Tick, Cut, Crash, Restart, Process}
 use Rattle.ktm_types.specs.declared.reply.Reply.{Reply}
@@ -22,14 +24,14 @@ RoseBy-then m n a b c h k = omega arith
 pub RoseBy-later : (m a b c : ℕ) → RoseBy m a b → b ≤ c → RoseBy m a c
 RoseBy-later m a b c h k = omega arith
 
-pub Counts-then : (a b c : Scene) (m n : ℕ) (p q : List PowerCall) (f g : ℕ) → Counts a b m p f → Counts b c n q g → Counts a c (m + n) (p ++ q) (f + g)
+pub Counts-then : (a b c : OnDisk KernelState) (m n : ℕ) (p q : List PowerCall) (f g : ℕ) → Counts a b m p f → Counts b c n q g → Counts a c (m + n) (p ++ q) (f + g)
 Counts-then a b c m n p q f g h k = record {
   rose = RoseBy-then f g a.status.downs b.status.downs c.status.downs h.rose k.rose;
   plan_is = k.plan_is ∙ ap (λ (l : List PowerCall). l ++ q) h.plan_is ∙ append_assoc a.status.plan p q;
   few = omega (arith, h.few, k.few);
 }
 
-pub Counts-none : (a : Scene) → Counts a a 0 [] 0
+pub Counts-none : (a : OnDisk KernelState) → Counts a a 0 [] 0
 Counts-none a = record { rose = RoseBy-none a.status.downs a.status.downs (omega arith); plan_is = sym (append-nil a.status.plan); few = omega arith }
 
 pub calls-append : (units : ℕ) (xs ys : List (Option Line)) → calls units (xs ++ ys) ≡ calls units xs + calls units ys

@@ -8,11 +8,12 @@ use Rattle.std.specs.Io.KnownBytes.{Appends}
 use Rattle.std.specs.List.{filter}
 use Rattle.ktm_base.specs.declared.power.PowerCall.{PowerCall}
 use Rattle.ktm_base.specs.Disk.{HasLengths}
-use Rattle.ktm_kernel.specs.Stands.{KernelAt}
+use Rattle.ktm_kernel.specs.Stands.{KernelState, KernelAt}
 use Rattle.ktm_run.proofs.Known.{Appends-none, Appends-trans}
 use Rattle.ktm_run.proofs.Counting.{Counts-none, Counts-then, calls-append, keeps_base, Transcript-append, plans-append, falls-append}
 use Rattle.ktm_run.specs.Plan.{plan_of, plans, falls_of, falls, calls_of, calls}
-use Rattle.ktm_run.specs.Progress.{Scene, Now, Counts, Answers, Ran, Progress, Broke, Stops}
+use Rattle.ktm_log.specs.OnDisk.{OnDisk}
+use Rattle.ktm_run.specs.Progress.{Now, Counts, Answers, Ran, Progress, Broke, Stops}
 use Rattle.ktm_run.specs.Script.{has_reply, Means, MeanAll, reply_line}
 use Rattle.ktm_types.specs.declared.command.Line.{Line}
 use Rattle.ktm_world.specs.Durable.{Durable}
@@ -69,7 +70,7 @@ Progress-silent now line silent = λ w stands. record {
   counts = Counts-none now.scene;
 }
 
-one_line : (a b : Scene) (p : List PowerCall) (f most : ℕ) → Counts a b most p f → Counts a b (most + 0) (p ++ []) (f + 0)
+one_line : (a b : OnDisk KernelState) (p : List PowerCall) (f most : ℕ) → Counts a b most p f → Counts a b (most + 0) (p ++ []) (f + 0)
 one_line a b p f most h = record {
   rose = let up = h.rose in omega arith;
   plan_is = h.plan_is ∙ ap (λ (l : List PowerCall). a.status.plan ++ l) (sym (append-nil p));
@@ -94,7 +95,7 @@ Progress-line a b line meant reply has means answers wrote = λ w stands.
 
 -- ---- a run that ends early
 
-pub Stops-line : (a b : Now) (line : List ℕ) → has_reply line ≡ true → IfSome a.scene.disk HasLengths → ((w : World) → KernelAt a.scene.machine a.scene.disk w → Broke w a b line) → Stops a b (line ∷ [])
+pub Stops-line : (a b : Now) (line : List ℕ) → has_reply line ≡ true → IfSome a.scene.told HasLengths → ((w : World) → KernelAt a.scene.it a.scene.told w → Broke w a b line) → Stops a b (line ∷ [])
 unfolding Progress-none
 Stops-line a b line wants lengths broke = λ w stands. record { before = []; line = line; behind = []; split = refl; wants_reply = wants; at = a; lengths = lengths; ran = Progress-none a w stands; broke = broke w stands }
 

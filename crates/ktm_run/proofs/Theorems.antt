@@ -16,7 +16,8 @@ use Rattle.ktm_run.specs.declared.status.Status.{Status}
 use Rattle.ktm_run.specs.declared.status.Status.TheVariants.{Done, Usage, SourceFault, SinkFault, NoMemory, BadImage, DiskFault, ScriptTooLong, LogFull}
 use Rattle.ktm_run.specs.Lawful.{RunIsLawful}
 use Rattle.ktm_run.specs.Executed.{IsStopped, Place, ScriptLeaves, place}
-use Rattle.ktm_run.specs.Progress.{Scene, Now, Counts, Ran, Progress, Broke}
+use Rattle.ktm_log.specs.OnDisk.{OnDisk, on}
+use Rattle.ktm_run.specs.Progress.{Now, Counts, Ran, Progress, Broke}
 use Rattle.ktm_run.specs.Script.{Means, cut_lines, lines_from}
 use Rattle.ktm_run.specs.declared.fault.OpenFault.{OpenFault}
 use Rattle.ktm_run.specs.declared.fault.OpenFault.TheVariants as opening
@@ -28,7 +29,7 @@ use Rattle.ktm_world.specs.Logs.{is_up}
 use Rattle.ktm_world.specs.Outcome.{is_full}
 use Rattle.ktm_world.specs.World.{World, opened, own_group}
 
-pub all_counts : (base : Durable) (room : ℕ) (old : DiskStatus) (first last : Scene) (n : ℕ) (plan : List PowerCall) (fell : ℕ) → RunCounts base.units old first.status 0 [] 0
+pub all_counts : (base : Durable) (room : ℕ) (old : DiskStatus) (first last : OnDisk KernelState) (n : ℕ) (plan : List PowerCall) (fell : ℕ) → RunCounts base.units old first.status 0 [] 0
     → Counts first last n plan fell → RunCounts base.units old last.status n plan fell
 all_counts base room old first last n plan fell opening counts = record {
   rose = omega (arith, opening.rose, counts.rose);
@@ -42,11 +43,11 @@ holds_of None w lengths leaves = absurd leaves
 holds_of (Some s) w lengths leaves = record { seen = leaves s.seen (seen_law s lengths); left = leaves }
 
 abbrev moment_at : Now → Moment
-moment_at now = record { taken = now.taken; disk = now.scene.disk; status = now.scene.status }
+moment_at now = record { taken = now.taken; disk = now.scene.told; status = now.scene.status }
 
 -- ---- a line at which a run ended
 
-module _ (w : World) (at new : Now) (line : List ℕ) (lengths : IfSome new.scene.disk HasLengths) where
+module _ (w : World) (at new : Now) (line : List ℕ) (lengths : IfSome new.scene.told HasLengths) where
   line_counts : (n : ℕ) (plan : List PowerCall) (fell : ℕ) → Counts at.scene new.scene n plan fell → LineCounts at.scene.status new.scene.status n plan fell
   line_counts n plan fell counts = record { rose = counts.rose; plan_is = counts.plan_is; few = counts.few }
 
@@ -59,7 +60,7 @@ module _ (w : World) (at new : Now) (line : List ℕ) (lengths : IfSome new.scen
   broke_of : Broke w at new line → Unanswered w (moment_at at) (moment_at new) line ⊎ HalfWritten w (moment_at at) (moment_at new) line
   broke_of (inl (wrote, unanswered)) = inl (record {
     wrote = wrote;
-    holds = holds_of new.scene.disk w lengths unanswered.leaves;
+    holds = holds_of new.scene.told w lengths unanswered.leaves;
     counts = unanswered_counts unanswered.counts;
   })
   broke_of (inr half) =
@@ -72,20 +73,20 @@ module _ (w : World) (at new : Now) (line : List ℕ) (lengths : IfSome new.scen
         does = did.does;
         wrote = half.wrote;
         counts = line_counts _ _ _ did.counts;
-        holds = holds_of new.scene.disk did.world lengths half.leaves;
+        holds = holds_of new.scene.told did.world lengths half.leaves;
       })
 
 -- ---- the run
 
-module _ (base : Durable) (room : ℕ) (old new : Outside) (first : Scene) (machine : KernelState) (lengths : IfSome new.disk HasLengths) where
+module _ (base : Durable) (room : ℕ) (old new : Outside) (first : OnDisk KernelState) (machine : KernelState) (lengths : IfSome new.disk HasLengths) where
   abbrev begun : Now
   begun = record { scene = first; taken = old.taken }
 
   abbrev ended : Now
-  ended = record { scene = record { machine = machine; disk = new.disk; status = new.status }; taken = new.taken }
+  ended = record { scene = on machine new.disk new.status; taken = new.taken }
 
-  module _ (stands : KernelAt first.machine first.disk (opened base room [])) (fits : is_full room (own_group base) ≡ false) (opening : RunCounts base.units old.status first.status 0 [] 0) (law : RunIsLawful base room) where
-    abbrev replied : (at : Now) (lines : List (List ℕ)) → IfSome at.scene.disk HasLengths → Ran (opened base room []) begun at lines → Replied base room (moment_of old) (moment_at at) lines
+  module _ (stands : KernelAt first.it first.told (opened base room [])) (fits : is_full room (own_group base) ≡ false) (opening : RunCounts base.units old.status first.status 0 [] 0) (law : RunIsLawful base room) where
+    abbrev replied : (at : Now) (lines : List (List ℕ)) → IfSome at.scene.told HasLengths → Ran (opened base room []) begun at lines → Replied base room (moment_of old) (moment_at at) lines
     replied at lines long ran = record {
       meant = ran.meant;
       steps = ran.steps;
@@ -98,7 +99,7 @@ module _ (base : Durable) (room : ℕ) (old new : Outside) (first : Scene) (mach
       one_outcome = law.one_outcome ran.meant ran.steps ran.replies ran.world ran.run;
       wrote = ran.wrote;
       counts = all_counts base room old.status first at.scene _ _ _ opening ran.counts;
-      holds = holds_of at.scene.disk ran.world long (left_law at.scene.machine at.scene.disk ran.world ran.stands);
+      holds = holds_of at.scene.told ran.world long (left_law at.scene.it at.scene.told ran.world ran.stands);
     }
 
     all_replied : (lines : List (List ℕ)) → Progress begun ended lines → Replied base room (moment_of old) (moment_of new) lines

@@ -1,11 +1,46 @@
--- What the loop over a script leaves, by how it ended.
-use Rattle.std.specs.Prelude.{◌≡◌, ℕ, ◌+◌, ◌<◌, ◌≤◌, List, [], length, take, Option, IfSome}
+-- What the execution of a line, of bytes and of a script leaves, by its answer.
+use Rattle.std.specs.Prelude.{◌≡◌, ℕ, ◌+◌, ◌<◌, ◌≤◌, true, List, [], ◌∷◌, length, take, Option, Result, Ok, Err, IfSome}
 use Rattle.std.specs.Io.KnownBytes.{Consumes, IsAtEnd}
 use Rattle.ktm_base.specs.declared.limits.TheConstants.{MOST_SCRIPT_BYTES}
+use Rattle.ktm_kernel.specs.Stands.{IsReady, KernelAt}
 use Rattle.ktm_run.specs.declared.status.Status.{Status}
 use Rattle.ktm_run.specs.declared.status.Status.TheVariants.{Done, Usage, SourceFault, SinkFault, NoMemory, BadImage, DiskFault, ScriptTooLong, LogFull}
-use Rattle.ktm_run.specs.Progress.{Now, Progress, Stops}
-use Rattle.ktm_run.specs.Script.{MayExecute, cut_lines, lines_from}
+use Rattle.ktm_run.specs.declared.fault.RunFault.{RunFault}
+use Rattle.ktm_run.specs.Progress.{Broke, Now, Progress, Stops}
+use Rattle.ktm_run.specs.Script.{MayExecute, cut_lines, has_reply, kept_of, lines_from, part_from}
+use Rattle.ktm_world.specs.World.{World}
+
+-- ---- a line of which so much was kept
+
+-- it was answered, and the machine is ready for the next one
+pub record IsLineDone (kept : List ℕ) (old new : Now) : Type 0 where
+  pub done : (line : List ℕ) → kept ≡ kept_of line → Progress old new (line ∷ [])
+  pub ready : IsReady new.scene.it new.scene.told new.scene.status
+
+-- the run ended at it
+pub record IsLineBroken (kept : List ℕ) (old new : Now) : Type 0 where
+  pub wants_reply : has_reply kept ≡ true
+  pub broke : (line : List ℕ) → kept ≡ kept_of line → (w : World) → KernelAt old.scene.it old.scene.told w → Broke w old new line
+
+-- what it leaves
+abbrev pub LineLeaves : List ℕ → Now → Now → Result (Unit {0}) RunFault → Type 0
+LineLeaves kept old new (Ok done) = IsLineDone kept old new
+LineLeaves kept old new (Err fault) = IsLineBroken kept old new
+
+-- ---- bytes of a script, behind a part of a line of which so much was kept
+
+-- the lines that end in them were answered, and of the part behind the last one so much is kept
+pub record AreFed (bytes kept now_kept : List ℕ) (old new : Now) : Type 0 where
+  pub done : (part : List ℕ) → kept ≡ kept_of part → Progress old new (lines_from part bytes)
+  pub keeps : (part : List ℕ) → kept ≡ kept_of part → now_kept ≡ kept_of (part_from part bytes)
+  pub ready : IsReady new.scene.it new.scene.told new.scene.status
+
+-- what they leave; a run that ended did so at one of those lines
+abbrev pub FeedLeaves : List ℕ → List ℕ → List ℕ → Now → Now → Result (Unit {0}) RunFault → Type 0
+FeedLeaves bytes kept now_kept old new (Ok done) = AreFed bytes kept now_kept old new
+FeedLeaves bytes kept now_kept old new (Err fault) = (part : List ℕ) → kept ≡ kept_of part → Stops old new (lines_from part bytes)
+
+-- ---- a script
 
 -- what the source has left, with the machine, its disk and the sink
 pub record Place : Type 0 where

@@ -8,4 +8,5 @@ pub mod Opening
 pub mod Early
 pub mod Theorem
 pub mod Opened
+pub mod Ended
 pub mod Lawful

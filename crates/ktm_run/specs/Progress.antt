@@ -6,6 +6,7 @@ use Rattle.ktm_base.specs.declared.power.PowerCall.{PowerCall}
 use Rattle.ktm_base.specs.declared.power.PowerCall.TheVariants.{Power}
 use Rattle.ktm_base.specs.Disk.{DiskState, DiskStatus, HasLengths}
 use Rattle.ktm_kernel.specs.Stands.{KernelState, KernelAt, LeavesStates}
+use Rattle.ktm_log.specs.OnDisk.{OnDisk, on}
 use Rattle.ktm_run.specs.Plan.{plan_of, plans, falls_of, falls, RoseBy, calls_of, calls}
 use Rattle.ktm_run.specs.Script.{has_reply, Means, MeanAll, AppendsPart, reply_line, written_replies}
 use Rattle.ktm_types.specs.declared.command.Line.{Line}
@@ -15,46 +16,36 @@ use Rattle.ktm_world.specs.Transcript.{Step, Does, Transcript}
 use Rattle.ktm_world.specs.World.{World}
 use Rattle.ktm_world.specs.Logs.{is_up}
 
--- the machine, and what its disk tells and counts
-pub record Scene : Type 0 where
-  pub machine : KernelState
-  pub disk : Option DiskState
-  pub status : DiskStatus
-
--- and what the sink took
+-- the machine on its disk, and what the sink took
 pub record Now : Type 0 where
-  pub scene : Scene
+  pub scene : OnDisk KernelState
   pub taken : Option (List ℕ)
 
--- the scene with these parts
-abbrev pub scene_of : KernelState → Option DiskState → DiskStatus → Scene
-scene_of machine disk status = record { machine = machine; disk = disk; status = status }
-
--- the scene with these parts, and what the sink took
+-- the machine on a disk that tells so much and has this status, and what the sink took
 abbrev pub point : KernelState → Option DiskState → DiskStatus → Option (List ℕ) → Now
-point machine disk status taken = record { scene = scene_of machine disk status; taken = taken }
+point machine told status taken = record { scene = on machine told status; taken = taken }
 
--- between two scenes lines were executed that may make so many device calls, had this plan and took the disk down so often
-pub record Counts (old new : Scene) (most : ℕ) (plan : List PowerCall) (fell : ℕ) : Type 0 where
+-- between two moments lines were executed that may make so many device calls, had this plan and took the disk down so often
+pub record Counts (old new : OnDisk KernelState) (most : ℕ) (plan : List PowerCall) (fell : ℕ) : Type 0 where
   pub rose : RoseBy fell old.status.downs new.status.downs
   pub plan_is : new.status.plan ≡ old.status.plan ++ plan
   pub few : new.status.calls ≤ old.status.calls + most
 
 -- a line came to this reply, by a step to a world for which the machine then stands
-pub record Did (w : World) (old new : Scene) (line : Option Line) (reply : Reply) : Type 0 where
+pub record Did (w : World) (old new : OnDisk KernelState) (line : Option Line) (reply : Reply) : Type 0 where
   pub step : Step
   pub world : World
   pub does : Does w line step reply world
-  pub stands : KernelAt new.machine new.disk world
+  pub stands : KernelAt new.it new.told world
   pub counts : Counts old new (calls_of w.base.units line) (plan_of line reply) (falls_of line step reply)
 
 -- for every world that the machine stands for
-abbrev pub Answers : Scene → Scene → Option Line → Reply → Type 0
-Answers old new line reply = (w : World) → KernelAt old.machine old.disk w → Did w old new line reply
+abbrev pub Answers : OnDisk KernelState → OnDisk KernelState → Option Line → Reply → Type 0
+Answers old new line reply = (w : World) → KernelAt old.it old.told w → Did w old new line reply
 
 -- a line was not executed, or it was a restart that found no memory: what may be left is of the same world
-pub record Unanswered (w : World) (old new : Scene) (line : List ℕ) : Type 0 where
-  pub leaves : IsSomeAnd new.disk (LeavesStates w)
+pub record Unanswered (w : World) (old new : OnDisk KernelState) (line : List ℕ) : Type 0 where
+  pub leaves : IsSomeAnd new.told (LeavesStates w)
   pub counts : Counts old new 0 [] 0
       ⊎ ((pick : ℕ) × Means line (Some (Restart pick)) × (is_up w.power ≡ false) × Counts old new (calls_of w.base.units (Some (Restart pick))) (Power pick ∷ []) 0)
 
@@ -67,12 +58,12 @@ pub record Ran (w : World) (old new : Now) (lines : List (List ℕ)) : Type 0 wh
   pub mean : MeanAll (filter has_reply lines) meant
   pub run : Transcript w meant steps replies world
   pub wrote : Appends old.taken new.taken (written_replies replies)
-  pub stands : KernelAt new.scene.machine new.scene.disk world
+  pub stands : KernelAt new.scene.it new.scene.told world
   pub counts : Counts old.scene new.scene (calls w.base.units meant) (plans meant replies) (falls meant steps replies)
 
 -- so many lines went on from one moment to the next, for every world that the machine stands for
 abbrev pub Progress : Now → Now → List (List ℕ) → Type 0
-Progress old new lines = (w : World) → KernelAt old.scene.machine old.scene.disk w → Ran w old new lines
+Progress old new lines = (w : World) → KernelAt old.scene.it old.scene.told w → Ran w old new lines
 
 -- a line was answered, and a part of its reply was written
 pub record HalfWritten (w : World) (old new : Now) (line : List ℕ) : Type 0 where
@@ -81,7 +72,7 @@ pub record HalfWritten (w : World) (old new : Now) (line : List ℕ) : Type 0 wh
   pub reply : Reply
   pub did : Did w old.scene new.scene meant reply
   pub wrote : AppendsPart old.taken new.taken (reply_line reply)
-  pub leaves : IsSomeAnd new.scene.disk (LeavesStates did.world)
+  pub leaves : IsSomeAnd new.scene.told (LeavesStates did.world)
 
 -- a line at which a run ended early
 abbrev pub Broke : World → Now → Now → List ℕ → Type 0
@@ -97,10 +88,10 @@ pub record Stopped (w : World) (old new : Now) (lines : List (List ℕ)) : Type 
   pub wants_reply : has_reply line ≡ true
   pub at : Now
   -- what the disk reads there is as long as an image that may be left
-  pub lengths : IfSome at.scene.disk HasLengths
+  pub lengths : IfSome at.scene.told HasLengths
   pub ran : Ran w old at before
   pub broke : Broke ran.world at new line
 
 -- among these lines the run ended early, for every world that the machine stands for
 abbrev pub Stops : Now → Now → List (List ℕ) → Type 0
-Stops old new lines = (w : World) → KernelAt old.scene.machine old.scene.disk w → Stopped w old new lines
+Stops old new lines = (w : World) → KernelAt old.scene.it old.scene.told w → Stopped w old new lines

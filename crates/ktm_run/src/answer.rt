@@ -1,7 +1,8 @@
 // What the machine answers to a line.
-ghost use Rattle.std.specs.Prelude.{◌≡◌, ◌<◌, ◌≤◌, true, List, Some, None, ℕ, Option, Err, IfOk, OnOk, OnErr};
+ghost use Rattle.std.specs.Prelude.{◌≡◌, ◌<◌, true, List, Some, None, ℕ, Option, Err, IfOk, OnOk, OnErr};
 ghost use Rattle.ktm_kernel.specs.Stands.{KernelAt, IsReady};
-ghost use Rattle.ktm_run.specs.Progress.{Answers, Unanswered, scene_of};
+ghost use Rattle.ktm_log.specs.OnDisk.{on};
+ghost use Rattle.ktm_run.specs.Progress.{Answers, Unanswered};
 ghost use Rattle.ktm_run.specs.Script.{Means};
 ghost use Rattle.ktm_forms.specs.Built.{is_built_command};
 ghost use Rattle.ktm_types.specs.Values.{IsCommand};
@@ -39,9 +40,9 @@ fn call<D: PowerDisk>(
     requires ready { IsReady kernel.old (D.told disk.old) (D.status disk.old) }
     requires command { IsCommand command }
     requires built { is_built_command command ≡ true }
-    ensures does { IfOk result (λ reply. Answers (scene_of kernel.old (D.told disk.old) (D.status disk.old)) (scene_of kernel.new (D.told disk.new) (D.status disk.new)) (Some (Process process command)) reply) }
+    ensures does { IfOk result (λ reply. Answers (on kernel.old (D.told disk.old) (D.status disk.old)) (on kernel.new (D.told disk.new) (D.status disk.new)) (Some (Process process command)) reply) }
     ensures ready { OnOk result (IsReady kernel.new (D.told disk.new) (D.status disk.new)) }
-    ensures no_memory { OnErr result ((line : List ℕ) (w : World) → KernelAt kernel.old (D.told disk.old) w → Unanswered w (scene_of kernel.old (D.told disk.old) (D.status disk.old)) (scene_of kernel.new (D.told disk.new) (D.status disk.new)) line) }
+    ensures no_memory { OnErr result ((line : List ℕ) (w : World) → KernelAt kernel.old (D.told disk.old) w → Unanswered w (on kernel.old (D.told disk.old) (D.status disk.old)) (on kernel.new (D.told disk.new) (D.status disk.new)) line) }
 {
     match kernel.call(disk, process, command) {
         Ok(reply) => Ok(reply),
@@ -52,7 +53,7 @@ fn call<D: PowerDisk>(
 // So many milliseconds pass.
 fn tick<D: PowerDisk>(kernel: &mut Kernel, disk: &mut D, ms: u32) -> Reply
     requires ready { IsReady kernel.old (D.told disk.old) (D.status disk.old) }
-    ensures does { Answers (scene_of kernel.old (D.told disk.old) (D.status disk.old)) (scene_of kernel.new (D.told disk.new) (D.status disk.new)) (Some (Tick ms)) result }
+    ensures does { Answers (on kernel.old (D.told disk.old) (D.status disk.old)) (on kernel.new (D.told disk.new) (D.status disk.new)) (Some (Tick ms)) result }
     ensures ready { IsReady kernel.new (D.told disk.new) (D.status disk.new) }
 {
     kernel.tick(disk, ms)
@@ -62,7 +63,7 @@ fn tick<D: PowerDisk>(kernel: &mut Kernel, disk: &mut D, ms: u32) -> Reply
 fn cut<D: PowerDisk>(kernel: &Kernel, disk: &mut D, calls: u64) -> Reply
     requires ready { IsReady kernel.now (D.told disk.old) (D.status disk.old) }
     requires places { 0 < (D.status disk.old).places }
-    ensures does { Answers (scene_of kernel.now (D.told disk.old) (D.status disk.old)) (scene_of kernel.now (D.told disk.new) (D.status disk.new)) (Some (Cut calls)) result }
+    ensures does { Answers (on kernel.now (D.told disk.old) (D.status disk.old)) (on kernel.now (D.told disk.new) (D.status disk.new)) (Some (Cut calls)) result }
     ensures ready { IsReady kernel.now (D.told disk.new) (D.status disk.new) }
 {
     disk.arm(calls);
@@ -73,7 +74,7 @@ fn cut<D: PowerDisk>(kernel: &Kernel, disk: &mut D, calls: u64) -> Reply
 fn crash<D: PowerDisk>(kernel: &mut Kernel, disk: &mut D) -> Reply
     requires ready { IsReady kernel.old (D.told disk.old) (D.status disk.old) }
     requires places { 0 < (D.status disk.old).places }
-    ensures does { Answers (scene_of kernel.old (D.told disk.old) (D.status disk.old)) (scene_of kernel.new (D.told disk.new) (D.status disk.new)) (Some Crash) result }
+    ensures does { Answers (on kernel.old (D.told disk.old) (D.status disk.old)) (on kernel.new (D.told disk.new) (D.status disk.new)) (Some Crash) result }
     ensures ready { IsReady kernel.new (D.told disk.new) (D.status disk.new) }
 {
     if !kernel.is_up() {
@@ -88,9 +89,9 @@ fn crash<D: PowerDisk>(kernel: &mut Kernel, disk: &mut D) -> Reply
 fn restart<D: PowerDisk>(kernel: &mut Kernel, disk: &mut D, pick: u64) -> Result<Reply, NoMemory>
     requires ready { IsReady kernel.old (D.told disk.old) (D.status disk.old) }
     requires places { 0 < (D.status disk.old).places }
-    ensures does { IfOk result (λ reply. Answers (scene_of kernel.old (D.told disk.old) (D.status disk.old)) (scene_of kernel.new (D.told disk.new) (D.status disk.new)) (Some (Restart pick)) reply) }
+    ensures does { IfOk result (λ reply. Answers (on kernel.old (D.told disk.old) (D.status disk.old)) (on kernel.new (D.told disk.new) (D.status disk.new)) (Some (Restart pick)) reply) }
     ensures ready { OnOk result (IsReady kernel.new (D.told disk.new) (D.status disk.new)) }
-    ensures no_memory { OnErr result ((line : List ℕ) (w : World) → Means line (Some (Restart pick)) → KernelAt kernel.old (D.told disk.old) w → Unanswered w (scene_of kernel.old (D.told disk.old) (D.status disk.old)) (scene_of kernel.new (D.told disk.new) (D.status disk.new)) line) }
+    ensures no_memory { OnErr result ((line : List ℕ) (w : World) → Means line (Some (Restart pick)) → KernelAt kernel.old (D.told disk.old) w → Unanswered w (on kernel.old (D.told disk.old) (D.status disk.old)) (on kernel.new (D.told disk.new) (D.status disk.new)) line) }
 {
     law_of_power();
     if kernel.is_up() {
@@ -114,9 +115,9 @@ pub fn answer<D: PowerDisk>(
 ) -> Result<Reply, NoMemory>
     requires ready { IsReady kernel.old (D.told disk.old) (D.status disk.old) }
     requires places { 0 < (D.status disk.old).places }
-    ensures does { IfOk result (λ reply. (meant : Option Line) × Means line.now meant × Answers (scene_of kernel.old (D.told disk.old) (D.status disk.old)) (scene_of kernel.new (D.told disk.new) (D.status disk.new)) meant reply) }
+    ensures does { IfOk result (λ reply. (meant : Option Line) × Means line.now meant × Answers (on kernel.old (D.told disk.old) (D.status disk.old)) (on kernel.new (D.told disk.new) (D.status disk.new)) meant reply) }
     ensures ready { OnOk result (IsReady kernel.new (D.told disk.new) (D.status disk.new)) }
-    ensures no_memory { OnErr result ((w : World) → KernelAt kernel.old (D.told disk.old) w → Unanswered w (scene_of kernel.old (D.told disk.old) (D.status disk.old)) (scene_of kernel.new (D.told disk.new) (D.status disk.new)) line.now) }
+    ensures no_memory { OnErr result ((w : World) → KernelAt kernel.old (D.told disk.old) w → Unanswered w (on kernel.old (D.told disk.old) (D.status disk.old)) (on kernel.new (D.told disk.new) (D.status disk.new)) line.now) }
 {
     let meant = match built_line(alloc, line) {
         Ok(meant) => meant,

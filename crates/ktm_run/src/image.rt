@@ -1,14 +1,12 @@
 // The run of a script on an image.
-ghost use Rattle.std.specs.Prelude.{◌≡◌, ◌<◌, ℕ, length, OnOk, OnErr, IfSome, IsSomeAnd};
+ghost use Rattle.std.specs.Prelude.{◌≡◌, OnOk, OnErr};
 ghost use Rattle.std.specs.Io.KnownBytes.{Appends};
-ghost use Rattle.ktm_base.specs.declared.limits.TheConstants.{MOST_SCRIPT_BYTES};
 ghost use Rattle.ktm_base.specs.Count.{Rose};
 ghost use Rattle.ktm_base.specs.Stream.{Faults};
 ghost use Rattle.ktm_run.specs.Form.{bad_image_line};
-ghost use Rattle.ktm_run.specs.Theorem.{Begins, BeginsAs, EndedEarly};
-ghost use Rattle.ktm_run.specs.Early.{Ends, SaysWhy, outside};
+ghost use Rattle.ktm_run.specs.Ended.{RunLeaves};
+ghost use Rattle.ktm_run.specs.Early.{SaysWhy, outside};
 ghost use Rattle.ktm_run.specs.Script.{AppendsPart};
-ghost use Rattle.ktm_world.specs.Durable.{Durable};
 
 use crate::fault::OpenFault;
 use crate::laws::law_of_runs;
@@ -62,15 +60,9 @@ pub fn run_image<S: Source, K: Sink, D: PowerDisk>(
     disk: &mut D,
 ) -> Status
     requires { (D.status disk.old).pending ≡ 0 }
-    ensures run { (base : Durable) (room : ℕ) → IsSomeAnd (D.told disk.old) (Begins base room)
-        → EndedEarly result base room (outside (S.left source.old) (K.taken sink.old) (D.told disk.old) (D.status disk.old)) (outside (S.left source.new) (K.taken sink.new) (D.told disk.new) (D.status disk.new)) }
+    ensures leaves { RunLeaves result (outside (S.left source.old) (K.taken sink.old) (D.told disk.old) (D.status disk.old)) (outside (S.left source.new) (K.taken sink.new) (D.told disk.new) (D.status disk.new)) }
     ensures source { result ≡ Status.SourceFault → Rose (S.faults source.old) (S.faults source.new) }
     ensures sink { result ≡ Status.SinkFault → Rose (K.faults sink.old) (K.faults sink.new) }
-    // what each end leaves, over every disk
-    ensures ends { Ends result (IfSome (D.told disk.old) (λ s. (base : Durable) × (room : ℕ) × BeginsAs base room s.seen))
-        (outside (S.left source.old) (K.taken sink.old) (D.told disk.old) (D.status disk.old)) (outside (S.left source.new) (K.taken sink.new) (D.told disk.new) (D.status disk.new)) }
-    ensures not_usage { result ≡ Status.Usage → ⊥ }
-    ensures too_long { result ≡ Status.ScriptTooLong → IfSome (S.left source.old) (λ bytes. MOST_SCRIPT_BYTES < length bytes) }
 {
     let Ok(mut kept) = Vec::with_capacity(alloc, MOST_KEPT) else {
         return Status::NoMemory;

@@ -1,10 +1,10 @@
 // A line of a script.
-ghost use Rattle.std.specs.Prelude.{◌≡◌, ◌≤◌, ◌++◌, ◌∷◌, [], true, ℕ, List, OnOk, OnErr, IsErrOf, vec_capacity};
+ghost use Rattle.std.specs.Prelude.{◌≡◌, ◌≤◌, ◌++◌, ℕ, List, IsErrOf, vec_capacity};
 ghost use Rattle.ktm_base.specs.Count.{Rose};
-ghost use Rattle.ktm_kernel.specs.Stands.{KernelAt, IsReady};
-ghost use Rattle.ktm_run.specs.Progress.{Progress, Broke, Stops, point};
-ghost use Rattle.ktm_run.specs.Script.{has_reply, kept_of, lines_from, part_from};
-ghost use Rattle.ktm_world.specs.World.{World};
+ghost use Rattle.ktm_kernel.specs.Stands.{IsReady};
+ghost use Rattle.ktm_run.specs.Executed.{FeedLeaves, LineLeaves};
+ghost use Rattle.ktm_run.specs.Progress.{point};
+ghost use Rattle.ktm_run.specs.Script.{has_reply, kept_of};
 
 use crate::answer::answer;
 use crate::fault::RunFault;
@@ -36,10 +36,7 @@ pub fn do_line<K: Sink, D: PowerDisk>(
     kept: &[u8],
 ) -> Result<(), RunFault>
     requires { IsReady kernel.old (D.told disk.old) (D.status disk.old) }
-    ensures done { OnOk result ((line : List ℕ) → kept.now ≡ kept_of line → Progress (point kernel.old (D.told disk.old) (D.status disk.old) (K.taken sink.old)) (point kernel.new (D.told disk.new) (D.status disk.new) (K.taken sink.new)) (line ∷ [])) }
-    ensures broke { OnErr result ((line : List ℕ) → kept.now ≡ kept_of line → (w : World) → KernelAt kernel.old (D.told disk.old) w → Broke w (point kernel.old (D.told disk.old) (D.status disk.old) (K.taken sink.old)) (point kernel.new (D.told disk.new) (D.status disk.new) (K.taken sink.new)) line) }
-    ensures wants_reply { OnErr result (has_reply kept.now ≡ true) }
-    ensures ready { OnOk result (IsReady kernel.new (D.told disk.new) (D.status disk.new)) }
+    ensures leaves { LineLeaves kept.now (point kernel.old (D.told disk.old) (D.status disk.old) (K.taken sink.old)) (point kernel.new (D.told disk.new) (D.status disk.new) (K.taken sink.new)) result }
     ensures fault { IsErrOf result RunFault.SinkFault → Rose (K.faults sink.old) (K.faults sink.new) }
     ensures later { K.faults sink.old ≤ K.faults sink.new }
 {
@@ -87,11 +84,8 @@ pub fn feed<K: Sink, D: PowerDisk>(
 ) -> Result<(), RunFault>
     requires ready { IsReady kernel.old (D.told disk.old) (D.status disk.old) }
     requires room { 140001 ≤ vec_capacity kept.old }
-    ensures done { OnOk result ((part : List ℕ) → kept.old.items ≡ kept_of part → Progress (point kernel.old (D.told disk.old) (D.status disk.old) (K.taken sink.old)) (point kernel.new (D.told disk.new) (D.status disk.new) (K.taken sink.new)) (lines_from part bytes.now)) }
-    ensures stopped { OnErr result ((part : List ℕ) → kept.old.items ≡ kept_of part → Stops (point kernel.old (D.told disk.old) (D.status disk.old) (K.taken sink.old)) (point kernel.new (D.told disk.new) (D.status disk.new) (K.taken sink.new)) (lines_from part bytes.now)) }
-    ensures kept { OnOk result ((part : List ℕ) → kept.old.items ≡ kept_of part → kept.new.items ≡ kept_of (part_from part bytes.now)) }
+    ensures leaves { FeedLeaves bytes.now kept.old.items kept.new.items (point kernel.old (D.told disk.old) (D.status disk.old) (K.taken sink.old)) (point kernel.new (D.told disk.new) (D.status disk.new) (K.taken sink.new)) result }
     ensures room { 140001 ≤ vec_capacity kept.new }
-    ensures ready { OnOk result (IsReady kernel.new (D.told disk.new) (D.status disk.new)) }
     ensures fault { IsErrOf result RunFault.SinkFault → Rose (K.faults sink.old) (K.faults sink.new) }
     ensures later { K.faults sink.old ≤ K.faults sink.new }
 {

@@ -6,44 +6,62 @@ use Rattle.ktm_run.proofs.Runs.{Progress-silent, Progress-line}
 use Rattle.ktm_run.specs.Script.{newline, reply_line}
 use Rattle.ktm_run.proofs.line.do_line.Goals as goal
 
-pub returns-then-not-is_answered-clause-done : goal.returns-then-not-is_answered-clause-done
-returns-then-not-is_answered-clause-done g c = λ line is. Progress-silent _ line (has_reply-of line c.args.kept.now is ∙ sym c.if-not-is_answered.ensures)
+pub returns-then-not-is_answered-clause-leaves : goal.returns-then-not-is_answered-clause-leaves
+returns-then-not-is_answered-clause-leaves g c = record { done = λ line is. Progress-silent _ line (has_reply-of line c.args.kept.now is ∙ sym c.if-not-is_answered.ensures); ready = c.requires }
 
-pub returns-in-Err-clause-broke : goal.returns-in-Err-clause-broke
-returns-in-Err-clause-broke g c = λ line is w stands.
-    rw (c.in-Err.ensures.err, c.in-Err.ensures.same) (inl (Appends-none _, unanswered_here w _ line stands))
+pub returns-in-Err-clause-leaves : goal.returns-in-Err-clause-leaves
+returns-in-Err-clause-leaves g c = record {
+  wants_reply = sym c.if-not-is_answered.ensures;
+  broke = λ line is w stands.
+      rw (c.in-Err.ensures.err, c.in-Err.ensures.same) (inl (Appends-none _, unanswered_here w _ line stands));
+}
 
-pub returns-in_default-answer-clause-broke : goal.returns-in_default-answer-clause-broke
-returns-in_default-answer-clause-broke g c = λ line is w stands.
-    inl (
-      Appends-none _,
-      unanswered_planned c.args.kernel.now _ _ c.plan_room.ensures.same _ _ _ c.plan_room.ensures.others w line
-          (λ v at. unanswered_kept v _ _ line (rw is at (c.in_default-answer.ensures.no_memory v at))) stands,
-    )
+pub returns-in_default-answer-clause-leaves : goal.returns-in_default-answer-clause-leaves
+returns-in_default-answer-clause-leaves g c = record {
+  wants_reply = sym c.if-not-is_answered.ensures;
+  broke = λ line is w stands.
+      inl (
+        Appends-none _,
+        unanswered_planned c.args.kernel.now _ _ c.plan_room.ensures.same _ _ _ c.plan_room.ensures.others w line
+            (λ v at. unanswered_kept v _ _ line (rw is at (c.in_default-answer.ensures.no_memory v at))) stands,
+      );
+}
 
-pub returns-in_default-write_reply-clause-broke : goal.returns-in_default-write_reply-clause-broke
-returns-in_default-write_reply-clause-broke g c = λ line is w stands.
-    let (meant, means, answers) = c.in-Ok.ensures.does in
-    inr (half_written c.args.kernel.now _ _ c.plan_room.ensures.same _ _ _ c.plan_room.ensures.others w _ _ line meant c.in-Ok.reply (Means-kept line meant (rw is at means)) answers (AppendsPart-none _ _) stands)
+pub returns-in_default-write_reply-clause-leaves : goal.returns-in_default-write_reply-clause-leaves
+returns-in_default-write_reply-clause-leaves g c = record {
+  wants_reply = sym c.if-not-is_answered.ensures;
+  broke = λ line is w stands.
+      let (meant, means, answers) = c.in-Ok.ensures.does in
+      inr (half_written c.args.kernel.now _ _ c.plan_room.ensures.same _ _ _ c.plan_room.ensures.others w _ _ line meant c.in-Ok.reply (Means-kept line meant (rw is at means)) answers (AppendsPart-none _ _) stands);
+}
 
-pub returns-in-Err-push-clause-broke : goal.returns-in-Err-push-clause-broke
-returns-in-Err-push-clause-broke g c = λ line is w stands.
-    let (meant, means, answers) = c.in-Ok.ensures.does in
-    inr (half_written c.args.kernel.now _ _ c.plan_room.ensures.same _ _ _ c.plan_room.ensures.others w _ _ line meant c.in-Ok.reply (Means-kept line meant (rw is at means)) answers (AppendsPart-none _ _) stands)
+pub returns-in-Err-push-clause-leaves : goal.returns-in-Err-push-clause-leaves
+returns-in-Err-push-clause-leaves g c = record {
+  wants_reply = sym c.if-not-is_answered.ensures;
+  broke = λ line is w stands.
+      let (meant, means, answers) = c.in-Ok.ensures.does in
+      inr (half_written c.args.kernel.now _ _ c.plan_room.ensures.same _ _ _ c.plan_room.ensures.others w _ _ line meant c.in-Ok.reply (Means-kept line meant (rw is at means)) answers (AppendsPart-none _ _) stands);
+}
 
-pub returns-in-Err-write_all-clause-broke : goal.returns-in-Err-write_all-clause-broke
-returns-in-Err-write_all-clause-broke g c = λ line is w stands.
-    let (meant, means, answers) = c.in-Ok.ensures.does in
-    let whole : c.as_slice.result.now ≡ reply_line c.in-Ok.reply = c.as_slice.ensures.value ∙ c.in_default-push.ensures.items ∙ ap (λ (l : List ℕ). l ++ newline ∷ []) (c.into_vec-bytes.ensures ∙ c.in-Ok-write_reply.ensures) in
-    inr (half_written c.args.kernel.now _ _ c.plan_room.ensures.same _ _ _ c.plan_room.ensures.others w _ _ line meant c.in-Ok.reply (Means-kept line meant (rw is at means)) answers
-    (rw whole at c.in-Err-write_all.ensures.err) stands)
+pub returns-in-Err-write_all-clause-leaves : goal.returns-in-Err-write_all-clause-leaves
+returns-in-Err-write_all-clause-leaves g c = record {
+  wants_reply = sym c.if-not-is_answered.ensures;
+  broke = λ line is w stands.
+      let (meant, means, answers) = c.in-Ok.ensures.does in
+      let whole : c.as_slice.result.now ≡ reply_line c.in-Ok.reply = c.as_slice.ensures.value ∙ c.in_default-push.ensures.items ∙ ap (λ (l : List ℕ). l ++ newline ∷ []) (c.into_vec-bytes.ensures ∙ c.in-Ok-write_reply.ensures) in
+      inr (half_written c.args.kernel.now _ _ c.plan_room.ensures.same _ _ _ c.plan_room.ensures.others w _ _ line meant c.in-Ok.reply (Means-kept line meant (rw is at means)) answers
+      (rw whole at c.in-Err-write_all.ensures.err) stands);
+}
 
-pub returns-clause-done : goal.returns-clause-done
-returns-clause-done g c = λ line is.
-    let (meant, means, answers) = c.in-Ok.ensures.does in
-    let whole : c.as_slice.result.now ≡ reply_line c.in-Ok.reply = c.as_slice.ensures.value ∙ c.in_default-push.ensures.items ∙ ap (λ (l : List ℕ). l ++ newline ∷ []) (c.into_vec-bytes.ensures ∙ c.in-Ok-write_reply.ensures) in
-    Progress-line _ _ line meant c.in-Ok.reply
-    (has_reply-of line c.args.kept.now is ∙ sym c.if-not-is_answered.ensures)
-    (Means-kept line meant (rw is at means))
-    (λ w stands. did_planned c.args.kernel.now _ _ c.plan_room.ensures.same _ _ _ c.plan_room.ensures.others w meant c.in-Ok.reply answers stands)
-    (rw whole at c.in_default-write_all.ensures.ok)
+pub returns-clause-leaves : goal.returns-clause-leaves
+returns-clause-leaves g c = record {
+  done = λ line is.
+      let (meant, means, answers) = c.in-Ok.ensures.does in
+      let whole : c.as_slice.result.now ≡ reply_line c.in-Ok.reply = c.as_slice.ensures.value ∙ c.in_default-push.ensures.items ∙ ap (λ (l : List ℕ). l ++ newline ∷ []) (c.into_vec-bytes.ensures ∙ c.in-Ok-write_reply.ensures) in
+      Progress-line _ _ line meant c.in-Ok.reply
+      (has_reply-of line c.args.kept.now is ∙ sym c.if-not-is_answered.ensures)
+      (Means-kept line meant (rw is at means))
+      (λ w stands. did_planned c.args.kernel.now _ _ c.plan_room.ensures.same _ _ _ c.plan_room.ensures.others w meant c.in-Ok.reply answers stands)
+      (rw whole at c.in_default-write_all.ensures.ok);
+  ready = c.in-Ok.ensures.ready;
+}

@@ -20,31 +20,32 @@ loop-end-preserved g c = record {
         c.clear.ensures.items,
         ap (λ (r : List ℕ). (lines ++ line ∷ []) ++ lines_from [] r) (behind c.in-Some.end c.loop-end.rest.now) ∙ append_assoc lines (line ∷ []) _ ∙ ap (λ (l : List (List ℕ)). lines ++ l) (sym cut.0) ∙ all,
         ap (λ (r : List ℕ). part_from [] r) (behind c.in-Some.end c.loop-end.rest.now) ∙ sym cut.1 ∙ rest,
-        Progress-then _ _ _ lines (line ∷ []) went (c.in_default-do_line.ensures.done line (c.deref.ensures.value ∙ c.keep.ensures.kept now kept)),
+        Progress-then _ _ _ lines (line ∷ []) went (c.in_default-do_line.ensures.leaves.done line (c.deref.ensures.value ∙ c.keep.ensures.kept now kept)),
       );
   room = omega (arith, c.clear.ensures.capacity, c.keep.ensures.room);
-  ready = c.in_default-do_line.ensures.ready;
+  ready = c.in_default-do_line.ensures.leaves.ready;
   later = omega (arith, c.loop-end.invariant.later, c.do_line.ensures.later);
 }
 
-pub returns-clause-done : goal.returns-clause-done
-returns-clause-done g c = λ part is.
-    let (now, lines, kept, all, rest, went) = c.loop-end.invariant.went part is in
-    let none = uncut now c.loop-end.rest.now (λ k below. false_from_ne_true _ (c.in_default.ensures k (omega arith) below)) in
-    Progress-as _ _ _ _ (sym (append-nil lines) ∙ ap (λ (l : List (List ℕ)). lines ++ l) (sym none.0) ∙ all) went
+pub returns-clause-leaves : goal.returns-clause-leaves
+returns-clause-leaves g c = record {
+  done = λ part is.
+      let (now, lines, kept, all, rest, went) = c.loop-end.invariant.went part is in
+      let none = uncut now c.loop-end.rest.now (λ k below. false_from_ne_true _ (c.in_default.ensures k (omega arith) below)) in
+      Progress-as _ _ _ _ (sym (append-nil lines) ∙ ap (λ (l : List (List ℕ)). lines ++ l) (sym none.0) ∙ all) went;
+  keeps = λ part is.
+      let (now, lines, kept, all, rest, went) = c.loop-end.invariant.went part is in
+      let none = uncut now c.loop-end.rest.now (λ k below. false_from_ne_true _ (c.in_default.ensures k (omega arith) below)) in
+      c.keep-2.ensures.kept now kept ∙ ap kept_of (sym none.1 ∙ rest);
+  ready = c.loop-end.invariant.ready;
+}
 
-pub returns-clause-kept : goal.returns-clause-kept
-returns-clause-kept g c = λ part is.
-    let (now, lines, kept, all, rest, went) = c.loop-end.invariant.went part is in
-    let none = uncut now c.loop-end.rest.now (λ k below. false_from_ne_true _ (c.in_default.ensures k (omega arith) below)) in
-    c.keep-2.ensures.kept now kept ∙ ap kept_of (sym none.1 ∙ rest)
-
-pub returns-in-Err-clause-stopped : goal.returns-in-Err-clause-stopped
-returns-in-Err-clause-stopped g c = λ part is.
+pub returns-in-Err-clause-leaves : goal.returns-in-Err-clause-leaves
+returns-in-Err-clause-leaves g c = λ part is.
     let (now, lines, kept, all, rest, went) = c.loop-end.invariant.went part is in
     let cut = cut_at now c.loop-end.rest.now c.in-Some.end c.in-Some.ensures.0.high c.in-Some.ensures.1 (λ k below. false_from_ne_true _ (c.in-Some.ensures.0.before k (omega arith) below)) in
     let line = now ++ take c.in-Some.end c.loop-end.rest.now in
     let is_kept = c.deref.ensures.value ∙ c.keep.ensures.kept now kept in
     Stops-as _ _ _ _ (append_assoc lines (line ∷ []) _ ∙ ap (λ (l : List (List ℕ)). lines ++ l) (sym cut.0) ∙ all)
     (Stops-within _ _ (lines ++ line ∷ []) _ (Stops-after _ _ _ lines (line ∷ []) went
-    (Stops-line _ _ line (has_reply-of line _ is_kept ∙ c.in-Err.ensures.wants_reply) (g.met.D.Disk.lengths c.loop-end.disk) (c.in-Err.ensures.broke line is_kept))))
+    (Stops-line _ _ line (has_reply-of line _ is_kept ∙ c.in-Err.ensures.leaves.wants_reply) (g.met.D.Disk.lengths c.loop-end.disk) (c.in-Err.ensures.leaves.broke line is_kept))))

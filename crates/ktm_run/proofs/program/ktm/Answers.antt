@@ -27,14 +27,15 @@ returns-then-not-is_run_form-clause-no_run g c = λ is.
 pub returns-clause-complete : goal.returns-clause-complete
 returns-clause-complete g c = λ is base room tells reads writes short.
     let made = c.run_image.ensures in
+    let leaves = made.leaves in
     run_complete base room _ _ _ _ _ _ _ _ c.run_image.result
-    (made.run base room tells) (probed_ends _ _ _ _ _ (none_written _ _ _ c.in_default.ensures.writes) c.run_image.result _ _ made.ends) made.source
-    (λ fault. Rose-later _ _ _ c.write.ensures.faults.later (made.sink fault)) made.too_long reads writes short
+    (leaves.run base room tells) (probed_ends _ _ _ _ _ (none_written _ _ _ c.in_default.ensures.writes) c.run_image.result _ _ leaves.ends) made.source
+    (λ fault. Rose-later _ _ _ c.write.ensures.faults.later (made.sink fault)) leaves.too_long reads writes short
 
 pub returns-clause-run : goal.returns-clause-run
 returns-clause-run g c = λ is base room tells.
-    probed_early _ _ _ _ _ (none_written _ _ _ c.in_default.ensures.writes) base room c.run_image.result _ (c.run_image.ensures.run base room tells)
+    probed_early _ _ _ _ _ (none_written _ _ _ c.in_default.ensures.writes) base room c.run_image.result _ (c.run_image.ensures.leaves.run base room tells)
 
 pub returns-clause-ends : goal.returns-clause-ends
 returns-clause-ends g c = λ is.
-    probed_ends _ _ _ _ _ (none_written _ _ _ c.in_default.ensures.writes) c.run_image.result _ _ c.run_image.ensures.ends
+    probed_ends _ _ _ _ _ (none_written _ _ _ c.in_default.ensures.writes) c.run_image.result _ _ c.run_image.ensures.leaves.ends

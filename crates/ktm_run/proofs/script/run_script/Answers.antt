@@ -26,11 +26,11 @@ pieces-preserved g c =
         script ++ piece,
         Consumes-trans _ _ _ script piece read c.in-Ok.ensures.reads,
         omega (arith, length-append {A = ℕ}, length-take {A = ℕ}, long, c.in-Ok.ensures.within, c.in-Ok.ensures.count, c.max.ensures, c.if-left-eq0.false),
-        c.in-Ok-feed.ensures.kept part kept ∙ ap kept_of (sym (part_from-append [] script piece)),
-        Progress-as _ _ _ _ (sym (lines_from-append [] script piece)) (Progress-then _ _ _ (lines_from [] script) (lines_from part piece) went (c.in-Ok-feed.ensures.done part kept)),
+        c.in-Ok-feed.ensures.leaves.keeps part kept ∙ ap kept_of (sym (part_from-append [] script piece)),
+        Progress-as _ _ _ _ (sym (lines_from-append [] script piece)) (Progress-then _ _ _ (lines_from [] script) (lines_from part piece) went (c.in-Ok-feed.ensures.leaves.done part kept)),
       );
       room = c.in-Ok-feed.ensures.room;
-      ready = c.in-Ok-feed.ensures.ready;
+      ready = c.in-Ok-feed.ensures.leaves.ready;
       bound = omega (arith, c.pieces.invariant.bound);
       source_later = omega (arith, c.pieces.invariant.source_later, c.read_some.ensures.faults.later);
       sink_later = omega (arith, c.pieces.invariant.sink_later, c.feed.ensures.later);
@@ -90,7 +90,7 @@ returns-in-Err-SinkFault-feed-clause-leaves g c =
       was_read = Consumes-trans _ _ _ script piece read c.in-Ok.ensures.reads;
       short = omega (arith, length-append {A = ℕ}, length-take {A = ℕ}, long, c.in-Ok.ensures.within, c.in-Ok.ensures.count, c.max.ensures, c.if-left-eq0.false);
       may = inl refl;
-      stops = Stops-as _ _ _ _ (sym (lines_from-append [] script piece)) (Stops-after _ _ _ (lines_from [] script) (lines_from part piece) went (c.in-Err-SinkFault-feed.ensures.stopped part kept));
+      stops = Stops-as _ _ _ _ (sym (lines_from-append [] script piece)) (Stops-after _ _ _ (lines_from [] script) (lines_from part piece) went (c.in-Err-SinkFault-feed.ensures.leaves part kept));
     }
 
 pub returns-in-Err-NoMemory-feed-clause-leaves : goal.returns-in-Err-NoMemory-feed-clause-leaves
@@ -104,7 +104,7 @@ returns-in-Err-NoMemory-feed-clause-leaves g c =
       was_read = Consumes-trans _ _ _ script piece read c.in-Ok.ensures.reads;
       short = omega (arith, length-append {A = ℕ}, length-take {A = ℕ}, long, c.in-Ok.ensures.within, c.in-Ok.ensures.count, c.max.ensures, c.if-left-eq0.false);
       may = inl refl;
-      stops = Stops-as _ _ _ _ (sym (lines_from-append [] script piece)) (Stops-after _ _ _ (lines_from [] script) (lines_from part piece) went (c.in-Err-NoMemory-feed.ensures.stopped part kept));
+      stops = Stops-as _ _ _ _ (sym (lines_from-append [] script piece)) (Stops-after _ _ _ (lines_from [] script) (lines_from part piece) went (c.in-Err-NoMemory-feed.ensures.leaves part kept));
     }
 
 pub returns-then-left-eq0-clause-leaves : goal.returns-then-left-eq0-clause-leaves
