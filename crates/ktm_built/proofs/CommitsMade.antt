@@ -13,15 +13,15 @@ use Rattle.ktm_forms.specs.Commits.{commit_events}
 use Rattle.ktm_types.specs.declared.change.Change.{Change}
 use Rattle.ktm_types.specs.declared.command.Command.TheVariants.{CommitTransaction}
 use Rattle.ktm_types.specs.declared.object.Transaction.{Transaction}
-use Rattle.ktm_world.specs.Changes.{has_made}
+use Rattle.ktm_world.specs.Changes.{has_changes, has_made}
 use Rattle.ktm_world.specs.Decide.{refusal_of, with_room}
-use Rattle.ktm_world.specs.Files.{FirstOpen, OwnChanges, own_changes}
+use Rattle.ktm_world.specs.Files.{FilesNow, FirstOpen, OwnChanges, committed_files, files_with, own_changes}
 use Rattle.ktm_world.specs.Holds.{is_in}
 use Rattle.ktm_world.specs.Keys.{OwnSettings}
 use Rattle.ktm_world.specs.Labels.{transaction_named, transaction_tests}
 use Rattle.ktm_world.specs.Lawful.{undecided}
 use Rattle.ktm_world.specs.Laws.{StepLaw}
-use Rattle.ktm_world.specs.Outcome.{Outcome, apply, first_refusal, is_full, refuse_or}
+use Rattle.ktm_world.specs.Outcome.{apply, first_refusal, is_full, refuse_or}
 use Rattle.ktm_world.specs.Present.{Present}
 use Rattle.ktm_world.specs.TransactionCalls.{commit_transaction}
 use Rattle.ktm_world.specs.Transactions.{is_of, is_undecided, same_id}
@@ -40,8 +40,14 @@ use Rattle.txf_laws.proofs.offered.Tables.{same_id-sym}
 use Rattle.ktm_owned.proofs.offered.Undecided.{undecided-from}
 use Rattle.txf_laws.specs.FileEffects.{AreUnopened, LeavesOthers}
 use Rattle.ktm_built.specs.Files.{MayCommitNow}
-use Rattle.ktm_built.specs.Forms.{changes_of, commit_outcome, settings_of}
-use Rattle.ktm_built.specs.Laws.{FormsLaw, NamedLaw}
+use Rattle.ktm_built.specs.Forms.{changes_of, settings_of}
+use Rattle.ktm_built.specs.Courses.{with_moved}
+use Rattle.ktm_built.proofs.offered.Courses.{commit_leaves, commit_records, ended_committed}
+use Rattle.ktm_built.proofs.offered.Quiet.{commits_before_end, not_recorded}
+use Rattle.ktm_world.specs.Committed.{committed_with}
+use Rattle.ktm_world.specs.Phases.{has_settings}
+use Rattle.txf_laws.specs.FileEffects.{forgotten}
+use Rattle.ktm_built.specs.Laws.{NamedLaw}
 use Rattle.ktm_built.specs.Standing.{IsStanding}
 use Rattle.ktm_built.proofs.Counted.{counted_after, few_versions, units_now}
 use Rattle.ktm_built.proofs.FileForms.{decides}
@@ -93,7 +99,21 @@ undecided_named x process label t names none =
     let aborted = passed committed.1 in
     IsIn-kept (λ (u : Transaction). is_undecided u && not (is_of u.id None)) x.transactions.items t (transaction-named x process label t names) (and_from _ _ (undecided-from t committed.0 aborted.0) refl)
 
-module _ (step : StepLaw) (law : LawfulWorldsLaw) (reservations : ReservationsLaw) (forms : FormsLaw) (named : NamedLaw) where
+-- where it changed nothing, nothing of the files is committed
+nothing_committed : (files : FilesNow) (id : Id) → own_changes files.table.own id ≡ [] → forgotten files id ≡ files_committed files id
+nothing_committed files id none =
+    ap (λ (cs : List Change). files_with (committed_with (committed_files files []) (record { transaction = Some id; changes = cs; settings = [] } ∷ [])) (forgotten files id).first_opens (forgotten files id).table) (sym none)
+
+committed_or_not : (x : Present) (t : Transaction)
+    → (with_moved x t (ended_committed t (has_changes (changes_of x t) && has_settings (settings_of x t))) (has_changes (changes_of x t) || has_settings (settings_of x t))).files ≡ files_committed x.files t.id
+committed_or_not x t = go (changes_of x t) refl (settings_of x t)
+  where
+    go : (cs : List Change) → changes_of x t ≡ cs → (ss : OwnSettings) → (with_moved x t (ended_committed t (has_changes cs && has_settings ss)) (has_changes cs || has_settings ss)).files ≡ files_committed x.files t.id
+    go [] none [] = nothing_committed x.files t.id none
+    go [] none (s ∷ ss) = refl
+    go (c ∷ cs) none ss = refl
+
+module _ (step : StepLaw) (law : LawfulWorldsLaw) (reservations : ReservationsLaw) (named : NamedLaw) where
   module _ (w : World) (standing : IsStanding w) (process : Pid) (label : Label) (t : Transaction) (up : (present w).machine.is_up ≡ true) (names : transaction_named (present w) process label ≡ Some t)
       (tests : first_refusal (transaction_tests (Some t)) ≡ None) (fits : is_full (present w).machine.left (commit_events t.id (changes_of (present w) t) (settings_of (present w) t)) ≡ false) where
     abbrev x : Present
@@ -105,14 +125,14 @@ module _ (step : StepLaw) (law : LawfulWorldsLaw) (reservations : ReservationsLa
     unrefused : refusal_of x process (CommitTransaction label) ≡ None
     unrefused = ap (λ on. cond (not on) (Some MachineDown) (first_refusal (transaction_tests (transaction_named x process label)))) up ∙ ap (λ named. first_refusal (transaction_tests named)) names ∙ tests
 
-    commits : commit_transaction x (Some t) ≡ commit_outcome x t
-    commits = forms.commit x t standing.built.now (named x process label t names)
+    none : t.is_recorded ≡ false
+    none = not_recorded x t standing.built.now (named x process label t names) (commits_before_end t (record { none = tests }))
 
-    room : with_room x process (CommitTransaction label) ≡ commit_outcome x t
-    room = ap (λ refusal. refuse_or x refusal (commit_transaction x (transaction_named x process label))) unrefused ∙ ap (λ named. commit_transaction x named) names ∙ commits
+    room : with_room x process (CommitTransaction label) ≡ commit_transaction x (Some t)
+    room = ap (λ refusal. refuse_or x refusal (commit_transaction x (transaction_named x process label))) unrefused ∙ ap (λ named. commit_transaction x named) names
 
-    leaves : (apply x (commit_outcome x t)).files ≡ files_committed x.files t.id
-    leaves = ap (λ (o : Outcome). (apply x o).files) (sym commits) ∙ ap (λ (y : Present). y.files) (forms.commits x t standing.built.now (named x process label t names))
+    leaves : (apply x (commit_transaction x (Some t))).files ≡ files_committed x.files t.id
+    leaves = ap (λ (y : Present). y.files) (commit_leaves x t standing.built.now none) ∙ committed_or_not x t
 
     pub may_commit : MayCommitNow x t
     may_commit =
@@ -122,7 +142,8 @@ module _ (step : StepLaw) (law : LawfulWorldsLaw) (reservations : ReservationsLa
           applies = own-apply x kept.sound.files t.id;
           left = leaves_others reservations x t kept.sound.files there;
           unopened = unopened x kept.sound.files t.id;
-          counted = counted_after step law w process (CommitTransaction label) (commit_outcome x t) (files_committed x.files t.id) standing (decides x process (CommitTransaction label) (commit_outcome x t) room fits) leaves;
+          counted = counted_after step law w process (CommitTransaction label) (commit_transaction x (Some t)) (files_committed x.files t.id) standing
+              (decides x process (CommitTransaction label) (commit_transaction x (Some t)) room (ap (is_full x.machine.left) (commit_records x t standing.built.now none) ∙ fits)) leaves;
           few = few_versions w standing;
           spelled = spelled_commit t.id (changes_of x t) (settings_of x t)
               (counted_id x.recorded.boots x.transactions.last_transaction t.id

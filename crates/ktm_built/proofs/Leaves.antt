@@ -1,5 +1,5 @@
 -- What calls leave has only what built forms make.
-use Rattle.std.proofs.Common.{◌≡◌, ℕ, ◌+◌, not, ◌||◌, true, length, List, [], Option, Some, None, refl}
+use Rattle.std.proofs.Common.{Bool, false, cond, ◌≡◌, ℕ, ◌+◌, not, true, length, List, [], Option, Some, None, refl}
 use Rattle.std.proofs.lemmas.Bool.{or_right}
 use Rattle.std.specs.List.{list_all}
 use Rattle.ktm_base.specs.declared.id.Id.{Id}
@@ -15,7 +15,6 @@ use Rattle.ktm_types.specs.declared.object.Transaction.{Transaction}
 use Rattle.ktm_types.specs.declared.object.TransactionOutcome.{TransactionOutcome}
 use Rattle.ktm_types.specs.declared.object.Phase.{Phase}
 use Rattle.ktm_forms.specs.Built.{IsBuiltState}
-use Rattle.ktm_forms.specs.Commits.{commit_events}
 use Rattle.ktm_world.specs.Changes.{changed_all}
 use Rattle.ktm_world.specs.Decide.{caller, events_of}
 use Rattle.ktm_world.specs.Durable.{Durable, next_after_all}
@@ -27,7 +26,10 @@ use Rattle.ktm_world.specs.Labels.{transaction_named}
 use Rattle.ktm_world.specs.Present.{Present}
 use Rattle.ktm_world.specs.TransactionCalls.{transaction_with}
 use Rattle.ktm_courses.proofs.offered.NewObjects.{list_all-push}
-use Rattle.ktm_built.specs.Forms.{with_transaction, with_commit, with_bound, with_files, with_opened, with_rollback, with_handle_closed, with_process_gone, ended_committed, ended_aborted, is_of_both, plain_changes, recorded_by, changes_of, settings_of}
+use Rattle.ktm_built.specs.Courses.{with_changed, with_forgotten, with_moved}
+use Rattle.ktm_built.specs.Forms.{with_transaction, with_bound, with_files, with_group, with_opened, with_rollback, with_handle_closed, with_process_gone, ended_aborted, plain_changes, recorded_by, changes_of, settings_of}
+use Rattle.ktm_world.specs.Enlistments.{is_ended}
+use Rattle.ktm_world.specs.Transactions.{change_at, is_undecided}
 use Rattle.ktm_built.specs.Standing.{IsBuiltNow, is_recorded_at_its_end}
 use Rattle.ktm_built.proofs.offered.Found.{change_at-passes}
 
@@ -108,11 +110,22 @@ recorded_by_built s events changes settings state i = record (state i) {
   next_node = next_after_all s.next_node changes;
 }
 
-pub with_commit_built : (x : Present) (t : Transaction) → IsBuiltNow x → IsBuiltNow (with_commit x t)
-with_commit_built x t built =
-    let both = is_of_both x t in
-    built_with x (with_commit x t) (change_at-passes is_recorded_at_its_end (ended_committed both) (λ t. or_right (not (t.is_recorded || both)) true refl) x.transactions.items t.id built.unrecorded)
-    (recorded_by_built x.recorded (commit_events t.id (changes_of x t) (settings_of x t)) (changes_of x t) (settings_of x t) built.recorded) built
+-- a transaction without enlistments has ended, with its work committed or forgotten
+pub with_moved_built : (x : Present) (t then' : Transaction) (commits : Bool) (events : List Event) → is_ended then'.phase ≡ true → IsBuiltNow x → IsBuiltNow (with_group (with_moved x t then' commits) events)
+with_moved_built x t then' commits events ended built =
+    let passes = change_at-passes is_recorded_at_its_end (λ u. then') (λ u. or_right (not then'.is_recorded) (is_ended then'.phase) ended) x.transactions.items t.id built.unrecorded in
+    go commits passes
+  where
+    kept : IsBuiltState (record x.recorded { events = x.recorded.events + length events })
+    kept i = record (built.recorded i) { events = x.recorded.events + length events }
+
+    undecided_or_not : (b : Bool) → list_all is_recorded_at_its_end (change_at x.transactions.items t.id (λ u. then')) ≡ true → IsBuiltNow (with_group (cond b (with_changed x t then') (with_changed (with_forgotten x t.id) t then')) events)
+    undecided_or_not true passes = built_with x (with_group (with_changed x t then') events) passes kept built
+    undecided_or_not false passes = built_with x (with_group (with_changed (with_forgotten x t.id) t then') events) passes kept built
+
+    go : (b : Bool) → list_all is_recorded_at_its_end (change_at x.transactions.items t.id (λ u. then')) ≡ true → IsBuiltNow (with_group (with_moved x t then' b) events)
+    go true passes = built_with x (with_group (with_moved x t then' true) events) passes (recorded_by_built x.recorded events (changes_of x t) (settings_of x t) built.recorded) built
+    go false passes = undecided_or_not (is_undecided then') passes
 
 pub with_files_built : (x : Present) (who : Option Id) (o : FileOutcome) → IsBuiltNow x → IsBuiltNow (with_files x who o)
 with_files_built x who o built = built_with x (with_files x who o) built.unrecorded (recorded_by_built x.recorded (events_of who o.change) (plain_changes who o.change) [] built.recorded) built

@@ -1,6 +1,5 @@
 mod Alone
 mod Leaves
-mod Commits
 mod FileCalls
 mod Effects
 mod Logs

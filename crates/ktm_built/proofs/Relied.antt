@@ -31,5 +31,5 @@ files_law step law spelling reservations forms named made = record {
       (λ w standing unrefused. may_make step law spelling forms made w standing process command is unrefused who o) x now;
   commits = λ x process label t. by_world (λ x. x.machine.is_up ≡ true → transaction_named x process label ≡ Some t → first_refusal (transaction_tests (Some t)) ≡ None
       → is_full x.machine.left (commit_events t.id (changes_of x t) (settings_of x t)) ≡ false → MayCommitNow x t)
-      (λ w standing. may_commit step law reservations forms named w standing process label t) x;
+      (λ w standing. may_commit step law reservations named w standing process label t) x;
 }

@@ -1,5 +1,5 @@
 -- What the calls that are built come to, where there are transactions, files and keys alone.
-use Rattle.std.specs.Prelude.{◌≡◌, ℕ, ◌+◌, ◌-◌, ◌&&◌, ◌||◌, Bool, false, List, [], ◌∷◌, ◌++◌, length, fold, Option, Some, None, if◌then◌else◌}
+use Rattle.std.specs.Prelude.{◌≡◌, ℕ, ◌+◌, ◌-◌, false, List, [], ◌∷◌, ◌++◌, length, fold, Option, Some, None, if◌then◌else◌}
 use Rattle.ktm_base.specs.declared.id.Id.{Id}
 use Rattle.ktm_base.specs.declared.id.Label.{Label}
 use Rattle.ktm_base.specs.declared.id.Pid.{Pid}
@@ -10,28 +10,23 @@ use Rattle.ktm_types.specs.declared.object.Object.{Object}
 use Rattle.ktm_types.specs.declared.object.Object.TheVariants.{Transaction as TransactionObject, File as FileObject}
 use Rattle.ktm_types.specs.declared.object.Phase.TheVariants.{Active, Ended}
 use Rattle.ktm_types.specs.declared.object.Transaction.{Transaction}
-use Rattle.ktm_types.specs.declared.object.TransactionOutcome.TheVariants.{Undetermined, Committed, Aborted}
+use Rattle.ktm_types.specs.declared.object.TransactionOutcome.TheVariants.{Undetermined, Aborted}
 use Rattle.ktm_types.specs.declared.reply.Reply.{Reply}
-use Rattle.ktm_types.specs.declared.reply.Reply.TheVariants.{Committed as CommittedReply}
-use Rattle.ktm_forms.specs.Commits.{commit_events}
-use Rattle.ktm_world.specs.Changes.{changed_all, has_changes}
-use Rattle.ktm_world.specs.Committed.{Work}
+use Rattle.ktm_world.specs.Changes.{changed_all}
 use Rattle.ktm_world.specs.Decide.{events_of}
 use Rattle.ktm_world.specs.Durable.{Durable, next_after_all}
 use Rattle.ktm_world.specs.FileOutcome.{FileOutcome, files_after}
-use Rattle.ktm_world.specs.Files.{OpenFile, own_changes, without_transaction}
+use Rattle.ktm_world.specs.Files.{OpenFile, own_changes}
 use Rattle.ktm_world.specs.HandleCalls.{closed_file, without_handle, has_handle, labels_of}
 use Rattle.ktm_world.specs.Handles.{object_at}
 use Rattle.ktm_world.specs.Keys.{OwnSettings, own_settings, without_own, stored_all}
 use Rattle.ktm_world.specs.Labels.{with_handle}
 use Rattle.ktm_world.specs.Logs.{as_groups}
-use Rattle.ktm_world.specs.Outcome.{Outcome, apply, only_reply}
-use Rattle.ktm_world.specs.Phases.{has_settings}
+use Rattle.ktm_world.specs.Outcome.{Outcome, apply}
 use Rattle.ktm_world.specs.Present.{Present}
 use Rattle.ktm_types.specs.Sizes.{log_size}
 use Rattle.ktm_world.specs.Transactions.{transaction_at, change_at, is_active}
 use Rattle.ktm_world.specs.TransactionCalls.{new_id, is_due, with_clock}
-use Rattle.txf_laws.specs.Reservations.{files_committed}
 use Rattle.txf_laws.specs.FileEffects.{forgotten}
 
 -- ---- calls that record nothing
@@ -108,43 +103,6 @@ changes_of x t = own_changes x.files.table.own t.id
 -- what it set of the keys
 abbrev pub settings_of : Present → Transaction → OwnSettings
 settings_of x t = own_settings x.keys.own t.id
-
--- have both the files and the keys a part in the transaction
-abbrev pub is_of_both : Present → Transaction → Bool
-is_of_both x t = has_changes (changes_of x t) && has_settings (settings_of x t)
-
--- a transaction that committed, and has told all; the log has its parts where it had both
-abbrev pub ended_committed : Bool → Transaction → Transaction
-ended_committed both t = record t { phase = Ended; outcome = Committed; is_recorded = t.is_recorded || both }
-
--- what it commits
-abbrev pub commit_works : Id → List Change → OwnSettings → List Work
-commit_works id [] [] = []
-commit_works id changes settings = record { transaction = Some id; changes = changes; settings = settings } ∷ []
-
--- what comes of a transaction that commits: it has ended, and holds nothing
-abbrev pub commit_outcome : Present → Transaction → Outcome
-commit_outcome x t = record (only_reply x CommittedReply) {
-  events = commit_events t.id (changes_of x t) (settings_of x t);
-  works = commit_works t.id (changes_of x t) (settings_of x t);
-  forgotten = t.id ∷ [];
-  transactions = record x.transactions { items = change_at x.transactions.items t.id (ended_committed (is_of_both x t)) };
-  table = without_transaction x.files.table t.id;
-  own = without_own x.keys.own t.id;
-}
-
--- what is so then, but for the group in the log: its changes and settings are committed
-abbrev pub with_commit_made : Present → Transaction → Present
-with_commit_made x t = record x {
-  recorded = recorded_by x.recorded (changes_of x t) (settings_of x t);
-  transactions = record x.transactions { items = change_at x.transactions.items t.id (ended_committed (is_of_both x t)) };
-  files = files_committed x.files t.id;
-  keys = record { store = stored_all x.keys.store (settings_of x t); own = without_own x.keys.own t.id };
-}
-
--- what is so once a transaction has committed
-abbrev pub with_commit : Present → Transaction → Present
-with_commit x t = with_group (with_commit_made x t) (commit_events t.id (changes_of x t) (settings_of x t))
 
 -- ---- RollbackTransaction
 

@@ -31,7 +31,7 @@ use Rattle.ktm_world.specs.Logs.{Group, as_groups}
 use Rattle.ktm_world.specs.Outcome.{apply, first_refusal, is_full, only_reply}
 use Rattle.ktm_world.specs.Present.{Present}
 use Rattle.ktm_world.specs.Transactions.{same_id, transaction_at, is_live}
-use Rattle.ktm_world.specs.TransactionCalls.{create_transaction, commit_transaction, rollback_transaction, get_transaction_information, information_of, open_transaction, transaction_with, later, is_due, with_clock, tick}
+use Rattle.ktm_world.specs.TransactionCalls.{create_transaction, rollback_transaction, get_transaction_information, information_of, open_transaction, transaction_with, later, is_due, with_clock, tick}
 use Rattle.ktm_world.specs.Transcript.{Finds}
 use Rattle.ktm_world.specs.World.{World, present, extend, after, decide_tick, crashed, interrupted_by, interrupted_restart, found_full, opened, own_group}
 use Rattle.ktm_records.specs.FileCallsMade.{file_call}
@@ -40,7 +40,7 @@ use Rattle.ktm_laws.specs.Running.{IsRoomy, is_log_grammatical}
 use Rattle.ktm_courses.specs.SoundCourse.{IsSoundCourse}
 use Rattle.txf_laws.specs.FileEffects.{IsOrderly}
 use Rattle.ktm_built.specs.Files.{IsOnCommitted, MayCommitNow, MayMake}
-use Rattle.ktm_built.specs.Forms.{ComesTo, with_transaction, commit_outcome, with_commit, with_rollback, with_bound, with_files, with_handle_closed, with_opened, with_process_gone, with_tick, changes_of, settings_of}
+use Rattle.ktm_built.specs.Forms.{ComesTo, with_transaction, with_rollback, with_bound, with_files, with_handle_closed, with_opened, with_process_gone, with_tick, changes_of, settings_of}
 use Rattle.ktm_built.specs.Standing.{IsBuiltNow, IsStandingNow, IsStanding, fresh}
 
 -- ---- what the commands come to
@@ -50,9 +50,6 @@ use Rattle.ktm_built.specs.Standing.{IsBuiltNow, IsStandingNow, IsStanding, fres
 pub record FormsLaw : Type 0 where
   pub replies : (x : Present) (reply : Reply) → IsBuiltNow x → apply x (only_reply x reply) ≡ x
   pub creates : (x : Present) (process : Pid) (label : Label) (timeout : ℕ) → IsBuiltNow x → apply x (create_transaction x process label timeout) ≡ with_transaction x process label timeout
-  -- a commit has no enlistment to wait for
-  pub commit : (x : Present) (t : Transaction) → IsBuiltNow x → transaction_at x.transactions.items t.id ≡ Some t → commit_transaction x (Some t) ≡ commit_outcome x t
-  pub commits : (x : Present) (t : Transaction) → IsBuiltNow x → transaction_at x.transactions.items t.id ≡ Some t → apply x (commit_transaction x (Some t)) ≡ with_commit x t
   pub sets : (x : Present) (t : Transaction) (key value : List ℕ) → IsBuiltNow x
       → apply x (of_keys x (kv_set x.keys (Some t.id) key value)) ≡ record x { keys = keys_with x.keys (Some t.id) key (Some value) }
   pub unsets : (x : Present) (t : Transaction) (key : List ℕ) → IsBuiltNow x

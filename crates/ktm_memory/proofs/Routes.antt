@@ -5,7 +5,7 @@ use Rattle.ktm_base.specs.declared.id.Id.{Id}
 use Rattle.ktm_base.specs.declared.id.Label.{Label}
 use Rattle.ktm_base.specs.declared.id.Pid.{Pid}
 use Rattle.ktm_base.specs.declared.refusal.Refusal.{Refusal}
-use Rattle.ktm_base.specs.declared.refusal.Refusal.TheVariants.{MachineDown, InvalidHandle, InvalidParameter, TransactionNotActive, TransactionNotFound, TransactionRequestNotValid}
+use Rattle.ktm_base.specs.declared.refusal.Refusal.TheVariants.{MachineDown, InvalidHandle, InvalidParameter, TransactionNotFound, TransactionRequestNotValid}
 use Rattle.ktm_types.specs.declared.command.Command.{Command}
 use Rattle.ktm_types.specs.declared.command.Command.TheVariants.{CloseHandle, CommitTransaction, CreateTransaction, DuplicateHandle, Exit, GetTransactionInformation, OpenTransaction, RollbackTransaction, KvSet, KvUnset, KvGet, KvList}
 use Rattle.ktm_types.specs.declared.command.View.{View}
@@ -17,8 +17,6 @@ use Rattle.ktm_types.specs.declared.reply.Reply.TheVariants.{Refused}
 use Rattle.ktm_world.specs.Decide.{caller, command_effect, command_tests, of_keys, transacted, with_room}
 use Rattle.ktm_world.specs.Enlistments.{is_ended}
 use Rattle.ktm_world.specs.Files.{FilesNow}
-use Rattle.ktm_courses.proofs.offered.Calls.{active-phase}
-use Rattle.ktm_world.specs.Transactions.{is_active}
 use Rattle.ktm_world.specs.KeyCalls.{KeyOutcome, kv_set_tests, kv_set, kv_unset_tests, kv_unset, kv_get_tests, kv_get, kv_list}
 use Rattle.ktm_world.specs.Labels.{id_of_named, invalid_handle, is_bound, transaction_named, transaction_tests, view_tests, viewer}
 use Rattle.ktm_world.specs.Outcome.{Outcome, first_refusal, only_reply, refuse_or}
@@ -271,11 +269,6 @@ source_named files (Some object) passed = refl
 pub rollback_not_ended : (t : Transaction) → first_refusal (rollback_transaction_tests (Some t)) ≡ None → is_ended t.phase ≡ false
 rollback_not_ended t passed =
     rolls_before_end t (not-not (may_roll_back t) (not_refused (rollback_transaction_tests (Some t)) passed (not (may_roll_back t), TransactionRequestNotValid) (inr (inr (inr (inl refl))))))
-
--- nor has one that is active
-pub commit_not_ended : (t : Transaction) → first_refusal (transaction_tests (Some t)) ≡ None → is_ended t.phase ≡ false
-commit_not_ended t passed =
-    ap is_ended (active-phase t (not-not (is_active t) (not_refused (transaction_tests (Some t)) passed (not (is_active t), TransactionNotActive) (inr (inr (inr (inl refl)))))))
 
 -- a label that is not bound names nothing
 pub unbound_names : (named : Option Object) → is_some named ≡ false → named ≡ None

@@ -1,6 +1,5 @@
 -- What is so once a transaction without enlistments has gone on by steps.
-use Rattle.std.proofs.Common.{◌≡◌, ℕ, ◌+◌, ◌-◌, ◌&&◌, ◌||◌, Bool, true, false, cond, List, [], ◌∷◌, ◌++◌, length, Some, None, append-nil, add-zero, refl, sym, ap, subst, ◌∙◌}
-use native.Mathlib.Nat.{sub-zero}
+use Rattle.std.proofs.Common.{◌≡◌, ◌+◌, ◌-◌, ◌&&◌, ◌||◌, Bool, true, false, cond, List, [], ◌∷◌, ◌++◌, fold, length, Some, None, append-nil, add-zero, refl, sym, ap, subst, ◌∙◌}
 use Rattle.std.proofs.Math.Bool.{and-true}
 use Rattle.ktm_base.specs.declared.id.Id.{Id}
 use Rattle.ktm_types.specs.Sizes.{log_size}
@@ -9,24 +8,23 @@ use Rattle.ktm_types.specs.declared.event.Event.{Event}
 use Rattle.ktm_types.specs.declared.object.Transaction.{Transaction}
 use Rattle.ktm_types.specs.declared.reply.Reply.{Reply}
 use Rattle.ktm_types.specs.declared.step.Step.{Step}
-use Rattle.ktm_world.specs.Changes.{changed_all, has_changes}
-use Rattle.ktm_world.specs.Committed.{Committed, Work, committed_with}
-use Rattle.ktm_world.specs.Durable.{Durable, after_events, next_after_all}
+use Rattle.ktm_world.specs.Changes.{has_changes}
+use Rattle.ktm_world.specs.Committed.{Committed, Work, committed_with, with_change}
 use Rattle.ktm_world.specs.Enlistments.{Enlistment, Sent}
-use Rattle.ktm_world.specs.Files.{without_transaction}
+use Rattle.ktm_world.specs.Files.{committed_files, without_transaction}
 use Rattle.ktm_world.specs.Keys.{OwnSettings, without_own, stored_all}
 use Rattle.ktm_world.specs.Logs.{as_groups}
 use Rattle.ktm_world.specs.Outcome.{Outcome, apply, committed_now, only_reply}
-use Rattle.ktm_world.specs.Phases.{Course, has_settings, work_of}
+use Rattle.ktm_world.specs.Phases.{Course, has_settings}
 use Rattle.ktm_world.specs.Present.{Present}
-use Rattle.ktm_world.specs.Steps.{basis, events_ahead, run}
+use Rattle.ktm_world.specs.Steps.{run}
 use Rattle.ktm_world.specs.Transactions.{change_at, is_undecided}
-use Rattle.ktm_world.specs.TransactionCalls.{arrived, course_of, released}
-use Rattle.ktm_built.specs.Forms.{changes_of, commit_works, ended_aborted, recorded_by, settings_of, with_group}
+use Rattle.ktm_world.specs.TransactionCalls.{arrived, commit_reply, commit_transaction, course_of, released}
+use Rattle.ktm_built.specs.Forms.{changes_of, ended_aborted, recorded_by, settings_of, with_group}
 use Rattle.ktm_built.specs.Courses.{IsKnown, IsLogged, LeadsOn, works_if, with_changed, with_committed, with_forgotten, with_moved}
 use Rattle.txf_laws.specs.FileEffects.{forgotten}
 use Rattle.ktm_world.specs.Rows.{aborts, row}
-use Rattle.ktm_world.specs.Steps.{seen}
+use Rattle.ktm_world.specs.Steps.{led, seen}
 use Rattle.ktm_types.specs.declared.input.PhaseInput.{PhaseInput}
 use Rattle.ktm_types.specs.declared.object.Phase.{Phase}
 use Rattle.ktm_types.specs.declared.object.TransactionOutcome.{TransactionOutcome}
@@ -36,10 +34,40 @@ use Rattle.std.specs.List.{list_any}
 use Rattle.ktm_course.specs.Moved.{is_commit}
 use Rattle.ktm_course.proofs.offered.Alone.{goes_on}
 use Rattle.ktm_world.specs.Phases.{ended, event_if}
+use Rattle.ktm_owned.proofs.offered.EndedTransactions.{tree-store, versions-store}
 use Rattle.ktm_built.specs.Standing.{IsBuiltNow}
 use Rattle.ktm_built.proofs.Alone.{alone, alone_state, by_alone}
-use Rattle.ktm_built.proofs.Commits.{store_committed, tree_committed, versions_committed}
 use Rattle.ktm_built.proofs.offered.Quiet.{opens_but, opens_left, opens_all}
+
+-- ---- what is committed
+
+-- what a commit of these commits
+abbrev pub commit_works : Id → List Change → OwnSettings → List Work
+commit_works id [] [] = []
+commit_works id changes settings = record { transaction = Some id; changes = changes; settings = settings } ∷ []
+
+-- what is committed then
+abbrev then_committed : Present → Transaction → List Change → OwnSettings → Committed
+then_committed x t changes settings = committed_with (committed_now x) (commit_works t.id changes settings)
+
+-- the committed files, for which the store does not matter
+abbrev files_then : Present → List Change → Committed
+files_then x changes = fold with_change (committed_files x.files []) changes
+
+tree_committed : (x : Present) (t : Transaction) (changes : List Change) (settings : OwnSettings) → (then_committed x t changes settings).tree ≡ (files_then x changes).tree
+tree_committed x t [] [] = refl
+tree_committed x t [] (s ∷ ss) = refl
+tree_committed x t (c ∷ cs) settings = tree-store (c ∷ cs) (committed_now x) (committed_files x.files []) refl refl
+
+versions_committed : (x : Present) (t : Transaction) (changes : List Change) (settings : OwnSettings) → (then_committed x t changes settings).versions ≡ (files_then x changes).versions
+versions_committed x t [] [] = refl
+versions_committed x t [] (s ∷ ss) = refl
+versions_committed x t (c ∷ cs) settings = versions-store (c ∷ cs) (committed_now x) (committed_files x.files []) refl refl
+
+store_committed : (x : Present) (t : Transaction) (changes : List Change) (settings : OwnSettings) → (then_committed x t changes settings).store ≡ stored_all x.keys.store settings
+store_committed x t [] [] = refl
+store_committed x t [] (s ∷ ss) = refl
+store_committed x t (c ∷ cs) settings = refl
 
 -- ---- the outcome
 
@@ -172,6 +200,14 @@ arrived-events x c reply = go (is_undecided c.transaction) refl
     go true is = ap (λ (o : Outcome). o.events) (released-by true c _ is)
     go false is = ap (λ (o : Outcome). o.events) (released-by false c _ is)
 
+-- the works are those of the course
+arrived-works : (x : Present) (c : Course) (reply : Reply) → (arrived x c reply).works ≡ c.works
+arrived-works x c reply = go (is_undecided c.transaction) refl
+  where
+    go : (b : Bool) → is_undecided c.transaction ≡ b → (arrived x c reply).works ≡ c.works
+    go true is = ap (λ (o : Outcome). o.works) (released-by true c _ is)
+    go false is = ap (λ (o : Outcome). o.works) (released-by false c _ is)
+
 -- the reply changes nothing else
 pub arrived-reply : (x : Present) (c : Course) (reply : Reply) → (arrived x c reply).reply ≡ reply
 arrived-reply x c reply = go (is_undecided c.transaction) refl
@@ -196,12 +232,16 @@ commit_steps c = row (seen c) PhaseInput.CommitTransaction
 abbrev course_with : Present → Transaction → List Change → OwnSettings → Course
 course_with x t changes settings = record (course_of (alone x) (record t { is_recorded = false }) None) { changes = changes; settings = settings }
 
+-- a transaction that committed, and has told all; the log has its parts where it had both
+abbrev pub ended_committed : Transaction → Bool → Transaction
+ended_committed t both = record t { phase = Phase.Ended; outcome = TransactionOutcome.Committed; is_recorded = both }
+
 -- what a commit comes to: the events, what is committed, and the transaction
 pub record IsCommit (t : Transaction) (changes : List Change) (settings : OwnSettings) (steps : List Step) (c : Course) : Type 0 where
   pub events : c.events ≡ commit_events t.id changes settings
   pub commits : list_any is_commit steps ≡ (has_changes changes || has_settings settings)
   pub works : c.works ≡ commit_works t.id changes settings
-  pub transaction : c.transaction ≡ record t { phase = Phase.Ended; outcome = TransactionOutcome.Committed; is_recorded = has_changes changes && has_settings settings }
+  pub transaction : c.transaction ≡ ended_committed t (has_changes changes && has_settings settings)
 
 commit_alone : (x : Present) (t : Transaction) (changes : List Change) (settings : OwnSettings) → (let c = course_with x t changes settings in IsCommit t changes settings (commit_steps c) (run (commit_steps c) c))
 unfolding ended
@@ -278,3 +318,32 @@ rollback_leads x t built =
       works = comes.works;
       logged = subst (λ (es : List Event). IsLogged x t false es) (sym comes.events) (logged_rollback x t built);
     }
+
+-- ---- a transaction that is asked to commit
+
+-- the outcome is that of its steps
+pub commit_is : (x : Present) (t : Transaction) → (let c = run (commit_steps (course_of x t None)) (course_of x t None) in commit_transaction x (Some t) ≡ arrived x c (commit_reply c))
+unfolding commit_transaction led
+commit_is x t = refl
+
+pub commit_records : (x : Present) (t : Transaction) → IsBuiltNow x → t.is_recorded ≡ false → (commit_transaction x (Some t)).events ≡ commit_events t.id (changes_of x t) (settings_of x t)
+commit_records x t built none =
+    let c = run (commit_steps (course_of x t None)) (course_of x t None) in
+    ap (λ (o : Outcome). o.events) (commit_is x t) ∙ arrived-events x c (commit_reply c) ∙ (commit_comes x t built none).events
+
+pub commit_commits : (x : Present) (t : Transaction) → IsBuiltNow x → t.is_recorded ≡ false → (commit_transaction x (Some t)).works ≡ commit_works t.id (changes_of x t) (settings_of x t)
+commit_commits x t built none =
+    let c = run (commit_steps (course_of x t None)) (course_of x t None) in
+    ap (λ (o : Outcome). o.works) (commit_is x t) ∙ arrived-works x c (commit_reply c) ∙ (commit_comes x t built none).works
+
+-- what it leaves: the transaction has ended
+pub commit_leaves : (x : Present) (t : Transaction) → IsBuiltNow x → t.is_recorded ≡ false → (let cs = changes_of x t in let ss = settings_of x t in
+    apply x (commit_transaction x (Some t)) ≡ with_group (with_moved x t (ended_committed t (has_changes cs && has_settings ss)) (has_changes cs || has_settings ss)) (commit_events t.id cs ss))
+commit_leaves x t built none =
+    let steps = commit_steps (course_of x t None) in
+    let c = run steps (course_of x t None) in
+    let comes = commit_comes x t built none in
+    ap (apply x) (commit_is x t) ∙ led_on x t steps (commit_reply c) built (commit_leads x t built none)
+    ∙ ap (λ (es : List Event). with_group (with_moved x t c.transaction (list_any is_commit steps)) es) comes.events
+    ∙ ap (λ (u : Transaction). with_group (with_moved x t u (list_any is_commit steps)) (commit_events t.id (changes_of x t) (settings_of x t))) comes.transaction
+    ∙ ap (λ (b : Bool). with_group (with_moved x t (ended_committed t (has_changes (changes_of x t) && has_settings (settings_of x t))) b) (commit_events t.id (changes_of x t) (settings_of x t))) comes.commits

@@ -1,5 +1,5 @@
 -- What the calls that are built come to.
-use Rattle.std.proofs.Common.{◌≡◌, ℕ, false, List, Option, Some, None, option_and_then, ap, subst, ◌∙◌}
+use Rattle.std.proofs.Common.{◌≡◌, ℕ, false, List, Option, Some, None, option_and_then, subst}
 use Rattle.ktm_base.specs.declared.id.Id.{Id}
 use Rattle.ktm_base.specs.declared.id.Label.{Label}
 use Rattle.ktm_base.specs.declared.id.Pid.{Pid}
@@ -15,14 +15,13 @@ use Rattle.ktm_world.specs.Handles.{object_at, transaction_id}
 use Rattle.ktm_world.specs.KeyCalls.{keys_with, kv_set, kv_unset}
 use Rattle.ktm_world.specs.Keys.{KeysNow}
 use Rattle.ktm_world.specs.Labels.{with_handle}
-use Rattle.ktm_world.specs.Outcome.{Outcome, apply, only_reply}
+use Rattle.ktm_world.specs.Outcome.{only_reply}
 use Rattle.ktm_world.specs.Present.{Present}
 use Rattle.ktm_world.specs.Transactions.{transaction_at}
 use Rattle.ktm_world.specs.TransactionCalls.{create_transaction, rollback_transaction, aborted_by, information_of, get_transaction_information, transaction_with, open_to_transaction, open_transaction, tick}
 use Rattle.ktm_built.specs.Forms.{ComesTo, with_transaction, with_bound, with_rollback, with_handle_closed, with_process_gone, with_tick}
 use Rattle.ktm_built.specs.Laws.{FormsLaw, NamedLaw}
 use Rattle.ktm_built.specs.Standing.{IsBuiltNow}
-use Rattle.ktm_built.proofs.Commits.{commit_is, apply-commit}
 use Rattle.ktm_built.proofs.FileCalls.{apply-files, apply-opening}
 use Rattle.ktm_built.proofs.offered.Found.{found_again}
 use Rattle.ktm_built.proofs.Leaves.{built_aside, with_bound_transaction, with_duplicate, with_transaction_built}
@@ -88,8 +87,6 @@ forms_law = record {
   replies = λ x reply built. (comes_to x (only_reply x reply) reply x built (quiet_reply x reply built)).leaves;
   creates = λ x process label timeout built.
       (comes_to x (create_transaction x process label timeout) (create_transaction x process label timeout).reply (with_transaction x process label timeout) built (quiet_create x process label timeout built)).leaves;
-  commit = commit_is;
-  commits = λ x t built found. ap (λ (o : Outcome). apply x o) (commit_is x t built found) ∙ apply-commit x t built;
   sets = λ x t key value built.
       let keys = keys_with x.keys (Some t.id) key (Some value) in
       (comes_to x (of_keys x (kv_set x.keys (Some t.id) key value)) Done (record x { keys = keys }) built (quiet_keys x Done keys built)).leaves;

@@ -1,5 +1,5 @@
 -- What a built command comes to has only what built forms make, and what it records is a built group, and as long as what it commits.
-use Rattle.std.proofs.Common.{◌≡◌, ℕ, ◌≤◌, Bool, true, false, cond, List, [], ◌∷◌, length, sum_by, Option, None, Some, refl, sym, ◌∙◌, ap, subst, arith, inl, inr}
+use Rattle.std.proofs.Common.{◌≡◌, ℕ, ◌≤◌, ◌&&◌, ◌||◌, Bool, true, false, cond, List, [], ◌∷◌, length, sum_by, Option, None, Some, refl, sym, ◌∙◌, ap, subst, arith, inl, inr}
 use Rattle.std.proofs.lemmas.Bool.{cases_Bool}
 use Rattle.std.proofs.lemmas.List.Sums.{sum_by-cons}
 use Rattle.ktm_base.specs.declared.id.Id.{Id}
@@ -11,7 +11,10 @@ use Rattle.ktm_types.specs.declared.change.Change.{Change}
 use Rattle.ktm_types.specs.declared.change.Change.TheVariants.{Make, Put, Cut, Move, Drop}
 use Rattle.ktm_types.specs.declared.command.Command.{Command}
 use Rattle.ktm_types.specs.declared.command.Command.TheVariants.{CommitTransaction, CreateFile, CreateFileTransacted, ReadFile, WriteFile, SetEndOfFile, GetFileSizeEx, FlushFileBuffers, DeleteFile, CreateDirectory, RemoveDirectory, MoveFile, DeleteFileTransacted, CreateDirectoryTransacted, RemoveDirectoryTransacted, MoveFileTransacted, FindFiles, FindFilesTransacted}
+use Rattle.ktm_types.specs.declared.event.Event.{Event}
 use Rattle.ktm_types.specs.declared.object.Transaction.{Transaction}
+use Rattle.ktm_world.specs.Committed.{Work}
+use Rattle.ktm_world.specs.Enlistments.{is_ended}
 use Rattle.ktm_types.specs.declared.reply.Reply.{Reply}
 use Rattle.ktm_types.specs.declared.reply.Reply.TheVariants.{Refused, Done}
 use Rattle.ktm_types.specs.Sizes.{change_size, log_size}
@@ -23,7 +26,7 @@ use Rattle.ktm_world.specs.FileCalls.{create_file, read_file, write_file, set_en
 use Rattle.ktm_world.specs.FileOutcome.{FileOutcome, works_of}
 use Rattle.ktm_world.specs.Files.{OpenFile}
 use Rattle.ktm_world.specs.Keys.{OwnSettings}
-use Rattle.ktm_world.specs.Labels.{file_named, transaction_named}
+use Rattle.ktm_world.specs.Labels.{file_named, transaction_named, transaction_tests}
 use Rattle.ktm_world.specs.Logs.{as_groups}
 use Rattle.ktm_world.specs.Outcome.{Outcome, apply, only_reply, refuse_or, is_full}
 use Rattle.ktm_world.specs.Present.{Present}
@@ -31,17 +34,19 @@ use Rattle.ktm_world.specs.Transactions.{transaction_at}
 use Rattle.ktm_world.specs.TransactionCalls.{commit_transaction, tick}
 use Rattle.ktm_world.specs.World.{decide_tick}
 use Rattle.ktm_courses.proofs.offered.Calls.{Passes, passed}
-use Rattle.ktm_built.specs.Forms.{changes_of, settings_of, commit_works, with_tick}
+use Rattle.ktm_built.specs.Forms.{changes_of, settings_of, with_tick}
 use Rattle.ktm_built.specs.Laws.{EventsLaw}
 use Rattle.ktm_built.specs.Standing.{IsBuiltNow, changes_committed}
-use Rattle.ktm_built.proofs.Commits.{commit_is, apply-commit}
+use Rattle.ktm_built.proofs.offered.Courses.{commit_commits, commit_leaves, commit_records, commit_works, ended_committed}
+use Rattle.ktm_world.specs.Changes.{has_changes}
+use Rattle.ktm_world.specs.Phases.{has_settings}
 use Rattle.ktm_built.proofs.offered.Decided.{full_log, decided_law}
 use Rattle.ktm_built.proofs.Effects.{effect_leaves}
 use Rattle.ktm_built.proofs.FileCalls.{apply-files, apply-opening}
 use Rattle.ktm_built.proofs.offered.Forms.{forms_law, named_law}
-use Rattle.ktm_built.proofs.Leaves.{with_commit_built, with_files_built, with_opened_built}
+use Rattle.ktm_built.proofs.Leaves.{with_moved_built, with_files_built, with_opened_built}
 use Rattle.ktm_built.proofs.offered.Machine.{built_machine, apply-full}
-use Rattle.ktm_built.proofs.offered.Quiet.{quiet_tick}
+use Rattle.ktm_built.proofs.offered.Quiet.{commits_before_end, not_recorded, quiet_tick}
 
 -- an outcome leaves only what built forms make, records a built group or none, and commits no more changes than what it records has bytes
 pub record IsBuiltOutcome (x : Present) (o : Outcome) : Type 0 where
@@ -80,14 +85,18 @@ commit_few id (c ∷ cs) [] = let few = changes_few (c ∷ cs) in omega arith
 commit_few id [] (s ∷ ss) = omega arith
 commit_few id (c ∷ cs) (s ∷ ss) = let few = changes_few (c ∷ cs) in omega arith
 
-commit_built : (x : Present) (named : Option Transaction) → ((t : Transaction) → named ≡ Some t → transaction_at x.transactions.items t.id ≡ Some t) → IsBuiltNow x → IsBuiltOutcome x (commit_transaction x named)
+commit_built : (x : Present) (named : Option Transaction) → ((t : Transaction) → named ≡ Some t → (transaction_at x.transactions.items t.id ≡ Some t) × (is_ended t.phase ≡ false)) → IsBuiltNow x → IsBuiltOutcome x (commit_transaction x named)
 unfolding commit_transaction
 commit_built x None at built = replied_built x Done built
-commit_built x (Some t) at built = subst (IsBuiltOutcome x) (sym (commit_is x t built (at t refl))) (record {
-  now = subst IsBuiltNow (sym (apply-commit x t built)) (with_commit_built x t built);
-  group = built_commit t.id (changes_of x t) (settings_of x t);
-  few = commit_few t.id (changes_of x t) (settings_of x t);
-})
+commit_built x (Some t) at built =
+    let none = not_recorded x t built (at t refl).0 (at t refl).1 in
+    record {
+      now = subst IsBuiltNow (sym (commit_leaves x t built none)) (with_moved_built x t (ended_committed t (has_changes (changes_of x t) && has_settings (settings_of x t))) (has_changes (changes_of x t) || has_settings (settings_of x t)) (commit_events t.id (changes_of x t) (settings_of x t)) refl built);
+      group = ap (λ (es : List Event). is_built_log (as_groups es)) (commit_records x t built none) ∙ built_commit t.id (changes_of x t) (settings_of x t);
+      few = let few = commit_few t.id (changes_of x t) (settings_of x t) in
+          subst (λ (es : List Event). changes_committed (commit_transaction x (Some t)).works ≤ log_size (as_groups es)) (sym (commit_records x t built none))
+          (subst (λ (ws : List Work). changes_committed ws ≤ log_size (as_groups (commit_events t.id (changes_of x t) (settings_of x t)))) (sym (commit_commits x t built none)) few);
+    }
 
 -- ---- calls on files
 
@@ -117,8 +126,13 @@ on_file_built x (Some o) call built = files_built x o.transaction (call o) built
 
 -- ---- every outcome
 
+-- a transaction that is asked to commit is there, and has not ended
+named_active : (x : Present) (process : Pid) (label : Label) → Passes (transaction_tests (transaction_named x process label)) → (t : Transaction) → transaction_named x process label ≡ Some t
+    → (transaction_at x.transactions.items t.id ≡ Some t) × (is_ended t.phase ≡ false)
+named_active x process label passes t named = (named_law x process label t named, commits_before_end t (subst (λ o. Passes (transaction_tests o)) named passes))
+
 effect_built : (x : Present) (process : Pid) (command : Command) → is_built_command command ≡ true → Passes (command_tests x process command) → IsBuiltNow x → IsBuiltOutcome x (command_effect x process command)
-effect_built x process (CommitTransaction label) is passes built = commit_built x (transaction_named x process label) (named_law x process label) built
+effect_built x process (CommitTransaction label) is passes built = commit_built x (transaction_named x process label) (named_active x process label passes) built
 effect_built x process (CreateFile label path access share disposition) is passes built = opening_built x process label None (create_file x.files None path access share disposition) built
 effect_built x process (CreateFileTransacted label path access share disposition transaction) is passes built =
     opening_built x process label (caller x process transaction) (create_file x.files (caller x process transaction) path access share disposition) built

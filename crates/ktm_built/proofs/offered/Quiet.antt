@@ -25,8 +25,9 @@ use Rattle.ktm_world.specs.Steps.{led}
 use Rattle.ktm_world.specs.Transactions.{same_id, transaction_at, change_at, is_active}
 use Rattle.ktm_world.specs.TransactionCalls.{aborted_by, is_due, may_roll_back, aborted_if_due, aborted_in_turn, with_clock, tick}
 use Rattle.ktm_owned.proofs.offered.OwnedAfterCourses.{both-forgotten}
-use Rattle.ktm_courses.proofs.offered.Calls.{active-phase}
-use Rattle.txf_laws.proofs.offered.Elements.{filter-true}
+use Rattle.ktm_courses.proofs.offered.Calls.{Passes, active-phase, passed}
+use Rattle.ktm_world.specs.Labels.{transaction_tests}
+use Rattle.txf_laws.proofs.offered.Elements.{filter-true, not-not}
 use Rattle.ktm_built.specs.Forms.{ComesTo, ended_aborted, with_rollback, with_rollback_if_active, with_file_closed, with_handle_gone, with_unbound, with_handle_closed, with_process_gone, with_rollback_if_due, with_tick}
 use Rattle.ktm_built.specs.Standing.{IsBuiltNow, is_recorded_at_its_end}
 use Rattle.ktm_built.proofs.Alone.{alone, by_alone}
@@ -166,6 +167,13 @@ rolls_before_end t = go t.phase
     go : (phase : Phase) → may_roll_back (record t { phase = phase }) ≡ true → is_ended phase ≡ false
     go Ended may = absurd (true≢false (sym may))
     go _ may = refl
+
+-- one that may commit is active
+pub commits_before_end : (t : Transaction) → Passes (transaction_tests (Some t)) → is_ended t.phase ≡ false
+commits_before_end t tests =
+    let committed = passed (passed tests).1 in
+    let aborted = passed committed.1 in
+    ap is_ended (active-phase t (not-not _ (passed aborted.1).0))
 
 -- ---- CloseHandle and Exit
 

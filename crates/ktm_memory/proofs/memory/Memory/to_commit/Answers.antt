@@ -1,6 +1,7 @@
 use Rattle.ktm_built.proofs.offered.Forms.{named_law}
+use Rattle.ktm_built.proofs.offered.Quiet.{commits_before_end}
 use Rattle.ktm_memory.specs.Memory.{present_of}
-use Rattle.ktm_memory.proofs.Routes.{commit_not_ended, commit_refused, commit_routed}
+use Rattle.ktm_memory.proofs.Routes.{commit_refused, commit_routed}
 use Rattle.ktm_memory.proofs.offered.Takes.{commit_takes}
 use Rattle.ktm_memory.proofs.memory.Memory.to_commit.Goals as goal
 
@@ -9,7 +10,7 @@ returns-in-Ok c =
     let x = present_of c.args.self.now in
     let (named, passed) = c.in-Ok.ensures.ok in (
       commit_routed x c.args.process c.requires.up c.args.label c.in-Ok.t named passed,
-      (named_law x c.args.process c.args.label c.in-Ok.t named, commit_not_ended c.in-Ok.t passed, c.law_of_files.ensures.commits x c.args.process c.args.label c.in-Ok.t c.requires.standing c.requires.up named passed),
+      (named_law x c.args.process c.args.label c.in-Ok.t named, commits_before_end c.in-Ok.t (record { none = passed }), c.law_of_files.ensures.commits x c.args.process c.args.label c.in-Ok.t c.requires.standing c.requires.up named passed),
       commit_takes x c.args.process c.requires.up c.args.label c.in-Ok.t named passed,
     )
 
