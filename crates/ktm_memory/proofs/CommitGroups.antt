@@ -31,7 +31,7 @@ use Rattle.ktm_built.specs.Courses.{LeadsOn}
 use Rattle.ktm_built.specs.Files.{MayCommitNow}
 use Rattle.ktm_built.specs.Forms.{changes_of, settings_of}
 use Rattle.ktm_built.specs.Standing.{IsBuiltNow}
-use Rattle.ktm_built.proofs.offered.Courses.{commit_leads, rollback_leads}
+use Rattle.ktm_built.proofs.offered.Courses.{commit_is as commit_led, commit_leads, rollback_leads}
 use Rattle.txf_laws.specs.Reservations.{files_committed}
 use Rattle.txf_overlay.specs.OverlayState.{is_of_names}
 use Rattle.txf_laws.specs.FileEffects.{AreUnopened, AreVersionsFew, LeavesOthers, CanBeCounted}
@@ -85,8 +85,7 @@ none_spelled es is = subst (All IsSpellableEvent) (sym is) (All-from_recursion I
 -- it goes on by these steps
 pub commit_is : (x : Present) (t : Transaction) (reply : Reply) → (let c = course_of x t None in
     reply ≡ commit_reply (run (row (seen c) PhaseInput.CommitTransaction) c) → commit_transaction x (Some t) ≡ arrived x (run (row (seen c) PhaseInput.CommitTransaction) c) reply)
-unfolding commit_transaction led
-commit_is x t reply says = let c = course_of x t None in ap (arrived x (run (row (seen c) PhaseInput.CommitTransaction) c)) (sym says)
+commit_is x t reply says = let c = course_of x t None in commit_led x t ∙ ap (arrived x (run (row (seen c) PhaseInput.CommitTransaction) c)) (sym says)
 
 -- it rolls back by these
 pub rollback_is : (x : Present) (t : Transaction) → rollback_transaction x (Some t) ≡ arrived x (run aborts (course_of x t None)) Done
