@@ -7,8 +7,7 @@ ghost use Rattle.ktm_world.specs.Steps.{carried, run};
 ghost use Rattle.ktm_world.specs.Phases.{Course};
 ghost use Rattle.ktm_world.specs.Transactions.{is_undecided};
 
-use ktm_types::{Fact, Step};
-use ktm_types::{Phase, Transaction, TransactionOutcome};
+use ktm_types::{Fact, Phase, Step, Transaction, TransactionOutcome};
 
 // Is this the step by which the files and the keys commit.
 fn is_commit(step: &Step) -> bool

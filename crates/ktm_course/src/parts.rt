@@ -13,8 +13,7 @@ ghost use Rattle.ktm_world.specs.Phases.{has_settings};
 
 use ktm_base::Id;
 use ktm_event::{Events, FileBytes, Stage, Work, event_size, work_size};
-use ktm_types::{Fact, Step};
-use ktm_types::{Change, DonePart, Event, Setting};
+use ktm_types::{Change, DonePart, Event, Fact, Setting, Step};
 
 /// The parts that the files and the keys have in a transaction.
 #[derive(Clone, Copy)]

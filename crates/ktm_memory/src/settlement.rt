@@ -13,7 +13,10 @@ use txf_volume::Ready;
 #[derive(Drop)]
 pub enum Labels {
     /// The label is bound to the object.
-    Bind { label: Label, object: Object },
+    Bind {
+        label: Label,
+        object: Object,
+    },
     /// The label is bound to what a label of a process names.
     Duplicate {
         label: Label,
@@ -49,7 +52,10 @@ pub enum Settlement {
         steps: Steps,
     },
     /// Labels of the process are bound or unbound.
-    Handles { process: Pid, labels: Labels },
+    Handles {
+        process: Pid,
+        labels: Labels,
+    },
     /// So many milliseconds pass, and the transactions that are due then roll back.
     Pass(u32),
 }

@@ -98,9 +98,9 @@ returns-then-not-record_steps-clause-ok c =
     let d = (goal.at.returns-then-not-record_steps-clause-ok c).After-as_slice in
     let full = full_from _ (sym c.if-not-record_steps.true ∙ c.record_steps.ensures.full) in (
       ap (λ (o : Outcome). is_full (x d).machine.left o.events) (commit_is (x d) (t d) _ refl)
-      ∙ ap (is_full (x d).machine.left) (arrived-events (x d) (run (row (seen (start d)) PhaseInput.CommitTransaction) (start d)) _)
-      ∙ ap (λ (ss : List Step). is_full (x d).machine.left (run ss (start d)).events) (sym (row_is d))
-      ∙ ap (is_full (x d).machine.left) (sym (records d)) ∙ sym (left d _) ∙ full,
+          ∙ ap (is_full (x d).machine.left) (arrived-events (x d) (run (row (seen (start d)) PhaseInput.CommitTransaction) (start d)) _)
+          ∙ ap (λ (ss : List Step). is_full (x d).machine.left (run ss (start d)).events) (sym (row_is d))
+          ∙ ap (is_full (x d).machine.left) (sym (records d)) ∙ sym (left d _) ∙ full,
       same d,
     )
 
