@@ -7,19 +7,16 @@ use Rattle.ktm_base.specs.declared.id.Id.{Id}
 use Rattle.ktm_base.specs.declared.notify.Notify.{Notify}
 use Rattle.ktm_types.specs.declared.event.Event.{Event}
 use Rattle.ktm_types.specs.declared.input.PhaseInput.{PhaseInput}
-use Rattle.ktm_types.specs.declared.object.Phase.{Phase}
-use Rattle.ktm_types.specs.declared.object.Phase.TheVariants.{Committing, Aborting, Ended}
-use Rattle.ktm_types.specs.declared.object.Transaction.{Transaction}
+use Rattle.ktm_types.specs.declared.object.Phase.TheVariants.{Ended}
 use Rattle.ktm_types.specs.declared.object.TransactionOutcome.{TransactionOutcome}
 use Rattle.ktm_types.specs.declared.step.Step.{Step}
 use Rattle.ktm_types.specs.declared.step.Who.{Who}
 use Rattle.ktm_world.specs.Enlistments.{Enlistment, Sent, asks_pre_prepare, id_of, is_given, is_ordinary, is_superior, is_unfinished, takes_part, tell, with_enlistments}
-use Rattle.ktm_world.specs.OneOutcome.{told_outcome}
 use Rattle.ktm_world.specs.Phases.{Course, end_notice, ended, in_phase, decided, is_its_superior, owing, telling, unchanged}
 use Rattle.ktm_world.specs.Rows.{row}
 use Rattle.ktm_world.specs.Steps.{carried, changing, is_meant, is_one_of, led, run, seen}
-use Rattle.ktm_world.specs.Transactions.{is_undecided, same_id}
-use Rattle.ktm_steps.specs.Outcomes.{IsKnownIn, IsTrue}
+use Rattle.ktm_world.specs.Transactions.{same_id}
+use Rattle.ktm_steps.specs.Outcomes.{IsTrue}
 use Rattle.ktm_steps.proofs.offered.Fading.{fades-run}
 use Rattle.ktm_steps.proofs.offered.Outcomes.{outcome_law}
 use Rattle.ktm_steps.proofs.offered.Recorded.{all-led}
@@ -33,7 +30,7 @@ use Rattle.txf_laws.proofs.offered.Tables.{same_id-equal}
 use Rattle.ktm_states.specs.Grammatical.{changes_of_event}
 use Rattle.ktm_courses.specs.SoundCourse.{is_outcome_of}
 use Rattle.ktm_courses.proofs.offered.Moves.{if_cases}
-use Rattle.ktm_courses.proofs.offered.Outcomes.{committed-outcome, aborted-outcome}
+use Rattle.ktm_courses.proofs.offered.Outcomes.{known-in}
 
 -- ---- names, and what is put
 
@@ -159,17 +156,6 @@ module _ (names : List (Id × Id)) (own : Id) (caller : Option Enlistment) where
   tells-led only input c tells = tells-run only (row (seen c) input) c tells
 
 -- ---- rows
-
--- what the phase tells of the outcome
-pub known-in : (phase : Phase) (t : Transaction) → is_outcome_of phase t ≡ true → IsKnownIn phase (told_outcome t.outcome)
-known-in Committing t is = ap told_outcome (sym (committed-outcome t is))
-known-in Aborting t is = ap told_outcome (sym (aborted-outcome t is))
-known-in Ended t is = tt
-known-in _ t is = none t.outcome is
-  where
-    none : (outcome : TransactionOutcome) → is_undecided (record t { outcome = outcome }) ≡ true → told_outcome outcome ≡ None
-    none TransactionOutcome.Undetermined is = refl
-    none _ is = absurd cc
 
 all-puts : (es : List Event) → AllByRecursion (λ e. puts_all e ≡ true) es → list_all puts_all es ≡ true
 all-puts [] all = refl

@@ -1,6 +1,6 @@
 -- The calls on transactions and enlistments that are there: what each comes to is sound.
 use Rattle.std.proofs.Common.{◌≡◌, ℕ, ◌&&◌, not, Bool, true, false, List, [], ◌∷◌, map, filter, Option, Some, None, refl, sym, ◌∙◌, ap, subst, inl, inr}
-use Rattle.std.specs.Prelude.{option_and_then}
+use Rattle.std.specs.Prelude.{option_and_then, if◌then◌else◌}
 use Rattle.std.proofs.lemmas.Bool.{cases_Bool, and_parts, and_from, or_left, true≢false, not-true}
 use Rattle.std.proofs.lemmas.Option.{none-some, same_Some}
 use Rattle.ktm_base.specs.declared.id.Id.{Id}
@@ -14,6 +14,7 @@ use Rattle.ktm_types.specs.declared.object.Phase.TheVariants.{Active, Requested,
 use Rattle.ktm_types.specs.declared.object.Transaction.{Transaction}
 use Rattle.ktm_types.specs.declared.reply.Reply.{Reply}
 use Rattle.ktm_types.specs.declared.reply.Reply.TheVariants.{Done}
+use Rattle.ktm_types.specs.declared.step.Owed.{Owed}
 use Rattle.ktm_world.specs.Enlistments.{Enlistment, Manager, Sent, is_superior, is_open_for_votes, owes_pre_prepare, owes_prepare, owes_commit, owes_rollback, manager_at, enlistment_at}
 use Rattle.ktm_world.specs.Handles.{object_at, transaction_id}
 use Rattle.ktm_world.specs.Labels.{transaction_named, manager_named, manager_id, enlistment_named, enlistment_id, holds_of, transaction_tests}
@@ -22,20 +23,21 @@ use Rattle.ktm_world.specs.Phases.{Course, is_single_phase}
 use Rattle.ktm_world.specs.Present.{Present}
 use Rattle.ktm_world.specs.TransactionCalls.{course_of, commit_reply, commit_of, aborted_by, rollback_of, may_roll_back, rollback_transaction_tests, transaction_in, phase_passes, is_voting, lets_superior_roll_back, before_pre_prepare, before_prepare, waits_for_superior, may_vote, may_roll_back_by, may_reject_one_phase, may_recover, enlistment_tests, superior_tests, goes_on, answering, is_to_recover, recover_notes, recover_all, take_first, recovery_of}
 use Rattle.ktm_world.specs.Steps.{led, share_of}
-use Rattle.ktm_world.specs.Transactions.{same_id, transaction_at, is_active, is_undecided}
-use Rattle.ktm_steps.specs.Procedures.{committing, pre_prepare_answered, prepare_answered, read_only_answered, single_phase_rejected}
+use Rattle.ktm_world.specs.Transactions.{same_id, transaction_at, is_active}
+use Rattle.ktm_steps.specs.Procedures.{commit_answered, committing, pre_prepare_answered, prepare_answered, read_only_answered, recovered, rollback_answered, single_phase_rejected}
 use Rattle.ktm_steps.proofs.offered.Table.{rows_law}
+use Rattle.ktm_steps.specs.Outcomes.{MayCome, known}
 use Rattle.txf_laws.specs.Elements.{IsIn}
-use Rattle.ktm_courses.specs.SoundCourse.{IsSoundCourse, is_note_of, is_unrecovered_well}
+use Rattle.ktm_courses.specs.SoundCourse.{IsSoundCourse, is_note_of, is_outcome_of, is_unrecovered_well}
 use Rattle.txf_laws.proofs.offered.Lists.{IsIn-cases, IsIn-unmap}
 use Rattle.txf_laws.proofs.offered.Elements.{IsIn-filter, list_any-from, not-not}
 use Rattle.txf_laws.proofs.offered.Tables.{same_id-equal, same_id-from}
 use Rattle.ktm_courses.proofs.offered.Procedures.{Stands, Arrives, is_backed-from, arrives-committing}
 use Rattle.ktm_courses.proofs.offered.CommitsBegun.{Fresh, arrives-to_prepare, arrives-to_pre_prepare, arrives-to_commit}
-use Rattle.ktm_courses.proofs.offered.EnlistmentAnswers.{stands-in, here-from, fresh-from, can_roll_back, voting-rolls, undecided-rolls, undecided-pre_prepare, undecided-prepare, known-commit_answered, known-rollback_answered, known-recovered, arrives-rolled_back, arrives-pre_prepare_answered, arrives-prepare_answered, arrives-read_only_answered, arrives-single_phase_rejected, arrives-commit_answered, arrives-rollback_answered, arrives-recovered}
+use Rattle.ktm_courses.proofs.offered.EnlistmentAnswers.{stands-in, here-from, fresh-from, can_roll_back, voting-rolls, undecided-rolls, undecided-pre_prepare, undecided-prepare, is-committing, is-aborting, owed-commit, owed-rollback, phase-owing, arrives-rolled_back, arrives-pre_prepare_answered, arrives-prepare_answered, arrives-read_only_answered, arrives-single_phase_rejected, arrives-commit_answered, arrives-rollback_answered, arrives-recovered}
 use Rattle.ktm_courses.proofs.offered.Leads.{leads-pre_prepare, leads-prepare, leads-read_only}
 use Rattle.ktm_courses.proofs.offered.Arrivals.{stands-now, brought-now}
-use Rattle.ktm_courses.proofs.offered.Outcomes.{stay-refl, undecided-free}
+use Rattle.ktm_courses.proofs.offered.Outcomes.{stay-refl, none-known, known-in}
 use Rattle.ktm_courses.proofs.offered.OutcomesMade.{IsSoundOutcome, sound-only_reply, sound-arrived}
 use Rattle.ktm_courses.proofs.offered.Moves.{NoBoots-none, find-found, if_parts}
 
@@ -145,7 +147,7 @@ module _ (x : Present) (sound : IsSoundCourse x) (t : Transaction) (there : IsIn
 
   pub sound-aborted_by : (reply : Reply) → ((e : Enlistment) → caller ≡ Some e → IsIn e (x.transactions).enlistments) → can_roll_back t.phase ≡ true → IsSoundOutcome x (aborted_by x t caller reply)
   sound-aborted_by reply calls can =
-      let goes = rolled_back can in sound-arrived x t caller PhaseInput.Rollback reply sound there calls goes (undecided-free t (led PhaseInput.Rollback c).transaction (undecided-rolls t can stands.outcome))
+      let goes = rolled_back can in sound-arrived x t caller PhaseInput.Rollback reply sound there calls goes (none-known t (undecided-rolls t can stands.outcome))
 
 pub sound-commit_of : (x : Present) (o : Option Transaction) → IsSoundCourse x → ((t : Transaction) → o ≡ Some t → IsIn t (x.transactions).items) → Passes (transaction_tests o) → IsSoundOutcome x (commit_of x o)
 sound-commit_of x None sound there tests = sound-only_reply x Done sound
@@ -156,7 +158,7 @@ sound-commit_of x (Some t) sound there tests =
     let fresh = fresh-active x sound t (there t refl) None is in
     sound-arrived x t None PhaseInput.CommitTransaction (commit_reply (led PhaseInput.CommitTransaction c)) sound (there t refl) (λ e is. absurd (none-some e is))
     (arrives-to_commit (x.recorded).boots c fresh)
-    (undecided-free t (led PhaseInput.CommitTransaction c).transaction fresh.undecided)
+    (none-known t fresh.undecided)
 
 pub sound-rollback_of : (x : Present) (o : Option Transaction) → IsSoundCourse x → ((t : Transaction) → o ≡ Some t → IsIn t (x.transactions).items) → Passes (rollback_transaction_tests o) → IsSoundOutcome x (rollback_of x o)
 sound-rollback_of x None sound there tests = sound-only_reply x Done sound
@@ -166,25 +168,21 @@ sound-rollback_of x (Some t) sound there tests =
 
 -- ---- enlistments
 
--- it has gone on and is sound again, and an outcome that was known is the same
-pub record Goes (boot : ℕ) (c d : Course) : Type 0 where
-  pub arrives : Arrives boot c d
-  pub known : is_undecided c.transaction ≡ false → (d.transaction).outcome ≡ (c.transaction).outcome
-
--- a call that is made while the outcome is not known
-goes-undecided : (n : ℕ) (a b : Course) → Arrives n a b → is_undecided a.transaction ≡ true → Goes n a b
-goes-undecided n a b arrives is = record { arrives = arrives; known = undecided-free a.transaction b.transaction is }
+-- by what comes it goes on and is sound again, and this may come where so much is known of the outcome
+pub record Goes (boot : ℕ) (c : Course) (input : PhaseInput) : Type 0 where
+  pub arrives : Arrives boot c (led input c)
+  pub may : MayCome (known c) (c.transaction).phase input
 
 -- a transaction goes on by what comes from an enlistment
 abbrev pub Answers : Present → PhaseInput → Enlistment → Type 0
-Answers x input e = (t : Transaction) → IsIn t (x.transactions).items → same_id e.transaction t.id ≡ true → transaction_in x e ≡ Some t → Goes (x.recorded).boots (course_of x t (Some e)) (led input (course_of x t (Some e)))
+Answers x input e = (t : Transaction) → IsIn t (x.transactions).items → same_id e.transaction t.id ≡ true → transaction_in x e ≡ Some t → Goes (x.recorded).boots (course_of x t (Some e)) input
 
 sound-goes_on : (x : Present) (e : Enlistment) (o : Option Transaction) (input : PhaseInput) → IsSoundCourse x → IsIn e (x.transactions).enlistments → transaction_in x e ≡ o → Answers x input e → IsSoundOutcome x (goes_on x e o input)
 sound-goes_on x e None input sound in_es is answers = sound-only_reply x Done sound
 sound-goes_on x e (Some t) input sound in_es is answers =
     let found = transaction_at-found (x.transactions).items e.transaction t is in
     let goes = answers t found.0 (same_id-from e.transaction t.id (sym found.1)) is in
-    sound-arrived x t (Some e) input Done sound found.0 (λ f is. subst (λ g. IsIn g (x.transactions).enlistments) (same_Some e f is) in_es) (goes.arrives) (goes.known)
+    sound-arrived x t (Some e) input Done sound found.0 (λ f is. subst (λ g. IsIn g (x.transactions).enlistments) (same_Some e f is) in_es) (goes.arrives) (goes.may)
 
 pub sound-answering : (x : Present) (o : Option Enlistment) (input : Enlistment → PhaseInput) → IsSoundCourse x → ((e : Enlistment) → o ≡ Some e → IsIn e (x.transactions).enlistments) → ((e : Enlistment) → o ≡ Some e → Answers x (input e) e) → IsSoundOutcome x (answering x o input)
 sound-answering x None input sound there answers = sound-only_reply x Done sound
@@ -217,43 +215,46 @@ module _ (x : Present) (sound : IsSoundCourse x) (e : Enlistment) (in_es : IsIn 
   brought : (f : Enlistment) → IsIn f c_by.enlistments → is_unrecovered_well n c_by.managers f ≡ true
   brought = brought-now x t (Some e) sound
 
-  -- where a row leads, as its procedure says, while the outcome is not known
-  goes : (d f : Course) → d ≡ f → Arrives n c_by f → can_roll_back t.phase ≡ true → Goes n c_by d
-  goes d f is arrives can = subst (Goes n c_by) (sym is) (goes-undecided n c_by f arrives (undecided-rolls t can stands_by.outcome))
+  -- where a row leads, as its procedure says
+  goes : (input : PhaseInput) (f : Course) → led input c_by ≡ f → Arrives n c_by f → MayCome (known c_by) t.phase input → Goes n c_by input
+  goes input f is arrives may = record { arrives = subst (Arrives n c_by) (sym is) arrives; may = may }
 
-  pre_prepares : owes_pre_prepare e ≡ true → Goes n c_by (led PhaseInput.PrePrepareComplete c_by)
-  pre_prepares owes = subst (Goes n c_by) (sym (leads-pre_prepare x sound t there e in_es own owes))
-      (goes-undecided n c_by (pre_prepare_answered c_by e) (arrives-pre_prepare_answered n c_by stands_by brought sound.enlistments.rise e in_es own owes) (undecided-pre_prepare n c_by stands_by brought sound.enlistments.rise e in_es own owes))
+  -- nothing is known where it could roll back
+  free : can_roll_back t.phase ≡ true → known c_by ≡ None
+  free can = none-known t (undecided-rolls t can stands_by.outcome)
 
-  prepares : owes_prepare e ≡ true → Goes n c_by (led PhaseInput.PrepareComplete c_by)
-  prepares owes = subst (Goes n c_by) (sym (leads-prepare x sound t there e in_es own owes))
-      (goes-undecided n c_by (prepare_answered c_by e) (arrives-prepare_answered n c_by stands_by brought sound.enlistments.rise e in_es own owes) (undecided-prepare n c_by stands_by brought sound.enlistments.rise e in_es own owes))
+  pre_prepares : owes_pre_prepare e ≡ true → Goes n c_by PhaseInput.PrePrepareComplete
+  pre_prepares owes = goes _ (pre_prepare_answered c_by e) (leads-pre_prepare x sound t there e in_es own owes)
+      (arrives-pre_prepare_answered n c_by stands_by brought sound.enlistments.rise e in_es own owes) (none-known t (undecided-pre_prepare n c_by stands_by brought sound.enlistments.rise e in_es own owes))
 
-  reads_only : is_superior e ≡ false → is_open_for_votes e ≡ true → is_voting t.phase ≡ true → Goes n c_by (led (PhaseInput.ReadOnly (share_of e)) c_by)
+  prepares : owes_prepare e ≡ true → Goes n c_by PhaseInput.PrepareComplete
+  prepares owes = goes _ (prepare_answered c_by e) (leads-prepare x sound t there e in_es own owes)
+      (arrives-prepare_answered n c_by stands_by brought sound.enlistments.rise e in_es own owes) (none-known t (undecided-prepare n c_by stands_by brought sound.enlistments.rise e in_es own owes))
+
+  reads_only : is_superior e ≡ false → is_open_for_votes e ≡ true → is_voting t.phase ≡ true → Goes n c_by (PhaseInput.ReadOnly (share_of e))
   reads_only ordinary votes voting = goes _ (read_only_answered c_by e) (leads-read_only x sound t there e in_es own ordinary (not-true _ (and_parts (not e.is_read_only) (not e.is_prepared) votes).0))
-      (arrives-read_only_answered n c_by stands_by brought sound.enlistments.rise e in_es own ordinary votes voting) (voting-rolls t.phase voting)
+      (arrives-read_only_answered n c_by stands_by brought sound.enlistments.rise e in_es own ordinary votes voting) (free (voting-rolls t.phase voting))
 
-  commits : owes_commit e ≡ true → Goes n c_by (led PhaseInput.CommitComplete c_by)
-  commits owes = subst (Goes n c_by) (sym (rows_law.commit_completes c_by e refl)) (record {
-    arrives = arrives-commit_answered n c_by stands_by brought sound.enlistments.rise e in_es own owes;
-    known = known-commit_answered n c_by stands_by brought sound.enlistments.rise e in_es own owes;
-  })
+  commits : owes_commit e ≡ true → Goes n c_by PhaseInput.CommitComplete
+  commits owes = goes _ (commit_answered c_by e) (rows_law.commit_completes c_by e refl) (arrives-commit_answered n c_by stands_by brought sound.enlistments.rise e in_es own owes)
+      (elim (is-committing t.phase (phase-owing n c_by stands_by brought sound.enlistments.rise e in_es own Owed.Commit (owed-commit e owes))) [
+        | inl phase ↦ inr (known-in Committing t (subst (λ p. is_outcome_of p t ≡ true) phase stands_by.outcome))
+        | inr phase ↦ inl (free (subst (λ p. can_roll_back p ≡ true) (sym phase) refl))
+      ])
 
-  rolls_back : owes_rollback e ≡ true → Goes n c_by (led PhaseInput.RollbackComplete c_by)
-  rolls_back owes = subst (Goes n c_by) (sym (rows_law.rollback_completes c_by e refl)) (record {
-    arrives = arrives-rollback_answered n c_by stands_by brought sound.enlistments.rise e in_es own owes;
-    known = λ is_known. known-rollback_answered n c_by stands_by brought sound.enlistments.rise e in_es own owes;
-  })
+  rolls_back : owes_rollback e ≡ true → Goes n c_by PhaseInput.RollbackComplete
+  rolls_back owes = goes _ (rollback_answered c_by e) (rows_law.rollback_completes c_by e refl) (arrives-rollback_answered n c_by stands_by brought sound.enlistments.rise e in_es own owes)
+      (inr (known-in Aborting t (subst (λ p. is_outcome_of p t ≡ true) (is-aborting t.phase (phase-owing n c_by stands_by brought sound.enlistments.rise e in_es own Owed.Rollback (owed-rollback e owes))) stands_by.outcome)))
 
-  rejects : t.phase ≡ SinglePhase → owes_commit e ≡ true → Goes n c_by (led PhaseInput.SinglePhaseReject c_by)
-  rejects single owes = goes _ (single_phase_rejected c_by e) (rows_law.rejects_one_phase c_by e refl)
-      (arrives-single_phase_rejected n c_by stands_by brought sound.enlistments.rise e in_es own single owes) (subst (λ p. can_roll_back p ≡ true) (sym single) refl)
+  rejects : t.phase ≡ SinglePhase → owes_commit e ≡ true → Goes n c_by PhaseInput.SinglePhaseReject
+  rejects single owes = goes _ (single_phase_rejected c_by e) (rows_law.rejects_one_phase c_by e refl) (arrives-single_phase_rejected n c_by stands_by brought sound.enlistments.rise e in_es own single owes) tt
 
-  recovers : e.is_recovered ≡ false → Goes n c_by (led (recovery_of e) c_by)
-  recovers back = subst (Goes n c_by) (sym (rows_law.recovers c_by e refl)) (record {
-    arrives = arrives-recovered n c_by stands_by brought sound.enlistments.rise e in_es own back;
-    known = λ is_known. known-recovered n c_by stands_by brought sound.enlistments.rise e in_es own;
-  })
+  recovers : e.is_recovered ≡ false → Goes n c_by (recovery_of e)
+  recovers back = goes _ (recovered c_by e) (rows_law.recovers c_by e refl) (arrives-recovered n c_by stands_by brought sound.enlistments.rise e in_es own back) (may (is_superior e))
+    where
+      may : (above : Bool) → MayCome (known c_by) t.phase (if above then PhaseInput.RecoverSuperior else PhaseInput.Recover)
+      may true = tt
+      may false = known-in t.phase t stands_by.outcome
 
 module _ (x : Present) (sound : IsSoundCourse x) (o : Option Enlistment) (there : (e : Enlistment) → o ≡ Some e → IsIn e (x.transactions).enlistments) where
   pub goes-pre_prepare_complete : Passes (enlistment_tests o owes_pre_prepare) → (e : Enlistment) → o ≡ Some e → Answers x PhaseInput.PrePrepareComplete e
@@ -289,25 +290,25 @@ module _ (x : Present) (sound : IsSoundCourse x) (o : Option Enlistment) (there 
   pub goes-rollback_enlistment : Passes (enlistment_tests o (may_roll_back_by x)) → (e : Enlistment) → o ≡ Some e → Answers x PhaseInput.Rollback e
   goes-rollback_enlistment tests e is t at own found =
       let can = rolls e t found (enlistment-allowed o (may_roll_back_by x) e is tests) in
-      goes x sound e (there e is) t at own _ (led PhaseInput.Rollback (course_of x t (Some e))) refl (rolled_back x sound t at (Some e) can) can
+      record { arrives = rolled_back x sound t at (Some e) can; may = free x sound e (there e is) t at own can }
 
   pub goes-pre_prepare_enlistment : Passes (superior_tests x o before_pre_prepare) → (e : Enlistment) → o ≡ Some e → Answers x PhaseInput.PrePrepare e
   goes-pre_prepare_enlistment tests e is t at own found =
       let c = course_of x t (Some e) in
       let fresh = fresh-before_pre_prepare x sound t at (Some e) t.phase refl (phase-passed x before_pre_prepare e t found (superior-allowed x o before_pre_prepare e is tests)) in
-      goes-undecided (x.recorded).boots c (led PhaseInput.PrePrepare c) (arrives-to_pre_prepare (x.recorded).boots c fresh) fresh.undecided
+      record { arrives = arrives-to_pre_prepare (x.recorded).boots c fresh; may = none-known t fresh.undecided }
 
   pub goes-prepare_enlistment : Passes (superior_tests x o before_prepare) → (e : Enlistment) → o ≡ Some e → Answers x PhaseInput.Prepare e
   goes-prepare_enlistment tests e is t at own found =
       let c = course_of x t (Some e) in
       let fresh = fresh-before_prepare x sound t at (Some e) t.phase refl (phase-passed x before_prepare e t found (superior-allowed x o before_prepare e is tests)) in
-      goes-undecided (x.recorded).boots c (led PhaseInput.Prepare c) (arrives-to_prepare (x.recorded).boots c fresh) fresh.undecided
+      record { arrives = arrives-to_prepare (x.recorded).boots c fresh; may = none-known t fresh.undecided }
 
   pub goes-commit_enlistment : Passes (superior_tests x o waits_for_superior) → (e : Enlistment) → o ≡ Some e → Answers x PhaseInput.Commit e
   goes-commit_enlistment tests e is t at own found =
       let c = course_of x t (Some e) in
       let waits = phase-passed x waits_for_superior e t found (superior-allowed x o waits_for_superior e is tests) in
-      goes x sound e (there e is) t at own _ (committing c) (rows_law.commits c) (commits-waiting x sound t at (Some e) t.phase refl waits) (waiting-rolls t.phase waits)
+      goes x sound e (there e is) t at own _ (committing c) (rows_law.commits c) (commits-waiting x sound t at (Some e) t.phase refl waits) (free x sound e (there e is) t at own (waiting-rolls t.phase waits))
     where
       waiting-rolls : (phase : Phase) → waits_for_superior phase ≡ true → can_roll_back phase ≡ true
       waiting-rolls Committing is = is

@@ -3,7 +3,6 @@ use Rattle.std.specs.Prelude.{if◌then◌else◌}
 use Rattle.std.proofs.Common.{◌≡◌, ℕ, ◌==◌, ◌&&◌, ◌||◌, not, Bool, true, false, List, [], ◌∷◌, ◌++◌, nat_lt, Option, Some, None, is_some, is_none, refl, sym, ◌∙◌, ap, subst, inl, inr, ◌⊎◌}
 use Rattle.std.proofs.lemmas.Bool.{cases_Bool, and_parts, and_from, and_cases, and_left, and_right, or_cases, or_left, or_right, eqb-true, not-true, not_from_false, true≢false, false_from_ne_true}
 use Rattle.std.proofs.lemmas.List.Sums.{length-filter}
-use Rattle.std.specs.List.{list_any}
 use Rattle.ktm_base.specs.declared.notify.Notify.{Notify}
 use Rattle.ktm_types.specs.declared.event.DonePart.{DonePart}
 use Rattle.ktm_types.specs.declared.event.Event.{Event}
@@ -28,7 +27,6 @@ use Rattle.ktm_world.specs.Steps.{led}
 use Rattle.ktm_world.specs.TransactionCalls.{is_voting}
 use Rattle.ktm_steps.specs.Procedures.{someone_owes, when_none_owes, pre_prepare_answered, prepare_answered, without_its_answer, recovered as recovered_by, read_only_answered, single_phase_rejected, finished, commit_answered, rollback_answered, recovering, recovered_in, all_ready, pre_prepared}
 use Rattle.txf_laws.proofs.offered.Tables.{same_id-equal, same_id-from}
-use Rattle.ktm_courses.proofs.offered.Outcomes.{committed-outcome, aborted-outcome}
 use Rattle.ktm_courses.proofs.offered.CommitsBegun.{Fresh, arrives-pre_prepared}
 
 -- ---- enlistments by their Ids
@@ -280,38 +278,6 @@ module _ (boot : ℕ) (c : Course) (stands : Stands boot c) (brought : (e : Enli
 
   pub undecided-prepare : owes_prepare e ≡ true → is_undecided c.transaction ≡ true
   undecided-prepare owes = undecided-rolls c.transaction (subst (λ p. can_roll_back p ≡ true) (sym (is-preparing (c.transaction).phase (phase-owing Owed.Prepare (owed-prepare e owes)))) refl) stands.outcome
-
-  -- an end that is known already
-  if_finished-known : (d : Course) (outcome : TransactionOutcome) → (d.transaction).outcome ≡ (c.transaction).outcome → outcome ≡ (c.transaction).outcome → ((ended_if_finished d outcome).transaction).outcome ≡ (c.transaction).outcome
-  unfolding ended
-  if_finished-known d outcome same is = if_cases (λ (x : Course). (x.transaction).outcome ≡ (c.transaction).outcome) (list_any (is_unfinished (d.transaction).id) d.enlistments) d (ended d outcome) (λ some. same) (λ none. is)
-
-  pub known-commit_answered : owes_commit e ≡ true → is_undecided c.transaction ≡ false → ((commit_answered c e).transaction).outcome ≡ (c.transaction).outcome
-  unfolding commit_answered ended
-  known-commit_answered owes known = elim (is-committing (c.transaction).phase (phase-owing Owed.Commit (owed-commit e owes))) [
-    | inr phase ↦ absurd (true≢false (sym (undecided-rolls c.transaction (subst (λ p. can_roll_back p ≡ true) (sym phase) refl) stands.outcome) ∙ known))
-    | inl phase ↦
-        let is : TransactionOutcome.Committed ≡ (c.transaction).outcome = committed-outcome c.transaction (stands-in boot c Committing phase stands).outcome in
-        if_cases (λ (x : Course). (x.transaction).outcome ≡ (c.transaction).outcome) (is_single_phase (c.transaction).phase) (ended (finished c e) TransactionOutcome.Committed)
-        (ended_if_finished (recording (finished c e) (event_if (is_durable_at c.managers e.manager) (Event.Done (c.transaction).id (DonePart.Enlistment e.id)))) TransactionOutcome.Committed)
-        (λ single. is) (λ several. if_finished-known (recording (finished c e) (event_if (is_durable_at c.managers e.manager) (Event.Done (c.transaction).id (DonePart.Enlistment e.id)))) TransactionOutcome.Committed refl is)
-  ]
-
-  pub known-rollback_answered : owes_rollback e ≡ true → ((rollback_answered c e).transaction).outcome ≡ (c.transaction).outcome
-  unfolding rollback_answered
-  known-rollback_answered owes = if_finished-known (finished c e) TransactionOutcome.Aborted refl
-      (aborted-outcome c.transaction (stands-in boot c Aborting (is-aborting (c.transaction).phase (phase-owing Owed.Rollback (owed-rollback e owes))) stands).outcome)
-
-  pub known-recovered : ((recovered_by c e).transaction).outcome ≡ (c.transaction).outcome
-  unfolding recovered_by
-  known-recovered = if_cases (λ (x : Course). (x.transaction).outcome ≡ (c.transaction).outcome) (is_superior e) (telling (recovering c e) (has_id e.id) Notify.RecoverQuery unchanged) (recovered_in (c.transaction).phase (recovering c e) e)
-      (λ above. refl) (λ below. told (c.transaction).phase)
-    where
-      told : (phase : Phase) → ((recovered_in phase (recovering c e) e).transaction).outcome ≡ (c.transaction).outcome
-      told InDoubt = refl
-      told Committing = refl
-      told Aborting = refl
-      told _ = refl
 
   -- ---- PrePrepareComplete
 

@@ -20,11 +20,13 @@ use Rattle.ktm_world.specs.Durable.{Durable, Recorded, after_event, after_events
 use Rattle.ktm_world.specs.Enlistments.{Manager, Sent, notes_for, taken_count, Enlistment, superior_of}
 use Rattle.ktm_world.specs.Files.{FileTable, OwnChanges, own_changes, without_transaction}
 use Rattle.ktm_world.specs.Keys.{Own, own_settings, without_own}
+use Rattle.ktm_world.specs.OneOutcome.{told_outcome}
 use Rattle.ktm_world.specs.Outcome.{Outcome, only_reply, served, apply, joined}
 use Rattle.ktm_world.specs.Phases.{Course, has_settings, is_single_phase}
 use Rattle.ktm_world.specs.Present.{Present}
 use Rattle.ktm_world.specs.Steps.{lasting, lasting_of, led}
 use Rattle.ktm_world.specs.TransactionCalls.{course_of, arrived}
+use Rattle.ktm_steps.specs.Outcomes.{MayCome}
 use Rattle.ktm_steps.proofs.offered.Recorded.{all-led}
 use Rattle.ktm_world.specs.Transactions.{same_id, is_undecided}
 use Rattle.ktm_world.proofs.offered.Durables.{after_events-append}
@@ -32,7 +34,7 @@ use Rattle.ktm_world.specs.Changes.{has_changes}
 use Rattle.txf_laws.specs.Elements.{IsIn}
 use Rattle.ktm_courses.specs.SoundCourse.{IsSoundCourse, is_note_of, is_outcome_of, is_alone_in_one_phase, is_counted, has_manager}
 use Rattle.ktm_courses.specs.Outcomes.{OutcomesStay}
-use Rattle.ktm_courses.proofs.offered.Outcomes.{stay-refl, stay-changed}
+use Rattle.ktm_courses.proofs.offered.Outcomes.{stay-refl, stay-changed, stays-known}
 use Rattle.txf_laws.proofs.offered.Elements.{list_all-at, list_all-from, list_any-at}
 use Rattle.txf_laws.proofs.offered.Tables.{same_id-equal, same_id-sym}
 use Rattle.ktm_courses.proofs.offered.Moves.{if_cases, is_boot, find-found, NoBoots, NoBoots-none, NoBoots-one, NoBoots-append}
@@ -213,8 +215,8 @@ module _ (x : Present) (t : Transaction) (caller : Option Enlistment) (sound : I
 
 pub sound-arrived : (x : Present) (t : Transaction) (caller : Option Enlistment) (input : PhaseInput) (reply : Reply) → IsSoundCourse x → IsIn t (x.transactions).items
     → ((e : Enlistment) → caller ≡ Some e → IsIn e (x.transactions).enlistments) → let d = led input (course_of x t caller) in Arrives (x.recorded).boots (course_of x t caller) d
-    → (is_undecided t ≡ false → (d.transaction).outcome ≡ t.outcome) → IsSoundOutcome x (arrived x d reply)
-sound-arrived x t caller input reply sound there calls arrives known =
+    → MayCome (told_outcome t.outcome) t.phase input → IsSoundOutcome x (arrived x d reply)
+sound-arrived x t caller input reply sound there calls arrives may =
     if_cases (λ o. IsSoundOutcome x o) (is_undecided d.transaction) on_its_way _
     (λ undecided. record { settled = went; events = recorded.0; made = refl; notes = notes; outcomes = outcomes; objects = recorded.1 })
     (λ decided. record {
@@ -248,7 +250,7 @@ sound-arrived x t caller input reply sound there calls arrives known =
     recorded = events-led x t caller sound there calls input
 
     outcomes : OutcomesStay (x.transactions).items (changed_to (x.transactions).items d.transaction)
-    outcomes = stay-changed (x.transactions).items t d.transaction sound.transactions.rise there (arrives.moved).stays.id known
+    outcomes = stay-changed (x.transactions).items t d.transaction sound.transactions.rise there (arrives.moved).stays.id (stays-known input (course_of x t caller) refl may)
 
     notes : (s : Sent) → IsIn s d.sent → is_note_of d.enlistments s.manager s.note ≡ true
     notes = notes-course x sound t there caller d arrives
