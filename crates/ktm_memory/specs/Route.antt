@@ -11,10 +11,9 @@ use Rattle.ktm_forms.specs.Built.{is_built_command}
 use Rattle.ktm_world.specs.Decide.{of_keys, with_room}
 use Rattle.ktm_memory.specs.Opening.{files_outcome}
 use Rattle.ktm_world.specs.Labels.{file_number, holds_of, invalid_handle, is_dead}
-use Rattle.ktm_world.specs.HandleCalls.{close_handle, duplicate_handle, exit}
 use Rattle.ktm_world.specs.Outcome.{Outcome, first_refusal, is_full, only_reply, refuse_or, within_log}
 use Rattle.ktm_world.specs.Present.{Present}
-use Rattle.ktm_world.specs.TransactionCalls.{commit_transaction, create_transaction, get_transaction_information, handle_test, no_transaction_left, opened_object, quota_test, rollback_transaction, tick}
+use Rattle.ktm_world.specs.TransactionCalls.{commit_transaction, create_transaction, get_transaction_information, no_transaction_left, quota_test, rollback_transaction, tick}
 use Rattle.ktm_world.specs.Uses.{file_room, key_room}
 use Rattle.kv_rm.specs.Calls.{key_outcome}
 use Rattle.ktm_base.specs.declared.id.Id.{Id}
@@ -36,18 +35,18 @@ use Rattle.ktm_memory.specs.declared.decide.Asked.{Asked}
 use Rattle.ktm_memory.specs.declared.decide.Asked.TheVariants.{Call, Tick}
 use Rattle.ktm_memory.specs.Takes.{routed_takes_memory, takes_memory}
 use Rattle.ktm_memory.specs.declared.route.Routed.{Routed}
-use Rattle.ktm_memory.specs.declared.route.Routed.TheVariants.{Create, Bind, Duplicate, Commit, Rollback, Information, Close, Exit, Keys, Files}
+use Rattle.ktm_memory.specs.declared.route.Routed.TheVariants.{Create, Commit, Rollback, Information, Handles, Keys, Files}
+use Rattle.ktm_memory.specs.declared.settlement.Labels.{Labels}
+use Rattle.ktm_memory.specs.declared.settlement.Labels.TheVariants.{Bind, Duplicate, Unbind, UnbindAll}
+use Rattle.ktm_memory.specs.Settled.{labels_outcome, labels_tests}
 
 -- what the call comes to, once its labels are known
 abbrev pub outcome_of : Present → Pid → Routed → Outcome
 outcome_of x process (Create label timeout) = refuse_or x (first_refusal (quota_test x (no_transaction_left x.transactions) ∷ [])) (create_transaction x process label timeout)
-outcome_of x process (Bind label object) = refuse_or x (first_refusal (handle_test x ∷ [])) (opened_object x process label object)
-outcome_of x process (Duplicate label from source) = refuse_or x (first_refusal (handle_test x ∷ [])) (duplicate_handle x process label from source)
 outcome_of x process (Commit t) = commit_transaction x (Some t)
 outcome_of x process (Rollback t) = rollback_transaction x (Some t)
 outcome_of x process (Information t) = get_transaction_information x (Some t)
-outcome_of x process (Close label) = close_handle x process label
-outcome_of x process Exit = exit x process
+outcome_of x process (Handles labels) = refuse_or x (first_refusal (labels_tests x labels)) (labels_outcome x process labels)
 outcome_of x process (Keys who call) = of_keys x (key_outcome x.keys (key_room x) who call)
 outcome_of x process (Files who label call) = files_outcome x process who label (file_outcome x.files (file_room x) who call)
 
@@ -66,16 +65,20 @@ pub record IsReadyCall (x : Present) (process : Pid) (who : Option Id) (label : 
 abbrev pub IsReadyCommit : Present → Transaction → Type 0
 IsReadyCommit x t = is_full x.machine.left (commit_events t.id (changes_of x t) (settings_of x t)) ≡ false → MayCommitNow x t
 
+-- a label that is to be bound is free, and one that is to be duplicated is bound
+abbrev pub AreReady : Present → Pid → Labels → Type 0
+AreReady x process (Bind label object) = object_at x.handles process label ≡ None
+AreReady x process (Duplicate label from source) = (object_at x.handles process label ≡ None) × (is_some (object_at x.handles from source) ≡ true)
+AreReady x process (Unbind label) = Unit {0}
+AreReady x process UnbindAll = Unit {0}
+
 -- the labels were found to be what the call wants: one that is not bound, one that is, a transaction, or an open file
 abbrev pub IsReadyFor : Present → Pid → Routed → Type 0
 IsReadyFor x process (Create label timeout) = object_at x.handles process label ≡ None
-IsReadyFor x process (Bind label object) = object_at x.handles process label ≡ None
-IsReadyFor x process (Duplicate label from source) = (object_at x.handles process label ≡ None) × (is_some (object_at x.handles from source) ≡ true)
 IsReadyFor x process (Commit t) = (transaction_at x.transactions.items t.id ≡ Some t) × (is_ended t.phase ≡ false) × IsReadyCommit x t
 IsReadyFor x process (Rollback t) = (transaction_at x.transactions.items t.id ≡ Some t) × (is_ended t.phase ≡ false)
 IsReadyFor x process (Information t) = Unit {0}
-IsReadyFor x process (Close label) = Unit {0}
-IsReadyFor x process Exit = Unit {0}
+IsReadyFor x process (Handles labels) = AreReady x process labels
 IsReadyFor x process (Keys who call) = Unit {0}
 IsReadyFor x process (Files who label call) = IsReadyCall x process who label call
 

@@ -1,5 +1,6 @@
 -- What is left to do, in the model's own words, and what each part of it makes of what is so now.
-use Rattle.std.specs.Prelude.{◌≡◌, ℕ, List, Option, Some, None}
+use Rattle.std.specs.Prelude.{◌≡◌, ℕ, Bool, List, [], ◌∷◌, Option, Some, None}
+use Rattle.ktm_base.specs.declared.refusal.Refusal.{Refusal}
 use Rattle.ktm_base.specs.declared.id.Label.{Label}
 use Rattle.ktm_base.specs.declared.id.Pid.{Pid}
 use Rattle.ktm_built.specs.Forms.{handles_with, with_bound, with_files_made, with_handle_closed, with_process_gone}
@@ -14,13 +15,20 @@ use Rattle.ktm_world.specs.Handles.{object_at}
 use Rattle.ktm_world.specs.Outcome.{Outcome, only_reply}
 use Rattle.ktm_world.specs.Present.{Present}
 use Rattle.ktm_world.specs.Steps.{run}
-use Rattle.ktm_world.specs.TransactionCalls.{arrived, course_of, create_transaction, opened_object, tick}
+use Rattle.ktm_world.specs.TransactionCalls.{arrived, course_of, create_transaction, handle_test, opened_object, tick}
 use Rattle.ktm_memory.specs.Memory.{MemoryState, appended, held, now_of}
 use Rattle.ktm_memory.specs.Opening.{files_outcome}
 use Rattle.ktm_memory.specs.declared.settlement.Labels.{Labels}
 use Rattle.ktm_memory.specs.declared.settlement.Labels.TheVariants.{Bind, Duplicate, Unbind, UnbindAll}
 use Rattle.ktm_memory.specs.declared.settlement.Settlement.{Settlement}
 use Rattle.ktm_memory.specs.declared.settlement.Settlement.TheVariants.{Nothing, Begin, Change, Course, Handles, Pass}
+
+-- the tests of what becomes of labels, once they are known: one that is bound wants a handle more
+abbrev pub labels_tests : Present → Labels → List (Bool × Refusal)
+labels_tests x (Bind label object) = handle_test x ∷ []
+labels_tests x (Duplicate label from source) = handle_test x ∷ []
+labels_tests x (Unbind label) = []
+labels_tests x UnbindAll = []
 
 -- what becomes of labels
 abbrev pub labels_outcome : Present → Pid → Labels → Outcome

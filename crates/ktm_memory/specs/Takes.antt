@@ -23,7 +23,9 @@ use Rattle.txf_calls.specs.declared.call.FileCall.{FileCall}
 use Rattle.ktm_memory.specs.declared.decide.Asked.{Asked}
 use Rattle.ktm_memory.specs.declared.decide.Asked.TheVariants.{Call, Tick}
 use Rattle.ktm_memory.specs.declared.route.Routed.{Routed}
-use Rattle.ktm_memory.specs.declared.route.Routed.TheVariants.{Create, Bind, Duplicate, Commit, Rollback, Information, Close, Exit as Leave, Keys, Files}
+use Rattle.ktm_memory.specs.declared.route.Routed.TheVariants.{Create, Commit, Rollback, Information, Handles, Keys, Files}
+use Rattle.ktm_memory.specs.declared.settlement.Labels.{Labels}
+use Rattle.ktm_memory.specs.declared.settlement.Labels.TheVariants.{Bind, Duplicate, Unbind, UnbindAll}
 
 -- the tests that are made without memory: those of the labels where a path is looked for or bytes are read, and else all
 abbrev pub early_tests : Present → Pid → Command → List (Bool × Refusal)
@@ -87,16 +89,20 @@ plan_takes_memory x who o = not (is_quiet o) && not (is_full x.machine.left (eve
 abbrev pub files_take_memory : Present → Option Id → FileCall → Bool
 files_take_memory x who call = decision_takes_memory call || plan_takes_memory x who (file_outcome x.files (file_room x) who call)
 
+-- may it take memory to bind or to unbind labels: for a handle more, where nothing refuses it
+abbrev pub labels_take_memory : Present → Labels → Bool
+labels_take_memory x (Bind label object) = is_none (first_refusal (handle_test x ∷ []))
+labels_take_memory x (Duplicate label from source) = is_none (first_refusal (handle_test x ∷ []))
+labels_take_memory x (Unbind label) = false
+labels_take_memory x UnbindAll = false
+
 -- may a call take memory whose labels are known
 abbrev pub routed_takes_memory : Present → Routed → Bool
 routed_takes_memory x (Create label timeout) = is_none (first_refusal (quota_test x (no_transaction_left x.transactions) ∷ []))
-routed_takes_memory x (Bind label object) = is_none (first_refusal (handle_test x ∷ []))
-routed_takes_memory x (Duplicate label from source) = is_none (first_refusal (handle_test x ∷ []))
 routed_takes_memory x (Commit t) = has_work x (Some t)
 routed_takes_memory x (Rollback t) = false
 routed_takes_memory x (Information t) = false
-routed_takes_memory x (Close label) = false
-routed_takes_memory x Leave = false
+routed_takes_memory x (Handles labels) = labels_take_memory x labels
 routed_takes_memory x (Keys who call) = not (is_refused (key_outcome x.keys (key_room x) who call).reply)
 routed_takes_memory x (Files who label call) = files_take_memory x who call
 

@@ -5,9 +5,9 @@ ghost use Rattle.ktm_event.specs.Kept.{EventsState, Holds};
 ghost use Rattle.ktm_memory.specs.Decided.{Decides, DecidesIf, IsDone};
 ghost use Rattle.ktm_memory.specs.Settled.{labels_outcome};
 ghost use Rattle.ktm_memory.specs.Memory.{IsRoomy, MayHandle, MemoryState, held, present_of};
-ghost use Rattle.ktm_memory.specs.Route.{asked_outcome, outcome_of, IsBuiltAsked, IsReadyFor};
-ghost use Rattle.ktm_memory.specs.Takes.{asked_takes_memory, routed_takes_memory, takes_memory};
-ghost use Rattle.ktm_memory.specs.declared.route.Routed.TheVariants.{Create};
+ghost use Rattle.ktm_memory.specs.Route.{asked_outcome, outcome_of, AreReady, IsBuiltAsked, IsReadyFor};
+ghost use Rattle.ktm_memory.specs.Takes.{asked_takes_memory, labels_take_memory, routed_takes_memory, takes_memory};
+ghost use Rattle.ktm_memory.specs.declared.route.Routed.TheVariants.{Create, Handles as OfLabels};
 ghost use Rattle.ktm_object.specs.Table.{handles_of};
 ghost use Rattle.ktm_forms.specs.Built.{is_built_command};
 ghost use Rattle.ktm_world.specs.Decide.{of_keys, with_room};
@@ -98,6 +98,22 @@ impl Memory {
         Ok(Decision::done(Settlement::Handles { process, labels }))
     }
 
+    // Labels are to be bound or unbound.
+    fn decide_labels(&mut self, process: Pid, labels: Labels) -> Result<Decision, NoMemory>
+        requires built { IsBuiltNow (present_of self.old) }
+        requires ready { AreReady (present_of self.old) process labels }
+        ensures ok { IfOk result (λ d. (events : EventsState) → Holds events [] → Decides (held self.old) (outcome_of (present_of self.old) process (OfLabels labels)) d.reply d.settlement events self.new) }
+        ensures no_memory { OnErr result (held self.new ≡ held self.old) }
+        ensures enough { labels_take_memory (present_of self.old) labels ≡ false → IsOk result }
+    {
+        match labels {
+            Labels::Bind { .. } | Labels::Duplicate { .. } => self.decide_handle(process, labels),
+            Labels::Unbind(_) | Labels::UnbindAll => {
+                Ok(Decision::done(Settlement::Handles { process, labels }))
+            }
+        }
+    }
+
     // A call on keys is decided.
     fn decide_keys(&mut self, who: Option<Id>, call: KvCall) -> Result<Decision, NoMemory>
         requires built { IsBuiltNow (present_of self.old) }
@@ -131,32 +147,10 @@ impl Memory {
             Routed::Create { label, timeout } => Ok(Some(self.decide_create(
                 process, label, timeout,
             )?)),
-            Routed::Bind { label, object } => {
-                Ok(Some(self.decide_handle(process, Labels::Bind { label, object })?))
-            }
-            Routed::Duplicate {
-                label,
-                from,
-                source,
-            } => {
-                let labels = Labels::Duplicate {
-                    label,
-                    from,
-                    source,
-                };
-                Ok(Some(self.decide_handle(process, labels)?))
-            }
             Routed::Commit(t) => self.decide_commit(t, events),
             Routed::Rollback(t) => Ok(self.decide_rollback(t, events)),
             Routed::Information(t) => Ok(Some(Decision::only(self.information(&t)))),
-            Routed::Close(label) => Ok(Some(Decision::done(Settlement::Handles {
-                process,
-                labels: Labels::Unbind(label),
-            }))),
-            Routed::Exit => Ok(Some(Decision::done(Settlement::Handles {
-                process,
-                labels: Labels::UnbindAll,
-            }))),
+            Routed::Handles(labels) => Ok(Some(self.decide_labels(process, labels)?)),
             Routed::Keys { who, call } => Ok(Some(self.decide_keys(who, call)?)),
             Routed::Files { who, label, call } => {
                 self.decide_files(alloc, process, who, label, call, events)

@@ -8,8 +8,9 @@ ghost use Rattle.ktm_types.specs.declared.command.Command.TheVariants.{CloseHand
 ghost use Rattle.ktm_forms.specs.Built.{is_built_command};
 
 use crate::memory::Memory;
+use crate::settlement::Labels;
 use ktm_base::{Id, Label, Pid, Refusal};
-use ktm_types::{Command, Object, Transaction};
+use ktm_types::{Command, Transaction};
 use kv_rm::KvCall;
 use txf_calls::FileCall;
 
@@ -20,20 +21,10 @@ pub(crate) enum Routed {
         label: Label,
         timeout: u32,
     },
-    Bind {
-        label: Label,
-        object: Object,
-    },
-    Duplicate {
-        label: Label,
-        from: Pid,
-        source: Label,
-    },
     Commit(Transaction),
     Rollback(Transaction),
     Information(Transaction),
-    Close(Label),
-    Exit,
+    Handles(Labels),
     Keys {
         who: Option<Id>,
         call: KvCall,
@@ -73,7 +64,7 @@ impl Memory {
                 process: from,
                 source,
             } => self.to_duplicate(process, label, from, source),
-            Command::Exit => Ok(Routed::Exit),
+            Command::Exit => Ok(Routed::Handles(Labels::UnbindAll)),
             Command::KvSet {
                 transaction,
                 key,

@@ -8,6 +8,7 @@ ghost use Rattle.ktm_types.specs.declared.command.Command.TheVariants.{CloseHand
 
 use crate::memory::Memory;
 use crate::route::Routed;
+use crate::settlement::Labels;
 use ktm_base::{Label, Pid, Refusal};
 use ktm_built::law_of_files;
 use ktm_tm::rollback_refusal;
@@ -41,10 +42,10 @@ impl Memory {
             return Err(Refusal::InvalidParameter);
         }
         match self.with_guid(guid) {
-            Some(t) => Ok(Routed::Bind {
+            Some(t) => Ok(Routed::Handles(Labels::Bind {
                 label,
                 object: Object::Transaction(t.id),
-            }),
+            })),
             None => Err(Refusal::TransactionNotFound),
         }
     }
@@ -66,11 +67,11 @@ impl Memory {
         if self.handles.get(process, label).is_some() {
             return Err(Refusal::InvalidParameter);
         }
-        Ok(Routed::Duplicate {
+        Ok(Routed::Handles(Labels::Duplicate {
             label,
             from,
             source,
-        })
+        }))
     }
 
     // RollbackTransaction, of a transaction that may be rolled back.
@@ -106,7 +107,7 @@ impl Memory {
         if self.handles.get(process, label).is_none() {
             return Err(Refusal::InvalidHandle);
         }
-        Ok(Routed::Close(label))
+        Ok(Routed::Handles(Labels::Unbind(label)))
     }
 
     // CommitTransaction, of an active transaction.
