@@ -40,7 +40,7 @@ use Rattle.txf_laws.proofs.offered.Tables.{same_id-sym}
 use Rattle.ktm_owned.proofs.offered.Undecided.{undecided-from}
 use Rattle.txf_laws.specs.FileEffects.{AreUnopened, LeavesOthers}
 use Rattle.ktm_built.specs.Files.{MayCommitNow}
-use Rattle.ktm_built.specs.Forms.{changes_of, settings_of}
+use Rattle.ktm_built.specs.Effects.{changes_of, settings_of}
 use Rattle.ktm_built.specs.Courses.{with_moved}
 use Rattle.ktm_built.proofs.offered.Courses.{commit_leaves, commit_records, ended_committed}
 use Rattle.ktm_built.proofs.offered.Quiet.{commits_before_end, not_recorded}

@@ -15,7 +15,7 @@ use Rattle.ktm_world.specs.Logs.{as_groups}
 use Rattle.ktm_world.specs.Outcome.{apply}
 use Rattle.ktm_world.specs.Present.{Present}
 use Rattle.txf_laws.proofs.offered.Elements.{filter-true}
-use Rattle.ktm_built.specs.Forms.{with_files, with_opened}
+use Rattle.ktm_built.specs.Effects.{with_files, with_opened}
 use Rattle.ktm_built.specs.Standing.{IsBuiltNow}
 use Rattle.ktm_built.proofs.Alone.{alone, alone_state, by_alone}
 

@@ -36,7 +36,7 @@ use Rattle.txf_laws.proofs.offered.CommitsOfOthers.{All-by, undecided-entry, nex
 use Rattle.ktm_owned.proofs.offered.SeenFiles.{below-next}
 use Rattle.txf_laws.specs.FileEffects.{IsOrderly, IsPlainChange, IsPlainOpen, LeavesOwn, CanBeCounted}
 use Rattle.ktm_built.specs.Files.{IsOnCommitted, MayMake}
-use Rattle.ktm_built.specs.Laws.{FormsLaw}
+use Rattle.ktm_built.specs.Laws.{EffectsLaw}
 use Rattle.ktm_built.specs.Standing.{IsStanding}
 use Rattle.ktm_built.proofs.Counted.{counted_after, few_versions, units_now}
 use Rattle.ktm_built.proofs.FileForms.{decides, made_events, made_files, room_made}
@@ -73,7 +73,7 @@ usable_file x sound process label o named plain may_write =
       ]
     ]
 
-module _ (step : StepLaw) (law : LawfulWorldsLaw) (spelling : SpellingLaw) (forms : FormsLaw) (made : FileCallsLaw) where
+module _ (step : StepLaw) (law : LawfulWorldsLaw) (spelling : SpellingLaw) (forms : EffectsLaw) (made : FileCallsLaw) where
   -- ---- calls on files
 
   module _ (w : World) (standing : IsStanding w) (process : Pid) (command : Command) (is : IsCommand command) (unrefused : refusal_of (present w) process command ≡ None) where

@@ -1,7 +1,7 @@
 mod Alone
-mod Leaves
 mod FileCalls
-mod Effects
+mod QuietCalls
+mod CommitLeaves
 mod Logs
 mod Opened
 mod Worlds

@@ -13,8 +13,8 @@ use Rattle.ktm_laws.specs.Running.{LawfulWorldsLaw}
 use Rattle.ktm_records.specs.Spelling.{SpellingLaw}
 use Rattle.txf_laws.specs.FileEffects.{IsOrderly}
 use Rattle.ktm_built.specs.Files.{IsOnCommitted, MayCommitNow, MayMake}
-use Rattle.ktm_built.specs.Forms.{changes_of, settings_of}
-use Rattle.ktm_built.specs.Laws.{FilesLaw, FormsLaw, NamedLaw}
+use Rattle.ktm_built.specs.Effects.{changes_of, settings_of}
+use Rattle.ktm_built.specs.Laws.{FilesLaw, EffectsLaw, NamedLaw}
 use Rattle.ktm_built.specs.Standing.{IsStanding, IsStandingNow}
 use Rattle.ktm_built.proofs.CommitsMade.{may_commit}
 use Rattle.ktm_built.proofs.FilesMade.{may_make, orderly_files, usable_file}
@@ -23,7 +23,7 @@ use Rattle.ktm_built.proofs.FilesMade.{may_make, orderly_files, usable_file}
 by_world : (P : Present → Type 0) → ((w : World) → IsStanding w → P (present w)) → (x : Present) → IsStandingNow x → P x
 by_world P each x now = subst P now.is (each now.world now.stands)
 
-pub files_law : StepLaw → LawfulWorldsLaw → SpellingLaw → ReservationsLaw → FormsLaw → NamedLaw → FileCallsLaw → FilesLaw
+pub files_law : StepLaw → LawfulWorldsLaw → SpellingLaw → ReservationsLaw → EffectsLaw → NamedLaw → FileCallsLaw → FilesLaw
 files_law step law spelling reservations forms named made = record {
   orderly = by_world (λ x. IsOrderly x.files) (λ w standing. orderly_files (present w) standing.running.now.sound.files);
   usable = λ x process label o. by_world (λ x. file_named x process label ≡ Some o → IsOnCommitted x o) (λ w standing. usable_file (present w) standing.running.now.sound.files process label o) x;

@@ -1,8 +1,9 @@
 -- Lemmas that other crates cite.
 pub mod Found
+pub mod Applied
 pub mod Quiet
 pub mod Courses
-pub mod Forms
+pub mod Effects
 pub mod Distinct
 pub mod Timeouts
 pub mod Guids

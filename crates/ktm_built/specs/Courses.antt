@@ -17,7 +17,7 @@ use Rattle.ktm_world.specs.Transactions.{change_at, is_undecided}
 use Rattle.ktm_world.specs.TransactionCalls.{course_of}
 use Rattle.txf_laws.specs.Reservations.{files_committed}
 use Rattle.txf_laws.specs.FileEffects.{forgotten}
-use Rattle.ktm_built.specs.Forms.{changes_of, recorded_by, settings_of}
+use Rattle.ktm_built.specs.Effects.{changes_of, recorded_by, settings_of}
 
 -- the transaction is this from now on
 abbrev pub with_changed : Present → Transaction → Transaction → Present

@@ -14,7 +14,7 @@ use Rattle.ktm_world.specs.Outcome.{is_full}
 use Rattle.ktm_world.specs.Present.{Present}
 use Rattle.ktm_world.specs.Tree.{is_file}
 use Rattle.txf_laws.specs.FileEffects.{AreUnopened, AreVersionsFew, LeavesOthers, IsPlain, LeavesOwn, IsPlanOf, CanBeCounted}
-use Rattle.ktm_built.specs.Forms.{changes_of, settings_of}
+use Rattle.ktm_built.specs.Effects.{changes_of, settings_of}
 
 -- what a plain call comes to can be made and recorded
 pub record MayMakePlain (x : Present) (o : FileOutcome) : Type 0 where

@@ -11,27 +11,20 @@ use Rattle.ktm_base.specs.declared.refusal.Refusal.TheVariants.{MachineDown}
 use Rattle.ktm_forms.specs.Built.{is_built_command, is_built_log, IsBuiltState}
 use Rattle.ktm_forms.specs.Commits.{commit_events}
 use Rattle.ktm_types.specs.declared.command.Command.{Command}
-use Rattle.ktm_types.specs.declared.object.Object.{Object}
-use Rattle.ktm_types.specs.declared.object.Object.TheVariants.{Transaction as TransactionObject}
 use Rattle.ktm_types.specs.declared.object.Transaction.{Transaction}
-use Rattle.ktm_types.specs.declared.reply.Reply.{Reply}
-use Rattle.ktm_types.specs.declared.reply.Reply.TheVariants.{Refused, Done}
+use Rattle.ktm_types.specs.declared.reply.Reply.TheVariants.{Refused}
 use Rattle.ktm_types.specs.Sizes.{frame_size, log_size}
 use Rattle.ktm_types.specs.Values.{IsCommand}
-use Rattle.ktm_world.specs.Decide.{decide, with_room, command_effect, refusal_of, of_files, of_keys, opening}
+use Rattle.ktm_world.specs.Decide.{decide, with_room, command_effect, refusal_of, of_files, opening}
 use Rattle.ktm_world.specs.Durable.{Durable, stand, log_applies}
-use Rattle.ktm_world.specs.Enlistments.{is_ended}
 use Rattle.ktm_world.specs.FileOutcome.{FileOutcome}
 use Rattle.ktm_world.specs.Files.{OpenFile}
-use Rattle.ktm_world.specs.HandleCalls.{close_handle, duplicate_handle, exit}
-use Rattle.ktm_world.specs.Handles.{object_at}
-use Rattle.ktm_world.specs.KeyCalls.{keys_with, kv_set, kv_unset}
 use Rattle.ktm_world.specs.Labels.{file_named, transaction_named, transaction_tests}
 use Rattle.ktm_world.specs.Logs.{Group, as_groups}
-use Rattle.ktm_world.specs.Outcome.{apply, first_refusal, is_full, only_reply}
+use Rattle.ktm_world.specs.Outcome.{Outcome, apply, first_refusal, is_full, only_reply}
 use Rattle.ktm_world.specs.Present.{Present}
 use Rattle.ktm_world.specs.Transactions.{same_id, transaction_at, is_live}
-use Rattle.ktm_world.specs.TransactionCalls.{create_transaction, rollback_transaction, get_transaction_information, information_of, open_transaction, transaction_with, later, is_due, with_clock, tick}
+use Rattle.ktm_world.specs.TransactionCalls.{transaction_with, later, is_due, with_clock, tick}
 use Rattle.ktm_world.specs.Transcript.{Finds}
 use Rattle.ktm_world.specs.World.{World, present, extend, after, decide_tick, crashed, interrupted_by, interrupted_restart, found_full, opened, own_group}
 use Rattle.ktm_records.specs.FileCallsMade.{file_call}
@@ -40,36 +33,21 @@ use Rattle.ktm_laws.specs.Running.{IsRoomy, is_log_grammatical}
 use Rattle.ktm_courses.specs.SoundCourse.{IsSoundCourse}
 use Rattle.txf_laws.specs.FileEffects.{IsOrderly}
 use Rattle.ktm_built.specs.Files.{IsOnCommitted, MayCommitNow, MayMake}
-use Rattle.ktm_built.specs.Forms.{ComesTo, with_transaction, with_rollback, with_bound, with_files, with_handle_closed, with_opened, with_process_gone, with_tick, changes_of, settings_of}
+use Rattle.ktm_built.specs.Effects.{IsSilent, changes_of, rolled_back, settings_of, with_files, with_opened, with_parts}
 use Rattle.ktm_built.specs.Standing.{IsBuiltNow, IsStandingNow, IsStanding, fresh}
 
--- ---- what the commands come to
+-- ---- what commands come to
 
--- where there are transactions, files and keys alone, each call changes its own part of what is so now, and nothing else, and so does the
--- passing of time
-pub record FormsLaw : Type 0 where
-  pub replies : (x : Present) (reply : Reply) → IsBuiltNow x → apply x (only_reply x reply) ≡ x
-  pub creates : (x : Present) (process : Pid) (label : Label) (timeout : ℕ) → IsBuiltNow x → apply x (create_transaction x process label timeout) ≡ with_transaction x process label timeout
-  pub sets : (x : Present) (t : Transaction) (key value : List ℕ) → IsBuiltNow x
-      → apply x (of_keys x (kv_set x.keys (Some t.id) key value)) ≡ record x { keys = keys_with x.keys (Some t.id) key (Some value) }
-  pub unsets : (x : Present) (t : Transaction) (key : List ℕ) → IsBuiltNow x
-      → apply x (of_keys x (kv_unset x.keys (Some t.id) key)) ≡ record x { keys = keys_with x.keys (Some t.id) key None }
+-- where there are no resource managers, an outcome changes the parts that it names, and what it commits
+pub record EffectsLaw : Type 0 where
+  pub silent : (x : Present) (o : Outcome) → IsBuiltNow x → IsSilent o → apply x o ≡ with_parts x o
   pub files : (x : Present) (who : Option Id) (o : FileOutcome) → IsBuiltNow x → apply x (of_files x who o) ≡ with_files x who o
   pub opens : (x : Present) (process : Pid) (label : Label) (who : Option Id) (o : FileOutcome) → IsBuiltNow x → apply x (opening x process label who o) ≡ with_opened x process label who o
-  pub rolls_back : (x : Present) (t : Transaction) → IsBuiltNow x → transaction_at x.transactions.items t.id ≡ Some t → is_ended t.phase ≡ false → ComesTo x (rollback_transaction x (Some t)) Done (with_rollback x t)
-  pub tells : (x : Present) (t : Option Transaction) → IsBuiltNow x → ComesTo x (get_transaction_information x t) (information_of x t) x
-  pub finds : (x : Present) (process : Pid) (label : Label) (guid : List ℕ) (t : Transaction) → IsBuiltNow x → transaction_with x guid ≡ Some t
-      → ComesTo x (open_transaction x process label guid) Done (with_bound x process label (TransactionObject t.id))
-  pub duplicates : (x : Present) (process : Pid) (label : Label) (from : Pid) (source : Label) (object : Object) → IsBuiltNow x → object_at x.handles from source ≡ Some object
-      → ComesTo x (duplicate_handle x process label from source) Done (with_bound x process label object)
-  pub waits : (x : Present) (ms : ℕ) → IsBuiltNow x → ComesTo x (tick x ms) Done (with_tick x ms)
-  pub closes : (x : Present) (process : Pid) (label : Label) → IsBuiltNow x → ComesTo x (close_handle x process label) Done (with_handle_closed x process label)
-  pub exits : (x : Present) (process : Pid) → IsBuiltNow x → ComesTo x (exit x process) Done (with_process_gone x process)
 
 -- the passing of time rolls back the transactions that are due then, in order of creation
 abbrev pub TimeoutLaw : Type 0
-TimeoutLaw = (x : Present) (ms : ℕ) → IsSoundCourse x
-    → with_tick x ms ≡ fold with_rollback (with_clock x ms) (filter (is_due (later x.transactions.clock ms)) x.transactions.items)
+TimeoutLaw = (x : Present) (ms : ℕ) → IsSoundCourse x → IsBuiltNow x
+    → apply x (tick x ms) ≡ fold rolled_back (with_clock x ms) (filter (is_due (later x.transactions.clock ms)) x.transactions.items)
 
 -- the transaction that a label names is the one with its Id
 abbrev pub NamedLaw : Type 0

@@ -1,5 +1,5 @@
 pub mod Standing
-pub mod Forms
+pub mod Effects
 pub mod Courses
 pub mod Files
 pub mod Laws

@@ -1,5 +1,5 @@
 // Laws of worlds that have only what built forms make, each the contract of a function that does nothing.
-ghost use Rattle.ktm_built.specs.Laws.{FormsLaw, TimeoutLaw, NamedLaw, GuidLaw, DecidedLaw, EventsLaw, FilesLaw, StandingLaw, FreshLaw};
+ghost use Rattle.ktm_built.specs.Laws.{EffectsLaw, TimeoutLaw, NamedLaw, GuidLaw, DecidedLaw, EventsLaw, FilesLaw, StandingLaw, FreshLaw};
 
 use ktm_laws::{law_of_lawful_worlds, law_of_notes, law_of_sound_worlds};
 use ktm_limits::law_of_limits;
@@ -8,9 +8,9 @@ use ktm_states::{law_of_good_states, law_of_own_groups};
 use ktm_world::law_of_step;
 use txf_laws::law_of_reservations;
 
-/// Each call changes its own part of what is so now.
-pub fn law_of_forms()
-    ensures { FormsLaw }
+/// What an outcome makes of what is so now.
+pub fn law_of_effects()
+    ensures { EffectsLaw }
 {}
 
 /// Time rolls back the transactions that are due, each for itself.
@@ -47,7 +47,7 @@ pub fn law_of_files()
     law_of_spelling();
     law_of_reservations();
     law_of_file_calls();
-    law_of_forms();
+    law_of_effects();
     law_of_named();
 }
 

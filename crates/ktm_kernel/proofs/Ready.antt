@@ -19,7 +19,7 @@ use Rattle.ktm_world.specs.World.{decide_tick}
 use Rattle.ktm_built.specs.Laws.{StandingLaw}
 use Rattle.ktm_built.specs.Standing.{IsBuiltNow, IsStandingNow}
 use Rattle.ktm_built.proofs.offered.Decided.{decided_law}
-use Rattle.ktm_built.proofs.offered.Forms.{forms_law}
+use Rattle.ktm_built.proofs.offered.Decided.{done_tick}
 use Rattle.ktm_memory.specs.Recorded.{IsUntouched}
 use Rattle.ktm_kernel.specs.Answers.{AnswerLeaves, CallLeaves, IsAnswered, IsCallAnswered}
 use Rattle.ktm_kernel.specs.Done.{Ends, IsDone}
@@ -78,7 +78,7 @@ module _ (o : Outcome) (old new : OnDisk KernelState) (reply : Reply) (answered 
 -- nor is the passing of time refused while the machine is up
 pub tick_answered : (x : Present) (ms : ℕ) → IsBuiltNow x → x.machine.is_up ≡ true → (decide_tick x ms).reply ≡ Refused MachineDown → ⊥
 tick_answered x ms built up is =
-    let done = sym (forms_law.waits x ms built).replies ∙ ap (λ (o : Outcome). o.reply) (sym (decided_law.time x ms built up)) ∙ is in
+    let done = sym (done_tick x ms).says ∙ ap (λ (o : Outcome). o.reply) (sym (decided_law.time x ms built up)) ∙ is in
     absurd (cc)
 
 -- ---- a call

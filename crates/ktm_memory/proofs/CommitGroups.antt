@@ -18,7 +18,7 @@ use Rattle.ktm_types.specs.declared.reply.Reply.{Reply}
 use Rattle.ktm_types.specs.declared.reply.Reply.TheVariants.{Done}
 use Rattle.ktm_types.specs.declared.step.Step.{Step}
 use Rattle.ktm_world.specs.Changes.{changes_apply, has_changes}
-use Rattle.ktm_world.specs.Enlistments.{Enlistment, is_ended, superior_of}
+use Rattle.ktm_world.specs.Enlistments.{Enlistment, superior_of}
 use Rattle.ktm_world.specs.Files.{FilesNow, own_changes}
 use Rattle.ktm_world.specs.Keys.{OwnSettings, own_settings}
 use Rattle.ktm_world.specs.Phases.{has_settings}
@@ -26,10 +26,9 @@ use Rattle.ktm_world.specs.Present.{Present}
 use Rattle.ktm_world.specs.Rows.{aborts, row}
 use Rattle.ktm_world.specs.Steps.{basis, lasting_of, led, run, seen}
 use Rattle.ktm_world.specs.TransactionCalls.{arrived, commit_reply, commit_transaction, course_of, rollback_transaction}
-use Rattle.ktm_world.specs.Transactions.{transaction_at}
 use Rattle.ktm_built.specs.Courses.{LeadsOn}
 use Rattle.ktm_built.specs.Files.{MayCommitNow}
-use Rattle.ktm_built.specs.Forms.{changes_of, settings_of}
+use Rattle.ktm_built.specs.Effects.{changes_of, settings_of}
 use Rattle.ktm_built.specs.Standing.{IsBuiltNow}
 use Rattle.ktm_built.proofs.offered.Courses.{commit_is as commit_led, commit_leads, rollback_leads}
 use Rattle.txf_laws.specs.Reservations.{files_committed}

@@ -1,5 +1,5 @@
 -- Decisions of the layers.
-use Rattle.std.proofs.Common.{◌≡◌, ◌≢◌, ℕ, ◌-◌, true, false, List, [], Option, Some, None, refl, sym, ◌∙◌, ap, subst}
+use Rattle.std.proofs.Common.{◌≡◌, ◌≢◌, ℕ, ◌-◌, true, false, List, [], Some, None, refl, sym, ◌∙◌, ap, subst}
 use Rattle.arrayvec.specs.ArrayVec.{ArrayVec}
 use Rattle.ktm_types.specs.declared.step.Step.{Step}
 use Rattle.ktm_base.specs.declared.id.Label.{Label}
@@ -23,14 +23,16 @@ use Rattle.ktm_world.specs.TransactionCalls.{arrived, course_of, create_transact
 use Rattle.ktm_world.specs.Uses.{key_room}
 use Rattle.ktm_built.specs.Standing.{IsBuiltNow, IsStandingNow}
 use Rattle.ktm_built.proofs.offered.Courses.{arrived-apply, arrived-events, arrived-reply}
-use Rattle.ktm_built.proofs.offered.Forms.{forms_law}
+use Rattle.ktm_built.proofs.offered.Applied.{apply-reply}
+use Rattle.ktm_built.proofs.offered.Decided.{done_tick}
+use Rattle.ktm_built.proofs.offered.Quiet.{quiet_tick}
 use Rattle.ktm_memory.specs.declared.settlement.Labels.{Labels}
 use Rattle.ktm_memory.specs.declared.settlement.Settlement.{Settlement}
 use Rattle.ktm_memory.specs.declared.settlement.Settlement.TheVariants.{Nothing, Begin, Course, Handles, Pass}
 use Rattle.ktm_memory.specs.declared.decide.Asked.{Asked}
 use Rattle.ktm_memory.specs.Route.{asked_outcome}
 use Rattle.ktm_memory.proofs.Routes.{up_or}
-use Rattle.ktm_memory.proofs.Left.{create_comes}
+use Rattle.ktm_memory.proofs.Left.{create_silent}
 use Rattle.ktm_memory.specs.Decided.{Decides, IsDone}
 use Rattle.ktm_records.proofs.offered.NoMore.{fits-within}
 use Rattle.ktm_memory.proofs.offered.Standing.{built, kept}
@@ -88,7 +90,7 @@ keys_decided h n o reply events built says same holds =
       room = refl;
       journal = ap (λ (k : Held). k.journal) same;
       group = refl;
-      comes_to = forms_law.replies (present_of n) Done built_then ∙ ap now_of same ∙ sym (ap (λ (x : Present). record x { keys = record x.keys { own = o.own } }) (forms_law.replies (now_of h) o.reply built));
+      comes_to = apply-reply (present_of n) Done refl ∙ ap now_of same ∙ sym (ap (λ (x : Present). record x { keys = record x.keys { own = o.own } }) (apply-reply (now_of h) o.reply refl));
       built = built_then;
       may = tt;
       waits = λ some. absurd (some refl);
@@ -108,9 +110,8 @@ pub tick_decided : (m : MemoryState) (ms : ℕ) (events : EventsState) → m.is_
     → Decides (held m) (asked_outcome (present_of m) (Asked.Tick ms)) Done (Pass ms) events m
 tick_decided m ms events up standing holds =
     let x = present_of m in
-    let comes = forms_law.waits x ms (built x standing) in
     subst (λ o. Decides (held m) o Done (Pass ms) events m) (sym (up_or x [] (tick x ms) up))
-    (quiet_decided (held m) m (tick x ms) Done (Pass ms) events (built x standing) (sym comes.replies) comes.records refl refl refl
+    (quiet_decided (held m) m (tick x ms) Done (Pass ms) events (built x standing) (sym (done_tick x ms).says) (quiet_tick x ms (built x standing)).silent.records refl refl refl
     ((kept x standing).sound.course.transactions.rise, (fits-within x (kept x standing).within).live) holds)
 
 -- ---- CreateTransaction
@@ -121,7 +122,7 @@ pub create_decided : (h : Held) (n : MemoryState) (process : Pid) (label : Label
 create_decided h n process label timeout reply events built says same may holds o is =
     let made = create_transaction (now_of h) process label timeout in
     subst (λ o. Decides h o reply (Begin process label timeout) events n) (sym is)
-    (quiet_decided h n made reply (Begin process label timeout) events built says (create_comes (now_of h) process label timeout built).records same refl refl may holds)
+    (quiet_decided h n made reply (Begin process label timeout) events built says (create_silent (now_of h) process label timeout).records same refl refl may holds)
 
 -- the reply tells the GUID of that Id
 pub create_says : (h : Held) (process : Pid) (label : Label) (timeout : ℕ) (guid : List ℕ) (image : ℕ) (id : Id)

@@ -1,5 +1,5 @@
 -- Decisions of the calls on files.
-use Rattle.std.proofs.Common.{◌≡◌, ◌≢◌, ℕ, ◌+◌, ◌-◌, ◌≤◌, ◌&&◌, true, false, List, [], ◌∷◌, length, Option, Some, None, is_none, is_some, refl, sym, ◌∙◌, ap, subst, arith}
+use Rattle.std.proofs.Common.{◌≡◌, ◌≢◌, ℕ, ◌-◌, ◌≤◌, ◌&&◌, true, false, List, [], ◌∷◌, length, Option, Some, None, is_none, is_some, refl, sym, ◌∙◌, ap, subst}
 use Rattle.std.proofs.lemmas.Bool.{and_parts}
 use Rattle.std.specs.Option.{option_map}
 use Rattle.ktm_base.specs.declared.limits.TheConstants.{MOST_HANDLES}
@@ -15,7 +15,7 @@ use Rattle.ktm_types.specs.declared.options.Access.{Access}
 use Rattle.ktm_types.specs.declared.options.Disposition.{Disposition}
 use Rattle.ktm_types.specs.declared.options.ShareMode.{ShareMode}
 use Rattle.ktm_types.specs.declared.reply.Reply.TheVariants.{Done, Refused}
-use Rattle.ktm_world.specs.Decide.{events_of, opening}
+use Rattle.ktm_world.specs.Decide.{events_of}
 use Rattle.ktm_world.specs.FileOutcome.{FileOutcome, FileRoom, files_after}
 use Rattle.ktm_world.specs.Files.{FilesNow, OpenFile, tree_seen}
 use Rattle.ktm_world.specs.FileCalls.{Whereabouts, no_path, no_way, free, at_root, at_node, create_at, create_directory, create_file, delete_file, drop_at, find_files, find_path, get_size, make_at, move_at, move_file, read_file, remove_directory, set_end, write_file}
@@ -24,10 +24,8 @@ use Rattle.ktm_world.specs.Keys.{changes_pending as keys_unset}
 use Rattle.ktm_world.specs.Present.{Present}
 use Rattle.ktm_world.specs.Uses.{file_room}
 use Rattle.ktm_built.specs.Files.{MayMake, MayMakePlain}
-use Rattle.ktm_built.specs.Forms.{with_files, with_group}
 use Rattle.ktm_built.specs.Standing.{IsBuiltNow}
-use Rattle.ktm_built.proofs.offered.Forms.{forms_law}
-use Rattle.ktm_memory.specs.declared.settlement.Settlement.{Settlement}
+use Rattle.ktm_built.proofs.offered.Applied.{apply-reply}
 use Rattle.ktm_memory.specs.declared.settlement.Settlement.TheVariants.{Change as PlainChange}
 use Rattle.ktm_memory.specs.Decided.{CanAnswer, Decides, bind_opened}
 use Rattle.ktm_memory.specs.Memory.{CanMakePlain, Held, MayBind, MaySettle, MemoryState, held, now_of, present_of}
@@ -35,9 +33,8 @@ use Rattle.ktm_memory.specs.Route.{IsFreeLabel, IsReadyCall}
 use Rattle.ktm_memory.specs.Opening.{files_outcome}
 use Rattle.ktm_memory.specs.Takes.{is_quiet}
 use Rattle.ktm_memory.proofs.Decides.{decided}
-use Rattle.ktm_memory.proofs.Left.{events_in, labels_come, left_by, no_group, reply_of}
+use Rattle.ktm_memory.proofs.Left.{bound_leaves, events_in, left_by, no_group, reply_of}
 use Rattle.ktm_memory.specs.Settled.{handles_then, left_to_do}
-use Rattle.ktm_memory.specs.declared.settlement.Labels.TheVariants.{Bind}
 use Rattle.ktm_types.specs.declared.object.Object.TheVariants.{File as FileObject}
 use Rattle.txf_calls.specs.Calls.{file_effect, file_outcome, file_tests, unless_refused}
 use Rattle.txf_opens.specs.Acts.{open_of}
@@ -101,9 +98,9 @@ bound_quiet x process (Some l) (Some file) = refl
 
 bound : (x : Present) (process : Pid) (label : Option Label) (opened : Option Kept) → IsBuiltNow x
     → apply x (left_to_do x (bind_opened process label opened)) ≡ record x { handles = handles_then x.handles process label (option_map open_of opened) }
-bound x process None opened built = forms_law.replies x Done built
-bound x process (Some l) None built = forms_law.replies x Done built
-bound x process (Some l) (Some file) built = (labels_come x process (Bind l (FileObject file.number)) built tt).leaves
+bound x process None opened built = apply-reply x Done built.managers
+bound x process (Some l) None built = apply-reply x Done built.managers
+bound x process (Some l) (Some file) built = bound_leaves x process l (FileObject file.number) built.managers
 
 pub own_decided : (h : Held) (n : MemoryState) (process : Pid) (id : Id) (label : Option Label) (o : FileOutcome) (opened : Option Kept) (events : EventsState) → IsBuiltNow (now_of h)
     → held n ≡ record h { files = files_after h.files (Some id) o } → option_map open_of opened ≡ o.opened → MaySettle n (bind_opened process label opened) → Holds events []

@@ -1,31 +1,36 @@
 -- What is left to do once events are in the journal comes to what the model's own outcome comes to.
-use Rattle.std.proofs.Common.{◌≡◌, ℕ, ◌+◌, Bool, true, false, cond, List, [], Option, Some, None, is_some, refl, sym, ◌∙◌, ap, arith}
+use Rattle.std.specs.Option.{option_map}
+use Rattle.std.proofs.Common.{◌≡◌, ℕ, ◌+◌, Bool, true, false, cond, List, [], Option, Some, None, refl, sym, ◌∙◌, ap, arith}
 use Rattle.ktm_base.specs.declared.id.Label.{Label}
 use Rattle.ktm_base.specs.declared.id.Pid.{Pid}
 use Rattle.ktm_types.specs.declared.event.Event.{Event}
 use Rattle.ktm_types.specs.declared.object.Object.{Object}
 use Rattle.ktm_types.specs.declared.object.Transaction.{Transaction}
-use Rattle.ktm_types.specs.declared.reply.Reply.TheVariants.{Done}
 use Rattle.ktm_base.specs.declared.id.Id.{Id}
 use Rattle.ktm_world.specs.Decide.{events_of, opening}
 use Rattle.ktm_world.specs.FileOutcome.{FileOutcome}
 use Rattle.ktm_world.specs.Files.{OpenFile}
-use Rattle.ktm_world.specs.HandleCalls.{duplicate_handle}
+use Rattle.ktm_types.specs.declared.object.Handle.{Handle}
+use Rattle.ktm_world.specs.HandleCalls.{bind_to, duplicate_handle}
 use Rattle.ktm_world.specs.Handles.{object_at}
 use Rattle.ktm_world.specs.Labels.{with_handle}
 use Rattle.ktm_world.specs.Outcome.{Outcome, apply}
 use Rattle.ktm_world.specs.Present.{Present}
 use Rattle.ktm_world.specs.TransactionCalls.{create_transaction, opened_object}
 use Rattle.ktm_world.specs.Transactions.{is_undecided}
-use Rattle.ktm_built.specs.Courses.{with_changed, with_committed, with_forgotten, with_moved}
-use Rattle.ktm_built.specs.Forms.{ComesTo, with_bound, with_files, with_group, with_transaction}
+use Rattle.ktm_built.specs.Courses.{with_changed, with_forgotten, with_moved}
+use Rattle.ktm_built.specs.Effects.{IsSilent, with_files, with_group}
 use Rattle.ktm_built.specs.Standing.{IsBuiltNow}
-use Rattle.ktm_built.proofs.offered.Forms.{forms_law}
+use Rattle.ktm_built.proofs.offered.Applied.{apply-kept}
+use Rattle.ktm_built.proofs.offered.Decided.{done_close, done_exit}
+use Rattle.ktm_built.proofs.offered.Effects.{effects_law}
+use Rattle.ktm_built.proofs.offered.Quiet.{quiet_close, quiet_exit}
 use Rattle.ktm_journal.specs.Image.{JournalState}
-use Rattle.ktm_memory.specs.Memory.{Held, MayHandle, MemoryState, appended, held, logged, now_of, present_of}
+use Rattle.ktm_memory.specs.Memory.{Held, MemoryState, appended, held, logged, now_of, present_of}
 use Rattle.ktm_memory.proofs.offered.Settling.{built_on}
 use Rattle.ktm_memory.specs.Opening.{files_outcome}
-use Rattle.ktm_memory.specs.Settled.{before, handles_then, labels_outcome, with_bound_to, with_change_made, with_labels}
+use Rattle.ktm_memory.specs.Decided.{IsDone}
+use Rattle.ktm_memory.specs.Settled.{before, handles_then, labels_outcome, with_change_made}
 use Rattle.ktm_memory.specs.declared.settlement.Labels.{Labels}
 use Rattle.ktm_memory.specs.declared.settlement.Labels.TheVariants.{Bind, Duplicate, Unbind, UnbindAll}
 
@@ -71,47 +76,36 @@ moved_aside t then' false x events = go (is_undecided then')
 
 -- ---- what calls come to that record nothing
 
-pub create_comes : (x : Present) (process : Pid) (label : Label) (timeout : ℕ) → IsBuiltNow x
-    → ComesTo x (create_transaction x process label timeout) (create_transaction x process label timeout).reply (with_transaction x process label timeout)
+pub create_silent : (x : Present) (process : Pid) (label : Label) (timeout : ℕ) → IsSilent (create_transaction x process label timeout)
 unfolding create_transaction
-create_comes x process label timeout built = record { replies = refl; records = refl; commits = refl; goes_on = refl; leaves = forms_law.creates x process label timeout built }
+create_silent x process label timeout = record { records = refl; commits = refl; opens = refl; makes = refl; takes = refl; goes_on = refl }
 
 -- a label bound to an object
-bound_comes : (x : Present) (process : Pid) (label : Label) (object : Object) → IsBuiltNow x → ComesTo x (opened_object x process label object) Done (with_bound x process label object)
-bound_comes x process label object built = record {
-  replies = refl;
-  records = refl;
-  commits = refl;
-  goes_on = refl;
-  leaves = ap (λ (y : Present). record y { handles = with_handle x.handles process label object }) (forms_law.replies x Done built);
-}
+pub bound_leaves : (x : Present) (process : Pid) (label : Label) (object : Object) → x.managers ≡ [] → apply x (opened_object x process label object) ≡ record x { handles = with_handle x.handles process label object }
+bound_leaves x process label object none =
+    apply-kept x (opened_object x process label object) none (record { records = refl; commits = refl; opens = refl; makes = refl; takes = refl; goes_on = refl }) refl
 
 -- a label bound to what another one names
-duplicated_comes : (x : Present) (process : Pid) (label : Label) (from : Pid) (source : Label) → IsBuiltNow x → is_some (object_at x.handles from source) ≡ true
-    → ComesTo x (duplicate_handle x process label from source) Done (with_bound_to x process label (object_at x.handles from source))
-duplicated_comes x process label from source built there = go (object_at x.handles from source) refl there
+pub duplicated_leaves : (x : Present) (process : Pid) (label : Label) (from : Pid) (source : Label) (handles : List Handle) → x.managers ≡ []
+    → Some handles ≡ option_map (with_handle x.handles process label) (object_at x.handles from source) → record x { handles = handles } ≡ apply x (duplicate_handle x process label from source)
+unfolding duplicate_handle
+duplicated_leaves x process label from source handles none is = go (object_at x.handles from source) is
   where
-    go : (named : Option Object) → object_at x.handles from source ≡ named → is_some named ≡ true → ComesTo x (duplicate_handle x process label from source) Done (with_bound_to x process label named)
-    go None is there = absurd (cc)
-    go (Some object) is there = forms_law.duplicates x process label from source object built is
+    go : (named : Option Object) → Some handles ≡ option_map (with_handle x.handles process label) named → record x { handles = handles } ≡ apply x (bind_to x process label named)
+    go None is = absurd (cc)
+    go (Some object) is = let same : handles ≡ with_handle x.handles process label object = cc in ap (λ (hs : List Handle). record x { handles = hs }) same ∙ sym (bound_leaves x process label object none)
 
--- a source that is to be duplicated is there
-abbrev pub IsSourceThere : Present → Labels → Type 0
-IsSourceThere x (Duplicate label from source) = is_some (object_at x.handles from source) ≡ true
-IsSourceThere x labels = Unit {0}
-
-pub source_there : (m : MemoryState) (j : JournalState) (process : Pid) (labels : Labels) → MayHandle m process labels → IsSourceThere (before m j) labels
-source_there m j process (Bind label object) may = tt
-source_there m j process (Duplicate label from source) may = may.2
-source_there m j process (Unbind label) may = tt
-source_there m j process UnbindAll may = tt
-
--- labels that are bound and unbound
-pub labels_come : (x : Present) (process : Pid) (labels : Labels) → IsBuiltNow x → IsSourceThere x labels → ComesTo x (labels_outcome x process labels) Done (with_labels x process labels)
-labels_come x process (Bind label object) built there = bound_comes x process label object built
-labels_come x process (Duplicate label from source) built there = duplicated_comes x process label from source built there
-labels_come x process (Unbind label) built there = forms_law.closes x process label built
-labels_come x process UnbindAll built there = forms_law.exits x process built
+-- what becomes of labels is done, and records nothing
+pub labels_done : (x : Present) (process : Pid) (labels : Labels) → IsBuiltNow x → IsDone (labels_outcome x process labels)
+unfolding duplicate_handle
+labels_done x process (Bind label object) built = record { replies = refl; records = refl }
+labels_done x process (Duplicate label from source) built = go (object_at x.handles from source)
+  where
+    go : (named : Option Object) → IsDone (bind_to x process label named)
+    go None = record { replies = refl; records = refl }
+    go (Some object) = record { replies = refl; records = refl }
+labels_done x process (Unbind label) built = record { replies = (done_close x process label).says; records = (quiet_close x process label built).silent.records }
+labels_done x process UnbindAll built = record { replies = (done_exit x process).says; records = (quiet_exit x process built).silent.records }
 
 -- ---- what an outcome of files answers and records
 
@@ -134,8 +128,8 @@ events_in x process who (Some l) o = go o.opened
 -- what it leaves
 pub left_by : (x : Present) (process : Pid) (who : Option Id) (label : Option Label) (o : FileOutcome) → IsBuiltNow x
     → apply x (files_outcome x process who label o) ≡ record (with_files x who o) { handles = handles_then x.handles process label o.opened }
-left_by x process who None o built = forms_law.files x who o built
-left_by x process who (Some l) o built = forms_law.opens x process l who o built
+left_by x process who None o built = effects_law.files x who o built
+left_by x process who (Some l) o built = effects_law.opens x process l who o built
 
 -- what a plain call leaves
 pub change_leaves : (x : Present) (process : Pid) (label : Option Label) (plan : FileOutcome) → IsBuiltNow x

@@ -1,52 +1,48 @@
 -- What the layers make of what is so now, where a settlement is made.
-use Rattle.std.proofs.Common.{◌≡◌, ℕ, Bool, true, false, cond, not, List, [], ◌∷◌, Option, Some, None, refl, sym, ◌∙◌, ap, inl, inr}
-use Rattle.std.proofs.lemmas.Bool.{cases_Bool, false_from_ne_true}
-use Rattle.std.specs.Option.{option_map}
+use Rattle.std.proofs.Common.{◌≡◌, ℕ, Bool, true, false, cond, not, List, [], Option, Some, None, refl, sym, ◌∙◌, ap}
+use Rattle.std.proofs.lemmas.Bool.{false_from_ne_true}
 use Rattle.ktm_base.specs.declared.id.Id.{Id}
 use Rattle.ktm_base.specs.declared.id.Label.{Label}
 use Rattle.ktm_base.specs.declared.id.Pid.{Pid}
 use Rattle.ktm_types.specs.declared.object.Handle.{Handle}
 use Rattle.ktm_types.specs.declared.object.Object.{Object}
-use Rattle.ktm_types.specs.declared.object.Object.TheVariants.{Transaction as TransactionObject, Manager as ManagerObject, Enlistment as EnlistmentObject, File as FileObject}
+use Rattle.ktm_types.specs.declared.event.Event.{Event}
+use Rattle.ktm_types.specs.declared.object.Object.TheVariants.{Transaction as TransactionObject, File as FileObject}
 use Rattle.ktm_types.specs.declared.object.Phase.{Phase}
 use Rattle.ktm_types.specs.declared.object.Phase.TheVariants.{Active}
 use Rattle.ktm_types.specs.declared.object.Transaction.{Transaction}
+use Rattle.ktm_types.specs.declared.reply.Reply.TheVariants.{Done}
+use Rattle.ktm_tm.specs.TmState.{next_id, with_new}
+use Rattle.ktm_world.specs.Enlistments.{is_ended}
 use Rattle.ktm_world.specs.Durable.{next_after_all}
 use Rattle.ktm_world.specs.Files.{FilesNow, committed_files, own_changes}
-use Rattle.ktm_world.specs.HandleCalls.{closed_file, has_handle}
+use Rattle.ktm_world.specs.HandleCalls.{abort_active, closed_file, handle_gone, has_handle, last_handle_gone}
 use Rattle.ktm_world.specs.Keys.{own_settings, stored_all, without_own}
 use Rattle.ktm_world.specs.Labels.{with_handle}
+use Rattle.ktm_world.specs.Outcome.{apply, only_reply}
+use Rattle.ktm_world.specs.Phases.{event_if}
 use Rattle.ktm_world.specs.Present.{Present, Transactions}
-use Rattle.ktm_world.specs.Transactions.{change_at, is_active, is_undecided, same_id, transaction_at}
+use Rattle.ktm_world.specs.Transactions.{change_at, is_active, is_undecided, transaction_at}
 use Rattle.ktm_world.specs.Tree.{Tree}
 use Rattle.txf_laws.specs.Reservations.{files_committed}
 use Rattle.txf_laws.proofs.offered.Reservations.{tree-of}
-use Rattle.txf_laws.specs.FileEffects.{forgotten}
-use Rattle.ktm_built.specs.Forms.{ended_aborted, with_file_closed, with_handle_gone, with_rollback, with_rollback_if_active}
+use Rattle.ktm_built.specs.Effects.{rolled_back, with_group}
+use Rattle.ktm_built.specs.Standing.{IsBuiltNow}
+use Rattle.ktm_built.proofs.offered.Applied.{apply-kept, apply-reply}
+use Rattle.ktm_built.proofs.offered.Quiet.{not_recorded, rolled_transactions}
 use Rattle.ktm_built.specs.Courses.{with_changed, with_committed, with_forgotten, with_moved}
-use Rattle.ktm_built.proofs.offered.Courses.{rollback_ends}
+use Rattle.ktm_built.proofs.offered.Courses.{ended_aborted, led_on, rollback_comes, rollback_leads}
 use Rattle.ktm_world.specs.Rows.{aborts}
-use Rattle.ktm_world.specs.Steps.{run}
-use Rattle.ktm_world.specs.TransactionCalls.{course_of}
+use Rattle.ktm_world.specs.Steps.{led, run}
+use Rattle.ktm_world.specs.TransactionCalls.{aborted_by, course_of, create_transaction}
 use Rattle.ktm_memory.specs.Memory.{Held, MemoryState, now_of, present_of}
-use Rattle.ktm_memory.specs.Settled.{with_bound_to}
+use Rattle.ktm_memory.proofs.Left.{create_silent, no_group}
 
 -- ---- a transaction that ends
 
--- the one with its Id is changed as it is, once it is found
-pub changed_as_found : (ts : List Transaction) (t : Transaction) (f : Transaction → Transaction) → transaction_at ts t.id ≡ Some t → change_at ts t.id (λ other. f t) ≡ change_at ts t.id f
-changed_as_found [] t f is = refl
-changed_as_found (x ∷ xs) t f is = elim (cases_Bool (same_id x.id t.id)) [
-  | inl same ↦ (let it : Some x ≡ Some t = rw same at is in rw same (ap (λ (y : Transaction). f y ∷ xs) (some_same it)))
-  | inr other ↦ rw other (ap (λ (l : List Transaction). x ∷ l) (changed_as_found xs t f (rw other at is)))
-]
-  where
-    some_same : {a b : Transaction} → Some a ≡ Some b → b ≡ a
-    some_same e = cc
-
 -- which transactions there are then
-pub items_then : (m n : MemoryState) (t : Transaction) → present_of n ≡ with_rollback (present_of m) t → n.tm.now.items ≡ change_at m.tm.now.items t.id ended_aborted
-items_then m n t rolled = ap (λ x. x.transactions.items) rolled
+pub items_then : (m n : MemoryState) (t : Transaction) → IsBuiltNow (present_of m) → transaction_at m.tm.now.items t.id ≡ Some t → present_of n ≡ rolled_back (present_of m) t → n.tm.now.items ≡ change_at m.tm.now.items t.id ended_aborted
+items_then m n t built there rolled = ap (λ x. x.transactions.items) rolled ∙ ap (λ ts. ts.items) (rolled_transactions (present_of m) t Done built there)
 
 -- its work is committed: what is recorded has the tree of the files and the store of the keys
 pub work_committed : (h : Held) (id : Id) (files : FilesNow) → files ≡ files_committed h.files id
@@ -82,10 +78,13 @@ moved_kept x y t then' commits is known are =
     ap (λ (z : Present). with_changed z t then') are ∙ sym (ap (λ b. cond b (with_changed x t then') (with_changed (with_forgotten x t.id) t then')) known) ∙ ap (with_moved x t then') (sym is)
 
 -- it has rolled back
-pub rolled_back : (x : Present) (t : Transaction) → x.transactions.enlistments ≡ [] → transaction_at x.transactions.items t.id ≡ Some t → with_moved x t (run aborts (course_of x t None)).transaction false ≡ with_rollback x t
-rolled_back x t none there =
-    ap (λ (u : Transaction). with_moved x t u false) (rollback_ends x t none)
-    ∙ ap (λ (ts : List Transaction). record (with_rollback x t) { transactions = record x.transactions { items = ts } }) (changed_as_found x.transactions.items t ended_aborted there)
+pub rolled : (x : Present) (t : Transaction) → IsBuiltNow x → transaction_at x.transactions.items t.id ≡ Some t → is_ended t.phase ≡ false → with_moved x t (run aborts (course_of x t None)).transaction false ≡ rolled_back x t
+unfolding led
+rolled x t built there live =
+    let c = run aborts (course_of x t None) in
+    let then' = with_moved x t c.transaction false in
+    let none = (rollback_comes x t built).events ∙ ap (λ b. event_if b (Event.Undo t.id)) (not_recorded x t built there live) in
+    sym (led_on x t aborts Done built (rollback_leads x t built) ∙ ap (with_group then') none ∙ no_group then')
 
 -- ---- an active transaction rolls back
 
@@ -99,14 +98,15 @@ active_to t active = go t.phase active
     go Active active = refl
     go _ active = absurd (cc)
 
-pub active_rolled : (x : Present) (found : Option Transaction) (t : Transaction) → found ≡ Some t → t.phase ≡ Active → with_rollback x t ≡ with_rollback_if_active x found
-active_rolled x found t is active = sym (ap (with_rollback_if_active x) is ∙ ap (λ b. cond b (with_rollback x t) x) (active_from t active))
+pub active_rolled : (x : Present) (found : Option Transaction) (t : Transaction) → found ≡ Some t → t.phase ≡ Active → rolled_back x t ≡ apply x (abort_active x found)
+active_rolled x found t is active = sym (ap (λ o. apply x (abort_active x o)) is ∙ ap (λ b. apply x (cond b (aborted_by x t None Done) (only_reply x Done))) (active_from t active))
 
-pub others_stay : (x : Present) (found : Option Transaction) (t : Transaction) → found ≡ Some t → (t.phase ≡ Active → ⊥) → x ≡ with_rollback_if_active x found
-others_stay x found t is other = sym (ap (with_rollback_if_active x) is ∙ ap (λ b. cond b (with_rollback x t) x) (false_from_ne_true (is_active t) (λ active. other (active_to t active))))
+pub others_stay : (x : Present) (found : Option Transaction) (t : Transaction) → x.managers ≡ [] → found ≡ Some t → (t.phase ≡ Active → ⊥) → x ≡ apply x (abort_active x found)
+others_stay x found t none is other =
+    sym (ap (λ o. apply x (abort_active x o)) is ∙ ap (λ b. apply x (cond b (aborted_by x t None Done) (only_reply x Done))) (false_from_ne_true (is_active t) (λ active. other (active_to t active))) ∙ apply-reply x Done none)
 
-pub none_stays : (x : Present) (found : Option Transaction) → found ≡ None → x ≡ with_rollback_if_active x found
-none_stays x found is = sym (ap (with_rollback_if_active x) is)
+pub none_stays : (x : Present) (found : Option Transaction) → x.managers ≡ [] → found ≡ None → x ≡ apply x (abort_active x found)
+none_stays x found none is = sym (ap (λ o. apply x (abort_active x o)) is ∙ apply-reply x Done none)
 
 -- ---- a handle that is gone
 
@@ -121,32 +121,29 @@ false_from_not true true only is = absurd (cc)
 false_from_not true false only is = refl
 
 -- another handle names the object
-pub others_name : (x : Present) (object : Object) (last : Bool) → not last ≡ true → last ≡ not (has_handle x.handles object) → x ≡ with_handle_gone x (Some object)
-others_name x (TransactionObject id) last other is =
-    sym (ap (λ b. cond b x (with_rollback_if_active x (transaction_at x.transactions.items id))) (true_from_not last (has_handle x.handles (TransactionObject id)) other is))
-others_name x (ManagerObject id) last other is = refl
-others_name x (EnlistmentObject id) last other is = refl
-others_name x (FileObject number) last other is = sym (ap (λ b. cond b x (with_file_closed x number)) (true_from_not last (has_handle x.handles (FileObject number)) other is))
+pub others_name : (x : Present) (object : Object) (last : Bool) → x.managers ≡ [] → not last ≡ true → last ≡ not (has_handle x.handles object) → x ≡ apply x (handle_gone (Some object) x)
+others_name x object last none other is =
+    sym (ap (λ b. apply x (cond b (only_reply x Done) (last_handle_gone x object))) (true_from_not last (has_handle x.handles object) other is) ∙ apply-reply x Done none)
+
+-- no other one does
+pub none_names : (x : Present) (object named : Object) (last : Bool) → object ≡ named → not last ≡ false → last ≡ not (has_handle x.handles object) → apply x (last_handle_gone x named) ≡ apply x (handle_gone (Some object) x)
+none_names x object named last are only is =
+    sym (ap (λ b. apply x (cond b (only_reply x Done) (last_handle_gone x object))) (false_from_not last (has_handle x.handles object) only is) ∙ ap (λ o. apply x (last_handle_gone x o)) are)
 
 -- the file is closed
-pub file_closed : (h : Held) (number : ℕ) (files : FilesNow) → files ≡ record h.files { table = closed_file h.files.table number } → now_of (record h { files = files }) ≡ with_file_closed (now_of h) number
-file_closed h number files are = ap (λ (fs : FilesNow). now_of (record h { files = fs })) are
+pub file_closed : (h : Held) (number : ℕ) (files : FilesNow) → files ≡ record h.files { table = closed_file h.files.table number } → now_of (record h { files = files }) ≡ apply (now_of h) (last_handle_gone (now_of h) (FileObject number))
+file_closed h number files are =
+    ap (λ (fs : FilesNow). now_of (record h { files = fs })) are
+    ∙ sym (apply-kept (now_of h) (last_handle_gone (now_of h) (FileObject number)) refl (record { records = refl; commits = refl; opens = refl; makes = refl; takes = refl; goes_on = refl }) refl)
 
--- none names the transaction
-pub none_names_transaction : (x : Present) (object : Object) (id : Id) (last : Bool) → object ≡ TransactionObject id → not last ≡ false → last ≡ not (has_handle x.handles object)
-    → with_rollback_if_active x (transaction_at x.transactions.items id) ≡ with_handle_gone x (Some object)
-none_names_transaction x object id last named only is =
-    sym (ap (λ o. with_handle_gone x (Some o)) named ∙ ap (λ b. cond b x (with_rollback_if_active x (transaction_at x.transactions.items id))) (ap (λ o. has_handle x.handles o) (sym named) ∙ false_from_not last (has_handle x.handles object) only is))
+-- ---- a transaction that begins
 
--- none names the file
-pub none_names_file : (x : Present) (object : Object) (number : ℕ) (last : Bool) → object ≡ FileObject number → not last ≡ false → last ≡ not (has_handle x.handles object)
-    → with_file_closed x number ≡ with_handle_gone x (Some object)
-none_names_file x object number last named only is =
-    sym (ap (λ o. with_handle_gone x (Some o)) named ∙ ap (λ b. cond b x (with_file_closed x number)) (ap (λ o. has_handle x.handles o) (sym named) ∙ false_from_not last (has_handle x.handles object) only is))
-
--- ---- a label that is bound to what another one names
-
-pub bound_as_named : (x : Present) (process : Pid) (label : Label) (handles : List Handle) (named : Option Object) → Some handles ≡ option_map (with_handle x.handles process label) named
-    → record x { handles = handles } ≡ with_bound_to x process label named
-bound_as_named x process label handles None is = absurd (cc)
-bound_as_named x process label handles (Some object) is = let same : handles ≡ with_handle x.handles process label object = cc in ap (λ (hs : List Handle). record x { handles = hs }) same
+pub begun : (h : Held) (process : Pid) (label : Label) (timeout boot : ℕ) (now : Transactions) (handles : List Handle) (id : Id) → boot ≡ h.boot → now ≡ with_new h.boot h.transactions timeout
+    → id ≡ next_id h.boot h.transactions → handles ≡ with_handle h.handles process label (TransactionObject id)
+    → now_of (record h { boot = boot; transactions = now; handles = handles }) ≡ apply (now_of h) (create_transaction (now_of h) process label timeout)
+unfolding create_transaction
+begun h process label timeout boot now handles id boots are is bound =
+    ap (λ (b : ℕ). now_of (record h { boot = b; transactions = now; handles = handles })) boots
+    ∙ ap (λ (ts : Transactions). now_of (record h { transactions = ts; handles = handles })) are
+    ∙ ap (λ (hs : List Handle). now_of (record h { transactions = with_new h.boot h.transactions timeout; handles = hs })) (bound ∙ ap (λ (i : Id). with_handle h.handles process label (TransactionObject i)) is)
+    ∙ sym (apply-kept (now_of h) (create_transaction (now_of h) process label timeout) refl (create_silent (now_of h) process label timeout) refl)

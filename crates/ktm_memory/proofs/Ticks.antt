@@ -6,10 +6,16 @@ use Rattle.ktm_base.specs.declared.id.Id.{Id}
 use Rattle.ktm_types.specs.declared.object.Phase.{Phase}
 use Rattle.ktm_types.specs.declared.object.Phase.TheVariants.{Ended}
 use Rattle.ktm_types.specs.declared.object.Transaction.{Transaction}
-use Rattle.ktm_world.specs.Present.{Present}
+use Rattle.ktm_types.specs.declared.reply.Reply.TheVariants.{Done}
+use Rattle.ktm_world.specs.Outcome.{apply}
+use Rattle.ktm_world.specs.Present.{Present, Transactions}
 use Rattle.ktm_world.specs.Transactions.{same_id, transaction_at, change_at, is_live}
-use Rattle.ktm_world.specs.TransactionCalls.{is_due, later, may_roll_back, with_clock}
-use Rattle.ktm_built.specs.Forms.{ended_aborted, with_rollback, with_tick}
+use Rattle.ktm_world.specs.TransactionCalls.{is_due, later, may_roll_back, tick, with_clock}
+use Rattle.ktm_built.specs.Effects.{rolled_back}
+use Rattle.ktm_built.specs.Standing.{IsBuiltNow}
+use Rattle.ktm_built.proofs.offered.Applied.{built_aside}
+use Rattle.ktm_built.proofs.offered.Courses.{ended_aborted}
+use Rattle.ktm_built.proofs.offered.Quiet.{rolled_transactions}
 use Rattle.ktm_built.proofs.offered.Distinct.{Rise, rise-first, rise-found, rise-rest}
 use Rattle.ktm_built.proofs.offered.Timeouts.{in_turn}
 use Rattle.ktm_forms.proofs.Ids.{same_id-self}
@@ -86,20 +92,22 @@ none_left (t ∷ ts) (suc i) at = none_left ts i at
 
 -- what is so once each live transaction from this place on has rolled back that is due
 abbrev pub ticked_from : Present → ℕ → Present
-ticked_from x i = fold with_rollback x (filter (is_due x.transactions.clock) (drop i (filter is_live x.transactions.items)))
+ticked_from x i = fold rolled_back x (filter (is_due x.transactions.clock) (drop i (filter is_live x.transactions.items)))
 
-pub ticked_all : (x : Present) (ms : ℕ) → Rise x.transactions.items → ticked_from (with_clock x ms) 0 ≡ with_tick x ms
-ticked_all x ms rise =
-    ap (λ (ts : List Transaction). fold with_rollback (with_clock x ms) ts) (due_live (later x.transactions.clock ms) x.transactions.items)
-    ∙ sym (in_turn (with_clock x ms) x.transactions.items rise (rise-found x.transactions.items rise))
+pub ticked_all : (x : Present) (ms : ℕ) → IsBuiltNow x → Rise x.transactions.items → ticked_from (with_clock x ms) 0 ≡ apply x (tick x ms)
+unfolding tick
+ticked_all x ms built rise =
+    ap (λ (ts : List Transaction). fold rolled_back (with_clock x ms) ts) (due_live (later x.transactions.clock ms) x.transactions.items)
+    ∙ sym (in_turn (with_clock x ms) x.transactions.items (built_aside x (with_clock x ms) built) rise (rise-found x.transactions.items rise))
 
 pub ticked_over : (x : Present) (i : ℕ) (t : Transaction) → IsLiveAt x.transactions.items i t → is_due x.transactions.clock t ≡ false → ticked_from x (suc i) ≡ ticked_from x i
 ticked_over x i t at later = sym (rw at.here (rw later refl))
 
-pub ticked_due : (x : Present) (i : ℕ) (t : Transaction) → IsLiveAt x.transactions.items i t → is_due x.transactions.clock t ≡ true → ticked_from (with_rollback x t) i ≡ ticked_from x i
-ticked_due x i t at due =
-    ap (λ (ts : List Transaction). fold with_rollback (with_rollback x t) (filter (is_due x.transactions.clock) ts)) at.next
+pub ticked_due : (x : Present) (i : ℕ) (t : Transaction) → IsBuiltNow x → IsLiveAt x.transactions.items i t → is_due x.transactions.clock t ≡ true → ticked_from (rolled_back x t) i ≡ ticked_from x i
+ticked_due x i t built at due =
+    ap (λ (ts : Transactions). fold rolled_back (rolled_back x t) (filter (is_due ts.clock) (drop i (filter is_live ts.items)))) (rolled_transactions x t Done built at.found)
+    ∙ ap (λ (ts : List Transaction). fold rolled_back (rolled_back x t) (filter (is_due x.transactions.clock) ts)) at.next
     ∙ sym (rw at.here (rw due refl))
 
 pub ticked_none : (x : Present) (i : ℕ) → slice_get (filter is_live x.transactions.items) i ≡ None → ticked_from x i ≡ x
-ticked_none x i at = ap (λ (ts : List Transaction). fold with_rollback x (filter (is_due x.transactions.clock) ts)) (none_left (filter is_live x.transactions.items) i at)
+ticked_none x i at = ap (λ (ts : List Transaction). fold rolled_back x (filter (is_due x.transactions.clock) ts)) (none_left (filter is_live x.transactions.items) i at)

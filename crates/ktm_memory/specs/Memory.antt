@@ -16,7 +16,6 @@ use Rattle.ktm_object.specs.Table.{HandleTable, handles_of}
 use Rattle.ktm_tm.specs.TmState.{TmState}
 use Rattle.ktm_types.specs.declared.event.Event.{Event}
 use Rattle.ktm_types.specs.declared.object.Handle.{Handle}
-use Rattle.ktm_types.specs.declared.object.Object.{Object}
 use Rattle.ktm_types.specs.declared.object.Transaction.{Transaction}
 use Rattle.ktm_forms.specs.Built.{built_state}
 use Rattle.ktm_world.specs.Durable.{is_before}

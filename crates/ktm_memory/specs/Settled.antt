@@ -1,17 +1,15 @@
 -- What is left to do, in the model's own words, and what each part of it makes of what is so now.
-use Rattle.std.specs.Prelude.{◌≡◌, ℕ, Bool, List, [], ◌∷◌, Option, Some, None}
+use Rattle.std.specs.Prelude.{◌≡◌, Bool, List, [], ◌∷◌, Option, Some, None}
 use Rattle.ktm_base.specs.declared.refusal.Refusal.{Refusal}
 use Rattle.ktm_base.specs.declared.id.Label.{Label}
 use Rattle.ktm_base.specs.declared.id.Pid.{Pid}
-use Rattle.ktm_built.specs.Forms.{handles_with, with_bound, with_files_made, with_handle_closed, with_process_gone}
+use Rattle.ktm_built.specs.Effects.{handles_with, with_files_made}
 use Rattle.ktm_journal.specs.Image.{JournalState}
 use Rattle.ktm_types.specs.declared.object.Handle.{Handle}
-use Rattle.ktm_types.specs.declared.object.Object.{Object}
 use Rattle.ktm_types.specs.declared.reply.Reply.TheVariants.{Done}
 use Rattle.ktm_world.specs.FileOutcome.{FileOutcome}
 use Rattle.ktm_world.specs.Files.{OpenFile}
 use Rattle.ktm_world.specs.HandleCalls.{close_handle, duplicate_handle, exit}
-use Rattle.ktm_world.specs.Handles.{object_at}
 use Rattle.ktm_world.specs.Outcome.{Outcome, only_reply}
 use Rattle.ktm_world.specs.Present.{Present}
 use Rattle.ktm_world.specs.Steps.{run}
@@ -55,18 +53,6 @@ abbrev pub IsLeftOf : MemoryState → JournalState → Settlement → Type 0
 IsLeftOf m j settlement = m.journal ≡ appended j (left_to_do (before m j) settlement).events
 
 -- ---- the same within the machine, which no public clause cites
-
--- the label is bound to the object, if there is one
-abbrev pub with_bound_to : Present → Pid → Label → Option Object → Present
-with_bound_to x process label None = x
-with_bound_to x process label (Some object) = with_bound x process label object
-
--- what is so once labels are bound or unbound
-abbrev pub with_labels : Present → Pid → Labels → Present
-with_labels x process (Bind label object) = with_bound x process label object
-with_labels x process (Duplicate label from source) = with_bound_to x process label (object_at x.handles from source)
-with_labels x process (Unbind label) = with_handle_closed x process label
-with_labels x process UnbindAll = with_process_gone x process
 
 -- the handles once the label, if there is one, is bound to the file that is opened, if one is
 abbrev pub handles_then : List Handle → Pid → Option Label → Option OpenFile → List Handle

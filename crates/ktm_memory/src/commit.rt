@@ -6,7 +6,7 @@ ghost use Rattle.ktm_types.specs.Sizes.{event_size};
 ghost use Rattle.ktm_world.specs.Logs.{Group};
 ghost use Rattle.ktm_event.specs.Spelling.{IsSpellableEvent};
 ghost use Rattle.ktm_course.specs.Recorded.{basis_of, steps_events};
-ghost use Rattle.ktm_built.specs.Forms.{changes_of};
+ghost use Rattle.ktm_built.specs.Effects.{changes_of};
 ghost use Rattle.ktm_memory.specs.Decided.{DecidesIf};
 ghost use Rattle.ktm_memory.specs.Memory.{IsRoomy, held, present_of};
 ghost use Rattle.ktm_memory.specs.Route.{IsReadyCommit};

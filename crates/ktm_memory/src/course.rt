@@ -2,9 +2,11 @@
 ghost use Rattle.std.specs.Prelude.{◌≡◌, [], false, true, None, Some};
 ghost use Rattle.std.specs.List.{list_any};
 ghost use Rattle.ktm_built.specs.Courses.{IsKnown, with_committed, with_forgotten, with_moved};
-ghost use Rattle.ktm_built.specs.Forms.{with_rollback};
+ghost use Rattle.ktm_built.specs.Effects.{rolled_back};
+ghost use Rattle.ktm_built.specs.Standing.{IsBuiltNow};
 ghost use Rattle.ktm_course.specs.Moved.{is_commit};
 ghost use Rattle.ktm_memory.specs.Memory.{CanCommit, present_of};
+ghost use Rattle.ktm_world.specs.Enlistments.{is_ended};
 ghost use Rattle.ktm_world.specs.Steps.{run, seen};
 ghost use Rattle.ktm_world.specs.TransactionCalls.{course_of};
 ghost use Rattle.ktm_world.specs.Transactions.{transaction_at};
@@ -88,11 +90,11 @@ impl Memory {
 
     /// The transaction rolls back.
     pub(crate) fn roll_back(&mut self, t: Transaction)
-        requires none { self.old.tm.now.enlistments ≡ [] }
+        requires built { IsBuiltNow (present_of self.old) }
         requires there { transaction_at self.old.tm.now.items t.id ≡ Some t }
-        ensures now { present_of self.new ≡ with_rollback (present_of self.old) t }
+        requires live { is_ended t.phase ≡ false }
+        ensures now { present_of self.new ≡ rolled_back (present_of self.old) t }
         ensures journal { self.new.journal ≡ self.old.journal }
-        ensures none { self.new.tm.now.enlistments ≡ [] }
         ensures handles { self.new.handles ≡ self.old.handles }
     {
         let steps = step(&self.seen(&t), PhaseInput::Rollback);

@@ -1,17 +1,17 @@
 // Doing what is left to do once the events of a command are recorded. It takes no memory.
-ghost use Rattle.std.specs.Prelude.{◌≡◌, ◌<◌, ◌^◌, [], not, true, Some};
-ghost use Rattle.ktm_built.specs.Forms.{with_handle_closed, with_handle_gone, with_process_gone, with_rollback_if_active, with_tick, with_transaction};
+ghost use Rattle.std.specs.Prelude.{◌≡◌, ◌<◌, ◌^◌, not, true, Some};
 ghost use Rattle.ktm_built.specs.Standing.{IsBuiltNow};
 ghost use Rattle.ktm_journal.specs.Image.{JournalState};
 ghost use Rattle.ktm_memory.specs.declared.settlement.Settlement.TheVariants.{Begin, Change as PlainChange, Handles as OfHandles, Pass};
 ghost use Rattle.ktm_memory.specs.Memory.{MaySettle, present_of};
-ghost use Rattle.ktm_memory.specs.Settled.{IsLeftOf, before, left_to_do, with_change_made, with_labels};
+ghost use Rattle.ktm_memory.specs.Settled.{IsLeftOf, before, labels_outcome, left_to_do, with_change_made};
 ghost use Rattle.ktm_object.specs.Table.{handles_of};
 ghost use Rattle.ktm_types.specs.declared.change.Change.{Change as Made};
 ghost use Rattle.ktm_world.specs.Changes.{is_make, node_of};
 ghost use Rattle.ktm_world.specs.FileOutcome.{next_node_after};
-ghost use Rattle.ktm_world.specs.HandleCalls.{has_handle};
+ghost use Rattle.ktm_world.specs.HandleCalls.{abort_active, close_handle, exit, handle_gone, has_handle};
 ghost use Rattle.ktm_world.specs.Outcome.{apply};
+ghost use Rattle.ktm_world.specs.TransactionCalls.{create_transaction, tick};
 ghost use Rattle.ktm_world.specs.Transactions.{transaction_at};
 
 use crate::memory::Memory;
@@ -39,10 +39,9 @@ fn next_after(next: u64, change: &Option<Change>) -> u64
 impl Memory {
     // The transaction rolls back, if it is active.
     fn roll_back_if_active(&mut self, id: Id)
-        requires none { self.old.tm.now.enlistments ≡ [] }
-        ensures now { present_of self.new ≡ with_rollback_if_active (present_of self.old) (transaction_at self.old.tm.now.items id) }
+        requires built { IsBuiltNow (present_of self.old) }
+        ensures now { present_of self.new ≡ apply (present_of self.old) (abort_active (present_of self.old) (transaction_at self.old.tm.now.items id)) }
         ensures journal { self.new.journal ≡ self.old.journal }
-        ensures none { self.new.tm.now.enlistments ≡ [] }
         ensures handles { self.new.handles ≡ self.old.handles }
     {
         let Some(t) = self.tm.find(id) else {
@@ -57,11 +56,10 @@ impl Memory {
     // What depended on a handle that is closed ends, where it was the last one: an active transaction rolls back, and a
     // file is closed.
     fn let_go(&mut self, closed: Closed)
-        requires none { self.old.tm.now.enlistments ≡ [] }
+        requires built { IsBuiltNow (present_of self.old) }
         requires last { closed.is_last ≡ not (has_handle (handles_of self.old.handles) closed.object) }
-        ensures now { present_of self.new ≡ with_handle_gone (present_of self.old) (Some closed.object) }
+        ensures now { present_of self.new ≡ apply (present_of self.old) (handle_gone (Some closed.object) (present_of self.old)) }
         ensures journal { self.new.journal ≡ self.old.journal }
-        ensures none { self.new.tm.now.enlistments ≡ [] }
         ensures handles { self.new.handles ≡ self.old.handles }
     {
         if !closed.is_last {
@@ -76,10 +74,9 @@ impl Memory {
 
     // The label is unbound.
     fn close(&mut self, process: Pid, label: Label)
-        requires none { self.old.tm.now.enlistments ≡ [] }
-        ensures now { present_of self.new ≡ with_handle_closed (present_of self.old) process label }
+        requires built { IsBuiltNow (present_of self.old) }
+        ensures now { present_of self.new ≡ apply (present_of self.old) (close_handle (present_of self.old) process label) }
         ensures journal { self.new.journal ≡ self.old.journal }
-        ensures none { self.new.tm.now.enlistments ≡ [] }
     {
         if let Some(closed) = self.handles.close(process, label) {
             self.let_go(closed);
@@ -88,10 +85,9 @@ impl Memory {
 
     // All labels of the process are unbound.
     fn exit(&mut self, process: Pid)
-        requires none { self.old.tm.now.enlistments ≡ [] }
-        ensures now { present_of self.new ≡ with_process_gone (present_of self.old) process }
+        requires built { IsBuiltNow (present_of self.old) }
+        ensures now { present_of self.new ≡ apply (present_of self.old) (exit (present_of self.old) process) }
         ensures journal { self.new.journal ≡ self.old.journal }
-        ensures none { self.new.tm.now.enlistments ≡ [] }
     {
         while let Some(closed) = self.handles.exit_next(process) {
             self.let_go(closed);
@@ -100,9 +96,9 @@ impl Memory {
 
     // So many milliseconds pass. Each live transaction that is due then rolls back, in order of creation.
     fn tick(&mut self, ms: u32)
-        requires none { self.old.tm.now.enlistments ≡ [] }
+        requires built { IsBuiltNow (present_of self.old) }
         requires may { MaySettle self.old (Pass ms) }
-        ensures now { present_of self.new ≡ with_tick (present_of self.old) ms }
+        ensures now { present_of self.new ≡ apply (present_of self.old) (tick (present_of self.old) ms) }
         ensures journal { self.new.journal ≡ self.old.journal }
     {
         self.tm.advance(ms as u64);
@@ -133,8 +129,9 @@ impl Memory {
 
     // A transaction with the next number begins, and the label is bound to it.
     fn begin(&mut self, process: Pid, label: Label, timeout: u32)
-        requires { MaySettle self.old (Begin process label timeout) }
-        ensures now { present_of self.new ≡ with_transaction (present_of self.old) process label timeout }
+        requires built { IsBuiltNow (present_of self.old) }
+        requires may { MaySettle self.old (Begin process label timeout) }
+        ensures now { present_of self.new ≡ apply (present_of self.old) (create_transaction (present_of self.old) process label timeout) }
         ensures journal { self.new.journal ≡ self.old.journal }
     {
         let id = self.tm.create(timeout);
@@ -144,9 +141,9 @@ impl Memory {
 
     // Labels of the process are bound or unbound.
     fn handle(&mut self, process: Pid, labels: Labels)
-        requires none { self.old.tm.now.enlistments ≡ [] }
+        requires built { IsBuiltNow (present_of self.old) }
         requires may { MaySettle self.old (OfHandles process labels) }
-        ensures now { present_of self.new ≡ with_labels (present_of self.old) process labels }
+        ensures now { present_of self.new ≡ apply (present_of self.old) (labels_outcome (present_of self.old) process labels) }
         ensures journal { self.new.journal ≡ self.old.journal }
     {
         match labels {

@@ -20,7 +20,7 @@ use Rattle.ktm_world.specs.Present.{Present}
 use Rattle.ktm_world.specs.Steps.{run}
 use Rattle.ktm_world.specs.Transactions.{change_at, is_undecided}
 use Rattle.ktm_world.specs.TransactionCalls.{arrived, commit_reply, commit_transaction, course_of, released}
-use Rattle.ktm_built.specs.Forms.{changes_of, ended_aborted, recorded_by, settings_of, with_group}
+use Rattle.ktm_built.specs.Effects.{IsSilent, changes_of, opens_left, recorded_by, settings_of, with_group}
 use Rattle.ktm_built.specs.Courses.{IsKnown, IsLogged, LeadsOn, works_if, with_changed, with_committed, with_forgotten, with_moved}
 use Rattle.txf_laws.specs.FileEffects.{forgotten}
 use Rattle.ktm_world.specs.Rows.{aborts, row}
@@ -37,7 +37,7 @@ use Rattle.ktm_world.specs.Phases.{ended, event_if}
 use Rattle.ktm_owned.proofs.offered.EndedTransactions.{tree-store, versions-store}
 use Rattle.ktm_built.specs.Standing.{IsBuiltNow}
 use Rattle.ktm_built.proofs.Alone.{alone, alone_state, by_alone}
-use Rattle.ktm_built.proofs.offered.Quiet.{opens_but, opens_left, opens_all}
+use Rattle.ktm_built.proofs.offered.Applied.{opens_but, opens_all}
 
 -- ---- what is committed
 
@@ -208,6 +208,32 @@ arrived-works x c reply = go (is_undecided c.transaction) refl
     go true is = ap (λ (o : Outcome). o.works) (released-by true c _ is)
     go false is = ap (λ (o : Outcome). o.works) (released-by false c _ is)
 
+-- the transaction is as it came to be, and so are its enlistments
+pub arrived-transactions : (x : Present) (c : Course) (reply : Reply)
+    → (arrived x c reply).transactions ≡ record x.transactions { items = change_at x.transactions.items c.transaction.id (λ u. c.transaction); enlistments = c.enlistments }
+arrived-transactions x c reply = go (is_undecided c.transaction) refl
+  where
+    go : (b : Bool) → is_undecided c.transaction ≡ b
+        → (arrived x c reply).transactions ≡ record x.transactions { items = change_at x.transactions.items c.transaction.id (λ u. c.transaction); enlistments = c.enlistments }
+    go true is = ap (λ (o : Outcome). o.transactions) (released-by true c _ is)
+    go false is = ap (λ (o : Outcome). o.transactions) (released-by false c _ is)
+
+-- no resource manager is made
+pub arrived-made : (x : Present) (c : Course) (reply : Reply) → (arrived x c reply).made ≡ []
+arrived-made x c reply = go (is_undecided c.transaction) refl
+  where
+    go : (b : Bool) → is_undecided c.transaction ≡ b → (arrived x c reply).made ≡ []
+    go true is = ap (λ (o : Outcome). o.made) (released-by true c _ is)
+    go false is = ap (λ (o : Outcome). o.made) (released-by false c _ is)
+
+-- where the course records and commits nothing, neither does what it comes to
+pub arrived-silent : (x : Present) (c : Course) (reply : Reply) → c.events ≡ [] → c.works ≡ [] → IsSilent (arrived x c reply)
+arrived-silent x c reply events works = go (is_undecided c.transaction) refl
+  where
+    go : (b : Bool) → is_undecided c.transaction ≡ b → IsSilent (arrived x c reply)
+    go true is = subst IsSilent (sym (released-by true c _ is)) (record { records = events; commits = works; opens = refl; makes = refl; takes = refl; goes_on = refl })
+    go false is = subst IsSilent (sym (released-by false c _ is)) (record { records = events; commits = works; opens = refl; makes = refl; takes = refl; goes_on = refl })
+
 -- the reply changes nothing else
 pub arrived-reply : (x : Present) (c : Course) (reply : Reply) → (arrived x c reply).reply ≡ reply
 arrived-reply x c reply = go (is_undecided c.transaction) refl
@@ -225,7 +251,7 @@ arrived-apply x c one other = go (is_undecided c.transaction) refl
 
 -- ---- a commit
 
-abbrev commit_steps : Course → List Step
+abbrev pub commit_steps : Course → List Step
 commit_steps c = row (seen c) PhaseInput.CommitTransaction
 
 -- with these changes and settings
@@ -283,6 +309,10 @@ commit_leads x t built none =
     twice false works = refl
 
 -- ---- a rollback
+
+-- a transaction that rolled back, and has told all
+abbrev pub ended_aborted : Transaction → Transaction
+ended_aborted t = record t { phase = Phase.Ended; outcome = TransactionOutcome.Aborted }
 
 -- what a rollback comes to: nothing is committed, and the transaction has ended
 pub record IsRollback (t : Transaction) (c : Course) : Type 0 where

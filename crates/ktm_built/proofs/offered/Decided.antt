@@ -36,12 +36,12 @@ use Rattle.ktm_world.specs.Outcome.{Outcome, apply, only_reply, and_then, refuse
 use Rattle.ktm_world.specs.Phases.{Course}
 use Rattle.ktm_world.specs.Present.{Present}
 use Rattle.ktm_world.specs.Steps.{led}
-use Rattle.ktm_world.specs.TransactionCalls.{course_of, released, commit_reply, create_transaction, create_transaction_tests, commit_transaction, aborted_by, rollback_transaction, information_of, get_transaction_information, transaction_with, open_to_transaction, open_transaction, open_transaction_tests, tick}
+use Rattle.ktm_world.specs.TransactionCalls.{course_of, released, commit_reply, create_transaction, create_transaction_tests, commit_transaction, aborted_by, rollback_transaction, information_of, get_transaction_information, transaction_with, open_to_transaction, open_transaction, open_transaction_tests, tick, aborted_if_due, aborted_in_turn, is_due, with_clock}
 use Rattle.ktm_world.specs.Uses.{file_room}
 use Rattle.ktm_world.specs.World.{decide_tick}
 use Rattle.ktm_built.specs.Laws.{DecidedLaw}
 use Rattle.ktm_built.specs.Standing.{IsBuiltNow}
-use Rattle.ktm_built.proofs.offered.Forms.{forms_law}
+use Rattle.ktm_built.proofs.offered.Quiet.{quiet_tick}
 
 -- the outcome of a full log
 abbrev pub full_log : Present → Outcome
@@ -130,6 +130,18 @@ done_closed x process (label ∷ labels) = done_then x (close_handle x process l
 pub done_exit : (x : Present) (process : Pid) → IsDone (exit x process)
 unfolding exit
 done_exit x process = done_closed x process (labels_of x.handles process)
+
+done_due : (x : Present) (found : Option Transaction) → IsDone (aborted_if_due x found)
+done_due x None = record { goes_on = refl; says = refl }
+done_due x (Some t) = done_if x (is_due x.transactions.clock t) (aborted_by x t None Done) (done_aborted x t)
+
+done_in_turn : (x : Present) (ts : List Transaction) → IsDone (aborted_in_turn x ts)
+done_in_turn x [] = record { goes_on = refl; says = refl }
+done_in_turn x (t ∷ ts) = done_then x (aborted_if_due x (transaction_at x.transactions.items t.id)) (λ next. aborted_in_turn next ts) (done_due x (transaction_at x.transactions.items t.id)) (λ y. done_in_turn y ts)
+
+pub done_tick : (x : Present) (ms : ℕ) → IsDone (tick x ms)
+unfolding tick
+done_tick x ms = done_in_turn (with_clock x ms) x.transactions.items
 
 -- ---- calls on files
 
@@ -426,7 +438,7 @@ tick_down : (x : Present) (ms : ℕ) → x.machine.is_up ≡ false → decide_ti
 tick_down x ms off = ap (ticks x ms) off
 
 tick_up : (x : Present) (ms : ℕ) → IsBuiltNow x → x.machine.is_up ≡ true → decide_tick x ms ≡ tick x ms
-tick_up x ms built on = ap (ticks x ms) on ∙ ap (λ (es : List Event). cond (is_full x.machine.left es) (full_log x) (tick x ms)) (forms_law.waits x ms built).records
+tick_up x ms built on = ap (ticks x ms) on ∙ ap (λ (es : List Event). cond (is_full x.machine.left es) (full_log x) (tick x ms)) (quiet_tick x ms built).silent.records
 
 pub decided_law : DecidedLaw
 decided_law = record {

@@ -3,6 +3,7 @@ use Rattle.std.proofs.Common.{◌≡◌, ◌&&◌, true, false, List, [], ◌∷
 use Rattle.std.proofs.lemmas.Bool.{cases_Bool, and_parts, or_from, or_parts}
 use Rattle.std.specs.List.{AllByRecursion, list_all, list_any}
 use Rattle.ktm_base.specs.declared.id.Id.{Id}
+use Rattle.ktm_types.specs.declared.object.Phase.{Phase}
 use Rattle.ktm_types.specs.declared.object.Transaction.{Transaction}
 use Rattle.ktm_types.specs.declared.object.TransactionOutcome.{TransactionOutcome}
 use Rattle.ktm_world.specs.Durable.{is_before}
@@ -10,11 +11,14 @@ use Rattle.ktm_world.specs.Transactions.{same_id, transaction_at, change_at}
 use Rattle.txf_laws.specs.Elements.{each_pair}
 use Rattle.txf_laws.proofs.offered.Tables.{before_other, same_id-sym}
 use Rattle.ktm_forms.proofs.Ids.{same_id-equal, same_id-self}
-use Rattle.ktm_built.proofs.Leaves.{ended_with}
 
 -- they stand by rising Id
 abbrev pub Rise : List Transaction → Type 0
 Rise ts = each_pair (λ (t u : Transaction). is_before t.id u.id) ts ≡ true
+
+-- a transaction that has ended, with this outcome
+abbrev pub ended_with : TransactionOutcome → Transaction → Transaction
+ended_with outcome t = record t { phase = Phase.Ended; outcome = outcome }
 
 -- ---- no two have the same Id
 

@@ -8,7 +8,7 @@ use Rattle.txf_laws.proofs.offered.Elements.{filter-true}
 use Rattle.ktm_built.specs.Standing.{IsBuiltNow}
 use Rattle.ktm_built.proofs.Alone.{alone, by_alone}
 use Rattle.ktm_built.proofs.offered.Decided.{full_log}
-use Rattle.ktm_built.proofs.Leaves.{built_aside}
+use Rattle.ktm_built.proofs.offered.Applied.{built_aside}
 
 abbrev pub with_machine : Present → Bool → ℕ → Present
 with_machine x is_up left = record x { machine = record { is_up = is_up; left = left } }

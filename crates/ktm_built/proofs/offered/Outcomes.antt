@@ -1,5 +1,5 @@
 -- What a built command comes to has only what built forms make, and what it records is a built group, and as long as what it commits.
-use Rattle.std.proofs.Common.{◌≡◌, ℕ, ◌≤◌, ◌&&◌, ◌||◌, Bool, true, false, cond, List, [], ◌∷◌, length, sum_by, Option, None, Some, refl, sym, ◌∙◌, ap, subst, arith, inl, inr}
+use Rattle.std.proofs.Common.{◌≡◌, ℕ, ◌≤◌, Bool, true, false, cond, List, [], ◌∷◌, length, sum_by, Option, None, Some, refl, sym, ◌∙◌, ap, subst, arith, inl, inr}
 use Rattle.std.proofs.lemmas.Bool.{cases_Bool}
 use Rattle.std.proofs.lemmas.List.Sums.{sum_by-cons}
 use Rattle.ktm_base.specs.declared.id.Id.{Id}
@@ -34,19 +34,17 @@ use Rattle.ktm_world.specs.Transactions.{transaction_at}
 use Rattle.ktm_world.specs.TransactionCalls.{commit_transaction, tick}
 use Rattle.ktm_world.specs.World.{decide_tick}
 use Rattle.ktm_courses.proofs.offered.Calls.{Passes, passed}
-use Rattle.ktm_built.specs.Forms.{changes_of, settings_of, with_tick}
+use Rattle.ktm_built.specs.Effects.{changes_of, settings_of}
 use Rattle.ktm_built.specs.Laws.{EventsLaw}
 use Rattle.ktm_built.specs.Standing.{IsBuiltNow, changes_committed}
-use Rattle.ktm_built.proofs.offered.Courses.{commit_commits, commit_leaves, commit_records, commit_works, ended_committed}
-use Rattle.ktm_world.specs.Changes.{has_changes}
-use Rattle.ktm_world.specs.Phases.{has_settings}
+use Rattle.ktm_built.proofs.offered.Applied.{are_built, built-applied}
+use Rattle.ktm_built.proofs.offered.Courses.{commit_commits, commit_records, commit_works}
+use Rattle.ktm_built.proofs.CommitLeaves.{commit_built_transactions, commit_makes}
 use Rattle.ktm_built.proofs.offered.Decided.{full_log, decided_law}
-use Rattle.ktm_built.proofs.Effects.{effect_leaves}
-use Rattle.ktm_built.proofs.FileCalls.{apply-files, apply-opening}
-use Rattle.ktm_built.proofs.offered.Forms.{forms_law, named_law}
-use Rattle.ktm_built.proofs.Leaves.{with_moved_built, with_files_built, with_opened_built}
+use Rattle.ktm_built.proofs.QuietCalls.{quiet_effect}
+use Rattle.ktm_built.proofs.offered.Effects.{named_law}
 use Rattle.ktm_built.proofs.offered.Machine.{built_machine, apply-full}
-use Rattle.ktm_built.proofs.offered.Quiet.{commits_before_end, not_recorded, quiet_tick}
+use Rattle.ktm_built.proofs.offered.Quiet.{IsQuiet, commits_before_end, not_recorded, quiet_leaves, quiet_reply, quiet_tick}
 
 -- an outcome leaves only what built forms make, records a built group or none, and commits no more changes than what it records has bytes
 pub record IsBuiltOutcome (x : Present) (o : Outcome) : Type 0 where
@@ -55,15 +53,15 @@ pub record IsBuiltOutcome (x : Present) (o : Outcome) : Type 0 where
   pub few : changes_committed o.works ≤ log_size (as_groups o.events)
 
 -- an outcome that records and commits nothing
-quiet_built : (x : Present) (o : Outcome) (y : Present) → o.events ≡ [] → o.works ≡ [] → apply x o ≡ y → IsBuiltNow y → IsBuiltOutcome x o
-quiet_built x o y records commits leaves built = record {
-  now = subst IsBuiltNow (sym leaves) built;
-  group = ap (λ es. is_built_log (as_groups es)) records;
-  few = let none = ap changes_committed commits in omega arith;
+quiet_built : (x : Present) (o : Outcome) → IsBuiltNow x → IsQuiet x o → IsBuiltOutcome x o
+quiet_built x o built quiet = record {
+  now = quiet_leaves x o built quiet;
+  group = ap (λ es. is_built_log (as_groups es)) quiet.silent.records;
+  few = let none = ap changes_committed quiet.silent.commits in omega arith;
 }
 
 replied_built : (x : Present) (reply : Reply) → IsBuiltNow x → IsBuiltOutcome x (only_reply x reply)
-replied_built x reply built = quiet_built x (only_reply x reply) x refl refl (forms_law.replies x reply built) built
+replied_built x reply built = quiet_built x (only_reply x reply) built (quiet_reply x reply built)
 
 -- ---- a commit
 
@@ -90,9 +88,10 @@ unfolding commit_transaction
 commit_built x None at built = replied_built x Done built
 commit_built x (Some t) at built =
     let none = not_recorded x t built (at t refl).0 (at t refl).1 in
+    let group = ap (λ (es : List Event). is_built_log (as_groups es)) (commit_records x t built none) ∙ built_commit t.id (changes_of x t) (settings_of x t) in
     record {
-      now = subst IsBuiltNow (sym (commit_leaves x t built none)) (with_moved_built x t (ended_committed t (has_changes (changes_of x t) && has_settings (settings_of x t))) (has_changes (changes_of x t) || has_settings (settings_of x t)) (commit_events t.id (changes_of x t) (settings_of x t)) refl built);
-      group = ap (λ (es : List Event). is_built_log (as_groups es)) (commit_records x t built none) ∙ built_commit t.id (changes_of x t) (settings_of x t);
+      now = built-applied x (commit_transaction x (Some t)) built (commit_makes x t) group (commit_built_transactions x t built none);
+      group = group;
       few = let few = commit_few t.id (changes_of x t) (settings_of x t) in
           subst (λ (es : List Event). changes_committed (commit_transaction x (Some t)).works ≤ log_size (as_groups es)) (sym (commit_records x t built none))
           (subst (λ (ws : List Work). changes_committed ws ≤ log_size (as_groups (commit_events t.id (changes_of x t) (settings_of x t)))) (sym (commit_commits x t built none)) few);
@@ -111,14 +110,15 @@ change_few None (Some change) = omega arith
 change_few (Some id) change = omega arith
 
 files_built : (x : Present) (who : Option Id) (o : FileOutcome) → IsBuiltNow x → IsBuiltOutcome x (of_files x who o)
-files_built x who o built = record { now = subst IsBuiltNow (sym (apply-files x who o built)) (with_files_built x who o built); group = change_group who o.change; few = change_few who o.change }
+files_built x who o built = record { now = built-applied x (of_files x who o) built refl (change_group who o.change) (are_built x built); group = change_group who o.change; few = change_few who o.change }
 
 opening_built : (x : Present) (process : Pid) (label : Label) (who : Option Id) (o : FileOutcome) → IsBuiltNow x → IsBuiltOutcome x (opening x process label who o)
-opening_built x process label who o built = go o.opened (subst IsBuiltNow (sym (apply-opening x process label who o built)) (with_opened_built x process label who o built))
+opening_built x process label who o built = go o.opened
   where
-    go : (opened : Option OpenFile) → IsBuiltNow (apply x (bound_file process label opened (of_files x who o))) → IsBuiltOutcome x (bound_file process label opened (of_files x who o))
-    go None now = record { now = now; group = change_group who o.change; few = change_few who o.change }
-    go (Some file) now = record { now = now; group = change_group who o.change; few = change_few who o.change }
+    go : (opened : Option OpenFile) → IsBuiltOutcome x (bound_file process label opened (of_files x who o))
+    go None = files_built x who o built
+    go (Some file) = let group = change_group who o.change in
+        record { now = built-applied x (bound_file process label (Some file) (of_files x who o)) built refl group (are_built x built); group = group; few = change_few who o.change }
 
 on_file_built : (x : Present) (o : Option OpenFile) (call : OpenFile → FileOutcome) → IsBuiltNow x → IsBuiltOutcome x (on_file x o call)
 on_file_built x None call built = replied_built x Done built
@@ -151,14 +151,14 @@ effect_built x process (RemoveDirectoryTransacted path transaction) is passes bu
 effect_built x process (MoveFileTransacted source target transaction) is passes built = files_built x (caller x process transaction) (move_file x.files (caller x process transaction) source target) built
 effect_built x process (FindFiles searched) is passes built = files_built x None (find_files x.files None searched) built
 effect_built x process (FindFilesTransacted searched transaction) is passes built = files_built x (caller x process transaction) (find_files x.files (caller x process transaction) searched) built
-effect_built x process command is passes built = let left = effect_leaves x process command is passes built in quiet_built x _ _ left.records left.commits left.leaves left.built
+effect_built x process command is passes built = quiet_built x (command_effect x process command) built (quiet_effect x process command is passes built)
 
 refused_built : (x : Present) (tested : Option Refusal) (effect : Outcome) → IsBuiltNow x → (tested ≡ None → IsBuiltOutcome x effect) → IsBuiltOutcome x (refuse_or x tested effect)
 refused_built x None effect built then = then refl
 refused_built x (Some refusal) effect built then = replied_built x (Refused refusal) built
 
 logged_built : (x : Present) (b : Bool) (o : Outcome) → IsBuiltNow x → IsBuiltOutcome x o → IsBuiltOutcome x (cond b (full_log x) o)
-logged_built x true o built then = quiet_built x (full_log x) _ refl refl (apply-full x built) (built_machine x false x.machine.left built)
+logged_built x true o built then = record { now = subst IsBuiltNow (sym (apply-full x built)) (built_machine x false x.machine.left built); group = refl; few = omega arith }
 logged_built x false o built then = then
 
 -- so is what a built command comes to
@@ -170,9 +170,7 @@ decided_outcome x process command is built =
 -- and what the passing of time comes to, whether the machine is up or down
 pub ticked_outcome : (x : Present) (ms : ℕ) → IsBuiltNow x → IsBuiltOutcome x (decide_tick x ms)
 ticked_outcome x ms built = elim (cases_Bool x.machine.is_up) [
-  | inl on ↦
-      (let comes = forms_law.waits x ms built in
-      subst (IsBuiltOutcome x) (sym (decided_law.time x ms built on)) (quiet_built x (tick x ms) (with_tick x ms) comes.records comes.commits comes.leaves (quiet_tick x ms built).built))
+  | inl on ↦ subst (IsBuiltOutcome x) (sym (decided_law.time x ms built on)) (quiet_built x (tick x ms) built (quiet_tick x ms built))
   | inr off ↦ subst (IsBuiltOutcome x) (sym (decided_law.no_time x ms off)) (replied_built x (Refused MachineDown) built)
 ]
 
@@ -183,8 +181,8 @@ ticked_nothing : (x : Present) (ms : ℕ) → IsBuiltNow x → ((decide_tick x m
 ticked_nothing x ms built = elim (cases_Bool x.machine.is_up) [
   | inl on ↦
       (let time = decided_law.time x ms built on in
-      let comes = forms_law.waits x ms built in
-      (ap (λ (o : Outcome). o.events) time ∙ comes.records, ap (λ (o : Outcome). o.works) time ∙ comes.commits))
+      let silent = (quiet_tick x ms built).silent in
+      (ap (λ (o : Outcome). o.events) time ∙ silent.records, ap (λ (o : Outcome). o.works) time ∙ silent.commits))
   | inr off ↦ (let down = decided_law.no_time x ms off in (ap (λ (o : Outcome). o.events) down, ap (λ (o : Outcome). o.works) down))
 ]
 

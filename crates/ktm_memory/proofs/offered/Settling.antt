@@ -1,5 +1,5 @@
 -- A settlement does not look at the journal.
-use Rattle.std.proofs.Common.{◌≡◌, Option, Some, None, refl}
+use Rattle.std.proofs.Common.{Option, Some, None, refl}
 use Rattle.ktm_base.specs.declared.id.Label.{Label}
 use Rattle.ktm_base.specs.declared.id.Pid.{Pid}
 use Rattle.ktm_built.specs.Standing.{IsBuiltNow}

@@ -24,7 +24,7 @@ use Rattle.ktm_world.specs.Rows.{row}
 use Rattle.ktm_world.specs.Steps.{run, seen}
 use Rattle.ktm_world.specs.TransactionCalls.{arrived, commit_reply, commit_transaction, course_of}
 use Rattle.ktm_world.specs.Transactions.{transaction_at}
-use Rattle.ktm_built.specs.Forms.{changes_of, settings_of}
+use Rattle.ktm_built.specs.Effects.{changes_of, settings_of}
 use Rattle.ktm_built.specs.Standing.{IsBuiltNow}
 use Rattle.ktm_built.proofs.offered.Courses.{arrived-events, commit_comes}
 use Rattle.ktm_built.proofs.offered.Quiet.{not_recorded}

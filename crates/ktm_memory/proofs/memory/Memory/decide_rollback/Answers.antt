@@ -1,4 +1,4 @@
-use Rattle.std.proofs.Common.{◌≡◌, ◌≢◌, ◌-◌, None, Some, List, false, true, not, refl, sym, ap, subst, ◌∙◌}
+use Rattle.std.proofs.Common.{◌≢◌, ◌-◌, None, Some, List, not, refl, sym, ap, subst, ◌∙◌}
 use Rattle.ktm_event.specs.Kept.{Holds}
 use Rattle.std.specs.List.{list_any}
 use Rattle.ktm_base.specs.declared.refusal.Refusal.{Refusal}

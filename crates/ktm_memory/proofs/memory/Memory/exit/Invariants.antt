@@ -1,15 +1,16 @@
-use Rattle.std.proofs.Common.{◌≡◌, [], length}
-use Rattle.ktm_built.specs.Forms.{with_process_gone}
+use Rattle.std.proofs.Common.{◌≡◌, length}
+use Rattle.ktm_built.specs.Standing.{IsBuiltNow}
 use Rattle.ktm_memory.specs.Memory.{present_of}
 use Rattle.ktm_object.specs.Table.{handles_of}
-use Rattle.ktm_world.specs.HandleCalls.{labels_of}
+use Rattle.ktm_world.specs.HandleCalls.{exit, labels_of}
+use Rattle.ktm_world.specs.Outcome.{apply}
 use Rattle.ktm_memory.proofs.memory.Memory.exit.Given as goal
 
 abbrev pub invariant-loop-closed : goal.invariant-loop-closed
 invariant-loop-closed l = record {
-  gone : with_process_gone (present_of l.self) l.process ≡ with_process_gone (present_of l.fn.self) l.process;
+  gone : apply (present_of l.self) (exit (present_of l.self) l.process) ≡ apply (present_of l.fn.self) (exit (present_of l.fn.self) l.process);
   journal : l.self.journal ≡ l.fn.self.journal;
-  none : l.self.tm.now.enlistments ≡ [];
+  built : IsBuiltNow (present_of l.self);
 }
 
 abbrev pub decreases-loop-closed : goal.decreases-loop-closed

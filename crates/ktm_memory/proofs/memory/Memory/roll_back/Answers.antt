@@ -6,7 +6,7 @@ use Rattle.ktm_types.specs.declared.step.Step.{Step}
 use Rattle.ktm_world.specs.Steps.{run}
 use Rattle.ktm_world.specs.TransactionCalls.{course_of}
 use Rattle.ktm_memory.specs.Memory.{present_of}
-use Rattle.ktm_memory.proofs.Settles.{rolled_back}
+use Rattle.ktm_memory.proofs.Settles.{rolled}
 use Rattle.ktm_memory.proofs.memory.Memory.roll_back.Goals as goal
 
 pub returns-clause-now : goal.returns-clause-now
@@ -14,4 +14,4 @@ returns-clause-now c =
     let x = present_of c.args.self.now in
     c.carry_out.ensures.now
     ∙ ap (λ (steps : List Step). with_moved x c.args.t (run steps (course_of x c.args.t _)).transaction (list_any is_commit steps)) (c.as_slice.ensures.value ∙ c.step-steps.ensures.row)
-    ∙ rolled_back x c.args.t c.requires.none c.requires.there
+    ∙ rolled x c.args.t c.requires.built c.requires.there c.requires.live

@@ -1,34 +1,31 @@
-use Rattle.std.proofs.Common.{None, false, true, ap, refl, subst, sym, ◌≡◌, ◌∙◌, List}
+use Rattle.std.proofs.Common.{None, ap, refl, subst, sym, ◌∙◌, List}
 use Rattle.std.specs.List.{list_any}
 use Rattle.ktm_built.specs.Courses.{IsKnown, with_moved}
-use Rattle.ktm_built.specs.Forms.{with_group, with_tick, with_transaction}
+use Rattle.ktm_built.specs.Effects.{with_group}
 use Rattle.ktm_built.proofs.offered.Courses.{arrived-events, led_on}
-use Rattle.ktm_built.proofs.offered.Forms.{forms_law}
+use Rattle.ktm_built.proofs.offered.Applied.{apply-reply}
+use Rattle.ktm_built.proofs.offered.Quiet.{quiet_tick}
 use Rattle.ktm_course.specs.Moved.{is_commit}
 use Rattle.ktm_types.specs.declared.reply.Reply.TheVariants.{Done}
 use Rattle.ktm_types.specs.declared.step.Step.{Step}
-use Rattle.ktm_world.specs.HandleCalls.{exit}
-use Rattle.ktm_world.specs.Outcome.{only_reply}
-use Rattle.ktm_world.specs.Present.{Present}
+use Rattle.ktm_world.specs.Outcome.{apply, only_reply}
 use Rattle.ktm_world.specs.Steps.{run}
 use Rattle.ktm_world.specs.TransactionCalls.{arrived, course_of, create_transaction, tick}
-use Rattle.ktm_journal.specs.Image.{JournalState}
 use Rattle.ktm_memory.specs.Memory.{present_of}
 use Rattle.ktm_memory.specs.Opening.{files_outcome}
-use Rattle.ktm_memory.specs.Settled.{before, labels_outcome, with_change_made, with_labels}
-use Rattle.ktm_memory.proofs.Left.{built_before, change_leaves, create_comes, labels_come, left_quiet, left_recorded, moved_aside, source_there}
+use Rattle.ktm_memory.specs.Settled.{before, labels_outcome, with_change_made}
+use Rattle.ktm_memory.proofs.Left.{built_before, change_leaves, create_silent, labels_done, left_quiet, left_recorded, moved_aside}
 use Rattle.ktm_memory.proofs.memory.Memory.settle.Goals as goal
 
 pub returns-in-Nothing-clause-now : goal.returns-in-Nothing-clause-now
 returns-in-Nothing-clause-now c = rw c.in-Nothing.is (λ j are.
-    left_quiet c.args.self.now j (λ x. x) (only_reply (before c.args.self.now j) Done) are refl (forms_law.replies (before c.args.self.now j) Done (built_before c.args.self.now j c.requires.built)))
+    sym (apply-reply (present_of c.args.self.now) Done refl) ∙ left_quiet c.args.self.now j (λ x. apply x (only_reply x Done)) (only_reply (before c.args.self.now j) Done) are refl refl)
 
 pub returns-in-Begin-clause-now : goal.returns-in-Begin-clause-now
 returns-in-Begin-clause-now c = rw c.in-Begin.is (λ j are.
     let x = before c.args.self.now j in
-    let comes = create_comes x c.in-Begin.process c.in-Begin.label c.in-Begin.timeout (built_before c.args.self.now j c.requires.built) in
     c.begin.ensures.now
-    ∙ left_quiet c.args.self.now j (λ x. with_transaction x c.in-Begin.process c.in-Begin.label c.in-Begin.timeout) (create_transaction x c.in-Begin.process c.in-Begin.label c.in-Begin.timeout) are comes.records comes.leaves)
+    ∙ left_quiet c.args.self.now j (λ x. apply x (create_transaction x c.in-Begin.process c.in-Begin.label c.in-Begin.timeout)) (create_transaction x c.in-Begin.process c.in-Begin.label c.in-Begin.timeout) are (create_silent x c.in-Begin.process c.in-Begin.label c.in-Begin.timeout).records refl)
 
 pub returns-in-Change-clause-now : goal.returns-in-Change-clause-now
 returns-in-Change-clause-now c = rw c.in-Change.is (λ j are.
@@ -57,14 +54,12 @@ returns-in-Course-clause-now c = rw c.in-Course.is (λ j are.
 
 pub returns-in-Handles-clause-now : goal.returns-in-Handles-clause-now
 returns-in-Handles-clause-now c = rw c.in-Handles.is (λ j are.
-    let may = rw c.in-Handles.is at c.requires.may in
     let x = before c.args.self.now j in
-    let comes = labels_come x c.in-Handles.process c.in-Handles.labels (built_before c.args.self.now j c.requires.built) (source_there c.args.self.now j c.in-Handles.process c.in-Handles.labels may) in
     c.handle.ensures.now
-    ∙ left_quiet c.args.self.now j (λ x. with_labels x c.in-Handles.process c.in-Handles.labels) (labels_outcome x c.in-Handles.process c.in-Handles.labels) are comes.records comes.leaves)
+    ∙ left_quiet c.args.self.now j (λ x. apply x (labels_outcome x c.in-Handles.process c.in-Handles.labels)) (labels_outcome x c.in-Handles.process c.in-Handles.labels) are
+    (labels_done x c.in-Handles.process c.in-Handles.labels (built_before c.args.self.now j c.requires.built)).records refl)
 
 pub returns-in-Pass-clause-now : goal.returns-in-Pass-clause-now
 returns-in-Pass-clause-now c = rw c.in-Pass.is (λ j are.
     let x = before c.args.self.now j in
-    let comes = forms_law.waits x c.in-Pass.ms (built_before c.args.self.now j c.requires.built) in
-    c.tick.ensures.now ∙ left_quiet c.args.self.now j (λ x. with_tick x c.in-Pass.ms) (tick x c.in-Pass.ms) are comes.records comes.leaves)
+    c.tick.ensures.now ∙ left_quiet c.args.self.now j (λ x. apply x (tick x c.in-Pass.ms)) (tick x c.in-Pass.ms) are (quiet_tick x c.in-Pass.ms (built_before c.args.self.now j c.requires.built)).silent.records refl)

@@ -1,4 +1,4 @@
-use Rattle.ktm_built.proofs.offered.Forms.{named_law}
+use Rattle.ktm_built.proofs.offered.Effects.{named_law}
 use Rattle.ktm_built.proofs.offered.Quiet.{commits_before_end}
 use Rattle.ktm_memory.specs.Memory.{present_of}
 use Rattle.ktm_memory.proofs.Routes.{commit_refused, commit_routed}

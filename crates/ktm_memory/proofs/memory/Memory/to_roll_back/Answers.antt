@@ -1,5 +1,5 @@
 use Rattle.std.proofs.Common.{refl, sym, ◌∙◌}
-use Rattle.ktm_built.proofs.offered.Forms.{named_law}
+use Rattle.ktm_built.proofs.offered.Effects.{named_law}
 use Rattle.ktm_memory.specs.Memory.{present_of}
 use Rattle.ktm_memory.proofs.Routes.{rollback_not_ended, rollback_refused, rollback_routed, rollback_unnamed}
 use Rattle.ktm_memory.proofs.memory.Memory.to_roll_back.Goals as goal
