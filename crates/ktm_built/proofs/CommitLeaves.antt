@@ -11,10 +11,11 @@ use Rattle.ktm_world.specs.Steps.{run}
 use Rattle.ktm_world.specs.Transactions.{change_at}
 use Rattle.ktm_world.specs.TransactionCalls.{commit_reply, commit_transaction, course_of}
 use Rattle.ktm_course.proofs.offered.Alone.{goes_on}
+use Rattle.ktm_records.proofs.offered.AgreementOfCourses.{arrival}
 use Rattle.ktm_built.specs.Effects.{changes_of, settings_of}
 use Rattle.ktm_built.specs.Standing.{IsBuiltNow, is_recorded_at_its_end}
 use Rattle.ktm_built.proofs.offered.Applied.{AreBuilt}
-use Rattle.ktm_built.proofs.offered.Courses.{arrived-made, arrived-transactions, commit_comes, commit_is, commit_steps, ended_committed}
+use Rattle.ktm_built.proofs.offered.Courses.{arrived-transactions, commit_comes, commit_is, commit_steps, ended_committed}
 use Rattle.ktm_built.proofs.offered.Found.{change_at-passes}
 
 -- what it comes to
@@ -22,7 +23,7 @@ abbrev committed_course : Present → Transaction → Course
 committed_course x t = run (commit_steps (course_of x t None)) (course_of x t None)
 
 pub commit_makes : (x : Present) (t : Transaction) → (commit_transaction x (Some t)).made ≡ []
-commit_makes x t = ap (λ (o : Outcome). o.made) (commit_is x t) ∙ arrived-made x (committed_course x t) (commit_reply (committed_course x t))
+commit_makes x t = ap (λ (o : Outcome). o.made) (commit_is x t) ∙ (arrival x (committed_course x t) (commit_reply (committed_course x t))).made
 
 pub commit_built_transactions : (x : Present) (t : Transaction) → IsBuiltNow x → t.is_recorded ≡ false → AreBuilt (commit_transaction x (Some t)).transactions
 commit_built_transactions x t built none =

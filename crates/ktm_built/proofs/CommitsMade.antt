@@ -1,9 +1,8 @@
 -- What a machine that stands may rely on, where a transaction commits.
-use Rattle.std.proofs.Common.{◌≡◌, ℕ, ◌&&◌, ◌||◌, ◌==◌, not, Bool, true, false, nat_le, nat_lt, List, [], ◌∷◌, Some, None, refl, sym, ◌∙◌, ap, subst, All, cond}
-use Rattle.std.proofs.lemmas.Bool.{and_from, and_parts, eq-eqb, leb-true, not-true, true≢false}
+use Rattle.std.proofs.Common.{◌≡◌, ◌&&◌, ◌||◌, ◌==◌, not, Bool, true, false, List, [], ◌∷◌, Some, None, refl, sym, ◌∙◌, ap, subst, All, cond}
+use Rattle.std.proofs.lemmas.Bool.{and_from, eq-eqb, not-true, true≢false}
 use Rattle.std.proofs.lemmas.List.Elements.{All-from_recursion}
 use Rattle.std.specs.List.{list_all}
-use Rattle.ktm_base.specs.declared.limits.TheConstants.{MOST_NUMBER}
 use Rattle.ktm_base.specs.declared.id.Id.{Id}
 use Rattle.ktm_base.specs.declared.id.Label.{Label}
 use Rattle.ktm_base.specs.declared.id.Pid.{Pid}
@@ -51,6 +50,7 @@ use Rattle.ktm_built.specs.Laws.{NamedLaw}
 use Rattle.ktm_built.specs.Standing.{IsStanding}
 use Rattle.ktm_built.proofs.Counted.{counted_after, few_versions, units_now}
 use Rattle.ktm_built.proofs.FileForms.{decides}
+use Rattle.ktm_built.proofs.offered.Undone.{counted_id}
 
 -- ---- what a commit records has bytes
 
@@ -60,13 +60,6 @@ spelled_commit id (c ∷ changes) [] named cs ss = All-from_recursion IsSpellabl
 spelled_commit id [] (s ∷ settings) named cs ss = All-from_recursion IsSpellableEvent (commit_events id [] (s ∷ settings)) ((named, ss), tt)
 spelled_commit id (c ∷ changes) (s ∷ settings) named cs ss =
     All-from_recursion IsSpellableEvent (commit_events id (c ∷ changes) (s ∷ settings)) ((named, cs), ((named, ss), (named, ((named, tt), ((named, tt), tt)))))
-
-counted_id : (boot last : ℕ) (id : Id) → is_counted boot last id ≡ true → IsSpellableId id
-counted_id boot last id counted =
-    let most = and_parts _ (nat_lt id.boot boot || nat_le id.number last) counted in
-    let number = and_parts _ (nat_le id.number MOST_NUMBER) most.0 in
-    let from = and_parts (nat_le 1 id.boot && nat_le id.boot boot) (nat_le 1 id.number) number.0 in
-    record { boot_from = leb-true 1 id.boot (and_parts (nat_le 1 id.boot) (nat_le id.boot boot) from.0).0; number_from = leb-true 1 id.number from.1 }
 
 -- ---- what a transaction changed
 

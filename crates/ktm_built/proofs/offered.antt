@@ -6,6 +6,7 @@ pub mod Courses
 pub mod Effects
 pub mod Distinct
 pub mod Timeouts
+pub mod Undone
 pub mod Guids
 pub mod Decided
 pub mod Machine

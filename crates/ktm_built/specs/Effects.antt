@@ -1,10 +1,11 @@
 -- What outcomes make of what is so now, where there are no resource managers.
-use Rattle.std.specs.Prelude.{◌≡◌, ◌+◌, ◌-◌, not, false, List, [], ◌∷◌, filter, length, Option, Some, None}
+use Rattle.std.specs.Prelude.{◌≡◌, ℕ, ◌+◌, ◌-◌, ◌&&◌, not, false, List, [], ◌∷◌, filter, length, Option, Some, None}
 use Rattle.ktm_base.specs.declared.id.Id.{Id}
 use Rattle.ktm_base.specs.declared.id.Label.{Label}
 use Rattle.ktm_base.specs.declared.id.Pid.{Pid}
 use Rattle.ktm_types.specs.declared.change.Change.{Change}
 use Rattle.ktm_types.specs.declared.event.Event.{Event}
+use Rattle.ktm_types.specs.declared.event.Event.TheVariants.{Undo}
 use Rattle.ktm_types.specs.declared.object.Handle.{Handle}
 use Rattle.ktm_types.specs.declared.object.Object.TheVariants.{File as FileObject}
 use Rattle.ktm_types.specs.declared.object.Transaction.{Transaction}
@@ -20,7 +21,8 @@ use Rattle.ktm_world.specs.Labels.{with_handle}
 use Rattle.ktm_world.specs.Logs.{as_groups}
 use Rattle.ktm_world.specs.Outcome.{Outcome, apply, is_forgotten}
 use Rattle.ktm_world.specs.Present.{Present}
-use Rattle.ktm_world.specs.TransactionCalls.{aborted_by}
+use Rattle.ktm_world.specs.Phases.{event_if}
+use Rattle.ktm_world.specs.TransactionCalls.{aborted_by, is_due}
 
 -- ---- what records and commits nothing
 
@@ -51,6 +53,10 @@ abbrev pub rolled_back : Present → Transaction → Present
 rolled_back x t = apply x (aborted_by x t None Done)
 
 -- ---- what is recorded
+
+-- what is recorded of a transaction at this time: that it rolls back, where its timeout is reached and the log has something of it
+abbrev pub undo_of : ℕ → Transaction → List Event
+undo_of clock t = event_if (is_due clock t && t.is_recorded) (Undo t.id)
 
 -- what was recorded, with changes and settings that were committed; how many events there are is left as it is
 abbrev pub recorded_by : Durable → List Change → OwnSettings → Durable

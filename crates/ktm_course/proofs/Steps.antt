@@ -1,10 +1,7 @@
 -- Steps one after another.
-use Rattle.std.proofs.Common.{◌≡◌, ◌+◌, ℕ, suc, Bool, true, false, ◌==◌, not, List, [], ◌∷◌, ◌++◌, All, length, sum_by, cond, refl, sym, ◌∙◌, ap, subst, append_assoc, arith}
+use Rattle.std.proofs.Common.{◌≡◌, ℕ, suc, Bool, true, false, ◌==◌, not, List, [], ◌∷◌, ◌++◌, length, cond, refl, sym, ◌∙◌, ap, subst, append_assoc, arith}
 use Rattle.std.proofs.lemmas.Bool.{eqb-true, false_from_ne_true}
-use Rattle.std.specs.List.{AllByRecursion, list_any}
-use Rattle.std.proofs.lemmas.List.Elements.{recursion_from_All, All-from_recursion}
-use Rattle.std.proofs.lemmas.List.Sums.{sum_by-append}
-use Rattle.ktm_event.specs.Spelling.{IsSpellableEvent}
+use Rattle.std.specs.List.{list_any}
 use Rattle.ktm_event.specs.Work.{bytes_changes, changes_of}
 use Rattle.ktm_event.specs.declared.work.FileBytes.{FileBytes}
 use Rattle.ktm_types.specs.declared.change.Change.{Change}
@@ -14,7 +11,6 @@ use Rattle.ktm_types.specs.declared.object.TransactionOutcome.{TransactionOutcom
 use Rattle.ktm_world.specs.Changes.{has_changes}
 use Rattle.ktm_world.specs.Enlistments.{is_unfinished, with_enlistments}
 use Rattle.ktm_course.specs.Moved.{IsAlone}
-use Rattle.ktm_types.specs.Sizes.{event_size}
 use Rattle.ktm_types.specs.declared.event.Event.{Event}
 use Rattle.ktm_world.specs.Phases.{Course, ended, ended_if_finished, is_its_superior, unchanged}
 use Rattle.ktm_types.specs.declared.step.Step.{Step}
@@ -45,16 +41,6 @@ both_record (EndWhereFinished outcome ∷ xs) ys b = both_record xs ys b
 pub first_records : (step : Step) (steps left : List Step) (b : Basis) → left ≡ step ∷ steps
     → steps_events left b ≡ steps_events (step ∷ []) b ++ steps_events steps (then_basis (step ∷ []) b)
 first_records step steps left b is = ap (λ (l : List Step). steps_events l b) is ∙ both_record (step ∷ []) steps b
-
-pub first_spelled : (some others : List Event) → All IsSpellableEvent (some ++ others) → All IsSpellableEvent some × All IsSpellableEvent others
-first_spelled some others all = let both = parts some (recursion_from_All IsSpellableEvent (some ++ others) all) in (All-from_recursion IsSpellableEvent some both.0, All-from_recursion IsSpellableEvent others both.1)
-  where
-    parts : (es : List Event) → AllByRecursion IsSpellableEvent (es ++ others) → AllByRecursion IsSpellableEvent es × AllByRecursion IsSpellableEvent others
-    parts [] all = (tt, all)
-    parts (e ∷ es) all = let rest = parts es all.1 in ((all.0, rest.0), rest.1)
-
-pub sizes_both : (some others : List Event) → sum_by event_size (some ++ others) ≡ sum_by event_size some + sum_by event_size others
-sizes_both some others = sum_by-append event_size some others
 
 -- ---- a step that ends the transaction
 

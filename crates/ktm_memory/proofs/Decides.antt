@@ -22,10 +22,10 @@ use Rattle.ktm_world.specs.Steps.{run}
 use Rattle.ktm_world.specs.TransactionCalls.{arrived, course_of, create_transaction, get_transaction_information, information_of, tick}
 use Rattle.ktm_world.specs.Uses.{key_room}
 use Rattle.ktm_built.specs.Standing.{IsBuiltNow, IsStandingNow}
-use Rattle.ktm_built.proofs.offered.Courses.{arrived-apply, arrived-events, arrived-reply}
+use Rattle.ktm_built.proofs.offered.Courses.{arrived-apply, arrived-reply}
+use Rattle.ktm_records.proofs.offered.AgreementOfCourses.{arrival}
 use Rattle.ktm_built.proofs.offered.Applied.{apply-reply}
 use Rattle.ktm_built.proofs.offered.Decided.{done_tick}
-use Rattle.ktm_built.proofs.offered.Quiet.{quiet_tick}
 use Rattle.ktm_memory.specs.declared.settlement.Labels.{Labels}
 use Rattle.ktm_memory.specs.declared.settlement.Settlement.{Settlement}
 use Rattle.ktm_memory.specs.declared.settlement.Settlement.TheVariants.{Nothing, Begin, Course, Handles, Pass}
@@ -106,13 +106,13 @@ information_is x t reply is = ap (only_reply x) (sym is)
 -- ---- time
 
 -- what is to be for the passing of time
-pub tick_decided : (m : MemoryState) (ms : ℕ) (events : EventsState) → m.is_up ≡ true → IsStandingNow (present_of m) → Holds events []
+pub tick_decided : (m : MemoryState) (ms : ℕ) (events : EventsState) → m.is_up ≡ true → IsStandingNow (present_of m) → Holds events (tick (present_of m) ms).events → is_full (present_of m).machine.left (tick (present_of m) ms).events ≡ false
     → Decides (held m) (asked_outcome (present_of m) (Asked.Tick ms)) Done (Pass ms) events m
-tick_decided m ms events up standing holds =
+tick_decided m ms events up standing holds room =
     let x = present_of m in
     subst (λ o. Decides (held m) o Done (Pass ms) events m) (sym (up_or x [] (tick x ms) up))
-    (quiet_decided (held m) m (tick x ms) Done (Pass ms) events (built x standing) (sym (done_tick x ms).says) (quiet_tick x ms (built x standing)).silent.records refl refl refl
-    ((kept x standing).sound.course.transactions.rise, (fits-within x (kept x standing).within).live) holds)
+    (decided (held m) m (tick x ms) Done (Pass ms) events (built x standing) (sym (done_tick x ms).says) holds room refl refl refl
+    ((kept x standing).sound.course.transactions.rise, (fits-within x (kept x standing).within).live) (λ some refusal e. absurd (cc)))
 
 -- ---- CreateTransaction
 
@@ -147,7 +147,7 @@ pub course_decided : (h : Held) (n : MemoryState) (t : Transaction) (steps : Arr
 course_decided h n t steps o reply events built is holds room same may answers =
     let x = now_of h in
     let c = run steps.items (course_of x t None) in
-    let are = arrived-events x c reply in
+    let are = (arrival x c reply).events in
     subst (λ o. Decides h o reply (Course t steps) events n) (sym is)
     (decided h n (arrived x c reply) reply (Course t steps) events built (sym (arrived-reply x c reply)) (subst (Holds events) (sym are) holds) (ap (is_full x.machine.left) are ∙ room) same
-    (arrived-events x c Done ∙ sym are) (arrived-apply x c Done reply) may (λ some. answers))
+    ((arrival x c Done).events ∙ sym are) (arrived-apply x c Done reply) may (λ some. answers))

@@ -7,6 +7,7 @@ mod CommitGroups
 mod Records
 mod Closings
 mod Ticks
+mod UndoneLive
 mod Settles
 mod Left
 pub mod offered

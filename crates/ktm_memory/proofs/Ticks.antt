@@ -30,7 +30,7 @@ may_live t = go t.phase
     go Ended may = absurd (cc)
     go _ may = refl
 
-ended_not_due : (clock : ℕ) (t : Transaction) → is_live t ≡ false → is_due clock t ≡ false
+pub ended_not_due : (clock : ℕ) (t : Transaction) → is_live t ≡ false → is_due clock t ≡ false
 ended_not_due clock t ended = false_from_ne_true (is_due clock t) (λ due. both_ways (is_live t) ended (may_live t (and_parts _ (may_roll_back t) due).1))
 
 -- those that are due are live
@@ -82,7 +82,7 @@ live_at (u ∷ us) i t rise at = elim (cases_Bool (is_live u)) [
 ]
 
 -- there is none at a place behind them all
-none_left : (ts : List Transaction) (i : ℕ) → slice_get ts i ≡ None → drop i ts ≡ []
+pub none_left : (ts : List Transaction) (i : ℕ) → slice_get ts i ≡ None → drop i ts ≡ []
 none_left [] zero at = refl
 none_left [] (suc i) at = refl
 none_left (t ∷ ts) zero at = absurd (cc)

@@ -95,8 +95,8 @@ pub(crate) fn record_plan(journal: &Journal, events: &mut Events, plan: Plan) ->
     })
 }
 
-// Has the log room for events of this size, or is there none to have room for.
-fn has_room(journal: &Journal, size: usize) -> bool
+/// Has the log room for events of this size, or is there none to have room for.
+pub(crate) fn has_room(journal: &Journal, size: usize) -> bool
     ensures room { (group : Group) → min (sum_by event_size group) (2 ^ 64 - 1) ≡ size → result ≡ not (is_full (journal.now.log.area.len - journal.now.log.end) group) }
     ensures fits { (events : EventsState) (taken : ℕ) → IsRoomy journal.now events → Holds events [] → size ≡ min taken (2 ^ 64 - 1) → result ≡ true → taken ≤ events.spare }
 {

@@ -7,6 +7,7 @@ ghost use Rattle.ktm_memory.specs.Settled.{labels_outcome};
 ghost use Rattle.ktm_memory.specs.Memory.{IsRoomy, MayHandle, MemoryState, held, present_of};
 ghost use Rattle.ktm_memory.specs.Route.{asked_outcome, outcome_of, AreReady, IsBuiltAsked, IsReadyFor};
 ghost use Rattle.ktm_memory.specs.Takes.{asked_takes_memory, labels_take_memory, routed_takes_memory, takes_memory};
+ghost use Rattle.ktm_memory.specs.declared.decide.Asked.TheVariants.{Tick as OfTick};
 ghost use Rattle.ktm_memory.specs.declared.route.Routed.TheVariants.{Create, Handles as OfLabels};
 ghost use Rattle.ktm_object.specs.Table.{handles_of};
 ghost use Rattle.ktm_forms.specs.Built.{is_built_command};
@@ -18,9 +19,11 @@ ghost use Rattle.ktm_world.specs.Uses.{key_room};
 ghost use Rattle.ktm_types.specs.Values.{IsCommand};
 ghost use Rattle.kv_rm.specs.Calls.{is_refused, key_outcome};
 
+use crate::commit::has_room;
 use crate::memory::Memory;
 use crate::route::Routed;
 use crate::settlement::{Decision, Labels, Settlement};
+use crate::undone::{record_undone, undone_size};
 use ktm_base::{Id, Label, NoMemory, ObjectKind, Pid, Refusal, guid};
 use ktm_event::Events;
 use ktm_tm::state_of;
@@ -183,6 +186,22 @@ impl Memory {
         }
     }
 
+    // Time passes, where the log has room for what that records.
+    fn decide_tick(&self, ms: u32, events: &mut Events) -> Option<Decision>
+        requires up { self.now.is_up ≡ true }
+        requires standing { IsStandingNow (present_of self.now) }
+        requires empty { Holds events.old [] }
+        requires roomy { IsRoomy self.now.journal events.old }
+        ensures ok { DecidesIf (held self.now) (asked_outcome (present_of self.now) (OfTick ms)) result events.new self.now }
+        ensures room { events.new.room ≡ events.old.room }
+    {
+        if !has_room(&self.journal, undone_size(&self.tm, ms)) {
+            return None;
+        }
+        record_undone(&self.tm, ms, events);
+        Some(Decision::done(Settlement::Pass(ms)))
+    }
+
     /// What is asked is decided: its reply, its events, which are put into the list, and what is left to do once they are
     /// recorded. Nothing that is recorded changes before that. It is not decided where the log has no room for its events.
     pub fn decide(
@@ -203,7 +222,7 @@ impl Memory {
     {
         match asked {
             Asked::Call(process, command) => { self.decide_call(alloc, process, command, events) }
-            Asked::Tick(ms) => Ok(Some(Decision::done(Settlement::Pass(ms)))),
+            Asked::Tick(ms) => Ok(self.decide_tick(ms, events)),
         }
     }
 }

@@ -14,6 +14,7 @@ mod route;
 mod settle;
 mod settlement;
 mod transaction_routes;
+mod undone;
 
 pub use decide::Asked;
 pub use memory::Memory;

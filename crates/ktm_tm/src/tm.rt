@@ -59,6 +59,15 @@ fn is_reached(created: u64, timeout: u32, clock: u64) -> bool
     created <= clock && timeout as u64 <= clock - created
 }
 
+// Is its timeout reached at this time, in a phase in which that rolls it back.
+fn is_due(clock: u64, t: &Transaction) -> bool
+    ensures { result ≡ is_due clock t.now }
+{
+    !never_times_out(t.timeout)
+        && is_reached(t.created, t.timeout, clock)
+        && may_roll_back(t)
+}
+
 impl Tm {
     /// No transactions, at the start of this boot.
     pub fn new(alloc: Global, boot: u32) -> Self
@@ -126,9 +135,14 @@ impl Tm {
     pub fn is_due(&self, t: &Transaction) -> bool
         ensures { result ≡ is_due self.now.now.clock t.now }
     {
-        !never_times_out(t.timeout)
-            && is_reached(t.created, t.timeout, self.clock)
-            && may_roll_back(t)
+        is_due(self.clock, t)
+    }
+
+    /// Will it have been reached so many milliseconds later.
+    pub fn is_due_in(&self, ms: u64, t: &Transaction) -> bool
+        ensures { result ≡ is_due (later self.now.now.clock ms) t.now }
+    {
+        is_due(self.clock.saturating_add(ms), t)
     }
 
     /// So many milliseconds pass. The clock stays at its greatest value.
@@ -140,8 +154,8 @@ impl Tm {
         self.clock = self.clock.saturating_add(ms);
     }
 
-    // How many are live.
-    fn live_count(&self) -> usize
+    /// How many have not ended.
+    pub fn live_count(&self) -> usize
         ensures { result ≡ count_by is_live self.now.now.items }
     {
         self.live.len()

@@ -33,6 +33,7 @@ use Rattle.ktm_forms.proofs.BuiltStates.{after_commit}
 use Rattle.std.specs.List.{list_any}
 use Rattle.ktm_course.specs.Moved.{is_commit}
 use Rattle.ktm_course.proofs.offered.Alone.{goes_on}
+use Rattle.ktm_records.proofs.offered.AgreementOfCourses.{arrival}
 use Rattle.ktm_world.specs.Phases.{ended, event_if}
 use Rattle.ktm_owned.proofs.offered.EndedTransactions.{tree-store, versions-store}
 use Rattle.ktm_built.specs.Standing.{IsBuiltNow}
@@ -192,22 +193,6 @@ led_on x t steps reply built on =
     ap (apply x) (carried_out x t commits steps reply built on.works)
     ∙ moved x t (run steps start).transaction commits (run steps start).events reply built (goes_on steps start built.enlistments).id on.known on.logged
 
--- the events are those of the course
-pub arrived-events : (x : Present) (c : Course) (reply : Reply) → (arrived x c reply).events ≡ c.events
-arrived-events x c reply = go (is_undecided c.transaction) refl
-  where
-    go : (b : Bool) → is_undecided c.transaction ≡ b → (arrived x c reply).events ≡ c.events
-    go true is = ap (λ (o : Outcome). o.events) (released-by true c _ is)
-    go false is = ap (λ (o : Outcome). o.events) (released-by false c _ is)
-
--- the works are those of the course
-arrived-works : (x : Present) (c : Course) (reply : Reply) → (arrived x c reply).works ≡ c.works
-arrived-works x c reply = go (is_undecided c.transaction) refl
-  where
-    go : (b : Bool) → is_undecided c.transaction ≡ b → (arrived x c reply).works ≡ c.works
-    go true is = ap (λ (o : Outcome). o.works) (released-by true c _ is)
-    go false is = ap (λ (o : Outcome). o.works) (released-by false c _ is)
-
 -- the transaction is as it came to be, and so are its enlistments
 pub arrived-transactions : (x : Present) (c : Course) (reply : Reply)
     → (arrived x c reply).transactions ≡ record x.transactions { items = change_at x.transactions.items c.transaction.id (λ u. c.transaction); enlistments = c.enlistments }
@@ -217,14 +202,6 @@ arrived-transactions x c reply = go (is_undecided c.transaction) refl
         → (arrived x c reply).transactions ≡ record x.transactions { items = change_at x.transactions.items c.transaction.id (λ u. c.transaction); enlistments = c.enlistments }
     go true is = ap (λ (o : Outcome). o.transactions) (released-by true c _ is)
     go false is = ap (λ (o : Outcome). o.transactions) (released-by false c _ is)
-
--- no resource manager is made
-pub arrived-made : (x : Present) (c : Course) (reply : Reply) → (arrived x c reply).made ≡ []
-arrived-made x c reply = go (is_undecided c.transaction) refl
-  where
-    go : (b : Bool) → is_undecided c.transaction ≡ b → (arrived x c reply).made ≡ []
-    go true is = ap (λ (o : Outcome). o.made) (released-by true c _ is)
-    go false is = ap (λ (o : Outcome). o.made) (released-by false c _ is)
 
 -- where the course records and commits nothing, neither does what it comes to
 pub arrived-silent : (x : Present) (c : Course) (reply : Reply) → c.events ≡ [] → c.works ≡ [] → IsSilent (arrived x c reply)
@@ -359,12 +336,12 @@ commit_is x t = refl
 pub commit_records : (x : Present) (t : Transaction) → IsBuiltNow x → t.is_recorded ≡ false → (commit_transaction x (Some t)).events ≡ commit_events t.id (changes_of x t) (settings_of x t)
 commit_records x t built none =
     let c = run (commit_steps (course_of x t None)) (course_of x t None) in
-    ap (λ (o : Outcome). o.events) (commit_is x t) ∙ arrived-events x c (commit_reply c) ∙ (commit_comes x t built none).events
+    ap (λ (o : Outcome). o.events) (commit_is x t) ∙ (arrival x c (commit_reply c)).events ∙ (commit_comes x t built none).events
 
 pub commit_commits : (x : Present) (t : Transaction) → IsBuiltNow x → t.is_recorded ≡ false → (commit_transaction x (Some t)).works ≡ commit_works t.id (changes_of x t) (settings_of x t)
 commit_commits x t built none =
     let c = run (commit_steps (course_of x t None)) (course_of x t None) in
-    ap (λ (o : Outcome). o.works) (commit_is x t) ∙ arrived-works x c (commit_reply c) ∙ (commit_comes x t built none).works
+    ap (λ (o : Outcome). o.works) (commit_is x t) ∙ (arrival x c (commit_reply c)).works ∙ (commit_comes x t built none).works
 
 -- what it leaves: the transaction has ended
 pub commit_leaves : (x : Present) (t : Transaction) → IsBuiltNow x → t.is_recorded ≡ false → (let cs = changes_of x t in let ss = settings_of x t in

@@ -68,13 +68,16 @@ rise-ended outcome ts id rise = rise-changed outcome ts id ∙ rise
 
 -- ---- each is found by its Id
 
--- one that is changed is found by no other Id
-found-ended : (outcome : TransactionOutcome) (ts : List Transaction) (id a : Id) → same_id id a ≡ false → transaction_at (change_at ts id (ended_with outcome)) a ≡ transaction_at ts a
-found-ended outcome [] id a other = refl
-found-ended outcome (t ∷ ts) id a other =
-    let rest = found-ended outcome ts id a other in
+-- one that is changed, and keeps its Id, is found by no other
+found-changed : (f : Transaction → Transaction) (ts : List Transaction) (id a : Id) → ((t : Transaction) → same_id t.id id ≡ true → (f t).id ≡ id) → same_id id a ≡ false → transaction_at (change_at ts id f) a ≡ transaction_at ts a
+found-changed f [] id a keeps other = refl
+found-changed f (t ∷ ts) id a keeps other =
+    let rest = found-changed f ts id a keeps other in
     elim (cases_Bool (same_id t.id id)) [
-      | inl same ↦ let not_it : same_id t.id a ≡ false = subst (λ (i : Id). same_id i a ≡ false) (sym (same_id-equal t.id id same)) other in rw same (rw not_it refl)
+      | inl same ↦
+          (let not_it : same_id t.id a ≡ false = subst (λ (i : Id). same_id i a ≡ false) (sym (same_id-equal t.id id same)) other in
+          let not_then : same_id (f t).id a ≡ false = subst (λ (i : Id). same_id i a ≡ false) (sym (keeps t same)) other in
+          rw same (rw not_then (rw not_it refl)))
       | inr not_same ↦ rw not_same (elim (cases_Bool (same_id t.id a)) [ inl is ↦ rw is refl | inr is_not ↦ rw is_not rest ])
     ]
 
@@ -95,9 +98,10 @@ pub rise-found : (ts : List Transaction) → Rise ts → AreFound ts ts
 rise-found [] rise = tt
 rise-found (t ∷ ts) rise = let same = same_id-self t.id in (rw same refl, found-behind t ts ts (rise-first t ts rise) (rise-found ts (rise-rest t ts rise)))
 
--- once one has ended, those are found that have other Ids
-pub found-once_ended : (outcome : TransactionOutcome) (all ts : List Transaction) (id : Id) → list_any (λ u. same_id u.id id) ts ≡ false → AreFound all ts → AreFound (change_at all id (ended_with outcome)) ts
-found-once_ended outcome all [] id none found = tt
-found-once_ended outcome all (u ∷ us) id none found =
+-- once one is changed, and keeps its Id, those are found that have other Ids
+pub found-once_changed : (f : Transaction → Transaction) (all ts : List Transaction) (id : Id) → ((t : Transaction) → same_id t.id id ≡ true → (f t).id ≡ id) → list_any (λ u. same_id u.id id) ts ≡ false → AreFound all ts
+    → AreFound (change_at all id f) ts
+found-once_changed f all [] id keeps none found = tt
+found-once_changed f all (u ∷ us) id keeps none found =
     let parts = or_parts (same_id u.id id) (list_any (λ u. same_id u.id id) us) none in
-    (found-ended outcome all id u.id (same_id-sym u.id id parts.0) ∙ found.0, found-once_ended outcome all us id parts.1 found.1)
+    (found-changed f all id u.id keeps (same_id-sym u.id id parts.0) ∙ found.0, found-once_changed f all us id keeps parts.1 found.1)

@@ -7,7 +7,8 @@ use Rattle.ktm_types.specs.declared.step.Step.{Step}
 use Rattle.ktm_types.specs.Sizes.{event_size}
 use Rattle.ktm_types.specs.declared.event.Event.{Event}
 use Rattle.ktm_course.specs.Recorded.{basis_of, recorded_after, steps_events}
-use Rattle.ktm_course.proofs.Steps.{first_records, first_spelled, sizes_both}
+use Rattle.ktm_course.proofs.Steps.{first_records}
+use Rattle.ktm_course.proofs.offered.Events.{first_spelled, sizes_both}
 use Rattle.ktm_course.proofs.parts.Parts.record.Goals as goal
 use Rattle.ktm_course.proofs.parts.Parts.record.Goals.{In-loop-step}
 

@@ -26,7 +26,8 @@ use Rattle.ktm_world.specs.TransactionCalls.{arrived, commit_reply, commit_trans
 use Rattle.ktm_world.specs.Transactions.{transaction_at}
 use Rattle.ktm_built.specs.Effects.{changes_of, settings_of}
 use Rattle.ktm_built.specs.Standing.{IsBuiltNow}
-use Rattle.ktm_built.proofs.offered.Courses.{arrived-events, commit_comes}
+use Rattle.ktm_built.proofs.offered.Courses.{commit_comes}
+use Rattle.ktm_records.proofs.offered.AgreementOfCourses.{arrival}
 use Rattle.ktm_built.proofs.offered.Quiet.{not_recorded}
 use Rattle.txf_overlay.specs.OverlayState.{is_of_names}
 use Rattle.txf_volume.specs.Commit.{MayCommit}
@@ -98,7 +99,7 @@ returns-then-not-record_steps-clause-ok c =
     let d = (goal.at.returns-then-not-record_steps-clause-ok c).After-as_slice in
     let full = full_from _ (sym c.if-not-record_steps.true ∙ c.record_steps.ensures.full) in (
       ap (λ (o : Outcome). is_full (x d).machine.left o.events) (commit_is (x d) (t d) _ refl)
-          ∙ ap (is_full (x d).machine.left) (arrived-events (x d) (run (row (seen (start d)) PhaseInput.CommitTransaction) (start d)) _)
+          ∙ ap (is_full (x d).machine.left) (arrival (x d) (run (row (seen (start d)) PhaseInput.CommitTransaction) (start d)) _).events
           ∙ ap (λ (ss : List Step). is_full (x d).machine.left (run ss (start d)).events) (sym (row_is d))
           ∙ ap (is_full (x d).machine.left) (sym (records d)) ∙ sym (left d _) ∙ full,
       same d,

@@ -2,7 +2,8 @@ use Rattle.std.proofs.Common.{None, ap, refl, subst, sym, ◌∙◌, List}
 use Rattle.std.specs.List.{list_any}
 use Rattle.ktm_built.specs.Courses.{IsKnown, with_moved}
 use Rattle.ktm_built.specs.Effects.{with_group}
-use Rattle.ktm_built.proofs.offered.Courses.{arrived-events, led_on}
+use Rattle.ktm_built.proofs.offered.Courses.{led_on}
+use Rattle.ktm_records.proofs.offered.AgreementOfCourses.{arrival}
 use Rattle.ktm_built.proofs.offered.Applied.{apply-reply}
 use Rattle.ktm_built.proofs.offered.Quiet.{quiet_tick}
 use Rattle.ktm_course.specs.Moved.{is_commit}
@@ -50,7 +51,7 @@ returns-in-Course-clause-now c = rw c.in-Course.is (λ j are.
     c.carry_out.ensures.now
     ∙ ap (λ (ss : List Step). with_moved (present_of c.args.self.now) t (run ss (course_of x t None)).transaction (list_any is_commit ss)) c.as_slice.ensures.value
     ∙ left_recorded c.args.self.now j (λ x. with_moved x t then' commits) (arrived x (run steps (course_of x t None)) Done) are (moved_aside t then' commits)
-    (led_on x t steps Done (built_before c.args.self.now j c.requires.built) (may.leads j) ∙ ap (with_group (with_moved x t then' commits)) (sym (arrived-events x (run steps (course_of x t None)) Done))))
+    (led_on x t steps Done (built_before c.args.self.now j c.requires.built) (may.leads j) ∙ ap (with_group (with_moved x t then' commits)) (sym (arrival x (run steps (course_of x t None)) Done).events)))
 
 pub returns-in-Handles-clause-now : goal.returns-in-Handles-clause-now
 returns-in-Handles-clause-now c = rw c.in-Handles.is (λ j are.
