@@ -2,7 +2,6 @@
 use Rattle.std.proofs.Common.{◌≡◌, ℕ, zero, suc, not, Bool, true, false, List, [], ◌∷◌, ◌++◌, map, filter, drop, Option, Some, None, refl, sym, ◌∙◌, ap, subst, inl, inr, ◌⊎◌}
 use Rattle.std.proofs.lemmas.Bool.{true≢false}
 use Rattle.std.proofs.lemmas.Option.{none-some, same_Some}
-use Rattle.std.specs.List.{list_all}
 use Rattle.ktm_base.specs.declared.id.Id.{Id}
 use Rattle.ktm_base.specs.declared.id.Label.{Label}
 use Rattle.ktm_base.specs.declared.id.Pid.{Pid}
@@ -37,7 +36,7 @@ use Rattle.ktm_world.specs.OneOutcome.{told_by, told_outcome}
 use Rattle.ktm_world.specs.Outcome.{Outcome, apply, only_reply, joined, served, refuse_or, first_refusal, is_full, within_log}
 use Rattle.ktm_world.specs.Phases.{Course}
 use Rattle.ktm_world.specs.Present.{Present, Transactions}
-use Rattle.ktm_world.specs.TransactionCalls.{course_of, arrived, new_id, create_transaction, transaction_with, open_to_transaction, open_transaction, commit_of, commit_transaction, aborted_by, rollback_of, rollback_transaction, get_transaction_information, is_due, aborted_if_due, aborted_in_turn, with_clock, tick, is_durable, create_resource_manager, manager_with, open_to_manager, open_resource_manager, is_to_recover, recover_all, recover_resource_manager, take_first, get_notification, enlist, create_enlistment, enlistment_with, open_to_enlistment, open_enlistment, transaction_in, goes_on, answering, pre_prepare_complete, prepare_complete, read_only_enlistment, commit_complete, rollback_complete, single_phase_reject, rollback_enlistment, pre_prepare_enlistment, prepare_enlistment, commit_enlistment, recover_enlistment, keep_information, set_information, get_information, recovery_of}
+use Rattle.ktm_world.specs.TransactionCalls.{course_of, arrived, new_id, create_transaction, transaction_with, open_to_transaction, open_transaction, commit_of, commit_transaction, aborted_by, rollback_of, rollback_transaction, get_transaction_information, is_due, aborted_if_due, aborted_in_turn, with_clock, tick, is_durable, create_resource_manager, manager_with, open_to_manager, open_resource_manager, is_to_recover, recover_all, recover_resource_manager, take_first, get_notification, enlist, create_enlistment, enlistment_with, open_to_enlistment, open_enlistment, answering, pre_prepare_complete, prepare_complete, read_only_enlistment, commit_complete, rollback_complete, single_phase_reject, rollback_enlistment, pre_prepare_enlistment, prepare_enlistment, commit_enlistment, recover_enlistment, keep_information, set_information, get_information, recovery_of}
 use Rattle.ktm_world.specs.Transactions.{same_id, transaction_at, is_active, is_undecided}
 use Rattle.ktm_world.specs.World.{ManagerPast, manager_now, decide_tick}
 use Rattle.ktm_world.specs.Logs.{Group}
@@ -52,16 +51,16 @@ use Rattle.ktm_courses.specs.SoundCourse.{IsSoundCourse, is_outcome_of}
 use Rattle.ktm_courses.proofs.offered.Arrivals.{changed_to, IsIn-changed}
 use Rattle.ktm_courses.proofs.offered.Bindings.{stays-sound, soundly-gone, stays-unbound, stays-closed, stays-closed_all, stays-due, stays-in_turn}
 use Rattle.ktm_courses.proofs.offered.Beginnings.{sound-clock}
-use Rattle.ktm_courses.proofs.offered.Calls.{transaction_at-found, transaction-named, enlistment-named}
-use Rattle.ktm_owned.proofs.offered.CoursesKept.{is_no_boot, IsCourse, led-is}
+use Rattle.ktm_courses.proofs.offered.Calls.{transaction_at-found, transaction-named, enlistment-named, of-answering}
+use Rattle.ktm_owned.proofs.offered.CoursesKept.{IsCourse, led-is}
 use Rattle.txf_laws.proofs.offered.Diamonds.{IsIn-map}
 use Rattle.txf_laws.proofs.offered.Elements.{IsIn-filter, list_all-at}
 use Rattle.txf_laws.proofs.offered.Lists.{IsIn-left, IsIn-cases, IsIn-unmap}
-use Rattle.ktm_courses.proofs.offered.Moves.{if_cases, same-by_id}
+use Rattle.ktm_courses.proofs.offered.Moves.{if_cases, same-by_id, NoBoots}
 use Rattle.ktm_courses.proofs.offered.Outcomes.{changed-itself}
-use Rattle.ktm_owned.proofs.offered.EndedTransactions.{boots-all}
 use Rattle.ktm_laws.proofs.Sayings.{Only, Says, naming, naming-with, says-led}
-use Rattle.txf_laws.proofs.offered.Tables.{same_id-from}
+use Rattle.txf_laws.proofs.offered.Tables.{same_id-equal, same_id-from}
+use Rattle.ktm_courses.proofs.offered.OutcomesMade.{events-kept}
 
 -- ---- what an outcome leaves
 
@@ -199,10 +198,10 @@ module _ (x : Present) (sound : IsSoundCourse x) where
   abbrev names : List (Id × Id)
   names = map naming x.transactions.enlistments
 
-  honest-arrived : (t : Transaction) (d : Course) (reply : Reply) → IsIn t x.transactions.items → Says names t.id d → list_all is_no_boot d.events ≡ true → IsHonest x (arrived x d reply)
+  honest-arrived : (t : Transaction) (d : Course) (reply : Reply) → IsIn t x.transactions.items → Says names t.id d → NoBoots d.events → IsHonest x (arrived x d reply)
   honest-arrived t d reply there says no_boots = if_cases (λ o. IsHonest x o) (is_undecided d.transaction) _ _
-      (λ undecided. record { enlistments = stay; comes = come; sent = sent; made = λ m none. absurd none; boots = boots-all d.events x.recorded no_boots })
-      (λ decided. record { enlistments = stay; comes = come; sent = sent; made = λ m none. absurd none; boots = boots-all d.events x.recorded no_boots })
+      (λ undecided. record { enlistments = stay; comes = come; sent = sent; made = λ m none. absurd none; boots = (events-kept d.events x.recorded no_boots).0 })
+      (λ decided. record { enlistments = stay; comes = come; sent = sent; made = λ m none. absurd none; boots = (events-kept d.events x.recorded no_boots).0 })
     where
       stay : EnlistmentsStay x.transactions.enlistments d.enlistments
       stay = record {
@@ -269,14 +268,8 @@ module _ (x : Present) (sound : IsSoundCourse x) where
   says-of t caller input there only = says-led input (course_of x t caller) refl refl (outcome-at t there) only
 
   pub comes-answering : (o : Option Enlistment) (input : Enlistment → PhaseInput) → ((e : Enlistment) → o ≡ Some e → IsIn e x.transactions.enlistments) → Comes x (answering x o input)
-  comes-answering None input there = inl (Done, refl)
-  comes-answering (Some e) input there = go (transaction_in x e) refl
-    where
-      go : (o : Option Transaction) → transaction_in x e ≡ o → Comes x (goes_on x e o (input e))
-      go None is = inl (Done, refl)
-      go (Some t) is =
-          let found = transaction_at-found x.transactions.items e.transaction t is in
-          comes-step t (Some e) (input e) Done found.0 (says-of t (Some e) (input e) found.0 (only-one e t (there e refl) found.1))
+  comes-answering o input there = of-answering (Comes x) x o input (inl (Done, refl)) (λ e is t at own found.
+      comes-step t (Some e) (input e) Done at (says-of t (Some e) (input e) at (only-one e t (there e is) (sym (same_id-equal e.transaction t.id own)))))
 
   -- no enlistment makes the call
   pub only-none : (t : Transaction) → Only names t.id None

@@ -47,7 +47,7 @@ use Rattle.ktm_world.specs.Outcome.{Outcome, apply, only_reply, refuse_or, first
 use Rattle.ktm_world.specs.Phases.{Course}
 use Rattle.ktm_world.specs.Present.{Present}
 use Rattle.ktm_world.specs.Steps.{led, share_of}
-use Rattle.ktm_world.specs.TransactionCalls.{course_of, has_superior, is_superior_kind, no_enlistment_left, quota_test, arrived, bound_test, aborted_by, guid_in, create_transaction, create_transaction_tests, transaction_with, open_to_transaction, open_transaction, open_transaction_tests, commit_of, commit_reply, commit_transaction, rollback_of, rollback_transaction, may_roll_back, information_of, get_transaction_information, create_resource_manager, create_resource_manager_tests, manager_with, open_to_manager, open_resource_manager, open_resource_manager_tests, recover_all, recover_resource_manager, note_reply, take_first, get_notification, enlist, create_enlistment, create_enlistment_tests, enlistment_with, open_to_enlistment, open_enlistment, open_enlistment_tests, transaction_in, goes_on, answering, pre_prepare_complete, prepare_complete, read_only_enlistment, commit_complete, rollback_complete, single_phase_reject, rollback_enlistment, pre_prepare_enlistment, prepare_enlistment, commit_enlistment, recover_enlistment, keep_information, set_information, information_in, get_information, recovery_of}
+use Rattle.ktm_world.specs.TransactionCalls.{course_of, has_superior, is_superior_kind, no_enlistment_left, quota_test, arrived, bound_test, aborted_by, guid_in, create_transaction, create_transaction_tests, transaction_with, open_to_transaction, open_transaction, open_transaction_tests, commit_of, commit_reply, commit_transaction, rollback_of, rollback_transaction, may_roll_back, information_of, get_transaction_information, create_resource_manager, create_resource_manager_tests, manager_with, open_to_manager, open_resource_manager, open_resource_manager_tests, recover_all, recover_resource_manager, note_reply, take_first, get_notification, enlist, create_enlistment, create_enlistment_tests, enlistment_with, open_to_enlistment, open_enlistment, open_enlistment_tests, answering, pre_prepare_complete, prepare_complete, read_only_enlistment, commit_complete, rollback_complete, single_phase_reject, rollback_enlistment, pre_prepare_enlistment, prepare_enlistment, commit_enlistment, recover_enlistment, keep_information, set_information, information_in, get_information, recovery_of}
 use Rattle.ktm_world.specs.Transactions.{transaction_at, is_active, is_committed, is_aborted, is_undecided}
 use Rattle.ktm_world.specs.Uses.{file_room, key_room}
 use Rattle.ktm_steps.proofs.offered.Outcomes.{committed-led}
@@ -57,7 +57,7 @@ use Rattle.ktm_laws.specs.Notes.{AreNotesTrue}
 use Rattle.ktm_courses.specs.SoundCourse.{IsSoundCourse, is_counted, is_outcome_of}
 use Rattle.ktm_courses.specs.SoundCourses.{CoursesLaw}
 use Rattle.ktm_courses.proofs.offered.Arrivals.{changed_to}
-use Rattle.ktm_courses.proofs.offered.Calls.{Passes, passed, transaction_at-found, and_then-found, manager-named}
+use Rattle.ktm_courses.proofs.offered.Calls.{Passes, passed, transaction_at-found, and_then-found, manager-named, of-answering}
 use Rattle.txf_laws.proofs.offered.Elements.{find-in, list_all-at}
 use Rattle.ktm_laws.proofs.Notes.{}
 use Rattle.ktm_courses.proofs.offered.NewObjects.{counted-parts}
@@ -117,12 +117,7 @@ silent-done : (x : Present) → Silent (only_reply x Done)
 silent-done x = record { told = refl; plain = refl; on = refl }
 
 silent-answering : (x : Present) (o : Option Enlistment) (input : Enlistment → PhaseInput) → Silent (answering x o input)
-silent-answering x None input = silent-done x
-silent-answering x (Some e) input = go (transaction_in x e)
-  where
-    go : (t : Option Transaction) → Silent (goes_on x e t (input e))
-    go None = silent-done x
-    go (Some t) = silent-arrived x (led (input e) (course_of x t (Some e))) Done refl refl
+silent-answering x o input = of-answering Silent x o input (silent-done x) (λ e is t there own found. silent-arrived x (led (input e) (course_of x t (Some e))) Done refl refl)
 
 silent-opening : (x : Present) (process : Pid) (label : Label) (who : Option Id) (o : FileOutcome) → told_of_named o.reply ≡ None → is_note o.reply ≡ false → Silent (opening x process label who o)
 silent-opening x process label who o told plain = go o.opened

@@ -23,7 +23,7 @@ use Rattle.ktm_world.specs.Outcome.{Outcome}
 use Rattle.ktm_world.specs.Phases.{Course, ended, ended_if_finished, event_if, is_single_phase, recording}
 use Rattle.ktm_world.specs.Present.{Present}
 use Rattle.ktm_world.specs.Steps.{led}
-use Rattle.ktm_world.specs.TransactionCalls.{arrived, course_of, goes_on, answering, transaction_in}
+use Rattle.ktm_world.specs.TransactionCalls.{arrived, course_of, answering, transaction_in}
 use Rattle.ktm_world.specs.Transactions.{is_live, is_of, is_undecided, same_id}
 use Rattle.ktm_steps.specs.Procedures.{commit_answered, committing, finished, pre_prepare_answered, prepare_answered, read_only_answered}
 use Rattle.std.specs.List.{list_any}
@@ -35,7 +35,7 @@ use Rattle.ktm_courses.specs.SoundCourse.{IsSoundCourse, is_outcome_of}
 use Rattle.txf_laws.specs.SoundFiles.{IsSoundFiles}
 use Rattle.ktm_limits.proofs.CourseLimits.{Along, Few, Past, done-past, parts_counted, recorded_or_new-there}
 use Rattle.ktm_courses.proofs.offered.EnlistmentAnswers.{can_roll_back, undecided-rolls}
-use Rattle.ktm_courses.proofs.offered.Calls.{transaction_at-found}
+use Rattle.ktm_courses.proofs.offered.Calls.{of-answering}
 use Rattle.txf_laws.proofs.offered.Elements.{IsIn-flat_map, IsIn-kept, list_all-at}
 use Rattle.ktm_records.proofs.offered.LiveEnlistments.{fade-stays}
 use Rattle.ktm_records.proofs.offered.AgreementOfCourses.{arrival}
@@ -46,7 +46,7 @@ use Rattle.ktm_courses.proofs.offered.Procedures.{part-parts}
 use Rattle.ktm_limits.proofs.RecordedLimits.{Recalls, is_live_part, is_live_superior, live-from, parts-counted, recalled-changes, recalled-settings, recalls, stage-live, superior-is, superior-live}
 use Rattle.ktm_limits.proofs.RecordedCourses.{Going, holds-committing, holds-pre_prepare_answered, holds-prepare_answered, holds-read_only_answered, holds-to_commit, holds-to_pre_prepare, holds-to_prepare}
 use Rattle.txf_laws.proofs.offered.Sums.{count-less, count-strict}
-use Rattle.txf_laws.proofs.offered.Tables.{KnownOrNew, recorded_or_new-cases, same_id-from, same_id-equal}
+use Rattle.txf_laws.proofs.offered.Tables.{KnownOrNew, recorded_or_new-cases, same_id-equal}
 
 module _ (lists : ListsLaw) (x : Present) (course : IsSoundCourse x) (good : IsGoodState x.recorded) (agrees : Agrees x) (sound : IsSoundFiles x) (fits : Fits x) where
   -- ---- one transaction
@@ -184,14 +184,7 @@ module _ (lists : ListsLaw) (x : Present) (course : IsSoundCourse x) (good : IsG
   pub holds-answering : (o : Option Enlistment) (input : Enlistment → PhaseInput)
       → ((e : Enlistment) → o ≡ Some e → (t : Transaction) → transaction_in x e ≡ Some t → IsIn t x.transactions.items → same_id e.transaction t.id ≡ true → limits_hold x.recorded (led (input e) (course_of x t (Some e))).events ≡ true)
       → HoldsOut (answering x o input)
-  holds-answering None input holds = refl
-  holds-answering (Some e) input holds = go (transaction_in x e) refl
-    where
-      go : (t : Option Transaction) → transaction_in x e ≡ t → HoldsOut (goes_on x e t (input e))
-      go None found = refl
-      go (Some t) found =
-          let at = transaction_at-found x.transactions.items e.transaction t found in
-          holds-arrived (led (input e) (course_of x t (Some e))) Done (holds e refl t found at.0 (same_id-from e.transaction t.id (sym at.1)))
+  holds-answering o input holds = of-answering HoldsOut x o input refl (λ e is t there own found. holds-arrived (led (input e) (course_of x t (Some e))) Done (holds e is t found there own))
 
   module _ (t : Transaction) (there : IsIn t x.transactions.items) (caller : Option Enlistment) where
     waits-there : is_undecided t ≡ true → IsIn t (undecided x)

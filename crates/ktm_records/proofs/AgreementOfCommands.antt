@@ -32,7 +32,7 @@ use Rattle.ktm_world.specs.Outcome.{Outcome, apply, first_refusal, is_full, only
 use Rattle.ktm_world.specs.Phases.{Course, is_single_phase}
 use Rattle.ktm_world.specs.Present.{Present, Transactions}
 use Rattle.ktm_world.specs.Steps.{led, share_of}
-use Rattle.ktm_world.specs.TransactionCalls.{answering, arrived, commit_enlistment, course_of, superior_tests, waits_for_superior, may_recover, may_reject_one_phase, phase_passes, recover_enlistment, rollback_complete, single_phase_reject, create_enlistment_tests, enlistment_tests, enlistment_with, get_information, get_notification, get_transaction_information, goes_on, information_in, information_of, manager_with, may_roll_back_by, open_enlistment, open_resource_manager, open_to_enlistment, open_to_manager, open_to_transaction, open_transaction, recover_all, recover_resource_manager, rollback_enlistment, rollback_of, rollback_transaction, rollback_transaction_tests, set_information, take_first, tick, transaction_in, transaction_with, before_prepare, before_pre_prepare, commit_complete, commit_of, commit_reply, commit_transaction, is_voting, may_vote, pre_prepare_complete, pre_prepare_enlistment, prepare_complete, prepare_enlistment, read_only_enlistment, recovery_of}
+use Rattle.ktm_world.specs.TransactionCalls.{answering, arrived, commit_enlistment, course_of, superior_tests, waits_for_superior, may_recover, may_reject_one_phase, phase_passes, recover_enlistment, rollback_complete, single_phase_reject, create_enlistment_tests, enlistment_tests, enlistment_with, get_information, get_notification, get_transaction_information, information_in, information_of, manager_with, may_roll_back_by, open_enlistment, open_resource_manager, open_to_enlistment, open_to_manager, open_to_transaction, open_transaction, recover_all, recover_resource_manager, rollback_enlistment, rollback_of, rollback_transaction, rollback_transaction_tests, set_information, take_first, tick, transaction_in, transaction_with, before_prepare, before_pre_prepare, commit_complete, commit_of, commit_reply, commit_transaction, is_voting, may_vote, pre_prepare_complete, pre_prepare_enlistment, prepare_complete, prepare_enlistment, read_only_enlistment, recovery_of}
 use Rattle.ktm_world.specs.Transactions.{same_id}
 use Rattle.ktm_world.specs.World.{decide_tick, present}
 use Rattle.ktm_steps.proofs.offered.Table.{rows_law}
@@ -48,7 +48,7 @@ use Rattle.ktm_records.proofs.AgreementOfAnswers.{follows-commit, follows-pre_pr
 use Rattle.ktm_records.proofs.AgreementOfCalls.{agreed-alike, agreed-closed, agreed-create_enlistment, agreed-create_manager, agreed-create_transaction, agreed-exit, agreed-keep_information, agreed-only_reply, agreed-tick}
 use Rattle.ktm_courses.proofs.offered.EnlistmentAnswers.{is-aborting, owed-rollback, phase-owing}
 use Rattle.ktm_courses.proofs.offered.Arrivals.{brought-now, stands-now}
-use Rattle.ktm_courses.proofs.offered.Calls.{Answers, goes-pre_prepare_complete, goes-prepare_complete, goes-read_only, goes-commit_complete, goes-rollback_complete, goes-single_phase_reject, goes-pre_prepare_enlistment, goes-prepare_enlistment, goes-commit_enlistment, goes-recover_enlistment, superior-allowed, Passes, active-phase, phase-passed, single-phase, enlistment-allowed, enlistment-named, may-roll, passed, rolls, transaction-named, transaction_at-found, fresh-active}
+use Rattle.ktm_courses.proofs.offered.Calls.{Answers, goes-pre_prepare_complete, goes-prepare_complete, goes-read_only, goes-commit_complete, goes-rollback_complete, goes-single_phase_reject, goes-pre_prepare_enlistment, goes-prepare_enlistment, goes-commit_enlistment, goes-recover_enlistment, superior-allowed, Passes, active-phase, phase-passed, single-phase, enlistment-allowed, enlistment-named, may-roll, passed, rolls, transaction-named, fresh-active, of-answering}
 use Rattle.ktm_records.proofs.AgreementOfDecisions.{follows-commit_answered, follows-decision}
 use Rattle.txf_laws.proofs.offered.Elements.{list_all-at, not-not}
 use Rattle.ktm_courses.proofs.offered.FileSteps.{IsActiveCaller, caller-active, file-active, passes-left, plain-caller, with_setting-same}
@@ -57,7 +57,6 @@ use Rattle.ktm_courses.proofs.offered.Moves.{if_cases}
 use Rattle.ktm_courses.proofs.offered.CommitsBegun.{arrives-to_commit}
 use Rattle.ktm_courses.proofs.offered.Leads.{leads-pre_prepare, leads-prepare, leads-read_only}
 use Rattle.ktm_records.proofs.AgreementOfSilentSteps.{IsSilent, agreed-silent, silent-recovered, silent-rollback_answered, silent-single_phase_rejected}
-use Rattle.txf_laws.proofs.offered.Tables.{same_id-from}
 use Rattle.ktm_records.proofs.AgreementOfRestarts.{agreed-opened}
 use Rattle.ktm_records.proofs.offered.AgreementOfRollbacks.{agreed-aborted_by}
 
@@ -103,12 +102,7 @@ module _ (x : Present) (sound : IsSoundCourse x) (agreed : Agreed x) where
   answers : (o : Option Enlistment) (input : Enlistment → PhaseInput)
       → ((e : Enlistment) → o ≡ Some e → (t : Transaction) → IsIn t x.transactions.items → same_id e.transaction t.id ≡ true → transaction_in x e ≡ Some t → Agreed (apply x (arrived x (led (input e) (course_of x t (Some e))) Done)))
       → Agreed (apply x (answering x o input))
-  answers None input each = replies Done
-  answers (Some e) input each = go (transaction_in x e) refl
-    where
-      go : (o : Option Transaction) → transaction_in x e ≡ o → Agreed (apply x (goes_on x e o (input e)))
-      go None is = replies Done
-      go (Some t) is = let found = transaction_at-found x.transactions.items e.transaction t is in each e refl t found.0 (same_id-from e.transaction t.id (sym found.1)) is
+  answers o input each = of-answering (λ o. Agreed (apply x o)) x o input (replies Done) each
 
   module _ (o : Option Enlistment) (there : (e : Enlistment) → o ≡ Some e → IsIn e x.transactions.enlistments) where
     rolled-by : Passes (enlistment_tests o (may_roll_back_by x)) → Agreed (apply x (answering x o (λ e. PhaseInput.Rollback)))

@@ -18,7 +18,7 @@ use Rattle.ktm_world.specs.Lawful.{stage_in}
 use Rattle.ktm_world.specs.Phases.{Course, is_single_phase}
 use Rattle.ktm_world.specs.Present.{Present}
 use Rattle.ktm_world.specs.Steps.{led, share_of}
-use Rattle.ktm_world.specs.TransactionCalls.{answering, before_pre_prepare, before_prepare, commit_of, commit_reply, course_of, enlistment_tests, goes_on, is_voting, may_roll_back_by, may_vote, phase_passes, rollback_of, rollback_transaction_tests, superior_tests, transaction_in, waits_for_superior, recovery_of}
+use Rattle.ktm_world.specs.TransactionCalls.{answering, before_pre_prepare, before_prepare, commit_of, commit_reply, course_of, enlistment_tests, is_voting, may_roll_back_by, may_vote, phase_passes, rollback_of, rollback_transaction_tests, superior_tests, transaction_in, waits_for_superior, recovery_of}
 use Rattle.ktm_world.specs.Transactions.{is_undecided, same_id}
 use Rattle.ktm_steps.proofs.offered.Table.{rows_law}
 use Rattle.ktm_steps.specs.Procedures.{finished}
@@ -27,7 +27,7 @@ use Rattle.ktm_records.specs.Kept.{IsKept, facts_apply}
 use Rattle.ktm_courses.specs.SoundCourse.{has_durable_part, is_outcome_of, is_part_as, is_phase_back, is_recorded_as, owes_until_finished}
 use Rattle.ktm_courses.proofs.offered.EnlistmentAnswers.{here-from, is-committing, is-pre_preparing, owed-commit, owed-pre_prepare, part_preparing, phase-owing, phase_preparing, takes_part-owing, unprepared, until-owed}
 use Rattle.ktm_courses.proofs.offered.Arrivals.{brought-now, stands-now}
-use Rattle.ktm_courses.proofs.offered.Calls.{Passes, active-phase, enlistment-allowed, may-roll, passed, phase-passed, rolls, superior-allowed, transaction_at-found}
+use Rattle.ktm_courses.proofs.offered.Calls.{Passes, active-phase, enlistment-allowed, may-roll, passed, phase-passed, rolls, superior-allowed, of-answering}
 use Rattle.ktm_courses.proofs.offered.Leads.{leads-pre_prepare, leads-prepare, leads-read_only}
 use Rattle.txf_laws.proofs.offered.Elements.{list_all-at, list_any-from, not-not}
 use Rattle.ktm_records.proofs.offered.AgreementOfCourses.{arrival}
@@ -36,7 +36,7 @@ use Rattle.ktm_courses.proofs.offered.Moves.{same-by_id}
 use Rattle.ktm_courses.proofs.offered.Procedures.{Stands, part-parts}
 use Rattle.ktm_records.proofs.CourseRecords.{IsOn, facts-commit_answered, facts-committing, facts-if_finished, facts-pre_prepare_answered, facts-prepare_answered, facts-read_only_answered, facts-to_commit, facts-to_pre_prepare, facts-to_prepare}
 use Rattle.ktm_records.proofs.AgreementOfSilentSteps.{silent-recovered}
-use Rattle.txf_laws.proofs.offered.Tables.{same_id-equal, same_id-from}
+use Rattle.txf_laws.proofs.offered.Tables.{same_id-equal}
 use Rattle.ktm_records.proofs.UndoFacts.{FactsOf, facts-aborted_by}
 
 -- ---- phases
@@ -141,14 +141,7 @@ module _ (x : Present) (kept : IsKept x) where
   answers : (o : Option Enlistment) (input : Enlistment → PhaseInput)
       → ((e : Enlistment) → o ≡ Some e → (t : Transaction) → IsIn t x.transactions.items → same_id e.transaction t.id ≡ true → transaction_in x e ≡ Some t → facts_apply x.recorded (led (input e) (course_of x t (Some e))).events ≡ true)
       → FactsOf x (answering x o input)
-  answers None input each = refl
-  answers (Some e) input each = go (transaction_in x e) refl
-    where
-      go : (o : Option Transaction) → transaction_in x e ≡ o → FactsOf x (goes_on x e o (input e))
-      go None is = refl
-      go (Some t) is =
-          let found = transaction_at-found x.transactions.items e.transaction t is in
-          ap (facts_apply x.recorded) (arrival x (led (input e) (course_of x t (Some e))) Done).events ∙ each e refl t found.0 (same_id-from e.transaction t.id (sym found.1)) is
+  answers o input each = of-answering (FactsOf x) x o input refl (λ e is t at own found. ap (facts_apply x.recorded) (arrival x (led (input e) (course_of x t (Some e))) Done).events ∙ each e is t at own found)
 
   module _ (o : Option Enlistment) (in_es : (e : Enlistment) → o ≡ Some e → IsIn e x.transactions.enlistments) where
     pub facts-pre_prepare_complete : Passes (enlistment_tests o owes_pre_prepare) → FactsOf x (answering x o (λ e. PhaseInput.PrePrepareComplete))

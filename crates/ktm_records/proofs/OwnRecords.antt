@@ -40,13 +40,13 @@ use Rattle.ktm_world.specs.Labels.{enlistment_named, file_named, file_tests, man
 use Rattle.ktm_world.specs.Outcome.{Outcome, and_then, apply, first_refusal, is_full, only_reply, refuse_or, within_log}
 use Rattle.ktm_world.specs.Phases.{Course, event_if}
 use Rattle.ktm_world.specs.Present.{Present}
-use Rattle.ktm_world.specs.TransactionCalls.{aborted_by, aborted_if_due, aborted_in_turn, answering, arrived, commit_complete, commit_enlistment, commit_of, commit_reply, commit_transaction, course_of, create_enlistment, create_resource_manager, create_transaction, enlist, enlistment_with, get_information, get_notification, get_transaction_information, goes_on, is_due, keep_information, manager_with, open_enlistment, open_resource_manager, open_to_enlistment, open_to_manager, open_to_transaction, open_transaction, pre_prepare_complete, pre_prepare_enlistment, prepare_complete, prepare_enlistment, read_only_enlistment, recover_all, recover_enlistment, recover_resource_manager, rollback_complete, rollback_enlistment, rollback_of, rollback_transaction, set_information, single_phase_reject, take_first, tick, transaction_in, transaction_with, with_clock, recovery_of}
+use Rattle.ktm_world.specs.TransactionCalls.{aborted_by, aborted_if_due, aborted_in_turn, answering, arrived, commit_complete, commit_enlistment, commit_of, commit_reply, commit_transaction, course_of, create_enlistment, create_resource_manager, create_transaction, enlist, enlistment_with, get_information, get_notification, get_transaction_information, is_due, keep_information, manager_with, open_enlistment, open_resource_manager, open_to_enlistment, open_to_manager, open_to_transaction, open_transaction, pre_prepare_complete, pre_prepare_enlistment, prepare_complete, prepare_enlistment, read_only_enlistment, recover_all, recover_enlistment, recover_resource_manager, rollback_complete, rollback_enlistment, rollback_of, rollback_transaction, set_information, single_phase_reject, take_first, tick, transaction_with, with_clock, recovery_of}
 use Rattle.ktm_world.specs.Steps.{led, share_of}
 use Rattle.ktm_world.specs.Transactions.{is_active, is_undecided, transaction_at}
 use Rattle.ktm_world.specs.Uses.{file_room}
 use Rattle.ktm_world.specs.World.{decide_tick}
 use Rattle.ktm_steps.proofs.offered.Recorded.{all-append}
-use Rattle.ktm_courses.proofs.offered.Calls.{Passes, passed}
+use Rattle.ktm_courses.proofs.offered.Calls.{Passes, passed, of-answering}
 use Rattle.ktm_records.proofs.offered.AgreementOfCourses.{arrival}
 use Rattle.ktm_courses.proofs.offered.Moves.{if_cases}
 use Rattle.ktm_records.proofs.OwnEvents.{IsOwnEvent, IsSpelledPut, few-led, own-led}
@@ -194,12 +194,7 @@ module _ (Files : List Change → Type 0) (Keys : OwnSettings → Type 0) where
     does-rollback (Some t) = does-rolled x _ (rolls-back x t None Done)
 
     does-answering : (o : Option Enlistment) (input : Enlistment → PhaseInput) → Does x (answering x o input)
-    does-answering None input = does-reply x Done
-    does-answering (Some e) input = go (transaction_in x e)
-      where
-        go : (o : Option Transaction) → Does x (goes_on x e o (input e))
-        go None = does-reply x Done
-        go (Some t) = does-led (input e) t (Some e) Done
+    does-answering o input = of-answering (Does x) x o input (does-reply x Done) (λ e is t there own found. does-led (input e) t (Some e) Done)
 
     -- ---- objects
 

@@ -18,10 +18,10 @@ use Rattle.ktm_types.specs.declared.step.Owed.{Owed}
 use Rattle.ktm_world.specs.Enlistments.{Enlistment, Manager, Sent, is_superior, is_open_for_votes, owes_pre_prepare, owes_prepare, owes_commit, owes_rollback, manager_at, enlistment_at}
 use Rattle.ktm_world.specs.Handles.{object_at, transaction_id}
 use Rattle.ktm_world.specs.Labels.{transaction_named, manager_named, manager_id, enlistment_named, enlistment_id, holds_of, transaction_tests}
-use Rattle.ktm_world.specs.Outcome.{first_refusal}
+use Rattle.ktm_world.specs.Outcome.{first_refusal, Outcome, only_reply}
 use Rattle.ktm_world.specs.Phases.{Course, is_single_phase}
 use Rattle.ktm_world.specs.Present.{Present}
-use Rattle.ktm_world.specs.TransactionCalls.{course_of, commit_reply, commit_of, aborted_by, rollback_of, may_roll_back, rollback_transaction_tests, transaction_in, phase_passes, is_voting, lets_superior_roll_back, before_pre_prepare, before_prepare, waits_for_superior, may_vote, may_roll_back_by, may_reject_one_phase, may_recover, enlistment_tests, superior_tests, goes_on, answering, is_to_recover, recover_notes, recover_all, take_first, recovery_of}
+use Rattle.ktm_world.specs.TransactionCalls.{course_of, commit_reply, commit_of, aborted_by, rollback_of, may_roll_back, rollback_transaction_tests, transaction_in, phase_passes, is_voting, lets_superior_roll_back, before_pre_prepare, before_prepare, waits_for_superior, may_vote, may_roll_back_by, may_reject_one_phase, may_recover, enlistment_tests, superior_tests, goes_on, answering, is_to_recover, recover_notes, recover_all, take_first, recovery_of, arrived}
 use Rattle.ktm_world.specs.Steps.{led, share_of}
 use Rattle.ktm_world.specs.Transactions.{same_id, transaction_at, is_active}
 use Rattle.ktm_steps.specs.Procedures.{commit_answered, committing, pre_prepare_answered, prepare_answered, read_only_answered, recovered, rollback_answered, single_phase_rejected}
@@ -177,16 +177,20 @@ pub record Goes (boot : ℕ) (c : Course) (input : PhaseInput) : Type 0 where
 abbrev pub Answers : Present → PhaseInput → Enlistment → Type 0
 Answers x input e = (t : Transaction) → IsIn t (x.transactions).items → same_id e.transaction t.id ≡ true → transaction_in x e ≡ Some t → Goes (x.recorded).boots (course_of x t (Some e)) input
 
-sound-goes_on : (x : Present) (e : Enlistment) (o : Option Transaction) (input : PhaseInput) → IsSoundCourse x → IsIn e (x.transactions).enlistments → transaction_in x e ≡ o → Answers x input e → IsSoundOutcome x (goes_on x e o input)
-sound-goes_on x e None input sound in_es is answers = sound-only_reply x Done sound
-sound-goes_on x e (Some t) input sound in_es is answers =
-    let found = transaction_at-found (x.transactions).items e.transaction t is in
-    let goes = answers t found.0 (same_id-from e.transaction t.id (sym found.1)) is in
-    sound-arrived x t (Some e) input Done sound found.0 (λ f is. subst (λ g. IsIn g (x.transactions).enlistments) (same_Some e f is) in_es) (goes.arrives) (goes.may)
+-- what is so of a reply alone, and of where its transaction is led, is so of a call of an enlistment
+pub of-answering : (P : Outcome → Type 0) (x : Present) (o : Option Enlistment) (input : Enlistment → PhaseInput) → P (only_reply x Done)
+    → ((e : Enlistment) → o ≡ Some e → (t : Transaction) → IsIn t (x.transactions).items → same_id e.transaction t.id ≡ true → transaction_in x e ≡ Some t → P (arrived x (led (input e) (course_of x t (Some e))) Done)) → P (answering x o input)
+of-answering P x None input replies leads = replies
+of-answering P x (Some e) input replies leads = go (transaction_in x e) refl
+  where
+    go : (o : Option Transaction) → transaction_in x e ≡ o → P (goes_on x e o (input e))
+    go None is = replies
+    go (Some t) is = let found = transaction_at-found (x.transactions).items e.transaction t is in leads e refl t found.0 (same_id-from e.transaction t.id (sym found.1)) is
 
 pub sound-answering : (x : Present) (o : Option Enlistment) (input : Enlistment → PhaseInput) → IsSoundCourse x → ((e : Enlistment) → o ≡ Some e → IsIn e (x.transactions).enlistments) → ((e : Enlistment) → o ≡ Some e → Answers x (input e) e) → IsSoundOutcome x (answering x o input)
-sound-answering x None input sound there answers = sound-only_reply x Done sound
-sound-answering x (Some e) input sound there answers = sound-goes_on x e (transaction_in x e) (input e) sound (there e refl) refl (answers e refl)
+sound-answering x o input sound there answers = of-answering (IsSoundOutcome x) x o input (sound-only_reply x Done sound) (λ e is t at own found.
+    let goes = answers e is t at own found in
+    sound-arrived x t (Some e) (input e) Done sound at (λ f same. subst (λ g. IsIn g (x.transactions).enlistments) (same_Some e f same) (there e is)) goes.arrives goes.may)
 
 pub enlistment-allowed : (o : Option Enlistment) (allowed : Enlistment → Bool) (e : Enlistment) → o ≡ Some e → Passes (enlistment_tests o allowed) → allowed e ≡ true
 enlistment-allowed o allowed e is tests =

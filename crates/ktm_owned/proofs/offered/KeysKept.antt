@@ -38,7 +38,7 @@ use Rattle.ktm_world.specs.Outcome.{Outcome, apply, only_reply, committed_now, f
 use Rattle.ktm_world.specs.Phases.{Course}
 use Rattle.ktm_world.specs.Present.{Present, Transactions}
 use Rattle.ktm_world.specs.Steps.{led, share_of}
-use Rattle.ktm_world.specs.TransactionCalls.{course_of, arrived, create_transaction, open_transaction, open_to_transaction, transaction_with, commit_transaction, commit_reply, aborted_by, rollback_transaction, get_transaction_information, information_of, information_in, create_resource_manager, open_resource_manager, open_to_manager, manager_with, recover_resource_manager, get_notification, create_enlistment, open_enlistment, open_to_enlistment, enlistment_with, goes_on, answering, transaction_in, pre_prepare_complete, prepare_complete, read_only_enlistment, commit_complete, rollback_complete, single_phase_reject, rollback_enlistment, pre_prepare_enlistment, prepare_enlistment, commit_enlistment, recover_enlistment, set_information, get_information, tick, with_clock, aborted_in_turn, aborted_if_due, is_due, recovery_of}
+use Rattle.ktm_world.specs.TransactionCalls.{course_of, arrived, create_transaction, open_transaction, open_to_transaction, transaction_with, commit_transaction, commit_reply, aborted_by, rollback_transaction, get_transaction_information, information_of, information_in, create_resource_manager, open_resource_manager, open_to_manager, manager_with, recover_resource_manager, get_notification, create_enlistment, open_enlistment, open_to_enlistment, enlistment_with, answering, pre_prepare_complete, prepare_complete, read_only_enlistment, commit_complete, rollback_complete, single_phase_reject, rollback_enlistment, pre_prepare_enlistment, prepare_enlistment, commit_enlistment, recover_enlistment, set_information, get_information, tick, with_clock, aborted_in_turn, aborted_if_due, is_due, recovery_of}
 use Rattle.ktm_world.specs.Transactions.{is_of, same_id, transaction_at, change_at, is_undecided, is_active, is_committed, is_aborted}
 use Rattle.txf_laws.specs.Elements.{IsIn, each_pair}
 use Rattle.txf_laws.specs.Contents.{is_good_entry}
@@ -51,6 +51,7 @@ use Rattle.ktm_states.proofs.offered.Settings.{stored_all-rises, stored_all-good
 use Rattle.txf_laws.proofs.offered.Tables.{same_id-sym}
 use Rattle.ktm_owned.proofs.offered.Undecided.{transaction_at-id, undecided-from, undecided-other, undecided-itself, undecided-added}
 use Rattle.ktm_owned.proofs.offered.Restarts.{keys-opened}
+use Rattle.ktm_courses.proofs.offered.Calls.{of-answering}
 
 -- an outcome keeps the keys sound
 abbrev Keeps : Present → Outcome → Type 0
@@ -177,12 +178,7 @@ step-keeps x t caller input reply =
     (led-is t (own_changes x.files.table.own t.id) (own_settings x.keys.own t.id) input (course_of x t caller) (course-begun x t caller))
 
 answering-keeps : (x : Present) (e : Option Enlistment) (input : Enlistment → PhaseInput) → Keeps x (answering x e input)
-answering-keeps x None input = only_reply-keeps x Done
-answering-keeps x (Some e) input = go (transaction_in x e)
-  where
-    go : (t : Option Transaction) → Keeps x (goes_on x e t (input e))
-    go None = only_reply-keeps x Done
-    go (Some t) = step-keeps x t (Some e) (input e) (λ c. Done)
+answering-keeps x e input = of-answering (Keeps x) x e input (only_reply-keeps x Done) (λ e is t there own found. step-keeps x t (Some e) (input e) (λ c. Done))
 
 aborted_by-keeps : (x : Present) (t : Transaction) → Keeps x (aborted_by x t None Done)
 aborted_by-keeps x t = step-keeps x t None PhaseInput.Rollback (λ c. Done)
