@@ -86,9 +86,6 @@ module _ (s : Durable) (id : Id) (part : Part) where
   pub pushed-known : recorded_or_new s'.transactions id ≡ pushed r part
   pushed-known = ap (recorded_or_new (with_recorded s.transactions (pushed r part))) (sym r-id) ∙ recorded_or_new-with s.transactions (pushed r part)
 
-  pub pushed-at : recorded_at s'.transactions id ≡ Some (pushed r part)
-  pushed-at = ap (recorded_at (with_recorded s.transactions (pushed r part))) (sym r-id) ∙ recorded_at-with s.transactions (pushed r part)
-
   pub pushed-may : may_get_ready s id ≡ true → may_get_ready s' id ≡ true
   pushed-may may = ap (λ (u : Recorded). id.boot == s.boots && is_ready u.stage) pushed-known ∙ may
 

@@ -6,7 +6,6 @@ use Rattle.ktm_states.specs.GoodState.{is_of_object}
 use Rattle.ktm_states.specs.Grammatical.{names_objects}
 use Rattle.ktm_courses.proofs.offered.NewObjects.{counted-parts}
 use Rattle.std.specs.List.{list_all}
-use Rattle.std.proofs.lemmas.Option.{none-some, same_Some}
 use Rattle.ktm_base.specs.declared.id.Id.{Id}
 use Rattle.ktm_types.specs.declared.event.Event.{Event}
 use Rattle.ktm_types.specs.declared.event.Event.TheVariants.{Boot, MadeRm, Plain, Ready, Single, Held, Decide, Undo, Done}
@@ -17,14 +16,14 @@ use Rattle.ktm_types.specs.declared.object.Phase.TheVariants.{SinglePhase}
 use Rattle.ktm_types.specs.declared.input.PhaseInput.{PhaseInput}
 use Rattle.ktm_types.specs.declared.reply.Reply.{Reply}
 use Rattle.ktm_world.specs.Durable.{Durable, Recorded, after_event, after_events, decide_recorded, finish_recorded, recorded_at}
-use Rattle.ktm_world.specs.Enlistments.{Manager, Sent, notes_for, taken_count, Enlistment, superior_of}
+use Rattle.ktm_world.specs.Enlistments.{Manager, Sent, notes_for, taken_count, Enlistment}
 use Rattle.ktm_world.specs.Files.{FileTable, OwnChanges, own_changes, without_transaction}
 use Rattle.ktm_world.specs.Keys.{Own, own_settings, without_own}
 use Rattle.ktm_world.specs.OneOutcome.{told_outcome}
 use Rattle.ktm_world.specs.Outcome.{Outcome, only_reply, served, apply, joined}
 use Rattle.ktm_world.specs.Phases.{Course, has_settings, is_single_phase}
 use Rattle.ktm_world.specs.Present.{Present}
-use Rattle.ktm_world.specs.Steps.{lasting, lasting_of, led, basis}
+use Rattle.ktm_world.specs.Steps.{led, basis}
 use Rattle.ktm_world.specs.TransactionCalls.{course_of, arrived}
 use Rattle.ktm_steps.specs.Outcomes.{MayCome}
 use Rattle.ktm_steps.proofs.offered.Recorded.{bare-facts, is_bare, passes-led}
@@ -37,8 +36,8 @@ use Rattle.ktm_courses.specs.Outcomes.{OutcomesStay}
 use Rattle.ktm_courses.proofs.offered.Outcomes.{stay-refl, stay-changed, stays-known}
 use Rattle.txf_laws.proofs.offered.Elements.{list_all-at, list_all-from, list_any-at}
 use Rattle.txf_laws.proofs.offered.Tables.{same_id-equal, same_id-sym}
-use Rattle.ktm_courses.proofs.offered.Moves.{if_cases, is_boot, find-found, NoBoots, NoBoots-none}
-use Rattle.ktm_courses.proofs.offered.Procedures.{Arrives}
+use Rattle.ktm_courses.proofs.offered.Moves.{if_cases, is_boot, NoBoots, NoBoots-none, of-superior}
+use Rattle.ktm_courses.proofs.offered.Endings.{Arrives}
 use Rattle.ktm_courses.proofs.offered.Views.{sound-alike, sound-served}
 use Rattle.ktm_courses.proofs.offered.Arrivals.{with_course, changed_to, IsIn-changed, sound-course, notes-course}
 
@@ -196,17 +195,13 @@ module _ (x : Present) (t : Transaction) (caller : Option Enlistment) (sound : I
   names-enlistment : (e : Enlistment) → IsIn e es → list_all is_of_object (t.id ∷ e.id ∷ e.manager ∷ []) ≡ true
   names-enlistment e in_es = and_from _ _ object-itself (and_from _ _ (object-enlistment e in_es) (and_from _ _ (object-manager e in_es) refl))
 
-  names-superior : (o : Option Enlistment) → superior_of es t.id ≡ o → (e : Enlistment) → lasting_of o ≡ Some e → list_all is_of_object (t.id ∷ e.id ∷ e.manager ∷ []) ≡ true
-  names-superior None found e is = absurd (none-some e is)
-  names-superior (Some f) found e is = subst (λ (g : Enlistment). list_all is_of_object (t.id ∷ g.id ∷ g.manager ∷ []) ≡ true) (same_Some (lasting f) e is) (names-enlistment f (find-found _ es f found).0)
-
   -- what a call records names objects
   objects-led : (input : PhaseInput) → list_all names_objects (led input (course_of x t caller)).events ≡ true
   objects-led input = passes-led names_objects input (course_of x t caller) refl record {
     ready_files = names-own;
     ready_keys = names-own;
     ready = λ e is. names-enlistment e (calls e is);
-    held = λ e is. names-superior (superior_of es t.id) refl e is;
+    held = of-superior (λ e. list_all is_of_object (t.id ∷ e.id ∷ e.manager ∷ []) ≡ true) es t.id (λ e in_es is. names-enlistment e in_es);
     decide = names-own;
     undo = names-own;
     done_files = names-own;

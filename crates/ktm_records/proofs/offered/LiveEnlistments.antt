@@ -40,43 +40,15 @@ pub record Fade (es fs : List Enlistment) : Type 0 where
   pub is : fs ≡ map step es
   pub declines : (e : Enlistment) → Declines e (step e)
 
-pub fade-stays : (es : List Enlistment) → Fade es es
-fade-stays es = record { step = λ e. e; is = sym (map-id es); declines = declines-stays }
-
-pub fade-then : (es fs gs : List Enlistment) → Fade es fs → Fade fs gs → Fade es gs
-fade-then es fs gs a b = record {
-  step = λ e. b.step (a.step e);
-  is = b.is ∙ ap (map b.step) a.is ∙ map-map b.step a.step es;
-  declines = λ e.
-      let first = a.declines e in
-      let second = b.declines (a.step e) in
-      record {
-        transaction = second.transaction ∙ first.transaction;
-        kind = second.kind ∙ first.kind;
-        read_only = λ is. second.read_only (first.read_only is);
-        finished = λ is. second.finished (first.finished is);
-      };
-}
-
 -- those that pass a test are changed
 pub fade-with : (test : Enlistment → Bool) (f : Enlistment → Enlistment) (es : List Enlistment) → ((e : Enlistment) → Declines e (f e)) → Fade es (with_enlistments test f es)
 fade-with test f es each = record { step = stepped test f; is = refl; declines = λ e. if_cases (Declines e) (test e) (f e) e (λ is. each e) (λ is. declines-stays e) }
-
-pub fade-owing : (test : Enlistment → Bool) (owed : Owed) (es : List Enlistment) → Fade es (with_enlistments test (owing owed) es)
-fade-owing test owed es = fade-with test (owing owed) es (λ e. record { transaction = refl; kind = refl; read_only = λ is. is; finished = λ is. is })
-
-pub fade-told : (test : Enlistment → Bool) (es : List Enlistment) → Fade es (with_enlistments test unchanged es)
-fade-told test es = fade-with test unchanged es declines-stays
 
 -- ---- courses
 
 -- no enlistment is live again
 abbrev pub Fades : Course → Course → Type 0
 Fades c d = Fade c.enlistments d.enlistments
-
--- one enlistment is changed
-pub fades-one : (c : Course) (id : Id) (f : Enlistment → Enlistment) → ((e : Enlistment) → Declines e (f e)) → Fades c (changing_one c id f)
-fades-one c id f each = fade-with (has_id id) f c.enlistments each
 
 -- so it is by each row
 pub fades-led : (input : PhaseInput) (c : Course) → Fades c (led input c)
