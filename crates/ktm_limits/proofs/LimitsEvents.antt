@@ -17,12 +17,9 @@ use Rattle.ktm_types.specs.declared.event.Event.TheVariants.{MadeRm, Plain, Undo
 use Rattle.ktm_types.specs.declared.input.PhaseInput.{PhaseInput}
 use Rattle.ktm_types.specs.declared.object.Object.{Object}
 use Rattle.ktm_types.specs.declared.object.Object.TheVariants.{Transaction as TransactionObject, Manager as ManagerObject, Enlistment as EnlistmentObject, File as FileObject}
-use Rattle.ktm_types.specs.declared.object.Phase.{Phase}
-use Rattle.ktm_types.specs.declared.object.Phase.TheVariants.{Active, Requested, PrePreparing, PrePrepared, Preparing, SinglePhase, Held, InDoubt}
 use Rattle.ktm_types.specs.declared.object.Transaction.{Transaction}
 use Rattle.ktm_types.specs.declared.options.Durability.{Durability}
 use Rattle.ktm_types.specs.declared.options.EnlistmentKind.{EnlistmentKind}
-use Rattle.ktm_types.specs.declared.recorded.Stage.{Stage}
 use Rattle.ktm_types.specs.declared.reply.Reply.{Reply}
 use Rattle.ktm_types.specs.declared.reply.Reply.TheVariants.{Contents as Bytes, Done, Refused, Size}
 use Rattle.ktm_types.specs.declared.step.Owed.{Owed}
@@ -52,11 +49,11 @@ use Rattle.txf_laws.specs.Elements.{IsIn}
 use Rattle.txf_laws.specs.Footprint.{ListsLaw}
 use Rattle.txf_laws.specs.Formed.{FormedLaw}
 use Rattle.ktm_records.specs.Kept.{IsKept, limits_hold}
-use Rattle.ktm_courses.specs.SoundCourse.{is_part_as, is_recorded_as, is_recorded_as_asked}
+use Rattle.ktm_courses.specs.SoundCourse.{is_part_as, is_recorded_as_asked}
 use Rattle.txf_laws.specs.SoundFiles.{IsSoundFiles}
-use Rattle.ktm_courses.proofs.offered.EnlistmentAnswers.{answer_in, can_roll_back, is-committing, is-pre_preparing, is-preparing, owed-commit, owed-pre_prepare, owed-prepare, phase-owing, preparing-parts, takes_part-owing}
+use Rattle.ktm_courses.proofs.offered.EnlistmentAnswers.{answer_in, is-committing, is-pre_preparing, is-preparing, owed-commit, owed-pre_prepare, owed-prepare, phase-owing, preparing-parts, takes_part-owing}
 use Rattle.ktm_courses.proofs.offered.Arrivals.{stands-now, brought-now}
-use Rattle.ktm_courses.proofs.offered.Calls.{Passes, passed, active-phase, transaction-named, enlistment-named, enlistment-allowed, superior-allowed, phase-passed}
+use Rattle.ktm_courses.proofs.offered.Calls.{Passes, passed, active-phase, transaction-named, enlistment-named, enlistment-allowed, superior-allowed, phase-passed, waiting-rolls}
 use Rattle.ktm_records.proofs.offered.DurableLimits.{limits-from}
 use Rattle.txf_laws.proofs.offered.Elements.{list_all-at, not-not}
 use Rattle.ktm_records.proofs.offered.AgreementOfCourses.{arrival}
@@ -72,6 +69,7 @@ use Rattle.ktm_limits.proofs.RecordedLimits.{agreeing-limits}
 use Rattle.ktm_limits.proofs.RecordedCourses.{uncounted}
 use Rattle.txf_laws.proofs.offered.Tables.{Rises}
 use Rattle.ktm_records.proofs.offered.AgreementOfRollbacks.{rollback-undone}
+use Rattle.ktm_records.proofs.offered.Stages.{early-pre_prepare, early-prepare, early-voting, voting-stage, waiting-held, waiting-recorded}
 
 -- ---- what only undoes
 
@@ -238,38 +236,6 @@ silent-information : (x : Present) (e : Option Enlistment) (information : List �
 silent-information x None information = refl
 silent-information x (Some e) information = refl
 
--- ---- phases
-
-voting-early : (phase : Phase) → is_voting phase ≡ true → stage_in phase ≡ Some Stage.Ready
-voting-early Active is = refl
-voting-early Requested is = refl
-voting-early PrePreparing is = refl
-voting-early PrePrepared is = refl
-voting-early Preparing is = refl
-voting-early SinglePhase is = refl
-voting-early _ is = absurd (true≢false (sym is))
-
-pre_prepare-early : (phase : Phase) → before_pre_prepare phase ≡ true → stage_in phase ≡ Some Stage.Ready
-pre_prepare-early Active is = refl
-pre_prepare-early Requested is = refl
-pre_prepare-early _ is = absurd (true≢false (sym is))
-
-prepare-early : (phase : Phase) → before_prepare phase ≡ true → stage_in phase ≡ Some Stage.Ready
-prepare-early Active is = refl
-prepare-early Requested is = refl
-prepare-early PrePrepared is = refl
-prepare-early _ is = absurd (true≢false (sym is))
-
-waits-held : (phase : Phase) → waits_for_superior phase ≡ true → (stage_in phase ≡ Some Stage.Held) × (can_roll_back phase ≡ true)
-waits-held Held is = (refl, refl)
-waits-held InDoubt is = (refl, refl)
-waits-held _ is = absurd (true≢false (sym is))
-
-waits-recorded : (phase : Phase) (ms : List Manager) (es : List Enlistment) (id : Id) (r : Bool) → waits_for_superior phase ≡ true → is_recorded_as phase ms es id r ≡ true → r ≡ true
-waits-recorded Held ms es id r is recorded = recorded
-waits-recorded InDoubt ms es id r is recorded = recorded
-waits-recorded _ ms es id r is recorded = absurd (true≢false (sym is))
-
 -- ---- all commands
 
 module _ (agreeing : AgreeingLaw) (keeping : FilesKeptLaw) (lists : ListsLaw) (formed : FormedLaw) (x : Present) (kept : IsKept x) where
@@ -330,7 +296,7 @@ module _ (agreeing : AgreeingLaw) (keeping : FilesKeptLaw) (lists : ListsLaw) (f
 
     reads_only : Passes (enlistment_tests o (may_vote x)) → Holds (answering x o (λ e. PhaseInput.ReadOnly (share_of e)))
     reads_only tests = holds-answering lists x kept.sound.course kept.good kept.agrees kept.sound.files fits o (λ e. PhaseInput.ReadOnly (share_of e)) (λ e is t found at own.
-        read_only-events lists x kept.sound.course kept.good kept.agrees kept.sound.files fits t at (Some e) (voting-early t.phase (phase-passed x is_voting e t found (and_parts _ (phase_passes x is_voting e) (enlistment-allowed o (may_vote x) e is tests)).1)) (share_of e))
+        read_only-events lists x kept.sound.course kept.good kept.agrees kept.sound.files fits t at (Some e) (voting-stage t.phase (phase-passed x is_voting e t found (and_parts _ (phase_passes x is_voting e) (enlistment-allowed o (may_vote x) e is tests)).1)) (share_of e))
 
     has_committed : Passes (enlistment_tests o owes_commit) → Holds (answering x o (λ e. PhaseInput.CommitComplete))
     has_committed tests = holds-answering lists x kept.sound.course kept.good kept.agrees kept.sound.files fits o (λ e. PhaseInput.CommitComplete) (λ e is t found at own.
@@ -338,18 +304,17 @@ module _ (agreeing : AgreeingLaw) (keeping : FilesKeptLaw) (lists : ListsLaw) (f
 
     asks_pre_prepare : Passes (superior_tests x o before_pre_prepare) → Holds (answering x o (λ e. PhaseInput.PrePrepare))
     asks_pre_prepare tests = holds-answering lists x kept.sound.course kept.good kept.agrees kept.sound.files fits o (λ e. PhaseInput.PrePrepare) (λ e is t found at own.
-        pre_prepare-events lists x kept.sound.course kept.good kept.agrees kept.sound.files fits t at (Some e) (pre_prepare-early t.phase (phase-passed x before_pre_prepare e t found (superior-allowed x o before_pre_prepare e is tests))))
+        pre_prepare-events lists x kept.sound.course kept.good kept.agrees kept.sound.files fits t at (Some e) (voting-stage t.phase (early-voting t.phase (early-pre_prepare t.phase (phase-passed x before_pre_prepare e t found (superior-allowed x o before_pre_prepare e is tests))))))
 
     asks_prepare : Passes (superior_tests x o before_prepare) → Holds (answering x o (λ e. PhaseInput.Prepare))
     asks_prepare tests = holds-answering lists x kept.sound.course kept.good kept.agrees kept.sound.files fits o (λ e. PhaseInput.Prepare) (λ e is t found at own.
-        prepare-events lists x kept.sound.course kept.good kept.agrees kept.sound.files fits t at (Some e) (prepare-early t.phase (phase-passed x before_prepare e t found (superior-allowed x o before_prepare e is tests))))
+        prepare-events lists x kept.sound.course kept.good kept.agrees kept.sound.files fits t at (Some e) (voting-stage t.phase (early-voting t.phase (early-prepare t.phase (phase-passed x before_prepare e t found (superior-allowed x o before_prepare e is tests))))))
 
     decides : Passes (superior_tests x o waits_for_superior) → Holds (answering x o (λ e. PhaseInput.Commit))
     decides tests = holds-answering lists x kept.sound.course kept.good kept.agrees kept.sound.files fits o (λ e. PhaseInput.Commit) (λ e is t found at own.
         let waits = phase-passed x waits_for_superior e t found (superior-allowed x o waits_for_superior e is tests) in
-        let held = waits-held t.phase waits in
         commit-events lists x kept.sound.course kept.good kept.agrees kept.sound.files fits t at (Some e)
-        (waits-recorded t.phase x.managers x.transactions.enlistments t.id t.is_recorded waits (list_all-at (is_recorded_as_asked x.managers x.transactions.enlistments) x.transactions.items kept.sound.course.phases.recorded t at)) held.0 held.1)
+        (waiting-recorded t.phase x.managers x.transactions.enlistments t.id t.is_recorded waits (list_all-at (is_recorded_as_asked x.managers x.transactions.enlistments) x.transactions.items kept.sound.course.phases.recorded t at)) (waiting-held t.phase waits) (waiting-rolls t.phase waits))
 
   aborts : (o : Option Enlistment) → Holds (answering x o (λ e. PhaseInput.Rollback))
   aborts o = holds-answering lists x kept.sound.course kept.good kept.agrees kept.sound.files fits o (λ e. PhaseInput.Rollback) (λ e is t found at own.

@@ -2,17 +2,15 @@
 use Rattle.std.proofs.Common.{◌≡◌, ℕ, ◌&&◌, not, Bool, true, false, List, [], Option, Some, None, is_some, refl, sym, ◌∙◌, ap, subst, inl, inr, ◌||◌}
 use Rattle.std.proofs.lemmas.Bool.{and_left, and_parts, and_right, not-true, true≢false, false_from_ne_true, cases_Bool}
 use Rattle.std.specs.List.{list_any}
-use Rattle.ktm_base.specs.declared.id.Id.{Id}
 use Rattle.ktm_types.specs.declared.event.Event.{Event}
 use Rattle.ktm_types.specs.declared.input.PhaseInput.{PhaseInput}
 use Rattle.ktm_types.specs.declared.object.Phase.{Phase}
-use Rattle.ktm_types.specs.declared.object.Phase.TheVariants.{Active, Requested, PrePreparing, PrePrepared, Preparing, SinglePhase, Held, InDoubt, Committing, Aborting, Ended}
+use Rattle.ktm_types.specs.declared.object.Phase.TheVariants.{Active, Requested, PrePreparing, PrePrepared, Preparing, SinglePhase}
 use Rattle.ktm_types.specs.declared.object.Transaction.{Transaction}
 use Rattle.ktm_types.specs.declared.object.TransactionOutcome.TheVariants.{Committed as CommittedOutcome}
-use Rattle.ktm_types.specs.declared.recorded.Stage.{Stage}
 use Rattle.ktm_types.specs.declared.step.Owed.{Owed}
 use Rattle.ktm_world.specs.Durable.{Recorded}
-use Rattle.ktm_world.specs.Enlistments.{Enlistment, Manager, allows_one_phase, has_id, is_durable_at, is_open_for_votes, is_superior, owes_commit, owes_pre_prepare, owes_prepare, takes_part}
+use Rattle.ktm_world.specs.Enlistments.{Enlistment, allows_one_phase, has_id, is_durable_at, is_open_for_votes, is_superior, owes_commit, owes_pre_prepare, owes_prepare, takes_part}
 use Rattle.ktm_world.specs.Lawful.{stage_in}
 use Rattle.ktm_world.specs.Phases.{Course, changing_one, ended, enlistment_part, recording, event_if}
 use Rattle.ktm_world.specs.Present.{Present}
@@ -21,7 +19,7 @@ use Rattle.ktm_world.specs.TransactionCalls.{course_of, is_voting}
 use Rattle.ktm_world.specs.Transactions.{same_id}
 use Rattle.txf_laws.specs.Elements.{IsIn}
 use Rattle.ktm_states.specs.GoodState.{IsGoodState}
-use Rattle.ktm_courses.specs.SoundCourse.{IsSoundCourse, has_durable_part, is_part_as, is_recorded_as, is_unrecovered_well}
+use Rattle.ktm_courses.specs.SoundCourse.{IsSoundCourse, has_durable_part, is_part_as, is_unrecovered_well}
 use Rattle.txf_laws.specs.SoundFiles.{IsSoundFiles}
 use Rattle.ktm_records.proofs.offered.Agreement.{Agreed}
 use Rattle.ktm_records.proofs.AgreementOfPrepared.{follows-all_ready}
@@ -41,32 +39,9 @@ use Rattle.ktm_steps.specs.Laws.{someone_owes, when_none_owes}
 use Rattle.ktm_steps.proofs.offered.Table.{rows_law}
 use Rattle.ktm_world.specs.Rows.{all_readies, proceeds, proceeds_without}
 use Rattle.ktm_types.specs.declared.step.Answered.{Answered}
+use Rattle.ktm_records.proofs.offered.Stages.{early-unrecorded, early-voting, is_early, voting-stage}
 
--- ---- phases in which a transaction is on its way to be prepared
-
--- is it asked to prepare
-abbrev pub is_preparing : Phase → Bool
-is_preparing Preparing = true
-is_preparing _ = false
-
--- nothing but readiness is recorded of it
-voting-stage : (phase : Phase) → is_voting phase ≡ true → stage_in phase ≡ Some Stage.Ready
-voting-stage Held voting = absurd (true≢false (sym voting))
-voting-stage InDoubt voting = absurd (true≢false (sym voting))
-voting-stage Committing voting = absurd (true≢false (sym voting))
-voting-stage Aborting voting = absurd (true≢false (sym voting))
-voting-stage Ended voting = absurd (true≢false (sym voting))
-voting-stage _ voting = refl
-
--- and nothing at all before it is asked to prepare
-unrecorded-in : (phase : Phase) (ms : List Manager) (es : List Enlistment) (id : Id) (r : Bool) → is_voting phase ≡ true → is_preparing phase ≡ false → is_recorded_as phase ms es id r ≡ true → r ≡ false
-unrecorded-in Preparing ms es id r voting other right = absurd (true≢false other)
-unrecorded-in Held ms es id r voting other right = absurd (true≢false (sym voting))
-unrecorded-in InDoubt ms es id r voting other right = absurd (true≢false (sym voting))
-unrecorded-in Committing ms es id r voting other right = absurd (true≢false (sym voting))
-unrecorded-in Aborting ms es id r voting other right = absurd (true≢false (sym voting))
-unrecorded-in Ended ms es id r voting other right = absurd (true≢false (sym voting))
-unrecorded-in _ ms es id r voting other right = not-true r right
+-- ---- a transaction of which nobody is prepared
 
 -- nobody is prepared
 unprepared-none : (c : Course) (test : Enlistment → Bool) → Stand c.enlistments c.transaction.id test → ((e : Enlistment) → test e ≡ true → e.is_prepared ≡ false) → course_enlistments c ≡ []
@@ -122,19 +97,19 @@ module _ (x : Present) (sound : IsSoundCourse x) (files : IsSoundFiles x) (good 
     prepares : is_voting t.phase ≡ true → Prepares x before behind c o
     prepares voting = prepares-first x sound files good agreed t there caller (voting-stage t.phase voting) (none-first t.phase refl voting)
 
-    prepares-fresh : is_voting t.phase ≡ true → is_preparing t.phase ≡ false → Prepares x before behind c None
-    prepares-fresh voting other = prepares-none x before behind c o (unrecorded-in t.phase c.managers c.enlistments t.id t.is_recorded voting other stands.recorded) (prepares voting)
+    prepares-fresh : is_early t.phase ≡ true → Prepares x before behind c None
+    prepares-fresh early = prepares-none x before behind c o (early-unrecorded t.phase c.managers c.enlistments t.id t.is_recorded early stands.recorded) (prepares (early-voting t.phase early))
 
     -- ---- a commit begins
 
-    pub follows-commit : is_voting t.phase ≡ true → is_preparing t.phase ≡ false → FollowsOn (led PhaseInput.CommitTransaction c)
-    follows-commit voting other = follows-to_commit x before behind c (prepares-fresh voting other)
+    pub follows-commit : is_early t.phase ≡ true → FollowsOn (led PhaseInput.CommitTransaction c)
+    follows-commit early = follows-to_commit x before behind c (prepares-fresh early)
 
-    pub follows-pre_prepare : is_voting t.phase ≡ true → is_preparing t.phase ≡ false → FollowsOn (led PhaseInput.PrePrepare c)
-    follows-pre_prepare voting other = follows-to_pre_prepare x before behind c (prepares-fresh voting other)
+    pub follows-pre_prepare : is_early t.phase ≡ true → FollowsOn (led PhaseInput.PrePrepare c)
+    follows-pre_prepare early = follows-to_pre_prepare x before behind c (prepares-fresh early)
 
-    pub follows-prepare : is_voting t.phase ≡ true → is_preparing t.phase ≡ false → FollowsOn (led PhaseInput.Prepare c)
-    follows-prepare voting other = follows-to_prepare x before behind c (prepares-fresh voting other)
+    pub follows-prepare : is_early t.phase ≡ true → FollowsOn (led PhaseInput.Prepare c)
+    follows-prepare early = follows-to_prepare x before behind c (prepares-fresh early)
 
   -- ---- an enlistment answers
 
@@ -164,7 +139,7 @@ module _ (x : Present) (sound : IsSoundCourse x) (files : IsSoundFiles x) (good 
 
         now : Prepares x before behind d None
         now = readies-alike x before behind c_by t.phase d.enlistments d.sent [] [] None (enlistments-alike c_by (has_id e.id) (answered Answered.PrePrepared) (λ g. record { back = refl; kind = refl; read_only = refl; prepared = refl; finished = refl }))
-            (prepares-fresh (Some e) (ap is_voting phase) (ap is_preparing phase))
+            (prepares-fresh (Some e) (ap is_early phase))
 
     -- it is prepared
     pub follows-prepare_complete : owes_prepare e ≡ true → FollowsOn (led PhaseInput.PrepareComplete c_by)
@@ -235,15 +210,15 @@ module _ (x : Present) (sound : IsSoundCourse x) (files : IsSoundFiles x) (good 
       stays-left : FollowsOn c_left
       stays-left = follows-preparing x before behind c_left o (voting-stage t.phase voting) (prepares-left o (prepares (Some e) voting))
 
-      fresh-left : (phase : Phase) → t.phase ≡ phase → is_voting phase ≡ true → is_preparing phase ≡ false → Prepares x before behind c_left None
-      fresh-left phase is voting' other = prepares-left None (prepares-fresh (Some e) (ap is_voting is ∙ voting') (ap is_preparing is ∙ other))
+      fresh-left : (phase : Phase) → t.phase ≡ phase → is_early phase ≡ true → Prepares x before behind c_left None
+      fresh-left phase is early = prepares-left None (prepares-fresh (Some e) (ap is_early is ∙ early))
 
       goes-left : (phase : Phase) → t.phase ≡ phase → is_voting phase ≡ true → FollowsOn (when_none_owes c_left (proceeds_without phase (seen c_left)))
       unfolding ended
-      goes-left PrePreparing is voting' = if_cases FollowsOn (someone_owes c_left) c_left (run (proceeds (seen c_left)) c_left) (λ some. stays-left) (λ none. follows-pre_prepared x before behind c_left (fresh-left PrePreparing is refl refl))
+      goes-left PrePreparing is voting' = if_cases FollowsOn (someone_owes c_left) c_left (run (proceeds (seen c_left)) c_left) (λ some. stays-left) (λ none. follows-pre_prepared x before behind c_left (fresh-left PrePreparing is refl))
       goes-left Preparing is voting' = if_cases FollowsOn (someone_owes c_left) c_left (run (all_readies (seen c_left)) c_left) (λ some. stays-left) (λ none. follows-all_ready x before behind c_left o (prepares-left o (prepares (Some e) voting)) (some-left is))
       goes-left SinglePhase is voting' = if_cases FollowsOn (someone_owes c_left) c_left (ended c_left CommittedOutcome) (λ some. stays-left)
-          (λ none. follows-nothing x before behind c_left (fresh-left SinglePhase is refl refl) (ended c_left CommittedOutcome) refl refl (none-in (ended c_left CommittedOutcome) refl))
+          (λ none. follows-nothing x before behind c_left (fresh-left SinglePhase is refl) (ended c_left CommittedOutcome) refl refl (none-in (ended c_left CommittedOutcome) refl))
       goes-left Active is voting' = if_cases FollowsOn (someone_owes c_left) c_left c_left (λ some. stays-left) (λ none. stays-left)
       goes-left Requested is voting' = if_cases FollowsOn (someone_owes c_left) c_left c_left (λ some. stays-left) (λ none. stays-left)
       goes-left PrePrepared is voting' = if_cases FollowsOn (someone_owes c_left) c_left c_left (λ some. stays-left) (λ none. stays-left)

@@ -1,6 +1,6 @@
 -- What was recorded agrees with what is so now after every command, and after time.
-use Rattle.std.proofs.Common.{◌≡◌, ℕ, Bool, true, false, List, [], ◌∷◌, Option, Some, None, refl, sym, ap, subst, not, ◌++◌, arith, ◌&&◌}
-use Rattle.std.proofs.lemmas.Bool.{and_parts, not-true, true≢false}
+use Rattle.std.proofs.Common.{◌≡◌, ℕ, Bool, true, List, [], ◌∷◌, Option, Some, None, refl, sym, ap, subst, not, ◌++◌, arith, ◌&&◌}
+use Rattle.std.proofs.lemmas.Bool.{and_parts, not-true}
 use Rattle.ktm_base.specs.declared.id.Id.{Id}
 use Rattle.ktm_base.specs.declared.id.Label.{Label}
 use Rattle.ktm_base.specs.declared.id.Pid.{Pid}
@@ -10,9 +10,7 @@ use Rattle.ktm_types.specs.declared.command.Command.{Command}
 use Rattle.ktm_types.specs.declared.command.Command.TheVariants.{CommitEnlistment, CreateTransaction, OpenTransaction, RollbackTransaction, GetTransactionInformation, CreateResourceManager, OpenResourceManager, RecoverResourceManager, GetNotificationResourceManager, CreateEnlistment, OpenEnlistment, RecoverEnlistment, RollbackComplete, SinglePhaseReject, RollbackEnlistment, SetEnlistmentRecoveryInformation, GetEnlistmentRecoveryInformation, CreateFile, CreateFileTransacted, ReadFile, WriteFile, SetEndOfFile, GetFileSizeEx, FlushFileBuffers, DeleteFile, CreateDirectory, RemoveDirectory, MoveFile, DeleteFileTransacted, CreateDirectoryTransacted, RemoveDirectoryTransacted, MoveFileTransacted, FindFiles, FindFilesTransacted, KvSet, KvUnset, KvGet, KvList, CloseHandle, DuplicateHandle, Exit, CommitTransaction, PrePrepareComplete, PrepareComplete, ReadOnlyEnlistment, CommitComplete, PrePrepareEnlistment, PrepareEnlistment}
 use Rattle.ktm_types.specs.declared.input.PhaseInput.{PhaseInput}
 use Rattle.ktm_types.specs.declared.object.Object.{Object}
-use Rattle.ktm_types.specs.declared.object.Phase.{Phase}
-use Rattle.ktm_types.specs.declared.object.Phase.TheVariants.{Active, Requested, PrePrepared}
-use Rattle.ktm_types.specs.declared.recorded.Stage.{Stage}
+use Rattle.ktm_types.specs.declared.object.Phase.TheVariants.{Active}
 use Rattle.ktm_types.specs.declared.object.Transaction.{Transaction}
 use Rattle.ktm_types.specs.declared.reply.Reply.{Reply}
 use Rattle.ktm_types.specs.declared.reply.Reply.TheVariants.{Done, Refused}
@@ -26,7 +24,7 @@ use Rattle.ktm_world.specs.HandleCalls.{bind_to, duplicate_handle}
 use Rattle.ktm_world.specs.Handles.{object_at}
 use Rattle.ktm_world.specs.KeyCalls.{kv_get, kv_list, with_setting}
 use Rattle.ktm_world.specs.Labels.{enlistment_named, file_named, file_tests, manager_named, transaction_named, transaction_tests, viewer, binding}
-use Rattle.ktm_world.specs.Lawful.{Agrees, stage_in}
+use Rattle.ktm_world.specs.Lawful.{Agrees}
 use Rattle.ktm_world.specs.Laws.{StepLaw}
 use Rattle.ktm_world.specs.Outcome.{Outcome, apply, first_refusal, is_full, only_reply, refuse_or, within_log}
 use Rattle.ktm_world.specs.Phases.{is_single_phase}
@@ -42,7 +40,7 @@ use Rattle.ktm_records.specs.Kept.{are_carried_out}
 use Rattle.ktm_courses.specs.SoundCourse.{IsSoundCourse, is_recorded_as}
 use Rattle.txf_laws.specs.SoundFiles.{IsSoundFiles}
 use Rattle.ktm_records.proofs.offered.Agreement.{Agreed, agreed-of_files, agreed-reply, agreed-still, as-owned, managers-stay, recorded-later, summaries-stay}
-use Rattle.ktm_records.proofs.AgreementOfAnswers.{follows-commit, follows-pre_prepare, follows-pre_prepare_complete, follows-prepare, follows-prepare_complete, follows-read_only, is_preparing}
+use Rattle.ktm_records.proofs.AgreementOfAnswers.{follows-commit, follows-pre_prepare, follows-pre_prepare_complete, follows-prepare, follows-prepare_complete, follows-read_only}
 use Rattle.ktm_records.proofs.AgreementOfCalls.{agreed-alike, agreed-closed, agreed-create_enlistment, agreed-create_manager, agreed-create_transaction, agreed-exit, agreed-keep_information, agreed-only_reply, agreed-tick}
 use Rattle.ktm_courses.proofs.offered.EnlistmentAnswers.{is-aborting, owed-rollback, phase-owing}
 use Rattle.ktm_courses.proofs.offered.Arrivals.{brought-now, stands-now}
@@ -56,6 +54,7 @@ use Rattle.ktm_courses.proofs.offered.CommitsBegun.{arrives-to_commit}
 use Rattle.ktm_records.proofs.AgreementOfSilentSteps.{IsSilent, agreed-silent, silent-recovered, silent-rollback_complete, silent-single_phase_reject}
 use Rattle.ktm_records.proofs.AgreementOfRestarts.{agreed-opened}
 use Rattle.ktm_records.proofs.offered.AgreementOfRollbacks.{agreed-aborted_by}
+use Rattle.ktm_records.proofs.offered.Stages.{early-pre_prepare, early-prepare, is_early, waiting-held, waiting-recorded}
 
 module _ (x : Present) (sound : IsSoundCourse x) (agreed : Agreed x) where
   replies : (reply : Reply) → Agreed (apply x (only_reply x reply))
@@ -184,7 +183,7 @@ module _ (x : Present) (sound : IsSoundCourse x) (agreed : Agreed x) where
         let c = course_of x t None in
         let arrives = arrives-to_commit x.recorded.boots c (fresh-active x sound t at None is) in
         agreed-arrived x sound agreed t at None (led PhaseInput.CommitTransaction c) arrives.moved (commit_reply (led PhaseInput.CommitTransaction c)) arrives.stands.outcome
-        (follows-commit x sound sound_files good agreed t at None (ap is_voting is) (ap is_preparing is))
+        (follows-commit x sound sound_files good agreed t at None (ap is_early is))
 
     -- the transaction of an enlistment goes on by what comes from it to where it agrees
     goes : (o : Option Enlistment) (input : Enlistment → PhaseInput) → ((e : Enlistment) → o ≡ Some e → Answers x (input e) e)
@@ -216,36 +215,18 @@ module _ (x : Present) (sound : IsSoundCourse x) (agreed : Agreed x) where
 
       pre-prepares : Passes (superior_tests x o before_pre_prepare) → Agreed (apply x (answering x o (λ e. PhaseInput.PrePrepare)))
       pre-prepares tests = goes o (λ e. PhaseInput.PrePrepare) (goes-pre_prepare_enlistment x sound o there tests) (λ e is t at own found.
-          let votes = before t.phase (phase-passed x before_pre_prepare e t found (superior-allowed x o before_pre_prepare e is tests)) in
-          follows-pre_prepare x sound sound_files good agreed t at (Some e) votes.0 votes.1)
-        where
-          before : (phase : Phase) → before_pre_prepare phase ≡ true → (is_voting phase ≡ true) × (is_preparing phase ≡ false)
-          before Active early = (refl, refl)
-          before Requested early = (refl, refl)
-          before _ early = absurd (true≢false (sym early))
+          follows-pre_prepare x sound sound_files good agreed t at (Some e) (early-pre_prepare t.phase (phase-passed x before_pre_prepare e t found (superior-allowed x o before_pre_prepare e is tests))))
 
       prepares : Passes (superior_tests x o before_prepare) → Agreed (apply x (answering x o (λ e. PhaseInput.Prepare)))
       prepares tests = goes o (λ e. PhaseInput.Prepare) (goes-prepare_enlistment x sound o there tests) (λ e is t at own found.
-          let votes = before t.phase (phase-passed x before_prepare e t found (superior-allowed x o before_prepare e is tests)) in
-          follows-prepare x sound sound_files good agreed t at (Some e) votes.0 votes.1)
-        where
-          before : (phase : Phase) → before_prepare phase ≡ true → (is_voting phase ≡ true) × (is_preparing phase ≡ false)
-          before Active early = (refl, refl)
-          before Requested early = (refl, refl)
-          before PrePrepared early = (refl, refl)
-          before _ early = absurd (true≢false (sym early))
+          follows-prepare x sound sound_files good agreed t at (Some e) (early-prepare t.phase (phase-passed x before_prepare e t found (superior-allowed x o before_prepare e is tests))))
 
       decides : Passes (superior_tests x o waits_for_superior) → Agreed (apply x (answering x o (λ e. PhaseInput.Commit)))
       unfolding led
       decides tests = goes o (λ e. PhaseInput.Commit) (goes-commit_enlistment x sound o there tests) (λ e is t at own found.
-          let held = held-in t.phase (phase-passed x waits_for_superior e t found (superior-allowed x o waits_for_superior e is tests)) in
-          follows-decision x sound sound_files good agreed t at (Some e) held.0
-          (held.1 t.id t.is_recorded (list_all-at (λ t. is_recorded_as t.phase x.managers x.transactions.enlistments t.id t.is_recorded) x.transactions.items sound.phases.recorded t at)))
-        where
-          held-in : (phase : Phase) → waits_for_superior phase ≡ true → (stage_in phase ≡ Some Stage.Held) × ((id : Id) (recorded : Bool) → is_recorded_as phase x.managers x.transactions.enlistments id recorded ≡ true → recorded ≡ true)
-          held-in Phase.Held waits = (refl, λ id recorded is. is)
-          held-in Phase.InDoubt waits = (refl, λ id recorded is. is)
-          held-in _ waits = absurd (true≢false (sym waits))
+          let waits = phase-passed x waits_for_superior e t found (superior-allowed x o waits_for_superior e is tests) in
+          follows-decision x sound sound_files good agreed t at (Some e) (waiting-held t.phase waits)
+          (waiting-recorded t.phase x.managers x.transactions.enlistments t.id t.is_recorded waits (list_all-at (λ t. is_recorded_as t.phase x.managers x.transactions.enlistments t.id t.is_recorded) x.transactions.items sound.phases.recorded t at)))
 
     -- ---- every command
 

@@ -1,17 +1,16 @@
 -- What the calls on transactions and enlistments record applies, but for the limits.
-use Rattle.std.proofs.Common.{◌≡◌, ◌&&◌, not, Bool, true, false, nat_lt, List, Option, Some, None, refl, sym, ◌∙◌, ap, subst, inl, inr, []}
+use Rattle.std.proofs.Common.{◌≡◌, ◌&&◌, not, true, false, nat_lt, Option, Some, None, refl, sym, ◌∙◌, ap, subst, inl, inr, []}
 use Rattle.std.proofs.lemmas.Bool.{and_from, and_parts, not-true, not_from_false, or_cases, true≢false, false_from_ne_true}
 use Rattle.std.proofs.lemmas.Option.{none-some, same_Some}
-use Rattle.ktm_base.specs.declared.id.Id.{Id}
 use Rattle.ktm_types.specs.declared.input.PhaseInput.{PhaseInput}
 use Rattle.ktm_types.specs.declared.object.Phase.{Phase}
-use Rattle.ktm_types.specs.declared.object.Phase.TheVariants.{Active, Requested, PrePreparing, PrePrepared, Held, InDoubt, Committing, Aborting, Ended}
+use Rattle.ktm_types.specs.declared.object.Phase.TheVariants.{Held, InDoubt, Committing, Aborting, Ended}
 use Rattle.ktm_types.specs.declared.object.Transaction.{Transaction}
 use Rattle.ktm_types.specs.declared.recorded.Stage.{Stage}
 use Rattle.ktm_types.specs.declared.reply.Reply.TheVariants.{Done}
 use Rattle.ktm_types.specs.declared.step.Owed.{Owed}
 use Rattle.ktm_world.specs.Durable.{is_new_enlistment, is_ready}
-use Rattle.ktm_world.specs.Enlistments.{Enlistment, Manager, is_durable_at, is_open_for_votes, is_superior, owes_commit, owes_pre_prepare, owes_prepare, takes_part}
+use Rattle.ktm_world.specs.Enlistments.{Enlistment, is_durable_at, is_open_for_votes, is_superior, owes_commit, owes_pre_prepare, owes_prepare, takes_part}
 use Rattle.ktm_world.specs.Labels.{transaction_tests}
 use Rattle.ktm_world.specs.Lawful.{stage_in}
 use Rattle.ktm_world.specs.Phases.{is_single_phase}
@@ -37,6 +36,7 @@ use Rattle.ktm_steps.proofs.offered.Recorded.{led-events, records_nothing, silen
 use Rattle.ktm_steps.proofs.offered.Lists.{Pass, row_lists}
 use Rattle.ktm_steps.proofs.offered.Ways.{Ways, choose, pre_prepares-by, prepares-by, proceeds-by, requests-by}
 use Rattle.ktm_world.specs.Rows.{is_last, proceeds, row}
+use Rattle.ktm_records.proofs.offered.Stages.{early-pre_prepare, early-prepare, early-unrecorded, early-voting, is_early, voting-stage, waiting-held, waiting-recorded}
 
 -- ---- phases
 
@@ -48,40 +48,6 @@ ready-phase Committing is = absurd (true≢false (sym (ap is_ready (same_Some _ 
 ready-phase Aborting is = absurd (none-some _ is)
 ready-phase Ended is = absurd (none-some _ is)
 ready-phase _ is = (refl, λ t is'. is')
-
--- in a phase in which no enlistment is prepared the log does not have it
-Early : Phase → Type 0
-Early phase = (stage_in phase ≡ Some Stage.Ready) × ((ms : List Manager) (es : List Enlistment) (id : Id) (recorded : Bool) → is_recorded_as phase ms es id recorded ≡ true → recorded ≡ false)
-
-early-pre_prepare : (phase : Phase) → before_pre_prepare phase ≡ true → Early phase
-unfolding Early
-early-pre_prepare Active is = (refl, λ ms es id recorded is'. not-true _ is')
-early-pre_prepare Requested is = (refl, λ ms es id recorded is'. not-true _ is')
-early-pre_prepare _ is = absurd (true≢false (sym is))
-
-early-prepare : (phase : Phase) → before_prepare phase ≡ true → Early phase
-unfolding Early
-early-prepare Active is = (refl, λ ms es id recorded is'. not-true _ is')
-early-prepare Requested is = (refl, λ ms es id recorded is'. not-true _ is')
-early-prepare PrePrepared is = (refl, λ ms es id recorded is'. not-true _ is')
-early-prepare _ is = absurd (true≢false (sym is))
-
-early-pre_preparing : Early PrePreparing
-unfolding Early
-early-pre_preparing = (refl, λ ms es id recorded is'. not-true _ is')
-
-ready-voting : (phase : Phase) → is_voting phase ≡ true → stage_in phase ≡ Some Stage.Ready
-ready-voting Held is = absurd (true≢false (sym is))
-ready-voting InDoubt is = absurd (true≢false (sym is))
-ready-voting Committing is = absurd (true≢false (sym is))
-ready-voting Aborting is = absurd (true≢false (sym is))
-ready-voting Ended is = absurd (true≢false (sym is))
-ready-voting _ is = refl
-
-held-waiting : (phase : Phase) → waits_for_superior phase ≡ true → (stage_in phase ≡ Some Stage.Held) × ((ms : List Manager) (es : List Enlistment) (id : Id) (recorded : Bool) → is_recorded_as phase ms es id recorded ≡ true → recorded ≡ true)
-held-waiting Held waits = (refl, λ ms es id recorded is. is)
-held-waiting InDoubt waits = (refl, λ ms es id recorded is. is)
-held-waiting _ waits = absurd (true≢false (sym waits))
 
 module _ (x : Present) (kept : IsKept x) where
   -- ---- a transaction on its way
@@ -107,13 +73,11 @@ module _ (x : Present) (kept : IsKept x) where
       is-new : (e : Enlistment) → IsIn e x.transactions.enlistments → same_id e.transaction t.id ≡ true → e.is_prepared ≡ false → is_durable_at x.managers e.manager ≡ true → is_new_enlistment x.recorded e.id e.manager e.information ≡ true
       is-new e in_es own other durable = new-part x kept t there caller is here undecided' e in_es own durable (inr other)
 
-    is-unrecorded : Early t.phase → t.is_recorded ≡ false
-    unfolding Early
-    is-unrecorded early = early.1 x.managers x.transactions.enlistments t.id t.is_recorded is-recorded
+    is-unrecorded : is_early t.phase ≡ true → t.is_recorded ≡ false
+    is-unrecorded early = early-unrecorded t.phase x.managers x.transactions.enlistments t.id t.is_recorded early is-recorded
 
-    ways : Early t.phase → Ways (λ steps. Apply x.recorded steps (basis (course_of x t caller))) (seen (course_of x t caller))
-    unfolding Early
-    ways early = apply-ways x.recorded (basis (course_of x t caller)) (seen (course_of x t caller)) refl refl (readies early.0) (is-unrecorded early)
+    ways : is_early t.phase ≡ true → Ways (λ steps. Apply x.recorded steps (basis (course_of x t caller))) (seen (course_of x t caller))
+    ways early = apply-ways x.recorded (basis (course_of x t caller)) (seen (course_of x t caller)) refl refl (readies (voting-stage t.phase (early-voting t.phase early))) (is-unrecorded early)
 
   -- ---- calls on transactions
 
@@ -125,7 +89,7 @@ module _ (x : Present) (kept : IsKept x) where
   facts-commit_of None there tests = refl
   facts-commit_of (Some t) there tests =
       let here = passed tests in let committed = passed here.1 in let aborted = passed committed.1 in let active = passed aborted.1 in
-      let early = subst Early (sym (active-phase t (not-not _ active.0))) (early-pre_prepare Active refl) in
+      let early = ap is_early (active-phase t (not-not _ active.0)) in
       let c = course_of x t None in
       ap (facts_apply x.recorded) (arrival x (led PhaseInput.CommitTransaction c) (commit_reply (led PhaseInput.CommitTransaction c))).events ∙ by-row PhaseInput.CommitTransaction t None (requests-by (λ steps. Apply x.recorded steps (basis c)) (seen c) (ways t (there t refl) None early))
 
@@ -147,7 +111,7 @@ module _ (x : Present) (kept : IsKept x) where
     facts-pre_prepare_complete tests = answers o (λ e. PhaseInput.PrePrepareComplete) (λ e is t at own found.
         let owes = enlistment-allowed o owes_pre_prepare e is tests in
         let phase = is-pre_preparing t.phase (phase-owing x.recorded.boots (course_of x t (Some e)) e (stands t at (Some e)) (brought-now x t (Some e) kept.sound.course) kept.sound.course.enlistments.rise (in_es e is) own Owed.PrePrepare (owed-pre_prepare e owes)) in
-        let early = subst Early (sym phase) early-pre_preparing in
+        let early = ap is_early phase in
         let c = course_of x t (Some e) in
         by-row PhaseInput.PrePrepareComplete t (Some e) (choose (λ steps. Apply x.recorded steps (basis c)) (is_last (seen c)) (proceeds (seen c)) [] (λ last. proceeds-by (λ steps. Apply x.recorded steps (basis c)) (seen c) (ways t at (Some e) early)) (λ waits. refl)))
 
@@ -171,7 +135,7 @@ module _ (x : Present) (kept : IsKept x) where
         let may = enlistment-allowed o (may_vote x) e is tests in
         let voting = phase-passed x is_voting e t found (and_parts (not (is_superior e) && is_open_for_votes e) (phase_passes x is_voting e) may).1 in
         let c = course_of x t (Some e) in
-        by-row (PhaseInput.ReadOnly (share_of e)) t (Some e) (apply-read_onlies x.recorded (basis c) (seen c) (share_of e) refl refl (readies t at (Some e) (ready-voting t.phase voting)) (λ phase. is-unrecorded t at (Some e) (subst Early (sym phase) early-pre_preparing))))
+        by-row (PhaseInput.ReadOnly (share_of e)) t (Some e) (apply-read_onlies x.recorded (basis c) (seen c) (share_of e) refl refl (readies t at (Some e) (voting-stage t.phase voting)) (λ phase. is-unrecorded t at (Some e) (ap is_early phase))))
 
     pub facts-commit_complete : Passes (enlistment_tests o owes_commit) → FactsOf x (answering x o (λ e. PhaseInput.CommitComplete))
     facts-commit_complete tests = answers o (λ e. PhaseInput.CommitComplete) (λ e is t at own found.
@@ -226,5 +190,6 @@ module _ (x : Present) (kept : IsKept x) where
 
     pub facts-commit_enlistment : Passes (superior_tests x o waits_for_superior) → FactsOf x (answering x o (λ e. PhaseInput.Commit))
     facts-commit_enlistment tests = answers o (λ e. PhaseInput.Commit) (λ e is t at own found.
-        let held = held-waiting t.phase (phase-passed x waits_for_superior e t found (superior-allowed x o waits_for_superior e is tests)) in
-        by-row PhaseInput.Commit t (Some e) (apply-commits x.recorded (basis (course_of x t (Some e))) (can-decide x kept t at (Some e) (held.1 x.managers x.transactions.enlistments t.id t.is_recorded (is-recorded t at (Some e))) held.0)))
+        let waits = phase-passed x waits_for_superior e t found (superior-allowed x o waits_for_superior e is tests) in
+        by-row PhaseInput.Commit t (Some e) (apply-commits x.recorded (basis (course_of x t (Some e))) (can-decide x kept t at (Some e)
+        (waiting-recorded t.phase x.managers x.transactions.enlistments t.id t.is_recorded waits (is-recorded t at (Some e))) (waiting-held t.phase waits))))

@@ -98,6 +98,12 @@ superior-rolls Aborting is = is
 superior-rolls Ended is = is
 superior-rolls _ is = refl
 
+pub waiting-rolls : (phase : Phase) → waits_for_superior phase ≡ true → can_roll_back phase ≡ true
+waiting-rolls Committing is = is
+waiting-rolls Aborting is = is
+waiting-rolls Ended is = is
+waiting-rolls _ is = refl
+
 pub single-phase : (phase : Phase) → is_single_phase phase ≡ true → phase ≡ SinglePhase
 single-phase SinglePhase is = refl
 single-phase _ is = absurd (true≢false (sym is))
@@ -314,12 +320,6 @@ module _ (x : Present) (sound : IsSoundCourse x) (o : Option Enlistment) (there 
   goes-commit_enlistment tests e is t at own found =
       let waits = phase-passed x waits_for_superior e t found (superior-allowed x o waits_for_superior e is tests) in
       record { arrives = commits-waiting x sound t at (Some e) t.phase refl waits; may = free x sound e (there e is) t at own (waiting-rolls t.phase waits) }
-    where
-      waiting-rolls : (phase : Phase) → waits_for_superior phase ≡ true → can_roll_back phase ≡ true
-      waiting-rolls Committing is = is
-      waiting-rolls Aborting is = is
-      waiting-rolls Ended is = is
-      waiting-rolls _ is = refl
 
   pub goes-recover_enlistment : Passes (enlistment_tests o (may_recover x)) → (e : Enlistment) → o ≡ Some e → Answers x (recovery_of e) e
   goes-recover_enlistment tests e is t at own found = recovers x sound e (there e is) t at own (not-true _ (and_parts (not e.is_recovered) _ (enlistment-allowed o (may_recover x) e is tests)).0)

@@ -1,17 +1,13 @@
 -- No row makes an enlistment live again, and so no more are live then.
 use Rattle.std.proofs.Common.{◌≡◌, ◌≤◌, ◌&&◌, ◌||◌, not, Bool, true, false, List, [], ◌∷◌, map, count_by, Some, refl, sym, ◌∙◌, ap, subst, arith, inl, inr, ◌⊎◌}
 use Rattle.std.proofs.lemmas.Bool.{cases_Bool, and_parts, and_from, or_cases, or_left, or_right, not-true, not_from_false, true≢false, false_from_ne_true}
-use Rattle.std.proofs.lemmas.List.{map-id}
 use Rattle.std.proofs.lemmas.Option.{same_Some}
-use Rattle.std.proofs.lemmas.Simd.{map-map}
-use Rattle.ktm_base.specs.declared.id.Id.{Id}
 use Rattle.ktm_types.specs.declared.input.PhaseInput.{PhaseInput}
 use Rattle.ktm_types.specs.declared.object.Phase.{Phase}
 use Rattle.ktm_types.specs.declared.object.Phase.TheVariants.{Ended}
 use Rattle.ktm_types.specs.declared.object.Transaction.{Transaction}
-use Rattle.ktm_types.specs.declared.step.Owed.{Owed}
-use Rattle.ktm_world.specs.Enlistments.{Enlistment, has_id, is_ended, is_live_enlistment, is_live_in, is_superior, with_enlistments}
-use Rattle.ktm_world.specs.Phases.{Course, owing, changing_one, unchanged}
+use Rattle.ktm_world.specs.Enlistments.{Enlistment, is_ended, is_live_enlistment, is_live_in, is_superior, with_enlistments}
+use Rattle.ktm_world.specs.Phases.{Course}
 use Rattle.ktm_world.specs.Rows.{row}
 use Rattle.ktm_world.specs.Steps.{led, seen}
 use Rattle.ktm_world.specs.Transactions.{change_at, is_live, same_id, transaction_at}
