@@ -7,6 +7,7 @@ pub mod CommitsBegun
 pub mod EnlistmentAnswers
 pub mod EnlistmentOrder
 pub mod FileSteps
+pub mod HandlesAndTime
 pub mod Moves
 pub mod NewObjects
 pub mod Outcomes

@@ -13,14 +13,13 @@ use Rattle.ktm_types.specs.declared.step.Step.{Step}
 use Rattle.ktm_types.specs.declared.step.Who.{Who}
 use Rattle.ktm_world.specs.Enlistments.{Enlistment, Sent, asks_pre_prepare, id_of, is_given, is_ordinary, is_superior, is_unfinished, takes_part, tell, with_enlistments}
 use Rattle.ktm_world.specs.Phases.{Course, end_notice, ended, in_phase, decided, is_its_superior, owing, telling, unchanged}
-use Rattle.ktm_world.specs.Rows.{row}
-use Rattle.ktm_world.specs.Steps.{carried, changing, is_meant, is_one_of, led, run, seen, basis}
+use Rattle.ktm_world.specs.Steps.{carried, changing, is_meant, is_one_of, led, run, basis}
 use Rattle.ktm_world.specs.Transactions.{same_id}
 use Rattle.ktm_steps.specs.Outcomes.{IsTrue}
 use Rattle.ktm_steps.proofs.offered.Fading.{fades-run}
 use Rattle.ktm_steps.proofs.offered.Outcomes.{outcome_law}
 use Rattle.ktm_steps.proofs.offered.Recorded.{bare-facts, is_bare, passes-led}
-use Rattle.ktm_steps.proofs.offered.Staying.{either-course, stays-led, stays-step}
+use Rattle.ktm_steps.proofs.offered.Staying.{either-course, stays-led, stays-step, led-keeps}
 use Rattle.txf_laws.specs.Contents.{puts_some}
 use Rattle.txf_laws.specs.Elements.{IsIn}
 use Rattle.txf_laws.proofs.offered.Diamonds.{IsIn-map}
@@ -148,14 +147,6 @@ module _ (names : List (Id × Id)) (own : Id) (caller : Option Enlistment) where
       let still = stays-step step c in
       record { id = still.id ∙ tells.id; caller_is = still.caller ∙ tells.caller_is; named = named-run (step ∷ []) c ∙ tells.named; about = about-step only step c tells }
 
-  tells-run : Only → (steps : List Step) (c : Course) → Tells c → Tells (run steps c)
-  tells-run only [] c tells = tells
-  tells-run only (step ∷ steps) c tells = tells-run only steps (carried step c) (tells-step only step c tells)
-
-  tells-led : Only → (input : PhaseInput) (c : Course) → Tells c → Tells (led input c)
-  unfolding led
-  tells-led only input c tells = tells-run only (row (seen c) input) c tells
-
 -- ---- rows
 
 -- contents are put by what there is to commit alone
@@ -169,7 +160,7 @@ bare-puts _ is = refl
 pub says-led : (input : PhaseInput) (c : Course) → c.sent ≡ [] → c.events ≡ [] → is_outcome_of c.transaction.phase c.transaction ≡ true → Only (map naming c.enlistments) c.transaction.id c.caller
     → Says (map naming c.enlistments) c.transaction.id (led input c)
 says-led input c silent none is only =
-    let tells = tells-led (map naming c.enlistments) c.transaction.id c.caller only input c record { id = refl; caller_is = refl; named = refl; about = λ s there. absurd (subst (IsIn s) silent there) } in
+    let tells = led-keeps (Tells (map naming c.enlistments) c.transaction.id c.caller) (tells-step (map naming c.enlistments) c.transaction.id c.caller only) input c record { id = refl; caller_is = refl; named = refl; about = λ s there. absurd (subst (IsIn s) silent there) } in
     record {
       id = tells.id;
       named = tells.named;

@@ -1,5 +1,5 @@
 -- The limits hold after each event that a command records, and that the passing of time does.
-use Rattle.std.specs.Prelude.{if◌then◌else◌}
+use Rattle.std.specs.Prelude.{if◌then◌else◌, ⊤}
 use Rattle.std.proofs.Common.{◌≡◌, ℕ, ◌+◌, not, Bool, true, false, List, [], ◌∷◌, drop, length, take, Option, Some, None, is_none, refl, sym, ◌∙◌, ap, subst, inl, inr, ◌⊎◌}
 use Rattle.std.proofs.lemmas.Bool.{and_parts, and_from, true≢false}
 use Rattle.std.proofs.lemmas.List.Folds.{list_all-append}
@@ -16,7 +16,6 @@ use Rattle.ktm_types.specs.declared.event.Event.{Event}
 use Rattle.ktm_types.specs.declared.event.Event.TheVariants.{MadeRm, Plain, Undo}
 use Rattle.ktm_types.specs.declared.input.PhaseInput.{PhaseInput}
 use Rattle.ktm_types.specs.declared.object.Object.{Object}
-use Rattle.ktm_types.specs.declared.object.Object.TheVariants.{Transaction as TransactionObject, Manager as ManagerObject, Enlistment as EnlistmentObject, File as FileObject}
 use Rattle.ktm_types.specs.declared.object.Transaction.{Transaction}
 use Rattle.ktm_types.specs.declared.options.Durability.{Durability}
 use Rattle.ktm_types.specs.declared.options.EnlistmentKind.{EnlistmentKind}
@@ -29,16 +28,16 @@ use Rattle.ktm_world.specs.Enlistments.{Enlistment, Manager, owes_commit, owes_p
 use Rattle.ktm_world.specs.FileCalls.{create_file, create_file_tests, read_file, write_file, set_end, get_size, flush_file, delete_file, create_directory, remove_directory, move_file, find_files}
 use Rattle.ktm_world.specs.FileOutcome.{FileOutcome}
 use Rattle.ktm_world.specs.Files.{OpenFile, bytes_seen}
-use Rattle.ktm_world.specs.HandleCalls.{abort_active, bind_to, close_handle, closed_in_turn, duplicate_handle, exit, handle_gone, has_handle, labels_of, last_handle_gone, without_handle}
+use Rattle.ktm_world.specs.HandleCalls.{bind_to, duplicate_handle}
 use Rattle.ktm_world.specs.Handles.{object_at}
 use Rattle.ktm_world.specs.Labels.{transaction_named, manager_named, enlistment_named, file_named, transaction_tests}
 use Rattle.ktm_world.specs.Lawful.{Agrees, stage_in}
-use Rattle.ktm_world.specs.Outcome.{Outcome, only_reply, apply, and_then, first_refusal, refuse_or, is_full}
+use Rattle.ktm_world.specs.Outcome.{Outcome, only_reply, apply, first_refusal, refuse_or, is_full}
 use Rattle.ktm_world.specs.Phases.{event_if}
 use Rattle.ktm_world.specs.Present.{Present}
 use Rattle.ktm_world.specs.Steps.{led, share_of}
-use Rattle.ktm_world.specs.TransactionCalls.{aborted_by, aborted_if_due, aborted_in_turn, answering, before_pre_prepare, before_prepare, commit_of, commit_reply, commit_transaction, rollback_transaction, rollback_of, create_transaction, open_transaction, open_to_transaction, transaction_with, get_transaction_information, create_resource_manager, new_id, open_resource_manager, open_to_manager, manager_with, recover_resource_manager, recover_all, get_notification, take_first, create_enlistment, open_enlistment, open_to_enlistment, enlistment_with, course_of, enlistment_tests, superior_tests, is_due, is_voting, keep_information, may_vote, phase_passes, pre_prepare_complete, prepare_complete, read_only_enlistment, commit_complete, rollback_complete, single_phase_reject, rollback_enlistment, pre_prepare_enlistment, prepare_enlistment, commit_enlistment, recover_enlistment, set_information, get_information, tick, waits_for_superior, with_clock, recovery_of}
-use Rattle.ktm_world.specs.Transactions.{is_active, same_id, transaction_at}
+use Rattle.ktm_world.specs.TransactionCalls.{aborted_by, answering, before_pre_prepare, before_prepare, commit_of, commit_reply, commit_transaction, rollback_transaction, rollback_of, create_transaction, open_transaction, open_to_transaction, transaction_with, get_transaction_information, create_resource_manager, new_id, open_resource_manager, open_to_manager, manager_with, recover_resource_manager, recover_all, get_notification, take_first, create_enlistment, open_enlistment, open_to_enlistment, enlistment_with, course_of, enlistment_tests, superior_tests, is_voting, keep_information, may_vote, phase_passes, pre_prepare_complete, prepare_complete, read_only_enlistment, commit_complete, rollback_complete, single_phase_reject, rollback_enlistment, pre_prepare_enlistment, prepare_enlistment, commit_enlistment, recover_enlistment, set_information, get_information, tick, waits_for_superior, recovery_of}
+use Rattle.ktm_world.specs.Transactions.{is_active, same_id}
 use Rattle.ktm_world.specs.Uses.{file_room}
 use Rattle.ktm_world.specs.World.{decide_tick}
 use Rattle.ktm_steps.proofs.offered.Lists.{Pass, row_lists}
@@ -70,6 +69,7 @@ use Rattle.ktm_limits.proofs.RecordedCourses.{uncounted}
 use Rattle.txf_laws.proofs.offered.Tables.{Rises}
 use Rattle.ktm_records.proofs.offered.AgreementOfRollbacks.{rollback-undone}
 use Rattle.ktm_records.proofs.offered.Stages.{early-pre_prepare, early-prepare, early-voting, voting-stage, waiting-held, waiting-recorded}
+use Rattle.ktm_courses.proofs.offered.HandlesAndTime.{Closes, close_handle-so, exit-so, tick-so}
 
 -- ---- what only undoes
 
@@ -92,9 +92,6 @@ undos-hold (e ∷ es) s undos limits = let parts = and_parts (is_undo e) (list_a
         and_from _ _ left (rest (after_event s (Undo id)) left)
     one _ is rest = absurd (true≢false (sym is))
 
-undoes-then : (x : Present) (o : Outcome) (next : Present → Outcome) → Undoes o → ((y : Present) → Undoes (next y)) → Undoes (and_then x o next)
-undoes-then x o next first second = list_all-append is_undo o.events (next (apply x o)).events ∙ and_from _ _ first (second (apply x o))
-
 undoes-aborted : (x : Present) (t : Transaction) (caller : Option Enlistment) (reply : Reply) → Undoes (aborted_by x t caller reply)
 undoes-aborted x t caller reply =
     subst (λ es. list_all is_undo es ≡ true) (sym ((arrival x (led PhaseInput.Rollback (course_of x t caller)) reply).events ∙ (rollback-undone (course_of x t caller)).events)) (go t.is_recorded)
@@ -103,47 +100,16 @@ undoes-aborted x t caller reply =
     go true = refl
     go false = refl
 
-undoes-either : (b : Bool) (o p : Outcome) → Undoes o → Undoes p → Undoes (if b then o else p)
-undoes-either true o p first second = first
-undoes-either false o p first second = second
-
-undoes-active : (x : Present) (t : Option Transaction) → Undoes (abort_active x t)
-undoes-active x None = refl
-undoes-active x (Some t) = undoes-either (is_active t) (aborted_by x t None Done) (only_reply x Done) (undoes-aborted x t None Done) refl
-
-undoes-last : (x : Present) (object : Object) → Undoes (last_handle_gone x object)
-undoes-last x (TransactionObject id) = undoes-active x (transaction_at x.transactions.items id)
-undoes-last x (ManagerObject id) = refl
-undoes-last x (EnlistmentObject id) = refl
-undoes-last x (FileObject number) = refl
-
-undoes-gone : (object : Option Object) (x : Present) → Undoes (handle_gone object x)
-undoes-gone None x = refl
-undoes-gone (Some object) x = undoes-either (has_handle x.handles object) (only_reply x Done) (last_handle_gone x object) refl (undoes-last x object)
-
-undoes-close : (x : Present) (process : Pid) (label : Label) → Undoes (close_handle x process label)
-unfolding close_handle
-undoes-close x process label = undoes-then x (record (only_reply x Done) { handles = without_handle x.handles process label }) (handle_gone (object_at x.handles process label)) refl (undoes-gone (object_at x.handles process label))
-
-undoes-closed : (labels : List Label) (process : Pid) (x : Present) → Undoes (closed_in_turn x process labels)
-undoes-closed [] process x = refl
-undoes-closed (label ∷ labels) process x = undoes-then x (close_handle x process label) (λ next. closed_in_turn next process labels) (undoes-close x process label) (undoes-closed labels process)
-
-undoes-exit : (x : Present) (process : Pid) → Undoes (exit x process)
-unfolding exit
-undoes-exit x process = undoes-closed (labels_of x.handles process) process x
-
-undoes-due : (x : Present) (t : Option Transaction) → Undoes (aborted_if_due x t)
-undoes-due x None = refl
-undoes-due x (Some t) = undoes-either (is_due x.transactions.clock t) (aborted_by x t None Done) (only_reply x Done) (undoes-aborted x t None Done) refl
-
-undoes-turn : (ts : List Transaction) (x : Present) → Undoes (aborted_in_turn x ts)
-undoes-turn [] x = refl
-undoes-turn (t ∷ ts) x = undoes-then x (aborted_if_due x (transaction_at x.transactions.items t.id)) (λ next. aborted_in_turn next ts) (undoes-due x (transaction_at x.transactions.items t.id)) (undoes-turn ts)
-
-undoes-tick : (x : Present) (ms : ℕ) → Undoes (tick x ms)
-unfolding tick
-undoes-tick x ms = undoes-turn x.transactions.items (with_clock x ms)
+undoes-closing : Closes (λ x. ⊤) (λ x o. Undoes o)
+undoes-closing = record {
+  rolls = record {
+    reply = λ x asked. refl;
+    rolls = λ x t asked there can. undoes-aborted x t None Done;
+    goes_on = λ x a next first second. list_all-append is_undo a.events (next (apply x a)).events ∙ and_from _ _ first (second tt);
+  };
+  unbinds = λ x process label asked. refl;
+  ends = λ x number asked. refl;
+}
 
 -- ---- what records one event
 
@@ -375,9 +341,9 @@ module _ (agreeing : AgreeingLaw) (keeping : FilesKeptLaw) (lists : ListsLaw) (f
   effect-holds process (KvUnset transaction key) passes after = refl
   effect-holds process (KvGet view key) passes after = refl
   effect-holds process (KvList view) passes after = refl
-  effect-holds process (CloseHandle label) passes after = undoes (command_effect x process (CloseHandle label)) (undoes-close x process label)
+  effect-holds process (CloseHandle label) passes after = undoes (command_effect x process (CloseHandle label)) (close_handle-so _ _ undoes-closing x process label tt)
   effect-holds process (DuplicateHandle label from source) passes after = silent (command_effect x process (DuplicateHandle label from source)) (silent-duplicate x process label from source)
-  effect-holds process Exit passes after = undoes (command_effect x process Exit) (undoes-exit x process)
+  effect-holds process Exit passes after = undoes (command_effect x process Exit) (exit-so _ _ undoes-closing x process tt)
 
   pub decided-holds : (process : Pid) (command : Command) → Holds (decide x process command)
   decided-holds process command = room (is_full x.machine.left (with_room x process command).events) refl
@@ -409,4 +375,4 @@ module _ (agreeing : AgreeingLaw) (keeping : FilesKeptLaw) (lists : ListsLaw) (f
     where
       refused : (r : Option Refusal) → Holds (refuse_or x r (tick x ms))
       refused (Some refusal) = refl
-      refused None = undoes (tick x ms) (undoes-tick x ms)
+      refused None = undoes (tick x ms) (tick-so _ _ undoes-closing.rolls x ms tt)

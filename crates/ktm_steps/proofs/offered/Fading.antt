@@ -1,6 +1,6 @@
 -- No step makes an enlistment live again.
 use Rattle.std.specs.Prelude.{if◌then◌else◌}
-use Rattle.std.proofs.Common.{◌≡◌, Bool, true, false, List, [], ◌∷◌, map, Option, Some, None, refl, sym, ◌∙◌, ap}
+use Rattle.std.proofs.Common.{◌≡◌, Bool, true, false, List, map, Option, Some, None, refl, sym, ◌∙◌, ap}
 use Rattle.std.proofs.lemmas.List.{map-id}
 use Rattle.std.proofs.lemmas.Simd.{map-map}
 use Rattle.std.specs.List.{list_any}
@@ -12,7 +12,7 @@ use Rattle.ktm_world.specs.Enlistments.{Enlistment, has_id, is_unfinished, with_
 use Rattle.ktm_world.specs.Phases.{Course, ended, is_its_superior, owing, unchanged}
 use Rattle.ktm_world.specs.Steps.{answered, carried, changing, is_meant, run}
 use Rattle.ktm_steps.specs.Fading.{Fades, GoesOn}
-use Rattle.ktm_steps.proofs.offered.Staying.{either-course}
+use Rattle.ktm_steps.proofs.offered.Staying.{either-course, run-keeps}
 
 -- ---- enlistments
 
@@ -74,5 +74,4 @@ fades-step (Step.EndWhereFinished outcome) c = either-course (Fades c) (list_any
 fades-step _ c = fades-same c _ refl
 
 pub fades-run : (steps : List Step) (c : Course) → Fades c (run steps c)
-fades-run [] c = fades-same c c refl
-fades-run (step ∷ steps) c = fades-then c _ _ (fades-step step c) (fades-run steps (carried step c))
+fades-run steps c = run-keeps (Fades c) (λ step d so. fades-then c d (carried step d) so (fades-step step d)) steps c (fades-same c c refl)
