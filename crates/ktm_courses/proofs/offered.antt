@@ -7,11 +7,11 @@ pub mod CommitsBegun
 pub mod EnlistmentAnswers
 pub mod EnlistmentOrder
 pub mod FileSteps
-pub mod Leads
+pub mod HandlesAndTime
 pub mod Moves
 pub mod NewObjects
 pub mod Outcomes
 pub mod OutcomesMade
-pub mod Procedures
+pub mod Endings
 pub mod SoundRestarts
 pub mod Views

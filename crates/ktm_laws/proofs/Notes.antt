@@ -2,7 +2,6 @@
 use Rattle.std.proofs.Common.{◌≡◌, ℕ, zero, suc, not, Bool, true, false, List, [], ◌∷◌, ◌++◌, map, filter, drop, Option, Some, None, refl, sym, ◌∙◌, ap, subst, inl, inr, ◌⊎◌}
 use Rattle.std.proofs.lemmas.Bool.{true≢false}
 use Rattle.std.proofs.lemmas.Option.{none-some, same_Some}
-use Rattle.std.specs.List.{list_all}
 use Rattle.ktm_base.specs.declared.id.Id.{Id}
 use Rattle.ktm_base.specs.declared.id.Label.{Label}
 use Rattle.ktm_base.specs.declared.id.Pid.{Pid}
@@ -30,15 +29,15 @@ use Rattle.ktm_world.specs.FileCalls.{create_file, delete_file, create_directory
 use Rattle.ktm_world.specs.FileOutcome.{FileOutcome}
 use Rattle.ktm_world.specs.Files.{OpenFile, own_changes}
 use Rattle.ktm_world.specs.Keys.{own_settings}
-use Rattle.ktm_world.specs.HandleCalls.{without_handle, has_handle, abort_active, last_handle_gone, handle_gone, close_handle, closed_in_turn, labels_of, exit, bind_to, duplicate_handle}
+use Rattle.ktm_world.specs.HandleCalls.{bind_to, duplicate_handle}
 use Rattle.ktm_world.specs.Handles.{object_at}
 use Rattle.ktm_world.specs.Labels.{transaction_named, manager_named, enlistment_named, file_named, binding}
 use Rattle.ktm_world.specs.OneOutcome.{told_by, told_outcome}
 use Rattle.ktm_world.specs.Outcome.{Outcome, apply, only_reply, joined, served, refuse_or, first_refusal, is_full, within_log}
 use Rattle.ktm_world.specs.Phases.{Course}
 use Rattle.ktm_world.specs.Present.{Present, Transactions}
-use Rattle.ktm_world.specs.TransactionCalls.{course_of, arrived, new_id, create_transaction, transaction_with, open_to_transaction, open_transaction, commit_of, commit_transaction, aborted_by, rollback_of, rollback_transaction, get_transaction_information, is_due, aborted_if_due, aborted_in_turn, with_clock, tick, is_durable, create_resource_manager, manager_with, open_to_manager, open_resource_manager, is_to_recover, recover_all, recover_resource_manager, take_first, get_notification, enlist, create_enlistment, enlistment_with, open_to_enlistment, open_enlistment, transaction_in, goes_on, answering, pre_prepare_complete, prepare_complete, read_only_enlistment, commit_complete, rollback_complete, single_phase_reject, rollback_enlistment, pre_prepare_enlistment, prepare_enlistment, commit_enlistment, recover_enlistment, keep_information, set_information, get_information, recovery_of}
-use Rattle.ktm_world.specs.Transactions.{same_id, transaction_at, is_active, is_undecided}
+use Rattle.ktm_world.specs.TransactionCalls.{course_of, arrived, new_id, create_transaction, transaction_with, open_to_transaction, open_transaction, commit_of, commit_transaction, aborted_by, rollback_of, rollback_transaction, get_transaction_information, tick, is_durable, create_resource_manager, manager_with, open_to_manager, open_resource_manager, is_to_recover, recover_all, recover_resource_manager, take_first, get_notification, enlist, create_enlistment, enlistment_with, open_to_enlistment, open_enlistment, answering, pre_prepare_complete, prepare_complete, read_only_enlistment, commit_complete, rollback_complete, single_phase_reject, rollback_enlistment, pre_prepare_enlistment, prepare_enlistment, commit_enlistment, recover_enlistment, keep_information, set_information, get_information, recovery_of}
+use Rattle.ktm_world.specs.Transactions.{same_id, is_undecided}
 use Rattle.ktm_world.specs.World.{ManagerPast, manager_now, decide_tick}
 use Rattle.ktm_world.specs.Logs.{Group}
 use Rattle.ktm_world.proofs.offered.Durables.{after_events-append}
@@ -50,18 +49,19 @@ use Rattle.ktm_laws.specs.Notes.{IsToldTruly, AreNotesTrue, NotesLaw}
 use Rattle.ktm_courses.specs.Outcomes.{OutcomesStay, OutcomesLaw}
 use Rattle.ktm_courses.specs.SoundCourse.{IsSoundCourse, is_outcome_of}
 use Rattle.ktm_courses.proofs.offered.Arrivals.{changed_to, IsIn-changed}
-use Rattle.ktm_courses.proofs.offered.Bindings.{stays-sound, soundly-gone, stays-unbound, stays-closed, stays-closed_all, stays-due, stays-in_turn}
+use Rattle.ktm_courses.proofs.offered.Bindings.{StaysSound, stays-closing, stays-then}
 use Rattle.ktm_courses.proofs.offered.Beginnings.{sound-clock}
-use Rattle.ktm_courses.proofs.offered.Calls.{transaction_at-found, transaction-named, enlistment-named}
-use Rattle.ktm_owned.proofs.offered.CoursesKept.{is_no_boot, IsCourse, led-is}
+use Rattle.ktm_courses.proofs.offered.Calls.{transaction-named, enlistment-named, of-answering}
+use Rattle.ktm_owned.proofs.offered.CoursesKept.{IsCourse, led-is}
 use Rattle.txf_laws.proofs.offered.Diamonds.{IsIn-map}
 use Rattle.txf_laws.proofs.offered.Elements.{IsIn-filter, list_all-at}
 use Rattle.txf_laws.proofs.offered.Lists.{IsIn-left, IsIn-cases, IsIn-unmap}
-use Rattle.ktm_courses.proofs.offered.Moves.{if_cases, same-by_id}
+use Rattle.ktm_courses.proofs.offered.Moves.{if_cases, same-by_id, NoBoots}
 use Rattle.ktm_courses.proofs.offered.Outcomes.{changed-itself}
-use Rattle.ktm_owned.proofs.offered.EndedTransactions.{boots-all}
 use Rattle.ktm_laws.proofs.Sayings.{Only, Says, naming, naming-with, says-led}
-use Rattle.txf_laws.proofs.offered.Tables.{same_id-from}
+use Rattle.txf_laws.proofs.offered.Tables.{same_id-equal, same_id-from}
+use Rattle.ktm_courses.proofs.offered.OutcomesMade.{events-kept}
+use Rattle.ktm_courses.proofs.offered.HandlesAndTime.{Closes, close_handle-so, exit-so, tick-so}
 
 -- ---- what an outcome leaves
 
@@ -199,10 +199,10 @@ module _ (x : Present) (sound : IsSoundCourse x) where
   abbrev names : List (Id × Id)
   names = map naming x.transactions.enlistments
 
-  honest-arrived : (t : Transaction) (d : Course) (reply : Reply) → IsIn t x.transactions.items → Says names t.id d → list_all is_no_boot d.events ≡ true → IsHonest x (arrived x d reply)
+  honest-arrived : (t : Transaction) (d : Course) (reply : Reply) → IsIn t x.transactions.items → Says names t.id d → NoBoots d.events → IsHonest x (arrived x d reply)
   honest-arrived t d reply there says no_boots = if_cases (λ o. IsHonest x o) (is_undecided d.transaction) _ _
-      (λ undecided. record { enlistments = stay; comes = come; sent = sent; made = λ m none. absurd none; boots = boots-all d.events x.recorded no_boots })
-      (λ decided. record { enlistments = stay; comes = come; sent = sent; made = λ m none. absurd none; boots = boots-all d.events x.recorded no_boots })
+      (λ undecided. record { enlistments = stay; comes = come; sent = sent; made = λ m none. absurd none; boots = (events-kept d.events x.recorded no_boots).0 })
+      (λ decided. record { enlistments = stay; comes = come; sent = sent; made = λ m none. absurd none; boots = (events-kept d.events x.recorded no_boots).0 })
     where
       stay : EnlistmentsStay x.transactions.enlistments d.enlistments
       stay = record {
@@ -269,14 +269,8 @@ module _ (x : Present) (sound : IsSoundCourse x) where
   says-of t caller input there only = says-led input (course_of x t caller) refl refl (outcome-at t there) only
 
   pub comes-answering : (o : Option Enlistment) (input : Enlistment → PhaseInput) → ((e : Enlistment) → o ≡ Some e → IsIn e x.transactions.enlistments) → Comes x (answering x o input)
-  comes-answering None input there = inl (Done, refl)
-  comes-answering (Some e) input there = go (transaction_in x e) refl
-    where
-      go : (o : Option Transaction) → transaction_in x e ≡ o → Comes x (goes_on x e o (input e))
-      go None is = inl (Done, refl)
-      go (Some t) is =
-          let found = transaction_at-found x.transactions.items e.transaction t is in
-          comes-step t (Some e) (input e) Done found.0 (says-of t (Some e) (input e) found.0 (only-one e t (there e refl) found.1))
+  comes-answering o input there = of-answering (Comes x) x o input (inl (Done, refl)) (λ e is t at own found.
+      comes-step t (Some e) (input e) Done at (says-of t (Some e) (input e) at (only-one e t (there e is) (sym (same_id-equal e.transaction t.id own)))))
 
   -- no enlistment makes the call
   pub only-none : (t : Transaction) → Only names t.id None
@@ -412,55 +406,20 @@ module _ (x : Present) (sound : IsSoundCourse x) where
 
 -- ---- handles and time
 
-honest-abort_active : (x : Present) (o : Option Transaction) → IsSoundCourse x → ((t : Transaction) → o ≡ Some t → IsIn t x.transactions.items) → IsHonest x (abort_active x o)
-honest-abort_active x None sound there = honest-reply x Done
-honest-abort_active x (Some t) sound there = if_cases (λ o. IsHonest x o) (is_active t) (aborted_by x t None Done) (only_reply x Done) (λ active. honest-aborted x sound t Done (there t refl)) (λ other. honest-reply x Done)
-
-honest-last : (x : Present) (object : Object) → IsSoundCourse x → IsHonest x (last_handle_gone x object)
-honest-last x (TransactionObject id) sound = honest-abort_active x (transaction_at x.transactions.items id) sound (λ t is. (transaction_at-found x.transactions.items id t is).0)
-honest-last x (ManagerObject id) sound = honest-reply x Done
-honest-last x (EnlistmentObject id) sound = honest-reply x Done
-honest-last x (FileObject number) sound = honest-quiet x _ refl refl refl refl refl
-
-honest-gone : (o : Option Object) (x : Present) → IsSoundCourse x → IsHonest x (handle_gone o x)
-honest-gone None x sound = honest-reply x Done
-honest-gone (Some object) x sound = if_cases (λ o. IsHonest x o) (has_handle x.handles object) (only_reply x Done) (last_handle_gone x object) (λ has. honest-reply x Done) (λ last. honest-last x object sound)
-
-honest-close : (x : Present) (process : Pid) (label : Label) → IsSoundCourse x → IsHonest x (close_handle x process label)
-unfolding close_handle
-honest-close x process label sound =
-    let unbound = record (only_reply x Done) { handles = without_handle x.handles process label } in
-    let sound' = (stays-unbound x process label sound).sound in
-    honest-joined x unbound (handle_gone (object_at x.handles process label) (apply x unbound)) (honest-quiet x unbound refl refl refl refl refl) (honest-gone (object_at x.handles process label) (apply x unbound) sound')
-    (stays-sound _ _ (soundly-gone (object_at x.handles process label) (apply x unbound) sound')).outcomes
-
-honest-closed_all : (labels : List Label) (x : Present) (process : Pid) → IsSoundCourse x → IsHonest x (closed_in_turn x process labels)
-honest-closed_all [] x process sound = honest-reply x Done
-honest-closed_all (label ∷ labels) x process sound =
-    let sound' = (stays-closed x process label sound).sound in
-    honest-joined x (close_handle x process label) (closed_in_turn (apply x (close_handle x process label)) process labels) (honest-close x process label sound) (honest-closed_all labels (apply x (close_handle x process label)) process sound')
-    (stays-closed_all labels (apply x (close_handle x process label)) process sound').outcomes
-
-honest-exit : (x : Present) (process : Pid) → IsSoundCourse x → IsHonest x (exit x process)
-unfolding exit
-honest-exit x process sound = honest-closed_all (labels_of x.handles process) x process sound
-
-honest-due : (x : Present) (o : Option Transaction) → IsSoundCourse x → ((t : Transaction) → o ≡ Some t → IsIn t x.transactions.items) → IsHonest x (aborted_if_due x o)
-honest-due x None sound there = honest-reply x Done
-honest-due x (Some t) sound there = if_cases (λ o. IsHonest x o) (is_due x.transactions.clock t) (aborted_by x t None Done) (only_reply x Done) (λ due. honest-aborted x sound t Done (there t refl)) (λ other. honest-reply x Done)
-
-honest-in_turn : (ts : List Transaction) (x : Present) → IsSoundCourse x → IsHonest x (aborted_in_turn x ts)
-honest-in_turn [] x sound = honest-reply x Done
-honest-in_turn (t ∷ ts) x sound =
-    let there = λ (u : Transaction) (is : transaction_at x.transactions.items t.id ≡ Some u). (transaction_at-found x.transactions.items t.id u is).0 in
-    let first = aborted_if_due x (transaction_at x.transactions.items t.id) in
-    let sound' = (stays-due x (transaction_at x.transactions.items t.id) sound there).sound in
-    honest-joined x first (aborted_in_turn (apply x first) ts) (honest-due x (transaction_at x.transactions.items t.id) sound there) (honest-in_turn ts (apply x first) sound') (stays-in_turn ts (apply x first) sound').outcomes
+honest-closing : Closes IsSoundCourse (λ x o. StaysSound x o × IsHonest x o)
+honest-closing = record {
+  rolls = record {
+    reply = λ x sound. (stays-closing.rolls.reply x sound, honest-reply x Done);
+    rolls = λ x t sound there can. (stays-closing.rolls.rolls x t sound there can, honest-aborted x sound t Done there);
+    goes_on = λ x a next first second. let rest = second first.0.sound in (stays-then x a next first.0 (λ sound. rest.0), honest-joined x a (next (apply x a)) first.1 rest.1 rest.0.outcomes);
+  };
+  unbinds = λ x process label sound. (stays-closing.unbinds x process label sound, honest-quiet x _ refl refl refl refl refl);
+  ends = λ x number sound. (stays-closing.ends x number sound, honest-quiet x _ refl refl refl refl refl);
+}
 
 honest-tick : (x : Present) (ms : ℕ) → IsSoundCourse x → IsHonest x (tick x ms)
-unfolding tick
 honest-tick x ms sound =
-    let is = honest-in_turn x.transactions.items (with_clock x ms) (sound-clock x ms sound) in
+    let is = (tick-so _ _ honest-closing.rolls x ms (sound-clock x ms sound)).1 in
     record { enlistments = is.enlistments; comes = is.comes; sent = is.sent; made = is.made; boots = is.boots }
 
 -- ---- every call
@@ -551,9 +510,9 @@ module _ (x : Present) (sound : IsSoundCourse x) where
   honest-effect process (KvUnset transaction key) = honest-quiet x _ refl refl refl refl refl
   honest-effect process (KvGet view key) = honest-quiet x _ refl refl refl refl refl
   honest-effect process (KvList view) = honest-quiet x _ refl refl refl refl refl
-  honest-effect process (CloseHandle label) = honest-close x process label sound
+  honest-effect process (CloseHandle label) = (close_handle-so _ _ honest-closing x process label sound).1
   honest-effect process (DuplicateHandle label from source) = honest-bind x sound process label (object_at x.handles from source)
-  honest-effect process Exit = honest-exit x process sound
+  honest-effect process Exit = (exit-so _ _ honest-closing x process sound).1
 
   honest-refused : (refusal : Option Refusal) (effect : Outcome) → IsHonest x effect → IsHonest x (refuse_or x refusal effect)
   honest-refused (Some refusal) effect is = honest-reply x (Refused refusal)

@@ -1,5 +1,5 @@
 -- What a command tells of the outcome of a transaction is so then.
-use Rattle.std.specs.Prelude.{if◌then◌else◌, bytes_eq, find}
+use Rattle.std.specs.Prelude.{if◌then◌else◌, bytes_eq, find, ⊤}
 use Rattle.std.proofs.Common.{◌≡◌, ℕ, ◌&&◌, ◌||◌, not, Bool, true, false, List, [], ◌∷◌, ◌++◌, Option, Some, None, is_none, option_and_then, option_map, refl, sym, ◌∙◌, ap, subst, arith, inl, inr, ◌⊎◌}
 use Rattle.std.proofs.lemmas.Bool.{cases_Bool, and_parts, leb-true, or_cases, or_from, true≢false}
 use Rattle.std.proofs.lemmas.Option.{none-some, same_Some}
@@ -36,7 +36,7 @@ use Rattle.ktm_world.specs.Enlistments.{Enlistment, Manager, Note, is_ended}
 use Rattle.ktm_world.specs.FileCalls.{create_act, create_at, create_file, create_file_tests, read_file, read_file_tests, write_file, write_file_tests, set_end, set_end_tests, get_size, flush_file, delete_act, drop_at, delete_file, delete_file_tests, make_act, make_at, create_directory, create_directory_tests, remove_act, remove_directory, remove_directory_tests, move_act, move_at, move_file, move_file_tests, find_files, find_files_tests, find_path, conflict_test, write_access_test, Whereabouts, no_path, no_way, free, at_root, at_node}
 use Rattle.ktm_world.specs.FileOutcome.{FileOutcome, FileRoom}
 use Rattle.ktm_world.specs.Files.{FilesNow, OpenFile, tree_seen}
-use Rattle.ktm_world.specs.HandleCalls.{abort_active, has_handle, last_handle_gone, handle_gone, close_handle, close_handle_tests, closed_in_turn, labels_of, exit, bind_to, duplicate_handle, duplicate_handle_tests}
+use Rattle.ktm_world.specs.HandleCalls.{close_handle, close_handle_tests, closed_in_turn, labels_of, exit, bind_to, duplicate_handle, duplicate_handle_tests}
 use Rattle.ktm_world.specs.Handles.{object_at, transaction_id}
 use Rattle.ktm_world.specs.Holds.{Act}
 use Rattle.ktm_world.specs.KeyCalls.{reply_of_value, kv_set_tests, kv_unset_tests, kv_get_tests}
@@ -47,7 +47,7 @@ use Rattle.ktm_world.specs.Outcome.{Outcome, apply, only_reply, refuse_or, first
 use Rattle.ktm_world.specs.Phases.{Course}
 use Rattle.ktm_world.specs.Present.{Present}
 use Rattle.ktm_world.specs.Steps.{led, share_of}
-use Rattle.ktm_world.specs.TransactionCalls.{course_of, has_superior, is_superior_kind, no_enlistment_left, quota_test, arrived, bound_test, aborted_by, guid_in, create_transaction, create_transaction_tests, transaction_with, open_to_transaction, open_transaction, open_transaction_tests, commit_of, commit_reply, commit_transaction, rollback_of, rollback_transaction, may_roll_back, information_of, get_transaction_information, create_resource_manager, create_resource_manager_tests, manager_with, open_to_manager, open_resource_manager, open_resource_manager_tests, recover_all, recover_resource_manager, note_reply, take_first, get_notification, enlist, create_enlistment, create_enlistment_tests, enlistment_with, open_to_enlistment, open_enlistment, open_enlistment_tests, transaction_in, goes_on, answering, pre_prepare_complete, prepare_complete, read_only_enlistment, commit_complete, rollback_complete, single_phase_reject, rollback_enlistment, pre_prepare_enlistment, prepare_enlistment, commit_enlistment, recover_enlistment, keep_information, set_information, information_in, get_information, recovery_of}
+use Rattle.ktm_world.specs.TransactionCalls.{course_of, has_superior, is_superior_kind, no_enlistment_left, quota_test, arrived, bound_test, guid_in, create_transaction, create_transaction_tests, transaction_with, open_to_transaction, open_transaction, open_transaction_tests, commit_of, commit_reply, commit_transaction, rollback_of, rollback_transaction, may_roll_back, information_of, get_transaction_information, create_resource_manager, create_resource_manager_tests, manager_with, open_to_manager, open_resource_manager, open_resource_manager_tests, recover_all, recover_resource_manager, note_reply, take_first, get_notification, enlist, create_enlistment, create_enlistment_tests, enlistment_with, open_to_enlistment, open_enlistment, open_enlistment_tests, answering, pre_prepare_complete, prepare_complete, read_only_enlistment, commit_complete, rollback_complete, single_phase_reject, rollback_enlistment, pre_prepare_enlistment, prepare_enlistment, commit_enlistment, recover_enlistment, keep_information, set_information, information_in, get_information, recovery_of}
 use Rattle.ktm_world.specs.Transactions.{transaction_at, is_active, is_committed, is_aborted, is_undecided}
 use Rattle.ktm_world.specs.Uses.{file_room, key_room}
 use Rattle.ktm_steps.proofs.offered.Outcomes.{committed-led}
@@ -57,13 +57,14 @@ use Rattle.ktm_laws.specs.Notes.{AreNotesTrue}
 use Rattle.ktm_courses.specs.SoundCourse.{IsSoundCourse, is_counted, is_outcome_of}
 use Rattle.ktm_courses.specs.SoundCourses.{CoursesLaw}
 use Rattle.ktm_courses.proofs.offered.Arrivals.{changed_to}
-use Rattle.ktm_courses.proofs.offered.Calls.{Passes, passed, transaction_at-found, and_then-found, manager-named}
+use Rattle.ktm_courses.proofs.offered.Calls.{Passes, passed, transaction_at-found, and_then-found, manager-named, of-answering}
 use Rattle.txf_laws.proofs.offered.Elements.{find-in, list_all-at}
 use Rattle.ktm_laws.proofs.Notes.{}
 use Rattle.ktm_courses.proofs.offered.NewObjects.{counted-parts}
 use Rattle.ktm_courses.proofs.offered.Moves.{if_cases, same-by_id}
 use Rattle.ktm_courses.proofs.offered.Outcomes.{changed-itself}
 use Rattle.txf_laws.proofs.offered.Tables.{same_id-from}
+use Rattle.ktm_courses.proofs.offered.HandlesAndTime.{Closes, close_handle-so, exit-so}
 
 -- ---- what is told of a transaction
 
@@ -117,12 +118,7 @@ silent-done : (x : Present) → Silent (only_reply x Done)
 silent-done x = record { told = refl; plain = refl; on = refl }
 
 silent-answering : (x : Present) (o : Option Enlistment) (input : Enlistment → PhaseInput) → Silent (answering x o input)
-silent-answering x None input = silent-done x
-silent-answering x (Some e) input = go (transaction_in x e)
-  where
-    go : (t : Option Transaction) → Silent (goes_on x e t (input e))
-    go None = silent-done x
-    go (Some t) = silent-arrived x (led (input e) (course_of x t (Some e))) Done refl refl
+silent-answering x o input = of-answering Silent x o input (silent-done x) (λ e is t there own found. silent-arrived x (led (input e) (course_of x t (Some e))) Done refl refl)
 
 silent-opening : (x : Present) (process : Pid) (label : Label) (who : Option Id) (o : FileOutcome) → told_of_named o.reply ≡ None → is_note o.reply ≡ false → Silent (opening x process label who o)
 silent-opening x process label who o told plain = go o.opened
@@ -243,36 +239,28 @@ silent-contents x (Some e) = record { told = refl; plain = refl; on = refl }
 
 -- ---- handles
 
-on-joined : (a b : Bool) → a ≡ false → b ≡ false → (a || b) ≡ false
-on-joined a b first second = or_from a b first second
-
-on-abort_active : (x : Present) (o : Option Transaction) → (abort_active x o).stops ≡ false
-on-abort_active x None = refl
-on-abort_active x (Some t) = if_cases (λ (o : Outcome). o.stops ≡ false) (is_active t) (aborted_by x t None Done) (only_reply x Done) (λ active. (silent-arrived x (led PhaseInput.Rollback (course_of x t None)) Done refl refl).on) (λ other. refl)
-
-on-gone : (o : Option Object) (x : Present) → (handle_gone o x).stops ≡ false
-on-gone None x = refl
-on-gone (Some object) x = if_cases (λ (o : Outcome). o.stops ≡ false) (has_handle x.handles object) (only_reply x Done) (last_handle_gone x object) (λ has. refl) (λ last. go object)
-  where
-    go : (object : Object) → (last_handle_gone x object).stops ≡ false
-    go (Object.Transaction id) = on-abort_active x (transaction_at x.transactions.items id)
-    go (Object.Manager id) = refl
-    go (Object.Enlistment id) = refl
-    go (Object.File number) = refl
+on-closing : Closes (λ x. ⊤) (λ x o. o.stops ≡ false)
+on-closing = record {
+  rolls = record {
+    reply = λ x asked. refl;
+    rolls = λ x t asked there can. (silent-arrived x (led PhaseInput.Rollback (course_of x t None)) Done refl refl).on;
+    goes_on = λ x a next first second. or_from a.stops (next (apply x a)).stops first (second tt);
+  };
+  unbinds = λ x process label asked. refl;
+  ends = λ x number asked. refl;
+}
 
 silent-close : (x : Present) (process : Pid) (label : Label) → Silent (close_handle x process label)
 unfolding close_handle
-silent-close x process label = record { told = refl; plain = refl; on = on-gone (object_at x.handles process label) _ }
-
-silent-closed_all : (labels : List Label) (x : Present) (process : Pid) → Silent (closed_in_turn x process labels)
-silent-closed_all [] x process = silent-done x
-silent-closed_all (label ∷ labels) x process =
-    let first = silent-close x process label in
-    record { told = first.told; plain = first.plain; on = on-joined _ _ first.on (silent-closed_all labels (apply x (close_handle x process label)) process).on }
+silent-close x process label = record { told = refl; plain = refl; on = close_handle-so _ _ on-closing x process label tt }
 
 silent-exit : (x : Present) (process : Pid) → Silent (exit x process)
-unfolding exit
-silent-exit x process = silent-closed_all (labels_of x.handles process) x process
+unfolding exit close_handle
+silent-exit x process = go (labels_of x.handles process) (exit-so _ _ on-closing x process tt)
+  where
+    go : (labels : List Label) → (closed_in_turn x process labels).stops ≡ false → Silent (closed_in_turn x process labels)
+    go [] on = record { told = refl; plain = refl; on = on }
+    go (label ∷ labels) on = record { told = refl; plain = refl; on = on }
 
 -- ---- refusals
 

@@ -1,8 +1,8 @@
 -- What a transaction on its way tells: of its own enlistments alone, and of its outcome what is so in the end.
 use Rattle.std.proofs.Common.{◌≡◌, ◌&&◌, not, Bool, true, List, [], ◌∷◌, map, filter, Option, Some, None, refl, sym, ◌∙◌, ap, subst, inl, inr}
-use Rattle.std.proofs.lemmas.Bool.{and_parts, and_from}
+use Rattle.std.proofs.lemmas.Bool.{and_parts, true≢false}
 use Rattle.std.proofs.lemmas.Simd.{map-map}
-use Rattle.std.specs.List.{AllByRecursion, list_any, list_all}
+use Rattle.std.specs.List.{list_any, list_all}
 use Rattle.ktm_base.specs.declared.id.Id.{Id}
 use Rattle.ktm_base.specs.declared.notify.Notify.{Notify}
 use Rattle.ktm_types.specs.declared.event.Event.{Event}
@@ -13,14 +13,13 @@ use Rattle.ktm_types.specs.declared.step.Step.{Step}
 use Rattle.ktm_types.specs.declared.step.Who.{Who}
 use Rattle.ktm_world.specs.Enlistments.{Enlistment, Sent, asks_pre_prepare, id_of, is_given, is_ordinary, is_superior, is_unfinished, takes_part, tell, with_enlistments}
 use Rattle.ktm_world.specs.Phases.{Course, end_notice, ended, in_phase, decided, is_its_superior, owing, telling, unchanged}
-use Rattle.ktm_world.specs.Rows.{row}
-use Rattle.ktm_world.specs.Steps.{carried, changing, is_meant, is_one_of, led, run, seen}
+use Rattle.ktm_world.specs.Steps.{carried, changing, is_meant, is_one_of, led, run, basis}
 use Rattle.ktm_world.specs.Transactions.{same_id}
 use Rattle.ktm_steps.specs.Outcomes.{IsTrue}
 use Rattle.ktm_steps.proofs.offered.Fading.{fades-run}
 use Rattle.ktm_steps.proofs.offered.Outcomes.{outcome_law}
-use Rattle.ktm_steps.proofs.offered.Recorded.{all-led}
-use Rattle.ktm_steps.proofs.offered.Staying.{either-course, stays-led, stays-step}
+use Rattle.ktm_steps.proofs.offered.Recorded.{bare-facts, is_bare, passes-led}
+use Rattle.ktm_steps.proofs.offered.Staying.{either-course, stays-led, stays-step, led-keeps}
 use Rattle.txf_laws.specs.Contents.{puts_some}
 use Rattle.txf_laws.specs.Elements.{IsIn}
 use Rattle.txf_laws.proofs.offered.Diamonds.{IsIn-map}
@@ -31,6 +30,7 @@ use Rattle.ktm_states.specs.Grammatical.{changes_of_event}
 use Rattle.ktm_courses.specs.SoundCourse.{is_outcome_of}
 use Rattle.ktm_courses.proofs.offered.Moves.{if_cases}
 use Rattle.ktm_courses.proofs.offered.Outcomes.{known-in}
+use Rattle.ktm_types.specs.declared.event.Part.{Part}
 
 -- ---- names, and what is put
 
@@ -147,41 +147,26 @@ module _ (names : List (Id × Id)) (own : Id) (caller : Option Enlistment) where
       let still = stays-step step c in
       record { id = still.id ∙ tells.id; caller_is = still.caller ∙ tells.caller_is; named = named-run (step ∷ []) c ∙ tells.named; about = about-step only step c tells }
 
-  tells-run : Only → (steps : List Step) (c : Course) → Tells c → Tells (run steps c)
-  tells-run only [] c tells = tells
-  tells-run only (step ∷ steps) c tells = tells-run only steps (carried step c) (tells-step only step c tells)
-
-  tells-led : Only → (input : PhaseInput) (c : Course) → Tells c → Tells (led input c)
-  unfolding led
-  tells-led only input c tells = tells-run only (row (seen c) input) c tells
-
 -- ---- rows
 
-all-puts : (es : List Event) → AllByRecursion (λ e. puts_all e ≡ true) es → list_all puts_all es ≡ true
-all-puts [] all = refl
-all-puts (e ∷ es) all = and_from _ _ all.0 (all-puts es all.1)
+-- contents are put by what there is to commit alone
+bare-puts : (event : Event) → is_bare event ≡ true → puts_all event ≡ true
+bare-puts (Event.Plain change) is = absurd (true≢false (sym is))
+bare-puts (Event.Ready id (Part.Changes changes)) is = absurd (true≢false (sym is))
+bare-puts (Event.Single id (Part.Changes changes)) is = absurd (true≢false (sym is))
+bare-puts _ is = refl
 
 -- by each row it says so, where it has said nothing before
 pub says-led : (input : PhaseInput) (c : Course) → c.sent ≡ [] → c.events ≡ [] → is_outcome_of c.transaction.phase c.transaction ≡ true → Only (map naming c.enlistments) c.transaction.id c.caller
     → Says (map naming c.enlistments) c.transaction.id (led input c)
 says-led input c silent none is only =
-    let tells = tells-led (map naming c.enlistments) c.transaction.id c.caller only input c record { id = refl; caller_is = refl; named = refl; about = λ s there. absurd (subst (IsIn s) silent there) } in
+    let tells = led-keeps (Tells (map naming c.enlistments) c.transaction.id c.caller) (tells-step (map naming c.enlistments) c.transaction.id c.caller only) input c record { id = refl; caller_is = refl; named = refl; about = λ s there. absurd (subst (IsIn s) silent there) } in
     record {
       id = tells.id;
       named = tells.named;
       about = tells.about;
       tells = outcome_law.tells input c silent (known-in c.transaction.phase c.transaction is);
-      events = λ puts. all-puts _ (all-led (λ e. puts_all e ≡ true) input c none record {
-        ready_files = sym (ap (list_all puts_some) (stays-led input c).changes) ∙ puts;
-        ready_keys = refl;
-        ready = λ e is. refl;
-        held = λ e is. refl;
-        decide = refl;
-        undo = refl;
-        done_files = refl;
-        done_keys = refl;
-        done = λ e is. refl;
-        single_files = sym (ap (list_all puts_some) (stays-led input c).changes) ∙ puts;
-        single_keys = refl;
-      });
+      events = λ puts.
+          let files = sym (ap (list_all puts_some) (stays-led input c).changes) ∙ puts in
+          passes-led puts_all input c none (bare-facts (λ e. puts_all e ≡ true) (basis c) bare-puts (files, files) (refl, refl));
     }

@@ -1,5 +1,5 @@
 -- What a command commits applies to what is committed, and what it records puts no empty contents.
-use Rattle.std.specs.Prelude.{if◌then◌else◌}
+use Rattle.std.specs.Prelude.{if◌then◌else◌, ⊤}
 use Rattle.std.proofs.Common.{◌≡◌, ℕ, ◌==◌, not, Bool, true, false, List, [], ◌∷◌, ◌++◌, filter, Option, Some, None, refl, sym, ◌∙◌, ap, subst, inl, inr, ◌⊎◌}
 use Rattle.std.proofs.lemmas.Bool.{and_from, eq-eqb, not-true, true≢false}
 use Rattle.std.proofs.lemmas.List.Folds.{list_all-append}
@@ -20,7 +20,7 @@ use Rattle.ktm_types.specs.declared.event.Event.{Event}
 use Rattle.ktm_types.specs.declared.event.Event.TheVariants.{MadeRm, Undo}
 use Rattle.ktm_types.specs.declared.input.PhaseInput.{PhaseInput}
 use Rattle.ktm_types.specs.declared.object.Object.{Object}
-use Rattle.ktm_types.specs.declared.object.Object.TheVariants.{Transaction as TransactionObject, Manager as ManagerObject, Enlistment as EnlistmentObject, File as FileObject}
+use Rattle.ktm_types.specs.declared.object.Object.TheVariants.{File as FileObject}
 use Rattle.ktm_types.specs.declared.object.Transaction.{Transaction}
 use Rattle.ktm_types.specs.declared.options.Access.{Access}
 use Rattle.ktm_types.specs.declared.options.Disposition.{Disposition}
@@ -37,16 +37,16 @@ use Rattle.ktm_world.specs.Enlistments.{Enlistment, Manager}
 use Rattle.ktm_world.specs.FileCalls.{Whereabouts, no_path, no_way, free, at_root, at_node, find_path, empties, create_at, create_file, create_file_tests, read_file, write_file, write_file_tests, set_end, set_end_tests, get_size, flush_file, drop_at, delete_file, delete_file_tests, make_at, create_directory, create_directory_tests, remove_directory, remove_directory_tests, move_at, move_file, move_file_tests, find_files}
 use Rattle.ktm_world.specs.FileOutcome.{FileOutcome, answering, changing}
 use Rattle.ktm_world.specs.Files.{FirstOpen, OpenFile, OwnChanges, own_changes, FilesNow}
-use Rattle.ktm_world.specs.HandleCalls.{without_handle, has_handle, abort_active, last_handle_gone, handle_gone, close_handle, closed_in_turn, labels_of, exit, bind_to, duplicate_handle}
+use Rattle.ktm_world.specs.HandleCalls.{close_handle, exit, bind_to, duplicate_handle}
 use Rattle.ktm_world.specs.Handles.{object_at}
 use Rattle.ktm_world.specs.Holds.{is_in}
 use Rattle.ktm_world.specs.Labels.{transaction_named, manager_named, enlistment_named, file_named, binding}
-use Rattle.ktm_world.specs.Outcome.{Outcome, apply, only_reply, joined, refuse_or, first_refusal, is_full, within_log}
+use Rattle.ktm_world.specs.Outcome.{Outcome, apply, only_reply, refuse_or, first_refusal, is_full, within_log}
 use Rattle.ktm_world.specs.Phases.{event_if}
 use Rattle.ktm_world.specs.Present.{Present}
 use Rattle.ktm_world.specs.Steps.{led}
-use Rattle.ktm_world.specs.TransactionCalls.{course_of, new_id, create_transaction, transaction_with, open_to_transaction, open_transaction, aborted_by, get_transaction_information, is_due, aborted_if_due, aborted_in_turn, with_clock, tick, bound_test, is_durable, create_resource_manager, manager_with, open_to_manager, open_resource_manager, recover_all, recover_resource_manager, take_first, get_notification, enlist, create_enlistment, enlistment_with, open_to_enlistment, open_enlistment, keep_information, set_information, get_information}
-use Rattle.ktm_world.specs.Transactions.{transaction_at, is_active, is_undecided}
+use Rattle.ktm_world.specs.TransactionCalls.{course_of, new_id, create_transaction, transaction_with, open_to_transaction, open_transaction, aborted_by, get_transaction_information, tick, bound_test, is_durable, create_resource_manager, manager_with, open_to_manager, open_resource_manager, recover_all, recover_resource_manager, take_first, get_notification, enlist, create_enlistment, enlistment_with, open_to_enlistment, open_enlistment, keep_information, set_information, get_information}
+use Rattle.ktm_world.specs.Transactions.{is_undecided}
 use Rattle.ktm_world.specs.Tree.{Tree, is_file}
 use Rattle.ktm_world.specs.Uses.{file_room}
 use Rattle.ktm_world.specs.World.{decide_tick}
@@ -69,6 +69,7 @@ use Rattle.ktm_owned.proofs.offered.PlainCalls.{plain-deleted, plain-removed, pl
 use Rattle.txf_laws.proofs.offered.Reservations.{own-apply, own_changes-by}
 use Rattle.ktm_laws.proofs.Sayings.{puts_all}
 use Rattle.ktm_owned.proofs.offered.SeenFiles.{below-next}
+use Rattle.ktm_courses.proofs.offered.HandlesAndTime.{Closes, close_handle-so, exit-so, tick-so}
 
 -- ---- what is committed
 
@@ -102,13 +103,6 @@ written-bound x process label object o is = record { works = is.works; openings 
 idle-reply : (x : Present) (reply : Reply) → IsIdle (only_reply x reply)
 idle-reply x reply = record { works = refl; openings = refl; puts = refl }
 
-idle-joined : (a b : Outcome) → IsIdle a → IsIdle b → IsIdle (joined a b)
-idle-joined a b first second = record {
-  works = (λ i. first.works i ++ second.works i);
-  openings = (λ i. first.openings i ++ second.openings i);
-  puts = list_all-append puts_all a.events b.events ∙ and_from _ _ first.puts second.puts;
-}
-
 idle-aborted : (x : Present) (t : Transaction) → IsIdle (aborted_by x t None Done)
 idle-aborted x t = if_cases (λ o. IsIdle o) (is_undecided (led PhaseInput.Rollback (course_of x t None)).transaction) _ _ (λ is. record { works = same.0; openings = refl; puts = puts }) (λ is. record { works = same.0; openings = refl; puts = puts })
   where
@@ -122,47 +116,20 @@ idle-aborted x t = if_cases (λ o. IsIdle o) (is_undecided (led PhaseInput.Rollb
     puts : list_all puts_all (led PhaseInput.Rollback (course_of x t None)).events ≡ true
     puts = ap (list_all puts_all) same.1 ∙ undone t.is_recorded
 
-idle-abort_active : (x : Present) (o : Option Transaction) → IsIdle (abort_active x o)
-idle-abort_active x None = idle-reply x Done
-idle-abort_active x (Some t) = if_cases (λ o. IsIdle o) (is_active t) (aborted_by x t None Done) (only_reply x Done) (λ active. idle-aborted x t) (λ other. idle-reply x Done)
-
-idle-last : (x : Present) (object : Object) → IsIdle (last_handle_gone x object)
-idle-last x (TransactionObject id) = idle-abort_active x (transaction_at x.transactions.items id)
-idle-last x (ManagerObject id) = idle-reply x Done
-idle-last x (EnlistmentObject id) = idle-reply x Done
-idle-last x (FileObject number) = record { works = refl; openings = refl; puts = refl }
-
-idle-gone : (o : Option Object) (x : Present) → IsIdle (handle_gone o x)
-idle-gone None x = idle-reply x Done
-idle-gone (Some object) x = if_cases (λ o. IsIdle o) (has_handle x.handles object) (only_reply x Done) (last_handle_gone x object) (λ has. idle-reply x Done) (λ last. idle-last x object)
-
-idle-close : (x : Present) (process : Pid) (label : Label) → IsIdle (close_handle x process label)
-unfolding close_handle
-idle-close x process label =
-    let unbound = record (only_reply x Done) { handles = without_handle x.handles process label } in
-    idle-joined unbound (handle_gone (object_at x.handles process label) (apply x unbound)) (record { works = refl; openings = refl; puts = refl }) (idle-gone (object_at x.handles process label) (apply x unbound))
-
-idle-closed_all : (labels : List Label) (x : Present) (process : Pid) → IsIdle (closed_in_turn x process labels)
-idle-closed_all [] x process = idle-reply x Done
-idle-closed_all (label ∷ labels) x process = idle-joined (close_handle x process label) (closed_in_turn (apply x (close_handle x process label)) process labels) (idle-close x process label) (idle-closed_all labels (apply x (close_handle x process label)) process)
-
-idle-exit : (x : Present) (process : Pid) → IsIdle (exit x process)
-unfolding exit
-idle-exit x process = idle-closed_all (labels_of x.handles process) x process
-
-idle-due : (x : Present) (o : Option Transaction) → IsIdle (aborted_if_due x o)
-idle-due x None = idle-reply x Done
-idle-due x (Some t) = if_cases (λ o. IsIdle o) (is_due x.transactions.clock t) (aborted_by x t None Done) (only_reply x Done) (λ due. idle-aborted x t) (λ other. idle-reply x Done)
-
-idle-in_turn : (ts : List Transaction) (x : Present) → IsIdle (aborted_in_turn x ts)
-idle-in_turn [] x = idle-reply x Done
-idle-in_turn (t ∷ ts) x =
-    let first = aborted_if_due x (transaction_at x.transactions.items t.id) in
-    idle-joined first (aborted_in_turn (apply x first) ts) (idle-due x (transaction_at x.transactions.items t.id)) (idle-in_turn ts (apply x first))
-
-idle-tick : (x : Present) (ms : ℕ) → IsIdle (tick x ms)
-unfolding tick
-idle-tick x ms = let is = idle-in_turn x.transactions.items (with_clock x ms) in record { works = is.works; openings = is.openings; puts = is.puts }
+idle-closing : Closes (λ x. ⊤) (λ x o. IsIdle o)
+idle-closing = record {
+  rolls = record {
+    reply = λ x asked. idle-reply x Done;
+    rolls = λ x t asked there can. idle-aborted x t;
+    goes_on = λ x a next first second. let rest = second tt in record {
+      works = (λ i. first.works i ++ rest.works i);
+      openings = (λ i. first.openings i ++ rest.openings i);
+      puts = list_all-append puts_all a.events (next (apply x a)).events ∙ and_from _ _ first.puts rest.puts;
+    };
+  };
+  unbinds = λ x process label asked. record { works = refl; openings = refl; puts = refl };
+  ends = λ x number asked. record { works = refl; openings = refl; puts = refl };
+}
 
 -- ---- calls on files, and courses
 
@@ -467,9 +434,9 @@ module _ (lists : ListsLaw) (formed : FormedLaw) (x : Present) (course : IsSound
   written-effect process (KvUnset transaction key) none = record { works = inl refl; openings = inl refl; puts = refl }
   written-effect process (KvGet view key) none = record { works = inl refl; openings = inl refl; puts = refl }
   written-effect process (KvList view) none = record { works = inl refl; openings = inl refl; puts = refl }
-  written-effect process (CloseHandle label) none = written-idle x (close_handle x process label) (idle-close x process label)
+  written-effect process (CloseHandle label) none = written-idle x (close_handle x process label) (close_handle-so _ _ idle-closing x process label tt)
   written-effect process (DuplicateHandle label from source) none = written-bind process label (object_at x.handles from source)
-  written-effect process Exit none = written-idle x (exit x process) (idle-exit x process)
+  written-effect process Exit none = written-idle x (exit x process) (exit-so _ _ idle-closing x process tt)
 
   written-refused : (refusal : Option Refusal) (effect : Outcome) → (refusal ≡ None → IsWritten x effect) → IsWritten x (refuse_or x refusal effect)
   written-refused (Some refusal) effect is = written-reply x (Refused refusal)
@@ -482,4 +449,4 @@ module _ (lists : ListsLaw) (formed : FormedLaw) (x : Present) (course : IsSound
   written-decided process command = written-logged (with_room x process command) (written-refused (refusal_of x process command) (command_effect x process command) (written-effect process command))
 
   pub written-ticked : (ms : ℕ) → IsWritten x (decide_tick x ms)
-  written-ticked ms = written-logged _ (written-refused (first_refusal ((not x.machine.is_up, MachineDown) ∷ [])) (tick x ms) (λ none. written-idle x (tick x ms) (idle-tick x ms)))
+  written-ticked ms = written-logged _ (written-refused (first_refusal ((not x.machine.is_up, MachineDown) ∷ [])) (tick x ms) (λ none. written-idle x (tick x ms) (tick-so _ _ idle-closing.rolls x ms tt)))

@@ -1,6 +1,6 @@
 -- What was recorded of a transaction when a call brings it further, and the events of such a call.
 use Rattle.std.specs.Prelude.{if◌then◌else◌}
-use Rattle.std.proofs.Common.{◌≡◌, ℕ, ◌≤◌, ◌&&◌, not, Bool, true, false, [], length, count_by, Option, Some, None, refl, sym, ◌∙◌, ap, subst, arith, inl, inr, ◌⊎◌}
+use Rattle.std.proofs.Common.{◌≡◌, ℕ, ◌≤◌, ◌&&◌, not, Bool, true, false, [], length, count_by, Option, Some, None, refl, sym, ◌∙◌, ap, subst, arith, inl, inr, ◌⊎◌, List, ◌++◌}
 use Rattle.std.proofs.lemmas.Bool.{and_parts, and_from, or_right, not_from_false, true≢false}
 use Rattle.std.proofs.lemmas.Option.{none-some, same_Some}
 use Rattle.ktm_base.specs.declared.id.Id.{Id}
@@ -10,23 +10,20 @@ use Rattle.ktm_types.specs.declared.input.PhaseInput.{PhaseInput}
 use Rattle.ktm_types.specs.declared.object.Phase.{Phase}
 use Rattle.ktm_types.specs.declared.object.Phase.TheVariants.{SinglePhase, Committing, Aborting, Ended}
 use Rattle.ktm_types.specs.declared.object.Transaction.{Transaction}
-use Rattle.ktm_types.specs.declared.object.TransactionOutcome.{TransactionOutcome}
 use Rattle.ktm_types.specs.declared.recorded.Stage.{Stage}
 use Rattle.ktm_types.specs.declared.reply.Reply.{Reply}
 use Rattle.ktm_types.specs.declared.reply.Reply.TheVariants.{Done}
 use Rattle.ktm_world.specs.Durable.{Recorded, changes_of, settings_of, is_decided, is_ready, recorded_or_new, superior_ids}
-use Rattle.ktm_world.specs.Enlistments.{Enlistment, is_durable_at, is_unfinished, superior_of, takes_part}
+use Rattle.ktm_world.specs.Enlistments.{Enlistment, is_durable_at, superior_of, takes_part}
 use Rattle.ktm_world.specs.Files.{own_changes}
 use Rattle.ktm_world.specs.Keys.{own_settings}
 use Rattle.ktm_world.specs.Lawful.{Agrees, Summary, is_held_stage, stage_in, summary_in, summary_now, summary_of, superior_now, undecided}
 use Rattle.ktm_world.specs.Outcome.{Outcome}
-use Rattle.ktm_world.specs.Phases.{Course, ended, ended_if_finished, event_if, is_single_phase, recording}
+use Rattle.ktm_world.specs.Phases.{Course, event_if, is_single_phase}
 use Rattle.ktm_world.specs.Present.{Present}
-use Rattle.ktm_world.specs.Steps.{led}
-use Rattle.ktm_world.specs.TransactionCalls.{arrived, course_of, goes_on, answering, transaction_in}
+use Rattle.ktm_world.specs.Steps.{led, basis, events_ahead, seen}
+use Rattle.ktm_world.specs.TransactionCalls.{arrived, course_of, answering, transaction_in}
 use Rattle.ktm_world.specs.Transactions.{is_live, is_of, is_undecided, same_id}
-use Rattle.ktm_steps.specs.Procedures.{commit_answered, committing, finished, pre_prepare_answered, prepare_answered, read_only_answered}
-use Rattle.std.specs.List.{list_any}
 use Rattle.txf_laws.specs.Elements.{IsIn}
 use Rattle.txf_laws.specs.Footprint.{ListsLaw}
 use Rattle.ktm_states.specs.GoodState.{IsGoodState}
@@ -35,18 +32,22 @@ use Rattle.ktm_courses.specs.SoundCourse.{IsSoundCourse, is_outcome_of}
 use Rattle.txf_laws.specs.SoundFiles.{IsSoundFiles}
 use Rattle.ktm_limits.proofs.CourseLimits.{Along, Few, Past, done-past, parts_counted, recorded_or_new-there}
 use Rattle.ktm_courses.proofs.offered.EnlistmentAnswers.{can_roll_back, undecided-rolls}
-use Rattle.ktm_courses.proofs.offered.Calls.{transaction_at-found}
+use Rattle.ktm_courses.proofs.offered.Calls.{of-answering}
 use Rattle.txf_laws.proofs.offered.Elements.{IsIn-flat_map, IsIn-kept, list_all-at}
-use Rattle.ktm_records.proofs.offered.LiveEnlistments.{fade-stays}
 use Rattle.ktm_records.proofs.offered.AgreementOfCourses.{arrival}
 use Rattle.txf_laws.proofs.offered.Lists.{IsIn-unmap}
-use Rattle.ktm_courses.proofs.offered.Moves.{if_cases, same-by_id}
+use Rattle.ktm_courses.proofs.offered.Moves.{same-by_id}
 use Rattle.ktm_records.proofs.offered.NoMore.{Fits}
-use Rattle.ktm_courses.proofs.offered.Procedures.{part-parts}
+use Rattle.ktm_courses.proofs.offered.Endings.{part-parts}
 use Rattle.ktm_limits.proofs.RecordedLimits.{Recalls, is_live_part, is_live_superior, live-from, parts-counted, recalled-changes, recalled-settings, recalls, stage-live, superior-is, superior-live}
-use Rattle.ktm_limits.proofs.RecordedCourses.{Going, holds-committing, holds-pre_prepare_answered, holds-prepare_answered, holds-read_only_answered, holds-to_commit, holds-to_pre_prepare, holds-to_prepare}
+use Rattle.ktm_limits.proofs.RecordedCourses.{hold-commits, hold-prepare_completes, hold-read_onlies, hold-ways}
 use Rattle.txf_laws.proofs.offered.Sums.{count-less, count-strict}
-use Rattle.txf_laws.proofs.offered.Tables.{KnownOrNew, recorded_or_new-cases, same_id-from, same_id-equal}
+use Rattle.txf_laws.proofs.offered.Tables.{KnownOrNew, recorded_or_new-cases, same_id-equal}
+use Rattle.ktm_steps.proofs.offered.Recorded.{led-events}
+use Rattle.ktm_steps.proofs.offered.Ways.{Ways, choose, pre_prepares-by, prepares-by, proceeds-by, requests-by}
+use Rattle.ktm_world.specs.Rows.{is_last, proceeds, row}
+use Rattle.ktm_types.specs.declared.input.Share.{Share}
+use Rattle.ktm_types.specs.declared.step.Step.{Step}
 
 module _ (lists : ListsLaw) (x : Present) (course : IsSoundCourse x) (good : IsGoodState x.recorded) (agrees : Agrees x) (sound : IsSoundFiles x) (fits : Fits x) where
   -- ---- one transaction
@@ -184,16 +185,19 @@ module _ (lists : ListsLaw) (x : Present) (course : IsSoundCourse x) (good : IsG
   pub holds-answering : (o : Option Enlistment) (input : Enlistment → PhaseInput)
       → ((e : Enlistment) → o ≡ Some e → (t : Transaction) → transaction_in x e ≡ Some t → IsIn t x.transactions.items → same_id e.transaction t.id ≡ true → limits_hold x.recorded (led (input e) (course_of x t (Some e))).events ≡ true)
       → HoldsOut (answering x o input)
-  holds-answering None input holds = refl
-  holds-answering (Some e) input holds = go (transaction_in x e) refl
-    where
-      go : (t : Option Transaction) → transaction_in x e ≡ t → HoldsOut (goes_on x e t (input e))
-      go None found = refl
-      go (Some t) found =
-          let at = transaction_at-found x.transactions.items e.transaction t found in
-          holds-arrived (led (input e) (course_of x t (Some e))) Done (holds e refl t found at.0 (same_id-from e.transaction t.id (sym at.1)))
+  holds-answering o input holds = of-answering HoldsOut x o input refl (λ e is t there own found. holds-arrived (led (input e) (course_of x t (Some e))) Done (holds e is t found there own))
 
   module _ (t : Transaction) (there : IsIn t x.transactions.items) (caller : Option Enlistment) where
+    abbrev c : Course
+    c = course_of x t caller
+
+    -- the limits hold after each event that steps record of it
+    abbrev Holds : List Step → Type 0
+    Holds steps = limits_hold x.recorded (events_ahead steps (basis c)) ≡ true
+
+    by-row : (input : PhaseInput) → Holds (row (seen c) input) → limits_hold x.recorded (led input c).events ≡ true
+    by-row input holds = ap (limits_hold x.recorded) (led-events input c refl) ∙ holds
+
     waits-there : is_undecided t ≡ true → IsIn t (undecided x)
     waits-there waits = IsIn-kept (λ (v : Transaction). is_undecided v && not (is_of v.id None)) x.transactions.items t there (and_from _ _ waits refl)
 
@@ -213,62 +217,61 @@ module _ (lists : ListsLaw) (x : Present) (course : IsSoundCourse x) (good : IsG
       there' : IsIn t (undecided x)
       there' = waits-there (rolls-undecided (early-rolls t.phase early))
 
-      going : Going lists x agrees sound fits t there live there' (course_of x t caller) [] [] (recorded_parts t.id) 0
-      going = record { holds = refl; along = early-along t there early; id = refl; changes = refl; settings = refl; fade = fade-stays x.transactions.enlistments }
+      along : Along x t x.recorded [] [] (recorded_parts t.id) 0
+      along = early-along t there early
 
       few : Few lists x agrees sound fits t there live (recorded_parts t.id) 0
       few = record { parts = parts-live t there live; above = omega arith }
 
-      pub to_commit-events : limits_hold x.recorded (led PhaseInput.CommitTransaction (course_of x t caller)).events ≡ true
-      to_commit-events = holds-to_commit lists x agrees sound fits t there live there' (course_of x t caller) (recorded_parts t.id) going few
+      ways : Ways (λ steps. Holds steps) (seen c)
+      ways = hold-ways lists x agrees sound fits t there live there' x.recorded (recorded_parts t.id) along few t.is_recorded caller (seen c)
 
-      pub to_pre_prepare-events : limits_hold x.recorded (led PhaseInput.PrePrepare (course_of x t caller)).events ≡ true
-      to_pre_prepare-events = holds-to_pre_prepare lists x agrees sound fits t there live there' (course_of x t caller) (recorded_parts t.id) going few
+      pub commit_transaction-events : limits_hold x.recorded (led PhaseInput.CommitTransaction c).events ≡ true
+      commit_transaction-events = by-row PhaseInput.CommitTransaction (requests-by (λ steps. Holds steps) (seen c) ways)
 
-      pub to_prepare-events : limits_hold x.recorded (led PhaseInput.Prepare (course_of x t caller)).events ≡ true
-      to_prepare-events = holds-to_prepare lists x agrees sound fits t there live there' (course_of x t caller) (recorded_parts t.id) going few
+      pub pre_prepare-events : limits_hold x.recorded (led PhaseInput.PrePrepare c).events ≡ true
+      pre_prepare-events = by-row PhaseInput.PrePrepare (pre_prepares-by (λ steps. Holds steps) (seen c) ways)
 
-      pub pre_prepare_answered-events : (e : Enlistment) → limits_hold x.recorded (pre_prepare_answered (course_of x t caller) e).events ≡ true
-      pre_prepare_answered-events e = holds-pre_prepare_answered lists x agrees sound fits t there live there' (course_of x t caller) e (recorded_parts t.id) going few
+      pub prepare-events : limits_hold x.recorded (led PhaseInput.Prepare c).events ≡ true
+      prepare-events = by-row PhaseInput.Prepare (prepares-by (λ steps. Holds steps) (seen c) ways)
 
-      pub read_only_answered-events : (e : Enlistment) → limits_hold x.recorded (read_only_answered (course_of x t caller) e).events ≡ true
-      read_only_answered-events e = holds-read_only_answered lists x agrees sound fits t there live there' (course_of x t caller) e (recorded_parts t.id) going few
+      pub pre_prepare_complete-events : limits_hold x.recorded (led PhaseInput.PrePrepareComplete c).events ≡ true
+      pre_prepare_complete-events = by-row PhaseInput.PrePrepareComplete (choose (λ steps. Holds steps) (is_last (seen c)) (proceeds (seen c)) [] (λ last. proceeds-by (λ steps. Holds steps) (seen c) ways) (λ waits. refl))
 
-      -- an enlistment that takes part, and was not prepared
-      pub prepare_answered-events : (e : Enlistment) → IsIn e x.transactions.enlistments → takes_part t.id e ≡ true → e.is_prepared ≡ false → e.is_finished ≡ false → limits_hold x.recorded (prepare_answered (course_of x t caller) e).events ≡ true
-      prepare_answered-events e has part idle busy =
-          let parts = part-parts t.id e part in
-          let more = count-strict (is_recorded_part t.id) (is_live_part x t.id) x.transactions.enlistments e (λ f has is. part-live t there live f is) has
-          (rw (part, idle) (none (is_durable_at x.managers e.manager) (not e.is_finished)))
-          (and_from _ _ part (live-from x t e there live parts.0 (or_right _ _ (and_from _ _ (not_from_false _ parts.2) (not_from_false _ busy))))) in
-          holds-prepare_answered lists x agrees sound fits t there live there' (course_of x t caller) e (recorded_parts t.id) going record { parts = more; above = omega arith }
-        where
-          none : (a b : Bool) → (((true && a) && false) && b) ≡ false
-          none true b = refl
-          none false b = refl
+      pub read_only-events : (share : Share) → limits_hold x.recorded (led (PhaseInput.ReadOnly share) c).events ≡ true
+      read_only-events share = by-row (PhaseInput.ReadOnly share) (hold-read_onlies lists x agrees sound fits t there live there' x.recorded (recorded_parts t.id) along few t.is_recorded caller (seen c) share)
 
     -- its superior decides
-    pub committing-events : t.is_recorded ≡ true → stage_in t.phase ≡ Some Stage.Held → can_roll_back t.phase ≡ true → limits_hold x.recorded (committing (course_of x t caller)).events ≡ true
-    committing-events recorded held can =
+    pub commit-events : t.is_recorded ≡ true → stage_in t.phase ≡ Some Stage.Held → can_roll_back t.phase ≡ true → limits_hold x.recorded (led PhaseInput.Commit c).events ≡ true
+    commit-events recorded held can =
         let live = stage-live t Stage.Held held in
         let begun = held-begun t there recorded held in
-        let there' = waits-there (rolls-undecided can) in
-        holds-committing lists x agrees sound fits t there live there' (course_of x t caller) (recorded_parts t.id) (above_of t.id)
-        record { holds = refl; along = begun.0; id = refl; changes = refl; settings = refl; fade = fade-stays x.transactions.enlistments }
-        record { parts = parts-live t there live; above = begun.1 } (λ not'. absurd (true≢false (sym recorded ∙ not')))
+        by-row PhaseInput.Commit (hold-commits lists x agrees sound fits t there live (waits-there (rolls-undecided can)) x.recorded (recorded_parts t.id) (above_of t.id) begun.0
+        record { parts = parts-live t there live; above = begun.1 } t.is_recorded caller (λ not'. absurd (true≢false (sym recorded ∙ not'))))
 
-    -- an enlistment has committed
-    pub commit_answered-events : (e : Enlistment) → (t.phase ≡ Committing) ⊎ (t.phase ≡ SinglePhase) → limits_hold x.recorded (commit_answered (course_of x t caller) e).events ≡ true
-    unfolding commit_answered ended
-    commit_answered-events e (inr single) = if_cases (λ (c : Course). limits_hold x.recorded c.events ≡ true) (is_single_phase t.phase) (ended (finished (course_of x t caller) e) TransactionOutcome.Committed) _ (λ is. refl)
-        (λ several. absurd (true≢false (sym (ap is_single_phase single) ∙ several)))
-    commit_answered-events e (inl over) = if_cases (λ (c : Course). limits_hold x.recorded c.events ≡ true) (is_single_phase t.phase) (ended (finished (course_of x t caller) e) TransactionOutcome.Committed)
-        (ended_if_finished done TransactionOutcome.Committed) (λ is. refl)
-        (λ several. if_cases (λ (c : Course). limits_hold x.recorded c.events ≡ true) (list_any (is_unfinished done.transaction.id) done.enlistments) done (ended done TransactionOutcome.Committed) (λ some. noted (is_durable_at x.managers e.manager)) (λ none. noted (is_durable_at x.managers e.manager)))
-      where
-        done : Course
-        done = recording (finished (course_of x t caller) e) (event_if (is_durable_at x.managers e.manager) (Event.Done t.id (DonePart.Enlistment e.id)))
+  -- an enlistment that takes part is prepared, and was not
+  pub prepare_complete-events : (t : Transaction) (there : IsIn t x.transactions.items) (e : Enlistment) → stage_in t.phase ≡ Some Stage.Ready → IsIn e x.transactions.enlistments → takes_part t.id e ≡ true → e.is_prepared ≡ false → e.is_finished ≡ false
+      → limits_hold x.recorded (led PhaseInput.PrepareComplete (course_of x t (Some e))).events ≡ true
+  prepare_complete-events t there e early has part idle busy =
+      let live = stage-live t Stage.Ready early in
+      let undecided' = waits-there t there (Some e) (rolls-undecided t there (Some e) (early-rolls t there (Some e) t.phase early)) in
+      let parts = part-parts t.id e part in
+      let more = count-strict (is_recorded_part t.id) (is_live_part x t.id) x.transactions.enlistments e (λ f has is. part-live t there live f is) has
+      (rw (part, idle) (none (is_durable_at x.managers e.manager) (not e.is_finished)))
+      (and_from _ _ part (live-from x t e there live parts.0 (or_right _ _ (and_from _ _ (not_from_false _ parts.2) (not_from_false _ busy))))) in
+      by-row t there (Some e) PhaseInput.PrepareComplete (hold-prepare_completes lists x agrees sound fits t there live undecided' x.recorded (recorded_parts t.id) (early-along t there early) record { parts = more; above = omega arith } t.is_recorded e (seen (course_of x t (Some e))))
+    where
+      none : (a b : Bool) → (((true && a) && false) && b) ≡ false
+      none true b = refl
+      none false b = refl
 
-        noted : (b : Bool) → limits_hold x.recorded (event_if b (Event.Done t.id (DonePart.Enlistment e.id))) ≡ true
-        noted false = refl
-        noted true = and_from _ _ (done-past t x.recorded (DonePart.Enlistment e.id) (past-begun t there (ap stage_in over))).0 refl
+  -- an enlistment has committed
+  pub commit_complete-events : (t : Transaction) (there : IsIn t x.transactions.items) (e : Enlistment) → (t.phase ≡ Committing) ⊎ (t.phase ≡ SinglePhase) → limits_hold x.recorded (led PhaseInput.CommitComplete (course_of x t (Some e))).events ≡ true
+  commit_complete-events t there e phases = by-row t there (Some e) PhaseInput.CommitComplete (choose (λ steps. limits_hold x.recorded (events_ahead steps (basis (course_of x t (Some e)))) ≡ true) (is_single_phase t.phase) _ _ (λ single. refl) (λ several. elim phases [
+    | inr single ↦ absurd (true≢false (sym (ap is_single_phase single) ∙ several))
+    | inl over ↦ noted over (is_durable_at x.managers e.manager)
+  ]))
+    where
+      noted : t.phase ≡ Committing → (b : Bool) → limits_hold x.recorded (event_if b (Event.Done t.id (DonePart.Enlistment e.id)) ++ []) ≡ true
+      noted over false = refl
+      noted over true = and_from _ _ (done-past t x.recorded (DonePart.Enlistment e.id) (past-begun t there (ap stage_in over))).0 refl

@@ -32,7 +32,7 @@ use Rattle.ktm_world.specs.Labels.{binding, holds_of, with_handle, transaction_t
 use Rattle.ktm_world.specs.Outcome.{Outcome, apply, only_reply, committed_now, served}
 use Rattle.ktm_world.specs.Phases.{Course, is_single_phase}
 use Rattle.ktm_world.specs.Present.{Present, Transactions}
-use Rattle.ktm_world.specs.TransactionCalls.{arrived, course_of, commit_of, commit_reply, rollback_of, rollback_transaction_tests, may_roll_back, create_transaction, create_transaction_tests, no_transaction_left, open_transaction, open_transaction_tests, open_to_transaction, transaction_with, create_resource_manager, create_resource_manager_tests, no_manager_left, is_durable, open_resource_manager, open_resource_manager_tests, open_to_manager, manager_with, recover_all, take_first, create_enlistment, create_enlistment_tests, no_enlistment_left, enlist, open_enlistment, open_enlistment_tests, open_to_enlistment, enlistment_with, new_id, goes_on, answering, transaction_in, phase_passes, enlistment_tests, superior_tests, may_vote, may_roll_back_by, may_reject_one_phase, may_recover, is_voting, is_in_doubt, lets_superior_roll_back, before_pre_prepare, before_prepare, waits_for_superior, keep_information, recovery_of}
+use Rattle.ktm_world.specs.TransactionCalls.{arrived, course_of, commit_of, commit_reply, rollback_of, rollback_transaction_tests, may_roll_back, create_transaction, create_transaction_tests, no_transaction_left, open_transaction, open_transaction_tests, open_to_transaction, transaction_with, create_resource_manager, create_resource_manager_tests, no_manager_left, is_durable, open_resource_manager, open_resource_manager_tests, open_to_manager, manager_with, recover_all, take_first, create_enlistment, create_enlistment_tests, no_enlistment_left, enlist, open_enlistment, open_enlistment_tests, open_to_enlistment, enlistment_with, new_id, answering, transaction_in, phase_passes, enlistment_tests, superior_tests, may_vote, may_roll_back_by, may_reject_one_phase, may_recover, is_voting, is_in_doubt, lets_superior_roll_back, before_pre_prepare, before_prepare, waits_for_superior, keep_information, recovery_of}
 use Rattle.ktm_world.specs.Transactions.{is_active, is_live, same_id}
 use Rattle.ktm_world.specs.Uses.{changes_waiting, key_room}
 use Rattle.ktm_world.proofs.offered.KeyLemmas.{counted-with_own-le}
@@ -43,7 +43,7 @@ use Rattle.txf_laws.specs.Formed.{FormedLaw}
 use Rattle.ktm_courses.specs.SoundCourse.{IsSoundCourse, are_enlistments_as_asked, has_transaction, is_counted, is_enlistment_as, is_idle, is_unrecovered_well}
 use Rattle.txf_laws.specs.SoundFiles.{IsSoundFiles}
 use Rattle.ktm_courses.proofs.offered.EnlistmentAnswers.{owed-commit, owed-pre_prepare, owed-prepare, owed-rollback}
-use Rattle.ktm_courses.proofs.offered.Calls.{Passes, passed, transaction_at-found, enlistment-allowed, superior-allowed, phase-passed}
+use Rattle.ktm_courses.proofs.offered.Calls.{Passes, passed, enlistment-allowed, superior-allowed, phase-passed, of-answering}
 use Rattle.txf_laws.proofs.offered.Elements.{list_all-at, list_any-at, list_any-from, not-not}
 use Rattle.ktm_records.proofs.offered.LiveEnlistments.{enlisted-fade, fade-with, phase-live}
 use Rattle.txf_laws.proofs.offered.Lists.{IsIn-cases}
@@ -350,14 +350,7 @@ module _ (lists : ListsLaw) (formed : FormedLaw) (x : Present) (course : IsSound
   -- the transaction of an enlistment, which is live, goes on by what comes from it
   stays-answering : (o : Option Enlistment) (input : Enlistment → PhaseInput) → ((e : Enlistment) → o ≡ Some e → (t : Transaction) → transaction_in x e ≡ Some t → IsIn t x.transactions.items → same_id e.transaction t.id ≡ true → is_live t ≡ true)
       → Stays x (answering x o input)
-  stays-answering None input live = stays-reply x fits Done
-  stays-answering (Some e) input live = go (transaction_in x e) refl
-    where
-      go : (t : Option Transaction) → transaction_in x e ≡ t → Stays x (goes_on x e t (input e))
-      go None found = stays-reply x fits Done
-      go (Some t) found =
-          let at = transaction_at-found x.transactions.items e.transaction t found in
-          stays-course t (Some e) (input e) (λ c. Done) at.0 (live e refl t found at.0 (same_id-from e.transaction t.id (sym at.1)))
+  stays-answering o input live = of-answering (Stays x) x o input (stays-reply x fits Done) (λ e is t there own found. stays-course t (Some e) (input e) (λ c. Done) there (live e is t found there own))
 
   -- an enlistment is as the phase of its transaction asks
   as-asked : (e : Enlistment) → IsIn e x.transactions.enlistments → (t : Transaction) → IsIn t x.transactions.items → same_id e.transaction t.id ≡ true → is_enlistment_as t.phase e ≡ true

@@ -1,7 +1,7 @@
 -- The limits hold after each event that a command records, and that the passing of time does.
-use Rattle.std.specs.Prelude.{if◌then◌else◌}
-use Rattle.std.proofs.Common.{◌≡◌, ℕ, ◌+◌, not, Bool, true, false, List, [], ◌∷◌, drop, length, take, Option, Some, None, is_none, refl, sym, ◌∙◌, ap, subst, inl, inr, ◌⊎◌, ◌&&◌}
-use Rattle.std.proofs.lemmas.Bool.{and_parts, and_from, true≢false, not-true}
+use Rattle.std.specs.Prelude.{if◌then◌else◌, ⊤}
+use Rattle.std.proofs.Common.{◌≡◌, ℕ, ◌+◌, not, Bool, true, false, List, [], ◌∷◌, drop, length, take, Option, Some, None, is_none, refl, sym, ◌∙◌, ap, subst, inl, inr, ◌⊎◌}
+use Rattle.std.proofs.lemmas.Bool.{and_parts, and_from, true≢false}
 use Rattle.std.proofs.lemmas.List.Folds.{list_all-append}
 use Rattle.std.specs.List.{list_all}
 use Rattle.ktm_base.specs.declared.id.Id.{Id}
@@ -16,64 +16,60 @@ use Rattle.ktm_types.specs.declared.event.Event.{Event}
 use Rattle.ktm_types.specs.declared.event.Event.TheVariants.{MadeRm, Plain, Undo}
 use Rattle.ktm_types.specs.declared.input.PhaseInput.{PhaseInput}
 use Rattle.ktm_types.specs.declared.object.Object.{Object}
-use Rattle.ktm_types.specs.declared.object.Object.TheVariants.{Transaction as TransactionObject, Manager as ManagerObject, Enlistment as EnlistmentObject, File as FileObject}
-use Rattle.ktm_types.specs.declared.object.Phase.{Phase}
-use Rattle.ktm_types.specs.declared.object.Phase.TheVariants.{Active, Requested, PrePreparing, PrePrepared, Preparing, SinglePhase, Held, InDoubt}
 use Rattle.ktm_types.specs.declared.object.Transaction.{Transaction}
 use Rattle.ktm_types.specs.declared.options.Durability.{Durability}
 use Rattle.ktm_types.specs.declared.options.EnlistmentKind.{EnlistmentKind}
-use Rattle.ktm_types.specs.declared.recorded.Stage.{Stage}
 use Rattle.ktm_types.specs.declared.reply.Reply.{Reply}
 use Rattle.ktm_types.specs.declared.reply.Reply.TheVariants.{Contents as Bytes, Done, Refused, Size}
 use Rattle.ktm_types.specs.declared.step.Owed.{Owed}
 use Rattle.ktm_world.specs.Decide.{of_files, opening, bound_file, on_file, caller, command_tests, command_effect, decide, events_of, refusal_of, with_room}
 use Rattle.ktm_world.specs.Durable.{Durable, after_event, after_events, fact_of, is_within_limits, without_recorded}
-use Rattle.ktm_world.specs.Enlistments.{Enlistment, Manager, is_superior, owes_commit, owes_pre_prepare, owes_prepare, is_open_for_votes}
+use Rattle.ktm_world.specs.Enlistments.{Enlistment, Manager, owes_commit, owes_pre_prepare, owes_prepare}
 use Rattle.ktm_world.specs.FileCalls.{create_file, create_file_tests, read_file, write_file, set_end, get_size, flush_file, delete_file, create_directory, remove_directory, move_file, find_files}
 use Rattle.ktm_world.specs.FileOutcome.{FileOutcome}
 use Rattle.ktm_world.specs.Files.{OpenFile, bytes_seen}
-use Rattle.ktm_world.specs.HandleCalls.{abort_active, bind_to, close_handle, closed_in_turn, duplicate_handle, exit, handle_gone, has_handle, labels_of, last_handle_gone, without_handle}
+use Rattle.ktm_world.specs.HandleCalls.{bind_to, duplicate_handle}
 use Rattle.ktm_world.specs.Handles.{object_at}
 use Rattle.ktm_world.specs.Labels.{transaction_named, manager_named, enlistment_named, file_named, transaction_tests}
 use Rattle.ktm_world.specs.Lawful.{Agrees, stage_in}
-use Rattle.ktm_world.specs.Outcome.{Outcome, only_reply, apply, and_then, first_refusal, refuse_or, is_full}
-use Rattle.ktm_world.specs.Phases.{Course, event_if}
+use Rattle.ktm_world.specs.Outcome.{Outcome, only_reply, apply, first_refusal, refuse_or, is_full}
+use Rattle.ktm_world.specs.Phases.{event_if}
 use Rattle.ktm_world.specs.Present.{Present}
 use Rattle.ktm_world.specs.Steps.{led, share_of}
-use Rattle.ktm_world.specs.TransactionCalls.{aborted_by, aborted_if_due, aborted_in_turn, answering, before_pre_prepare, before_prepare, commit_of, commit_reply, commit_transaction, rollback_transaction, rollback_of, create_transaction, open_transaction, open_to_transaction, transaction_with, get_transaction_information, create_resource_manager, new_id, open_resource_manager, open_to_manager, manager_with, recover_resource_manager, recover_all, get_notification, take_first, create_enlistment, open_enlistment, open_to_enlistment, enlistment_with, course_of, enlistment_tests, superior_tests, is_due, is_voting, keep_information, may_vote, phase_passes, pre_prepare_complete, prepare_complete, read_only_enlistment, commit_complete, rollback_complete, single_phase_reject, rollback_enlistment, pre_prepare_enlistment, prepare_enlistment, commit_enlistment, recover_enlistment, set_information, get_information, tick, waits_for_superior, with_clock, recovery_of}
-use Rattle.ktm_world.specs.Transactions.{is_active, same_id, transaction_at}
+use Rattle.ktm_world.specs.TransactionCalls.{aborted_by, answering, before_pre_prepare, before_prepare, commit_of, commit_reply, commit_transaction, rollback_transaction, rollback_of, create_transaction, open_transaction, open_to_transaction, transaction_with, get_transaction_information, create_resource_manager, new_id, open_resource_manager, open_to_manager, manager_with, recover_resource_manager, recover_all, get_notification, take_first, create_enlistment, open_enlistment, open_to_enlistment, enlistment_with, course_of, enlistment_tests, superior_tests, is_voting, keep_information, may_vote, phase_passes, pre_prepare_complete, prepare_complete, read_only_enlistment, commit_complete, rollback_complete, single_phase_reject, rollback_enlistment, pre_prepare_enlistment, prepare_enlistment, commit_enlistment, recover_enlistment, set_information, get_information, tick, waits_for_superior, recovery_of}
+use Rattle.ktm_world.specs.Transactions.{is_active, same_id}
 use Rattle.ktm_world.specs.Uses.{file_room}
 use Rattle.ktm_world.specs.World.{decide_tick}
 use Rattle.ktm_steps.proofs.offered.Lists.{Pass, row_lists}
 use Rattle.ktm_steps.proofs.offered.Recorded.{records_nothing, silent-led, silent-recovery}
-use Rattle.ktm_steps.proofs.offered.Table.{rows_law}
 use Rattle.ktm_records.specs.Agreement.{AgreeingLaw}
 use Rattle.ktm_owned.specs.FilesKept.{FilesKeptLaw}
 use Rattle.txf_laws.specs.Elements.{IsIn}
 use Rattle.txf_laws.specs.Footprint.{ListsLaw}
 use Rattle.txf_laws.specs.Formed.{FormedLaw}
 use Rattle.ktm_records.specs.Kept.{IsKept, limits_hold}
-use Rattle.ktm_courses.specs.SoundCourse.{is_part_as, is_recorded_as, is_recorded_as_asked}
+use Rattle.ktm_courses.specs.SoundCourse.{is_part_as, is_recorded_as_asked}
 use Rattle.txf_laws.specs.SoundFiles.{IsSoundFiles}
-use Rattle.ktm_courses.proofs.offered.EnlistmentAnswers.{answer_in, can_roll_back, is-committing, is-pre_preparing, is-preparing, owed-commit, owed-pre_prepare, owed-prepare, phase-owing, preparing-parts, takes_part-owing}
+use Rattle.ktm_courses.proofs.offered.EnlistmentAnswers.{answer_in, is-committing, is-pre_preparing, is-preparing, owed-commit, owed-pre_prepare, owed-prepare, phase-owing, preparing-parts, takes_part-owing}
 use Rattle.ktm_courses.proofs.offered.Arrivals.{stands-now, brought-now}
-use Rattle.ktm_courses.proofs.offered.Calls.{Passes, passed, active-phase, transaction-named, enlistment-named, enlistment-allowed, superior-allowed, phase-passed}
-use Rattle.ktm_courses.proofs.offered.Leads.{leads-pre_prepare, leads-prepare, leads-read_only}
+use Rattle.ktm_courses.proofs.offered.Calls.{Passes, passed, active-phase, transaction-named, enlistment-named, enlistment-allowed, superior-allowed, phase-passed, waiting-rolls}
 use Rattle.ktm_records.proofs.offered.DurableLimits.{limits-from}
 use Rattle.txf_laws.proofs.offered.Elements.{list_all-at, not-not}
 use Rattle.ktm_records.proofs.offered.AgreementOfCourses.{arrival}
 use Rattle.ktm_states.proofs.offered.Limits.{Less-filter, limits-less}
-use Rattle.ktm_limits.proofs.LimitsBegun.{holds-arrived, holds-answering, to_commit-events, to_pre_prepare-events, to_prepare-events, pre_prepare_answered-events, read_only_answered-events, prepare_answered-events, committing-events, commit_answered-events}
+use Rattle.ktm_limits.proofs.LimitsBegun.{holds-arrived, holds-answering, commit-events, commit_complete-events, commit_transaction-events, pre_prepare-events, pre_prepare_complete-events, prepare-events, prepare_complete-events, read_only-events}
 use Rattle.ktm_limits.proofs.LimitsCalls.{Stays, stays-create_manager}
 use Rattle.ktm_limits.proofs.LimitsFiles.{stays-answers, stays-create_directory, stays-create_file, stays-create_own, stays-delete, stays-move, stays-on_file, stays-remove, stays-set_end, stays-write}
 use Rattle.ktm_courses.proofs.offered.Moves.{if_cases}
 use Rattle.ktm_records.proofs.offered.NoMore.{Fits, fits-within}
 use Rattle.ktm_owned.proofs.offered.OwnCalls.{caller-may}
-use Rattle.ktm_courses.proofs.offered.Procedures.{waiting-parts}
+use Rattle.ktm_courses.proofs.offered.Endings.{waiting-parts}
 use Rattle.ktm_limits.proofs.RecordedLimits.{agreeing-limits}
 use Rattle.ktm_limits.proofs.RecordedCourses.{uncounted}
 use Rattle.txf_laws.proofs.offered.Tables.{Rises}
 use Rattle.ktm_records.proofs.offered.AgreementOfRollbacks.{rollback-undone}
+use Rattle.ktm_records.proofs.offered.Stages.{early-pre_prepare, early-prepare, early-voting, voting-stage, waiting-held, waiting-recorded}
+use Rattle.ktm_courses.proofs.offered.HandlesAndTime.{Closes, close_handle-so, exit-so, tick-so}
 
 -- ---- what only undoes
 
@@ -96,9 +92,6 @@ undos-hold (e ∷ es) s undos limits = let parts = and_parts (is_undo e) (list_a
         and_from _ _ left (rest (after_event s (Undo id)) left)
     one _ is rest = absurd (true≢false (sym is))
 
-undoes-then : (x : Present) (o : Outcome) (next : Present → Outcome) → Undoes o → ((y : Present) → Undoes (next y)) → Undoes (and_then x o next)
-undoes-then x o next first second = list_all-append is_undo o.events (next (apply x o)).events ∙ and_from _ _ first (second (apply x o))
-
 undoes-aborted : (x : Present) (t : Transaction) (caller : Option Enlistment) (reply : Reply) → Undoes (aborted_by x t caller reply)
 undoes-aborted x t caller reply =
     subst (λ es. list_all is_undo es ≡ true) (sym ((arrival x (led PhaseInput.Rollback (course_of x t caller)) reply).events ∙ (rollback-undone (course_of x t caller)).events)) (go t.is_recorded)
@@ -107,47 +100,16 @@ undoes-aborted x t caller reply =
     go true = refl
     go false = refl
 
-undoes-either : (b : Bool) (o p : Outcome) → Undoes o → Undoes p → Undoes (if b then o else p)
-undoes-either true o p first second = first
-undoes-either false o p first second = second
-
-undoes-active : (x : Present) (t : Option Transaction) → Undoes (abort_active x t)
-undoes-active x None = refl
-undoes-active x (Some t) = undoes-either (is_active t) (aborted_by x t None Done) (only_reply x Done) (undoes-aborted x t None Done) refl
-
-undoes-last : (x : Present) (object : Object) → Undoes (last_handle_gone x object)
-undoes-last x (TransactionObject id) = undoes-active x (transaction_at x.transactions.items id)
-undoes-last x (ManagerObject id) = refl
-undoes-last x (EnlistmentObject id) = refl
-undoes-last x (FileObject number) = refl
-
-undoes-gone : (object : Option Object) (x : Present) → Undoes (handle_gone object x)
-undoes-gone None x = refl
-undoes-gone (Some object) x = undoes-either (has_handle x.handles object) (only_reply x Done) (last_handle_gone x object) refl (undoes-last x object)
-
-undoes-close : (x : Present) (process : Pid) (label : Label) → Undoes (close_handle x process label)
-unfolding close_handle
-undoes-close x process label = undoes-then x (record (only_reply x Done) { handles = without_handle x.handles process label }) (handle_gone (object_at x.handles process label)) refl (undoes-gone (object_at x.handles process label))
-
-undoes-closed : (labels : List Label) (process : Pid) (x : Present) → Undoes (closed_in_turn x process labels)
-undoes-closed [] process x = refl
-undoes-closed (label ∷ labels) process x = undoes-then x (close_handle x process label) (λ next. closed_in_turn next process labels) (undoes-close x process label) (undoes-closed labels process)
-
-undoes-exit : (x : Present) (process : Pid) → Undoes (exit x process)
-unfolding exit
-undoes-exit x process = undoes-closed (labels_of x.handles process) process x
-
-undoes-due : (x : Present) (t : Option Transaction) → Undoes (aborted_if_due x t)
-undoes-due x None = refl
-undoes-due x (Some t) = undoes-either (is_due x.transactions.clock t) (aborted_by x t None Done) (only_reply x Done) (undoes-aborted x t None Done) refl
-
-undoes-turn : (ts : List Transaction) (x : Present) → Undoes (aborted_in_turn x ts)
-undoes-turn [] x = refl
-undoes-turn (t ∷ ts) x = undoes-then x (aborted_if_due x (transaction_at x.transactions.items t.id)) (λ next. aborted_in_turn next ts) (undoes-due x (transaction_at x.transactions.items t.id)) (undoes-turn ts)
-
-undoes-tick : (x : Present) (ms : ℕ) → Undoes (tick x ms)
-unfolding tick
-undoes-tick x ms = undoes-turn x.transactions.items (with_clock x ms)
+undoes-closing : Closes (λ x. ⊤) (λ x o. Undoes o)
+undoes-closing = record {
+  rolls = record {
+    reply = λ x asked. refl;
+    rolls = λ x t asked there can. undoes-aborted x t None Done;
+    goes_on = λ x a next first second. list_all-append is_undo a.events (next (apply x a)).events ∙ and_from _ _ first (second tt);
+  };
+  unbinds = λ x process label asked. refl;
+  ends = λ x number asked. refl;
+}
 
 -- ---- what records one event
 
@@ -240,38 +202,6 @@ silent-information : (x : Present) (e : Option Enlistment) (information : List �
 silent-information x None information = refl
 silent-information x (Some e) information = refl
 
--- ---- phases
-
-voting-early : (phase : Phase) → is_voting phase ≡ true → stage_in phase ≡ Some Stage.Ready
-voting-early Active is = refl
-voting-early Requested is = refl
-voting-early PrePreparing is = refl
-voting-early PrePrepared is = refl
-voting-early Preparing is = refl
-voting-early SinglePhase is = refl
-voting-early _ is = absurd (true≢false (sym is))
-
-pre_prepare-early : (phase : Phase) → before_pre_prepare phase ≡ true → stage_in phase ≡ Some Stage.Ready
-pre_prepare-early Active is = refl
-pre_prepare-early Requested is = refl
-pre_prepare-early _ is = absurd (true≢false (sym is))
-
-prepare-early : (phase : Phase) → before_prepare phase ≡ true → stage_in phase ≡ Some Stage.Ready
-prepare-early Active is = refl
-prepare-early Requested is = refl
-prepare-early PrePrepared is = refl
-prepare-early _ is = absurd (true≢false (sym is))
-
-waits-held : (phase : Phase) → waits_for_superior phase ≡ true → (stage_in phase ≡ Some Stage.Held) × (can_roll_back phase ≡ true)
-waits-held Held is = (refl, refl)
-waits-held InDoubt is = (refl, refl)
-waits-held _ is = absurd (true≢false (sym is))
-
-waits-recorded : (phase : Phase) (ms : List Manager) (es : List Enlistment) (id : Id) (r : Bool) → waits_for_superior phase ≡ true → is_recorded_as phase ms es id r ≡ true → r ≡ true
-waits-recorded Held ms es id r is recorded = recorded
-waits-recorded InDoubt ms es id r is recorded = recorded
-waits-recorded _ ms es id r is recorded = absurd (true≢false (sym is))
-
 -- ---- all commands
 
 module _ (agreeing : AgreeingLaw) (keeping : FilesKeptLaw) (lists : ListsLaw) (formed : FormedLaw) (x : Present) (kept : IsKept x) where
@@ -296,15 +226,11 @@ module _ (agreeing : AgreeingLaw) (keeping : FilesKeptLaw) (lists : ListsLaw) (f
   brief : (o : Outcome) → IsBrief o → After o → Fits (apply x o) → Holds o
   brief o is after fits' = brief-holds x o is kept.good.transactions_rise after.agrees after.files fits'
 
-  -- what holds of where a row leads, as its procedure says
-  by : {d e : Course} → d ≡ e → limits_hold x.recorded e.events ≡ true → limits_hold x.recorded d.events ≡ true
-  by is holds = ap (λ (c : Course). limits_hold x.recorded c.events) is ∙ holds
-
   commits : (t : Option Transaction) → ((u : Transaction) → t ≡ Some u → IsIn u x.transactions.items) → Passes (transaction_tests t) → Holds (commit_of x t)
   commits None there passes = refl
   commits (Some t) there passes =
       let active = active-phase t (not-not (is_active t) (passed (passed (passed (passed passes).1).1).1).0) in
-      holds-arrived lists x kept.sound.course kept.good kept.agrees kept.sound.files fits (led PhaseInput.CommitTransaction (course_of x t None)) (commit_reply (led PhaseInput.CommitTransaction (course_of x t None))) (to_commit-events lists x kept.sound.course kept.good kept.agrees kept.sound.files fits t (there t refl) None (ap stage_in active))
+      holds-arrived lists x kept.sound.course kept.good kept.agrees kept.sound.files fits (led PhaseInput.CommitTransaction (course_of x t None)) (commit_reply (led PhaseInput.CommitTransaction (course_of x t None))) (commit_transaction-events lists x kept.sound.course kept.good kept.agrees kept.sound.files fits t (there t refl) None (ap stage_in active))
 
   rolls_back : (t : Option Transaction) → Holds (rollback_of x t)
   rolls_back None = refl
@@ -316,47 +242,45 @@ module _ (agreeing : AgreeingLaw) (keeping : FilesKeptLaw) (lists : ListsLaw) (f
       subst (λ es. limits_hold x.recorded es ≡ true) (sym (silent-led (input e) (course_of x t (Some e)) refl (none e))) refl)
 
   module _ (o : Option Enlistment) (there : (e : Enlistment) → o ≡ Some e → IsIn e x.transactions.enlistments) where
-    owing : (e : Enlistment) → o ≡ Some e → (t : Transaction) (caller : Option Enlistment) → IsIn t x.transactions.items → same_id e.transaction t.id ≡ true → (owed : Owed) → e.owes ≡ Some owed → answer_in t.phase ≡ Some owed
-    owing e is t caller at own owed owes = phase-owing x.recorded.boots (course_of x t caller) (stands-now x t caller kept.sound.course at) (brought-now x t caller kept.sound.course) kept.sound.course.enlistments.rise e (there e is) own owed owes
+    owing : (e : Enlistment) → o ≡ Some e → (t : Transaction) → IsIn t x.transactions.items → same_id e.transaction t.id ≡ true → (owed : Owed) → e.owes ≡ Some owed → answer_in t.phase ≡ Some owed
+    owing e is t at own owed owes = phase-owing x.recorded.boots (course_of x t (Some e)) e (stands-now x t (Some e) kept.sound.course at) (brought-now x t (Some e) kept.sound.course) kept.sound.course.enlistments.rise (there e is) own owed owes
 
     pre_prepares : Passes (enlistment_tests o owes_pre_prepare) → Holds (answering x o (λ e. PhaseInput.PrePrepareComplete))
     pre_prepares tests = holds-answering lists x kept.sound.course kept.good kept.agrees kept.sound.files fits o (λ e. PhaseInput.PrePrepareComplete) (λ e is t found at own.
-        by (leads-pre_prepare x kept.sound.course t at e (there e is) own (enlistment-allowed o owes_pre_prepare e is tests)) (pre_prepare_answered-events lists x kept.sound.course kept.good kept.agrees kept.sound.files fits t at (Some e) (ap stage_in (is-pre_preparing t.phase (owing e is t (Some e) at own Owed.PrePrepare (owed-pre_prepare e (enlistment-allowed o owes_pre_prepare e is tests))))) e))
+        pre_prepare_complete-events lists x kept.sound.course kept.good kept.agrees kept.sound.files fits t at (Some e) (ap stage_in (is-pre_preparing t.phase (owing e is t at own Owed.PrePrepare (owed-pre_prepare e (enlistment-allowed o owes_pre_prepare e is tests))))))
 
     prepares : Passes (enlistment_tests o owes_prepare) → Holds (answering x o (λ e. PhaseInput.PrepareComplete))
     prepares tests = holds-answering lists x kept.sound.course kept.good kept.agrees kept.sound.files fits o (λ e. PhaseInput.PrepareComplete) (λ e is t found at own.
         let owes = enlistment-allowed o owes_prepare e is tests in
-        let phase = is-preparing t.phase (owing e is t (Some e) at own Owed.Prepare (owed-prepare e owes)) in
-        let part = takes_part-owing x.recorded.boots (course_of x t (Some e)) (stands-now x t (Some e) kept.sound.course at) (brought-now x t (Some e) kept.sound.course) kept.sound.course.enlistments.rise e (there e is) own Owed.Prepare (owed-prepare e owes) in
+        let phase = is-preparing t.phase (owing e is t at own Owed.Prepare (owed-prepare e owes)) in
+        let part = takes_part-owing x.recorded.boots (course_of x t (Some e)) e (stands-now x t (Some e) kept.sound.course at) (brought-now x t (Some e) kept.sound.course) kept.sound.course.enlistments.rise (there e is) own Owed.Prepare (owed-prepare e owes) in
         let stands = (stands-now x t (Some e) kept.sound.course at).stand.parts e (there e is) part in
-        by (leads-prepare x kept.sound.course t at e (there e is) own owes) (elim (preparing-parts e (subst (λ p. is_part_as p e ≡ true) phase stands)) [
+        elim (preparing-parts e (subst (λ p. is_part_as p e ≡ true) phase stands)) [
           | inl waits ↦ absurd (true≢false (sym (waiting-parts e waits).0 ∙ ap is_none (owed-prepare e owes)))
-          | inr (idle, again, busy) ↦ prepare_answered-events lists x kept.sound.course kept.good kept.agrees kept.sound.files fits t at (Some e) (ap stage_in phase) e (there e is) part idle busy
-        ]))
+          | inr (idle, again, busy) ↦ prepare_complete-events lists x kept.sound.course kept.good kept.agrees kept.sound.files fits t at e (ap stage_in phase) (there e is) part idle busy
+        ])
 
     reads_only : Passes (enlistment_tests o (may_vote x)) → Holds (answering x o (λ e. PhaseInput.ReadOnly (share_of e)))
     reads_only tests = holds-answering lists x kept.sound.course kept.good kept.agrees kept.sound.files fits o (λ e. PhaseInput.ReadOnly (share_of e)) (λ e is t found at own.
-        let both = and_parts (not (is_superior e)) (is_open_for_votes e) (and_parts (not (is_superior e) && is_open_for_votes e) (phase_passes x is_voting e) (enlistment-allowed o (may_vote x) e is tests)).0 in
-        by (leads-read_only x kept.sound.course t at e (there e is) own (not-true _ both.0) (not-true _ (and_parts (not e.is_read_only) (not e.is_prepared) both.1).0)) (read_only_answered-events lists x kept.sound.course kept.good kept.agrees kept.sound.files fits t at (Some e) (voting-early t.phase (phase-passed x is_voting e t found (and_parts _ (phase_passes x is_voting e) (enlistment-allowed o (may_vote x) e is tests)).1)) e))
+        read_only-events lists x kept.sound.course kept.good kept.agrees kept.sound.files fits t at (Some e) (voting-stage t.phase (phase-passed x is_voting e t found (and_parts _ (phase_passes x is_voting e) (enlistment-allowed o (may_vote x) e is tests)).1)) (share_of e))
 
     has_committed : Passes (enlistment_tests o owes_commit) → Holds (answering x o (λ e. PhaseInput.CommitComplete))
     has_committed tests = holds-answering lists x kept.sound.course kept.good kept.agrees kept.sound.files fits o (λ e. PhaseInput.CommitComplete) (λ e is t found at own.
-        by (rows_law.commit_completes (course_of x t (Some e)) e refl) (commit_answered-events lists x kept.sound.course kept.good kept.agrees kept.sound.files fits t at (Some e) e (is-committing t.phase (owing e is t (Some e) at own Owed.Commit (owed-commit e (enlistment-allowed o owes_commit e is tests))))))
+        commit_complete-events lists x kept.sound.course kept.good kept.agrees kept.sound.files fits t at e (is-committing t.phase (owing e is t at own Owed.Commit (owed-commit e (enlistment-allowed o owes_commit e is tests)))))
 
     asks_pre_prepare : Passes (superior_tests x o before_pre_prepare) → Holds (answering x o (λ e. PhaseInput.PrePrepare))
     asks_pre_prepare tests = holds-answering lists x kept.sound.course kept.good kept.agrees kept.sound.files fits o (λ e. PhaseInput.PrePrepare) (λ e is t found at own.
-        to_pre_prepare-events lists x kept.sound.course kept.good kept.agrees kept.sound.files fits t at (Some e) (pre_prepare-early t.phase (phase-passed x before_pre_prepare e t found (superior-allowed x o before_pre_prepare e is tests))))
+        pre_prepare-events lists x kept.sound.course kept.good kept.agrees kept.sound.files fits t at (Some e) (voting-stage t.phase (early-voting t.phase (early-pre_prepare t.phase (phase-passed x before_pre_prepare e t found (superior-allowed x o before_pre_prepare e is tests))))))
 
     asks_prepare : Passes (superior_tests x o before_prepare) → Holds (answering x o (λ e. PhaseInput.Prepare))
     asks_prepare tests = holds-answering lists x kept.sound.course kept.good kept.agrees kept.sound.files fits o (λ e. PhaseInput.Prepare) (λ e is t found at own.
-        to_prepare-events lists x kept.sound.course kept.good kept.agrees kept.sound.files fits t at (Some e) (prepare-early t.phase (phase-passed x before_prepare e t found (superior-allowed x o before_prepare e is tests))))
+        prepare-events lists x kept.sound.course kept.good kept.agrees kept.sound.files fits t at (Some e) (voting-stage t.phase (early-voting t.phase (early-prepare t.phase (phase-passed x before_prepare e t found (superior-allowed x o before_prepare e is tests))))))
 
     decides : Passes (superior_tests x o waits_for_superior) → Holds (answering x o (λ e. PhaseInput.Commit))
     decides tests = holds-answering lists x kept.sound.course kept.good kept.agrees kept.sound.files fits o (λ e. PhaseInput.Commit) (λ e is t found at own.
         let waits = phase-passed x waits_for_superior e t found (superior-allowed x o waits_for_superior e is tests) in
-        let held = waits-held t.phase waits in
-        by (rows_law.commits (course_of x t (Some e))) (committing-events lists x kept.sound.course kept.good kept.agrees kept.sound.files fits t at (Some e)
-        (waits-recorded t.phase x.managers x.transactions.enlistments t.id t.is_recorded waits (list_all-at (is_recorded_as_asked x.managers x.transactions.enlistments) x.transactions.items kept.sound.course.phases.recorded t at)) held.0 held.1))
+        commit-events lists x kept.sound.course kept.good kept.agrees kept.sound.files fits t at (Some e)
+        (waiting-recorded t.phase x.managers x.transactions.enlistments t.id t.is_recorded waits (list_all-at (is_recorded_as_asked x.managers x.transactions.enlistments) x.transactions.items kept.sound.course.phases.recorded t at)) (waiting-held t.phase waits) (waiting-rolls t.phase waits))
 
   aborts : (o : Option Enlistment) → Holds (answering x o (λ e. PhaseInput.Rollback))
   aborts o = holds-answering lists x kept.sound.course kept.good kept.agrees kept.sound.files fits o (λ e. PhaseInput.Rollback) (λ e is t found at own.
@@ -417,9 +341,9 @@ module _ (agreeing : AgreeingLaw) (keeping : FilesKeptLaw) (lists : ListsLaw) (f
   effect-holds process (KvUnset transaction key) passes after = refl
   effect-holds process (KvGet view key) passes after = refl
   effect-holds process (KvList view) passes after = refl
-  effect-holds process (CloseHandle label) passes after = undoes (command_effect x process (CloseHandle label)) (undoes-close x process label)
+  effect-holds process (CloseHandle label) passes after = undoes (command_effect x process (CloseHandle label)) (close_handle-so _ _ undoes-closing x process label tt)
   effect-holds process (DuplicateHandle label from source) passes after = silent (command_effect x process (DuplicateHandle label from source)) (silent-duplicate x process label from source)
-  effect-holds process Exit passes after = undoes (command_effect x process Exit) (undoes-exit x process)
+  effect-holds process Exit passes after = undoes (command_effect x process Exit) (exit-so _ _ undoes-closing x process tt)
 
   pub decided-holds : (process : Pid) (command : Command) → Holds (decide x process command)
   decided-holds process command = room (is_full x.machine.left (with_room x process command).events) refl
@@ -451,4 +375,4 @@ module _ (agreeing : AgreeingLaw) (keeping : FilesKeptLaw) (lists : ListsLaw) (f
     where
       refused : (r : Option Refusal) → Holds (refuse_or x r (tick x ms))
       refused (Some refusal) = refl
-      refused None = undoes (tick x ms) (undoes-tick x ms)
+      refused None = undoes (tick x ms) (tick-so _ _ undoes-closing.rolls x ms tt)

@@ -34,7 +34,7 @@ use Rattle.ktm_records.proofs.offered.LiveEnlistments.{live-phase}
 use Rattle.ktm_limits.proofs.FinalBytes.{committed_units, units-committed}
 use Rattle.ktm_limits.proofs.LimitsRestarts.{length-parts, length-rising}
 use Rattle.ktm_records.proofs.offered.NoMore.{Fits}
-use Rattle.ktm_courses.proofs.offered.Procedures.{part-parts}
+use Rattle.ktm_courses.proofs.offered.Endings.{part-parts}
 use Rattle.txf_laws.proofs.offered.Sums.{count-less, one_where, sum-less, sum-one, sum-plus, sum-same}
 use Rattle.txf_laws.proofs.offered.Tables.{Rises}
 use Rattle.ktm_records.proofs.offered.UnitsPassed.{own-now, own_units-final}

@@ -12,7 +12,7 @@ use Rattle.ktm_types.specs.declared.event.Part.{Part}
 use Rattle.ktm_types.specs.declared.event.Part.TheVariants.{Changes, Settings}
 use Rattle.ktm_types.specs.declared.recorded.RecordedPart.{RecordedPart}
 use Rattle.ktm_world.specs.Changes.{changes_apply, is_make, node_of, has_made}
-use Rattle.ktm_world.specs.Durable.{Durable, Recorded, acts_of_all, after_event, are_recorded_changes, recorded_changes_apply, changes_of, enlistments_in, enlistments_of, has_changes_part, has_part, has_settings_part, holds_in, is_before, is_decided, is_manager, is_new_enlistment, is_new_in, is_part_of, is_ready, may_get_ready, others_waiting, part_applies, recorded_at, recorded_or_new, settings_apply, settings_of, superior_ids, with_recorded}
+use Rattle.ktm_world.specs.Durable.{Durable, Recorded, acts_of_all, after_event, are_recorded_changes, recorded_changes_apply, changes_of, enlistments_in, enlistments_of, has_changes_part, has_part, has_settings_part, holds_in, is_before, is_decided, is_manager, is_new_enlistment, is_new_in, is_part_of, is_ready, may_get_ready, others_waiting, part_applies, recorded_or_new, settings_apply, settings_of, superior_ids, with_recorded}
 use Rattle.ktm_world.specs.Holds.{meets}
 use Rattle.ktm_keyed.specs.Keyed.{value_at}
 use Rattle.ktm_world.specs.Keys.{OwnSettings, are_good_settings}
@@ -20,7 +20,7 @@ use Rattle.ktm_world.specs.Transactions.{same_id}
 use Rattle.txf_laws.specs.Elements.{IsIn}
 use Rattle.txf_laws.proofs.offered.Diamonds.{IsIn-right, no_test, none-from}
 use Rattle.txf_laws.proofs.offered.Elements.{list_any-at, list_any-from}
-use Rattle.ktm_records.proofs.Facts.{awaits, recorded_at-with}
+use Rattle.ktm_records.proofs.Facts.{awaits}
 use Rattle.txf_laws.proofs.offered.Lists.{IsIn-cases, IsIn-left}
 use Rattle.ktm_states.proofs.offered.Parts.{gathered, gathered-push, is_among-push}
 use Rattle.ktm_courses.proofs.offered.Moves.{if_cases}
@@ -85,9 +85,6 @@ module _ (s : Durable) (id : Id) (part : Part) where
 
   pub pushed-known : recorded_or_new s'.transactions id ≡ pushed r part
   pushed-known = ap (recorded_or_new (with_recorded s.transactions (pushed r part))) (sym r-id) ∙ recorded_or_new-with s.transactions (pushed r part)
-
-  pub pushed-at : recorded_at s'.transactions id ≡ Some (pushed r part)
-  pushed-at = ap (recorded_at (with_recorded s.transactions (pushed r part))) (sym r-id) ∙ recorded_at-with s.transactions (pushed r part)
 
   pub pushed-may : may_get_ready s id ≡ true → may_get_ready s' id ≡ true
   pushed-may may = ap (λ (u : Recorded). id.boot == s.boots && is_ready u.stage) pushed-known ∙ may

@@ -1,69 +1,47 @@
 -- What was recorded goes on to agree with what is so now where an enlistment answers while its transaction is being prepared.
-use Rattle.std.proofs.Common.{◌≡◌, ℕ, ◌&&◌, not, Bool, true, false, List, [], Option, Some, None, is_some, ◌∷◌, refl, sym, ◌∙◌, ap, subst, inl, inr}
-use Rattle.std.proofs.lemmas.Bool.{and_left, and_parts, and_right, not-true, true≢false, false_from_ne_true}
+use Rattle.std.proofs.Common.{◌≡◌, ℕ, ◌&&◌, not, Bool, true, false, List, [], Option, Some, None, is_some, refl, sym, ◌∙◌, ap, subst, inl, inr, ◌||◌}
+use Rattle.std.proofs.lemmas.Bool.{and_left, and_parts, and_right, not-true, true≢false, false_from_ne_true, cases_Bool}
 use Rattle.std.specs.List.{list_any}
-use Rattle.ktm_base.specs.declared.id.Id.{Id}
 use Rattle.ktm_types.specs.declared.event.Event.{Event}
 use Rattle.ktm_types.specs.declared.input.PhaseInput.{PhaseInput}
 use Rattle.ktm_types.specs.declared.object.Phase.{Phase}
-use Rattle.ktm_types.specs.declared.object.Phase.TheVariants.{Active, Requested, PrePreparing, PrePrepared, Preparing, SinglePhase, Held, InDoubt, Committing, Aborting, Ended}
+use Rattle.ktm_types.specs.declared.object.Phase.TheVariants.{Active, Requested, PrePreparing, PrePrepared, Preparing, SinglePhase}
 use Rattle.ktm_types.specs.declared.object.Transaction.{Transaction}
 use Rattle.ktm_types.specs.declared.object.TransactionOutcome.TheVariants.{Committed as CommittedOutcome}
-use Rattle.ktm_types.specs.declared.recorded.Stage.{Stage}
 use Rattle.ktm_types.specs.declared.step.Owed.{Owed}
 use Rattle.ktm_world.specs.Durable.{Recorded}
-use Rattle.ktm_world.specs.Enlistments.{Enlistment, Manager, allows_one_phase, has_id, is_durable_at, is_open_for_votes, is_superior, owes_commit, owes_pre_prepare, owes_prepare, takes_part}
+use Rattle.ktm_world.specs.Enlistments.{Enlistment, allows_one_phase, has_id, is_durable_at, is_open_for_votes, is_superior, owes_commit, owes_pre_prepare, owes_prepare, takes_part}
 use Rattle.ktm_world.specs.Lawful.{stage_in}
-use Rattle.ktm_world.specs.Phases.{Course, changing_one, ended, enlistment_part, recording}
+use Rattle.ktm_world.specs.Phases.{Course, changing_one, ended, enlistment_part, recording, event_if}
 use Rattle.ktm_world.specs.Present.{Present}
-use Rattle.ktm_world.specs.Steps.{led}
+use Rattle.ktm_world.specs.Steps.{led, answered, run, seen, share_of}
 use Rattle.ktm_world.specs.TransactionCalls.{course_of, is_voting}
 use Rattle.ktm_world.specs.Transactions.{same_id}
-use Rattle.ktm_steps.specs.Procedures.{all_ready, pre_prepare_answered, pre_prepared, prepare_answered, read_only_answered, recorded, someone_owes, when_none_owes, without_its_answer}
 use Rattle.txf_laws.specs.Elements.{IsIn}
 use Rattle.ktm_states.specs.GoodState.{IsGoodState}
-use Rattle.ktm_courses.specs.SoundCourse.{IsSoundCourse, has_durable_part, is_part_as, is_recorded_as, is_unrecovered_well}
+use Rattle.ktm_courses.specs.SoundCourse.{IsSoundCourse, has_durable_part, is_part_as, is_unrecovered_well}
 use Rattle.txf_laws.specs.SoundFiles.{IsSoundFiles}
 use Rattle.ktm_records.proofs.offered.Agreement.{Agreed}
 use Rattle.ktm_records.proofs.AgreementOfPrepared.{follows-all_ready}
-use Rattle.ktm_courses.proofs.offered.EnlistmentAnswers.{RiseEnlistments, is-pre_preparing, owed-pre_prepare, part_left, part_preparing, phase-owing, phase_preparing, stands-in, unprepared, unprepared_left}
+use Rattle.ktm_courses.proofs.offered.EnlistmentAnswers.{RiseEnlistments, is-pre_preparing, owed-pre_prepare, part_left, part_preparing, phase-owing, phase_preparing, stands-in, unprepared, unprepared_left, is-part, owed-prepare, takes_part-owing}
 use Rattle.ktm_courses.proofs.offered.Arrivals.{brought-now, stands-now}
 use Rattle.txf_laws.proofs.offered.Elements.{list_any-at, list_any-from}
 use Rattle.ktm_records.proofs.offered.AgreementOfCourses.{Follows, Was, course_enlistments, none-in, placed-at, was}
 use Rattle.ktm_records.proofs.AgreementOfUnprepared.{follows-nothing, follows-pre_prepared, follows-to_commit, follows-to_pre_prepare, follows-to_prepare}
 use Rattle.ktm_courses.proofs.offered.Moves.{Stand, if_cases, if_parts, same-by_id}
 use Rattle.ktm_records.proofs.LoggedOrder.{or_new}
-use Rattle.ktm_courses.proofs.offered.Procedures.{Stands, idle-parts}
+use Rattle.ktm_courses.proofs.offered.Endings.{Stands, idle-parts}
 use Rattle.ktm_records.proofs.ReadyCourses.{Prepares, changed-one, changed-other, enlistments-other, follows-preparing, none-prepared, prepares-durable, prepares-first, readies-alike, readies-volatile}
 use Rattle.ktm_records.proofs.AgreementOfSilentSteps.{enlistments-alike, is_kept, none-kept}
 use Rattle.txf_laws.proofs.offered.Tables.{same_id-equal}
 use Rattle.ktm_records.proofs.LoggedTransaction.{with_ready}
+use Rattle.ktm_steps.specs.Laws.{someone_owes, when_none_owes}
+use Rattle.ktm_steps.proofs.offered.Table.{rows_law}
+use Rattle.ktm_world.specs.Rows.{all_readies, proceeds, proceeds_without}
+use Rattle.ktm_types.specs.declared.step.Answered.{Answered}
+use Rattle.ktm_records.proofs.offered.Stages.{early-unrecorded, early-voting, is_early, voting-stage}
 
--- ---- phases in which a transaction is on its way to be prepared
-
--- is it asked to prepare
-abbrev pub is_preparing : Phase → Bool
-is_preparing Preparing = true
-is_preparing _ = false
-
--- nothing but readiness is recorded of it
-voting-stage : (phase : Phase) → is_voting phase ≡ true → stage_in phase ≡ Some Stage.Ready
-voting-stage Held voting = absurd (true≢false (sym voting))
-voting-stage InDoubt voting = absurd (true≢false (sym voting))
-voting-stage Committing voting = absurd (true≢false (sym voting))
-voting-stage Aborting voting = absurd (true≢false (sym voting))
-voting-stage Ended voting = absurd (true≢false (sym voting))
-voting-stage _ voting = refl
-
--- and nothing at all before it is asked to prepare
-unrecorded-in : (phase : Phase) (ms : List Manager) (es : List Enlistment) (id : Id) (r : Bool) → is_voting phase ≡ true → is_preparing phase ≡ false → is_recorded_as phase ms es id r ≡ true → r ≡ false
-unrecorded-in Preparing ms es id r voting other right = absurd (true≢false other)
-unrecorded-in Held ms es id r voting other right = absurd (true≢false (sym voting))
-unrecorded-in InDoubt ms es id r voting other right = absurd (true≢false (sym voting))
-unrecorded-in Committing ms es id r voting other right = absurd (true≢false (sym voting))
-unrecorded-in Aborting ms es id r voting other right = absurd (true≢false (sym voting))
-unrecorded-in Ended ms es id r voting other right = absurd (true≢false (sym voting))
-unrecorded-in _ ms es id r voting other right = not-true r right
+-- ---- a transaction of which nobody is prepared
 
 -- nobody is prepared
 unprepared-none : (c : Course) (test : Enlistment → Bool) → Stand c.enlistments c.transaction.id test → ((e : Enlistment) → test e ≡ true → e.is_prepared ≡ false) → course_enlistments c ≡ []
@@ -75,10 +53,7 @@ prepares-none : (x : Present) (before behind : List Recorded) (c : Course) (o : 
 prepares-none x before behind c None other prepares = prepares
 prepares-none x before behind c (Some r) other prepares = absurd (true≢false (sym prepares.has ∙ other))
 
-module _ (x : Present) (sound : IsSoundCourse x) (files : IsSoundFiles x) (good : IsGoodState x.recorded) (agreed : Agreed x) (t : Transaction) (there : IsIn t x.transactions.items) (caller : Option Enlistment) where
-  abbrev c : Course
-  c = course_of x t caller
-
+module _ (x : Present) (sound : IsSoundCourse x) (files : IsSoundFiles x) (good : IsGoodState x.recorded) (agreed : Agreed x) (t : Transaction) (there : IsIn t x.transactions.items) where
   abbrev boot : ℕ
   boot = x.recorded.boots
 
@@ -98,152 +73,157 @@ module _ (x : Present) (sound : IsSoundCourse x) (files : IsSoundFiles x) (good 
   abbrev FollowsOn : Course → Type 0
   FollowsOn d = Follows x t.id before behind d
 
-  stands : Stands boot c
-  stands = stands-now x t caller sound there
+  module _ (caller : Option Enlistment) where
+    abbrev c : Course
+    c = course_of x t caller
 
-  none-first : (phase : Phase) → t.phase ≡ phase → is_voting phase ≡ true → t.is_recorded ≡ false → course_enlistments c ≡ []
-  none-first Active is voting other = unprepared-none c (is_part_as Active) (stands-in boot c Active is stands).stand (λ e fits. (idle-parts e fits).1)
-  none-first Requested is voting other = unprepared-none c (is_part_as Requested) (stands-in boot c Requested is stands).stand (λ e fits. (idle-parts e fits).1)
-  none-first PrePrepared is voting other = unprepared-none c (is_part_as PrePrepared) (stands-in boot c PrePrepared is stands).stand (λ e fits. (idle-parts e fits).1)
-  none-first PrePreparing is voting other = unprepared-none c (is_part_as PrePreparing) (stands-in boot c PrePreparing is stands).stand (λ e fits.
-      not-true _ (and_parts (not e.is_prepared) (not e.is_finished) (and_parts (not e.is_prepared && not e.is_finished) _ fits).0).0)
-  none-first SinglePhase is voting other = unprepared-none c (is_part_as SinglePhase) (stands-in boot c SinglePhase is stands).stand (λ e fits.
-      not-true _ (and_parts (owes_commit e) (not e.is_prepared) (and_parts (owes_commit e && not e.is_prepared) (not e.is_finished) (and_parts (owes_commit e && not e.is_prepared && not e.is_finished) (allows_one_phase e) fits).0).0).1)
-  none-first Preparing is voting other = elim (if_parts (has_durable_part c.managers c.enlistments t.id (λ e. e.is_prepared)) t.is_recorded (not t.is_recorded) (stands-in boot c Preparing is stands).recorded) [
-    | inl both ↦ absurd (true≢false (sym both.1 ∙ other))
-    | inr both ↦ none-prepared c both.0
-  ]
-  none-first _ is voting other = absurd (true≢false (sym voting))
+    stands : Stands boot c
+    stands = stands-now x t caller sound there
 
-  prepares : is_voting t.phase ≡ true → Prepares x before behind c o
-  prepares voting = prepares-first x sound files good agreed t there caller (voting-stage t.phase voting) (none-first t.phase refl voting)
+    none-first : (phase : Phase) → t.phase ≡ phase → is_voting phase ≡ true → t.is_recorded ≡ false → course_enlistments c ≡ []
+    none-first Active is voting other = unprepared-none c (is_part_as Active) (stands-in boot c Active is stands).stand (λ e fits. (idle-parts e fits).1)
+    none-first Requested is voting other = unprepared-none c (is_part_as Requested) (stands-in boot c Requested is stands).stand (λ e fits. (idle-parts e fits).1)
+    none-first PrePrepared is voting other = unprepared-none c (is_part_as PrePrepared) (stands-in boot c PrePrepared is stands).stand (λ e fits. (idle-parts e fits).1)
+    none-first PrePreparing is voting other = unprepared-none c (is_part_as PrePreparing) (stands-in boot c PrePreparing is stands).stand (λ e fits.
+        not-true _ (and_parts (not e.is_prepared) (not e.is_finished) (and_parts (not e.is_prepared && not e.is_finished) _ fits).0).0)
+    none-first SinglePhase is voting other = unprepared-none c (is_part_as SinglePhase) (stands-in boot c SinglePhase is stands).stand (λ e fits.
+        not-true _ (and_parts (owes_commit e) (not e.is_prepared) (and_parts (owes_commit e && not e.is_prepared) (not e.is_finished) (and_parts (owes_commit e && not e.is_prepared && not e.is_finished) (allows_one_phase e) fits).0).0).1)
+    none-first Preparing is voting other = elim (if_parts (has_durable_part c.managers c.enlistments t.id (λ e. e.is_prepared)) t.is_recorded (not t.is_recorded) (stands-in boot c Preparing is stands).recorded) [
+      | inl both ↦ absurd (true≢false (sym both.1 ∙ other))
+      | inr both ↦ none-prepared c both.0
+    ]
+    none-first _ is voting other = absurd (true≢false (sym voting))
 
-  prepares-fresh : is_voting t.phase ≡ true → is_preparing t.phase ≡ false → Prepares x before behind c None
-  prepares-fresh voting other = prepares-none x before behind c o (unrecorded-in t.phase c.managers c.enlistments t.id t.is_recorded voting other stands.recorded) (prepares voting)
+    prepares : is_voting t.phase ≡ true → Prepares x before behind c o
+    prepares voting = prepares-first x sound files good agreed t there caller (voting-stage t.phase voting) (none-first t.phase refl voting)
 
-  -- ---- a commit begins
+    prepares-fresh : is_early t.phase ≡ true → Prepares x before behind c None
+    prepares-fresh early = prepares-none x before behind c o (early-unrecorded t.phase c.managers c.enlistments t.id t.is_recorded early stands.recorded) (prepares (early-voting t.phase early))
 
-  pub follows-commit : is_voting t.phase ≡ true → is_preparing t.phase ≡ false → FollowsOn (led PhaseInput.CommitTransaction c)
-  follows-commit voting other = follows-to_commit x before behind c (prepares-fresh voting other)
+    -- ---- a commit begins
 
-  pub follows-pre_prepare : is_voting t.phase ≡ true → is_preparing t.phase ≡ false → FollowsOn (led PhaseInput.PrePrepare c)
-  follows-pre_prepare voting other = follows-to_pre_prepare x before behind c (prepares-fresh voting other)
+    pub follows-commit : is_early t.phase ≡ true → FollowsOn (led PhaseInput.CommitTransaction c)
+    follows-commit early = follows-to_commit x before behind c (prepares-fresh early)
 
-  pub follows-prepare : is_voting t.phase ≡ true → is_preparing t.phase ≡ false → FollowsOn (led PhaseInput.Prepare c)
-  follows-prepare voting other = follows-to_prepare x before behind c (prepares-fresh voting other)
+    pub follows-pre_prepare : is_early t.phase ≡ true → FollowsOn (led PhaseInput.PrePrepare c)
+    follows-pre_prepare early = follows-to_pre_prepare x before behind c (prepares-fresh early)
+
+    pub follows-prepare : is_early t.phase ≡ true → FollowsOn (led PhaseInput.Prepare c)
+    follows-prepare early = follows-to_prepare x before behind c (prepares-fresh early)
 
   -- ---- an enlistment answers
 
   module _ (e : Enlistment) (in_es : IsIn e x.transactions.enlistments) (own : same_id e.transaction t.id ≡ true) where
-    rises : RiseEnlistments c.enlistments
+    abbrev c_by : Course
+    c_by = course_of x t (Some e)
+
+    rises : RiseEnlistments c_by.enlistments
     rises = sound.enlistments.rise
 
-    brought : (g : Enlistment) → IsIn g c.enlistments → is_unrecovered_well boot c.managers g ≡ true
-    brought = brought-now x t caller sound
+    brought : (g : Enlistment) → IsIn g c_by.enlistments → is_unrecovered_well boot c_by.managers g ≡ true
+    brought = brought-now x t (Some e) sound
 
     -- it has pre-prepared
-    abbrev answered : Enlistment → Enlistment
-    answered g = record g { owes = None }
-
-    pub follows-pre_prepare_answered : owes_pre_prepare e ≡ true → FollowsOn (pre_prepare_answered c e)
-    unfolding pre_prepare_answered
-    follows-pre_prepare_answered owes = if_cases FollowsOn (someone_owes d) d (pre_prepared d) (λ some. follows-preparing x before behind d None (ap stage_in phase) now) (λ none. follows-pre_prepared x before behind d now)
+    pub follows-pre_prepare_complete : owes_pre_prepare e ≡ true → FollowsOn (led PhaseInput.PrePrepareComplete c_by)
+    follows-pre_prepare_complete owes = subst FollowsOn (sym (rows_law.pre_prepare_completes c_by e (is-part c_by e rises in_es part) (ap is_some (owed-pre_prepare e owes))))
+        (if_cases FollowsOn (someone_owes d) d (run (proceeds (seen d)) d) (λ some. follows-preparing x before behind d None (ap stage_in phase) now) (λ none. follows-pre_prepared x before behind d now))
       where
         d : Course
-        d = changing_one c e.id answered
+        d = changing_one c_by e.id (answered Answered.PrePrepared)
+
+        part : takes_part t.id e ≡ true
+        part = takes_part-owing boot c_by e (stands (Some e)) brought rises in_es own Owed.PrePrepare (owed-pre_prepare e owes)
 
         phase : t.phase ≡ PrePreparing
-        phase = is-pre_preparing t.phase (phase-owing boot c stands brought rises e in_es own Owed.PrePrepare (owed-pre_prepare e owes))
+        phase = is-pre_preparing t.phase (phase-owing boot c_by e (stands (Some e)) brought rises in_es own Owed.PrePrepare (owed-pre_prepare e owes))
 
         now : Prepares x before behind d None
-        now = readies-alike x before behind c t.phase d.enlistments d.sent [] [] None (enlistments-alike c (has_id e.id) answered (λ g. record { back = refl; kind = refl; read_only = refl; prepared = refl; finished = refl }))
-            (prepares-fresh (ap is_voting phase) (ap is_preparing phase))
+        now = readies-alike x before behind c_by t.phase d.enlistments d.sent [] [] None (enlistments-alike c_by (has_id e.id) (answered Answered.PrePrepared) (λ g. record { back = refl; kind = refl; read_only = refl; prepared = refl; finished = refl }))
+            (prepares-fresh (Some e) (ap is_early phase))
 
     -- it is prepared
-    pub follows-prepare_answered : owes_prepare e ≡ true → FollowsOn (prepare_answered c e)
-    unfolding prepare_answered
-    follows-prepare_answered owes = if_cases (λ d. FollowsOn (when_none_owes d all_ready)) (is_durable_at c.managers e.manager) c_ready c_prepared
-        (λ durable. goes c_ready (Some (with_ready (or_new o t.id) (enlistment_part e))) refl refl refl (prepares-durable x before behind c rises e in_es part un.0 o durable un.2 (prepares (ap is_voting phase))))
-        (λ volatile. goes c_prepared o refl refl refl (readies-volatile x before behind c rises e in_es part un.0 [] [] o volatile (prepares (ap is_voting phase))))
+    pub follows-prepare_complete : owes_prepare e ≡ true → FollowsOn (led PhaseInput.PrepareComplete c_by)
+    follows-prepare_complete owes = subst FollowsOn (sym (rows_law.prepare_completes c_by e (is-part c_by e rises in_es part) (ap is_some (owed-prepare e owes)))) (elim (cases_Bool (is_durable_at c_by.managers e.manager)) [
+      | inl durable ↦ subst (λ b. FollowsOn (when_none_owes (d b) (all_readies (seen (d b))))) (sym durable) (goes (d true) (Some (with_ready (or_new o t.id) (enlistment_part e))) refl refl refl (prepares-durable x before behind c_by rises e in_es part un.0 o durable un.2 (prepares (Some e) (ap is_voting phase))))
+      | inr volatile ↦ subst (λ b. FollowsOn (when_none_owes (d b) (all_readies (seen (d b))))) (sym volatile) (goes (d false) o refl refl refl (readies-volatile x before behind c_by rises e in_es part un.0 [] [] o volatile (prepares (Some e) (ap is_voting phase))))
+    ])
       where
         part : takes_part t.id e ≡ true
-        part = part_preparing boot c stands brought rises e in_es own owes
+        part = part_preparing boot c_by e (stands (Some e)) brought rises in_es own owes
 
         un : (e.is_prepared ≡ false) × (owes_prepare e ≡ true) × (e.is_finished ≡ false)
-        un = unprepared boot c stands brought rises e in_es own owes
+        un = unprepared boot c_by e (stands (Some e)) brought rises in_es own owes
 
         phase : t.phase ≡ Preparing
-        phase = phase_preparing boot c stands brought rises e in_es own owes
+        phase = phase_preparing boot c_by e (stands (Some e)) brought rises in_es own owes
 
         prepared : Enlistment → Enlistment
-        prepared g = record g { owes = None; is_prepared = true }
+        prepared = answered Answered.Prepared
 
-        c_prepared : Course
-        c_prepared = changing_one c e.id prepared
+        -- recorded where its resource manager is durable
+        d : Bool → Course
+        d durable = record (recording (changing_one c_by e.id prepared) (event_if durable (Event.Ready t.id (enlistment_part e)))) { transaction = record t { is_recorded = durable || t.is_recorded } }
 
-        c_ready : Course
-        c_ready = recorded (recording c_prepared (Event.Ready t.id (enlistment_part e) ∷ []))
-
-        goes : (d : Course) (q : Option Recorded) → d.transaction.id ≡ t.id → d.transaction.phase ≡ t.phase → d.enlistments ≡ c_prepared.enlistments → Prepares x before behind d q → FollowsOn (when_none_owes d all_ready)
-        goes d q id same es now = subst (λ i. Follows x i before behind (when_none_owes d all_ready)) id
-            (if_cases (λ f. Follows x d.transaction.id before behind f) (someone_owes d) d (all_ready d) (λ some. follows-preparing x before behind d q (ap stage_in (same ∙ phase)) now) (λ none. follows-all_ready x before behind d q now (λ recorded'.
-            list_any-from (takes_part d.transaction.id) d.enlistments (prepared e) (subst (IsIn (prepared e)) (sym es) (changed-one c.enlistments rises e in_es prepared)) (subst (λ i. takes_part i (prepared e) ≡ true) (sym id) part))))
+        goes : (d : Course) (q : Option Recorded) → d.transaction.id ≡ t.id → d.transaction.phase ≡ t.phase → d.enlistments ≡ (changing_one c_by e.id prepared).enlistments → Prepares x before behind d q → FollowsOn (when_none_owes d (all_readies (seen d)))
+        goes d q id same es now = subst (λ i. Follows x i before behind (when_none_owes d (all_readies (seen d)))) id
+            (if_cases (λ f. Follows x d.transaction.id before behind f) (someone_owes d) d (run (all_readies (seen d)) d) (λ some. follows-preparing x before behind d q (ap stage_in (same ∙ phase)) now) (λ none. follows-all_ready x before behind d q now (λ recorded'.
+            list_any-from (takes_part d.transaction.id) d.enlistments (prepared e) (subst (IsIn (prepared e)) (sym es) (changed-one c_by.enlistments rises e in_es prepared)) (subst (λ i. takes_part i (prepared e) ≡ true) (sym id) part))))
 
     -- it takes no part any more
     abbrev left : Enlistment → Enlistment
-    left g = record g { owes = None; is_read_only = true }
+    left = answered Answered.ReadOnly
 
     abbrev c_left : Course
-    c_left = changing_one c e.id left
+    c_left = changing_one c_by e.id left
 
     module _ (ordinary : is_superior e ≡ false) (votes : is_open_for_votes e ≡ true) (voting : is_voting t.phase ≡ true) where
       part : takes_part t.id e ≡ true
-      part = part_left boot c stands (brought-now x t caller sound) rises e in_es own ordinary votes voting
+      part = part_left boot c_by e (stands (Some e)) brought rises in_es own ordinary votes voting
 
       un : e.is_prepared ≡ false
-      un = unprepared_left boot c stands (brought-now x t caller sound) rises e in_es own ordinary votes voting
+      un = unprepared_left boot c_by e (stands (Some e)) brought rises in_es own ordinary votes voting
 
       -- one that is prepared is another one
-      other-prepared : (g : Enlistment) → IsIn g c.enlistments → g.is_prepared ≡ true → has_id e.id g ≡ false
-      other-prepared g there' prepared = false_from_ne_true _ (λ is. true≢false (sym prepared ∙ ap (λ (h : Enlistment). h.is_prepared) (same-by_id (λ (h : Enlistment). h.id) c.enlistments rises g e there' in_es (same_id-equal g.id e.id is)) ∙ un))
+      other-prepared : (g : Enlistment) → IsIn g c_by.enlistments → g.is_prepared ≡ true → has_id e.id g ≡ false
+      other-prepared g there' prepared = false_from_ne_true _ (λ is. true≢false (sym prepared ∙ ap (λ (h : Enlistment). h.is_prepared) (same-by_id (λ (h : Enlistment). h.id) c_by.enlistments rises g e there' in_es (same_id-equal g.id e.id is)) ∙ un))
 
-      enlistments-left : course_enlistments c_left ≡ course_enlistments c
-      enlistments-left = enlistments-other c rises e in_es left (unprepared-not (left e) un) (unprepared-not e un)
+      enlistments-left : course_enlistments c_left ≡ course_enlistments c_by
+      enlistments-left = enlistments-other c_by rises e in_es left (unprepared-not (left e) un) (unprepared-not e un)
         where
-          unprepared-not : (g : Enlistment) → g.is_prepared ≡ false → is_kept c g ≡ false
+          unprepared-not : (g : Enlistment) → g.is_prepared ≡ false → is_kept c_by g ≡ false
           unprepared-not g other = and_left _ _ (and_right _ _ other)
 
-      prepares-left : (q : Option Recorded) → Prepares x before behind c q → Prepares x before behind c_left q
-      prepares-left q now = readies-alike x before behind c t.phase c_left.enlistments c_left.sent [] [] q enlistments-left now
+      prepares-left : (q : Option Recorded) → Prepares x before behind c_by q → Prepares x before behind c_left q
+      prepares-left q now = readies-alike x before behind c_by t.phase c_left.enlistments c_left.sent [] [] q enlistments-left now
 
       -- somebody else takes part where the log has it
       some-left : t.phase ≡ Preparing → t.is_recorded ≡ true → list_any (takes_part t.id) c_left.enlistments ≡ true
-      some-left phase recorded' = elim (if_parts (has_durable_part c.managers c.enlistments t.id (λ g. g.is_prepared)) t.is_recorded (not t.is_recorded) (stands-in boot c Preparing phase stands).recorded) [
+      some-left phase recorded' = elim (if_parts (has_durable_part c_by.managers c_by.enlistments t.id (λ g. g.is_prepared)) t.is_recorded (not t.is_recorded) (stands-in boot c_by Preparing phase (stands (Some e))).recorded) [
         | inr both ↦ absurd (true≢false (sym recorded' ∙ not-true _ both.1))
         | inl both ↦
-            let one = list_any-at (λ g. takes_part t.id g && (g.is_prepared && is_durable_at c.managers g.manager)) c.enlistments both.0 in
+            let one = list_any-at (λ g. takes_part t.id g && (g.is_prepared && is_durable_at c_by.managers g.manager)) c_by.enlistments both.0 in
             let parts = and_parts (takes_part t.id one.0) _ one.2 in
-            list_any-from (takes_part t.id) c_left.enlistments one.0 (changed-other c.enlistments rises e in_es left one.0 one.1 (other-prepared one.0 one.1 (and_parts (one.0).is_prepared _ parts.1).0)) parts.0
+            list_any-from (takes_part t.id) c_left.enlistments one.0 (changed-other c_by.enlistments rises e in_es left one.0 one.1 (other-prepared one.0 one.1 (and_parts (one.0).is_prepared _ parts.1).0)) parts.0
       ]
 
       -- nothing else goes on
       stays-left : FollowsOn c_left
-      stays-left = follows-preparing x before behind c_left o (voting-stage t.phase voting) (prepares-left o (prepares voting))
+      stays-left = follows-preparing x before behind c_left o (voting-stage t.phase voting) (prepares-left o (prepares (Some e) voting))
 
-      fresh-left : (phase : Phase) → t.phase ≡ phase → is_voting phase ≡ true → is_preparing phase ≡ false → Prepares x before behind c_left None
-      fresh-left phase is voting' other = prepares-left None (prepares-fresh (ap is_voting is ∙ voting') (ap is_preparing is ∙ other))
+      fresh-left : (phase : Phase) → t.phase ≡ phase → is_early phase ≡ true → Prepares x before behind c_left None
+      fresh-left phase is early = prepares-left None (prepares-fresh (Some e) (ap is_early is ∙ early))
 
-      goes-left : (phase : Phase) → t.phase ≡ phase → is_voting phase ≡ true → FollowsOn (when_none_owes c_left (without_its_answer phase))
+      goes-left : (phase : Phase) → t.phase ≡ phase → is_voting phase ≡ true → FollowsOn (when_none_owes c_left (proceeds_without phase (seen c_left)))
       unfolding ended
-      goes-left PrePreparing is voting' = if_cases FollowsOn (someone_owes c_left) c_left (pre_prepared c_left) (λ some. stays-left) (λ none. follows-pre_prepared x before behind c_left (fresh-left PrePreparing is refl refl))
-      goes-left Preparing is voting' = if_cases FollowsOn (someone_owes c_left) c_left (all_ready c_left) (λ some. stays-left) (λ none. follows-all_ready x before behind c_left o (prepares-left o (prepares voting)) (some-left is))
+      goes-left PrePreparing is voting' = if_cases FollowsOn (someone_owes c_left) c_left (run (proceeds (seen c_left)) c_left) (λ some. stays-left) (λ none. follows-pre_prepared x before behind c_left (fresh-left PrePreparing is refl))
+      goes-left Preparing is voting' = if_cases FollowsOn (someone_owes c_left) c_left (run (all_readies (seen c_left)) c_left) (λ some. stays-left) (λ none. follows-all_ready x before behind c_left o (prepares-left o (prepares (Some e) voting)) (some-left is))
       goes-left SinglePhase is voting' = if_cases FollowsOn (someone_owes c_left) c_left (ended c_left CommittedOutcome) (λ some. stays-left)
-          (λ none. follows-nothing x before behind c_left (fresh-left SinglePhase is refl refl) (ended c_left CommittedOutcome) refl refl (none-in (ended c_left CommittedOutcome) refl))
+          (λ none. follows-nothing x before behind c_left (fresh-left SinglePhase is refl) (ended c_left CommittedOutcome) refl refl (none-in (ended c_left CommittedOutcome) refl))
       goes-left Active is voting' = if_cases FollowsOn (someone_owes c_left) c_left c_left (λ some. stays-left) (λ none. stays-left)
       goes-left Requested is voting' = if_cases FollowsOn (someone_owes c_left) c_left c_left (λ some. stays-left) (λ none. stays-left)
       goes-left PrePrepared is voting' = if_cases FollowsOn (someone_owes c_left) c_left c_left (λ some. stays-left) (λ none. stays-left)
       goes-left _ is voting' = absurd (true≢false (sym voting'))
 
-      pub follows-read_only_answered : FollowsOn (read_only_answered c e)
-      unfolding read_only_answered
-      follows-read_only_answered = if_cases FollowsOn (is_some e.owes) (when_none_owes c_left (without_its_answer t.phase)) c_left (λ owes. goes-left t.phase refl voting) (λ silent. stays-left)
+      pub follows-read_only : FollowsOn (led (PhaseInput.ReadOnly (share_of e)) c_by)
+      follows-read_only = subst FollowsOn (sym (rows_law.read_onlies c_by e (is-part c_by e rises in_es part)))
+          (if_cases FollowsOn (is_some e.owes) (when_none_owes c_left (proceeds_without t.phase (seen c_left))) c_left (λ owes. goes-left t.phase refl voting) (λ silent. stays-left))

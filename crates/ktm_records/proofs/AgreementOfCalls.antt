@@ -10,8 +10,6 @@ use Rattle.std.specs.Prelude.{if◌then◌else◌}
 use Rattle.ktm_base.specs.declared.id.Id.{Id}
 use Rattle.ktm_base.specs.declared.id.Pid.{Pid}
 use Rattle.ktm_base.specs.declared.id.Label.{Label}
-use Rattle.ktm_types.specs.declared.object.Object.{Object}
-use Rattle.ktm_types.specs.declared.object.Object.TheVariants.{Transaction as TransactionObject, Manager as ManagerObject, Enlistment as EnlistmentObject, File as FileObject}
 use Rattle.ktm_types.specs.declared.object.Phase.{Phase}
 use Rattle.ktm_types.specs.declared.object.Phase.TheVariants.{Active}
 use Rattle.ktm_types.specs.declared.object.Transaction.{Transaction}
@@ -26,36 +24,35 @@ use Rattle.ktm_world.specs.Committed.{committed_with, with_work}
 use Rattle.ktm_world.specs.Durable.{Durable, after_event, is_before, with_manager, is_ready}
 use Rattle.ktm_world.specs.Enlistments.{Enlistment, Manager, has_id, is_durable_at, is_open_for_votes, is_superior, superior_of, takes_part}
 use Rattle.ktm_world.specs.Files.{FileTable, own_changes}
-use Rattle.ktm_world.specs.HandleCalls.{abort_active, close_handle, closed_file, closed_in_turn, exit, handle_gone, has_handle, labels_of, last_handle_gone, without_handle}
-use Rattle.ktm_world.specs.Handles.{object_at}
+use Rattle.ktm_world.specs.HandleCalls.{close_handle, closed_file, exit, without_handle}
 use Rattle.ktm_world.specs.Keys.{Own, Store, own_settings}
 use Rattle.ktm_world.specs.Lawful.{Agrees, brought_back, stage_in, summaries_now, superior_now}
 use Rattle.ktm_world.specs.Labels.{holds_of}
-use Rattle.ktm_world.specs.Outcome.{Outcome, and_then, apply, committed_now, joined, only_reply, served}
+use Rattle.ktm_world.specs.Outcome.{Outcome, apply, committed_now, joined, only_reply, served}
 use Rattle.ktm_world.specs.Present.{Present}
-use Rattle.ktm_world.specs.TransactionCalls.{aborted_by, aborted_if_due, aborted_in_turn, create_enlistment, create_resource_manager, create_transaction, enlistment_tests, is_due, keep_information, may_roll_back, may_set_information, phase_passes, set_information_tests, tick, transaction_in, waits_for_superior, with_clock}
-use Rattle.ktm_world.specs.Transactions.{is_active, is_committed, is_undecided, same_id, transaction_at}
+use Rattle.ktm_world.specs.TransactionCalls.{create_enlistment, create_resource_manager, create_transaction, enlistment_tests, keep_information, may_set_information, phase_passes, set_information_tests, tick, transaction_in, waits_for_superior, with_clock}
+use Rattle.ktm_world.specs.Transactions.{is_committed, is_undecided, same_id, transaction_at}
 use Rattle.ktm_world.specs.World.{by_rising_id}
 use Rattle.ktm_world.specs.Tree.{Tree}
 use Rattle.txf_laws.specs.Elements.{IsIn}
 use Rattle.ktm_records.specs.Kept.{are_carried_out}
 use Rattle.ktm_courses.specs.SoundCourse.{IsSoundCourse, has_manager, is_counted, is_outcome_of}
 use Rattle.ktm_records.proofs.offered.Agreement.{Agreed, agreed-reply, agreed-still, as-owned, durable_ids, durable-stays, enlistments-kept, filter-alike, filter-step, find-step, flat_map-alike, ids-append, ids-served, managers-stay, recorded-later, summaries, summaries-kept, summaries-stay}
-use Rattle.ktm_courses.proofs.offered.EnlistmentAnswers.{can_roll_back}
 use Rattle.ktm_courses.proofs.offered.Beginnings.{new_enlistment, sound-clock}
-use Rattle.ktm_courses.proofs.offered.Bindings.{StaysSound, soundly-gone, stays-closed, stays-closed_all, stays-due, stays-in_turn, stays-sound, stays-unbound}
-use Rattle.ktm_courses.proofs.offered.Calls.{Passes, active-phase, enlistment-allowed, may-roll, transaction_at-found}
+use Rattle.ktm_courses.proofs.offered.Bindings.{StaysSound, stays-closing, stays-then}
+use Rattle.ktm_courses.proofs.offered.Calls.{Passes, enlistment-allowed}
 use Rattle.txf_laws.proofs.offered.Elements.{IsIn-filter, list_all-at, list_any-at}
 use Rattle.ktm_courses.proofs.offered.FileSteps.{passes-left}
 use Rattle.txf_laws.proofs.offered.Lists.{IsIn-unmap}
 use Rattle.ktm_courses.proofs.offered.NewObjects.{counted-before, filter-silent, list_any-silent, next_id, next-other, superior-silent}
-use Rattle.ktm_courses.proofs.offered.Moves.{if_cases, if_parts, same-by_id}
+use Rattle.ktm_courses.proofs.offered.Moves.{if_parts, same-by_id}
 use Rattle.ktm_records.proofs.LoggedOrder.{before-not}
 use Rattle.ktm_owned.proofs.offered.EndedTransactions.{transaction_at-there}
 use Rattle.ktm_courses.proofs.offered.OutcomesMade.{IsQuiet, served-then}
 use Rattle.txf_laws.proofs.offered.Tables.{same_id-equal, same_id-sym}
 use Rattle.ktm_records.proofs.offered.AgreementOfRollbacks.{agreed-aborted_by}
 use Rattle.ktm_courses.proofs.offered.Views.{durable-served}
+use Rattle.ktm_courses.proofs.offered.HandlesAndTime.{Closes, close_handle-so, exit-so, tick-so}
 
 -- what agreement is of
 abbrev Parts : Type 0
@@ -101,68 +98,40 @@ agreed-joined x a b quiet agreed = agreed-alike (apply (apply x a) b) (apply x (
 
 -- ---- the last handle, and the end of a process
 
-agreed-then : (x : Present) (a : Outcome) (next : Present → Outcome) → StaysSound x a → Agreed (apply x a) → (IsSoundCourse (apply x a) → Agreed (apply x a) → StaysSound (apply x a) (next (apply x a)) × Agreed (apply (apply x a) (next (apply x a))))
-    → Agreed (apply x (and_then x a next))
-agreed-then x a next first agreed second = let rest = second first.sound agreed in agreed-joined x a (next (apply x a)) rest.0.quiet rest.1
-
 pub agreed-only_reply : (x : Present) (reply : Reply) → Agreed x → Agreed (apply x (only_reply x reply))
 agreed-only_reply x reply agreed = agreed-reply x (only_reply x reply) agreed refl refl refl refl refl refl refl
 
-agreed-abort_active : (x : Present) (o : Option Transaction) → IsSoundCourse x → Agreed x → ((t : Transaction) → o ≡ Some t → IsIn t x.transactions.items) → Agreed (apply x (abort_active x o))
-agreed-abort_active x None sound agreed there = agreed-only_reply x Done agreed
-agreed-abort_active x (Some t) sound agreed there = if_cases (λ o. Agreed (apply x o)) (is_active t) (aborted_by x t None Done) (only_reply x Done)
-    (λ active. agreed-aborted_by x sound agreed t (there t refl) None Done (subst (λ phase. can_roll_back phase ≡ true) (sym (active-phase t active)) refl))
-    (λ other. agreed-only_reply x Done agreed)
+-- a machine that is sound and agrees
+abbrev pub IsAgreed : Present → Type 0
+IsAgreed x = IsSoundCourse x × Agreed x
 
-agreed-last : (x : Present) (object : Object) → IsSoundCourse x → Agreed x → Agreed (apply x (last_handle_gone x object))
-agreed-last x (TransactionObject id) sound agreed = agreed-abort_active x (transaction_at x.transactions.items id) sound agreed (λ t is. (transaction_at-found x.transactions.items id t is).0)
-agreed-last x (ManagerObject id) sound agreed = agreed-only_reply x Done agreed
-agreed-last x (EnlistmentObject id) sound agreed = agreed-only_reply x Done agreed
-agreed-last x (FileObject number) sound agreed =
-    let o = record (only_reply x Done) { table = closed_file x.files.table number } in
-    agreed-still x o agreed refl refl (managers-stay x o refl) (omega arith) (summaries-stay x (apply x o) refl (λ t there recorded. as-owned x o t refl refl refl refl))
+-- and stays so
+abbrev pub StaysAgreed : Present → Outcome → Type 0
+StaysAgreed x o = StaysSound x o × Agreed (apply x o)
 
-agreed-gone : (o : Option Object) (x : Present) → IsSoundCourse x → Agreed x → Agreed (apply x (handle_gone o x))
-agreed-gone None x sound agreed = agreed-only_reply x Done agreed
-agreed-gone (Some object) x sound agreed =
-    if_cases (λ o. Agreed (apply x o)) (has_handle x.handles object) (only_reply x Done) (last_handle_gone x object) (λ has. agreed-only_reply x Done agreed) (λ last. agreed-last x object sound agreed)
+pub agreed-closing : Closes IsAgreed StaysAgreed
+agreed-closing = record {
+  rolls = record {
+    reply = λ x is. (stays-closing.rolls.reply x is.0, agreed-only_reply x Done is.1);
+    rolls = λ x t is there can. (stays-closing.rolls.rolls x t is.0 there can, agreed-aborted_by x is.0 is.1 t there None Done can);
+    goes_on = λ x a next first second. let rest = second (first.0.sound, first.1) in (stays-then x a next first.0 (λ sound. rest.0), agreed-joined x a (next (apply x a)) rest.0.quiet rest.1);
+  };
+  unbinds = λ x process label is. (stays-closing.unbinds x process label is.0, agreed-reply x (record (only_reply x Done) { handles = without_handle x.handles process label }) is.1 refl refl refl refl refl refl refl);
+  ends = λ x number is.
+      let o = record (only_reply x Done) { table = closed_file x.files.table number } in
+      (stays-closing.ends x number is.0, agreed-still x o is.1 refl refl (managers-stay x o refl) (omega arith) (summaries-stay x (apply x o) refl (λ t there recorded. as-owned x o t refl refl refl refl)));
+}
 
 pub agreed-closed : (x : Present) (process : Pid) (label : Label) → IsSoundCourse x → Agreed x → Agreed (apply x (close_handle x process label))
-unfolding close_handle
-agreed-closed x process label sound agreed =
-    let unbound = record (only_reply x Done) { handles = without_handle x.handles process label } in
-    agreed-then x unbound (handle_gone (object_at x.handles process label)) (stays-unbound x process label sound) (agreed-reply x unbound agreed refl refl refl refl refl refl refl)
-    (λ sound' agreed'. (stays-sound _ _ (soundly-gone (object_at x.handles process label) _ sound'), agreed-gone (object_at x.handles process label) _ sound' agreed'))
-
-agreed-closed_all : (labels : List Label) (x : Present) (process : Pid) → IsSoundCourse x → Agreed x → Agreed (apply x (closed_in_turn x process labels))
-agreed-closed_all [] x process sound agreed = agreed-only_reply x Done agreed
-agreed-closed_all (label ∷ labels) x process sound agreed = agreed-then x (close_handle x process label) (λ next. closed_in_turn next process labels) (stays-closed x process label sound) (agreed-closed x process label sound agreed)
-    (λ sound' agreed'. (stays-closed_all labels _ process sound', agreed-closed_all labels _ process sound' agreed'))
+agreed-closed x process label sound agreed = (close_handle-so _ _ agreed-closing x process label (sound, agreed)).1
 
 pub agreed-exit : (x : Present) (process : Pid) → IsSoundCourse x → Agreed x → Agreed (apply x (exit x process))
-unfolding exit
-agreed-exit x process sound agreed = agreed-closed_all (labels_of x.handles process) x process sound agreed
-
--- ---- time
-
-pub agreed-due : (x : Present) (o : Option Transaction) → IsSoundCourse x → Agreed x → ((t : Transaction) → o ≡ Some t → IsIn t x.transactions.items) → Agreed (apply x (aborted_if_due x o))
-agreed-due x None sound agreed there = agreed-only_reply x Done agreed
-agreed-due x (Some t) sound agreed there = if_cases (λ o. Agreed (apply x o)) (is_due x.transactions.clock t) (aborted_by x t None Done) (only_reply x Done)
-    (λ due. agreed-aborted_by x sound agreed t (there t refl) None Done (may-roll t (and_parts _ (may_roll_back t) due).1))
-    (λ other. agreed-only_reply x Done agreed)
-
-agreed-in_turn : (ts : List Transaction) (x : Present) → IsSoundCourse x → Agreed x → Agreed (apply x (aborted_in_turn x ts))
-agreed-in_turn [] x sound agreed = agreed-only_reply x Done agreed
-agreed-in_turn (t ∷ ts) x sound agreed =
-    let named = λ (u : Transaction) (is : transaction_at x.transactions.items t.id ≡ Some u). (transaction_at-found x.transactions.items t.id u is).0 in
-    agreed-then x (aborted_if_due x (transaction_at x.transactions.items t.id)) (λ next. aborted_in_turn next ts) (stays-due x (transaction_at x.transactions.items t.id) sound named)
-    (agreed-due x (transaction_at x.transactions.items t.id) sound agreed named) (λ sound' agreed'. (stays-in_turn ts _ sound', agreed-in_turn ts _ sound' agreed'))
+agreed-exit x process sound agreed = (exit-so _ _ agreed-closing x process (sound, agreed)).1
 
 pub agreed-tick : (x : Present) (ms : ℕ) → IsSoundCourse x → Agreed x → Agreed (apply x (tick x ms))
 unfolding tick
 agreed-tick x ms sound agreed =
-    let later = agreed-in_turn x.transactions.items (with_clock x ms) (sound-clock x ms sound) (agreed-alike x (with_clock x ms) refl agreed) in
-    agreed-alike (apply (with_clock x ms) (aborted_in_turn (with_clock x ms) x.transactions.items)) (apply x (aborted_in_turn (with_clock x ms) x.transactions.items)) refl later
+    agreed-alike (apply (with_clock x ms) (tick x ms)) (apply x (tick x ms)) refl (tick-so _ _ agreed-closing.rolls x ms (sound-clock x ms sound, agreed-alike x (with_clock x ms) refl agreed)).1
 
 -- ---- objects are made
 

@@ -1,6 +1,6 @@
 -- What was recorded agrees with what is so now after every command, and after time.
-use Rattle.std.proofs.Common.{◌≡◌, ℕ, Bool, true, false, List, [], ◌∷◌, Option, Some, None, refl, sym, ap, subst, not, ◌++◌, arith, ◌&&◌}
-use Rattle.std.proofs.lemmas.Bool.{and_parts, not-true, true≢false}
+use Rattle.std.proofs.Common.{◌≡◌, ℕ, Bool, true, List, [], ◌∷◌, Option, Some, None, refl, sym, ap, subst, not, ◌++◌, arith, ◌&&◌}
+use Rattle.std.proofs.lemmas.Bool.{and_parts, not-true}
 use Rattle.ktm_base.specs.declared.id.Id.{Id}
 use Rattle.ktm_base.specs.declared.id.Label.{Label}
 use Rattle.ktm_base.specs.declared.id.Pid.{Pid}
@@ -10,9 +10,7 @@ use Rattle.ktm_types.specs.declared.command.Command.{Command}
 use Rattle.ktm_types.specs.declared.command.Command.TheVariants.{CommitEnlistment, CreateTransaction, OpenTransaction, RollbackTransaction, GetTransactionInformation, CreateResourceManager, OpenResourceManager, RecoverResourceManager, GetNotificationResourceManager, CreateEnlistment, OpenEnlistment, RecoverEnlistment, RollbackComplete, SinglePhaseReject, RollbackEnlistment, SetEnlistmentRecoveryInformation, GetEnlistmentRecoveryInformation, CreateFile, CreateFileTransacted, ReadFile, WriteFile, SetEndOfFile, GetFileSizeEx, FlushFileBuffers, DeleteFile, CreateDirectory, RemoveDirectory, MoveFile, DeleteFileTransacted, CreateDirectoryTransacted, RemoveDirectoryTransacted, MoveFileTransacted, FindFiles, FindFilesTransacted, KvSet, KvUnset, KvGet, KvList, CloseHandle, DuplicateHandle, Exit, CommitTransaction, PrePrepareComplete, PrepareComplete, ReadOnlyEnlistment, CommitComplete, PrePrepareEnlistment, PrepareEnlistment}
 use Rattle.ktm_types.specs.declared.input.PhaseInput.{PhaseInput}
 use Rattle.ktm_types.specs.declared.object.Object.{Object}
-use Rattle.ktm_types.specs.declared.object.Phase.{Phase}
-use Rattle.ktm_types.specs.declared.object.Phase.TheVariants.{Active, Requested, PrePrepared}
-use Rattle.ktm_types.specs.declared.recorded.Stage.{Stage}
+use Rattle.ktm_types.specs.declared.object.Phase.TheVariants.{Active}
 use Rattle.ktm_types.specs.declared.object.Transaction.{Transaction}
 use Rattle.ktm_types.specs.declared.reply.Reply.{Reply}
 use Rattle.ktm_types.specs.declared.reply.Reply.TheVariants.{Done, Refused}
@@ -26,17 +24,15 @@ use Rattle.ktm_world.specs.HandleCalls.{bind_to, duplicate_handle}
 use Rattle.ktm_world.specs.Handles.{object_at}
 use Rattle.ktm_world.specs.KeyCalls.{kv_get, kv_list, with_setting}
 use Rattle.ktm_world.specs.Labels.{enlistment_named, file_named, file_tests, manager_named, transaction_named, transaction_tests, viewer, binding}
-use Rattle.ktm_world.specs.Lawful.{Agrees, stage_in}
+use Rattle.ktm_world.specs.Lawful.{Agrees}
 use Rattle.ktm_world.specs.Laws.{StepLaw}
 use Rattle.ktm_world.specs.Outcome.{Outcome, apply, first_refusal, is_full, only_reply, refuse_or, within_log}
-use Rattle.ktm_world.specs.Phases.{Course, is_single_phase}
+use Rattle.ktm_world.specs.Phases.{is_single_phase}
 use Rattle.ktm_world.specs.Present.{Present, Transactions}
 use Rattle.ktm_world.specs.Steps.{led, share_of}
-use Rattle.ktm_world.specs.TransactionCalls.{answering, arrived, commit_enlistment, course_of, superior_tests, waits_for_superior, may_recover, may_reject_one_phase, phase_passes, recover_enlistment, rollback_complete, single_phase_reject, create_enlistment_tests, enlistment_tests, enlistment_with, get_information, get_notification, get_transaction_information, goes_on, information_in, information_of, manager_with, may_roll_back_by, open_enlistment, open_resource_manager, open_to_enlistment, open_to_manager, open_to_transaction, open_transaction, recover_all, recover_resource_manager, rollback_enlistment, rollback_of, rollback_transaction, rollback_transaction_tests, set_information, take_first, tick, transaction_in, transaction_with, before_prepare, before_pre_prepare, commit_complete, commit_of, commit_reply, commit_transaction, is_voting, may_vote, pre_prepare_complete, pre_prepare_enlistment, prepare_complete, prepare_enlistment, read_only_enlistment, recovery_of}
+use Rattle.ktm_world.specs.TransactionCalls.{answering, arrived, commit_enlistment, course_of, superior_tests, waits_for_superior, may_recover, may_reject_one_phase, phase_passes, recover_enlistment, rollback_complete, single_phase_reject, create_enlistment_tests, enlistment_tests, enlistment_with, get_information, get_notification, get_transaction_information, information_in, information_of, manager_with, may_roll_back_by, open_enlistment, open_resource_manager, open_to_enlistment, open_to_manager, open_to_transaction, open_transaction, recover_all, recover_resource_manager, rollback_enlistment, rollback_of, rollback_transaction, rollback_transaction_tests, set_information, take_first, tick, transaction_in, transaction_with, before_prepare, before_pre_prepare, commit_complete, commit_of, commit_reply, commit_transaction, is_voting, may_vote, pre_prepare_complete, pre_prepare_enlistment, prepare_complete, prepare_enlistment, read_only_enlistment, recovery_of}
 use Rattle.ktm_world.specs.Transactions.{same_id}
 use Rattle.ktm_world.specs.World.{decide_tick, present}
-use Rattle.ktm_steps.proofs.offered.Table.{rows_law}
-use Rattle.ktm_steps.specs.Procedures.{committing, commit_answered, pre_prepare_answered, prepare_answered, read_only_answered}
 use Rattle.ktm_records.specs.Agreement.{AgreeingLaw}
 use Rattle.txf_laws.specs.Elements.{IsIn}
 use Rattle.ktm_states.specs.GoodState.{IsGoodState}
@@ -44,22 +40,21 @@ use Rattle.ktm_records.specs.Kept.{are_carried_out}
 use Rattle.ktm_courses.specs.SoundCourse.{IsSoundCourse, is_recorded_as}
 use Rattle.txf_laws.specs.SoundFiles.{IsSoundFiles}
 use Rattle.ktm_records.proofs.offered.Agreement.{Agreed, agreed-of_files, agreed-reply, agreed-still, as-owned, managers-stay, recorded-later, summaries-stay}
-use Rattle.ktm_records.proofs.AgreementOfAnswers.{follows-commit, follows-pre_prepare, follows-pre_prepare_answered, follows-prepare, follows-prepare_answered, follows-read_only_answered, is_preparing}
+use Rattle.ktm_records.proofs.AgreementOfAnswers.{follows-commit, follows-pre_prepare, follows-pre_prepare_complete, follows-prepare, follows-prepare_complete, follows-read_only}
 use Rattle.ktm_records.proofs.AgreementOfCalls.{agreed-alike, agreed-closed, agreed-create_enlistment, agreed-create_manager, agreed-create_transaction, agreed-exit, agreed-keep_information, agreed-only_reply, agreed-tick}
 use Rattle.ktm_courses.proofs.offered.EnlistmentAnswers.{is-aborting, owed-rollback, phase-owing}
 use Rattle.ktm_courses.proofs.offered.Arrivals.{brought-now, stands-now}
-use Rattle.ktm_courses.proofs.offered.Calls.{Answers, goes-pre_prepare_complete, goes-prepare_complete, goes-read_only, goes-commit_complete, goes-rollback_complete, goes-single_phase_reject, goes-pre_prepare_enlistment, goes-prepare_enlistment, goes-commit_enlistment, goes-recover_enlistment, superior-allowed, Passes, active-phase, phase-passed, single-phase, enlistment-allowed, enlistment-named, may-roll, passed, rolls, transaction-named, transaction_at-found, fresh-active}
-use Rattle.ktm_records.proofs.AgreementOfDecisions.{follows-commit_answered, follows-decision}
+use Rattle.ktm_courses.proofs.offered.Calls.{Answers, goes-pre_prepare_complete, goes-prepare_complete, goes-read_only, goes-commit_complete, goes-rollback_complete, goes-single_phase_reject, goes-pre_prepare_enlistment, goes-prepare_enlistment, goes-commit_enlistment, goes-recover_enlistment, superior-allowed, Passes, active-phase, phase-passed, single-phase, enlistment-allowed, enlistment-named, may-roll, passed, rolls, transaction-named, fresh-active, of-answering}
+use Rattle.ktm_records.proofs.AgreementOfDecisions.{follows-commit_complete, follows-decision}
 use Rattle.txf_laws.proofs.offered.Elements.{list_all-at, not-not}
 use Rattle.ktm_courses.proofs.offered.FileSteps.{IsActiveCaller, caller-active, file-active, passes-left, plain-caller, with_setting-same}
 use Rattle.ktm_records.proofs.offered.AgreementOfCourses.{Follows, agreed-arrived, was}
 use Rattle.ktm_courses.proofs.offered.Moves.{if_cases}
 use Rattle.ktm_courses.proofs.offered.CommitsBegun.{arrives-to_commit}
-use Rattle.ktm_courses.proofs.offered.Leads.{leads-pre_prepare, leads-prepare, leads-read_only}
-use Rattle.ktm_records.proofs.AgreementOfSilentSteps.{IsSilent, agreed-silent, silent-recovered, silent-rollback_answered, silent-single_phase_rejected}
-use Rattle.txf_laws.proofs.offered.Tables.{same_id-from}
+use Rattle.ktm_records.proofs.AgreementOfSilentSteps.{IsSilent, agreed-silent, silent-recovered, silent-rollback_complete, silent-single_phase_reject}
 use Rattle.ktm_records.proofs.AgreementOfRestarts.{agreed-opened}
 use Rattle.ktm_records.proofs.offered.AgreementOfRollbacks.{agreed-aborted_by}
+use Rattle.ktm_records.proofs.offered.Stages.{early-pre_prepare, early-prepare, is_early, waiting-held, waiting-recorded}
 
 module _ (x : Present) (sound : IsSoundCourse x) (agreed : Agreed x) where
   replies : (reply : Reply) → Agreed (apply x (only_reply x reply))
@@ -103,12 +98,7 @@ module _ (x : Present) (sound : IsSoundCourse x) (agreed : Agreed x) where
   answers : (o : Option Enlistment) (input : Enlistment → PhaseInput)
       → ((e : Enlistment) → o ≡ Some e → (t : Transaction) → IsIn t x.transactions.items → same_id e.transaction t.id ≡ true → transaction_in x e ≡ Some t → Agreed (apply x (arrived x (led (input e) (course_of x t (Some e))) Done)))
       → Agreed (apply x (answering x o input))
-  answers None input each = replies Done
-  answers (Some e) input each = go (transaction_in x e) refl
-    where
-      go : (o : Option Transaction) → transaction_in x e ≡ o → Agreed (apply x (goes_on x e o (input e)))
-      go None is = replies Done
-      go (Some t) is = let found = transaction_at-found x.transactions.items e.transaction t is in each e refl t found.0 (same_id-from e.transaction t.id (sym found.1)) is
+  answers o input each = of-answering (λ o. Agreed (apply x o)) x o input (replies Done) each
 
   module _ (o : Option Enlistment) (there : (e : Enlistment) → o ≡ Some e → IsIn e x.transactions.enlistments) where
     rolled-by : Passes (enlistment_tests o (may_roll_back_by x)) → Agreed (apply x (answering x o (λ e. PhaseInput.Rollback)))
@@ -124,18 +114,18 @@ module _ (x : Present) (sound : IsSoundCourse x) (agreed : Agreed x) where
 
     rolled-back : Passes (enlistment_tests o owes_rollback) → Agreed (apply x (answering x o (λ e. PhaseInput.RollbackComplete)))
     rolled-back tests = silently (λ e. PhaseInput.RollbackComplete) (goes-rollback_complete x sound o there tests) (λ e is t at own found.
-        silent-rollback_answered (course_of x t (Some e)) e refl (is-aborting t.phase
-        (phase-owing x.recorded.boots (course_of x t (Some e)) (stands-now x t (Some e) sound at) (brought-now x t (Some e) sound) sound.enlistments.rise e (there e is) own Owed.Rollback (owed-rollback e (enlistment-allowed o owes_rollback e is tests)))))
+        silent-rollback_complete (course_of x t (Some e)) e (is-aborting t.phase
+        (phase-owing x.recorded.boots (course_of x t (Some e)) e (stands-now x t (Some e) sound at) (brought-now x t (Some e) sound) sound.enlistments.rise (there e is) own Owed.Rollback (owed-rollback e (enlistment-allowed o owes_rollback e is tests)))))
 
     rejected : Passes (enlistment_tests o (may_reject_one_phase x)) → Agreed (apply x (answering x o (λ e. PhaseInput.SinglePhaseReject)))
     rejected tests = silently (λ e. PhaseInput.SinglePhaseReject) (goes-single_phase_reject x sound o there tests) (λ e is t at own found.
         let both = and_parts (phase_passes x is_single_phase e) (owes_commit e) (enlistment-allowed o (may_reject_one_phase x) e is tests) in
         let single = single-phase t.phase (phase-passed x is_single_phase e t found both.0) in
-        silent-single_phase_rejected (course_of x t (Some e)) (not-true _ (subst (λ phase. is_recorded_as phase x.managers x.transactions.enlistments t.id t.is_recorded ≡ true) single
+        silent-single_phase_reject (course_of x t (Some e)) (not-true _ (subst (λ phase. is_recorded_as phase x.managers x.transactions.enlistments t.id t.is_recorded ≡ true) single
         (list_all-at (λ t. is_recorded_as t.phase x.managers x.transactions.enlistments t.id t.is_recorded) x.transactions.items sound.phases.recorded t at))))
 
     recovers : Passes (enlistment_tests o (may_recover x)) → Agreed (apply x (answering x o recovery_of))
-    recovers tests = silently recovery_of (goes-recover_enlistment x sound o there tests) (λ e is t at own found. silent-recovered (course_of x t (Some e)) e refl)
+    recovers tests = silently recovery_of (goes-recover_enlistment x sound o there tests) (λ e is t at own found. silent-recovered (course_of x t (Some e)) e)
 
   files : (who : Option Id) (o : FileOutcome) → IsActiveCaller x who → Agreed (apply x (of_files x who o))
   files who o active = agreed-of_files x who o sound agreed active
@@ -193,77 +183,50 @@ module _ (x : Present) (sound : IsSoundCourse x) (agreed : Agreed x) where
         let c = course_of x t None in
         let arrives = arrives-to_commit x.recorded.boots c (fresh-active x sound t at None is) in
         agreed-arrived x sound agreed t at None (led PhaseInput.CommitTransaction c) arrives.moved (commit_reply (led PhaseInput.CommitTransaction c)) arrives.stands.outcome
-        (follows-commit x sound sound_files good agreed t at None (ap is_voting is) (ap is_preparing is))
+        (follows-commit x sound sound_files good agreed t at None (ap is_early is))
 
-    -- the transaction of an enlistment goes on by what comes from it, as this procedure, to where it agrees
-    goes : (o : Option Enlistment) (input : Enlistment → PhaseInput) (step : Course → Enlistment → Course) → ((e : Enlistment) → o ≡ Some e → Answers x (input e) e)
+    -- the transaction of an enlistment goes on by what comes from it to where it agrees
+    goes : (o : Option Enlistment) (input : Enlistment → PhaseInput) → ((e : Enlistment) → o ≡ Some e → Answers x (input e) e)
         → ((e : Enlistment) → o ≡ Some e → (t : Transaction) (at : IsIn t x.transactions.items) → same_id e.transaction t.id ≡ true → transaction_in x e ≡ Some t
-        → (led (input e) (course_of x t (Some e)) ≡ step (course_of x t (Some e)) e)
-        × Follows x t.id (was x sound t at agreed.agrees).before (was x sound t at agreed.agrees).behind (step (course_of x t (Some e)) e))
+        → Follows x t.id (was x sound t at agreed.agrees).before (was x sound t at agreed.agrees).behind (led (input e) (course_of x t (Some e))))
         → Agreed (apply x (answering x o input))
-    goes o input step arrives each = answers o input (λ e is t at own found.
+    goes o input arrives follows = answers o input (λ e is t at own found.
         let there = (arrives e is t at own found).arrives in
-        let all = each e is t at own found in
-        let had = was x sound t at agreed.agrees in
-        agreed-arrived x sound agreed t at (Some e) (led (input e) (course_of x t (Some e))) there.moved Done there.stands.outcome (subst (Follows x t.id had.before had.behind) (sym all.0) all.1))
+        agreed-arrived x sound agreed t at (Some e) (led (input e) (course_of x t (Some e))) there.moved Done there.stands.outcome (follows e is t at own found))
 
     module _ (o : Option Enlistment) (there : (e : Enlistment) → o ≡ Some e → IsIn e x.transactions.enlistments) where
       pre-prepared : Passes (enlistment_tests o owes_pre_prepare) → Agreed (apply x (answering x o (λ e. PhaseInput.PrePrepareComplete)))
-      pre-prepared tests = goes o (λ e. PhaseInput.PrePrepareComplete) pre_prepare_answered (goes-pre_prepare_complete x sound o there tests) (λ e is t at own found.
-          let owes = enlistment-allowed o owes_pre_prepare e is tests in
-          (leads-pre_prepare x sound t at e (there e is) own owes, follows-pre_prepare_answered x sound sound_files good agreed t at (Some e) e (there e is) own owes))
+      pre-prepared tests = goes o (λ e. PhaseInput.PrePrepareComplete) (goes-pre_prepare_complete x sound o there tests) (λ e is t at own found.
+          follows-pre_prepare_complete x sound sound_files good agreed t at e (there e is) own (enlistment-allowed o owes_pre_prepare e is tests))
 
       prepared : Passes (enlistment_tests o owes_prepare) → Agreed (apply x (answering x o (λ e. PhaseInput.PrepareComplete)))
-      prepared tests = goes o (λ e. PhaseInput.PrepareComplete) prepare_answered (goes-prepare_complete x sound o there tests) (λ e is t at own found.
-          let owes = enlistment-allowed o owes_prepare e is tests in
-          (leads-prepare x sound t at e (there e is) own owes, follows-prepare_answered x sound sound_files good agreed t at (Some e) e (there e is) own owes))
+      prepared tests = goes o (λ e. PhaseInput.PrepareComplete) (goes-prepare_complete x sound o there tests) (λ e is t at own found.
+          follows-prepare_complete x sound sound_files good agreed t at e (there e is) own (enlistment-allowed o owes_prepare e is tests))
 
       left : Passes (enlistment_tests o (may_vote x)) → Agreed (apply x (answering x o (λ e. PhaseInput.ReadOnly (share_of e))))
-      left tests = goes o (λ e. PhaseInput.ReadOnly (share_of e)) read_only_answered (goes-read_only x sound o there tests) (λ e is t at own found.
+      left tests = goes o (λ e. PhaseInput.ReadOnly (share_of e)) (goes-read_only x sound o there tests) (λ e is t at own found.
           let phase = and_parts (not (is_superior e) && is_open_for_votes e) (phase_passes x is_voting e) (enlistment-allowed o (may_vote x) e is tests) in
           let both = and_parts (not (is_superior e)) (is_open_for_votes e) phase.0 in
-          let ordinary = not-true _ both.0 in (
-            leads-read_only x sound t at e (there e is) own ordinary (not-true _ (and_parts (not e.is_read_only) (not e.is_prepared) both.1).0),
-            follows-read_only_answered x sound sound_files good agreed t at (Some e) e (there e is) own ordinary both.1 (phase-passed x is_voting e t found phase.1),
-          ))
+          follows-read_only x sound sound_files good agreed t at e (there e is) own (not-true _ both.0) both.1 (phase-passed x is_voting e t found phase.1))
 
       committed : Passes (enlistment_tests o owes_commit) → Agreed (apply x (answering x o (λ e. PhaseInput.CommitComplete)))
-      committed tests = goes o (λ e. PhaseInput.CommitComplete) commit_answered (goes-commit_complete x sound o there tests) (λ e is t at own found.
-          (rows_law.commit_completes (course_of x t (Some e)) e refl, follows-commit_answered x sound sound_files good agreed t at (Some e) e (there e is) own (enlistment-allowed o owes_commit e is tests)))
+      committed tests = goes o (λ e. PhaseInput.CommitComplete) (goes-commit_complete x sound o there tests) (λ e is t at own found.
+          follows-commit_complete x sound sound_files good agreed t at e (there e is) own (enlistment-allowed o owes_commit e is tests))
 
       pre-prepares : Passes (superior_tests x o before_pre_prepare) → Agreed (apply x (answering x o (λ e. PhaseInput.PrePrepare)))
-      pre-prepares tests = goes o (λ e. PhaseInput.PrePrepare) (λ c e. led PhaseInput.PrePrepare c) (goes-pre_prepare_enlistment x sound o there tests) (λ e is t at own found.
-          let votes = before t.phase (phase-passed x before_pre_prepare e t found (superior-allowed x o before_pre_prepare e is tests)) in
-          (refl, follows-pre_prepare x sound sound_files good agreed t at (Some e) votes.0 votes.1))
-        where
-          before : (phase : Phase) → before_pre_prepare phase ≡ true → (is_voting phase ≡ true) × (is_preparing phase ≡ false)
-          before Active early = (refl, refl)
-          before Requested early = (refl, refl)
-          before _ early = absurd (true≢false (sym early))
+      pre-prepares tests = goes o (λ e. PhaseInput.PrePrepare) (goes-pre_prepare_enlistment x sound o there tests) (λ e is t at own found.
+          follows-pre_prepare x sound sound_files good agreed t at (Some e) (early-pre_prepare t.phase (phase-passed x before_pre_prepare e t found (superior-allowed x o before_pre_prepare e is tests))))
 
       prepares : Passes (superior_tests x o before_prepare) → Agreed (apply x (answering x o (λ e. PhaseInput.Prepare)))
-      prepares tests = goes o (λ e. PhaseInput.Prepare) (λ c e. led PhaseInput.Prepare c) (goes-prepare_enlistment x sound o there tests) (λ e is t at own found.
-          let votes = before t.phase (phase-passed x before_prepare e t found (superior-allowed x o before_prepare e is tests)) in
-          (refl, follows-prepare x sound sound_files good agreed t at (Some e) votes.0 votes.1))
-        where
-          before : (phase : Phase) → before_prepare phase ≡ true → (is_voting phase ≡ true) × (is_preparing phase ≡ false)
-          before Active early = (refl, refl)
-          before Requested early = (refl, refl)
-          before PrePrepared early = (refl, refl)
-          before _ early = absurd (true≢false (sym early))
+      prepares tests = goes o (λ e. PhaseInput.Prepare) (goes-prepare_enlistment x sound o there tests) (λ e is t at own found.
+          follows-prepare x sound sound_files good agreed t at (Some e) (early-prepare t.phase (phase-passed x before_prepare e t found (superior-allowed x o before_prepare e is tests))))
 
       decides : Passes (superior_tests x o waits_for_superior) → Agreed (apply x (answering x o (λ e. PhaseInput.Commit)))
-      decides tests = goes o (λ e. PhaseInput.Commit) (λ c e. committing c) (goes-commit_enlistment x sound o there tests) (λ e is t at own found.
-          let held = held-in t.phase (phase-passed x waits_for_superior e t found (superior-allowed x o waits_for_superior e is tests)) in (
-            rows_law.commits (course_of x t (Some e)),
-            follows-decision x sound sound_files good agreed t at (Some e) held.0
-                (held.1 t.id t.is_recorded (list_all-at (λ t. is_recorded_as t.phase x.managers x.transactions.enlistments t.id t.is_recorded) x.transactions.items sound.phases.recorded t at)),
-          ))
-        where
-          held-in : (phase : Phase) → waits_for_superior phase ≡ true → (stage_in phase ≡ Some Stage.Held) × ((id : Id) (recorded : Bool) → is_recorded_as phase x.managers x.transactions.enlistments id recorded ≡ true → recorded ≡ true)
-          held-in Phase.Held waits = (refl, λ id recorded is. is)
-          held-in Phase.InDoubt waits = (refl, λ id recorded is. is)
-          held-in _ waits = absurd (true≢false (sym waits))
+      unfolding led
+      decides tests = goes o (λ e. PhaseInput.Commit) (goes-commit_enlistment x sound o there tests) (λ e is t at own found.
+          let waits = phase-passed x waits_for_superior e t found (superior-allowed x o waits_for_superior e is tests) in
+          follows-decision x sound sound_files good agreed t at (Some e) (waiting-held t.phase waits)
+          (waiting-recorded t.phase x.managers x.transactions.enlistments t.id t.is_recorded waits (list_all-at (λ t. is_recorded_as t.phase x.managers x.transactions.enlistments t.id t.is_recorded) x.transactions.items sound.phases.recorded t at)))
 
     -- ---- every command
 

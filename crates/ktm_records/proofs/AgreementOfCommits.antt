@@ -1,6 +1,6 @@
 -- What was recorded goes on to agree with what is so now where a transaction commits.
 use Rattle.std.specs.Prelude.{if◌then◌else◌}
-use Rattle.std.proofs.Common.{◌≡◌, ◌&&◌, ◌||◌, not, Bool, true, false, List, [], ◌∷◌, ◌++◌, map, Some, None, refl, sym, ◌∙◌, ap, subst}
+use Rattle.std.proofs.Common.{◌≡◌, ◌&&◌, ◌||◌, not, Bool, true, false, List, [], ◌∷◌, ◌++◌, map, Some, None, refl, sym, ◌∙◌, ap, subst, append_assoc}
 use Rattle.std.proofs.lemmas.Bool.{true≢false}
 use Rattle.std.proofs.lemmas.List.Sums.{fold-append}
 use Rattle.std.proofs.lemmas.List.{append-nil}
@@ -24,11 +24,10 @@ use Rattle.ktm_world.specs.Enlistments.{Enlistment, takes_part}
 use Rattle.ktm_world.specs.Keys.{OwnSettings, stored_all}
 use Rattle.ktm_world.specs.Lawful.{superior_now}
 use Rattle.ktm_world.specs.Outcome.{committed_now}
-use Rattle.ktm_world.specs.Phases.{Course, decided, event_if, has_settings, in_phase, owing, recording, superior, telling, work_of}
+use Rattle.ktm_world.specs.Phases.{Course, event_if, has_settings, owing, superior, telling, work_of}
 use Rattle.ktm_world.specs.Present.{Present}
 use Rattle.ktm_world.specs.World.{by_rising_id, enlistment_back, is_enlistment_part}
 use Rattle.ktm_world.proofs.offered.Durables.{after_events-append}
-use Rattle.ktm_steps.specs.Procedures.{committing}
 use Rattle.ktm_records.specs.Kept.{is_carried_out}
 use Rattle.ktm_records.proofs.offered.AgreementOfCourses.{Follows, course_in, course_summaries, follows-from}
 use Rattle.txf_laws.proofs.offered.Lists.{IsIn-unmap}
@@ -38,6 +37,10 @@ use Rattle.ktm_records.proofs.LoggedDecisions.{Settles, ends-if_finished, settle
 use Rattle.ktm_records.proofs.AgreementOfSilentSteps.{alike-stepped, in-alike}
 use Rattle.ktm_records.proofs.LoggedUndecided.{AreDone, Stores}
 use Rattle.ktm_records.proofs.LoggedTransaction.{AreDrawn, Tracks, as_decided, mark_if, tracks-decided, tracks-if}
+use Rattle.ktm_world.specs.Rows.{commits}
+use Rattle.ktm_world.specs.Steps.{run}
+use Rattle.ktm_types.specs.declared.step.Fact.{Fact}
+use Rattle.ktm_types.specs.declared.step.Step.{Step}
 
 -- ---- the parts of a decided transaction
 
@@ -107,17 +110,23 @@ record HasCommitted (c d : Course) : Type 0 where
   works : d.works ≡ c.works ++ work_of c
   summaries : course_summaries d ≡ staying c
 
-committing-committed : (c : Course) → HasCommitted c (committing c)
-unfolding committing
+committing-committed : (c : Course) → HasCommitted c (run commits c)
 committing-committed c =
-    let ends = ends-if_finished d refl in
-    record { events = ends.events; works = ends.works; summaries = ends.summaries ∙ (λ i. if c.transaction.is_recorded then same i else []) }
+    let ends = ends-if_finished d refl in record {
+      events = ends.events ∙ ap (λ es. es ++ keys) (append_assoc c.events (event_if c.transaction.is_recorded (Event.Decide c.transaction.id)) files)
+          ∙ append_assoc c.events (event_if c.transaction.is_recorded (Event.Decide c.transaction.id) ++ files) keys;
+      works = ends.works;
+      summaries = ends.summaries ∙ (λ i. if c.transaction.is_recorded then same i else []);
+    }
   where
-    decided_course : Course
-    decided_course = record (recording c (deciding c.transaction.id c.transaction.is_recorded (has_changes c.changes) (has_settings c.settings))) { works = c.works ++ work_of c }
+    files : List Event
+    files = event_if (has_changes c.changes) (Event.Done c.transaction.id DonePart.Files)
+
+    keys : List Event
+    keys = event_if (has_settings c.settings) (Event.Done c.transaction.id DonePart.Keys)
 
     d : Course
-    d = in_phase (decided (telling decided_course (is_told c) Notify.Commit (owing Owed.Commit)) CommittedOutcome) Committing
+    d = telling (run (Step.Record Fact.Decide ∷ Step.Record Fact.DoneFiles ∷ Step.Record Fact.DoneKeys ∷ Step.Commit ∷ Step.Decide CommittedOutcome ∷ Step.Enter Committing ∷ []) c) (is_told c) Notify.Commit (owing Owed.Commit)
 
     same : course_in d (Some Stage.Decided) ≡ course_in c (Some Stage.Decided)
     same = in-alike c (λ e. if is_told c e then owing Owed.Commit e else e) d.sent (alike-stepped (is_told c) (owing Owed.Commit) (λ e. record { back = refl; kind = refl; read_only = refl; prepared = refl; finished = refl })) (Some Stage.Decided)
@@ -208,23 +217,23 @@ module _ (x : Present) (before behind : List Recorded) (c : Course) where
             ((works-done x c).1 ∙ ap (stored_all committed.store) (sym stores.settings)) tracks
 
     -- one that the log has
-    pub follows-committing : r.superior ≡ superior_now (superior c) → c.transaction.is_recorded ≡ true → AreDrawn x c.changes → Tracks x id before behind (Some r) s committed → Follows x id before behind (committing c)
+    pub follows-committing : r.superior ≡ superior_now (superior c) → c.transaction.is_recorded ≡ true → AreDrawn x c.changes → Tracks x id before behind (Some r) s committed → Follows x id before behind (run commits c)
     follows-committing superior_same recorded drawn tracks =
         let is = committing-committed c in
-        let all : after_events x.recorded (committing c).events ≡ after_events s (deciding id true a b) = ap (after_events x.recorded) (is.events ∙ ap (λ has. c.events ++ deciding id has a b) recorded) ∙ after_events-append x.recorded c.events (deciding id true a b) in
+        let all : after_events x.recorded (run commits c).events ≡ after_events s (deciding id true a b) = ap (after_events x.recorded) (is.events ∙ ap (λ has. c.events ++ deciding id has a b) recorded) ∙ after_events-append x.recorded c.events (deciding id true a b) in
         record {
           o = while_open r_settled;
-          tracks = subst (λ s'. Tracks x id before behind (while_open r_settled) s' (committed_with (committed_now x) (committing c).works)) (sym all)
+          tracks = subst (λ s'. Tracks x id before behind (while_open r_settled) s' (committed_with (committed_now x) (run commits c).works)) (sym all)
               (subst (λ ws. Tracks x id before behind (while_open r_settled) (after_events s (deciding id true a b)) (committed_with (committed_now x) ws)) (sym is.works) (tracks-settled drawn tracks));
           summaries = settled-summaries c r_settled (settles superior_same) ∙ (λ i. if sym recorded i then course_in c (Some Stage.Decided) else []) ∙ sym is.summaries;
           carried = λ q there. subst (λ u. is_carried_out u ≡ true) (in-while r_settled q there) (settled-carried r_settled (settles superior_same).undone);
         }
 
   -- one that the log does not have, and that changed and set nothing
-  pub follows-volatile : c.transaction.is_recorded ≡ false → has_changes c.changes ≡ false → has_settings c.settings ≡ false → Tracks x id before behind None s committed → Follows x id before behind (committing c)
+  pub follows-volatile : c.transaction.is_recorded ≡ false → has_changes c.changes ≡ false → has_settings c.settings ≡ false → Tracks x id before behind None s committed → Follows x id before behind (run commits c)
   follows-volatile other changes settings tracks =
       let is = committing-committed c in
-      follows-from x id before behind (committing c) None c.events c.works
+      follows-from x id before behind (run commits c) None c.events c.works
       (is.events ∙ (λ i. c.events ++ deciding id (other i) (changes i) (settings i)) ∙ append-nil c.events)
       (is.works ∙ (λ i. c.works ++ (if changes i || settings i then record { transaction = Some id; changes = c.changes; settings = c.settings } ∷ [] else [])) ∙ append-nil c.works)
       tracks (sym (is.summaries ∙ (λ i. if other i then course_in c (Some Stage.Decided) else []))) (λ r none. absurd none)

@@ -18,12 +18,11 @@ use Rattle.ktm_world.specs.Durable.{Recorded, changes_in, changes_of, has_undone
 use Rattle.ktm_world.specs.Enlistments.{Enlistment, has_id, is_durable_at, is_superior, owes_commit, takes_part}
 use Rattle.ktm_world.specs.Lawful.{Summary, brought_back, stage_in, stays, summary_of, superior_now}
 use Rattle.ktm_world.specs.Outcome.{committed_now}
-use Rattle.ktm_world.specs.Phases.{Course, ended, ended_if_finished, event_if, in_phase, is_single_phase, recording, superior}
+use Rattle.ktm_world.specs.Phases.{Course, ended, ended_if_finished, event_if, in_phase, is_single_phase, recording, superior, changing_one}
 use Rattle.ktm_world.specs.Present.{Present}
 use Rattle.ktm_world.specs.TransactionCalls.{course_of}
 use Rattle.ktm_world.specs.Transactions.{same_id}
 use Rattle.ktm_world.specs.World.{by_rising_id, enlistment_back, is_enlistment_part}
-use Rattle.ktm_steps.specs.Procedures.{commit_answered, committing, finished}
 use Rattle.txf_laws.specs.Elements.{IsIn, each_pair}
 use Rattle.ktm_states.specs.GoodState.{IsGoodState, is_decided_well, is_done_well}
 use Rattle.ktm_records.specs.Kept.{is_carried_out}
@@ -35,11 +34,10 @@ use Rattle.ktm_courses.proofs.offered.Arrivals.{brought-now, stands-now}
 use Rattle.ktm_records.proofs.AgreementOfCommits.{follows-committing}
 use Rattle.txf_laws.proofs.offered.Elements.{IsIn-filter, IsIn-flat_map, IsIn-kept, IsIn-unflat, each_pair-flat_kept, list_all-at, list_any-from}
 use Rattle.ktm_records.proofs.offered.AgreementOfCourses.{Follows, Was, begun, carried-itself, course_enlistments, course_in, course_now, course_summaries, follows-from, none-in, none-unrecorded, placed-at, summary-one, was, was-in}
-use Rattle.ktm_courses.proofs.offered.Moves.{if_cases}
 use Rattle.ktm_states.proofs.offered.OwnGroups.{is_open}
 use Rattle.ktm_states.proofs.offered.Parts.{gathered-filter_none}
 use Rattle.ktm_records.proofs.LoggedOrder.{if_there, in-while, while_open}
-use Rattle.ktm_courses.proofs.offered.Procedures.{Stands, none-at}
+use Rattle.ktm_courses.proofs.offered.Endings.{Stands, none-at}
 use Rattle.ktm_records.proofs.ReadyCourses.{changed-cases, changed-other, differ-kept, differ-parts, drawn-own, enlistments-other, kept-from, kept-into, others-stay, rises-changed}
 use Rattle.ktm_courses.proofs.offered.EnlistmentOrder.{IsIn-into_rising, IsIn-rising, differ_in_id, rising-same}
 use Rattle.ktm_records.proofs.LoggedDecisions.{Settles, ends-if_finished, length-some, settled-carried, settled-summaries, staying}
@@ -47,6 +45,11 @@ use Rattle.ktm_records.proofs.AgreementOfSilentSteps.{is_kept}
 use Rattle.ktm_records.proofs.LoggedUndecided.{AreUndone, parts-undone}
 use Rattle.txf_laws.proofs.offered.Tables.{same_id-sym}
 use Rattle.ktm_records.proofs.LoggedTransaction.{Tracks, done_by, tracks-done}
+use Rattle.ktm_steps.proofs.offered.Ways.{choose}
+use Rattle.ktm_world.specs.Rows.{commits}
+use Rattle.ktm_world.specs.Steps.{answered, led, run}
+use Rattle.ktm_types.specs.declared.step.Answered.{Answered}
+use Rattle.ktm_types.specs.declared.input.PhaseInput.{PhaseInput}
 
 -- ---- the parts of a decided transaction
 
@@ -78,10 +81,7 @@ undone-parts r decided carried well p there = go p.part refl
     go (Changes cs) is = none DonePart.Files (not-true _ (and_parts (not (has_undone DonePart.Files r)) (not (has_undone DonePart.Keys r)) both).0) (ap (is_part_of DonePart.Files) is)
     go (Settings ss) is = none DonePart.Keys (not-true _ (and_parts (not (has_undone DonePart.Files r)) (not (has_undone DonePart.Keys r)) both).1) (ap (is_part_of DonePart.Keys) is)
 
-module _ (x : Present) (sound : IsSoundCourse x) (files : IsSoundFiles x) (good : IsGoodState x.recorded) (agreed : Agreed x) (t : Transaction) (there : IsIn t x.transactions.items) (caller : Option Enlistment) where
-  abbrev c : Course
-  c = course_of x t caller
-
+module _ (x : Present) (sound : IsSoundCourse x) (files : IsSoundFiles x) (good : IsGoodState x.recorded) (agreed : Agreed x) (t : Transaction) (there : IsIn t x.transactions.items) where
   abbrev boot : ℕ
   boot = x.recorded.boots
 
@@ -89,8 +89,8 @@ module _ (x : Present) (sound : IsSoundCourse x) (files : IsSoundFiles x) (good 
   abbrev had : Was x t (placed-at x sound t there)
   had = was x sound t there agreed.agrees
 
-  own-is : map summary_of (if_there had.o) ≡ course_summaries c
-  own-is = had.own ∙ begun x t caller
+  own-is : (caller : Option Enlistment) → map summary_of (if_there had.o) ≡ course_summaries (course_of x t caller)
+  own-is caller = had.own ∙ begun x t caller
 
   its-record : (r : Recorded) → had.o ≡ Some r → IsIn r (if_there had.o)
   its-record r is = subst (λ o. IsIn r (if_there o)) (sym is) (inl refl)
@@ -100,13 +100,16 @@ module _ (x : Present) (sound : IsSoundCourse x) (files : IsSoundFiles x) (good 
 
   -- ---- a superior decides
 
-  pub follows-decision : stage_in t.phase ≡ Some Stage.Held → t.is_recorded ≡ true → Follows x t.id had.before had.behind (committing c)
-  follows-decision waits recorded = go (summary-one had.o (course_now c Stage.Held) (own-is ∙ has))
+  pub follows-decision : (caller : Option Enlistment) → stage_in t.phase ≡ Some Stage.Held → t.is_recorded ≡ true → Follows x t.id had.before had.behind (run commits (course_of x t caller))
+  follows-decision caller waits recorded = go (summary-one had.o (course_now c Stage.Held) (own-is caller ∙ has))
     where
+      c : Course
+      c = course_of x t caller
+
       has : course_summaries c ≡ course_now c Stage.Held ∷ []
       has = rw recorded (ap (course_in c) waits)
 
-      go : (r : Recorded) × (had.o ≡ Some r) × (summary_of r ≡ course_now c Stage.Held) → Follows x t.id had.before had.behind (committing c)
+      go : (r : Recorded) × (had.o ≡ Some r) × (summary_of r ≡ course_now c Stage.Held) → Follows x t.id had.before had.behind (run commits (course_of x t caller))
       go (r, is, same) =
           let stage' : r.stage ≡ Stage.Held = ap (λ (s : Summary). s.stage) same in
           let changes' : changes_of r ≡ c.changes = ap (λ (s : Summary). s.changes) same in
@@ -123,28 +126,34 @@ module _ (x : Present) (sound : IsSoundCourse x) (files : IsSoundFiles x) (good 
   -- ---- an enlistment has committed
 
   module _ (e : Enlistment) (in_es : IsIn e x.transactions.enlistments) (own : same_id e.transaction t.id ≡ true) (owes : owes_commit e ≡ true) where
+    abbrev c : Course
+    c = course_of x t (Some e)
+
     rises : RiseEnlistments c.enlistments
     rises = sound.enlistments.rise
 
     stands : Stands boot c
-    stands = stands-now x t caller sound there
+    stands = stands-now x t (Some e) sound there
 
     brought : (g : Enlistment) → IsIn g c.enlistments → is_unrecovered_well boot c.managers g ≡ true
-    brought = brought-now x t caller sound
+    brought = brought-now x t (Some e) sound
 
     part : takes_part t.id e ≡ true
-    part = takes_part-owing boot c stands brought rises e in_es own Owed.Commit (owed-commit e owes)
+    part = takes_part-owing boot c e stands brought rises in_es own Owed.Commit (owed-commit e owes)
 
     -- it owes nothing, and has finished
     abbrev done_now : Enlistment → Enlistment
-    done_now g = record g { owes = None; is_finished = true }
+    done_now = answered Answered.Finished
+
+    abbrev c_finished : Course
+    c_finished = changing_one c e.id done_now
 
     -- where it commits in one phase nothing is recorded
-    pub follows-single_committed : t.phase ≡ SinglePhase → Follows x t.id had.before had.behind (ended (finished c e) CommittedOutcome)
+    pub follows-single_committed : t.phase ≡ SinglePhase → Follows x t.id had.before had.behind (ended c_finished CommittedOutcome)
     unfolding ended
     follows-single_committed phase =
         let other : t.is_recorded ≡ false = not-true _ (stands-in boot c SinglePhase phase stands).recorded in
-        follows-from x t.id had.before had.behind (ended (finished c e) CommittedOutcome) had.o [] [] refl refl had.tracks (own-is ∙ none-unrecorded c other ∙ sym (none-in (ended (finished c e) CommittedOutcome) refl)) (carried-itself x sound agreed t there)
+        follows-from x t.id had.before had.behind (ended c_finished CommittedOutcome) had.o [] [] refl refl had.tracks (own-is (Some e) ∙ none-unrecorded c other ∙ sym (none-in (ended c_finished CommittedOutcome) refl)) (carried-itself x sound agreed t there)
 
     module _ (phase : t.phase ≡ Committing) where
       at : Stands boot (in_phase c Committing)
@@ -158,7 +167,7 @@ module _ (x : Present) (sound : IsSoundCourse x) (files : IsSoundFiles x) (good 
       done_events = event_if (is_durable_at c.managers e.manager) (Event.Done t.id (DonePart.Enlistment e.id))
 
       abbrev d : Course
-      d = recording (finished c e) done_events
+      d = recording c_finished done_events
 
       finished-not : is_kept c (done_now e) ≡ false
       finished-not = and_right _ false refl
@@ -175,7 +184,7 @@ module _ (x : Present) (sound : IsSoundCourse x) (files : IsSoundFiles x) (good 
       follows-unrecorded other =
           let ends = ends-if_finished d phase in
           follows-from x t.id had.before had.behind (ended_if_finished d CommittedOutcome) had.o [] [] (ends.events ∙ nothing) ends.works had.tracks
-          (own-is ∙ none-unrecorded c other ∙ sym (ends.summaries ∙ (λ i. if other i then course_in d (Some Stage.Decided) else []))) (carried-itself x sound agreed t there)
+          (own-is (Some e) ∙ none-unrecorded c other ∙ sym (ends.summaries ∙ (λ i. if other i then course_in d (Some Stage.Decided) else []))) (carried-itself x sound agreed t there)
         where
           volatile : is_durable_at c.managers e.manager ≡ false
           volatile = elim (or_cases t.is_recorded (not (has_durable_part c.managers c.enlistments t.id (λ g. not g.is_finished))) at.recorded) [
@@ -199,7 +208,7 @@ module _ (x : Present) (sound : IsSoundCourse x) (files : IsSoundFiles x) (good 
         follows-volatile_done volatile =
             let ends = ends-if_finished d phase in
             follows-from x t.id had.before had.behind (ended_if_finished d CommittedOutcome) had.o [] [] (ends.events ∙ ap (λ b. event_if b (Event.Done t.id (DonePart.Enlistment e.id))) volatile) ends.works had.tracks
-            (own-is ∙ has ∙ sym (ends.summaries ∙ staying-is ∙ same)) (carried-itself x sound agreed t there)
+            (own-is (Some e) ∙ has ∙ sym (ends.summaries ∙ staying-is ∙ same)) (carried-itself x sound agreed t there)
           where
             not-kept : is_kept c e ≡ false
             not-kept = and_left _ _ (and_left _ _ (and_right (takes_part t.id e) _ volatile))
@@ -298,7 +307,7 @@ module _ (x : Present) (sound : IsSoundCourse x) (files : IsSoundFiles x) (good 
                 (settled-summaries d r_done settles ∙ sym (ends.summaries ∙ staying-is)) (λ q there'. subst (λ u. is_carried_out u ≡ true) (in-while r_done q there') (settled-carried r_done settles.undone))
 
           follows-durable_done : Follows x t.id had.before had.behind (ended_if_finished d CommittedOutcome)
-          follows-durable_done = let one = summary-one had.o (course_now c Stage.Decided) (own-is ∙ has ∙ now) in follows-one one.0 one.1 one.2
+          follows-durable_done = let one = summary-one had.o (course_now c Stage.Decided) (own-is (Some e) ∙ has ∙ now) in follows-one one.0 one.1 one.2
 
       follows-done : Follows x t.id had.before had.behind (ended_if_finished d CommittedOutcome)
       follows-done = elim (cases_Bool t.is_recorded) [
@@ -306,12 +315,11 @@ module _ (x : Present) (sound : IsSoundCourse x) (files : IsSoundFiles x) (good 
         | inl recorded ↦ elim (cases_Bool (is_durable_at c.managers e.manager)) [ inl durable ↦ follows-durable_done recorded durable | inr volatile ↦ follows-volatile_done recorded volatile ]
       ]
 
-    pub follows-commit_answered : Follows x t.id had.before had.behind (commit_answered c e)
-    unfolding commit_answered
-    follows-commit_answered = if_cases (λ f. Follows x t.id had.before had.behind f) (is_single_phase t.phase) (ended (finished c e) CommittedOutcome)
-        (ended_if_finished (recording (finished c e) (event_if (is_durable_at c.managers e.manager) (Event.Done t.id (DonePart.Enlistment e.id)))) CommittedOutcome)
+    pub follows-commit_complete : Follows x t.id had.before had.behind (led PhaseInput.CommitComplete c)
+    unfolding led
+    follows-commit_complete = choose (λ steps. Follows x t.id had.before had.behind (run steps c_finished)) (is_single_phase t.phase) _ _
         (λ single. elim committing-or [ inl phase ↦ absurd (true≢false (sym single ∙ ap is_single_phase phase)) | inr phase ↦ follows-single_committed phase ])
         (λ several. elim committing-or [ inr phase ↦ absurd (true≢false (sym (ap is_single_phase phase) ∙ several)) | inl phase ↦ follows-done phase ])
       where
         committing-or : (t.phase ≡ Committing) ⊎ (t.phase ≡ SinglePhase)
-        committing-or = is-committing t.phase (phase-owing boot c stands brought rises e in_es own Owed.Commit (owed-commit e owes))
+        committing-or = is-committing t.phase (phase-owing boot c e stands brought rises in_es own Owed.Commit (owed-commit e owes))

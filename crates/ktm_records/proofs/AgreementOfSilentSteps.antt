@@ -1,36 +1,36 @@
 -- What was recorded agrees with what is so now after steps of a transaction that record nothing.
 use Rattle.std.specs.Prelude.{if◌then◌else◌}
-use Rattle.std.proofs.Common.{subst, ◌≡◌, ◌&&◌, not, Bool, true, false, List, [], ◌∷◌, map, filter, Option, Some, None, refl, sym, ◌∙◌, ap, inl, inr}
-use Rattle.std.proofs.lemmas.Bool.{cases_Bool}
+use Rattle.std.proofs.Common.{◌≡◌, ◌&&◌, not, Bool, true, false, List, [], ◌∷◌, map, filter, Option, Some, None, refl, sym, ◌∙◌, ap, inl, inr}
+use Rattle.std.proofs.lemmas.Bool.{cases_Bool, true≢false}
 use Rattle.std.specs.List.{list_any}
 use Rattle.ktm_base.specs.declared.id.Id.{Id}
-use Rattle.ktm_base.specs.declared.notify.Notify.{Notify}
 use Rattle.ktm_types.specs.declared.input.PhaseInput.{PhaseInput}
-use Rattle.ktm_types.specs.declared.object.Phase.{Phase}
-use Rattle.ktm_types.specs.declared.object.Phase.TheVariants.{InDoubt, Committing, Aborting}
+use Rattle.ktm_types.specs.declared.object.Phase.TheVariants.{Aborting}
 use Rattle.ktm_types.specs.declared.object.Transaction.{Transaction}
 use Rattle.ktm_types.specs.declared.object.TransactionOutcome.TheVariants.{Aborted}
 use Rattle.ktm_types.specs.declared.recorded.Stage.{Stage}
 use Rattle.ktm_types.specs.declared.reply.Reply.{Reply}
-use Rattle.ktm_types.specs.declared.step.Owed.{Owed}
 use Rattle.ktm_world.specs.Enlistments.{Enlistment, Sent, has_id, is_durable_at, is_superior, is_unfinished, superior_of, takes_part, with_enlistments}
 use Rattle.ktm_world.specs.Lawful.{brought_back, is_held_stage, stage_in, stays, superior_now}
 use Rattle.ktm_world.specs.Outcome.{apply}
-use Rattle.ktm_world.specs.Phases.{Course, ended, owing, telling, unchanged}
+use Rattle.ktm_world.specs.Phases.{Course, ended, owing, unchanged, changing_one}
 use Rattle.ktm_world.specs.Present.{Present}
 use Rattle.ktm_world.specs.TransactionCalls.{arrived, course_of, recovery_of}
 use Rattle.ktm_world.specs.Transactions.{same_id}
 use Rattle.ktm_world.specs.World.{by_rising_id}
 use Rattle.ktm_world.specs.Durable.{is_ready}
-use Rattle.ktm_world.specs.Steps.{led}
-use Rattle.ktm_steps.proofs.offered.Table.{rows_law}
-use Rattle.ktm_steps.specs.Procedures.{recovering, finished, recovered, recovered_in, rollback_answered}
+use Rattle.ktm_world.specs.Steps.{led, answered, carried, changing, is_meant, run, seen}
 use Rattle.txf_laws.specs.Elements.{IsIn}
 use Rattle.ktm_courses.specs.SoundCourse.{IsSoundCourse}
 use Rattle.ktm_records.proofs.offered.Agreement.{Agreed, filter-alike}
 use Rattle.ktm_records.proofs.offered.AgreementOfCourses.{agreed-arrived, begun, carried-itself, course_enlistments, course_in, course_summaries, follows-from, none-in, none-unrecorded, was}
 use Rattle.ktm_courses.proofs.offered.Moves.{if_cases}
-use Rattle.ktm_courses.proofs.offered.Procedures.{Arrives}
+use Rattle.ktm_courses.proofs.offered.Endings.{Arrives}
+use Rattle.ktm_steps.specs.Laws.{by}
+use Rattle.ktm_steps.proofs.offered.Lists.{Pass, row-passes, row_lists}
+use Rattle.ktm_world.specs.Rows.{row}
+use Rattle.ktm_types.specs.declared.step.Answered.{Answered}
+use Rattle.ktm_types.specs.declared.step.Step.{Step}
 
 -- a step records and commits nothing, and the log has to have of the transaction what it had to have
 pub record IsSilent (c d : Course) : Type 0 where
@@ -132,33 +132,40 @@ silent-unrecorded c d events works other same = record { events = events; works 
 silent-nothing : (c d : Course) → d.events ≡ c.events → d.works ≡ c.works → stage_in c.transaction.phase ≡ None → stage_in d.transaction.phase ≡ None → IsSilent c d
 silent-nothing c d events works before after = record { events = events; works = works; summaries = none-in d after ∙ sym (none-in c before) }
 
-pub silent-rollback_answered : (c : Course) (e : Enlistment) → c.caller ≡ Some e → c.transaction.phase ≡ Aborting → IsSilent c (led PhaseInput.RollbackComplete c)
-unfolding rollback_answered ended
-silent-rollback_answered c e calls phase =
-    let d = finished c e in
-    subst (IsSilent c) (sym (rows_law.rollback_completes c e calls)) (if_cases (λ x. IsSilent c x) (list_any (is_unfinished d.transaction.id) d.enlistments) d (ended d Aborted)
-    (λ some. silent-nothing c d refl refl (ap stage_in phase) (ap stage_in phase)) (λ none. silent-nothing c (ended d Aborted) refl refl (ap stage_in phase) refl))
+pub silent-rollback_complete : (c : Course) (e : Enlistment) → c.transaction.phase ≡ Aborting → IsSilent (by c e) (led PhaseInput.RollbackComplete (by c e))
+unfolding led ended
+silent-rollback_complete c e phase =
+    let d = changing_one (by c e) e.id (answered Answered.Finished) in
+    if_cases (λ x. IsSilent (by c e) x) (list_any (is_unfinished d.transaction.id) d.enlistments) d (ended d Aborted)
+    (λ some. silent-nothing (by c e) d refl refl (ap stage_in phase) (ap stage_in phase)) (λ none. silent-nothing (by c e) (ended d Aborted) refl refl (ap stage_in phase) refl)
 
-pub silent-single_phase_rejected : (c : Course) → c.transaction.is_recorded ≡ false → IsSilent c (led PhaseInput.SinglePhaseReject c)
+pub silent-single_phase_reject : (c : Course) → c.transaction.is_recorded ≡ false → IsSilent c (led PhaseInput.SinglePhaseReject c)
 unfolding led
-silent-single_phase_rejected c other = silent-unrecorded c _ refl refl other refl
+silent-single_phase_reject c other = silent-unrecorded c _ refl refl other refl
 
-pub silent-recovered : (c : Course) (e : Enlistment) → c.caller ≡ Some e → IsSilent c (led (recovery_of e) c)
-unfolding recovered
-silent-recovered c e calls = subst (IsSilent c) (sym (rows_law.recovers c e calls)) (if_cases (λ x. IsSilent c x) (is_superior e) (telling d (has_id e.id) Notify.RecoverQuery unchanged) (recovered_in c.transaction.phase d e)
-    (λ above. told Notify.RecoverQuery unchanged (λ f. alike-same f)) (λ below. in-phase c.transaction.phase))
-  where
-    d : Course
-    d = recovering c e
+-- ---- rows by which enlistments recover, or are told something
 
-    back : IsSilent c d
-    back = silent-changing c (has_id e.id) (λ f. record f { is_recovered = true }) c.sent (λ f. record { back = refl; kind = refl; read_only = refl; prepared = refl; finished = refl })
+-- is nothing else done
+abbrev tells_only : List Step → Bool
+tells_only [] = true
+tells_only (Step.Tell who kind ∷ steps) = tells_only steps
+tells_only (Step.Ask who kind owed ∷ steps) = tells_only steps
+tells_only (Step.Change Answered.Recovered ∷ steps) = tells_only steps
+tells_only _ = false
 
-    told : (kind : Notify) (f : Enlistment → Enlistment) → ((g : Enlistment) → IsBackAlike g (f g)) → IsSilent c (telling d (has_id e.id) kind f)
-    told kind f alike = silent-then back (silent-changing d (has_id e.id) f _ alike)
+silent-recovering : (c : Course) (o : Option Enlistment) → IsSilent c (changing c o (answered Answered.Recovered))
+silent-recovering c None = record { events = refl; works = refl; summaries = refl }
+silent-recovering c (Some e) = silent-changing c (has_id e.id) (answered Answered.Recovered) c.sent (λ f. record { back = refl; kind = refl; read_only = refl; prepared = refl; finished = refl })
 
-    in-phase : (phase : Phase) → IsSilent c (recovered_in phase d e)
-    in-phase InDoubt = told Notify.Indoubt unchanged (λ f. alike-same f)
-    in-phase Committing = told Notify.Commit (owing Owed.Commit) (λ f. record { back = refl; kind = refl; read_only = refl; prepared = refl; finished = refl })
-    in-phase Aborting = told Notify.Rollback (owing Owed.Rollback) (λ f. record { back = refl; kind = refl; read_only = refl; prepared = refl; finished = refl })
-    in-phase _ = back
+silent-run : (steps : List Step) (c : Course) → tells_only steps ≡ true → IsSilent c (run steps c)
+silent-run [] c only = record { events = refl; works = refl; summaries = refl }
+silent-run (Step.Tell who kind ∷ steps) c only = silent-then (silent-changing c (is_meant who c) unchanged (carried (Step.Tell who kind) c).sent alike-same) (silent-run steps (carried (Step.Tell who kind) c) only)
+silent-run (Step.Ask who kind owed ∷ steps) c only =
+    silent-then (silent-changing c (is_meant who c) (owing owed) (carried (Step.Ask who kind owed) c).sent (λ f. record { back = refl; kind = refl; read_only = refl; prepared = refl; finished = refl })) (silent-run steps (carried (Step.Ask who kind owed) c) only)
+silent-run (Step.Change Answered.Recovered ∷ steps) c only = silent-then (silent-recovering c c.caller) (silent-run steps (carried (Step.Change Answered.Recovered) c) only)
+silent-run (_ ∷ steps) c only = absurd (true≢false (sym only))
+
+pub silent-recovered : (c : Course) (e : Enlistment) → IsSilent c (led (recovery_of e) c)
+unfolding led
+silent-recovered c e = silent-run (row (seen c) (recovery_of e)) c (row-passes tells_only (seen c) (recovery_of e)
+    (if_cases (λ input. Pass tells_only (row_lists input)) (is_superior e) PhaseInput.RecoverSuperior PhaseInput.Recover (λ above. (refl, tt)) (λ below. (refl, (refl, (refl, (refl, tt)))))))

@@ -20,10 +20,8 @@ use Rattle.ktm_world.specs.Outcome.{committed_now}
 use Rattle.ktm_world.specs.Phases.{Course, ended, in_phase, one_if, owing, telling, work_of, recording}
 use Rattle.ktm_world.specs.Present.{Present}
 use Rattle.ktm_world.proofs.offered.Durables.{after_events-append}
-use Rattle.ktm_world.specs.Steps.{led, run}
-use Rattle.ktm_steps.proofs.offered.Table.{all_readies-run}
+use Rattle.ktm_world.specs.Steps.{led, run, seen}
 use Rattle.ktm_steps.proofs.offered.Ways.{Ways, commit-by, pre_prepare-by, prepare-by, proceed-by}
-use Rattle.ktm_steps.specs.Procedures.{pre_prepared}
 use Rattle.ktm_records.proofs.AgreementOfCommits.{works-done}
 use Rattle.ktm_records.proofs.offered.AgreementOfCourses.{Follows, course_summaries, follows-from, none-in, none-unrecorded}
 use Rattle.ktm_records.proofs.ReadyCourses.{Prepares, follows-preparing, readies-alike}
@@ -31,6 +29,7 @@ use Rattle.ktm_records.proofs.AgreementOfSilentSteps.{enlistments-alike}
 use Rattle.ktm_records.proofs.LoggedTransaction.{AreDrawn, Tracks, tracks-single}
 use Rattle.ktm_records.proofs.ReadyParts.{none-changed, none-counted, none-set}
 use Rattle.ktm_records.proofs.AgreementOfPrepared.{follows-all_ready}
+use Rattle.ktm_world.specs.Rows.{proceeds}
 
 -- ---- nobody is prepared yet
 
@@ -70,7 +69,7 @@ module _ (x : Present) (before behind : List Recorded) (c : Course) (prepares : 
   follows-nobody = follows-nothing (ended c CommittedOutcome) refl refl (none-in (ended c CommittedOutcome) refl)
 
   -- each way to go on
-  follows-ways : Ways (λ steps. Follows x id before behind (run steps c)) c
+  follows-ways : Ways (λ steps. Follows x id before behind (run steps c)) (seen c)
   follows-ways = record {
     requested = λ has. follows-unrecorded (run (Step.Tell Who.Superior Notify.CommitRequest ∷ Step.Enter Requested ∷ []) c) refl refl refl;
     pre_prepared = λ has. follows-unrecorded (run (Step.Tell Who.Superior Notify.PrePrepareComplete ∷ Step.Enter PrePrepared ∷ []) c) refl refl refl;
@@ -80,13 +79,13 @@ module _ (x : Present) (before behind : List Recorded) (c : Course) (prepares : 
     files = λ one changes. let counted = ap one_if changes in follows-single (Part.Changes c.changes) refl (sym (none-set c.settings (none-counted _ (omega (arith, one, counted)))));
     keys = λ one no_changes settings. follows-single (Part.Settings c.settings) (sym (none-changed c.changes no_changes)) refl;
     nobody = λ none. follows-nobody;
-    ready = λ none. subst (Follows x id before behind) (sym (all_readies-run c)) (follows-all_ready x before behind c None prepares (λ recorded. absurd (true≢false (sym recorded ∙ prepares.has))));
+    ready = λ none. follows-all_ready x before behind c None prepares (λ recorded. absurd (true≢false (sym recorded ∙ prepares.has)));
   }
 
   pub follows-to_prepare : Follows x id before behind (led PhaseInput.Prepare c)
   follows-to_prepare = prepare-by (Follows x id before behind) c follows-ways
 
-  pub follows-pre_prepared : Follows x id before behind (pre_prepared c)
+  pub follows-pre_prepared : Follows x id before behind (run (proceeds (seen c)) c)
   follows-pre_prepared = proceed-by (Follows x id before behind) c follows-ways
 
   pub follows-to_pre_prepare : Follows x id before behind (led PhaseInput.PrePrepare c)

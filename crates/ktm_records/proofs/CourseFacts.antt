@@ -1,43 +1,42 @@
 -- What the calls on transactions and enlistments record applies, but for the limits.
-use Rattle.std.proofs.Common.{◌≡◌, ◌&&◌, not, Bool, true, false, nat_lt, List, Option, Some, None, refl, sym, ◌∙◌, ap, subst, inl, inr}
+use Rattle.std.proofs.Common.{◌≡◌, ◌&&◌, not, true, false, nat_lt, Option, Some, None, refl, sym, ◌∙◌, ap, subst, inl, inr, []}
 use Rattle.std.proofs.lemmas.Bool.{and_from, and_parts, not-true, not_from_false, or_cases, true≢false, false_from_ne_true}
 use Rattle.std.proofs.lemmas.Option.{none-some, same_Some}
-use Rattle.ktm_base.specs.declared.id.Id.{Id}
 use Rattle.ktm_types.specs.declared.input.PhaseInput.{PhaseInput}
 use Rattle.ktm_types.specs.declared.object.Phase.{Phase}
-use Rattle.ktm_types.specs.declared.object.Phase.TheVariants.{Active, Requested, PrePreparing, PrePrepared, Held, InDoubt, Committing, Aborting, Ended}
+use Rattle.ktm_types.specs.declared.object.Phase.TheVariants.{Held, InDoubt, Committing, Aborting, Ended}
 use Rattle.ktm_types.specs.declared.object.Transaction.{Transaction}
-use Rattle.ktm_types.specs.declared.object.TransactionOutcome.TheVariants.{Aborted}
 use Rattle.ktm_types.specs.declared.recorded.Stage.{Stage}
 use Rattle.ktm_types.specs.declared.reply.Reply.TheVariants.{Done}
 use Rattle.ktm_types.specs.declared.step.Owed.{Owed}
 use Rattle.ktm_world.specs.Durable.{is_new_enlistment, is_ready}
-use Rattle.ktm_world.specs.Enlistments.{Enlistment, Manager, is_durable_at, is_open_for_votes, is_superior, owes_commit, owes_pre_prepare, owes_prepare, takes_part}
+use Rattle.ktm_world.specs.Enlistments.{Enlistment, is_durable_at, is_open_for_votes, is_superior, owes_commit, owes_pre_prepare, owes_prepare, takes_part}
 use Rattle.ktm_world.specs.Labels.{transaction_tests}
 use Rattle.ktm_world.specs.Lawful.{stage_in}
-use Rattle.ktm_world.specs.Phases.{Course, is_single_phase}
+use Rattle.ktm_world.specs.Phases.{is_single_phase}
 use Rattle.ktm_world.specs.Present.{Present}
-use Rattle.ktm_world.specs.Steps.{led, share_of}
-use Rattle.ktm_world.specs.TransactionCalls.{answering, before_pre_prepare, before_prepare, commit_of, commit_reply, course_of, enlistment_tests, goes_on, is_voting, may_roll_back_by, may_vote, phase_passes, rollback_of, rollback_transaction_tests, superior_tests, transaction_in, waits_for_superior, recovery_of}
+use Rattle.ktm_world.specs.Steps.{led, share_of, basis, seen}
+use Rattle.ktm_world.specs.TransactionCalls.{answering, before_pre_prepare, before_prepare, commit_of, commit_reply, course_of, enlistment_tests, is_voting, may_roll_back_by, may_vote, phase_passes, rollback_of, rollback_transaction_tests, superior_tests, transaction_in, waits_for_superior, recovery_of}
 use Rattle.ktm_world.specs.Transactions.{is_undecided, same_id}
-use Rattle.ktm_steps.proofs.offered.Table.{rows_law}
-use Rattle.ktm_steps.specs.Procedures.{finished}
 use Rattle.txf_laws.specs.Elements.{IsIn}
 use Rattle.ktm_records.specs.Kept.{IsKept, facts_apply}
 use Rattle.ktm_courses.specs.SoundCourse.{has_durable_part, is_outcome_of, is_part_as, is_phase_back, is_recorded_as, owes_until_finished}
 use Rattle.ktm_courses.proofs.offered.EnlistmentAnswers.{here-from, is-committing, is-pre_preparing, owed-commit, owed-pre_prepare, part_preparing, phase-owing, phase_preparing, takes_part-owing, unprepared, until-owed}
 use Rattle.ktm_courses.proofs.offered.Arrivals.{brought-now, stands-now}
-use Rattle.ktm_courses.proofs.offered.Calls.{Passes, active-phase, enlistment-allowed, may-roll, passed, phase-passed, rolls, superior-allowed, transaction_at-found}
-use Rattle.ktm_courses.proofs.offered.Leads.{leads-pre_prepare, leads-prepare, leads-read_only}
+use Rattle.ktm_courses.proofs.offered.Calls.{Passes, active-phase, enlistment-allowed, may-roll, passed, phase-passed, rolls, superior-allowed, of-answering}
 use Rattle.txf_laws.proofs.offered.Elements.{list_all-at, list_any-from, not-not}
 use Rattle.ktm_records.proofs.offered.AgreementOfCourses.{arrival}
 use Rattle.ktm_records.proofs.LoggedStages.{can-decide, can-finish, may-ready, new-part}
-use Rattle.ktm_courses.proofs.offered.Moves.{same-by_id}
-use Rattle.ktm_courses.proofs.offered.Procedures.{Stands, part-parts}
-use Rattle.ktm_records.proofs.CourseRecords.{IsOn, facts-commit_answered, facts-committing, facts-if_finished, facts-pre_prepare_answered, facts-prepare_answered, facts-read_only_answered, facts-to_commit, facts-to_pre_prepare, facts-to_prepare}
-use Rattle.ktm_records.proofs.AgreementOfSilentSteps.{silent-recovered}
-use Rattle.txf_laws.proofs.offered.Tables.{same_id-equal, same_id-from}
+use Rattle.ktm_courses.proofs.offered.Moves.{same-by_id, of-superior}
+use Rattle.ktm_courses.proofs.offered.Endings.{Stands, part-parts}
+use Rattle.ktm_records.proofs.CourseRecords.{Apply, MayReady, apply-commit_completes, apply-commits, apply-prepare_completes, apply-read_onlies, apply-ways}
+use Rattle.txf_laws.proofs.offered.Tables.{same_id-equal}
 use Rattle.ktm_records.proofs.UndoFacts.{FactsOf, facts-aborted_by}
+use Rattle.ktm_steps.proofs.offered.Recorded.{led-events, records_nothing, silent-led, silent-recovery}
+use Rattle.ktm_steps.proofs.offered.Lists.{Pass, row_lists}
+use Rattle.ktm_steps.proofs.offered.Ways.{Ways, choose, pre_prepares-by, prepares-by, proceeds-by, requests-by}
+use Rattle.ktm_world.specs.Rows.{is_last, proceeds, row}
+use Rattle.ktm_records.proofs.offered.Stages.{early-pre_prepare, early-prepare, early-unrecorded, early-voting, is_early, voting-stage, waiting-held, waiting-recorded}
 
 -- ---- phases
 
@@ -49,40 +48,6 @@ ready-phase Committing is = absurd (true≢false (sym (ap is_ready (same_Some _ 
 ready-phase Aborting is = absurd (none-some _ is)
 ready-phase Ended is = absurd (none-some _ is)
 ready-phase _ is = (refl, λ t is'. is')
-
--- in a phase in which no enlistment is prepared the log does not have it
-Early : Phase → Type 0
-Early phase = (stage_in phase ≡ Some Stage.Ready) × ((ms : List Manager) (es : List Enlistment) (id : Id) (recorded : Bool) → is_recorded_as phase ms es id recorded ≡ true → recorded ≡ false)
-
-early-pre_prepare : (phase : Phase) → before_pre_prepare phase ≡ true → Early phase
-unfolding Early
-early-pre_prepare Active is = (refl, λ ms es id recorded is'. not-true _ is')
-early-pre_prepare Requested is = (refl, λ ms es id recorded is'. not-true _ is')
-early-pre_prepare _ is = absurd (true≢false (sym is))
-
-early-prepare : (phase : Phase) → before_prepare phase ≡ true → Early phase
-unfolding Early
-early-prepare Active is = (refl, λ ms es id recorded is'. not-true _ is')
-early-prepare Requested is = (refl, λ ms es id recorded is'. not-true _ is')
-early-prepare PrePrepared is = (refl, λ ms es id recorded is'. not-true _ is')
-early-prepare _ is = absurd (true≢false (sym is))
-
-early-pre_preparing : Early PrePreparing
-unfolding Early
-early-pre_preparing = (refl, λ ms es id recorded is'. not-true _ is')
-
-ready-voting : (phase : Phase) → is_voting phase ≡ true → stage_in phase ≡ Some Stage.Ready
-ready-voting Held is = absurd (true≢false (sym is))
-ready-voting InDoubt is = absurd (true≢false (sym is))
-ready-voting Committing is = absurd (true≢false (sym is))
-ready-voting Aborting is = absurd (true≢false (sym is))
-ready-voting Ended is = absurd (true≢false (sym is))
-ready-voting _ is = refl
-
-held-waiting : (phase : Phase) → waits_for_superior phase ≡ true → (stage_in phase ≡ Some Stage.Held) × ((ms : List Manager) (es : List Enlistment) (id : Id) (recorded : Bool) → is_recorded_as phase ms es id recorded ≡ true → recorded ≡ true)
-held-waiting Held waits = (refl, λ ms es id recorded is. is)
-held-waiting InDoubt waits = (refl, λ ms es id recorded is. is)
-held-waiting _ waits = absurd (true≢false (sym waits))
 
 module _ (x : Present) (kept : IsKept x) where
   -- ---- a transaction on its way
@@ -101,34 +66,32 @@ module _ (x : Present) (kept : IsKept x) where
       undecided' : is_undecided t ≡ true
       undecided' = (ready-phase t.phase is).1 t stands.outcome
 
-      is-on : IsOn x.recorded (course_of x t caller)
-      is-on = record { facts = refl; may = may-ready x kept t there caller is here undecided' }
+      readies : MayReady x.recorded (basis (course_of x t caller)) false false
+      readies = may-ready x kept t there caller is here undecided'
 
       -- an enlistment that is not prepared is new to the log
       is-new : (e : Enlistment) → IsIn e x.transactions.enlistments → same_id e.transaction t.id ≡ true → e.is_prepared ≡ false → is_durable_at x.managers e.manager ≡ true → is_new_enlistment x.recorded e.id e.manager e.information ≡ true
       is-new e in_es own other durable = new-part x kept t there caller is here undecided' e in_es own durable (inr other)
 
-    is-unrecorded : Early t.phase → t.is_recorded ≡ false
-    unfolding Early
-    is-unrecorded early = early.1 x.managers x.transactions.enlistments t.id t.is_recorded is-recorded
+    is-unrecorded : is_early t.phase ≡ true → t.is_recorded ≡ false
+    is-unrecorded early = early-unrecorded t.phase x.managers x.transactions.enlistments t.id t.is_recorded early is-recorded
 
-    is-early : Early t.phase → IsOn x.recorded (course_of x t caller)
-    unfolding Early
-    is-early early = is-on early.0
+    ways : is_early t.phase ≡ true → Ways (λ steps. Apply x.recorded steps (basis (course_of x t caller))) (seen (course_of x t caller))
+    ways early = apply-ways x.recorded (basis (course_of x t caller)) (seen (course_of x t caller)) refl refl (readies (voting-stage t.phase (early-voting t.phase early))) (is-unrecorded early)
 
   -- ---- calls on transactions
 
-  -- what applies of where a row leads, as its procedure says
-  by : {d e : Course} → d ≡ e → facts_apply x.recorded e.events ≡ true → facts_apply x.recorded d.events ≡ true
-  by is applies = ap (λ (c : Course). facts_apply x.recorded c.events) is ∙ applies
+  -- what its row records applies
+  by-row : (input : PhaseInput) (t : Transaction) (caller : Option Enlistment) → Apply x.recorded (row (seen (course_of x t caller)) input) (basis (course_of x t caller)) → facts_apply x.recorded (led input (course_of x t caller)).events ≡ true
+  by-row input t caller applies = ap (facts_apply x.recorded) (led-events input (course_of x t caller) refl) ∙ applies
 
   pub facts-commit_of : (o : Option Transaction) → ((t : Transaction) → o ≡ Some t → IsIn t x.transactions.items) → Passes (transaction_tests o) → FactsOf x (commit_of x o)
   facts-commit_of None there tests = refl
   facts-commit_of (Some t) there tests =
       let here = passed tests in let committed = passed here.1 in let aborted = passed committed.1 in let active = passed aborted.1 in
-      let early = subst Early (sym (active-phase t (not-not _ active.0))) (early-pre_prepare Active refl) in
+      let early = ap is_early (active-phase t (not-not _ active.0)) in
       let c = course_of x t None in
-      ap (facts_apply x.recorded) (arrival x (led PhaseInput.CommitTransaction c) (commit_reply (led PhaseInput.CommitTransaction c))).events ∙ facts-to_commit x.recorded c (is-early t (there t refl) None early) (is-unrecorded t (there t refl) None early)
+      ap (facts_apply x.recorded) (arrival x (led PhaseInput.CommitTransaction c) (commit_reply (led PhaseInput.CommitTransaction c))).events ∙ by-row PhaseInput.CommitTransaction t None (requests-by (λ steps. Apply x.recorded steps (basis c)) (seen c) (ways t (there t refl) None early))
 
   pub facts-rollback_of : (o : Option Transaction) → ((t : Transaction) → o ≡ Some t → IsIn t x.transactions.items) → Passes (rollback_transaction_tests o) → FactsOf x (rollback_of x o)
   facts-rollback_of None there tests = refl
@@ -141,22 +104,16 @@ module _ (x : Present) (kept : IsKept x) where
   answers : (o : Option Enlistment) (input : Enlistment → PhaseInput)
       → ((e : Enlistment) → o ≡ Some e → (t : Transaction) → IsIn t x.transactions.items → same_id e.transaction t.id ≡ true → transaction_in x e ≡ Some t → facts_apply x.recorded (led (input e) (course_of x t (Some e))).events ≡ true)
       → FactsOf x (answering x o input)
-  answers None input each = refl
-  answers (Some e) input each = go (transaction_in x e) refl
-    where
-      go : (o : Option Transaction) → transaction_in x e ≡ o → FactsOf x (goes_on x e o (input e))
-      go None is = refl
-      go (Some t) is =
-          let found = transaction_at-found x.transactions.items e.transaction t is in
-          ap (facts_apply x.recorded) (arrival x (led (input e) (course_of x t (Some e))) Done).events ∙ each e refl t found.0 (same_id-from e.transaction t.id (sym found.1)) is
+  answers o input each = of-answering (FactsOf x) x o input refl (λ e is t at own found. ap (facts_apply x.recorded) (arrival x (led (input e) (course_of x t (Some e))) Done).events ∙ each e is t at own found)
 
   module _ (o : Option Enlistment) (in_es : (e : Enlistment) → o ≡ Some e → IsIn e x.transactions.enlistments) where
     pub facts-pre_prepare_complete : Passes (enlistment_tests o owes_pre_prepare) → FactsOf x (answering x o (λ e. PhaseInput.PrePrepareComplete))
     facts-pre_prepare_complete tests = answers o (λ e. PhaseInput.PrePrepareComplete) (λ e is t at own found.
         let owes = enlistment-allowed o owes_pre_prepare e is tests in
-        let phase = is-pre_preparing t.phase (phase-owing x.recorded.boots (course_of x t (Some e)) (stands t at (Some e)) (brought-now x t (Some e) kept.sound.course) kept.sound.course.enlistments.rise e (in_es e is) own Owed.PrePrepare (owed-pre_prepare e owes)) in
-        let early = subst Early (sym phase) early-pre_preparing in
-        by (leads-pre_prepare x kept.sound.course t at e (in_es e is) own owes) (facts-pre_prepare_answered x.recorded (course_of x t (Some e)) e (is-early t at (Some e) early) (is-unrecorded t at (Some e) early)))
+        let phase = is-pre_preparing t.phase (phase-owing x.recorded.boots (course_of x t (Some e)) e (stands t at (Some e)) (brought-now x t (Some e) kept.sound.course) kept.sound.course.enlistments.rise (in_es e is) own Owed.PrePrepare (owed-pre_prepare e owes)) in
+        let early = ap is_early phase in
+        let c = course_of x t (Some e) in
+        by-row PhaseInput.PrePrepareComplete t (Some e) (choose (λ steps. Apply x.recorded steps (basis c)) (is_last (seen c)) (proceeds (seen c)) [] (λ last. proceeds-by (λ steps. Apply x.recorded steps (basis c)) (seen c) (ways t at (Some e) early)) (λ waits. refl)))
 
     pub facts-prepare_complete : Passes (enlistment_tests o owes_prepare) → FactsOf x (answering x o (λ e. PhaseInput.PrepareComplete))
     facts-prepare_complete tests = answers o (λ e. PhaseInput.PrepareComplete) (λ e is t at own found.
@@ -164,21 +121,21 @@ module _ (x : Present) (kept : IsKept x) where
         let c = course_of x t (Some e) in
         let brought = brought-now x t (Some e) kept.sound.course in
         let rise = kept.sound.course.enlistments.rise in
-        let phase = phase_preparing x.recorded.boots c (stands t at (Some e)) brought rise e (in_es e is) own owes in
-        let part = part_preparing x.recorded.boots c (stands t at (Some e)) brought rise e (in_es e is) own owes in
+        let phase = phase_preparing x.recorded.boots c e (stands t at (Some e)) brought rise (in_es e is) own owes in
+        let part = part_preparing x.recorded.boots c e (stands t at (Some e)) brought rise (in_es e is) own owes in
         let ready : stage_in t.phase ≡ Some Stage.Ready = ap stage_in phase in
-        by (leads-prepare x kept.sound.course t at e (in_es e is) own owes) (facts-prepare_answered x.recorded c e (is-on t at (Some e) ready)
-        (λ durable. is-new t at (Some e) ready e (in_es e is) own (unprepared x.recorded.boots c (stands t at (Some e)) brought rise e (in_es e is) own owes).0 durable)
-        (λ f there above. false_from_ne_true _ (λ same.
+        by-row PhaseInput.PrepareComplete t (Some e) (apply-prepare_completes x.recorded (basis c) (seen c) e (readies t at (Some e) ready)
+        (λ durable. is-new t at (Some e) ready e (in_es e is) own (unprepared x.recorded.boots c e (stands t at (Some e)) brought rise (in_es e is) own owes).0 durable)
+        (of-superior (λ f. same_id e.id f.id ≡ false) x.transactions.enlistments t.id (λ f there above. false_from_ne_true _ (λ same.
         let one : e ≡ f = same-by_id (λ (g : Enlistment). g.id) x.transactions.enlistments rise e f (in_es e is) there (same_id-equal e.id f.id same) in
-        true≢false (sym (and_parts (same_id f.transaction t.id) (is_superior f) above).1 ∙ ap is_superior (sym one) ∙ (part-parts t.id e part).1)))))
+        true≢false (sym (and_parts (same_id f.transaction t.id) (is_superior f) above).1 ∙ ap is_superior (sym one) ∙ (part-parts t.id e part).1))))))
 
     pub facts-read_only : Passes (enlistment_tests o (may_vote x)) → FactsOf x (answering x o (λ e. PhaseInput.ReadOnly (share_of e)))
     facts-read_only tests = answers o (λ e. PhaseInput.ReadOnly (share_of e)) (λ e is t at own found.
         let may = enlistment-allowed o (may_vote x) e is tests in
-        let both = and_parts (not (is_superior e)) (is_open_for_votes e) (and_parts (not (is_superior e) && is_open_for_votes e) (phase_passes x is_voting e) may).0 in
         let voting = phase-passed x is_voting e t found (and_parts (not (is_superior e) && is_open_for_votes e) (phase_passes x is_voting e) may).1 in
-        by (leads-read_only x kept.sound.course t at e (in_es e is) own (not-true _ both.0) (not-true _ (and_parts (not e.is_read_only) (not e.is_prepared) both.1).0)) (facts-read_only_answered x.recorded (course_of x t (Some e)) e (is-on t at (Some e) (ready-voting t.phase voting)) (λ phase. is-unrecorded t at (Some e) (subst Early (sym phase) early-pre_preparing))))
+        let c = course_of x t (Some e) in
+        by-row (PhaseInput.ReadOnly (share_of e)) t (Some e) (apply-read_onlies x.recorded (basis c) (seen c) (share_of e) refl refl (readies t at (Some e) (voting-stage t.phase voting)) (λ phase. is-unrecorded t at (Some e) (ap is_early phase))))
 
     pub facts-commit_complete : Passes (enlistment_tests o owes_commit) → FactsOf x (answering x o (λ e. PhaseInput.CommitComplete))
     facts-commit_complete tests = answers o (λ e. PhaseInput.CommitComplete) (λ e is t at own found.
@@ -186,8 +143,8 @@ module _ (x : Present) (kept : IsKept x) where
         let brought = brought-now x t (Some e) kept.sound.course in
         let rise = kept.sound.course.enlistments.rise in
         let owed = owed-commit e (enlistment-allowed o owes_commit e is tests) in
-        let part = takes_part-owing x.recorded.boots c (stands t at (Some e)) brought rise e (in_es e is) own Owed.Commit owed in
-        by (rows_law.commit_completes (course_of x t (Some e)) e refl) (facts-commit_answered x.recorded c e refl (λ several durable. elim (is-committing t.phase (phase-owing x.recorded.boots c (stands t at (Some e)) brought rise e (in_es e is) own Owed.Commit owed)) [
+        let part = takes_part-owing x.recorded.boots c e (stands t at (Some e)) brought rise (in_es e is) own Owed.Commit owed in
+        by-row PhaseInput.CommitComplete t (Some e) (apply-commit_completes x.recorded (basis c) t.phase e (λ several durable. elim (is-committing t.phase (phase-owing x.recorded.boots c e (stands t at (Some e)) brought rise (in_es e is) own Owed.Commit owed)) [
           | inr single ↦ absurd (true≢false (ap is_single_phase (sym single) ∙ several))
           | inl phase ↦
               let both = and_parts e.is_prepared (owes_until_finished owes_commit e) (subst (λ p. is_part_as p e ≡ true) phase (((stands t at (Some e)).stand).parts e (in_es e is) part)) in
@@ -203,16 +160,18 @@ module _ (x : Present) (kept : IsKept x) where
               | inr none ↦ absurd (true≢false (sym (list_any-from (λ e. takes_part t.id e && (not e.is_finished && is_durable_at x.managers e.manager)) x.transactions.enlistments e there (and_from _ _ part (and_from _ _ (not_from_false _ unfinished) durable))) ∙ not-true _ none))
             ]
 
+    -- a row that records nothing
+    quiet : (input : Enlistment → PhaseInput) → ((e : Enlistment) → Pass records_nothing (row_lists (input e))) → FactsOf x (answering x o input)
+    quiet input none = answers o input (λ e is t at own found. ap (facts_apply x.recorded) (silent-led (input e) (course_of x t (Some e)) refl (none e)))
+
     pub facts-rollback_complete : FactsOf x (answering x o (λ e. PhaseInput.RollbackComplete))
-    unfolding led
-    facts-rollback_complete = answers o (λ e. PhaseInput.RollbackComplete) (λ e is t at own found. facts-if_finished x.recorded (finished (course_of x t (Some e)) e) Aborted refl)
+    facts-rollback_complete = quiet (λ e. PhaseInput.RollbackComplete) (λ e. (refl, tt))
 
     pub facts-single_phase_reject : FactsOf x (answering x o (λ e. PhaseInput.SinglePhaseReject))
-    unfolding led
-    facts-single_phase_reject = answers o (λ e. PhaseInput.SinglePhaseReject) (λ e is t at own found. refl)
+    facts-single_phase_reject = quiet (λ e. PhaseInput.SinglePhaseReject) (λ e. (refl, tt))
 
     pub facts-recover : FactsOf x (answering x o recovery_of)
-    facts-recover = answers o recovery_of (λ e is t at own found. ap (facts_apply x.recorded) (silent-recovered (course_of x t (Some e)) e refl).events)
+    facts-recover = quiet recovery_of silent-recovery
 
     pub facts-rollback_enlistment : Passes (enlistment_tests o (may_roll_back_by x)) → FactsOf x (answering x o (λ e. PhaseInput.Rollback))
     facts-rollback_enlistment tests = answers o (λ e. PhaseInput.Rollback) (λ e is t at own found.
@@ -222,14 +181,15 @@ module _ (x : Present) (kept : IsKept x) where
     pub facts-pre_prepare_enlistment : Passes (superior_tests x o before_pre_prepare) → FactsOf x (answering x o (λ e. PhaseInput.PrePrepare))
     facts-pre_prepare_enlistment tests = answers o (λ e. PhaseInput.PrePrepare) (λ e is t at own found.
         let early = early-pre_prepare t.phase (phase-passed x before_pre_prepare e t found (superior-allowed x o before_pre_prepare e is tests)) in
-        facts-to_pre_prepare x.recorded (course_of x t (Some e)) (is-early t at (Some e) early) (is-unrecorded t at (Some e) early))
+        by-row PhaseInput.PrePrepare t (Some e) (pre_prepares-by (λ steps. Apply x.recorded steps (basis (course_of x t (Some e)))) (seen (course_of x t (Some e))) (ways t at (Some e) early)))
 
     pub facts-prepare_enlistment : Passes (superior_tests x o before_prepare) → FactsOf x (answering x o (λ e. PhaseInput.Prepare))
     facts-prepare_enlistment tests = answers o (λ e. PhaseInput.Prepare) (λ e is t at own found.
         let early = early-prepare t.phase (phase-passed x before_prepare e t found (superior-allowed x o before_prepare e is tests)) in
-        facts-to_prepare x.recorded (course_of x t (Some e)) (is-early t at (Some e) early) (is-unrecorded t at (Some e) early))
+        by-row PhaseInput.Prepare t (Some e) (prepares-by (λ steps. Apply x.recorded steps (basis (course_of x t (Some e)))) (seen (course_of x t (Some e))) (ways t at (Some e) early)))
 
     pub facts-commit_enlistment : Passes (superior_tests x o waits_for_superior) → FactsOf x (answering x o (λ e. PhaseInput.Commit))
     facts-commit_enlistment tests = answers o (λ e. PhaseInput.Commit) (λ e is t at own found.
-        let held = held-waiting t.phase (phase-passed x waits_for_superior e t found (superior-allowed x o waits_for_superior e is tests)) in
-        by (rows_law.commits (course_of x t (Some e))) (facts-committing x.recorded (course_of x t (Some e)) refl (can-decide x kept t at (Some e) (held.1 x.managers x.transactions.enlistments t.id t.is_recorded (is-recorded t at (Some e))) held.0)))
+        let waits = phase-passed x waits_for_superior e t found (superior-allowed x o waits_for_superior e is tests) in
+        by-row PhaseInput.Commit t (Some e) (apply-commits x.recorded (basis (course_of x t (Some e))) (can-decide x kept t at (Some e)
+        (waiting-recorded t.phase x.managers x.transactions.enlistments t.id t.is_recorded waits (is-recorded t at (Some e))) (waiting-held t.phase waits))))

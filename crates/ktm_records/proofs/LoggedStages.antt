@@ -28,13 +28,14 @@ use Rattle.ktm_courses.specs.SoundCourse.{is_counted, is_made_with_it, is_superi
 use Rattle.txf_laws.proofs.offered.Elements.{IsIn-kept, IsIn-unflat, list_all-at, list_any-at, list_any-from}
 use Rattle.ktm_records.proofs.Facts.{awaits, stage-found}
 use Rattle.ktm_courses.proofs.offered.NewObjects.{counted-parts}
-use Rattle.ktm_courses.proofs.offered.Moves.{IsIn-map}
+use Rattle.ktm_courses.proofs.offered.Moves.{IsIn-map, of-superior}
 use Rattle.ktm_records.proofs.CourseRecords.{CanDecide, MayReady}
 use Rattle.ktm_records.proofs.RecordedEnlistments.{new-in-record, recalled-as, recalled-of, summaries-at}
 use Rattle.ktm_records.proofs.Recordings.{recordings_law}
 use Rattle.ktm_courses.proofs.offered.EnlistmentOrder.{IsIn-into_rising, IsIn-rising}
 use Rattle.txf_laws.proofs.offered.Tables.{recorded_at-found, recorded_at-there, recorded_or_new-cases, same_id-equal, same_id-from}
 use Rattle.ktm_states.proofs.offered.WaitingChanges.{no_changes_part, no_settings_part}
+use Rattle.ktm_world.specs.Steps.{basis}
 
 -- ---- what is kept of a transaction that waits
 
@@ -74,9 +75,6 @@ module _ (x : Present) (kept : IsKept x) (t : Transaction) (there : IsIn t x.tra
   abbrev c : Course
   c = course_of x t caller
 
-  abbrev recorded-now : List Recorded
-  recorded-now = x.recorded.transactions
-
   -- what was recorded of it, where that is known to be so
   recalled : (stage : Stage) → t.is_recorded ≡ true → stage_in t.phase ≡ Some stage → stays (summary_now x t stage) ≡ true
       → (r : Recorded) × (summary_of r ≡ summary_now x t stage) × IsIn r x.recorded.transactions × (recorded_at x.recorded.transactions t.id ≡ Some r)
@@ -86,7 +84,7 @@ module _ (x : Present) (kept : IsKept x) (t : Transaction) (there : IsIn t x.tra
 
   -- ---- a transaction that waits for its superior
 
-  pub can-decide : t.is_recorded ≡ true → stage_in t.phase ≡ Some Stage.Held → CanDecide x.recorded (course_of x t caller)
+  pub can-decide : t.is_recorded ≡ true → stage_in t.phase ≡ Some Stage.Held → CanDecide x.recorded (basis (course_of x t caller))
   can-decide recorded is = record {
     decided = λ yes'. record {
       r = r.0;
@@ -188,14 +186,15 @@ module _ (x : Present) (kept : IsKept x) (t : Transaction) (there : IsIn t x.tra
             true≢false (sym (ap (λ (s : Summary). is_ready s.stage) (ready-now r in_record same).1) ∙ above.1)
       ])
 
-      pub may-ready : MayReady x.recorded (course_of x t caller)
+      pub may-ready : MayReady x.recorded (basis (course_of x t caller)) false false
       may-ready = record {
         may = and_from _ _ (eq-eqb _ _ boot) is-ready;
         new = is-new;
         has = has-one;
         files = λ some. let law = recordings_law.changes x t kept.sound.files kept.agrees among some in and_from _ _ (and_from _ _ (not_from_false _ no-files) law.0) law.1;
         keys = λ some. let law = recordings_law.settings x t kept.sound.keys kept.agrees (some-settings _ some) in and_from _ _ (and_from _ _ (not_from_false _ no-keys) law.0) law.1;
-        superior = λ e in_es is. let both = and_parts (same_id e.transaction t.id) (is_superior e) is in new-part e in_es both.0 (durable-above e in_es both.1) (inl both.1);
+        superior = of-superior (λ e. is_new_enlistment x.recorded e.id e.manager e.information ≡ true) x.transactions.enlistments t.id (λ e in_es is.
+            let both = and_parts (same_id e.transaction t.id) (is_superior e) is in new-part e in_es both.0 (durable-above e in_es both.1) (inl both.1));
       }
         where
           among : IsIn t (undecided x)

@@ -26,7 +26,7 @@ use Rattle.txf_laws.proofs.offered.Lists.{IsIn-unmap}
 use Rattle.ktm_states.proofs.offered.OwnGroups.{is_open}
 use Rattle.txf_laws.proofs.offered.CommitsOfOthers.{next-enough}
 use Rattle.ktm_records.proofs.LoggedOrder.{Among, among-while, among-with, among-without, or_new, or_new-id, recorded_at-among, recorded_or_new-among, while_open}
-use Rattle.ktm_courses.proofs.offered.Procedures.{none-at}
+use Rattle.ktm_courses.proofs.offered.Endings.{none-at}
 
 -- ---- node numbers
 

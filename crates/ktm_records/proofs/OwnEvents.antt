@@ -1,7 +1,7 @@
 -- What a transaction on its way records of what it has to commit, and how many events.
 use Rattle.std.specs.Prelude.{⊤, nat_le}
 use Rattle.std.proofs.Common.{◌≡◌, ◌≤◌, true, List, [], length, refl, sym, subst, arith}
-use Rattle.std.proofs.lemmas.Bool.{leb-true}
+use Rattle.std.proofs.lemmas.Bool.{leb-true, true≢false}
 use Rattle.std.specs.List.{AllByRecursion}
 use Rattle.ktm_event.specs.Spelling.{IsSpellableContents}
 use Rattle.ktm_types.specs.declared.change.Change.{Change}
@@ -17,7 +17,7 @@ use Rattle.ktm_world.specs.Phases.{Course}
 use Rattle.ktm_world.specs.Rows.{row}
 use Rattle.ktm_world.specs.Steps.{basis, events_ahead, led, seen}
 use Rattle.ktm_steps.proofs.offered.Lists.{each-row-passes}
-use Rattle.ktm_steps.proofs.offered.Recorded.{all-led, few-ahead, led-events, records}
+use Rattle.ktm_steps.proofs.offered.Recorded.{all-led, few-ahead, led-events, records, bare-facts, is_bare}
 
 -- ---- events
 
@@ -40,21 +40,16 @@ module _ (Files : List Change → Type 0) (Keys : OwnSettings → Type 0) where
   IsOwnEvent (Single transaction part) = IsOwnPart part
   IsOwnEvent _ = ⊤
 
+  bare-own : (event : Event) → is_bare event ≡ true → IsOwnEvent event
+  bare-own (Plain change) is = absurd (true≢false (sym is))
+  bare-own (Ready transaction (Changes changes)) is = absurd (true≢false (sym is))
+  bare-own (Ready transaction (Settings settings)) is = absurd (true≢false (sym is))
+  bare-own (Single transaction part) is = absurd (true≢false (sym is))
+  bare-own _ is = tt
+
   -- each event that a row records is so, as what there is to commit
   pub own-led : (input : PhaseInput) (c : Course) → c.events ≡ [] → Files c.changes → Keys c.settings → AllByRecursion IsOwnEvent (led input c).events
-  own-led input c none files keys = all-led IsOwnEvent input c none record {
-    ready_files = files;
-    ready_keys = keys;
-    ready = λ e is. tt;
-    held = λ e is. tt;
-    decide = tt;
-    undo = tt;
-    done_files = tt;
-    done_keys = tt;
-    done = λ e is. tt;
-    single_files = files;
-    single_keys = keys;
-  }
+  own-led input c none files keys = all-led IsOwnEvent input c none (bare-facts IsOwnEvent (basis c) bare-own (files, files) (keys, keys))
 
 -- and they are few
 pub few-led : (input : PhaseInput) (c : Course) → c.events ≡ [] → length (led input c).events ≤ 6

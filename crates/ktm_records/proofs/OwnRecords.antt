@@ -1,6 +1,6 @@
 -- What each command records: at most six events of what it changes or of what one transaction has to commit, or rollbacks alone; and the keys that
 -- transactions have set stay texts.
-use Rattle.std.specs.Prelude.{if◌then◌else◌, ⊤}
+use Rattle.std.specs.Prelude.{⊤}
 use Rattle.std.proofs.Common.{◌≡◌, ℕ, ◌≤◌, not, Bool, true, false, List, [], ◌∷◌, ◌++◌, length, Option, Some, None, refl, sym, ◌∙◌, subst, arith, inl, inr, ◌⊎◌}
 use Rattle.std.proofs.lemmas.Bool.{ltb-false}
 use Rattle.std.specs.List.{AllByRecursion}
@@ -16,7 +16,6 @@ use Rattle.ktm_types.specs.declared.command.Command.TheVariants.{CreateTransacti
 use Rattle.ktm_types.specs.declared.event.Event.{Event}
 use Rattle.ktm_types.specs.declared.event.Event.TheVariants.{Undo}
 use Rattle.ktm_types.specs.declared.object.Object.{Object}
-use Rattle.ktm_types.specs.declared.object.Object.TheVariants.{Transaction as TransactionObject, Manager as ManagerObject, Enlistment as EnlistmentObject, File as FileObject}
 use Rattle.ktm_types.specs.declared.object.Transaction.{Transaction}
 use Rattle.ktm_types.specs.declared.options.Access.{Access}
 use Rattle.ktm_types.specs.declared.options.Disposition.{Disposition}
@@ -32,26 +31,27 @@ use Rattle.ktm_world.specs.Enlistments.{Enlistment, Manager}
 use Rattle.ktm_world.specs.FileCalls.{Whereabouts, no_path, no_way, free, at_root, at_node, create_at, create_directory, create_file, delete_file, drop_at, empties, find_files, find_path, flush_file, get_size, make_at, move_at, move_file, read_file, remove_directory, set_end, write_file, write_file_tests}
 use Rattle.ktm_world.specs.FileOutcome.{FileOutcome}
 use Rattle.ktm_world.specs.Files.{OpenFile, own_changes, tree_seen}
-use Rattle.ktm_world.specs.HandleCalls.{abort_active, bind_to, close_handle, closed_in_turn, duplicate_handle, exit, handle_gone, has_handle, labels_of, last_handle_gone, without_handle}
+use Rattle.ktm_world.specs.HandleCalls.{bind_to, duplicate_handle}
 use Rattle.ktm_world.specs.Handles.{object_at}
 use Rattle.ktm_world.specs.KeyCalls.{with_setting}
 use Rattle.ktm_world.specs.Keys.{OwnSettings, own_settings}
 use Rattle.ktm_world.specs.Labels.{enlistment_named, file_named, file_tests, manager_named, transaction_named}
-use Rattle.ktm_world.specs.Outcome.{Outcome, and_then, apply, first_refusal, is_full, only_reply, refuse_or, within_log}
+use Rattle.ktm_world.specs.Outcome.{Outcome, apply, first_refusal, is_full, only_reply, refuse_or, within_log}
 use Rattle.ktm_world.specs.Phases.{Course, event_if}
 use Rattle.ktm_world.specs.Present.{Present}
-use Rattle.ktm_world.specs.TransactionCalls.{aborted_by, aborted_if_due, aborted_in_turn, answering, arrived, commit_complete, commit_enlistment, commit_of, commit_reply, commit_transaction, course_of, create_enlistment, create_resource_manager, create_transaction, enlist, enlistment_with, get_information, get_notification, get_transaction_information, goes_on, is_due, keep_information, manager_with, open_enlistment, open_resource_manager, open_to_enlistment, open_to_manager, open_to_transaction, open_transaction, pre_prepare_complete, pre_prepare_enlistment, prepare_complete, prepare_enlistment, read_only_enlistment, recover_all, recover_enlistment, recover_resource_manager, rollback_complete, rollback_enlistment, rollback_of, rollback_transaction, set_information, single_phase_reject, take_first, tick, transaction_in, transaction_with, with_clock, recovery_of}
+use Rattle.ktm_world.specs.TransactionCalls.{answering, arrived, commit_complete, commit_enlistment, commit_of, commit_reply, commit_transaction, course_of, create_enlistment, create_resource_manager, create_transaction, enlist, enlistment_with, get_information, get_notification, get_transaction_information, keep_information, manager_with, open_enlistment, open_resource_manager, open_to_enlistment, open_to_manager, open_to_transaction, open_transaction, pre_prepare_complete, pre_prepare_enlistment, prepare_complete, prepare_enlistment, read_only_enlistment, recover_all, recover_enlistment, recover_resource_manager, rollback_complete, rollback_enlistment, rollback_of, rollback_transaction, set_information, single_phase_reject, take_first, tick, transaction_with, recovery_of}
 use Rattle.ktm_world.specs.Steps.{led, share_of}
-use Rattle.ktm_world.specs.Transactions.{is_active, is_undecided, transaction_at}
+use Rattle.ktm_world.specs.Transactions.{is_undecided}
 use Rattle.ktm_world.specs.Uses.{file_room}
 use Rattle.ktm_world.specs.World.{decide_tick}
 use Rattle.ktm_steps.proofs.offered.Recorded.{all-append}
-use Rattle.ktm_courses.proofs.offered.Calls.{Passes, passed}
+use Rattle.ktm_courses.proofs.offered.Calls.{Passes, passed, of-answering}
 use Rattle.ktm_records.proofs.offered.AgreementOfCourses.{arrival}
 use Rattle.ktm_courses.proofs.offered.Moves.{if_cases}
 use Rattle.ktm_records.proofs.OwnEvents.{IsOwnEvent, IsSpelledPut, few-led, own-led}
 use Rattle.ktm_records.proofs.OwnTexts.{Texts, texts-with_own, texts-without_own}
 use Rattle.ktm_records.proofs.offered.AgreementOfRollbacks.{rollback-undone}
+use Rattle.ktm_courses.proofs.offered.HandlesAndTime.{Closes, close_handle-so, exit-so, tick-so}
 
 -- ---- texts
 
@@ -94,50 +94,19 @@ rolls-back x t caller reply = record {
     undo true = (tt, tt)
     undo false = tt
 
-rolls-then : (x : Present) (a : Outcome) (next : Present → Outcome) → Rolls x a → ((y : Present) → Rolls y (next y)) → Rolls x (and_then x a next)
-rolls-then x a next first second = let rest = second (apply x a) in record { texts = λ texts. rest.texts (first.texts texts); undos = all-append IsUndo a.events (next (apply x a)).events first.undos rest.undos }
-
-rolls-if : (x : Present) (b : Bool) (t : Transaction) → Rolls x (if b then aborted_by x t None Done else only_reply x Done)
-rolls-if x b t = if_cases (λ o. Rolls x o) b (aborted_by x t None Done) (only_reply x Done) (λ is. rolls-back x t None Done) (λ other. rolls-reply x Done)
-
-rolls-gone : (o : Option Object) (x : Present) → Rolls x (handle_gone o x)
-rolls-gone None x = rolls-reply x Done
-rolls-gone (Some object) x = if_cases (λ o. Rolls x o) (has_handle x.handles object) (only_reply x Done) (last_handle_gone x object) (λ has. rolls-reply x Done) (λ gone. last object)
-  where
-    active : (t : Option Transaction) → Rolls x (abort_active x t)
-    active None = rolls-reply x Done
-    active (Some t) = rolls-if x (is_active t) t
-
-    last : (object : Object) → Rolls x (last_handle_gone x object)
-    last (TransactionObject id) = active (transaction_at x.transactions.items id)
-    last (ManagerObject id) = rolls-reply x Done
-    last (EnlistmentObject id) = rolls-reply x Done
-    last (FileObject number) = rolls-same x _ refl refl
-
-rolls-closed : (x : Present) (process : Pid) (label : Label) → Rolls x (close_handle x process label)
-unfolding close_handle
-rolls-closed x process label =
-    rolls-then x (record (only_reply x Done) { handles = without_handle x.handles process label }) (handle_gone (object_at x.handles process label)) (rolls-same x _ refl refl) (rolls-gone (object_at x.handles process label))
-
-rolls-closed_all : (labels : List Label) (process : Pid) (x : Present) → Rolls x (closed_in_turn x process labels)
-rolls-closed_all [] process x = rolls-reply x Done
-rolls-closed_all (label ∷ labels) process x = rolls-then x (close_handle x process label) (λ next. closed_in_turn next process labels) (rolls-closed x process label) (rolls-closed_all labels process)
-
-rolls-exit : (x : Present) (process : Pid) → Rolls x (exit x process)
-unfolding exit
-rolls-exit x process = rolls-closed_all (labels_of x.handles process) process x
-
-rolls-in_turn : (ts : List Transaction) (x : Present) → Rolls x (aborted_in_turn x ts)
-rolls-in_turn [] x = rolls-reply x Done
-rolls-in_turn (t ∷ ts) x = rolls-then x (aborted_if_due x (transaction_at x.transactions.items t.id)) (λ next. aborted_in_turn next ts) (due (transaction_at x.transactions.items t.id)) (rolls-in_turn ts)
-  where
-    due : (o : Option Transaction) → Rolls x (aborted_if_due x o)
-    due None = rolls-reply x Done
-    due (Some t) = rolls-if x (is_due x.transactions.clock t) t
+rolls-closing : Closes (λ x. ⊤) Rolls
+rolls-closing = record {
+  rolls = record {
+    reply = λ x asked. rolls-reply x Done;
+    rolls = λ x t asked there can. rolls-back x t None Done;
+    goes_on = λ x a next first second. let rest = second tt in record { texts = λ texts. rest.texts (first.texts texts); undos = all-append IsUndo a.events (next (apply x a)).events first.undos rest.undos };
+  };
+  unbinds = λ x process label asked. rolls-same x _ refl refl;
+  ends = λ x number asked. rolls-same x _ refl refl;
+}
 
 rolls-tick : (x : Present) (ms : ℕ) → Rolls x (tick x ms)
-unfolding tick
-rolls-tick x ms = let rest = rolls-in_turn x.transactions.items (with_clock x ms) in record { texts = rest.texts; undos = rest.undos }
+rolls-tick x ms = let rest = tick-so _ _ rolls-closing.rolls x ms tt in record { texts = rest.texts; undos = rest.undos }
 
 -- ---- what an outcome records
 
@@ -194,12 +163,7 @@ module _ (Files : List Change → Type 0) (Keys : OwnSettings → Type 0) where
     does-rollback (Some t) = does-rolled x _ (rolls-back x t None Done)
 
     does-answering : (o : Option Enlistment) (input : Enlistment → PhaseInput) → Does x (answering x o input)
-    does-answering None input = does-reply x Done
-    does-answering (Some e) input = go (transaction_in x e)
-      where
-        go : (o : Option Transaction) → Does x (goes_on x e o (input e))
-        go None = does-reply x Done
-        go (Some t) = does-led (input e) t (Some e) Done
+    does-answering o input = of-answering (Does x) x o input (does-reply x Done) (λ e is t there own found. does-led (input e) t (Some e) Done)
 
     -- ---- objects
 
@@ -404,9 +368,9 @@ module _ (Files : List Change → Type 0) (Keys : OwnSettings → Type 0) where
     does-command process (KvUnset transaction key) is passes = does-setting (caller x process transaction) key None is.1
     does-command process (KvGet view key) is passes = does-same x _ refl refl
     does-command process (KvList view) is passes = does-same x _ refl refl
-    does-command process (CloseHandle label) is passes = does-rolled x _ (rolls-closed x process label)
+    does-command process (CloseHandle label) is passes = does-rolled x _ (close_handle-so _ _ rolls-closing x process label tt)
     does-command process (DuplicateHandle label from source) is passes = bound process label (object_at x.handles from source)
-    does-command process Exit is passes = does-rolled x _ (rolls-exit x process)
+    does-command process Exit is passes = does-rolled x _ (exit-so _ _ rolls-closing x process tt)
 
     -- refused or not
     does-refuse_or : (tests : List (Bool × Refusal)) (effect : Outcome) → (Passes tests → Does x effect) → Does x (refuse_or x (first_refusal tests) effect)

@@ -24,7 +24,6 @@ use Rattle.ktm_world.specs.TransactionCalls.{course_of}
 use Rattle.ktm_world.specs.Transactions.{same_id}
 use Rattle.ktm_world.specs.World.{by_rising_id, enlistment_back}
 use Rattle.ktm_world.proofs.offered.Durables.{after_events-append}
-use Rattle.ktm_steps.specs.Procedures.{recorded}
 use Rattle.txf_laws.specs.Elements.{IsIn, each_pair}
 use Rattle.ktm_states.specs.GoodState.{IsGoodState}
 use Rattle.ktm_records.specs.Kept.{is_carried_out}
@@ -39,7 +38,7 @@ use Rattle.txf_laws.proofs.offered.Lists.{IsIn-cases, IsIn-left, IsIn-unmap}
 use Rattle.ktm_courses.proofs.offered.Moves.{same-by_id}
 use Rattle.txf_laws.proofs.offered.CommitsOfOthers.{drawn-made}
 use Rattle.ktm_records.proofs.LoggedOrder.{if_there, or_new}
-use Rattle.ktm_courses.proofs.offered.Procedures.{none-at}
+use Rattle.ktm_courses.proofs.offered.Endings.{none-at}
 use Rattle.ktm_courses.proofs.offered.EnlistmentOrder.{IsIn-into_rising, IsIn-rising, differ-rising, differ_in_id, earlier, ids-part, map-flat, rising-same}
 use Rattle.ktm_records.proofs.AgreementOfSilentSteps.{is_kept, none-kept}
 use Rattle.ktm_records.proofs.LoggedUndecided.{AreDone, AreUndone, Stores, parts-undone}
@@ -259,7 +258,7 @@ module _ (x : Present) (before behind : List Recorded) (c : Course) where
 
     -- where it is
     abbrev c_ready : Course
-    c_ready = recorded (recording c_prepared (Event.Ready id (enlistment_part e) ∷ []))
+    c_ready = record (recording c_prepared (Event.Ready id (enlistment_part e) ∷ [])) { transaction = record c.transaction { is_recorded = true } }
 
     pub prepares-durable : (o : Option Recorded) → is_durable_at c.managers e.manager ≡ true → e.is_finished ≡ false → Prepares x before behind c o → Prepares x before behind c_ready (Some (with_ready (or_new o id) (enlistment_part e)))
     prepares-durable o durable unfinished prepares = record {

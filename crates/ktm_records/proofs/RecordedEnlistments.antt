@@ -69,9 +69,6 @@ module _ (x : Present) (sound : IsSoundCourse x) (agrees : Agrees x) (t : Transa
 pub summaries-at : (x : Present) (t : Transaction) (stage : Stage) → t.is_recorded ≡ true → stage_in t.phase ≡ Some stage → stays (summary_now x t stage) ≡ true → summaries x t ≡ summary_now x t stage ∷ []
 summaries-at x t stage recorded is stays' = rw recorded (ap (summary_in x t) is ∙ rw stays' refl)
 
-pub summaries-none : (x : Present) (t : Transaction) → t.is_recorded ≡ false → summaries x t ≡ []
-summaries-none x t other = rw other refl
-
 -- ---- an enlistment
 
 -- it is there: it takes part and is prepared, or it is the superior of one that is no more ready

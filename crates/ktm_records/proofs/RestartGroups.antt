@@ -24,7 +24,7 @@ use Rattle.txf_laws.proofs.offered.Elements.{IsIn-filter, each_pair-filter, list
 use Rattle.txf_laws.proofs.offered.Lists.{IsIn-cases, IsIn-unmap}
 use Rattle.ktm_states.proofs.offered.OwnGroups.{is_open}
 use Rattle.ktm_records.proofs.LoggedOrder.{if_there, while_open}
-use Rattle.ktm_courses.proofs.offered.Procedures.{none-at}
+use Rattle.ktm_courses.proofs.offered.Endings.{none-at}
 use Rattle.txf_laws.proofs.offered.Tables.{Rises, is_earlier, rises-first, rises-rest}
 use Rattle.ktm_records.proofs.LoggedTransaction.{Tracks, mark_if, tracks-if}
 

@@ -8,3 +8,4 @@ pub mod NoMore
 pub mod OwnSizes
 pub mod PlainFacts
 pub mod UnitsPassed
+pub mod Stages

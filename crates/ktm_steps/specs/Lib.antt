@@ -1,4 +1,3 @@
 pub mod Laws
-pub mod Procedures
 pub mod Fading
 pub mod Outcomes

@@ -3,7 +3,7 @@ ghost use Rattle.ktm_steps.specs.Laws.{EventsAheadLaw, RowsLaw};
 ghost use Rattle.ktm_steps.specs.Outcomes.{OutcomeLaw};
 ghost use Rattle.ktm_steps.specs.Fading.{FadingLaw};
 
-/// Carried out, each row comes to what its procedure comes to.
+/// An answer counts first, and then the transaction goes on by what is seen of it then.
 pub fn law_of_rows()
     ensures { RowsLaw }
 {}

@@ -27,7 +27,7 @@ use Rattle.txf_laws.proofs.offered.Lists.{IsIn-unmap}
 use Rattle.txf_laws.proofs.offered.Elements.{list_all-at, list_all-from, list_any-from}
 use Rattle.txf_laws.proofs.offered.Tables.{same_id-equal, same_id-from, same_id-sym, before_other}
 use Rattle.ktm_courses.proofs.offered.Moves.{if_parts, if_first, if_second, IsTold, Moved, Stand, unrecovered-moved}
-use Rattle.ktm_courses.proofs.offered.Procedures.{Stands, Arrives, superior-with, part-parts}
+use Rattle.ktm_courses.proofs.offered.Endings.{Stands, Arrives, superior-with, part-parts}
 use Rattle.ktm_courses.proofs.offered.Views.{list_any-map, each_pair-map}
 
 -- ---- the enlistments of a transaction, as a test and as facts

@@ -1,6 +1,6 @@
 -- The calls that make and bind objects, and those on handles: what each comes to is sound.
 use Rattle.std.proofs.Common.{◌≡◌, ℕ, ◌+◌, ◌≤◌, ◌==◌, ◌&&◌, not, true, false, List, [], ◌∷◌, length, nat_lt, Option, Some, None, is_some, refl, sym, ◌∙◌, subst, inl, inr}
-use Rattle.std.proofs.lemmas.Bool.{cases_Bool, and_parts, and_from, and_cases, or_parts, or_left, or_right, ltb-false, true≢false, not_from_false}
+use Rattle.std.proofs.lemmas.Bool.{cases_Bool, and_from, and_cases, or_parts, or_left, or_right, ltb-false, true≢false, not_from_false}
 use Rattle.std.proofs.lemmas.Option.{none-some, same_Some}
 use Rattle.ktm_base.specs.declared.limits.TheConstants.{MOST_NUMBER, MOST_INFORMATION_BYTES}
 use Rattle.ktm_states.specs.Grammatical.{names_objects}
@@ -13,7 +13,7 @@ use Rattle.ktm_types.specs.declared.event.Event.TheVariants.{MadeRm}
 use Rattle.ktm_types.specs.declared.input.PhaseInput.{PhaseInput}
 use Rattle.ktm_types.specs.declared.object.Handle.{Handle}
 use Rattle.ktm_types.specs.declared.object.Object.{Object}
-use Rattle.ktm_types.specs.declared.object.Object.TheVariants.{Transaction as TransactionObject, Manager as ManagerObject, Enlistment as EnlistmentObject, File as FileObject}
+use Rattle.ktm_types.specs.declared.object.Object.TheVariants.{Transaction as TransactionObject, Manager as ManagerObject, Enlistment as EnlistmentObject}
 use Rattle.ktm_types.specs.declared.object.Transaction.{Transaction}
 use Rattle.ktm_types.specs.declared.options.Durability.{Durability}
 use Rattle.ktm_types.specs.declared.options.EnlistmentKind.{EnlistmentKind}
@@ -21,18 +21,17 @@ use Rattle.ktm_types.specs.declared.reply.Reply.{Reply}
 use Rattle.ktm_types.specs.declared.reply.Reply.TheVariants.{Done, Guid}
 use Rattle.ktm_world.specs.Enlistments.{Enlistment, Manager, is_superior}
 use Rattle.ktm_world.specs.Handles.{object_at}
-use Rattle.ktm_world.specs.HandleCalls.{is_handle, without_handle, has_handle, closed_file, abort_active, last_handle_gone, handle_gone, close_handle, closed_in_turn, exit, labels_of, bind_to, duplicate_handle, duplicate_handle_tests}
+use Rattle.ktm_world.specs.HandleCalls.{is_handle, without_handle, closed_file, close_handle, exit, bind_to, duplicate_handle, duplicate_handle_tests}
 use Rattle.ktm_world.specs.Labels.{binding, is_bound}
 use Rattle.ktm_world.specs.Outcome.{Outcome, only_reply, apply, and_then}
 use Rattle.ktm_world.specs.Present.{Present}
-use Rattle.ktm_world.specs.TransactionCalls.{course_of, guid_in, create_transaction, create_transaction_tests, transaction_with, open_to_transaction, open_transaction, open_transaction_tests, is_durable, create_resource_manager, create_resource_manager_tests, manager_with, open_to_manager, open_resource_manager, open_resource_manager_tests, is_superior_kind, create_enlistment, create_enlistment_tests, enlistment_with, open_to_enlistment, open_enlistment, open_enlistment_tests, aborted_by, is_due, aborted_if_due, aborted_in_turn, with_clock, tick, keep_information, set_information_tests, may_roll_back}
-use Rattle.ktm_world.specs.Transactions.{same_id, transaction_at, is_active}
+use Rattle.ktm_world.specs.TransactionCalls.{course_of, guid_in, create_transaction, create_transaction_tests, transaction_with, open_to_transaction, open_transaction, open_transaction_tests, is_durable, create_resource_manager, create_resource_manager_tests, manager_with, open_to_manager, open_resource_manager, open_resource_manager_tests, is_superior_kind, create_enlistment, create_enlistment_tests, enlistment_with, open_to_enlistment, open_enlistment, open_enlistment_tests, tick, keep_information, set_information_tests}
+use Rattle.ktm_world.specs.Transactions.{same_id}
 use Rattle.ktm_world.specs.Steps.{led}
 use Rattle.txf_laws.specs.Elements.{IsIn}
 use Rattle.ktm_courses.specs.SoundCourse.{IsSoundCourse, have_labels_apart, is_there}
 use Rattle.txf_laws.proofs.offered.Elements.{IsIn-filter, list_all-at, list_any-from, each_pair-filter, not-not}
 use Rattle.txf_laws.proofs.offered.Tables.{same_id-from}
-use Rattle.ktm_courses.proofs.offered.EnlistmentAnswers.{can_roll_back}
 use Rattle.ktm_courses.proofs.offered.Moves.{find-found, if_cases, NoBoots, NoBoots-none, NoBoots-one}
 use Rattle.ktm_courses.proofs.offered.Views.{sound-alike, sound-served}
 use Rattle.ktm_courses.specs.Outcomes.{OutcomesStay}
@@ -40,7 +39,8 @@ use Rattle.ktm_courses.proofs.offered.Outcomes.{stay-refl, stay-then, stay-push}
 use Rattle.ktm_courses.proofs.offered.OutcomesMade.{Keeps, settled, IsSoundOutcome, events-kept, sound-apply, sound-only_reply, sound-own, sound-joined, IsQuiet, quiet-only_reply, quiet-arrived, quiet-joined}
 use Rattle.ktm_courses.proofs.offered.NewObjects.{list_any-last, next_id, sound-handles, sound-bound, counted-parts, counted-next}
 use Rattle.ktm_courses.proofs.offered.Beginnings.{with_transaction, sound-with_transaction, with_manager, sound-with_manager, new_enlistment, with_new_enlistment, sound-with_enlistment, sound-clock, sound-with_information}
-use Rattle.ktm_courses.proofs.offered.Calls.{Passes, passed, transaction_at-found, active-phase, may-roll, sound-aborted_by}
+use Rattle.ktm_courses.proofs.offered.Calls.{Passes, passed, active-phase, sound-aborted_by}
+use Rattle.ktm_courses.proofs.offered.HandlesAndTime.{Closes, close_handle-so, exit-so, tick-so}
 
 -- ---- labels
 
@@ -202,25 +202,6 @@ pub record IsSoundly (x : Present) (o : Outcome) : Type 0 where
 soundly-reply : (x : Present) (reply : Reply) → IsSoundCourse x → IsSoundly x (only_reply x reply)
 soundly-reply x reply sound = record { sound = sound-only_reply x reply sound; quiet = quiet-only_reply x reply }
 
-soundly-abort_active : (x : Present) (o : Option Transaction) → IsSoundCourse x → ((t : Transaction) → o ≡ Some t → IsIn t (x.transactions).items) → IsSoundly x (abort_active x o)
-soundly-abort_active x None sound there = soundly-reply x Done sound
-soundly-abort_active x (Some t) sound there = if_cases (λ o. IsSoundly x o) (is_active t) (aborted_by x t None Done) (only_reply x Done)
-    (λ active. record { sound = sound-aborted_by x sound t (there t refl) None Done (λ e is. absurd (none-some e is)) (subst (λ phase. can_roll_back phase ≡ true) (sym (active-phase t active)) refl); quiet = quiet-arrived x (led PhaseInput.Rollback (course_of x t None)) Done })
-    (λ other. soundly-reply x Done sound)
-
-soundly-last : (x : Present) (object : Object) → IsSoundCourse x → IsSoundly x (last_handle_gone x object)
-soundly-last x (TransactionObject id) sound = soundly-abort_active x (transaction_at (x.transactions).items id) sound (λ t is. (transaction_at-found (x.transactions).items id t is).0)
-soundly-last x (ManagerObject id) sound = soundly-reply x Done sound
-soundly-last x (EnlistmentObject id) sound = soundly-reply x Done sound
-soundly-last x (FileObject number) sound = record {
-  sound = record { settled = sound-own x (closed_file (x.files).table number) (x.keys).own sound (λ t there one. (refl, refl)); events = NoBoots-none; made = refl; outcomes = stay-refl (x.transactions).items; objects = refl; notes = λ s none. absurd none };
-  quiet = record { took = refl; made = refl };
-}
-
-pub soundly-gone : (o : Option Object) (x : Present) → IsSoundCourse x → IsSoundly x (handle_gone o x)
-soundly-gone None x sound = soundly-reply x Done sound
-soundly-gone (Some object) x sound = if_cases (λ o. IsSoundly x o) (has_handle x.handles object) (only_reply x Done) (last_handle_gone x object) (λ has. soundly-reply x Done sound) (λ last. soundly-last x object sound)
-
 -- a sound machine after an outcome that takes and makes nothing, and with the outcomes that were known
 pub record StaysSound (x : Present) (o : Outcome) : Type 0 where
   pub sound : IsSoundCourse (apply x o)
@@ -252,36 +233,26 @@ stays-unbound x process label sound = stays-sound x _ (record {
   quiet = record { took = refl; made = refl };
 })
 
-pub stays-closed : (x : Present) (process : Pid) (label : Label) → IsSoundCourse x → StaysSound x (close_handle x process label)
-unfolding close_handle
-stays-closed x process label sound = stays-then x (record (only_reply x Done) { handles = without_handle x.handles process label }) (handle_gone (object_at x.handles process label))
-    (stays-unbound x process label sound)
-    (λ sound'. stays-sound _ _ (soundly-gone (object_at x.handles process label) _ sound'))
+-- so it is where handles are closed, and as time passes
+pub stays-closing : Closes IsSoundCourse StaysSound
+stays-closing = record {
+  rolls = record {
+    reply = λ x sound. stays-sound x (only_reply x Done) (soundly-reply x Done sound);
+    rolls = λ x t sound there can. stays-sound x _ record { sound = sound-aborted_by x sound t there None Done (λ e is. absurd (none-some e is)) can; quiet = quiet-arrived x (led PhaseInput.Rollback (course_of x t None)) Done };
+    goes_on = stays-then;
+  };
+  unbinds = stays-unbound;
+  ends = λ x number sound. stays-sound x _ (record {
+    sound = record { settled = sound-own x (closed_file (x.files).table number) (x.keys).own sound (λ t there one. (refl, refl)); events = NoBoots-none; made = refl; outcomes = stay-refl (x.transactions).items; objects = refl; notes = λ s none. absurd none };
+    quiet = record { took = refl; made = refl };
+  });
+}
 
 pub sound-close_handle : (x : Present) (process : Pid) (label : Label) → IsSoundCourse x → Keeps x (close_handle x process label)
-sound-close_handle x process label sound = keeps-of x (close_handle x process label) (stays-closed x process label sound)
-
-pub stays-closed_all : (labels : List Label) (x : Present) (process : Pid) → IsSoundCourse x → StaysSound x (closed_in_turn x process labels)
-stays-closed_all [] x process sound = stays-sound x (only_reply x Done) (soundly-reply x Done sound)
-stays-closed_all (label ∷ labels) x process sound = stays-then x (close_handle x process label) (λ next. closed_in_turn next process labels) (stays-closed x process label sound) (λ sound'. stays-closed_all labels _ process sound')
+sound-close_handle x process label sound = keeps-of x (close_handle x process label) (close_handle-so _ _ stays-closing x process label sound)
 
 pub sound-exit : (x : Present) (process : Pid) → IsSoundCourse x → Keeps x (exit x process)
-unfolding exit
-sound-exit x process sound = keeps-of x (closed_in_turn x process (labels_of x.handles process)) (stays-closed_all (labels_of x.handles process) x process sound)
-
--- ---- time
-
-pub stays-due : (x : Present) (o : Option Transaction) → IsSoundCourse x → ((t : Transaction) → o ≡ Some t → IsIn t (x.transactions).items) → StaysSound x (aborted_if_due x o)
-stays-due x None sound there = stays-sound x (only_reply x Done) (soundly-reply x Done sound)
-stays-due x (Some t) sound there = if_cases (λ o. StaysSound x o) (is_due (x.transactions).clock t) (aborted_by x t None Done) (only_reply x Done)
-    (λ due. stays-sound x _ (record { sound = sound-aborted_by x sound t (there t refl) None Done (λ e is. absurd (none-some e is)) (may-roll t (and_parts _ (may_roll_back t) due).1); quiet = quiet-arrived x (led PhaseInput.Rollback (course_of x t None)) Done }))
-    (λ other. stays-sound x (only_reply x Done) (soundly-reply x Done sound))
-
-pub stays-in_turn : (ts : List Transaction) (x : Present) → IsSoundCourse x → StaysSound x (aborted_in_turn x ts)
-stays-in_turn [] x sound = stays-sound x (only_reply x Done) (soundly-reply x Done sound)
-stays-in_turn (t ∷ ts) x sound = stays-then x (aborted_if_due x (transaction_at (x.transactions).items t.id)) (λ next. aborted_in_turn next ts)
-    (stays-due x (transaction_at (x.transactions).items t.id) sound (λ u is. (transaction_at-found (x.transactions).items t.id u is).0)) (λ sound'. stays-in_turn ts _ sound')
+sound-exit x process sound = keeps-of x (exit x process) (exit-so _ _ stays-closing x process sound)
 
 pub sound-tick : (x : Present) (ms : ℕ) → IsSoundCourse x → Keeps x (tick x ms)
-unfolding tick
-sound-tick x ms sound = let stays = stays-in_turn (x.transactions).items (with_clock x ms) (sound-clock x ms sound) in record { sound = stays.sound; outcomes = stays.outcomes; objects = stays.objects }
+sound-tick x ms sound = let stays = tick-so _ _ stays-closing.rolls x ms (sound-clock x ms sound) in record { sound = stays.sound; outcomes = stays.outcomes; objects = stays.objects }

@@ -18,28 +18,26 @@ use Rattle.ktm_types.specs.declared.step.Owed.{Owed}
 use Rattle.ktm_world.specs.Enlistments.{Enlistment, Manager, Sent, is_superior, is_open_for_votes, owes_pre_prepare, owes_prepare, owes_commit, owes_rollback, manager_at, enlistment_at}
 use Rattle.ktm_world.specs.Handles.{object_at, transaction_id}
 use Rattle.ktm_world.specs.Labels.{transaction_named, manager_named, manager_id, enlistment_named, enlistment_id, holds_of, transaction_tests}
-use Rattle.ktm_world.specs.Outcome.{first_refusal}
+use Rattle.ktm_world.specs.Outcome.{first_refusal, Outcome, only_reply}
 use Rattle.ktm_world.specs.Phases.{Course, is_single_phase}
 use Rattle.ktm_world.specs.Present.{Present}
-use Rattle.ktm_world.specs.TransactionCalls.{course_of, commit_reply, commit_of, aborted_by, rollback_of, may_roll_back, rollback_transaction_tests, transaction_in, phase_passes, is_voting, lets_superior_roll_back, before_pre_prepare, before_prepare, waits_for_superior, may_vote, may_roll_back_by, may_reject_one_phase, may_recover, enlistment_tests, superior_tests, goes_on, answering, is_to_recover, recover_notes, recover_all, take_first, recovery_of}
-use Rattle.ktm_world.specs.Steps.{led, share_of}
+use Rattle.ktm_world.specs.TransactionCalls.{course_of, commit_reply, commit_of, aborted_by, rollback_of, may_roll_back, rollback_transaction_tests, transaction_in, phase_passes, is_voting, lets_superior_roll_back, before_pre_prepare, before_prepare, waits_for_superior, may_vote, may_roll_back_by, may_reject_one_phase, may_recover, enlistment_tests, superior_tests, goes_on, answering, is_to_recover, recover_notes, recover_all, take_first, recovery_of, arrived}
+use Rattle.ktm_world.specs.Steps.{led, share_of, run}
 use Rattle.ktm_world.specs.Transactions.{same_id, transaction_at, is_active}
-use Rattle.ktm_steps.specs.Procedures.{commit_answered, committing, pre_prepare_answered, prepare_answered, read_only_answered, recovered, rollback_answered, single_phase_rejected}
-use Rattle.ktm_steps.proofs.offered.Table.{rows_law}
 use Rattle.ktm_steps.specs.Outcomes.{MayCome, known}
 use Rattle.txf_laws.specs.Elements.{IsIn}
 use Rattle.ktm_courses.specs.SoundCourse.{IsSoundCourse, is_note_of, is_outcome_of, is_unrecovered_well}
 use Rattle.txf_laws.proofs.offered.Lists.{IsIn-cases, IsIn-unmap}
 use Rattle.txf_laws.proofs.offered.Elements.{IsIn-filter, list_any-from, not-not}
 use Rattle.txf_laws.proofs.offered.Tables.{same_id-equal, same_id-from}
-use Rattle.ktm_courses.proofs.offered.Procedures.{Stands, Arrives, is_backed-from, arrives-committing}
+use Rattle.ktm_courses.proofs.offered.Endings.{Stands, Arrives, is_backed-from, arrives-committing}
 use Rattle.ktm_courses.proofs.offered.CommitsBegun.{Fresh, arrives-to_prepare, arrives-to_pre_prepare, arrives-to_commit}
-use Rattle.ktm_courses.proofs.offered.EnlistmentAnswers.{stands-in, here-from, fresh-from, can_roll_back, voting-rolls, undecided-rolls, undecided-pre_prepare, undecided-prepare, is-committing, is-aborting, owed-commit, owed-rollback, phase-owing, arrives-rolled_back, arrives-pre_prepare_answered, arrives-prepare_answered, arrives-read_only_answered, arrives-single_phase_rejected, arrives-commit_answered, arrives-rollback_answered, arrives-recovered}
-use Rattle.ktm_courses.proofs.offered.Leads.{leads-pre_prepare, leads-prepare, leads-read_only}
+use Rattle.ktm_courses.proofs.offered.EnlistmentAnswers.{stands-in, here-from, fresh-from, can_roll_back, voting-rolls, undecided-rolls, undecided-pre_prepare, undecided-prepare, is-committing, is-aborting, owed-commit, owed-rollback, phase-owing, arrives-rolled_back, arrives-pre_prepare_complete, arrives-prepare_complete, arrives-read_only, arrives-single_phase_reject, arrives-commit_complete, arrives-rollback_complete, arrives-recovered}
 use Rattle.ktm_courses.proofs.offered.Arrivals.{stands-now, brought-now}
 use Rattle.ktm_courses.proofs.offered.Outcomes.{stay-refl, none-known, known-in}
 use Rattle.ktm_courses.proofs.offered.OutcomesMade.{IsSoundOutcome, sound-only_reply, sound-arrived}
 use Rattle.ktm_courses.proofs.offered.Moves.{NoBoots-none, find-found, if_parts}
+use Rattle.ktm_world.specs.Rows.{commits}
 
 -- ---- refusals
 
@@ -100,6 +98,12 @@ superior-rolls Aborting is = is
 superior-rolls Ended is = is
 superior-rolls _ is = refl
 
+pub waiting-rolls : (phase : Phase) → waits_for_superior phase ≡ true → can_roll_back phase ≡ true
+waiting-rolls Committing is = is
+waiting-rolls Aborting is = is
+waiting-rolls Ended is = is
+waiting-rolls _ is = refl
+
 pub single-phase : (phase : Phase) → is_single_phase phase ≡ true → phase ≡ SinglePhase
 single-phase SinglePhase is = refl
 single-phase _ is = absurd (true≢false (sym is))
@@ -136,7 +140,7 @@ module _ (x : Present) (sound : IsSoundCourse x) (t : Transaction) (there : IsIn
   fresh-before_pre_prepare Requested is before = fresh-requested is
   fresh-before_pre_prepare _ is before = absurd (true≢false (sym before))
 
-  pub commits-waiting : (phase : Phase) → t.phase ≡ phase → waits_for_superior phase ≡ true → Arrives boot c (committing c)
+  pub commits-waiting : (phase : Phase) → t.phase ≡ phase → waits_for_superior phase ≡ true → Arrives boot c (run commits c)
   commits-waiting Held is waits = let at = stands-in boot c Held is stands in arrives-committing boot c (record { backed = is_backed-from boot t stands.boots; stand = at.stand; recorded = or_left _ _ at.recorded })
   commits-waiting InDoubt is waits = let at = stands-in boot c InDoubt is stands in arrives-committing boot c (record { backed = is_backed-from boot t stands.boots; stand = at.stand; recorded = or_left _ _ at.recorded })
   commits-waiting _ is waits = absurd (true≢false (sym waits))
@@ -177,16 +181,20 @@ pub record Goes (boot : ℕ) (c : Course) (input : PhaseInput) : Type 0 where
 abbrev pub Answers : Present → PhaseInput → Enlistment → Type 0
 Answers x input e = (t : Transaction) → IsIn t (x.transactions).items → same_id e.transaction t.id ≡ true → transaction_in x e ≡ Some t → Goes (x.recorded).boots (course_of x t (Some e)) input
 
-sound-goes_on : (x : Present) (e : Enlistment) (o : Option Transaction) (input : PhaseInput) → IsSoundCourse x → IsIn e (x.transactions).enlistments → transaction_in x e ≡ o → Answers x input e → IsSoundOutcome x (goes_on x e o input)
-sound-goes_on x e None input sound in_es is answers = sound-only_reply x Done sound
-sound-goes_on x e (Some t) input sound in_es is answers =
-    let found = transaction_at-found (x.transactions).items e.transaction t is in
-    let goes = answers t found.0 (same_id-from e.transaction t.id (sym found.1)) is in
-    sound-arrived x t (Some e) input Done sound found.0 (λ f is. subst (λ g. IsIn g (x.transactions).enlistments) (same_Some e f is) in_es) (goes.arrives) (goes.may)
+-- what is so of a reply alone, and of where its transaction is led, is so of a call of an enlistment
+pub of-answering : (P : Outcome → Type 0) (x : Present) (o : Option Enlistment) (input : Enlistment → PhaseInput) → P (only_reply x Done)
+    → ((e : Enlistment) → o ≡ Some e → (t : Transaction) → IsIn t (x.transactions).items → same_id e.transaction t.id ≡ true → transaction_in x e ≡ Some t → P (arrived x (led (input e) (course_of x t (Some e))) Done)) → P (answering x o input)
+of-answering P x None input replies leads = replies
+of-answering P x (Some e) input replies leads = go (transaction_in x e) refl
+  where
+    go : (o : Option Transaction) → transaction_in x e ≡ o → P (goes_on x e o (input e))
+    go None is = replies
+    go (Some t) is = let found = transaction_at-found (x.transactions).items e.transaction t is in leads e refl t found.0 (same_id-from e.transaction t.id (sym found.1)) is
 
 pub sound-answering : (x : Present) (o : Option Enlistment) (input : Enlistment → PhaseInput) → IsSoundCourse x → ((e : Enlistment) → o ≡ Some e → IsIn e (x.transactions).enlistments) → ((e : Enlistment) → o ≡ Some e → Answers x (input e) e) → IsSoundOutcome x (answering x o input)
-sound-answering x None input sound there answers = sound-only_reply x Done sound
-sound-answering x (Some e) input sound there answers = sound-goes_on x e (transaction_in x e) (input e) sound (there e refl) refl (answers e refl)
+sound-answering x o input sound there answers = of-answering (IsSoundOutcome x) x o input (sound-only_reply x Done sound) (λ e is t at own found.
+    let goes = answers e is t at own found in
+    sound-arrived x t (Some e) (input e) Done sound at (λ f same. subst (λ g. IsIn g (x.transactions).enlistments) (same_Some e f same) (there e is)) goes.arrives goes.may)
 
 pub enlistment-allowed : (o : Option Enlistment) (allowed : Enlistment → Bool) (e : Enlistment) → o ≡ Some e → Passes (enlistment_tests o allowed) → allowed e ≡ true
 enlistment-allowed o allowed e is tests =
@@ -215,42 +223,45 @@ module _ (x : Present) (sound : IsSoundCourse x) (e : Enlistment) (in_es : IsIn 
   brought : (f : Enlistment) → IsIn f c_by.enlistments → is_unrecovered_well n c_by.managers f ≡ true
   brought = brought-now x t (Some e) sound
 
-  -- where a row leads, as its procedure says
-  goes : (input : PhaseInput) (f : Course) → led input c_by ≡ f → Arrives n c_by f → MayCome (known c_by) t.phase input → Goes n c_by input
-  goes input f is arrives may = record { arrives = subst (Arrives n c_by) (sym is) arrives; may = may }
-
   -- nothing is known where it could roll back
   free : can_roll_back t.phase ≡ true → known c_by ≡ None
   free can = none-known t (undecided-rolls t can stands_by.outcome)
 
   pre_prepares : owes_pre_prepare e ≡ true → Goes n c_by PhaseInput.PrePrepareComplete
-  pre_prepares owes = goes _ (pre_prepare_answered c_by e) (leads-pre_prepare x sound t there e in_es own owes)
-      (arrives-pre_prepare_answered n c_by stands_by brought sound.enlistments.rise e in_es own owes) (none-known t (undecided-pre_prepare n c_by stands_by brought sound.enlistments.rise e in_es own owes))
+  pre_prepares owes = record {
+    arrives = arrives-pre_prepare_complete n c_by e stands_by brought sound.enlistments.rise in_es own owes;
+    may = none-known t (undecided-pre_prepare n c_by e stands_by brought sound.enlistments.rise in_es own owes);
+  }
 
   prepares : owes_prepare e ≡ true → Goes n c_by PhaseInput.PrepareComplete
-  prepares owes = goes _ (prepare_answered c_by e) (leads-prepare x sound t there e in_es own owes)
-      (arrives-prepare_answered n c_by stands_by brought sound.enlistments.rise e in_es own owes) (none-known t (undecided-prepare n c_by stands_by brought sound.enlistments.rise e in_es own owes))
+  prepares owes = record {
+    arrives = arrives-prepare_complete n c_by e stands_by brought sound.enlistments.rise in_es own owes;
+    may = none-known t (undecided-prepare n c_by e stands_by brought sound.enlistments.rise in_es own owes);
+  }
 
   reads_only : is_superior e ≡ false → is_open_for_votes e ≡ true → is_voting t.phase ≡ true → Goes n c_by (PhaseInput.ReadOnly (share_of e))
-  reads_only ordinary votes voting = goes _ (read_only_answered c_by e) (leads-read_only x sound t there e in_es own ordinary (not-true _ (and_parts (not e.is_read_only) (not e.is_prepared) votes).0))
-      (arrives-read_only_answered n c_by stands_by brought sound.enlistments.rise e in_es own ordinary votes voting) (free (voting-rolls t.phase voting))
+  reads_only ordinary votes voting = record { arrives = arrives-read_only n c_by e stands_by brought sound.enlistments.rise in_es own ordinary votes voting; may = free (voting-rolls t.phase voting) }
 
-  commits : owes_commit e ≡ true → Goes n c_by PhaseInput.CommitComplete
-  commits owes = goes _ (commit_answered c_by e) (rows_law.commit_completes c_by e refl) (arrives-commit_answered n c_by stands_by brought sound.enlistments.rise e in_es own owes)
-      (elim (is-committing t.phase (phase-owing n c_by stands_by brought sound.enlistments.rise e in_es own Owed.Commit (owed-commit e owes))) [
-        | inl phase ↦ inr (known-in Committing t (subst (λ p. is_outcome_of p t ≡ true) phase stands_by.outcome))
-        | inr phase ↦ inl (free (subst (λ p. can_roll_back p ≡ true) (sym phase) refl))
-      ])
+  commits_by : owes_commit e ≡ true → Goes n c_by PhaseInput.CommitComplete
+  commits_by owes = record {
+    arrives = arrives-commit_complete n c_by e stands_by brought sound.enlistments.rise in_es own owes;
+    may = elim (is-committing t.phase (phase-owing n c_by e stands_by brought sound.enlistments.rise in_es own Owed.Commit (owed-commit e owes))) [
+      | inl phase ↦ inr (known-in Committing t (subst (λ p. is_outcome_of p t ≡ true) phase stands_by.outcome))
+      | inr phase ↦ inl (free (subst (λ p. can_roll_back p ≡ true) (sym phase) refl))
+    ];
+  }
 
   rolls_back : owes_rollback e ≡ true → Goes n c_by PhaseInput.RollbackComplete
-  rolls_back owes = goes _ (rollback_answered c_by e) (rows_law.rollback_completes c_by e refl) (arrives-rollback_answered n c_by stands_by brought sound.enlistments.rise e in_es own owes)
-      (inr (known-in Aborting t (subst (λ p. is_outcome_of p t ≡ true) (is-aborting t.phase (phase-owing n c_by stands_by brought sound.enlistments.rise e in_es own Owed.Rollback (owed-rollback e owes))) stands_by.outcome)))
+  rolls_back owes = record {
+    arrives = arrives-rollback_complete n c_by e stands_by brought sound.enlistments.rise in_es own owes;
+    may = inr (known-in Aborting t (subst (λ p. is_outcome_of p t ≡ true) (is-aborting t.phase (phase-owing n c_by e stands_by brought sound.enlistments.rise in_es own Owed.Rollback (owed-rollback e owes))) stands_by.outcome));
+  }
 
   rejects : t.phase ≡ SinglePhase → owes_commit e ≡ true → Goes n c_by PhaseInput.SinglePhaseReject
-  rejects single owes = goes _ (single_phase_rejected c_by e) (rows_law.rejects_one_phase c_by e refl) (arrives-single_phase_rejected n c_by stands_by brought sound.enlistments.rise e in_es own single owes) tt
+  rejects single owes = record { arrives = arrives-single_phase_reject n c_by e stands_by brought sound.enlistments.rise in_es own single owes; may = tt }
 
   recovers : e.is_recovered ≡ false → Goes n c_by (recovery_of e)
-  recovers back = goes _ (recovered c_by e) (rows_law.recovers c_by e refl) (arrives-recovered n c_by stands_by brought sound.enlistments.rise e in_es own back) (may (is_superior e))
+  recovers back = record { arrives = arrives-recovered n c_by e stands_by brought sound.enlistments.rise in_es own back; may = may (is_superior e) }
     where
       may : (above : Bool) → MayCome (known c_by) t.phase (if above then PhaseInput.RecoverSuperior else PhaseInput.Recover)
       may true = tt
@@ -270,7 +281,7 @@ module _ (x : Present) (sound : IsSoundCourse x) (o : Option Enlistment) (there 
       reads_only x sound e (there e is) t at own (not-true _ both.0) both.1 (phase-passed x is_voting e t found phase.1)
 
   pub goes-commit_complete : Passes (enlistment_tests o owes_commit) → (e : Enlistment) → o ≡ Some e → Answers x PhaseInput.CommitComplete e
-  goes-commit_complete tests e is t at own found = commits x sound e (there e is) t at own (enlistment-allowed o owes_commit e is tests)
+  goes-commit_complete tests e is t at own found = commits_by x sound e (there e is) t at own (enlistment-allowed o owes_commit e is tests)
 
   pub goes-rollback_complete : Passes (enlistment_tests o owes_rollback) → (e : Enlistment) → o ≡ Some e → Answers x PhaseInput.RollbackComplete e
   goes-rollback_complete tests e is t at own found = rolls_back x sound e (there e is) t at own (enlistment-allowed o owes_rollback e is tests)
@@ -305,16 +316,10 @@ module _ (x : Present) (sound : IsSoundCourse x) (o : Option Enlistment) (there 
       record { arrives = arrives-to_prepare (x.recorded).boots c fresh; may = none-known t fresh.undecided }
 
   pub goes-commit_enlistment : Passes (superior_tests x o waits_for_superior) → (e : Enlistment) → o ≡ Some e → Answers x PhaseInput.Commit e
+  unfolding led
   goes-commit_enlistment tests e is t at own found =
-      let c = course_of x t (Some e) in
       let waits = phase-passed x waits_for_superior e t found (superior-allowed x o waits_for_superior e is tests) in
-      goes x sound e (there e is) t at own _ (committing c) (rows_law.commits c) (commits-waiting x sound t at (Some e) t.phase refl waits) (free x sound e (there e is) t at own (waiting-rolls t.phase waits))
-    where
-      waiting-rolls : (phase : Phase) → waits_for_superior phase ≡ true → can_roll_back phase ≡ true
-      waiting-rolls Committing is = is
-      waiting-rolls Aborting is = is
-      waiting-rolls Ended is = is
-      waiting-rolls _ is = refl
+      record { arrives = commits-waiting x sound t at (Some e) t.phase refl waits; may = free x sound e (there e is) t at own (waiting-rolls t.phase waits) }
 
   pub goes-recover_enlistment : Passes (enlistment_tests o (may_recover x)) → (e : Enlistment) → o ≡ Some e → Answers x (recovery_of e) e
   goes-recover_enlistment tests e is t at own found = recovers x sound e (there e is) t at own (not-true _ (and_parts (not e.is_recovered) _ (enlistment-allowed o (may_recover x) e is tests)).0)

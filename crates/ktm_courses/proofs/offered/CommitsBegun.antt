@@ -1,6 +1,6 @@
 -- How a commit begins: what a transaction comes to, of which nobody is prepared yet, is sound again.
-use Rattle.std.proofs.Common.{◌≡◌, ℕ, ◌&&◌, not, Bool, true, false, List, [], ◌∷◌, ◌++◌, length, count_by, nat_lt, is_some, refl, sym, ◌∙◌, ap, subst, arith, inl, inr, ◌⊎◌}
-use Rattle.std.proofs.lemmas.Bool.{cases_Bool, and_parts, and_from, or_left, eq-eqb, not-true, not_from_false, true≢false}
+use Rattle.std.proofs.Common.{◌≡◌, ℕ, ◌&&◌, not, Bool, true, false, List, [], ◌∷◌, ◌++◌, length, count_by, nat_lt, is_some, refl, sym, ◌∙◌, ap, subst, arith, inl, inr, ◌⊎◌, filter}
+use Rattle.std.proofs.lemmas.Bool.{cases_Bool, and_parts, and_from, or_left, eq-eqb, not-true, not_from_false, true≢false, eqb-true}
 use Rattle.std.proofs.lemmas.List.Sums.{length-filter}
 use Rattle.ktm_base.specs.declared.notify.Notify.{Notify}
 use Rattle.ktm_types.specs.declared.event.Event.{Event}
@@ -14,16 +14,17 @@ use Rattle.ktm_world.specs.Enlistments.{Enlistment, asks_pre_prepare, allows_one
 use Rattle.ktm_world.specs.Phases.{Course, ended, in_phase, recording, telling, owing, unchanged, superior, is_its_superior, has_settings, one_if, work_of, is_single_phase}
 use Rattle.ktm_world.specs.Transactions.{is_undecided}
 use Rattle.ktm_world.specs.Changes.{has_changes}
-use Rattle.ktm_world.specs.Steps.{led, run}
-use Rattle.ktm_steps.proofs.offered.Table.{all_readies-run}
+use Rattle.ktm_world.specs.Steps.{led, run, counted, seen}
 use Rattle.ktm_steps.proofs.offered.Ways.{Ways, commit-by, pre_prepare-by, prepare-by, proceed-by}
-use Rattle.ktm_steps.specs.Procedures.{some_enlistment, taking_part, pre_prepared}
 use Rattle.txf_laws.specs.Elements.{IsIn}
 use Rattle.ktm_courses.specs.SoundCourse.{is_last_recover, is_unrecovered_well, is_outcome_of, is_of_its_boot, is_superior_as, is_idle, is_waiting, is_part_as, is_awaited, has_durable_part, is_recorded_as_asked}
 use Rattle.txf_laws.proofs.offered.Diamonds.{none-from}
 use Rattle.txf_laws.proofs.offered.Elements.{list_any-at, list_any-from}
-use Rattle.ktm_courses.proofs.offered.Moves.{if_cases, IsIn-map, IsSame, IsSame-refl, Moved, Moved-then, moved-transaction, moved-recording, moved-telling, Changes, changes-none, stepped, with-unchanged, Stand, Stand-with}
-use Rattle.ktm_courses.proofs.offered.Procedures.{none-at, filter-with, superior-with, idle-parts, part-parts, unprepared-recovered, Arrives, arrives-then, its-own, arrives-ended, alike-owing, no-parts, Stand-nobody, only-one, arrives-all_ready, AllReady}
+use Rattle.ktm_courses.proofs.offered.Moves.{if_cases, IsIn-map, IsSame, IsSame-refl, Moved, Moved-then, moved-transaction, moved-telling, Changes, changes-none, stepped, with-unchanged, Stand, Stand-with, moved-still}
+use Rattle.ktm_courses.proofs.offered.Endings.{filter-with, superior-with, idle-parts, part-parts, unprepared-recovered, Arrives, arrives-then, its-own, arrives-ended, alike-owing, no-parts, Stand-nobody, only-one, arrives-all_ready, AllReady}
+use Rattle.ktm_steps.proofs.offered.Counts.{parts-counted, some-counted}
+use Rattle.ktm_world.specs.Rows.{proceeds}
+use Rattle.std.specs.List.{list_any}
 
 -- nothing of the transaction is prepared, and the outcome is not known
 pub record Fresh (boot : ℕ) (c : Course) : Type 0 where
@@ -99,24 +100,20 @@ module _ (boot : ℕ) (c : Course) (fresh : Fresh boot c) where
   asked-stand = Stand-with c.enlistments (c.transaction).id is_idle (is_part_as Preparing) take_part (owing Owed.Prepare) fresh.stand (λ e there is. is) (alike-owing Owed.Prepare)
       (λ e there part idle is. rw ((idle-parts e idle).1, (idle-parts e idle).2) refl) (λ e there part idle silent. absurd (true≢false (sym part ∙ silent)))
 
-  -- nobody takes part
-  nobody : some_enlistment c (λ e. true) ≡ false → (e : Enlistment) → IsIn e c.enlistments → takes_part (c.transaction).id e ≡ true → ⊥
-  nobody none e there part = true≢false (sym (and_from _ _ part refl) ∙ none-at _ c.enlistments none e there)
-
-  all-ready : some_enlistment c (λ e. true) ≡ false → AllReady boot c
+  all-ready : counted c (λ e. true) ≡ 0 → AllReady boot c
   all-ready none = record {
     here = fresh.here;
     undecided = fresh.undecided;
-    stand = Stand-nobody c.enlistments (c.transaction).id is_idle is_waiting fresh.stand (nobody none);
-    recorded = λ some. let one = list_any-at _ c.enlistments some in absurd (nobody none one.0 one.1 (and_parts (takes_part (c.transaction).id one.0) _ one.2).0);
+    stand = Stand-nobody c.enlistments (c.transaction).id is_idle is_waiting fresh.stand (no-parts c none);
+    recorded = λ some. let one = list_any-at _ c.enlistments some in absurd (no-parts c none one.0 one.1 (and_parts (takes_part (c.transaction).id one.0) _ one.2).0);
   }
 
   -- ---- one participant alone
 
-  arrives-single : (part : Part) → length (taking_part c) ≡ 0 → Arrives boot c (ended (record (recording c (Event.Single (c.transaction).id part ∷ [])) { works = c.works ++ work_of c }) Committed)
+  arrives-single : (part : Part) → counted c (λ e. true) ≡ 0 → Arrives boot c (ended (record (recording c (Event.Single (c.transaction).id part ∷ [])) { works = c.works ++ work_of c }) Committed)
   arrives-single part none =
       let d = record (recording c (Event.Single (c.transaction).id part ∷ [])) { works = c.works ++ work_of c } in
-      arrives-then boot (moved-recording c _ (c.works ++ work_of c))
+      arrives-then boot (moved-still c c.transaction d.events d.works refl refl refl)
       (arrives-ended boot d Committed refl (rw fresh.here refl) (Stand-nobody c.enlistments (c.transaction).id is_idle (is_part_as Ended) fresh.stand (no-parts c none)))
 
   abbrev c_single : Course
@@ -128,7 +125,7 @@ module _ (boot : ℕ) (c : Course) (fresh : Fresh boot c) where
   one_if-false : (b : Bool) → b ≡ false → one_if b ≡ 0
   one_if-false b is = ap one_if is
 
-  arrives-one_phase : length (taking_part c) ≡ 1 → has_changes c.changes ≡ false → has_settings c.settings ≡ false → is_some (superior c) ≡ false → some_enlistment c allows_one_phase ≡ true → Arrives boot c c_single
+  arrives-one_phase : length (filter take_part c.enlistments) ≡ 1 → has_changes c.changes ≡ false → has_settings c.settings ≡ false → is_some (superior c) ≡ false → list_any (λ e. takes_part (c.transaction).id e && allows_one_phase e) c.enlistments ≡ true → Arrives boot c c_single
   arrives-one_phase one changes settings alone some =
       let first = list_any-at _ c.enlistments some in
       let parts = and_parts (takes_part (c.transaction).id first.0) (allows_one_phase first.0) first.2 in
@@ -161,7 +158,7 @@ module _ (boot : ℕ) (c : Course) (fresh : Fresh boot c) where
   abbrev c_pre_preparing : Course
   c_pre_preparing = in_phase (telling c ask Notify.PrePrepare (owing Owed.PrePrepare)) PrePreparing
 
-  arrives-pre_preparing : some_enlistment c asks_pre_prepare ≡ true → Arrives boot c c_pre_preparing
+  arrives-pre_preparing : list_any ask c.enlistments ≡ true → Arrives boot c c_pre_preparing
   arrives-pre_preparing some = record {
     moved = Moved-then (moved-telling c ask Notify.PrePrepare (owing Owed.PrePrepare) refl (changes-parts ask Owed.PrePrepare (λ e is. (and_parts (takes_part (c.transaction).id e) (asks_pre_prepare e) is).0)))
         (moved-transaction (telling c ask Notify.PrePrepare (owing Owed.PrePrepare)) c_pre_preparing.transaction refl refl refl);
@@ -183,7 +180,7 @@ module _ (boot : ℕ) (c : Course) (fresh : Fresh boot c) where
     };
   }
 
-  arrives-preparing : some_enlistment c (λ e. true) ≡ true → Arrives boot c c_asked
+  arrives-preparing : list_any (λ e. takes_part (c.transaction).id e && true) c.enlistments ≡ true → Arrives boot c c_asked
   arrives-preparing some = record {
     moved = asked-moved;
     stands = record {
@@ -203,20 +200,22 @@ module _ (boot : ℕ) (c : Course) (fresh : Fresh boot c) where
 
   -- ---- each way to go on
 
-  ways : Ways (λ steps. Arrives boot c (run steps c)) c
+  ways : Ways (λ steps. Arrives boot c (run steps c)) (seen c)
   ways = record {
     requested = λ has. arrives-superior_told Requested Notify.CommitRequest refl fresh.undecided (rw fresh.here refl) refl has (λ es stand. stand) (λ es. refl) refl (λ es. not_from_false _ fresh.unrecorded);
     pre_prepared = λ has. arrives-superior_told PrePrepared Notify.PrePrepareComplete refl fresh.undecided (rw fresh.here refl) refl has (λ es stand. stand) (λ es. refl) refl (λ es. not_from_false _ fresh.unrecorded);
-    pre_preparing = arrives-pre_preparing;
-    preparing = arrives-preparing;
-    one_phase = λ alone one changes settings some. let no_files = one_if-false _ changes in let no_keys = one_if-false _ settings in arrives-one_phase (omega arith) changes settings alone some;
+    pre_preparing = λ some. arrives-pre_preparing (some-counted c asks_pre_prepare false some);
+    preparing = λ some. arrives-preparing (some-counted c (λ e. true) false some);
+    one_phase = λ alone one changes settings some.
+        let no_files = one_if-false _ changes in let no_keys = one_if-false _ settings in let parts = parts-counted c in
+        arrives-one_phase (omega arith) changes settings alone (some-counted c allows_one_phase false some);
     files = λ one changes. let counted = one_if-true _ changes in arrives-single (Part.Changes c.changes) (omega arith);
     keys = λ one changes settings. let counted = one_if-true _ settings in arrives-single (Part.Settings c.settings) (omega arith);
     nobody = λ none. arrives-ended boot c Committed refl (rw fresh.here refl) (Stand-nobody c.enlistments (c.transaction).id is_idle (is_part_as Ended) fresh.stand (no-parts c (omega arith)));
-    ready = λ none. subst (Arrives boot c) (sym (all_readies-run c)) (arrives-all_ready boot c (all-ready none));
+    ready = λ none. arrives-all_ready boot c (all-ready (eqb-true _ 0 none));
   }
 
-  pub arrives-pre_prepared : Arrives boot c (pre_prepared c)
+  pub arrives-pre_prepared : Arrives boot c (run (proceeds (seen c)) c)
   arrives-pre_prepared = proceed-by (Arrives boot c) c ways
 
   pub arrives-to_prepare : Arrives boot c (led PhaseInput.Prepare c)

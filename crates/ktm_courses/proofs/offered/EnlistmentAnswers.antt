@@ -13,26 +13,78 @@ use Rattle.ktm_types.specs.declared.object.Transaction.{Transaction}
 use Rattle.ktm_types.specs.declared.object.TransactionOutcome.{TransactionOutcome}
 use Rattle.ktm_types.specs.declared.step.Owed.{Owed}
 use Rattle.ktm_world.specs.Enlistments.{has_id, Sent, Enlistment, Manager, is_superior, is_open_for_votes, asks_pre_prepare, allows_one_phase, owes_pre_prepare, owes_prepare, owes_commit, owes_rollback, takes_part, is_unfinished, is_durable_at, with_enlistments, superior_of}
-use Rattle.ktm_world.specs.Phases.{Course, changing_one, enlistment_part, is_single_phase, in_phase, recording, telling, owing, unchanged, superior, ended, ended_if_finished, event_if}
+use Rattle.ktm_world.specs.Phases.{Course, changing_one, is_single_phase, in_phase, recording, telling, owing, unchanged, superior, ended, ended_if_finished, event_if}
 use Rattle.ktm_world.specs.Transactions.{same_id, is_undecided}
 use Rattle.txf_laws.specs.Elements.{IsIn, each_pair}
 use Rattle.ktm_courses.specs.SoundCourse.{is_last_recover, is_phase_back, is_unrecovered_well, is_outcome_of, is_of_its_boot, is_superior_as, is_idle, is_waiting, owes_until_finished, is_part_as, has_part, is_awaited_as, is_recorded_as, has_durable_part}
 use Rattle.txf_laws.proofs.offered.Diamonds.{none-from}
 use Rattle.txf_laws.proofs.offered.Lists.{IsIn-unmap}
-use Rattle.txf_laws.proofs.offered.Elements.{list_any-at, list_any-from}
-use Rattle.ktm_courses.proofs.offered.Moves.{same-by_id, if_parts, moved-changing, unrecovered-moved, if_cases, IsIn-map, IsSame, IsSame-refl, IsAlike, Moved, Moved-then, moved-transaction, moved-recording, moved-telling, Changes, stepped, with-unchanged, is_bystander, Stand, Stand-with, Stand-as}
-use Rattle.ktm_courses.proofs.offered.Procedures.{is_backed-from, waiting-parts, over-part, arrives-if_finished, may_be_told, arrives-aborting, none-at, list_any-told, list_any-with, filter-with, superior-with, idle-parts, part-parts, unprepared-recovered, Arrives, Stands, arrives-then, alike-owing, Stand-nobody, only-one, arrives-ended, arrives-all_ready}
+use Rattle.txf_laws.proofs.offered.Elements.{list_any-at, list_any-from, list_all-at}
+use Rattle.ktm_courses.proofs.offered.Moves.{same-by_id, if_parts, moved-changing, unrecovered-moved, if_cases, IsIn-map, IsSame, IsSame-refl, IsAlike, Moved, Moved-then, moved-transaction, moved-telling, Changes, stepped, with-unchanged, is_bystander, Stand, Stand-with, Stand-as, moved-still}
+use Rattle.ktm_courses.proofs.offered.Endings.{is_backed-from, waiting-parts, over-part, arrives-if_finished, may_be_told, arrives-aborting, none-at, list_any-told, list_any-with, filter-with, superior-with, idle-parts, part-parts, unprepared-recovered, Arrives, Stands, arrives-then, alike-owing, Stand-nobody, only-one, arrives-ended, arrives-all_ready}
 use Rattle.ktm_world.specs.Durable.{is_before}
-use Rattle.ktm_world.specs.Steps.{led}
-use Rattle.ktm_world.specs.TransactionCalls.{is_voting}
-use Rattle.ktm_steps.specs.Procedures.{someone_owes, when_none_owes, pre_prepare_answered, prepare_answered, without_its_answer, recovered as recovered_by, read_only_answered, single_phase_rejected, finished, commit_answered, rollback_answered, recovering, recovered_in, all_ready, pre_prepared}
-use Rattle.txf_laws.proofs.offered.Tables.{same_id-equal, same_id-from}
+use Rattle.ktm_world.specs.Steps.{led, answered, run, seen, share_of}
+use Rattle.ktm_world.specs.TransactionCalls.{is_voting, recovery_of}
+use Rattle.txf_laws.proofs.offered.Tables.{same_id-equal, same_id-from, before_other}
 use Rattle.ktm_courses.proofs.offered.CommitsBegun.{Fresh, arrives-pre_prepared}
+use Rattle.ktm_steps.specs.Laws.{IsPart, by, someone_owes, when_none_owes}
+use Rattle.ktm_steps.proofs.offered.Table.{rows_law}
+use Rattle.ktm_steps.proofs.offered.Ways.{choose}
+use Rattle.ktm_world.specs.Rows.{all_readies, proceeds, proceeds_without, row, tells_in}
+use Rattle.ktm_types.specs.declared.step.Answered.{Answered}
+use Rattle.ktm_types.specs.declared.step.Fact.{Fact}
+use Rattle.ktm_types.specs.declared.step.Step.{Step}
+use Rattle.ktm_types.specs.declared.step.Step.TheVariants.{Record}
+use Rattle.ktm_base.specs.declared.id.Id.{Id}
+use Rattle.std.specs.List.{list_any, list_all}
 
 -- ---- enlistments by their Ids
 
 abbrev pub RiseEnlistments : List Enlistment → Type 0
 RiseEnlistments es = each_pair (λ (e f : Enlistment). is_before e.id f.id) es ≡ true
+
+-- the enlistment, with those before it and those after it, of which none has its Id
+record Between (e : Enlistment) (es : List Enlistment) : Type 0 where
+  before : List Enlistment
+  after : List Enlistment
+  is : es ≡ before ++ (e ∷ after)
+  none_before : list_any (has_id e.id) before ≡ false
+  none_after : list_any (has_id e.id) after ≡ false
+
+-- an Id before another is another
+earlier : (a b : Id) → is_before a b ≡ true → same_id a b ≡ false
+earlier a b before = false_from_ne_true _ (λ same. before_other a b before (same_id-equal a b same))
+
+later : (a b : Id) → is_before a b ≡ true → same_id b a ≡ false
+later a b before = false_from_ne_true _ (λ same. before_other a b before (sym (same_id-equal b a same)))
+
+between : (e : Enlistment) (es : List Enlistment) → RiseEnlistments es → IsIn e es → Between e es
+between e [] rise there = absurd there
+between e (f ∷ fs) rise (inl same) =
+    let first : list_all (λ (g : Enlistment). is_before f.id g.id) fs ≡ true = (and_parts (list_all (λ (g : Enlistment). is_before f.id g.id) fs) (each_pair (λ (a b : Enlistment). is_before a.id b.id) fs) rise).0 in
+    record {
+      before = [];
+      after = fs;
+      is = ap (λ g. g ∷ fs) same;
+      none_before = refl;
+      none_after = none-from (has_id e.id) fs (λ g there. later e.id g.id (subst (λ (x : Enlistment). is_before x.id g.id ≡ true) same (list_all-at (λ (g : Enlistment). is_before f.id g.id) fs first g there)));
+    }
+between e (f ∷ fs) rise (inr there) =
+    let both = and_parts (list_all (λ (g : Enlistment). is_before f.id g.id) fs) (each_pair (λ (a b : Enlistment). is_before a.id b.id) fs) rise in
+    let rest = between e fs both.1 there in
+    record {
+      before = f ∷ rest.before;
+      after = rest.after;
+      is = ap (λ gs. f ∷ gs) rest.is;
+      none_before = rw (earlier f.id e.id (list_all-at (λ (g : Enlistment). is_before f.id g.id) fs both.0 e there)) rest.none_before;
+      none_after = rest.none_after;
+    }
+
+-- one that takes part is the only one with its Id
+pub is-part : (c : Course) (e : Enlistment) → RiseEnlistments c.enlistments → IsIn e c.enlistments → takes_part c.transaction.id e ≡ true → IsPart c e
+is-part c e rise there part =
+    let at = between e c.enlistments rise there in
+    record { before = at.before; after = at.after; is = at.is; none_before = at.none_before; none_after = at.none_after; part = part }
 
 -- ---- what is owed
 
@@ -224,8 +276,12 @@ undecided-rolls t = go t.phase
 
 -- ---- one enlistment answers
 
-module _ (boot : ℕ) (c : Course) (stands : Stands boot c) (brought : (e : Enlistment) → IsIn e c.enlistments → is_unrecovered_well boot c.managers e ≡ true) (rise : RiseEnlistments c.enlistments)
-    (e : Enlistment) (there : IsIn e c.enlistments) (own : same_id e.transaction (c.transaction).id ≡ true) where
+module _ (boot : ℕ) (before_it : Course) (e : Enlistment) (stands : Stands boot (by before_it e)) (brought : (e : Enlistment) → IsIn e before_it.enlistments → is_unrecovered_well boot before_it.managers e ≡ true)
+    (rise : RiseEnlistments before_it.enlistments) (there : IsIn e before_it.enlistments) (own : same_id e.transaction (before_it.transaction).id ≡ true) where
+  -- the course where it makes the call
+  abbrev c : Course
+  c = by before_it e
+
   it : (x : Enlistment) → IsIn x c.enlistments → has_id e.id x ≡ true → x ≡ e
   it x there' is = same-by_id (λ (f : Enlistment). f.id) c.enlistments rise x e there' there (same_id-equal x.id e.id is)
 
@@ -250,6 +306,9 @@ module _ (boot : ℕ) (c : Course) (stands : Stands boot c) (brought : (e : Enli
     | inr other ↦
         absurd (owes_none e owed is (idle-parts e (and_parts (is_idle e) (not (is_superior e && e.is_read_only)) ((stands.stand).others e there own other)).0).0)
   ]
+
+  part-owing : (owed : Owed) → e.owes ≡ Some owed → IsPart c e
+  part-owing owed is = is-part c e rise there (takes_part-owing owed is)
 
   recovered-owing : (owed : Owed) → e.owes ≡ Some owed → e.is_recovered ≡ true
   recovered-owing owed is = elim (cases_Bool e.is_recovered) [
@@ -281,15 +340,11 @@ module _ (boot : ℕ) (c : Course) (stands : Stands boot c) (brought : (e : Enli
 
   -- ---- PrePrepareComplete
 
-  -- it owes nothing any more
-  abbrev answered : Enlistment → Enlistment
-  answered x = record x { owes = None }
-
-  alike-answered : (x : Enlistment) → IsAlike x (answered x)
+  alike-answered : (x : Enlistment) → IsAlike x (answered Answered.PrePrepared x)
   alike-answered x = record { same = record { id = refl; manager = refl; transaction = refl; kind = refl; information = refl }; read_only = refl }
 
   abbrev c_answered : Course
-  c_answered = changing_one c e.id answered
+  c_answered = changing_one c e.id (answered Answered.PrePrepared)
 
   idle-from : (x : Enlistment) → is_part_as PrePreparing x ≡ true → is_none x.owes ≡ true → is_idle x ≡ true
   idle-from x fits none =
@@ -297,9 +352,8 @@ module _ (boot : ℕ) (c : Course) (stands : Stands boot c) (brought : (e : Enli
       let first = and_parts (not x.is_prepared) (not x.is_finished) both.0 in
       and_from _ _ (and_from _ _ none first.0) first.1
 
-  pub arrives-pre_prepare_answered : owes_pre_prepare e ≡ true → Arrives boot c (pre_prepare_answered c e)
-  unfolding pre_prepare_answered
-  arrives-pre_prepare_answered owes = if_cases (λ d. Arrives boot c d) (someone_owes c_answered) c_answered (pre_prepared c_answered)
+  pub arrives-pre_prepare_complete : owes_pre_prepare e ≡ true → Arrives boot c (led PhaseInput.PrePrepareComplete c)
+  arrives-pre_prepare_complete owes = subst (Arrives boot c) (sym (rows_law.pre_prepare_completes c e (part-owing Owed.PrePrepare is) (ap is_some is))) (if_cases (λ d. Arrives boot c d) (someone_owes c_answered) c_answered (run (proceeds (seen c_answered)) c_answered)
       (λ some. record {
         moved = moved;
         stands = stands-back boot c_answered PrePreparing phase (record {
@@ -315,7 +369,7 @@ module _ (boot : ℕ) (c : Course) (stands : Stands boot c) (brought : (e : Enli
       (λ none. arrives-then boot moved (arrives-pre_prepared boot c_answered (fresh-from boot c_answered at.outcome (here-from boot (in_phase c PrePreparing).transaction refl at.boots) at.recorded
       (Stand-as c_answered.enlistments (c.transaction).id (is_part_as PrePreparing) is_idle stand (λ x there' part fits.
       idle-from x fits (none-owed c_answered none x there' part)))
-      (unrecovered-moved c c_answered boot moved brought))))
+      (unrecovered-moved c c_answered boot moved brought)))))
     where
       is : e.owes ≡ Some Owed.PrePrepare
       is = owed-pre_prepare e owes
@@ -327,24 +381,24 @@ module _ (boot : ℕ) (c : Course) (stands : Stands boot c) (brought : (e : Enli
       at = stands-in boot c PrePreparing phase stands
 
       moved : Moved c c_answered
-      moved = moved-one answered (λ x. (alike-answered x).same) (recovered-owing Owed.PrePrepare is)
+      moved = moved-one (answered Answered.PrePrepared) (λ x. (alike-answered x).same) (recovered-owing Owed.PrePrepare is)
 
       stand : Stand c_answered.enlistments (c.transaction).id (is_part_as PrePreparing)
-      stand = stand-one (is_part_as PrePreparing) (is_part_as PrePreparing) answered at.stand (takes_part-owing Owed.PrePrepare is) alike-answered
+      stand = stand-one (is_part_as PrePreparing) (is_part_as PrePreparing) (answered Answered.PrePrepared) at.stand (takes_part-owing Owed.PrePrepare is) alike-answered
           (λ fits. and_from _ _ (and_parts (not e.is_prepared && not e.is_finished) (is_none e.owes || (owes_pre_prepare e && asks_pre_prepare e)) fits).0 refl) (λ x there' part fits other. fits)
 
   -- ---- PrepareComplete
 
   -- it owes nothing, and is prepared
   abbrev prepared : Enlistment → Enlistment
-  prepared x = record x { owes = None; is_prepared = true }
+  prepared = answered Answered.Prepared
 
   alike-prepared : (x : Enlistment) → IsAlike x (prepared x)
   alike-prepared x = record { same = record { id = refl; manager = refl; transaction = refl; kind = refl; information = refl }; read_only = refl }
 
-  -- which is recorded or not
-  abbrev c_prepared : List Event → Bool → Course
-  c_prepared events recorded' = record c { enlistments = with_enlistments (has_id e.id) prepared c.enlistments; events = events; transaction = record c.transaction { is_recorded = recorded' } }
+  -- which is recorded where its resource manager is durable
+  abbrev c_prepared : Course
+  c_prepared = run (Step.Change Answered.Prepared ∷ Record Fact.Ready ∷ []) c
 
   module _ (owes : owes_prepare e ≡ true) where
     is_prepare : e.owes ≡ Some Owed.Prepare
@@ -370,57 +424,53 @@ module _ (boot : ℕ) (c : Course) (stands : Stands boot c) (brought : (e : Enli
     here_preparing : nat_lt ((c.transaction).id).boot boot ≡ false
     here_preparing = here-from boot (in_phase c Preparing).transaction refl at_preparing.boots
 
-    -- the transaction goes on
-    goes-on : (events : List Event) (recorded' : Bool) → Moved c (c_prepared events recorded')
-        → (if has_durable_part c.managers (with_enlistments (has_id e.id) prepared c.enlistments) (c.transaction).id (λ x. x.is_prepared) then recorded' else not recorded') ≡ true
-        → Arrives boot c (when_none_owes (c_prepared events recorded') all_ready)
-    goes-on events recorded' moved right = let d = c_prepared events recorded' in if_cases (λ d. Arrives boot c d) (someone_owes d) d (all_ready d)
+    prepared-moved : Moved c c_prepared
+    prepared-moved = Moved-then (moved-one prepared (λ x. (alike-prepared x).same) (recovered-owing Owed.Prepare is_prepare)) (moved-still (changing_one c e.id prepared) c_prepared.transaction c_prepared.events c.works refl refl refl)
+
+    -- the log has it where an enlistment with a durable resource manager is prepared
+    prepared-recorded : is_recorded_as Preparing c.managers c_prepared.enlistments (c.transaction).id (c_prepared.transaction).is_recorded ≡ true
+    prepared-recorded = elim (cases_Bool (is_durable_at c.managers e.manager)) [
+      | inl durable ↦
+          rw (list_any-from (λ x. takes_part (c.transaction).id x && (x.is_prepared && is_durable_at c.managers x.manager)) c_prepared.enlistments (stepped (has_id e.id) prepared e)
+          (IsIn-map (stepped (has_id e.id) prepared) e c.enlistments there) (rw it-itself (and_from _ _ part_preparing durable))) (or_left _ _ durable)
+      | inr volatile ↦
+          subst (λ d. (if has_durable_part c.managers c_prepared.enlistments (c.transaction).id (λ x. x.is_prepared) then d || (c.transaction).is_recorded else not (d || (c.transaction).is_recorded)) ≡ true) (sym volatile)
+          (subst (λ b. (if b then (c.transaction).is_recorded else not (c.transaction).is_recorded) ≡ true)
+          (sym (list_any-told (λ x. takes_part (c.transaction).id x && (x.is_prepared && is_durable_at c.managers x.manager)) (has_id e.id) prepared c.enlistments (λ x there' is.
+          let none : is_durable_at c.managers x.manager ≡ false = subst (λ (y : Enlistment). is_durable_at c.managers y.manager ≡ false) (sym (it x there' is)) volatile in
+          rw none (ap (λ b. takes_part (c.transaction).id x && b) (sym (and_right x.is_prepared false refl))))))
+          at_preparing.recorded)
+    ]
+
+    pub arrives-prepare_complete : Arrives boot c (led PhaseInput.PrepareComplete c)
+    arrives-prepare_complete = subst (Arrives boot c) (sym (rows_law.prepare_completes c e (part-owing Owed.Prepare is_prepare) (ap is_some is_prepare))) (if_cases (λ d. Arrives boot c d) (someone_owes c_prepared) c_prepared (run (all_readies (seen c_prepared)) c_prepared)
         (λ some. record {
-          moved = moved;
-          stands = stands-back boot d Preparing phase_preparing (record {
+          moved = prepared-moved;
+          stands = stands-back boot c_prepared Preparing phase_preparing (record {
             outcome = at_preparing.outcome;
             boots = rw here_preparing refl;
             superior = refl;
             stand = stand_prepared;
             awaited = some;
             alone = refl;
-            recorded = right;
+            recorded = prepared-recorded;
           });
         })
-        (λ none. arrives-then boot moved (arrives-all_ready boot d (record {
+        (λ none. arrives-then boot prepared-moved (arrives-all_ready boot c_prepared (record {
           here = here_preparing;
           undecided = at_preparing.outcome;
-          stand = Stand-as d.enlistments (c.transaction).id (is_part_as Preparing) is_waiting stand_prepared (λ x there' part fits. elim (preparing-parts x fits) [
+          stand = Stand-as c_prepared.enlistments (c.transaction).id (is_part_as Preparing) is_waiting stand_prepared (λ x there' part fits. elim (preparing-parts x fits) [
             | inl waits ↦ waits
-            | inr owing' ↦ absurd (owes_none x Owed.Prepare (owed-prepare x owing'.1) (none-owed d none x there' part))
+            | inr owing' ↦ absurd (owes_none x Owed.Prepare (owed-prepare x owing'.1) (none-owed c_prepared none x there' part))
           ]);
-          recorded = λ some. elim (if_parts _ recorded' (not recorded') right) [ inl both ↦ both.1 | inr both ↦ absurd (true≢false (sym some ∙ both.0)) ];
-        })))
-
-    prepared-moved : Moved c (changing_one c e.id prepared)
-    prepared-moved = moved-one prepared (λ x. (alike-prepared x).same) (recovered-owing Owed.Prepare is_prepare)
-
-    pub arrives-prepare_answered : Arrives boot c (prepare_answered c e)
-    unfolding prepare_answered
-    arrives-prepare_answered = if_cases (λ d. Arrives boot c (when_none_owes d all_ready)) (is_durable_at c.managers e.manager)
-        (c_prepared (c.events ++ (Event.Ready (c.transaction).id (enlistment_part e) ∷ [])) true) (c_prepared c.events (c.transaction).is_recorded)
-        (λ durable. goes-on (c.events ++ (Event.Ready (c.transaction).id (enlistment_part e) ∷ [])) true
-        (Moved-then (Moved-then prepared-moved (moved-recording (changing_one c e.id prepared) _ c.works))
-        (moved-transaction (recording (changing_one c e.id prepared) (Event.Ready (c.transaction).id (enlistment_part e) ∷ [])) (record c.transaction { is_recorded = true }) refl refl refl))
-        (rw (list_any-from (λ x. takes_part (c.transaction).id x && (x.is_prepared && is_durable_at c.managers x.manager)) (with_enlistments (has_id e.id) prepared c.enlistments) (stepped (has_id e.id) prepared e)
-        (IsIn-map (stepped (has_id e.id) prepared) e c.enlistments there) (rw it-itself (and_from _ _ part_preparing durable))) refl))
-        (λ volatile. goes-on c.events (c.transaction).is_recorded prepared-moved
-        (subst (λ b. (if b then (c.transaction).is_recorded else not (c.transaction).is_recorded) ≡ true)
-        (sym (list_any-told (λ x. takes_part (c.transaction).id x && (x.is_prepared && is_durable_at c.managers x.manager)) (has_id e.id) prepared c.enlistments (λ x there' is.
-        let none : is_durable_at c.managers x.manager ≡ false = subst (λ (y : Enlistment). is_durable_at c.managers y.manager ≡ false) (sym (it x there' is)) volatile in
-        rw none (ap (λ b. takes_part (c.transaction).id x && b) (sym (and_right x.is_prepared false refl))))))
-        at_preparing.recorded))
+          recorded = λ some. elim (if_parts _ (c_prepared.transaction).is_recorded (not (c_prepared.transaction).is_recorded) prepared-recorded) [ inl both ↦ both.1 | inr both ↦ absurd (true≢false (sym some ∙ both.0)) ];
+        }))))
 
   -- ---- ReadOnlyEnlistment
 
   -- it owes nothing, and takes no part
   abbrev left : Enlistment → Enlistment
-  left x = record x { owes = None; is_read_only = true }
+  left = answered Answered.ReadOnly
 
   same-left : (x : Enlistment) → IsSame x (left x)
   same-left x = record { id = refl; manager = refl; transaction = refl; kind = refl; information = refl }
@@ -523,17 +573,17 @@ module _ (boot : ℕ) (c : Course) (stands : Stands boot c) (brought : (e : Enli
     silent owes idle = not-both e.owes (idle-parts e idle).0 owes
 
     -- it was the last one that owed
-    goes-on_left : (phase : Phase) → (c.transaction).phase ≡ phase → is_voting phase ≡ true → is_some e.owes ≡ true → Arrives boot c (when_none_owes c_left (without_its_answer phase))
+    goes-on_left : (phase : Phase) → (c.transaction).phase ≡ phase → is_voting phase ≡ true → is_some e.owes ≡ true → Arrives boot c (when_none_owes c_left (proceeds_without phase (seen c_left)))
     goes-on_left PrePreparing is voting' owes =
         let at = stands-in boot c PrePreparing is stands in
-        if_cases (λ d. Arrives boot c d) (someone_owes c_left) c_left (pre_prepared c_left)
+        if_cases (λ d. Arrives boot c d) (someone_owes c_left) c_left (run (proceeds (seen c_left)) c_left)
         (λ some. record { moved = moved_left; stands = stands_left (subst (λ p. is_awaited_as p c_left.enlistments (c.transaction).id ≡ true) (sym is) some) })
         (λ none. arrives-then boot moved_left (arrives-pre_prepared boot c_left (fresh-from boot c_left at.outcome (here-from boot (in_phase c PrePreparing).transaction refl at.boots) at.recorded
         (Stand-as c_left.enlistments (c.transaction).id (is_part_as PrePreparing) is_idle (stand_left (is_part_as PrePreparing) at.stand) (λ x there' part fits. idle-from x fits (none-owed c_left none x there' part)))
         (unrecovered-moved c c_left boot moved_left brought))))
     goes-on_left Preparing is voting' owes =
         let at = stands-in boot c Preparing is stands in
-        if_cases (λ d. Arrives boot c d) (someone_owes c_left) c_left (all_ready c_left)
+        if_cases (λ d. Arrives boot c d) (someone_owes c_left) c_left (run (all_readies (seen c_left)) c_left)
         (λ some. record { moved = moved_left; stands = stands_left (subst (λ p. is_awaited_as p c_left.enlistments (c.transaction).id ≡ true) (sym is) some) })
         (λ none. arrives-then boot moved_left (arrives-all_ready boot c_left (record {
           here = here-from boot (in_phase c Preparing).transaction refl at.boots;
@@ -561,11 +611,10 @@ module _ (boot : ℕ) (c : Course) (stands : Stands boot c) (brought : (e : Enli
     goes-on_left PrePrepared is voting' owes = absurd (silent owes (subst (λ p. is_part_as p e ≡ true) is fits_left))
     goes-on_left _ is voting' owes = absurd (true≢false (sym voting'))
 
-    pub arrives-read_only_answered : Arrives boot c (read_only_answered c e)
-    unfolding read_only_answered
-    arrives-read_only_answered = if_cases (λ d. Arrives boot c d) (is_some e.owes) (when_none_owes c_left (without_its_answer (c.transaction).phase)) c_left
+    pub arrives-read_only : Arrives boot c (led (PhaseInput.ReadOnly (share_of e)) c)
+    arrives-read_only = subst (Arrives boot c) (sym (rows_law.read_onlies c e (is-part c e rise there part_left))) (if_cases (λ d. Arrives boot c d) (is_some e.owes) (when_none_owes c_left (proceeds_without (c.transaction).phase (seen c_left))) c_left
         (λ owes. goes-on_left (c.transaction).phase refl voting owes)
-        (λ silent. record { moved = moved_left; stands = stands_left (awaited_left (c.transaction).phase voting (none-of e.owes silent) fits_left stands.awaited) })
+        (λ silent. record { moved = moved_left; stands = stands_left (awaited_left (c.transaction).phase voting (none-of e.owes silent) fits_left stands.awaited) }))
 
   -- ---- SinglePhaseReject
 
@@ -599,9 +648,9 @@ module _ (boot : ℕ) (c : Course) (stands : Stands boot c) (brought : (e : Enli
         one x there' (inl part) = and_right (takes_part (c.transaction).id x) _ (and_left x.is_prepared _ (not-true _ (stand.parts x there' part)))
         one x there' (inr other) = and_left (takes_part (c.transaction).id x) _ other
 
-    pub arrives-single_phase_rejected : Arrives boot c (single_phase_rejected c e)
-    unfolding single_phase_rejected
-    arrives-single_phase_rejected = record {
+    pub arrives-single_phase_reject : Arrives boot c (led PhaseInput.SinglePhaseReject c)
+    unfolding led
+    arrives-single_phase_reject = record {
       moved = Moved-then (moved-telling c (has_id e.id) Notify.Prepare (owing Owed.Prepare) refl (changes-one (owing Owed.Prepare) (λ x. (alike-owing Owed.Prepare x).same) (recovered-owing Owed.Commit (owed-commit e owes))))
           (moved-transaction (telling c (has_id e.id) Notify.Prepare (owing Owed.Prepare)) c_rejected.transaction refl refl refl);
       stands = record {
@@ -621,14 +670,17 @@ module _ (boot : ℕ) (c : Course) (stands : Stands boot c) (brought : (e : Enli
   -- ---- CommitComplete and RollbackComplete
 
   -- it owes nothing, and has finished
-  abbrev finished' : Enlistment → Enlistment
-  finished' x = record x { owes = None; is_finished = true }
+  abbrev finished : Enlistment → Enlistment
+  finished = answered Answered.Finished
 
-  alike-finished : (x : Enlistment) → IsAlike x (finished' x)
+  alike-finished : (x : Enlistment) → IsAlike x (finished x)
   alike-finished x = record { same = record { id = refl; manager = refl; transaction = refl; kind = refl; information = refl }; read_only = refl }
 
-  finished-moved : (owed : Owed) → e.owes ≡ Some owed → Moved c (finished c e)
-  finished-moved owed is = moved-one finished' (λ x. (alike-finished x).same) (recovered-owing owed is)
+  abbrev c_finished : Course
+  c_finished = changing_one c e.id finished
+
+  finished-moved : (owed : Owed) → e.owes ≡ Some owed → Moved c c_finished
+  finished-moved owed is = moved-one finished (λ x. (alike-finished x).same) (recovered-owing owed is)
 
   module _ (owes : owes_commit e ≡ true) where
     is_commit : e.owes ≡ Some Owed.Commit
@@ -639,11 +691,11 @@ module _ (boot : ℕ) (c : Course) (stands : Stands boot c) (brought : (e : Enli
     done_event = event_if (is_durable_at c.managers e.manager) (Event.Done (c.transaction).id (DonePart.Enlistment e.id))
 
     -- it was one of many
-    one-committed : (c.transaction).phase ≡ Committing → Stands boot (in_phase c Committing) → Arrives boot c (ended_if_finished (recording (finished c e) done_event) TransactionOutcome.Committed)
-    one-committed phase at = arrives-then boot (Moved-then (finished-moved Owed.Commit is_commit) (moved-recording (finished c e) _ c.works))
-        (arrives-if_finished boot (recording (finished c e) done_event) TransactionOutcome.Committed (is_part_as Committing) refl (is_backed-from boot c.transaction stands.boots) stand
+    one-committed : (c.transaction).phase ≡ Committing → Stands boot (in_phase c Committing) → Arrives boot c (ended_if_finished (recording c_finished done_event) TransactionOutcome.Committed)
+    one-committed phase at = arrives-then boot (Moved-then (finished-moved Owed.Commit is_commit) (moved-still c_finished c.transaction (c.events ++ done_event) c.works refl refl refl))
+        (arrives-if_finished boot (recording c_finished done_event) TransactionOutcome.Committed (is_part_as Committing) refl (is_backed-from boot c.transaction stands.boots) stand
         (λ x fits over. over-part owes_commit x (and_parts x.is_prepared _ fits).1 over)
-        (λ some. stands-back boot (recording (finished c e) done_event) Committing phase (record {
+        (λ some. stands-back boot (recording c_finished done_event) Committing phase (record {
           outcome = at.outcome;
           boots = at.boots;
           superior = refl;
@@ -656,25 +708,24 @@ module _ (boot : ℕ) (c : Course) (stands : Stands boot c) (brought : (e : Enli
           ];
         })))
       where
-        stand : Stand (with_enlistments (has_id e.id) finished' c.enlistments) (c.transaction).id (is_part_as Committing)
-        stand = stand-one (is_part_as Committing) (is_part_as Committing) finished' at.stand (takes_part-owing Owed.Commit is_commit) alike-finished
+        stand : Stand (with_enlistments (has_id e.id) finished c.enlistments) (c.transaction).id (is_part_as Committing)
+        stand = stand-one (is_part_as Committing) (is_part_as Committing) finished at.stand (takes_part-owing Owed.Commit is_commit) alike-finished
             (λ fits. and_from _ _ (and_parts e.is_prepared _ fits).0 (rw (and_right e.is_recovered false refl) refl)) (λ x there' part fits other. fits)
 
-        fewer : has_durable_part c.managers c.enlistments (c.transaction).id (λ x. not x.is_finished) ≡ false → has_durable_part c.managers (with_enlistments (has_id e.id) finished' c.enlistments) (c.transaction).id (λ x. not x.is_finished) ≡ false
-        fewer none = none-from _ (with_enlistments (has_id e.id) finished' c.enlistments) (λ x there'.
-            let from = IsIn-unmap (stepped (has_id e.id) finished') x c.enlistments there' in
+        fewer : has_durable_part c.managers c.enlistments (c.transaction).id (λ x. not x.is_finished) ≡ false → has_durable_part c.managers (with_enlistments (has_id e.id) finished c.enlistments) (c.transaction).id (λ x. not x.is_finished) ≡ false
+        fewer none = none-from _ (with_enlistments (has_id e.id) finished c.enlistments) (λ x there'.
+            let from = IsIn-unmap (stepped (has_id e.id) finished) x c.enlistments there' in
             subst (λ y. (takes_part (c.transaction).id y && (not y.is_finished && is_durable_at c.managers y.manager)) ≡ false) from.1
-            (if_cases (λ y. (takes_part (c.transaction).id y && (not y.is_finished && is_durable_at c.managers y.manager)) ≡ false) (has_id e.id from.0) (finished' from.0) from.0
-            (λ is. and_right (takes_part (c.transaction).id (finished' from.0)) false refl) (λ is. none-at _ c.enlistments none from.0 from.2)))
+            (if_cases (λ y. (takes_part (c.transaction).id y && (not y.is_finished && is_durable_at c.managers y.manager)) ≡ false) (has_id e.id from.0) (finished from.0) from.0
+            (λ is. and_right (takes_part (c.transaction).id (finished from.0)) false refl) (λ is. none-at _ c.enlistments none from.0 from.2)))
 
-    pub arrives-commit_answered : Arrives boot c (commit_answered c e)
-    unfolding commit_answered
-    arrives-commit_answered = if_cases (λ d. Arrives boot c d) (is_single_phase (c.transaction).phase) (ended (finished c e) TransactionOutcome.Committed)
-        (ended_if_finished (recording (finished c e) done_event) TransactionOutcome.Committed)
+    pub arrives-commit_complete : Arrives boot c (led PhaseInput.CommitComplete c)
+    unfolding led
+    arrives-commit_complete = choose (λ steps. Arrives boot c (run steps c_finished)) (is_single_phase (c.transaction).phase) _ _
         (λ single. elim (is-committing (c.transaction).phase (phase-owing Owed.Commit is_commit)) [
           | inl phase ↦ absurd (true≢false (sym single ∙ ap is_single_phase phase))
-          | inr phase ↦ arrives-then boot (finished-moved Owed.Commit is_commit) (arrives-ended boot (finished c e) TransactionOutcome.Committed refl (is_backed-from boot c.transaction stands.boots)
-              (stand-one (is_part_as SinglePhase) (is_part_as Ended) finished' (stands-in boot c SinglePhase phase stands).stand (takes_part-owing Owed.Commit is_commit) alike-finished (λ fits. refl)
+          | inr phase ↦ arrives-then boot (finished-moved Owed.Commit is_commit) (arrives-ended boot c_finished TransactionOutcome.Committed refl (is_backed-from boot c.transaction stands.boots)
+              (stand-one (is_part_as SinglePhase) (is_part_as Ended) finished (stands-in boot c SinglePhase phase stands).stand (takes_part-owing Owed.Commit is_commit) alike-finished (λ fits. refl)
               (λ x there' part fits other. absurd (true≢false (sym it-itself ∙ ap (has_id e.id) (it_single phase owes x there' part) ∙ other)))))
         ])
         (λ several. elim (is-committing (c.transaction).phase (phase-owing Owed.Commit is_commit)) [
@@ -682,26 +733,26 @@ module _ (boot : ℕ) (c : Course) (stands : Stands boot c) (brought : (e : Enli
           | inl phase ↦ one-committed phase (stands-in boot c Committing phase stands)
         ])
 
-  pub arrives-rollback_answered : owes_rollback e ≡ true → Arrives boot c (rollback_answered c e)
-  unfolding rollback_answered
-  arrives-rollback_answered owes =
+  pub arrives-rollback_complete : owes_rollback e ≡ true → Arrives boot c (led PhaseInput.RollbackComplete c)
+  unfolding led
+  arrives-rollback_complete owes =
       let is = owed-rollback e owes in
       let phase = is-aborting (c.transaction).phase (phase-owing Owed.Rollback is) in
       let at = stands-in boot c Aborting phase stands in
-      let stand = stand-one (is_part_as Aborting) (is_part_as Aborting) finished' at.stand (takes_part-owing Owed.Rollback is) alike-finished
+      let stand = stand-one (is_part_as Aborting) (is_part_as Aborting) finished at.stand (takes_part-owing Owed.Rollback is) alike-finished
       (λ fits. rw (and_right e.is_recovered false refl) refl) (λ x there' part fits other. fits) in
-      arrives-then boot (finished-moved Owed.Rollback is) (arrives-if_finished boot (finished c e) TransactionOutcome.Aborted (is_part_as Aborting) refl (is_backed-from boot c.transaction stands.boots) stand
+      arrives-then boot (finished-moved Owed.Rollback is) (arrives-if_finished boot c_finished TransactionOutcome.Aborted (is_part_as Aborting) refl (is_backed-from boot c.transaction stands.boots) stand
       (λ x fits over. over-part owes_rollback x fits over)
-      (λ some. stands-back boot (finished c e) Aborting phase (record { outcome = at.outcome; boots = at.boots; superior = refl; stand = stand; awaited = some; alone = refl; recorded = refl })))
+      (λ some. stands-back boot c_finished Aborting phase (record { outcome = at.outcome; boots = at.boots; superior = refl; stand = stand; awaited = some; alone = refl; recorded = refl })))
 
   -- ---- RecoverEnlistment
 
   -- it is recovered
   abbrev back : Enlistment → Enlistment
-  back x = record x { is_recovered = true }
+  back = answered Answered.Recovered
 
   abbrev c_back : Course
-  c_back = recovering c e
+  c_back = changing_one c e.id back
 
   moved-back : Moved c c_back
   moved-back = moved-one back (λ x. record { id = refl; manager = refl; transaction = refl; kind = refl; information = refl }) refl
@@ -817,7 +868,7 @@ module _ (boot : ℕ) (c : Course) (stands : Stands boot c) (brought : (e : Enli
       stands = stands-back_with c.sent (subst (λ p. Stand c_back.enlistments (c.transaction).id (is_part_as p)) (sym is) (phase-back phase (stands-in boot c phase is stands).stand itself));
     }
 
-    recovered-in : (phase : Phase) → (c.transaction).phase ≡ phase → is_superior e ≡ false → Arrives boot c (recovered_in phase c_back e)
+    recovered-in : (phase : Phase) → (c.transaction).phase ≡ phase → is_superior e ≡ false → Arrives boot c (run (tells_in phase) c_back)
     recovered-in InDoubt is ordinary = arrives-told Notify.Indoubt refl (subst (λ p. Stand c_back.enlistments (c.transaction).id (is_part_as p)) (sym is) (phase-back InDoubt (stands-in boot c InDoubt is stands).stand (λ fits. fits)))
     recovered-in Committing is ordinary =
         let at = stands-in boot c Committing is stands in
@@ -852,9 +903,9 @@ module _ (boot : ℕ) (c : Course) (stands : Stands boot c) (brought : (e : Enli
         }
     recovered-in phase is ordinary = recovered-silently phase is (λ fits. fits)
 
-    pub arrives-recovered : Arrives boot c (recovered_by c e)
-    unfolding recovered_by
-    arrives-recovered = if_cases (λ d. Arrives boot c d) (is_superior e) (telling c_back (has_id e.id) Notify.RecoverQuery unchanged) (recovered_in (c.transaction).phase c_back e)
+    pub arrives-recovered : Arrives boot c (led (recovery_of e) c)
+    unfolding led
+    arrives-recovered = if_cases (λ input. Arrives boot c (run (row (seen c) input) c)) (is_superior e) PhaseInput.RecoverSuperior PhaseInput.Recover
         (λ above. arrives-told Notify.RecoverQuery refl (stand-back (is_part_as (c.transaction).phase) (is_part_as (c.transaction).phase) stands.stand
         (λ part. absurd (true≢false (sym above ∙ (part-parts (c.transaction).id e part).1))) (λ x there' fits other. fits)))
         (λ ordinary. recovered-in (c.transaction).phase refl ordinary)

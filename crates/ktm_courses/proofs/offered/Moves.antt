@@ -1,5 +1,5 @@
 -- A transaction on its way: what its steps leave of the enlistments, and what they send and record.
-use Rattle.std.proofs.Common.{◌≡◌, ℕ, ◌&&◌, not, Bool, true, false, List, [], ◌∷◌, ◌++◌, map, filter, Some, refl, sym, ◌∙◌, ap, subst, inl, inr, ◌⊎◌, find}
+use Rattle.std.proofs.Common.{◌≡◌, ℕ, ◌&&◌, not, Bool, true, false, List, [], ◌∷◌, ◌++◌, map, filter, Some, refl, sym, ◌∙◌, ap, subst, inl, inr, ◌⊎◌, find, Option, None}
 use Rattle.std.specs.Prelude.{if◌then◌else◌}
 use Rattle.std.proofs.lemmas.Bool.{cases_Bool, true≢false}
 use Rattle.std.proofs.lemmas.List.{map-id}
@@ -11,7 +11,7 @@ use Rattle.ktm_types.specs.declared.event.Event.{Event}
 use Rattle.ktm_types.specs.declared.event.Event.TheVariants.{Boot}
 use Rattle.ktm_types.specs.declared.object.Transaction.{Transaction}
 use Rattle.ktm_world.specs.Committed.{Work}
-use Rattle.ktm_world.specs.Enlistments.{Enlistment, Sent, is_superior, takes_part, with_enlistments, tell}
+use Rattle.ktm_world.specs.Enlistments.{Enlistment, Sent, is_superior, takes_part, with_enlistments, tell, superior_of}
 use Rattle.ktm_world.specs.Phases.{Course, telling, unchanged}
 use Rattle.ktm_world.specs.Transactions.{same_id}
 use Rattle.txf_laws.specs.Elements.{IsIn, each_pair}
@@ -21,6 +21,7 @@ use Rattle.ktm_world.specs.Durable.{is_before}
 use Rattle.ktm_steps.proofs.offered.Staying.{Stays, stays, stays-then}
 use Rattle.txf_laws.proofs.offered.Elements.{IsIn-filter, each_pair-either}
 use Rattle.txf_laws.proofs.offered.Tables.{before_other}
+use Rattle.ktm_world.specs.Steps.{lasting, lasting_of}
 
 -- either branch of a test
 pub if_cases : {X : Type 0} (P : X → Type 0) (b : Bool) (x y : X) → (b ≡ true → P x) → (b ≡ false → P y) → P (if b then x else y)
@@ -52,6 +53,14 @@ find-found test (y ∷ ys) x found = elim (cases_Bool (test y)) [
   | inl is ↦ let e : y ≡ x = same_Some y x (rw is at found) in (inl e, subst (λ z. test z ≡ true) e is)
   | inr other ↦ let rest = find-found test ys x (rw other at found) in (inr rest.0, rest.1)
 ]
+
+-- what is so of each superior is so of the one that is read when it is recorded
+pub of-superior : (P : Enlistment → Type 0) (es : List Enlistment) (id : Id) → ((e : Enlistment) → IsIn e es → (same_id e.transaction id && is_superior e) ≡ true → P (lasting e)) → (f : Enlistment) → lasting_of (superior_of es id) ≡ Some f → P f
+of-superior P es id each f = go (superior_of es id) refl
+  where
+    go : (o : Option Enlistment) → superior_of es id ≡ o → lasting_of o ≡ Some f → P f
+    go None found is = absurd (none-some f is)
+    go (Some e) found is = let at = find-found _ es e found in subst P (same_Some (lasting e) f is) (each e at.0 at.1)
 
 -- ---- by rising Ids
 
@@ -137,9 +146,6 @@ pub record Moved (c d : Course) : Type 0 where
 moves-none : (c d : Course) → d.enlistments ≡ c.enlistments → Moves c d
 moves-none c d same = record { step = λ e. e; is = same ∙ sym (map-id c.enlistments); same = IsSame-refl; others = λ e there other. refl; recovered = λ e there. inl refl }
 
-pub Moved-refl : (c : Course) → Moved c c
-Moved-refl c = record { stays = stays c; enlistments = moves-none c c refl; sent = λ s there. inl there }
-
 IsTold-back : (es : List Enlistment) (step : Enlistment → Enlistment) → ((e : Enlistment) → IsSame e (step e)) → (s : Sent) → IsTold (map step es) s → IsTold es s
 IsTold-back es step same s told =
     let from = IsIn-unmap step told.enlistment es told.there in
@@ -180,21 +186,16 @@ Moved-then {c} {d} {e} first second = let a = first.enlistments in record {
   ];
 }
 
--- of the transaction itself something else is so
-pub moved-transaction : (c : Course) (t : Transaction) → t.id ≡ (c.transaction).id → t.timeout ≡ (c.transaction).timeout → t.created ≡ (c.transaction).created → Moved c (record c { transaction = t })
-moved-transaction c t id timeout created = record {
+-- of the transaction itself something else is so, and events and works are recorded
+pub moved-still : (c : Course) (t : Transaction) (events : List Event) (works : List Work) → t.id ≡ (c.transaction).id → t.timeout ≡ (c.transaction).timeout → t.created ≡ (c.transaction).created → Moved c (record c { transaction = t; events = events; works = works })
+moved-still c t events works id timeout created = record {
   stays = record { id = id; timeout = timeout; created = created; managers = refl; changes = refl; settings = refl; caller = refl };
-  enlistments = moves-none c (record c { transaction = t }) refl;
+  enlistments = moves-none c (record c { transaction = t; events = events; works = works }) refl;
   sent = λ s there. inl there;
 }
 
--- it recorded events, and committed works
-pub moved-recording : (c : Course) (events : List Event) (works : List Work) → Moved c (record c { events = c.events ++ events; works = works })
-moved-recording c events works = let d = record c { events = c.events ++ events; works = works } in record {
-  stays = record { id = refl; timeout = refl; created = refl; managers = refl; changes = refl; settings = refl; caller = refl };
-  enlistments = moves-none c d refl;
-  sent = λ s there. inl there;
-}
+pub moved-transaction : (c : Course) (t : Transaction) → t.id ≡ (c.transaction).id → t.timeout ≡ (c.transaction).timeout → t.created ≡ (c.transaction).created → Moved c (record c { transaction = t })
+moved-transaction c t = moved-still c t c.events c.works
 
 -- enlistments that pass a test are changed
 abbrev pub stepped : (Enlistment → Bool) → (Enlistment → Enlistment) → Enlistment → Enlistment

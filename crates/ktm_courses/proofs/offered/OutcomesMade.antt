@@ -1,12 +1,11 @@
 -- What an outcome makes of a machine, as far as the soundness of courses reads it.
-use Rattle.std.proofs.Common.{◌≡◌, ◌&&◌, ◌||◌, not, true, false, List, [], ◌∷◌, ◌++◌, map, filter, drop, Option, Some, None, refl, sym, ◌∙◌, ap, subst, inl, inr, append_assoc, ℕ}
-use Rattle.std.proofs.lemmas.Bool.{cases_Bool, or_left, not_from_false, true≢false, and_from}
+use Rattle.std.proofs.Common.{◌≡◌, ◌&&◌, ◌||◌, not, true, false, List, [], ◌∷◌, ◌++◌, map, filter, drop, Option, Some, None, refl, sym, ◌∙◌, ap, subst, inl, inr, append_assoc, ℕ, Bool}
+use Rattle.std.proofs.lemmas.Bool.{cases_Bool, or_left, not_from_false, true≢false, and_from, not-true}
 use Rattle.std.proofs.lemmas.List.{append-nil}
 use Rattle.ktm_states.specs.GoodState.{is_of_object}
 use Rattle.ktm_states.specs.Grammatical.{names_objects}
 use Rattle.ktm_courses.proofs.offered.NewObjects.{counted-parts}
-use Rattle.std.specs.List.{AllByRecursion, list_all}
-use Rattle.std.proofs.lemmas.Option.{none-some, same_Some}
+use Rattle.std.specs.List.{list_all}
 use Rattle.ktm_base.specs.declared.id.Id.{Id}
 use Rattle.ktm_types.specs.declared.event.Event.{Event}
 use Rattle.ktm_types.specs.declared.event.Event.TheVariants.{Boot, MadeRm, Plain, Ready, Single, Held, Decide, Undo, Done}
@@ -17,17 +16,17 @@ use Rattle.ktm_types.specs.declared.object.Phase.TheVariants.{SinglePhase}
 use Rattle.ktm_types.specs.declared.input.PhaseInput.{PhaseInput}
 use Rattle.ktm_types.specs.declared.reply.Reply.{Reply}
 use Rattle.ktm_world.specs.Durable.{Durable, Recorded, after_event, after_events, decide_recorded, finish_recorded, recorded_at}
-use Rattle.ktm_world.specs.Enlistments.{Manager, Sent, notes_for, taken_count, Enlistment, superior_of}
+use Rattle.ktm_world.specs.Enlistments.{Manager, Sent, notes_for, taken_count, Enlistment}
 use Rattle.ktm_world.specs.Files.{FileTable, OwnChanges, own_changes, without_transaction}
 use Rattle.ktm_world.specs.Keys.{Own, own_settings, without_own}
 use Rattle.ktm_world.specs.OneOutcome.{told_outcome}
 use Rattle.ktm_world.specs.Outcome.{Outcome, only_reply, served, apply, joined}
 use Rattle.ktm_world.specs.Phases.{Course, has_settings, is_single_phase}
 use Rattle.ktm_world.specs.Present.{Present}
-use Rattle.ktm_world.specs.Steps.{lasting, lasting_of, led}
+use Rattle.ktm_world.specs.Steps.{led, basis}
 use Rattle.ktm_world.specs.TransactionCalls.{course_of, arrived}
 use Rattle.ktm_steps.specs.Outcomes.{MayCome}
-use Rattle.ktm_steps.proofs.offered.Recorded.{all-led}
+use Rattle.ktm_steps.proofs.offered.Recorded.{bare-facts, is_bare, passes-led}
 use Rattle.ktm_world.specs.Transactions.{same_id, is_undecided}
 use Rattle.ktm_world.proofs.offered.Durables.{after_events-append}
 use Rattle.ktm_world.specs.Changes.{has_changes}
@@ -37,8 +36,8 @@ use Rattle.ktm_courses.specs.Outcomes.{OutcomesStay}
 use Rattle.ktm_courses.proofs.offered.Outcomes.{stay-refl, stay-changed, stays-known}
 use Rattle.txf_laws.proofs.offered.Elements.{list_all-at, list_all-from, list_any-at}
 use Rattle.txf_laws.proofs.offered.Tables.{same_id-equal, same_id-sym}
-use Rattle.ktm_courses.proofs.offered.Moves.{if_cases, is_boot, find-found, NoBoots, NoBoots-none, NoBoots-one, NoBoots-append}
-use Rattle.ktm_courses.proofs.offered.Procedures.{Arrives}
+use Rattle.ktm_courses.proofs.offered.Moves.{if_cases, is_boot, NoBoots, NoBoots-none, of-superior}
+use Rattle.ktm_courses.proofs.offered.Endings.{Arrives}
 use Rattle.ktm_courses.proofs.offered.Views.{sound-alike, sound-served}
 use Rattle.ktm_courses.proofs.offered.Arrivals.{with_course, changed_to, IsIn-changed, sound-course, notes-course}
 
@@ -163,13 +162,16 @@ undecided-one _ t one is = absurd (true≢false (sym one))
 object-counted : (boot last : ℕ) (id : Id) → is_counted boot last id ≡ true → is_of_object id ≡ true
 object-counted boot last id is = let parts = counted-parts boot last id is in and_from _ _ (and_from _ _ parts.0 parts.2) parts.3
 
--- an event is no boot, and names objects
-abbrev IsOwn : Event → Type 0
-IsOwn event = (is_boot event ≡ false) × (names_objects event ≡ true)
+-- no row records a boot
+pub led-no_boots : (input : PhaseInput) (c : Course) → c.events ≡ [] → NoBoots (led input c).events
+led-no_boots input c none = record { none = λ event there. not-true _ (list_all-at no_boot (led input c).events (passes-led no_boot input c none (bare-facts (λ e. no_boot e ≡ true) (basis c) bare (refl, refl) (refl, refl))) event there) }
+  where
+    no_boot : Event → Bool
+    no_boot event = not (is_boot event)
 
-own-each : (events : List Event) → AllByRecursion IsOwn events → NoBoots events × (list_all names_objects events ≡ true)
-own-each [] all = (NoBoots-none, refl)
-own-each (event ∷ events) all = let rest = own-each events all.1 in (NoBoots-append (NoBoots-one event (all.0).0) rest.0, and_from _ _ (all.0).1 rest.1)
+    bare : (event : Event) → is_bare event ≡ true → no_boot event ≡ true
+    bare (Boot boot) is = absurd (true≢false (sym is))
+    bare _ is = refl
 
 module _ (x : Present) (t : Transaction) (caller : Option Enlistment) (sound : IsSoundCourse x) (there : IsIn t (x.transactions).items) (calls : (e : Enlistment) → caller ≡ Some e → IsIn e (x.transactions).enlistments) where
   abbrev es : List Enlistment
@@ -193,43 +195,39 @@ module _ (x : Present) (t : Transaction) (caller : Option Enlistment) (sound : I
   names-enlistment : (e : Enlistment) → IsIn e es → list_all is_of_object (t.id ∷ e.id ∷ e.manager ∷ []) ≡ true
   names-enlistment e in_es = and_from _ _ object-itself (and_from _ _ (object-enlistment e in_es) (and_from _ _ (object-manager e in_es) refl))
 
-  names-superior : (o : Option Enlistment) → superior_of es t.id ≡ o → (e : Enlistment) → lasting_of o ≡ Some e → list_all is_of_object (t.id ∷ e.id ∷ e.manager ∷ []) ≡ true
-  names-superior None found e is = absurd (none-some e is)
-  names-superior (Some f) found e is = subst (λ (g : Enlistment). list_all is_of_object (t.id ∷ g.id ∷ g.manager ∷ []) ≡ true) (same_Some (lasting f) e is) (names-enlistment f (find-found _ es f found).0)
-
-  -- what a call records is no boot, and names objects
-  events-led : (input : PhaseInput) → let events = (led input (course_of x t caller)).events in NoBoots events × (list_all names_objects events ≡ true)
-  events-led input = own-each _ (all-led IsOwn input (course_of x t caller) refl record {
-    ready_files = (refl, names-own);
-    ready_keys = (refl, names-own);
-    ready = λ e is. (refl, names-enlistment e (calls e is));
-    held = λ e is. (refl, names-superior (superior_of es t.id) refl e is);
-    decide = (refl, names-own);
-    undo = (refl, names-own);
-    done_files = (refl, names-own);
-    done_keys = (refl, names-own);
-    done = λ e is. (refl, and_from _ _ object-itself (and_from _ _ (object-enlistment e (calls e is)) refl));
-    single_files = (refl, names-own);
-    single_keys = (refl, names-own);
-  })
+  -- what a call records names objects
+  objects-led : (input : PhaseInput) → list_all names_objects (led input (course_of x t caller)).events ≡ true
+  objects-led input = passes-led names_objects input (course_of x t caller) refl record {
+    ready_files = names-own;
+    ready_keys = names-own;
+    ready = λ e is. names-enlistment e (calls e is);
+    held = of-superior (λ e. list_all is_of_object (t.id ∷ e.id ∷ e.manager ∷ []) ≡ true) es t.id (λ e in_es is. names-enlistment e in_es);
+    decide = names-own;
+    undo = names-own;
+    done_files = names-own;
+    done_keys = names-own;
+    done = λ e is. and_from _ _ object-itself (and_from _ _ (object-enlistment e (calls e is)) refl);
+    single_files = names-own;
+    single_keys = names-own;
+  }
 
 pub sound-arrived : (x : Present) (t : Transaction) (caller : Option Enlistment) (input : PhaseInput) (reply : Reply) → IsSoundCourse x → IsIn t (x.transactions).items
     → ((e : Enlistment) → caller ≡ Some e → IsIn e (x.transactions).enlistments) → let d = led input (course_of x t caller) in Arrives (x.recorded).boots (course_of x t caller) d
     → MayCome (told_outcome t.outcome) t.phase input → IsSoundOutcome x (arrived x d reply)
 sound-arrived x t caller input reply sound there calls arrives may =
     if_cases (λ o. IsSoundOutcome x o) (is_undecided d.transaction) on_its_way _
-    (λ undecided. record { settled = went; events = recorded.0; made = refl; notes = notes; outcomes = outcomes; objects = recorded.1 })
+    (λ undecided. record { settled = went; events = no_boots; made = refl; notes = notes; outcomes = outcomes; objects = objects })
     (λ decided. record {
       settled = sound-own (with_course x d) (without_transaction (x.files).table (d.transaction).id) (without_own (x.keys).own (d.transaction).id) went (λ v is one.
           elim (IsIn-changed (x.transactions).items d.transaction v sound.transactions.rise is) [
             | inl e ↦ absurd (true≢false (sym (undecided-one v.phase v one (list_all-at (λ (v : Transaction). is_outcome_of v.phase v) (changed_to (x.transactions).items d.transaction) went.transactions.outcomes v is)) ∙ ap is_undecided e ∙ decided))
             | inr old ↦ (own_changes-without ((x.files).table).own (d.transaction).id v.id old.1, own_settings-without (x.keys).own (d.transaction).id v.id old.1)
           ]);
-      events = recorded.0;
+      events = no_boots;
       made = refl;
       notes = notes;
       outcomes = outcomes;
-      objects = recorded.1;
+      objects = objects;
     })
   where
     d : Course
@@ -246,8 +244,11 @@ sound-arrived x t caller input reply sound there calls arrives may =
     went : IsSoundCourse (with_course x d)
     went = sound-course x sound t there caller d arrives
 
-    recorded : NoBoots d.events × (list_all names_objects d.events ≡ true)
-    recorded = events-led x t caller sound there calls input
+    no_boots : NoBoots d.events
+    no_boots = led-no_boots input (course_of x t caller) refl
+
+    objects : list_all names_objects d.events ≡ true
+    objects = objects-led x t caller sound there calls input
 
     outcomes : OutcomesStay (x.transactions).items (changed_to (x.transactions).items d.transaction)
     outcomes = stay-changed (x.transactions).items t d.transaction sound.transactions.rise there (arrives.moved).stays.id (stays-known input (course_of x t caller) refl may)

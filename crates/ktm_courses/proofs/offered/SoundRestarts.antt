@@ -30,7 +30,7 @@ use Rattle.txf_laws.proofs.offered.Lists.{IsIn-left, IsIn-cases, IsIn-unmap}
 use Rattle.txf_laws.proofs.offered.Elements.{IsIn-filter, IsIn-kept, IsIn-flat_map, IsIn-unflat, list_all-at, list_all-from, list_any-at, list_any-from, each_pair-filter, each_pair-from, each_pair-flat_kept}
 use Rattle.txf_laws.proofs.offered.Tables.{same_id-equal, same_id-from, before_other}
 use Rattle.ktm_courses.proofs.offered.Moves.{same-by_id, if_first, if_second, IsIn-map, NoBoots, NoBoots-none, NoBoots-one, NoBoots-append}
-use Rattle.ktm_courses.proofs.offered.Procedures.{superior-found}
+use Rattle.ktm_courses.proofs.offered.Endings.{superior-found}
 use Rattle.ktm_courses.proofs.offered.EnlistmentAnswers.{RiseEnlistments}
 use Rattle.ktm_courses.proofs.offered.EnlistmentOrder.{IsIn-rising, IsIn-into_rising, earlier, differ_in_id, Rises-by_rising_id, map-flat, ids-back}
 use Rattle.ktm_courses.proofs.offered.OutcomesMade.{events-kept}

@@ -1,10 +1,9 @@
 -- What no row changes of a transaction's course: its Id, what it has to commit, what its work commits, and an outcome that is known.
 use Rattle.std.specs.Prelude.{if◌then◌else◌}
 use Rattle.std.proofs.Common.{◌≡◌, ◌||◌, ◌&&◌, Bool, true, false, List, [], ◌∷◌, ◌++◌, Option, Some, None, refl, sym, ◌∙◌, ap, subst, inl, inr, ◌⊎◌}
-use Rattle.std.proofs.lemmas.Bool.{and_from, and_parts, cases_Bool, true≢false}
-use Rattle.std.specs.List.{AllByRecursion, list_any, list_all}
+use Rattle.std.proofs.lemmas.Bool.{and_parts, cases_Bool, true≢false}
+use Rattle.std.specs.List.{list_any}
 use Rattle.ktm_types.specs.declared.change.Change.{Change}
-use Rattle.ktm_types.specs.declared.event.Event.{Event}
 use Rattle.ktm_types.specs.declared.input.PhaseInput.{PhaseInput}
 use Rattle.ktm_types.specs.declared.object.Transaction.{Transaction}
 use Rattle.ktm_types.specs.declared.object.TransactionOutcome.{TransactionOutcome}
@@ -19,17 +18,13 @@ use Rattle.ktm_world.specs.Rows.{row}
 use Rattle.ktm_world.specs.Steps.{carried, changing, led, run, seen}
 use Rattle.ktm_world.specs.Transactions.{is_undecided}
 use Rattle.ktm_steps.proofs.offered.Lists.{each-row-passes}
-use Rattle.ktm_steps.proofs.offered.Recorded.{all-led}
 use Rattle.ktm_steps.proofs.offered.Staying.{either-course, stays-led, stays-step}
+use Rattle.ktm_courses.proofs.offered.Moves.{NoBoots}
+use Rattle.ktm_courses.proofs.offered.OutcomesMade.{led-no_boots}
 
 -- at most one work, which commits what the transaction has to commit
 abbrev pub OneWork : List Change → OwnSettings → List Work → Type 0
 OneWork cs ss works = (works ≡ []) ⊎ ((w : Work) × (works ≡ w ∷ []) × (w.changes ≡ cs) × (w.settings ≡ ss))
-
--- is the event no boot
-abbrev pub is_no_boot : Event → Bool
-is_no_boot (Event.Boot boot) = false
-is_no_boot _ = true
 
 -- a course of this transaction once it has gone on: it has a work or another outcome only where its outcome is known
 pub record IsCourse (t : Transaction) (cs : List Change) (ss : OwnSettings) (c : Course) : Type 0 where
@@ -37,7 +32,7 @@ pub record IsCourse (t : Transaction) (cs : List Change) (ss : OwnSettings) (c :
   pub changes : c.changes ≡ cs
   pub settings : c.settings ≡ ss
   pub works : OneWork cs ss c.works
-  pub events : list_all is_no_boot c.events ≡ true
+  pub events : NoBoots c.events
   pub outcome : (is_undecided c.transaction ≡ false) ⊎ ((c.works ≡ []) × (is_undecided t ≡ true))
 
 -- a course of this transaction as a call begins
@@ -171,10 +166,6 @@ module _ (t : Transaction) (cs : List Change) (ss : OwnSettings) where
 
 -- ---- rows
 
-no-boots : (es : List Event) → AllByRecursion (λ e. is_no_boot e ≡ true) es → list_all is_no_boot es ≡ true
-no-boots [] all = refl
-no-boots (e ∷ es) all = and_from _ _ all.0 (no-boots es all.1)
-
 -- by each row it goes on so
 pub led-is : (t : Transaction) (cs : List Change) (ss : OwnSettings) (input : PhaseInput) (c : Course) → IsBegun t cs ss c → IsCourse t cs ss (led input c)
 led-is t cs ss input c is =
@@ -185,18 +176,6 @@ led-is t cs ss input c is =
       changes = still.changes ∙ is.changes;
       settings = still.settings ∙ is.settings;
       works = done.works;
-      events = no-boots _ (all-led (λ e. is_no_boot e ≡ true) input c is.events record {
-        ready_files = refl;
-        ready_keys = refl;
-        ready = λ e is. refl;
-        held = λ e is. refl;
-        decide = refl;
-        undo = refl;
-        done_files = refl;
-        done_keys = refl;
-        done = λ e is. refl;
-        single_files = refl;
-        single_keys = refl;
-      });
+      events = led-no_boots input c is.events;
       outcome = done.outcome;
     }

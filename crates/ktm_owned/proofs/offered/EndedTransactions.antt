@@ -6,14 +6,13 @@ use Rattle.std.specs.List.{list_all}
 use Rattle.std.specs.Prelude.{nat_le}
 use Rattle.ktm_base.specs.declared.id.Id.{Id}
 use Rattle.ktm_types.specs.declared.change.Change.{Change}
-use Rattle.ktm_types.specs.declared.event.Event.{Event}
 use Rattle.ktm_types.specs.declared.object.Handle.{Handle}
 use Rattle.ktm_types.specs.declared.object.Object.{Object}
 use Rattle.ktm_types.specs.declared.object.Transaction.{Transaction}
 use Rattle.ktm_world.specs.Changes.{changed, node_of}
 use Rattle.ktm_world.specs.Committed.{Committed, versions_after, with_change}
 use Rattle.ktm_world.specs.Conflicts.{holds_now}
-use Rattle.ktm_world.specs.Durable.{Durable, is_before, decide_recorded, finish_recorded, after_event, after_events, recorded_at}
+use Rattle.ktm_world.specs.Durable.{is_before}
 use Rattle.ktm_world.specs.Files.{FilesNow, FirstOpen, OpenFile, OwnChanges, own_changes}
 use Rattle.ktm_world.specs.HandleCalls.{has_handle, is_handle}
 use Rattle.ktm_world.specs.Holds.{is_in}
@@ -27,7 +26,6 @@ use Rattle.txf_laws.specs.Footprint.{ListsLaw}
 use Rattle.txf_laws.specs.Formed.{FormedLaw}
 use Rattle.txf_laws.specs.SoundFiles.{IsSoundFiles, is_undecided_in, numbers_made}
 use Rattle.txf_laws.proofs.offered.ChangeTests.{node-elsewhere}
-use Rattle.ktm_owned.proofs.offered.CoursesKept.{is_no_boot}
 use Rattle.txf_laws.proofs.offered.Diamonds.{no_test, meets-not}
 use Rattle.txf_laws.proofs.offered.Elements.{IsIn-kept, list_all-at, list_all-from, list_any-at, list_any-from, filter-true}
 use Rattle.txf_laws.proofs.offered.Lists.{IsIn-left}
@@ -128,23 +126,6 @@ order-changed (t ∷ ts) v rises =
           subst (λ i. is_before t.id i ≡ true) old.2 (list_all-at (is_created_before t) ts parts.0 old.0 old.1)))
           (order-changed ts v parts.1))
     ]
-
--- ---- boots
-
-boots-one : (s : Durable) (e : Event) → is_no_boot e ≡ true → (after_event s e).boots ≡ s.boots
-boots-one s (Event.Boot boot) none = absurd (true≢false (sym none))
-boots-one s (Event.MadeRm manager) none = refl
-boots-one s (Event.Plain change) none = refl
-boots-one s (Event.Ready transaction part) none = refl
-boots-one s (Event.Single transaction part) none = refl
-boots-one s (Event.Held transaction enlistment manager information) none = refl
-boots-one s (Event.Decide transaction) none = elim (recorded_at s.transactions transaction) as (λ r. (decide_recorded s r).boots ≡ s.boots) [ None ↦ refl | Some t ↦ refl ]
-boots-one s (Event.Undo transaction) none = refl
-boots-one s (Event.Done transaction done) none = elim (recorded_at s.transactions transaction) as (λ r. (finish_recorded s done r).boots ≡ s.boots) [ None ↦ refl | Some t ↦ refl ]
-
-pub boots-all : (es : List Event) (s : Durable) → list_all is_no_boot es ≡ true → (after_events s es).boots ≡ s.boots
-boots-all [] s none = refl
-boots-all (e ∷ es) s none = let parts = and_parts (is_no_boot e) (list_all is_no_boot es) none in boots-all es (after_event s e) parts.1 ∙ boots-one s e parts.0
 
 -- ---- what is committed does not depend on the store
 

@@ -27,14 +27,14 @@ use Rattle.ktm_world.specs.Outcome.{apply, Outcome, only_reply, first_refusal, r
 use Rattle.ktm_world.specs.Phases.{Course}
 use Rattle.ktm_world.specs.Present.{Present}
 use Rattle.ktm_world.specs.Steps.{led, share_of}
-use Rattle.ktm_world.specs.TransactionCalls.{bound_test, course_of, arrived, open_transaction, open_to_transaction, transaction_with, commit_transaction, commit_reply, rollback_transaction, get_transaction_information, information_of, information_in, create_resource_manager, open_resource_manager, open_to_manager, manager_with, recover_resource_manager, get_notification, create_enlistment, open_enlistment, open_to_enlistment, enlistment_with, goes_on, answering, transaction_in, pre_prepare_complete, prepare_complete, read_only_enlistment, commit_complete, rollback_complete, single_phase_reject, rollback_enlistment, pre_prepare_enlistment, prepare_enlistment, commit_enlistment, recover_enlistment, set_information, get_information, tick, new_id, create_transaction, recovery_of}
+use Rattle.ktm_world.specs.TransactionCalls.{bound_test, course_of, arrived, open_transaction, open_to_transaction, transaction_with, commit_transaction, commit_reply, rollback_transaction, get_transaction_information, information_of, information_in, create_resource_manager, open_resource_manager, open_to_manager, manager_with, recover_resource_manager, get_notification, create_enlistment, open_enlistment, open_to_enlistment, enlistment_with, answering, pre_prepare_complete, prepare_complete, read_only_enlistment, commit_complete, rollback_complete, single_phase_reject, rollback_enlistment, pre_prepare_enlistment, prepare_enlistment, commit_enlistment, recover_enlistment, set_information, get_information, tick, new_id, create_transaction, recovery_of}
 use Rattle.ktm_world.specs.Transactions.{transaction_at}
 use Rattle.ktm_world.specs.Uses.{file_room}
 use Rattle.txf_laws.specs.Elements.{IsIn}
 use Rattle.txf_laws.specs.Footprint.{ListsLaw}
 use Rattle.ktm_owned.specs.FilesKept.{FilesKeptLaw}
 use Rattle.ktm_courses.specs.SoundCourse.{IsSoundCourse, is_counted}
-use Rattle.ktm_courses.proofs.offered.Calls.{Passes, passed, transaction_at-found}
+use Rattle.ktm_courses.proofs.offered.Calls.{Passes, passed, transaction_at-found, of-answering}
 use Rattle.txf_laws.proofs.offered.Elements.{list_all-at, filter-true}
 use Rattle.ktm_courses.proofs.offered.NewObjects.{counted-before}
 use Rattle.ktm_owned.proofs.offered.OpenCalls.{creates-file, creates-own, writes-file, sets-end}
@@ -65,12 +65,7 @@ module _ (lists : ListsLaw) (formed : FormedLaw) where
   step x t caller input reply there = by x _ (course-goes lists formed x t caller input reply there)
 
   answers : (x : Present) (e : Option Enlistment) (input : Enlistment → PhaseInput) → Keeps x (answering x e input)
-  answers x None input = replies lists formed x Done
-  answers x (Some e) input = go (transaction_in x e) refl
-    where
-      go : (t : Option Transaction) → transaction_in x e ≡ t → Keeps x (goes_on x e t (input e))
-      go None found = replies lists formed x Done
-      go (Some t) found = step x t (Some e) (input e) (λ c. Done) (transaction_at-in x.transactions.items e.transaction t found)
+  answers x e input = of-answering (Keeps x) x e input (replies lists formed x Done) (λ e is t there own found. step x t (Some e) (input e) (λ c. Done) there)
 
   -- the transaction that a label names is there
   named-there : (x : Present) (process : Pid) (label : Label) (t : Transaction) → transaction_named x process label ≡ Some t → IsIn t x.transactions.items

@@ -9,13 +9,12 @@ use Rattle.ktm_base.specs.declared.id.Label.{Label}
 use Rattle.ktm_base.specs.declared.id.Pid.{Pid}
 use Rattle.ktm_base.specs.declared.refusal.Refusal.{Refusal}
 use Rattle.ktm_base.specs.declared.refusal.Refusal.TheVariants.{LogFull, MachineDown}
-use Rattle.std.specs.Prelude.{option_and_then}
+use Rattle.std.specs.Prelude.{option_and_then, ⊤}
 use Rattle.ktm_types.specs.declared.change.Change.{Change}
 use Rattle.ktm_types.specs.declared.command.Command.{Command}
 use Rattle.ktm_types.specs.declared.command.Command.TheVariants.{CreateTransaction, OpenTransaction, CommitTransaction, RollbackTransaction, GetTransactionInformation, CreateResourceManager, OpenResourceManager, RecoverResourceManager, GetNotificationResourceManager, CreateEnlistment, OpenEnlistment, RecoverEnlistment, PrePrepareComplete, PrepareComplete, ReadOnlyEnlistment, CommitComplete, RollbackComplete, SinglePhaseReject, RollbackEnlistment, PrePrepareEnlistment, PrepareEnlistment, CommitEnlistment, SetEnlistmentRecoveryInformation, GetEnlistmentRecoveryInformation, CreateFile, CreateFileTransacted, ReadFile, WriteFile, SetEndOfFile, GetFileSizeEx, FlushFileBuffers, DeleteFile, CreateDirectory, RemoveDirectory, MoveFile, DeleteFileTransacted, CreateDirectoryTransacted, RemoveDirectoryTransacted, MoveFileTransacted, FindFiles, FindFilesTransacted, KvSet, KvUnset, KvGet, KvList, CloseHandle, DuplicateHandle, Exit}
 use Rattle.ktm_types.specs.declared.input.PhaseInput.{PhaseInput}
 use Rattle.ktm_types.specs.declared.object.Object.{Object}
-use Rattle.ktm_types.specs.declared.object.Object.TheVariants.{Transaction as TransactionObject, Manager as ManagerObject, Enlistment as EnlistmentObject, File as FileObject}
 use Rattle.ktm_types.specs.declared.object.Transaction.{Transaction}
 use Rattle.ktm_types.specs.declared.options.Durability.{Durability}
 use Rattle.ktm_types.specs.declared.options.EnlistmentKind.{EnlistmentKind}
@@ -27,7 +26,7 @@ use Rattle.ktm_world.specs.Enlistments.{Enlistment, Manager}
 use Rattle.ktm_world.specs.FileCalls.{create_file, read_file, write_file, set_end, get_size, flush_file, delete_file, create_directory, remove_directory, move_file, find_files}
 use Rattle.ktm_world.specs.FileOutcome.{FileOutcome, works_of}
 use Rattle.ktm_world.specs.Files.{OpenFile, own_changes, without_transaction}
-use Rattle.ktm_world.specs.HandleCalls.{close_handle, exit, duplicate_handle, bind_to, handle_gone, has_handle, last_handle_gone, abort_active, closed_in_turn, labels_of, without_handle}
+use Rattle.ktm_world.specs.HandleCalls.{duplicate_handle, bind_to}
 use Rattle.ktm_world.specs.Handles.{object_at, transaction_id}
 use Rattle.ktm_world.specs.KeyCalls.{with_setting, is_key_held}
 use Rattle.ktm_keyed.specs.Keyed.{is_rising}
@@ -38,8 +37,8 @@ use Rattle.ktm_world.specs.Outcome.{Outcome, apply, only_reply, committed_now, f
 use Rattle.ktm_world.specs.Phases.{Course}
 use Rattle.ktm_world.specs.Present.{Present, Transactions}
 use Rattle.ktm_world.specs.Steps.{led, share_of}
-use Rattle.ktm_world.specs.TransactionCalls.{course_of, arrived, create_transaction, open_transaction, open_to_transaction, transaction_with, commit_transaction, commit_reply, aborted_by, rollback_transaction, get_transaction_information, information_of, information_in, create_resource_manager, open_resource_manager, open_to_manager, manager_with, recover_resource_manager, get_notification, create_enlistment, open_enlistment, open_to_enlistment, enlistment_with, goes_on, answering, transaction_in, pre_prepare_complete, prepare_complete, read_only_enlistment, commit_complete, rollback_complete, single_phase_reject, rollback_enlistment, pre_prepare_enlistment, prepare_enlistment, commit_enlistment, recover_enlistment, set_information, get_information, tick, with_clock, aborted_in_turn, aborted_if_due, is_due, recovery_of}
-use Rattle.ktm_world.specs.Transactions.{is_of, same_id, transaction_at, change_at, is_undecided, is_active, is_committed, is_aborted}
+use Rattle.ktm_world.specs.TransactionCalls.{course_of, arrived, create_transaction, open_transaction, open_to_transaction, transaction_with, commit_transaction, commit_reply, aborted_by, rollback_transaction, get_transaction_information, information_of, information_in, create_resource_manager, open_resource_manager, open_to_manager, manager_with, recover_resource_manager, get_notification, create_enlistment, open_enlistment, open_to_enlistment, enlistment_with, answering, pre_prepare_complete, prepare_complete, read_only_enlistment, commit_complete, rollback_complete, single_phase_reject, rollback_enlistment, pre_prepare_enlistment, prepare_enlistment, commit_enlistment, recover_enlistment, set_information, get_information, tick, with_clock, recovery_of}
+use Rattle.ktm_world.specs.Transactions.{is_of, same_id, transaction_at, change_at, is_undecided, is_committed, is_aborted}
 use Rattle.txf_laws.specs.Elements.{IsIn, each_pair}
 use Rattle.txf_laws.specs.Contents.{is_good_entry}
 use Rattle.ktm_owned.specs.OwnKeys.{OwnKeysLaw}
@@ -51,6 +50,8 @@ use Rattle.ktm_states.proofs.offered.Settings.{stored_all-rises, stored_all-good
 use Rattle.txf_laws.proofs.offered.Tables.{same_id-sym}
 use Rattle.ktm_owned.proofs.offered.Undecided.{transaction_at-id, undecided-from, undecided-other, undecided-itself, undecided-added}
 use Rattle.ktm_owned.proofs.offered.Restarts.{keys-opened}
+use Rattle.ktm_courses.proofs.offered.Calls.{of-answering}
+use Rattle.ktm_courses.proofs.offered.HandlesAndTime.{Closes, close_handle-so, exit-so, tick-so}
 
 -- an outcome keeps the keys sound
 abbrev Keeps : Present → Outcome → Type 0
@@ -95,10 +96,10 @@ on_file-keeps x (Some o) call = of_files-keeps x o.transaction (call o)
 
 -- ---- one outcome after another
 
-and_then-keeps : (x : Present) (o : Outcome) (next : Present → Outcome) → Keeps x o → ((y : Present) → Keeps y (next y)) → Keeps x (and_then x o next)
+and_then-keeps : (x : Present) (o : Outcome) (next : Present → Outcome) → Keeps x o → Keeps (apply x o) (next (apply x o)) → Keeps x (and_then x o next)
 and_then-keeps x o next first second sound =
     let y = apply x o in
-    let is : IsSoundKeys (apply y (next y)) = second y (first sound) in
+    let is : IsSoundKeys (apply y (next y)) = second (first sound) in
     same (apply y (next y)) (apply x (and_then x o next)) (λ id is. is) refl (ap (λ (c : Committed). c.store) (fold-append with_work (committed_now x) o.works (next y).works)) is
 
 -- ---- a course that has arrived
@@ -177,12 +178,7 @@ step-keeps x t caller input reply =
     (led-is t (own_changes x.files.table.own t.id) (own_settings x.keys.own t.id) input (course_of x t caller) (course-begun x t caller))
 
 answering-keeps : (x : Present) (e : Option Enlistment) (input : Enlistment → PhaseInput) → Keeps x (answering x e input)
-answering-keeps x None input = only_reply-keeps x Done
-answering-keeps x (Some e) input = go (transaction_in x e)
-  where
-    go : (t : Option Transaction) → Keeps x (goes_on x e t (input e))
-    go None = only_reply-keeps x Done
-    go (Some t) = step-keeps x t (Some e) (input e) (λ c. Done)
+answering-keeps x e input = of-answering (Keeps x) x e input (only_reply-keeps x Done) (λ e is t there own found. step-keeps x t (Some e) (input e) (λ c. Done))
 
 aborted_by-keeps : (x : Present) (t : Transaction) → Keeps x (aborted_by x t None Done)
 aborted_by-keeps x t = step-keeps x t None PhaseInput.Rollback (λ c. Done)
@@ -264,42 +260,16 @@ get_information-keeps x e = only_reply-keeps x (information_in e)
 
 -- ---- calls of handles, and time
 
-handle_gone-keeps : (object : Option Object) (y : Present) → Keeps y (handle_gone object y)
-handle_gone-keeps None y = only_reply-keeps y Done
-handle_gone-keeps (Some object) y = go (has_handle y.handles object)
-  where
-    abort : (t : Option Transaction) → Keeps y (abort_active y t)
-    abort None = only_reply-keeps y Done
-    abort (Some t) = active (is_active t)
-      where
-        active : (b : Bool) → Keeps y (if b then aborted_by y t None Done else only_reply y Done)
-        active true = aborted_by-keeps y t
-        active false = only_reply-keeps y Done
-
-    last : (o : Object) → Keeps y (last_handle_gone y o)
-    last (TransactionObject id) = abort (transaction_at y.transactions.items id)
-    last (ManagerObject id) = only_reply-keeps y Done
-    last (EnlistmentObject id) = only_reply-keeps y Done
-    last (FileObject number) = same y _ (λ id is. is) refl refl
-
-    go : (b : Bool) → Keeps y (if b then only_reply y Done else last_handle_gone y object)
-    go true = only_reply-keeps y Done
-    go false = last object
-
-close_handle-keeps : (x : Present) (process : Pid) (label : Label) → Keeps x (close_handle x process label)
-unfolding close_handle
-close_handle-keeps x process label =
-    and_then-keeps x (record (only_reply x Done) { handles = without_handle x.handles process label }) (handle_gone (object_at x.handles process label))
-    (same x _ (λ id is. is) refl refl) (handle_gone-keeps (object_at x.handles process label))
-
-closed_in_turn-keeps : (labels : List Label) (process : Pid) (x : Present) → Keeps x (closed_in_turn x process labels)
-closed_in_turn-keeps [] process x = only_reply-keeps x Done
-closed_in_turn-keeps (label ∷ labels) process x =
-    and_then-keeps x (close_handle x process label) (λ next. closed_in_turn next process labels) (close_handle-keeps x process label) (closed_in_turn-keeps labels process)
-
-exit-keeps : (x : Present) (process : Pid) → Keeps x (exit x process)
-unfolding exit
-exit-keeps x process = closed_in_turn-keeps (labels_of x.handles process) process x
+closing-keeps : Closes (λ x. ⊤) Keeps
+closing-keeps = record {
+  rolls = record {
+    reply = λ x asked. only_reply-keeps x Done;
+    rolls = λ x t asked there can. aborted_by-keeps x t;
+    goes_on = λ x a next first second. and_then-keeps x a next first (second tt);
+  };
+  unbinds = λ x process label asked. same x _ (λ id is. is) refl refl;
+  ends = λ x number asked. same x _ (λ id is. is) refl refl;
+}
 
 duplicate_handle-keeps : (x : Present) (process : Pid) (label : Label) (from : Pid) (source : Label) → Keeps x (duplicate_handle x process label from source)
 unfolding duplicate_handle
@@ -309,23 +279,8 @@ duplicate_handle-keeps x process label from source = go (object_at x.handles fro
     go None = only_reply-keeps x Done
     go (Some object) = same x _ (λ id is. is) refl refl
 
-aborted_if_due-keeps : (x : Present) (t : Option Transaction) → Keeps x (aborted_if_due x t)
-aborted_if_due-keeps x None = only_reply-keeps x Done
-aborted_if_due-keeps x (Some t) = go (is_due x.transactions.clock t)
-  where
-    go : (b : Bool) → Keeps x (if b then aborted_by x t None Done else only_reply x Done)
-    go true = aborted_by-keeps x t
-    go false = only_reply-keeps x Done
-
-aborted_in_turn-keeps : (ts : List Transaction) (x : Present) → Keeps x (aborted_in_turn x ts)
-aborted_in_turn-keeps [] x = only_reply-keeps x Done
-aborted_in_turn-keeps (t ∷ ts) x =
-    and_then-keeps x (aborted_if_due x (transaction_at x.transactions.items t.id)) (λ next. aborted_in_turn next ts)
-    (aborted_if_due-keeps x (transaction_at x.transactions.items t.id)) (aborted_in_turn-keeps ts)
-
 tick-keeps : (x : Present) (ms : ℕ) → Keeps x (tick x ms)
-unfolding tick
-tick-keeps x ms sound = aborted_in_turn-keeps x.transactions.items (with_clock x ms) (same x (with_clock x ms) (λ id is. is) refl refl sound)
+tick-keeps x ms sound = tick-so _ _ closing-keeps.rolls x ms tt (same x (with_clock x ms) (λ id is. is) refl refl sound)
 
 -- ---- calls on keys
 
@@ -432,9 +387,9 @@ effect-keeps x process (KvSet transaction key value) none = kv_set-keeps x proce
 effect-keeps x process (KvUnset transaction key) none = kv_unset-keeps x process transaction key none
 effect-keeps x process (KvGet view key) none = same x _ (λ id is. is) refl refl
 effect-keeps x process (KvList view) none = same x _ (λ id is. is) refl refl
-effect-keeps x process (CloseHandle label) none = close_handle-keeps x process label
+effect-keeps x process (CloseHandle label) none = close_handle-so _ _ closing-keeps x process label tt
 effect-keeps x process (DuplicateHandle label from source) none = duplicate_handle-keeps x process label from source
-effect-keeps x process Exit none = exit-keeps x process
+effect-keeps x process Exit none = exit-so _ _ closing-keeps x process tt
 
 refuse_or-keeps : (x : Present) (refusal : Option Refusal) (effect : Outcome) → (refusal ≡ None → Keeps x effect) → Keeps x (refuse_or x refusal effect)
 refuse_or-keeps x (Some refusal) effect keeps = only_reply-keeps x (Refused refusal)

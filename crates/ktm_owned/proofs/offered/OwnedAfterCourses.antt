@@ -29,9 +29,10 @@ use Rattle.txf_laws.specs.SoundFiles.{IsSoundFiles}
 use Rattle.ktm_owned.proofs.offered.CoursesKept.{IsCourse, OneWork, led-is}
 use Rattle.txf_laws.proofs.offered.Elements.{IsIn-filter, IsIn-kept, filter-true}
 use Rattle.txf_laws.proofs.offered.CommitsOfOthers.{Spares, passed, passed-sound, spares-none}
-use Rattle.ktm_owned.proofs.offered.EndedTransactions.{AreInOrder, filter-same, same_id-turned, IsIn-change_at, order-changed, transaction_at-in, boots-all, tree-store, versions-store, spares-end, unchanged}
+use Rattle.ktm_owned.proofs.offered.EndedTransactions.{AreInOrder, filter-same, same_id-turned, IsIn-change_at, order-changed, transaction_at-in, tree-store, versions-store, spares-end, unchanged}
 use Rattle.ktm_owned.proofs.offered.Undecided.{undecided-other, undecided-itself}
 use Rattle.txf_laws.proofs.offered.Reservations.{named}
+use Rattle.ktm_courses.proofs.offered.OutcomesMade.{events-kept}
 
 -- the changes that works commit
 pub OfWorks : (x : Present) (works : List Work) (cs : List Change) → Type 0
@@ -86,7 +87,7 @@ module _ (lists : ListsLaw) (formed : FormedLaw) where
     others_keep other = not (is_of t.id other)
 
     boots : (after_events x.recorded c.events).boots ≡ x.recorded.boots
-    boots = boots-all c.events x.recorded is.events
+    boots = (events-kept c.events x.recorded is.events).0
 
     pub end-files : (cs : List Change) → OfWorks x c.works cs → (apply x gone).files ≡ passed x.files cs others_keep x.files.table.next_node
     unfolding OfWorks

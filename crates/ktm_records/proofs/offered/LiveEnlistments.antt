@@ -1,17 +1,13 @@
 -- No row makes an enlistment live again, and so no more are live then.
 use Rattle.std.proofs.Common.{◌≡◌, ◌≤◌, ◌&&◌, ◌||◌, not, Bool, true, false, List, [], ◌∷◌, map, count_by, Some, refl, sym, ◌∙◌, ap, subst, arith, inl, inr, ◌⊎◌}
 use Rattle.std.proofs.lemmas.Bool.{cases_Bool, and_parts, and_from, or_cases, or_left, or_right, not-true, not_from_false, true≢false, false_from_ne_true}
-use Rattle.std.proofs.lemmas.List.{map-id}
 use Rattle.std.proofs.lemmas.Option.{same_Some}
-use Rattle.std.proofs.lemmas.Simd.{map-map}
-use Rattle.ktm_base.specs.declared.id.Id.{Id}
 use Rattle.ktm_types.specs.declared.input.PhaseInput.{PhaseInput}
 use Rattle.ktm_types.specs.declared.object.Phase.{Phase}
 use Rattle.ktm_types.specs.declared.object.Phase.TheVariants.{Ended}
 use Rattle.ktm_types.specs.declared.object.Transaction.{Transaction}
-use Rattle.ktm_types.specs.declared.step.Owed.{Owed}
-use Rattle.ktm_world.specs.Enlistments.{Enlistment, has_id, is_ended, is_live_enlistment, is_live_in, is_superior, with_enlistments}
-use Rattle.ktm_world.specs.Phases.{Course, owing, changing_one, unchanged}
+use Rattle.ktm_world.specs.Enlistments.{Enlistment, is_ended, is_live_enlistment, is_live_in, is_superior, with_enlistments}
+use Rattle.ktm_world.specs.Phases.{Course}
 use Rattle.ktm_world.specs.Rows.{row}
 use Rattle.ktm_world.specs.Steps.{led, seen}
 use Rattle.ktm_world.specs.Transactions.{change_at, is_live, same_id, transaction_at}
@@ -40,43 +36,15 @@ pub record Fade (es fs : List Enlistment) : Type 0 where
   pub is : fs ≡ map step es
   pub declines : (e : Enlistment) → Declines e (step e)
 
-pub fade-stays : (es : List Enlistment) → Fade es es
-fade-stays es = record { step = λ e. e; is = sym (map-id es); declines = declines-stays }
-
-pub fade-then : (es fs gs : List Enlistment) → Fade es fs → Fade fs gs → Fade es gs
-fade-then es fs gs a b = record {
-  step = λ e. b.step (a.step e);
-  is = b.is ∙ ap (map b.step) a.is ∙ map-map b.step a.step es;
-  declines = λ e.
-      let first = a.declines e in
-      let second = b.declines (a.step e) in
-      record {
-        transaction = second.transaction ∙ first.transaction;
-        kind = second.kind ∙ first.kind;
-        read_only = λ is. second.read_only (first.read_only is);
-        finished = λ is. second.finished (first.finished is);
-      };
-}
-
 -- those that pass a test are changed
 pub fade-with : (test : Enlistment → Bool) (f : Enlistment → Enlistment) (es : List Enlistment) → ((e : Enlistment) → Declines e (f e)) → Fade es (with_enlistments test f es)
 fade-with test f es each = record { step = stepped test f; is = refl; declines = λ e. if_cases (Declines e) (test e) (f e) e (λ is. each e) (λ is. declines-stays e) }
-
-pub fade-owing : (test : Enlistment → Bool) (owed : Owed) (es : List Enlistment) → Fade es (with_enlistments test (owing owed) es)
-fade-owing test owed es = fade-with test (owing owed) es (λ e. record { transaction = refl; kind = refl; read_only = λ is. is; finished = λ is. is })
-
-pub fade-told : (test : Enlistment → Bool) (es : List Enlistment) → Fade es (with_enlistments test unchanged es)
-fade-told test es = fade-with test unchanged es declines-stays
 
 -- ---- courses
 
 -- no enlistment is live again
 abbrev pub Fades : Course → Course → Type 0
 Fades c d = Fade c.enlistments d.enlistments
-
--- one enlistment is changed
-pub fades-one : (c : Course) (id : Id) (f : Enlistment → Enlistment) → ((e : Enlistment) → Declines e (f e)) → Fades c (changing_one c id f)
-fades-one c id f each = fade-with (has_id id) f c.enlistments each
 
 -- so it is by each row
 pub fades-led : (input : PhaseInput) (c : Course) → Fades c (led input c)

@@ -1,6 +1,5 @@
 -- What steps record is known before anything is carried out.
-use Rattle.std.specs.Prelude.{if◌then◌else◌}
-use Rattle.std.proofs.Common.{◌≡◌, Bool, true, false, List, [], ◌∷◌, ◌++◌, Option, Some, None, refl, sym, ◌∙◌, ap, append_assoc, append-nil}
+use Rattle.std.proofs.Common.{◌≡◌, List, [], ◌∷◌, ◌++◌, Option, Some, None, refl, sym, ◌∙◌, ap, append_assoc, append-nil}
 use Rattle.std.specs.List.{list_any}
 use Rattle.ktm_types.specs.declared.object.TransactionOutcome.{TransactionOutcome}
 use Rattle.ktm_types.specs.declared.step.Answered.{Answered}
@@ -9,6 +8,7 @@ use Rattle.ktm_world.specs.Enlistments.{Enlistment, has_id, is_unfinished}
 use Rattle.ktm_world.specs.Phases.{Course, ended, is_its_superior, owing, unchanged}
 use Rattle.ktm_world.specs.Steps.{answered, carried, changing, basis, events_ahead, events_of, is_meant, run}
 use Rattle.ktm_steps.proofs.offered.Lasting.{basis-with, lasting-answered}
+use Rattle.ktm_steps.proofs.offered.Staying.{either-course}
 
 basis-ended : (c : Course) (outcome : TransactionOutcome) → basis (ended c outcome) ≡ basis c
 unfolding ended
@@ -21,10 +21,6 @@ events-ended c outcome = refl
 -- a course after a step that records nothing
 abbrev Still : Course → Course → Type 0
 Still c d = (basis d ≡ basis c) × (d.events ≡ c.events)
-
-still-either : (b : Bool) (c d e : Course) → Still c d → Still c e → Still c (if b then d else e)
-still-either true c d e first second = first
-still-either false c d e first second = second
 
 Ahead : List Step → Course → Type 0
 Ahead steps c = (run steps c).events ≡ c.events ++ events_ahead steps (basis c)
@@ -47,7 +43,7 @@ events-ahead (Step.Ask who kind owed ∷ steps) c = goes-on steps c (carried (St
 events-ahead (Step.Change answer ∷ steps) c = goes-on steps c (carried (Step.Change answer) c) (still-change answer c c.caller) (events-ahead steps (carried (Step.Change answer) c))
 events-ahead (Step.End outcome ∷ steps) c = goes-on steps c (ended c outcome) (basis-ended c outcome, events-ended c outcome) (events-ahead steps (ended c outcome))
 events-ahead (Step.EndWhereFinished outcome ∷ steps) c = goes-on steps c (carried (Step.EndWhereFinished outcome) c)
-    (still-either (list_any (is_unfinished c.transaction.id) c.enlistments) c c (ended c outcome) (refl, refl) (basis-ended c outcome, events-ended c outcome))
+    (either-course (Still c) (list_any (is_unfinished c.transaction.id) c.enlistments) c (ended c outcome) (refl, refl) (basis-ended c outcome, events-ended c outcome))
     (events-ahead steps (carried (Step.EndWhereFinished outcome) c))
 events-ahead (Step.Commit ∷ steps) c = events-ahead steps (carried Step.Commit c)
 events-ahead (Step.Enter phase ∷ steps) c = events-ahead steps (carried (Step.Enter phase) c)

@@ -1,18 +1,16 @@
 -- What counts of a course once an enlistment that takes part has answered.
 use Rattle.std.specs.Prelude.{if◌then◌else◌, cond}
-use Rattle.std.proofs.Common.{◌≡◌, ℕ, ◌+◌, ◌-◌, ◌==◌, ◌&&◌, ◌||◌, not, Bool, true, false, List, [], ◌∷◌, ◌++◌, length, count_by, None, is_some, refl, sym, ◌∙◌, ap, arith, inl, inr}
+use Rattle.std.proofs.Common.{◌≡◌, ℕ, ◌+◌, ◌-◌, ◌==◌, ◌&&◌, ◌||◌, not, Bool, true, false, List, [], ◌∷◌, ◌++◌, length, count_by, None, is_some, refl, sym, ◌∙◌, ap, arith, inl, inr, filter}
 use Rattle.std.proofs.lemmas.Bool.{and_from, cases_Bool, true≢false}
 use Rattle.std.proofs.lemmas.Bool.Decides.{nat_tests}
 use Rattle.std.proofs.lemmas.List.{map-append}
 use Rattle.std.proofs.lemmas.List.Sums.{length-filter, sum_by-append, sum_by-cons}
 use Rattle.std.specs.List.{list_any}
-use Rattle.ktm_world.specs.Changes.{has_changes}
 use Rattle.ktm_world.specs.Enlistments.{Enlistment, allows_one_phase, asks_pre_prepare, has_id, is_ordinary, takes_part, with_enlistments}
-use Rattle.ktm_world.specs.Phases.{Course, changing_one, has_settings, one_if, superior}
-use Rattle.ktm_world.specs.Rows.{participants, without}
+use Rattle.ktm_world.specs.Phases.{Course, changing_one, one_if, superior}
+use Rattle.ktm_world.specs.Rows.{without}
 use Rattle.ktm_world.specs.Steps.{counted, lasting, seen, share_of}
-use Rattle.ktm_steps.specs.Procedures.{participants as participants_of, someone_owes, taking_part}
-use Rattle.ktm_steps.specs.Laws.{IsPart}
+use Rattle.ktm_steps.specs.Laws.{IsPart, someone_owes}
 
 -- ---- counts
 
@@ -35,7 +33,7 @@ any-more : (b a : Bool) (n : ℕ) → a ≡ not (n == 0) → (b || a) ≡ not (o
 any-more true a n is = some-more n
 any-more false a n is = let same : n ≡ 0 + n = omega arith in is ∙ ap (λ m. not (m == 0)) same
 
-pub any-counted : {X : Type 0} (p : X → Bool) (xs : List X) → list_any p xs ≡ not (count_by p xs == 0)
+any-counted : {X : Type 0} (p : X → Bool) (xs : List X) → list_any p xs ≡ not (count_by p xs == 0)
 any-counted p [] = refl
 any-counted p (x ∷ xs) = any-more (p x) (list_any p xs) (count_by p xs) (any-counted p xs) ∙ ap (λ n. not (n == 0)) (sym (count-cons p x xs))
 
@@ -43,11 +41,13 @@ and-true : (a : Bool) → (a && true) ≡ a
 and-true true = refl
 and-true false = refl
 
-parts-counted : (c : Course) → counted c (λ e. true) ≡ length (taking_part c)
+-- how many take part
+pub parts-counted : (c : Course) → counted c (λ e. true) ≡ length (filter (takes_part c.transaction.id) c.enlistments)
 parts-counted c = (λ i. count_by (λ e. and-true (takes_part c.transaction.id e) i) c.enlistments) ∙ sym (length-filter (takes_part c.transaction.id) c.enlistments)
 
-pub participants-counted : (c : Course) → participants (seen c) ≡ participants_of c
-participants-counted c = ap (λ n. n + one_if (has_changes c.changes) + one_if (has_settings c.settings)) (parts-counted c)
+-- whether any that takes part passes the test
+pub some-counted : (c : Course) (test : Enlistment → Bool) (none : Bool) → (counted c test == 0) ≡ none → list_any (λ e. takes_part c.transaction.id e && test e) c.enlistments ≡ not none
+some-counted c test none is = any-counted (λ e. takes_part c.transaction.id e && test e) c.enlistments ∙ ap not is
 
 -- ---- one enlistment is changed
 

@@ -1,6 +1,6 @@
 -- No step makes an enlistment live again.
 use Rattle.std.specs.Prelude.{if◌then◌else◌}
-use Rattle.std.proofs.Common.{◌≡◌, Bool, true, false, List, [], ◌∷◌, map, Option, Some, None, refl, sym, ◌∙◌, ap}
+use Rattle.std.proofs.Common.{◌≡◌, Bool, true, false, List, map, Option, Some, None, refl, sym, ◌∙◌, ap}
 use Rattle.std.proofs.lemmas.List.{map-id}
 use Rattle.std.proofs.lemmas.Simd.{map-map}
 use Rattle.std.specs.List.{list_any}
@@ -12,6 +12,7 @@ use Rattle.ktm_world.specs.Enlistments.{Enlistment, has_id, is_unfinished, with_
 use Rattle.ktm_world.specs.Phases.{Course, ended, is_its_superior, owing, unchanged}
 use Rattle.ktm_world.specs.Steps.{answered, carried, changing, is_meant, run}
 use Rattle.ktm_steps.specs.Fading.{Fades, GoesOn}
+use Rattle.ktm_steps.proofs.offered.Staying.{either-course, run-keeps}
 
 -- ---- enlistments
 
@@ -54,10 +55,6 @@ fades-then b c d first second = record {
 fades-with : (test : Enlistment → Bool) (f : Enlistment → Enlistment) (c d : Course) → d.enlistments ≡ with_enlistments test f c.enlistments → ((e : Enlistment) → GoesOn e (f e)) → Fades c d
 fades-with test f c d is each = record { change = λ e. if test e then f e else e; is = is; each = λ e. goes-if (test e) e (f e) (each e) }
 
-fades-either : (c d e : Course) (b : Bool) → Fades c d → Fades c e → Fades c (if b then d else e)
-fades-either c d e true first second = first
-fades-either c d e false first second = second
-
 fades-ended : (c : Course) (outcome : TransactionOutcome) → Fades c (ended c outcome)
 unfolding ended
 fades-ended c outcome = fades-with (is_its_superior c) unchanged c (ended c outcome) refl stays
@@ -73,9 +70,8 @@ fades-step (Step.Tell who kind) c = fades-with (is_meant who c) unchanged c _ re
 fades-step (Step.Ask who kind owed) c = fades-with (is_meant who c) (owing owed) c _ refl (λ e. record { lasts = refl; read_only = λ is. is; prepared = λ is. is; finished = λ is. is; recovered = λ is. is })
 fades-step (Step.Change answer) c = fades-changing answer c c.caller
 fades-step (Step.End outcome) c = fades-ended c outcome
-fades-step (Step.EndWhereFinished outcome) c = fades-either c c (ended c outcome) (list_any (is_unfinished c.transaction.id) c.enlistments) (fades-same c c refl) (fades-ended c outcome)
+fades-step (Step.EndWhereFinished outcome) c = either-course (Fades c) (list_any (is_unfinished c.transaction.id) c.enlistments) c (ended c outcome) (fades-same c c refl) (fades-ended c outcome)
 fades-step _ c = fades-same c _ refl
 
 pub fades-run : (steps : List Step) (c : Course) → Fades c (run steps c)
-fades-run [] c = fades-same c c refl
-fades-run (step ∷ steps) c = fades-then c _ _ (fades-step step c) (fades-run steps (carried step c))
+fades-run steps c = run-keeps (Fades c) (λ step d so. fades-then c d (carried step d) so (fades-step step d)) steps c (fades-same c c refl)

@@ -1,6 +1,6 @@
 -- What steps tell of an outcome is so, and a known outcome stays, where they pass the test on lists; and each row passes it.
 use Rattle.std.specs.Prelude.{if◌then◌else◌}
-use Rattle.std.proofs.Common.{◌≡◌, ◌==◌, Bool, true, false, ℕ, zero, suc, List, [], ◌∷◌, All, filter, map, Option, Some, None, refl, sym, ◌∙◌, subst, inl, inr, ◌⊎◌, ◌&&◌}
+use Rattle.std.proofs.Common.{◌≡◌, ◌==◌, Bool, true, false, List, [], ◌∷◌, All, filter, map, Option, Some, None, refl, sym, ◌∙◌, subst, inl, inr, ◌⊎◌, ◌&&◌}
 use Rattle.std.proofs.lemmas.Bool.{and_parts, true≢false}
 use Rattle.std.proofs.lemmas.List.Elements.{All-append, All-map, All-nil, All-weaker}
 use Rattle.std.specs.List.{list_any}
@@ -15,10 +15,12 @@ use Rattle.ktm_types.specs.declared.step.Step.{Step}
 use Rattle.ktm_world.specs.Enlistments.{Enlistment, Sent, is_unfinished, tell}
 use Rattle.ktm_world.specs.OneOutcome.{told_outcome}
 use Rattle.ktm_world.specs.Phases.{Course, decided, end_notice, ended, in_phase, is_its_superior, is_single_phase, owing, telling, unchanged}
-use Rattle.ktm_world.specs.Rows.{aborts, all_readies, commit_completes, commits, commits_one, proceeds, proceeds_without, is_last, participants, pre_prepare_completes, pre_prepares, prepare_completes, prepares, prepares_all, prepares_alone, read_onlies, requests, rollback_completes, row, tells_in, without}
+use Rattle.ktm_world.specs.Rows.{aborts, all_readies, commit_completes, commits, proceeds, proceeds_without, is_last, participants, pre_prepare_completes, pre_prepares, prepare_completes, prepares, read_onlies, requests, rollback_completes, row, tells_in, without}
 use Rattle.ktm_world.specs.Steps.{answered, carried, changing, is_meant, led, run, seen}
 use Rattle.ktm_steps.proofs.offered.Lists.{Pass, row-passes, row_lists}
 use Rattle.ktm_steps.specs.Outcomes.{AreTrue, IsKnownIn, KeepsTrue, MayBe, MayCome, OutcomeLaw, StaysTrue, TellsOnly, known, IsTrue}
+use Rattle.ktm_steps.proofs.offered.Ways.{Ways, choose, pre_prepares-by, prepares-by, proceeds-by, requests-by}
+use Rattle.ktm_steps.proofs.offered.Staying.{either-course}
 
 through : (k j t : Option Bool) → MayBe k j → MayBe j t → MayBe k t
 through k j t (inl none) second = inl none
@@ -59,10 +61,6 @@ ended-tells k c outcome may only tells =
 then-true : (k j : Option Bool) (d : Course) → MayBe k j → StaysTrue j d → StaysTrue k d
 then-true k j d may true' = record { tells = true'.tells; stays = through k j (known d) may true'.stays }
 
-either : (P : Course → Type 0) (b : Bool) (d e : Course) → P d → P e → P (if b then d else e)
-either P true d e first second = first
-either P false d e first second = second
-
 changed-tells : (k : Option Bool) (c : Course) (e : Option Enlistment) (f : Enlistment → Enlistment) → MayBe k (known c) → Tells k c → MayBe k (known (changing c e f)) × Tells k (changing c e f)
 changed-tells k c None f may tells = (may, tells)
 changed-tells k c (Some e) f may tells = (may, tells)
@@ -76,7 +74,7 @@ stays-true k (Step.Decide outcome ∷ steps) c may tells ok =
     then-true k (told_outcome outcome) _ ok.0 (stays-true (told_outcome outcome) steps (decided c outcome) (inr refl) (tells-wider k (told_outcome outcome) c ok.0 tells) ok.1)
 stays-true k (Step.End outcome ∷ steps) c may tells ok =
     then-true k (told_outcome outcome) _ ok.0 (stays-true (told_outcome outcome) steps (ended c outcome) (inr (sym (ended-known c outcome))) (ended-tells k c outcome ok.0 ok.1 tells) ok.2)
-stays-true k (Step.EndWhereFinished outcome ∷ steps) c may tells ok = either (λ d. StaysTrue k (run steps d)) (list_any (is_unfinished c.transaction.id) c.enlistments) c (ended c outcome)
+stays-true k (Step.EndWhereFinished outcome ∷ steps) c may tells ok = either-course (λ d. StaysTrue k (run steps d)) (list_any (is_unfinished c.transaction.id) c.enlistments) c (ended c outcome)
     (stays-true k steps c may tells ok.2)
     (then-true k (told_outcome outcome) _ ok.0 (stays-true (told_outcome outcome) steps (ended c outcome) (inr (sym (ended-known c outcome))) (ended-tells k c outcome ok.0 ok.1 tells) ok.3))
 stays-true k (Step.Record fact ∷ steps) c may tells ok = stays-true k steps (carried (Step.Record fact) c) may tells ok
@@ -86,10 +84,6 @@ stays-true k (Step.Change answer ∷ steps) c may tells ok = let same = changed-
 
 -- ---- rows
 
-true-if : (k : Option Bool) (b : Bool) (xs ys : List Step) → AreTrue k xs → AreTrue k ys → AreTrue k (if b then xs else ys)
-true-if k true xs ys first second = first
-true-if k false xs ys first second = second
-
 true-commits : AreTrue None commits
 true-commits = (inl refl, (inr refl, (inr refl, inr refl, tt, tt)))
 
@@ -97,42 +91,32 @@ true-aborts : AreTrue None aborts
 true-aborts = (inl refl, (inr refl, (inr refl, (inr refl, inr refl, tt, tt))))
 
 true-all_readies : (s : Seen) → AreTrue None (all_readies s)
-true-all_readies s = true-if None s.has_superior _ _ (inl refl, tt) (true-if None (participants s == 0) _ commits (inl refl, inr refl, tt) true-commits)
+true-all_readies s = choose (AreTrue None) s.has_superior _ _ (λ above. (inl refl, tt)) (λ top. choose (AreTrue None) (participants s == 0) _ commits (λ none. (inl refl, inr refl, tt)) (λ some. true-commits))
 
-true-prepares_all : (s : Seen) → AreTrue None (prepares_all s)
-true-prepares_all s = true-if None (s.enlistments == 0) (all_readies s) _ (true-all_readies s) (inl refl, tt)
-
-true-commits_one : (s : Seen) → AreTrue None (commits_one s)
-true-commits_one s = true-if None s.has_files _ _ (inl refl, inr refl, tt) (true-if None s.has_keys _ _ (inl refl, inr refl, tt) (true-if None (s.in_one_phase == 0) (prepares_all s) _ (true-prepares_all s) (inl refl, tt)))
-
-true-prepares_alone : (s : Seen) (n : ℕ) → AreTrue None (prepares_alone s n)
-true-prepares_alone s zero = (inl refl, inr refl, tt)
-true-prepares_alone s (suc zero) = true-commits_one s
-true-prepares_alone s (suc (suc more)) = true-prepares_all s
-
-true-prepares : (s : Seen) → AreTrue None (prepares s)
-true-prepares s = true-if None s.has_superior (prepares_all s) (prepares_alone s (participants s)) (true-prepares_all s) (true-prepares_alone s (participants s))
-
-true-proceeds : (s : Seen) → AreTrue None (proceeds s)
-true-proceeds s = true-if None s.has_superior _ (prepares s) (inl refl, tt) (true-prepares s)
-
-true-pre_prepares : (s : Seen) → AreTrue None (pre_prepares s)
-true-pre_prepares s = true-if None (s.asking == 0) (proceeds s) _ (true-proceeds s) (inl refl, tt)
-
-true-requests : (s : Seen) → AreTrue None (requests s)
-true-requests s = true-if None s.has_superior _ (pre_prepares s) (inl refl, tt) (true-pre_prepares s)
+true-ways : (s : Seen) → Ways (AreTrue None) s
+true-ways s = record {
+  requested = λ has. (inl refl, tt);
+  pre_prepared = λ has. (inl refl, tt);
+  pre_preparing = λ some. (inl refl, tt);
+  preparing = λ some. (inl refl, tt);
+  one_phase = λ alone one no_files no_keys some. (inl refl, tt);
+  files = λ one some. (inl refl, inr refl, tt);
+  keys = λ one no_files some. (inl refl, inr refl, tt);
+  nobody = λ none. (inl refl, inr refl, tt);
+  ready = λ none. true-all_readies s;
+}
 
 true-where : (k : Option Bool) (b : Bool) (steps : List Step) → AreTrue k steps → AreTrue k (if b then steps else [])
-true-where k b steps ok = true-if k b steps [] ok tt
+true-where k b steps ok = choose (AreTrue k) b steps [] (λ is. ok) (λ other. tt)
 
 true-proceeds_without : (phase : Phase) (s : Seen) → AreTrue None (proceeds_without phase s)
-true-proceeds_without PrePreparing s = true-proceeds s
+true-proceeds_without PrePreparing s = proceeds-by (AreTrue None) s (true-ways s)
 true-proceeds_without Preparing s = true-all_readies s
 true-proceeds_without SinglePhase s = (inl refl, inr refl, tt)
 true-proceeds_without _ s = tt
 
 true-commit_completes : (k : Option Bool) (phase : Phase) → MayBe k (Some true) → AreTrue k (commit_completes phase)
-true-commit_completes k phase may = true-if k (is_single_phase phase) _ _ (may, inr refl, tt) (may, inr refl, tt, tt)
+true-commit_completes k phase may = choose (AreTrue k) (is_single_phase phase) _ _ (λ one. (may, inr refl, tt)) (λ several. (may, inr refl, tt, tt))
 
 true-rollback_completes : (k : Option Bool) → MayBe k (Some false) → AreTrue k rollback_completes
 true-rollback_completes k may = (may, inr refl, tt, tt)
@@ -147,16 +131,16 @@ at-none : (k : Option Bool) (steps : List Step) → k ≡ None → AreTrue None 
 at-none k steps is ok = subst (λ k. AreTrue k steps) (sym is) ok
 
 true-row : (s : Seen) (input : PhaseInput) (k : Option Bool) → MayCome k s.phase input → AreTrue k (row s input)
-true-row s PhaseInput.CommitTransaction k is = at-none k (requests s) is (true-requests s)
+true-row s PhaseInput.CommitTransaction k is = at-none k (requests s) is (requests-by (AreTrue None) s (true-ways s))
 true-row s PhaseInput.Rollback k is = at-none k aborts is true-aborts
-true-row s PhaseInput.PrePrepareComplete k is = at-none k (pre_prepare_completes s) is (true-where None (is_last s) (proceeds s) (true-proceeds s))
+true-row s PhaseInput.PrePrepareComplete k is = at-none k (pre_prepare_completes s) is (true-where None (is_last s) (proceeds s) (proceeds-by (AreTrue None) s (true-ways s)))
 true-row s PhaseInput.PrepareComplete k is = at-none k (prepare_completes s) is (true-where None (is_last s) (all_readies s) (true-all_readies s))
 true-row s (PhaseInput.ReadOnly share) k is = at-none k (read_onlies s share) is (true-where None _ (proceeds_without s.phase (without share s)) (true-proceeds_without s.phase (without share s)))
 true-row s PhaseInput.SinglePhaseReject k is = (inl refl, tt)
 true-row s PhaseInput.CommitComplete k may = true-commit_completes k s.phase may
 true-row s PhaseInput.RollbackComplete k may = true-rollback_completes k may
-true-row s PhaseInput.PrePrepare k is = at-none k (pre_prepares s) is (true-pre_prepares s)
-true-row s PhaseInput.Prepare k is = at-none k (prepares s) is (true-prepares s)
+true-row s PhaseInput.PrePrepare k is = at-none k (pre_prepares s) is (pre_prepares-by (AreTrue None) s (true-ways s))
+true-row s PhaseInput.Prepare k is = at-none k (prepares s) is (prepares-by (AreTrue None) s (true-ways s))
 true-row s PhaseInput.Commit k is = at-none k commits is true-commits
 true-row s PhaseInput.Recover k is = true-tells_in k s.phase is
 true-row s PhaseInput.RecoverSuperior k is = (inl refl, tt)
@@ -235,7 +219,7 @@ decided-run k (Step.End outcome ∷ steps) c only =
     from-this (known c) (known (ended c outcome)) k (run steps (ended c outcome)) (ended-known c outcome ∙ this-told k outcome both.0) (decided-run k steps (ended c outcome) both.1)
 decided-run k (Step.EndWhereFinished outcome ∷ steps) c only =
     let both = and_parts (is_this k outcome) (decides_only k steps) only in
-    either (λ d. IsOr (known c) k (run steps d)) (list_any (is_unfinished c.transaction.id) c.enlistments) c (ended c outcome) (decided-run k steps c both.1)
+    either-course (λ d. IsOr (known c) k (run steps d)) (list_any (is_unfinished c.transaction.id) c.enlistments) c (ended c outcome) (decided-run k steps c both.1)
     (from-this (known c) (known (ended c outcome)) k (run steps (ended c outcome)) (ended-known c outcome ∙ this-told k outcome both.0) (decided-run k steps (ended c outcome) both.1))
 decided-run k (Step.Change answer ∷ steps) c only =
     subst (λ before. IsOr before k (run steps (carried (Step.Change answer) c))) (known-changing c c.caller (answered answer)) (decided-run k steps (carried (Step.Change answer) c) only)

@@ -1,9 +1,9 @@
 -- What steps record: each event is one of a fact, and there are no more than facts.
 use Rattle.std.proofs.Common.{◌≡◌, ℕ, ◌+◌, ◌≤◌, Bool, true, false, List, [], ◌∷◌, ◌++◌, length, Option, Some, None, refl, sym, ◌∙◌, ap, arith, subst}
 use Rattle.std.specs.Prelude.{if◌then◌else◌}
-use Rattle.std.proofs.lemmas.Bool.{true≢false}
+use Rattle.std.proofs.lemmas.Bool.{true≢false, and_from}
 use Rattle.std.proofs.lemmas.List.{length-append}
-use Rattle.std.specs.List.{AllByRecursion}
+use Rattle.std.specs.List.{AllByRecursion, list_all}
 use Rattle.ktm_types.specs.declared.event.DonePart.{DonePart}
 use Rattle.ktm_types.specs.declared.event.Event.{Event}
 use Rattle.ktm_types.specs.declared.event.Part.{Part}
@@ -136,6 +136,40 @@ led-events input c none = events-ahead (row (seen c) input) c ∙ ap (λ es. es 
 -- each is so
 pub all-led : (P : Event → Type 0) (input : PhaseInput) (c : Course) → c.events ≡ [] → Facts P (basis c) → AllByRecursion P (led input c).events
 all-led P input c none facts = subst (AllByRecursion P) (sym (led-events input c none)) (all-ahead P (row (seen c) input) (basis c) facts)
+
+-- each passes the test
+pub passes-led : (test : Event → Bool) (input : PhaseInput) (c : Course) → c.events ≡ [] → Facts (λ e. test e ≡ true) (basis c) → list_all test (led input c).events ≡ true
+passes-led test input c none facts = passes (led input c).events (all-led (λ e. test e ≡ true) input c none facts)
+  where
+    passes : (es : List Event) → AllByRecursion (λ e. test e ≡ true) es → list_all test es ≡ true
+    passes [] all = refl
+    passes (e ∷ es) all = and_from _ _ all.0 (passes es all.1)
+
+-- is it an event of a transaction in which nothing stands of what there is to commit
+abbrev pub is_bare : Event → Bool
+is_bare (Event.Ready id (Part.Enlistment enlistment manager information)) = true
+is_bare (Event.Held id enlistment manager information) = true
+is_bare (Event.Decide id) = true
+is_bare (Event.Undo id) = true
+is_bare (Event.Done id part) = true
+is_bare _ = false
+
+-- what is so of those is to be said of the files and of the keys alone
+pub bare-facts : (P : Event → Type 0) (b : Basis) → ((event : Event) → is_bare event ≡ true → P event)
+    → P (Event.Ready b.id (Part.Changes b.changes)) × P (Event.Single b.id (Part.Changes b.changes)) → P (Event.Ready b.id (Part.Settings b.settings)) × P (Event.Single b.id (Part.Settings b.settings)) → Facts P b
+bare-facts P b bare files keys = record {
+  ready_files = files.0;
+  ready_keys = keys.0;
+  ready = λ e is. bare (Event.Ready b.id (enlistment_part e)) refl;
+  held = λ e is. bare (Event.Held b.id e.id e.manager e.information) refl;
+  decide = bare (Event.Decide b.id) refl;
+  undo = bare (Event.Undo b.id) refl;
+  done_files = bare (Event.Done b.id DonePart.Files) refl;
+  done_keys = bare (Event.Done b.id DonePart.Keys) refl;
+  done = λ e is. bare (Event.Done b.id (DonePart.Enlistment e.id)) refl;
+  single_files = files.1;
+  single_keys = keys.1;
+}
 
 -- ---- rows that record nothing
 

@@ -10,6 +10,15 @@ use Rattle.ktm_world.specs.Phases.{Course, ended}
 use Rattle.ktm_world.specs.Rows.{row}
 use Rattle.ktm_world.specs.Steps.{carried, changing, led, run, seen}
 
+-- what each step keeps is kept by steps, one after another, and by each row
+pub run-keeps : (P : Course → Type 0) → ((step : Step) (c : Course) → P c → P (carried step c)) → (steps : List Step) (c : Course) → P c → P (run steps c)
+run-keeps P keeps [] c so = so
+run-keeps P keeps (step ∷ steps) c so = run-keeps P keeps steps (carried step c) (keeps step c so)
+
+pub led-keeps : (P : Course → Type 0) → ((step : Step) (c : Course) → P c → P (carried step c)) → (input : PhaseInput) (c : Course) → P c → P (led input c)
+unfolding led
+led-keeps P keeps input c = run-keeps P keeps (row (seen c) input) c
+
 -- so much of it is as before
 pub record Stays (c d : Course) : Type 0 where
   pub id : d.transaction.id ≡ c.transaction.id
@@ -53,10 +62,5 @@ stays-step (Step.End outcome) c = stays-ended c outcome
 stays-step (Step.EndWhereFinished outcome) c = either-course (Stays c) (list_any (is_unfinished c.transaction.id) c.enlistments) c (ended c outcome) (stays c) (stays-ended c outcome)
 stays-step _ c = record { id = refl; timeout = refl; created = refl; managers = refl; changes = refl; settings = refl; caller = refl }
 
-pub stays-run : (steps : List Step) (c : Course) → Stays c (run steps c)
-stays-run [] c = stays c
-stays-run (step ∷ steps) c = stays-then c (carried step c) (run steps (carried step c)) (stays-step step c) (stays-run steps (carried step c))
-
 pub stays-led : (input : PhaseInput) (c : Course) → Stays c (led input c)
-unfolding led
-stays-led input c = stays-run (row (seen c) input) c
+stays-led input c = led-keeps (Stays c) (λ step d so. stays-then c d (carried step d) so (stays-step step d)) input c (stays c)

@@ -1,12 +1,12 @@
 -- An ordinary enlistment that rolls its transaction back is not the superior, so that is told.
-use Rattle.std.proofs.Common.{◌≡◌, ◌&&◌, not, Bool, true, false, List, [], ◌∷◌, ◌++◌, Some, refl, sym, subst, append-nil, inl, inr}
+use Rattle.std.proofs.Common.{◌≡◌, ◌&&◌, not, Bool, true, false, List, [], ◌∷◌, ◌++◌, refl, sym, subst, append-nil, inl, inr}
 use Rattle.std.proofs.lemmas.Bool.{and_parts, cases_Bool, true≢false}
 use Rattle.std.specs.List.{AllByRecursion, list_any}
 use Rattle.ktm_base.specs.declared.id.Id.{Id}
-use Rattle.ktm_world.specs.Enlistments.{Enlistment, has_id, is_given, is_ordinary, is_superior, takes_part, id_of}
+use Rattle.ktm_world.specs.Enlistments.{Enlistment, has_id, is_ordinary, is_superior, takes_part}
 use Rattle.ktm_world.specs.Phases.{Course, is_its_superior}
 use Rattle.ktm_world.specs.Transactions.{same_id}
-use Rattle.ktm_steps.specs.Laws.{IsPart, TellsSuperior}
+use Rattle.ktm_steps.specs.Laws.{IsPart, TellsSuperior, by}
 
 and-true : (b : Bool) → (b && true) ≡ b
 and-true true = refl
@@ -36,10 +36,8 @@ module _ (c : Course) (id : Id) where
       ]
 
 -- the superior is told whoever else takes part and calls
-pub tells-superior : (c : Course) (e : Enlistment) → c.caller ≡ Some e → IsPart c e → TellsSuperior c
-tells-superior c e calls is =
-    subst (λ o. AllByRecursion (λ f. (is_its_superior c f && not (is_given (id_of o) f)) ≡ is_its_superior c f) c.enlistments) (sym calls)
-    (subst (AllByRecursion (Told c e.id)) (sym is.is) (told-others c e.id is.before (e ∷ is.after) is.none_before (told-ordinary c e.id e is.part, after)))
+pub tells-superior : (c : Course) (e : Enlistment) → IsPart c e → TellsSuperior (by c e)
+tells-superior c e is = subst (AllByRecursion (Told c e.id)) (sym is.is) (told-others c e.id is.before (e ∷ is.after) is.none_before (told-ordinary c e.id e is.part, after))
   where
     after : AllByRecursion (Told c e.id) is.after
     after = subst (AllByRecursion (Told c e.id)) (append-nil is.after) (told-others c e.id is.after [] is.none_after tt)

@@ -1,8 +1,9 @@
 -- How a transaction goes on that is not decided: what holds of each list where it is chosen holds of each row.
 use Rattle.std.specs.Prelude.{if◌then◌else◌}
-use Rattle.std.proofs.Common.{◌≡◌, ℕ, zero, suc, ◌==◌, not, Bool, true, false, List, [], ◌∷◌, is_some, refl, sym}
+use Rattle.std.proofs.Common.{◌≡◌, ℕ, zero, suc, ◌==◌, Bool, true, false, List, [], ◌∷◌, refl}
 use Rattle.ktm_base.specs.declared.notify.Notify.{Notify}
 use Rattle.ktm_types.specs.declared.input.PhaseInput.{PhaseInput}
+use Rattle.ktm_types.specs.declared.input.Seen.{Seen}
 use Rattle.ktm_types.specs.declared.object.Phase.{Phase}
 use Rattle.ktm_types.specs.declared.object.Phase.TheVariants.{PrePreparing, Preparing, SinglePhase}
 use Rattle.ktm_types.specs.declared.object.TransactionOutcome.TheVariants.{Committed}
@@ -11,84 +12,71 @@ use Rattle.ktm_types.specs.declared.step.Owed.{Owed}
 use Rattle.ktm_types.specs.declared.step.Step.{Step}
 use Rattle.ktm_types.specs.declared.step.Step.TheVariants.{Record, Tell, Ask, Enter, End}
 use Rattle.ktm_types.specs.declared.step.Who.{Who}
-use Rattle.ktm_world.specs.Changes.{has_changes}
-use Rattle.ktm_world.specs.Enlistments.{allows_one_phase, asks_pre_prepare}
-use Rattle.ktm_world.specs.Phases.{Course, has_settings, superior}
-use Rattle.ktm_world.specs.Rows.{all_readies, commits_one, pre_prepares, prepares, prepares_all, prepares_alone, proceeds, requests}
-use Rattle.ktm_world.specs.Steps.{counted, led, run, seen}
-use Rattle.ktm_steps.specs.Procedures.{participants, some_enlistment}
-use Rattle.ktm_steps.proofs.offered.Counts.{any-counted, participants-counted}
+use Rattle.ktm_world.specs.Phases.{Course}
+use Rattle.ktm_world.specs.Rows.{all_readies, commits_one, participants, pre_prepares, prepares, prepares_all, prepares_alone, proceeds, requests}
+use Rattle.ktm_world.specs.Steps.{led, run, seen}
 
--- what is so of each list, where this course goes on by it
-pub record Ways (P : List Step → Type 0) (c : Course) : Type 0 where
+-- what is so of each list, where it is chosen by what is seen
+pub record Ways (P : List Step → Type 0) (s : Seen) : Type 0 where
   -- its superior is told
-  pub requested : is_some (superior c) ≡ true → P (Tell Who.Superior Notify.CommitRequest ∷ Enter Phase.Requested ∷ [])
-  pub pre_prepared : is_some (superior c) ≡ true → P (Tell Who.Superior Notify.PrePrepareComplete ∷ Enter Phase.PrePrepared ∷ [])
+  pub requested : s.has_superior ≡ true → P (Tell Who.Superior Notify.CommitRequest ∷ Enter Phase.Requested ∷ [])
+  pub pre_prepared : s.has_superior ≡ true → P (Tell Who.Superior Notify.PrePrepareComplete ∷ Enter Phase.PrePrepared ∷ [])
   -- enlistments are asked
-  pub pre_preparing : some_enlistment c asks_pre_prepare ≡ true → P (Ask Who.Asking Notify.PrePrepare Owed.PrePrepare ∷ Enter PrePreparing ∷ [])
-  pub preparing : some_enlistment c (λ e. true) ≡ true → P (Ask Who.Parts Notify.Prepare Owed.Prepare ∷ Enter Preparing ∷ [])
-  pub one_phase : is_some (superior c) ≡ false → participants c ≡ 1 → has_changes c.changes ≡ false → has_settings c.settings ≡ false → some_enlistment c allows_one_phase ≡ true
-      → P (Ask Who.Parts Notify.SinglePhaseCommit Owed.Commit ∷ Enter SinglePhase ∷ [])
+  pub pre_preparing : (s.asking == 0) ≡ false → P (Ask Who.Asking Notify.PrePrepare Owed.PrePrepare ∷ Enter PrePreparing ∷ [])
+  pub preparing : (s.enlistments == 0) ≡ false → P (Ask Who.Parts Notify.Prepare Owed.Prepare ∷ Enter Preparing ∷ [])
+  pub one_phase : s.has_superior ≡ false → participants s ≡ 1 → s.has_files ≡ false → s.has_keys ≡ false → (s.in_one_phase == 0) ≡ false → P (Ask Who.Parts Notify.SinglePhaseCommit Owed.Commit ∷ Enter SinglePhase ∷ [])
   -- the files or the keys commit alone
-  pub files : participants c ≡ 1 → has_changes c.changes ≡ true → P (Record Fact.SingleFiles ∷ Step.Commit ∷ End Committed ∷ [])
-  pub keys : participants c ≡ 1 → has_changes c.changes ≡ false → has_settings c.settings ≡ true → P (Record Fact.SingleKeys ∷ Step.Commit ∷ End Committed ∷ [])
+  pub files : participants s ≡ 1 → s.has_files ≡ true → P (Record Fact.SingleFiles ∷ Step.Commit ∷ End Committed ∷ [])
+  pub keys : participants s ≡ 1 → s.has_files ≡ false → s.has_keys ≡ true → P (Record Fact.SingleKeys ∷ Step.Commit ∷ End Committed ∷ [])
   -- nobody takes part
-  pub nobody : participants c ≡ 0 → P (End Committed ∷ [])
+  pub nobody : participants s ≡ 0 → P (End Committed ∷ [])
   -- no enlistment takes part
-  pub ready : some_enlistment c (λ e. true) ≡ false → P (all_readies (seen c))
+  pub ready : (s.enlistments == 0) ≡ true → P (all_readies s)
 
-module _ (P : List Step → Type 0) (c : Course) (ways : Ways P c) where
-  choose : (b : Bool) (xs ys : List Step) → (b ≡ true → P xs) → (b ≡ false → P ys) → P (if b then xs else ys)
-  choose true xs ys on off = on refl
-  choose false xs ys on off = off refl
+-- one of two lists is so, each where it is chosen
+pub choose : (P : List Step → Type 0) (b : Bool) (xs ys : List Step) → (b ≡ true → P xs) → (b ≡ false → P ys) → P (if b then xs else ys)
+choose P true xs ys on off = on refl
+choose P false xs ys on off = off refl
 
-  -- by a count and by whether there is any
-  choose-any : (n : ℕ) (some : Bool) (xs ys : List Step) → some ≡ not (n == 0) → (some ≡ false → P xs) → (some ≡ true → P ys) → P (if n == 0 then xs else ys)
-  choose-any n some xs ys is none any = flip (n == 0) is
-    where
-      flip : (b : Bool) → some ≡ not b → P (if b then xs else ys)
-      flip true is' = none is'
-      flip false is' = any is'
+module _ (P : List Step → Type 0) (s : Seen) (ways : Ways P s) where
+  all-by : P (prepares_all s)
+  all-by = choose P (s.enlistments == 0) _ _ ways.ready ways.preparing
 
-  all-by : P (prepares_all (seen c))
-  all-by = choose-any (counted c (λ e. true)) (some_enlistment c (λ e. true)) _ _ (any-counted _ c.enlistments) ways.ready ways.preparing
-
-  one-by : is_some (superior c) ≡ false → participants c ≡ 1 → P (commits_one (seen c))
+  one-by : s.has_superior ≡ false → participants s ≡ 1 → P (commits_one s)
   one-by alone one =
-      choose (has_changes c.changes) _ _ (ways.files one)
-      (λ no_files. choose (has_settings c.settings) _ _ (ways.keys one no_files)
-      (λ no_keys. choose-any (counted c allows_one_phase) (some_enlistment c allows_one_phase) _ _ (any-counted _ c.enlistments) (λ none. all-by) (ways.one_phase alone one no_files no_keys)))
+      choose P s.has_files _ _ (ways.files one)
+      (λ no_files. choose P s.has_keys _ _ (ways.keys one no_files) (λ no_keys. choose P (s.in_one_phase == 0) _ _ (λ none. all-by) (ways.one_phase alone one no_files no_keys)))
 
-  alone-by : (n : ℕ) → is_some (superior c) ≡ false → participants c ≡ n → P (prepares_alone (seen c) n)
+  alone-by : (n : ℕ) → s.has_superior ≡ false → participants s ≡ n → P (prepares_alone s n)
   alone-by zero alone none = ways.nobody none
   alone-by (suc zero) alone one = one-by alone one
   alone-by (suc (suc more)) alone several = all-by
 
-  pub prepares-by : P (prepares (seen c))
-  prepares-by = choose (is_some (superior c)) _ _ (λ above. all-by) (λ alone. alone-by _ alone (sym (participants-counted c)))
+  pub prepares-by : P (prepares s)
+  prepares-by = choose P s.has_superior _ _ (λ above. all-by) (λ alone. alone-by _ alone refl)
 
-  pub proceeds-by : P (proceeds (seen c))
-  proceeds-by = choose (is_some (superior c)) _ _ ways.pre_prepared (λ alone. prepares-by)
+  pub proceeds-by : P (proceeds s)
+  proceeds-by = choose P s.has_superior _ _ ways.pre_prepared (λ alone. prepares-by)
 
-  pub pre_prepares-by : P (pre_prepares (seen c))
-  pre_prepares-by = choose-any (counted c asks_pre_prepare) (some_enlistment c asks_pre_prepare) _ _ (any-counted _ c.enlistments) (λ none. proceeds-by) ways.pre_preparing
+  pub pre_prepares-by : P (pre_prepares s)
+  pre_prepares-by = choose P (s.asking == 0) _ _ (λ none. proceeds-by) ways.pre_preparing
 
-  pub requests-by : P (requests (seen c))
-  requests-by = choose (is_some (superior c)) _ _ ways.requested (λ alone. pre_prepares-by)
+  pub requests-by : P (requests s)
+  requests-by = choose P s.has_superior _ _ ways.requested (λ alone. pre_prepares-by)
 
 -- where the row of what begins leads to
-module _ (P : Course → Type 0) (c : Course) (ways : Ways (λ steps. P (run steps c)) c) where
+module _ (P : Course → Type 0) (c : Course) (ways : Ways (λ steps. P (run steps c)) (seen c)) where
   pub commit-by : P (led PhaseInput.CommitTransaction c)
   unfolding led
-  commit-by = requests-by (λ steps. P (run steps c)) c ways
+  commit-by = requests-by (λ steps. P (run steps c)) (seen c) ways
 
   pub pre_prepare-by : P (led PhaseInput.PrePrepare c)
   unfolding led
-  pre_prepare-by = pre_prepares-by (λ steps. P (run steps c)) c ways
+  pre_prepare-by = pre_prepares-by (λ steps. P (run steps c)) (seen c) ways
 
   pub prepare-by : P (led PhaseInput.Prepare c)
   unfolding led
-  prepare-by = prepares-by (λ steps. P (run steps c)) c ways
+  prepare-by = prepares-by (λ steps. P (run steps c)) (seen c) ways
 
   pub proceed-by : P (run (proceeds (seen c)) c)
-  proceed-by = proceeds-by (λ steps. P (run steps c)) c ways
+  proceed-by = proceeds-by (λ steps. P (run steps c)) (seen c) ways

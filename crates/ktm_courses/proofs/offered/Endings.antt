@@ -1,27 +1,32 @@
--- The procedures by which a transaction goes on: what it comes to by each is sound again.
-use Rattle.std.proofs.Common.{◌≡◌, ℕ, ◌==◌, ◌&&◌, ◌||◌, not, Bool, true, false, List, [], ◌∷◌, ◌++◌, length, map, filter, suc, nat_lt, Option, Some, None, is_some, is_none, refl, sym, ◌∙◌, ap, subst, arith, inl, inr}
-use Rattle.std.proofs.lemmas.Bool.{cases_Bool, and_parts, and_from, and_cases, or_cases, or_left, or_right, eqb-true, not-true, not_from_false, true≢false, false_from_ne_true}
+-- What is sound of a transaction on its way, and how it comes to its end: what it comes to where it commits or rolls back, and where all are prepared, is sound again.
+use Rattle.std.proofs.Common.{◌≡◌, ℕ, ◌==◌, ◌&&◌, ◌||◌, not, Bool, true, false, List, [], ◌∷◌, length, map, filter, suc, nat_lt, Some, is_some, is_none, refl, sym, ◌∙◌, ap, subst, arith, inl, inr}
+use Rattle.std.proofs.lemmas.Bool.{cases_Bool, and_parts, and_from, and_cases, or_cases, or_left, or_right, not-true, not_from_false, true≢false, false_from_ne_true}
 use Rattle.std.specs.List.{list_any}
 use Rattle.ktm_base.specs.declared.id.Id.{Id}
 use Rattle.ktm_base.specs.declared.notify.Notify.{Notify}
-use Rattle.ktm_types.specs.declared.event.DonePart.{DonePart}
 use Rattle.ktm_types.specs.declared.event.Event.{Event}
 use Rattle.ktm_types.specs.declared.input.PhaseInput.{PhaseInput}
-use Rattle.ktm_types.specs.declared.object.Phase.TheVariants.{Held, Committing, Aborting, Ended}
+use Rattle.ktm_types.specs.declared.object.Phase.TheVariants.{Committing, Aborting, Ended}
 use Rattle.ktm_types.specs.declared.object.Transaction.{Transaction}
 use Rattle.ktm_types.specs.declared.object.TransactionOutcome.{TransactionOutcome}
 use Rattle.ktm_types.specs.declared.object.TransactionOutcome.TheVariants.{Undetermined, Committed, Aborted}
 use Rattle.ktm_types.specs.declared.step.Owed.{Owed}
-use Rattle.ktm_world.specs.Enlistments.{Enlistment, Manager, is_superior, owes_commit, owes_rollback, takes_part, is_unfinished, is_durable_at, with_enlistments, superior_of}
-use Rattle.ktm_world.specs.Phases.{Course, in_phase, decided, recording, telling, owing, unchanged, superior, is_its_superior, has_settings, end_notice, ended, ended_if_finished, work_of, event_if, is_single_phase}
+use Rattle.ktm_world.specs.Enlistments.{Enlistment, Manager, is_superior, owes_commit, owes_rollback, takes_part, is_unfinished, is_durable_at, with_enlistments, superior_of, id_of, is_given}
+use Rattle.ktm_world.specs.Phases.{Course, in_phase, decided, recording, telling, owing, unchanged, superior, is_its_superior, has_settings, end_notice, ended, ended_if_finished, event_if, is_single_phase}
 use Rattle.ktm_world.specs.Transactions.{same_id, is_committed, is_aborted, is_undecided}
 use Rattle.ktm_world.specs.Changes.{has_changes}
-use Rattle.ktm_world.specs.Steps.{led}
-use Rattle.ktm_steps.specs.Procedures.{recorded, taking_part, participants, committing, is_caller, ready_parts, readied, held_or_committing, all_ready}
+use Rattle.ktm_world.specs.Steps.{led, counted, held_event, is_meant, run, seen}
 use Rattle.txf_laws.specs.Elements.{IsIn}
 use Rattle.ktm_courses.specs.SoundCourse.{is_last_recover, is_unrecovered_well, is_outcome_of, is_of_its_boot, has_superior_as_asked, is_idle, is_waiting, owes_until_finished, is_part_as, is_awaited, has_durable_part, is_recorded_as_asked}
 use Rattle.txf_laws.proofs.offered.Elements.{IsIn-kept, list_any-at, list_any-from}
-use Rattle.ktm_courses.proofs.offered.Moves.{if_cases, IsSame, IsAlike, Moved, Moved-then, moved-transaction, moved-recording, moved-telling, changes-none, stepped, with-unchanged, Stand, Stand-with, Stand-as}
+use Rattle.ktm_courses.proofs.offered.Moves.{if_cases, IsSame, IsAlike, Moved, Moved-then, moved-transaction, moved-telling, changes-none, stepped, with-unchanged, Stand, Stand-with, Stand-as, moved-still}
+use Rattle.ktm_steps.proofs.offered.Table.{all_readies-by, held, readied}
+use Rattle.ktm_steps.proofs.offered.Counts.{some-counted}
+use Rattle.ktm_world.specs.Rows.{all_readies, commits}
+use Rattle.ktm_types.specs.declared.step.Fact.{Fact}
+use Rattle.ktm_types.specs.declared.step.Step.{Step}
+use Rattle.ktm_types.specs.declared.step.Step.TheVariants.{Record}
+use Rattle.ktm_types.specs.declared.step.Who.{Who}
 
 -- ---- tests on enlistments
 
@@ -212,15 +217,12 @@ module _ (boot : ℕ) (c : Course) (can : CanCommit boot c) where
   abbrev to_commit_now : Enlistment → Bool
   to_commit_now e = takes_part (c.transaction).id e && e.is_prepared && e.is_recovered
 
-  -- the decision is recorded
+  -- it is decided
   abbrev c_decided : Course
-  c_decided = record (recording c (
-      event_if (c.transaction).is_recorded (Event.Decide (c.transaction).id)
-      ++ event_if (has_changes c.changes) (Event.Done (c.transaction).id DonePart.Files)
-      ++ event_if (has_settings c.settings) (Event.Done (c.transaction).id DonePart.Keys))) { works = c.works ++ work_of c }
+  c_decided = run (Record Fact.Decide ∷ Record Fact.DoneFiles ∷ Record Fact.DoneKeys ∷ Step.Commit ∷ Step.Decide Committed ∷ Step.Enter Committing ∷ []) c
 
   abbrev c_committing : Course
-  c_committing = in_phase (decided (telling c_decided to_commit_now Notify.Commit (owing Owed.Commit)) Committed) Committing
+  c_committing = telling c_decided to_commit_now Notify.Commit (owing Owed.Commit)
 
   commit-parts : (e : Enlistment) → to_commit_now e ≡ true → (takes_part (c.transaction).id e ≡ true) × (e.is_prepared ≡ true) × (e.is_recovered ≡ true)
   commit-parts e is =
@@ -230,14 +232,12 @@ module _ (boot : ℕ) (c : Course) (can : CanCommit boot c) where
 
   committing-moved : Moved c c_committing
   committing-moved = Moved-then
-      (Moved-then
-      (moved-recording c _ (c.works ++ work_of c))
+      (moved-still c c_decided.transaction c_decided.events c_decided.works refl refl refl)
       (moved-telling c_decided to_commit_now Notify.Commit (owing Owed.Commit) refl (record {
         own = λ e there is. (part-parts (c.transaction).id e (commit-parts e is).0).0;
         same = λ e. (alike-owing Owed.Commit e).same;
         recovered = λ e there is. inr (commit-parts e is).2;
-      })))
-      (moved-transaction (telling c_decided to_commit_now Notify.Commit (owing Owed.Commit)) c_committing.transaction refl refl refl)
+      }))
 
   committing-stand : Stand c_committing.enlistments (c.transaction).id (is_part_as Committing)
   committing-stand = Stand-with c.enlistments (c.transaction).id is_waiting (is_part_as Committing) to_commit_now (owing Owed.Commit) can.stand
@@ -248,8 +248,7 @@ module _ (boot : ℕ) (c : Course) (can : CanCommit boot c) where
         | inr unrecovered ↦ rw ((waiting-parts e waits).1, unrecovered) (waiting-parts e waits).0
       ])
 
-  pub arrives-committing : Arrives boot c (committing c)
-  unfolding committing
+  pub arrives-committing : Arrives boot c (run commits c)
   arrives-committing = arrives-then boot committing-moved (arrives-if_finished boot c_committing Committed (is_part_as Committing) refl can.backed committing-stand
       (λ e is finished. over-part owes_commit e (and_parts e.is_prepared _ is).1 finished)
       (λ some. record {
@@ -276,7 +275,7 @@ module _ (boot : ℕ) (c : Course) (backed : is_backed boot c.transaction ≡ tr
 
   -- the superior, but one that asked for it
   abbrev to_tell : Enlistment → Bool
-  to_tell e = is_its_superior c e && not (is_caller c e)
+  to_tell e = is_meant Who.OtherSuperior c e
 
   abbrev c_undone : Course
   c_undone = recording c (event_if (c.transaction).is_recorded (Event.Undo (c.transaction).id))
@@ -290,14 +289,14 @@ module _ (boot : ℕ) (c : Course) (backed : is_backed boot c.transaction ≡ tr
   aborting-moved : Moved c c_aborting
   aborting-moved = Moved-then
       (Moved-then
-      (Moved-then (moved-recording c _ c.works)
+      (Moved-then (moved-still c c.transaction c_undone.events c.works refl refl refl)
       (moved-telling c_undone to_roll_back Notify.Rollback (owing Owed.Rollback) refl (record {
         own = λ e there is. (part-parts (c.transaction).id e (and_parts (takes_part (c.transaction).id e) e.is_recovered is).0).0;
         same = λ e. (alike-owing Owed.Rollback e).same;
         recovered = λ e there is. inr (and_parts (takes_part (c.transaction).id e) e.is_recovered is).1;
       })))
       (moved-telling c_told to_tell Notify.Rollback unchanged refl (changes-none c_told to_tell (λ e there is.
-      its-own c c_told refl e there (and_parts (is_its_superior c e) (not (is_caller c e)) is).0))))
+      its-own c c_told refl e there (and_parts (is_its_superior c e) (not (is_given (id_of c.caller) e)) is).0))))
       (moved-transaction (telling c_told to_tell Notify.Rollback unchanged) c_aborting.transaction refl refl refl)
 
   aborting-stand : Stand c_aborting.enlistments (c.transaction).id (is_part_as Aborting)
@@ -337,12 +336,8 @@ pub record AllReady (boot : ℕ) (c : Course) : Type 0 where
   pub recorded : has_durable_part c.managers c.enlistments (c.transaction).id (λ e. e.is_prepared) ≡ true → (c.transaction).is_recorded ≡ true
 
 -- nobody takes part
-pub no-parts : (c : Course) → length (taking_part c) ≡ 0 → (e : Enlistment) → IsIn e c.enlistments → takes_part (c.transaction).id e ≡ true → ⊥
-no-parts c none e there part = go (taking_part c) none (IsIn-kept (takes_part (c.transaction).id) c.enlistments e there part)
-  where
-    go : (es : List Enlistment) → length es ≡ 0 → IsIn e es → ⊥
-    go [] none there = there
-    go (x ∷ xs) none there = omega arith
+pub no-parts : (c : Course) → counted c (λ e. true) ≡ 0 → (e : Enlistment) → IsIn e c.enlistments → takes_part (c.transaction).id e ≡ true → ⊥
+no-parts c none e there part = true≢false (sym (and_from _ _ part refl) ∙ none-at _ c.enlistments (some-counted c (λ e. true) true (ap (λ n. n == 0) none)) e there)
 
 pub Stand-nobody : (es : List Enlistment) (id : Id) (before after : Enlistment → Bool) → Stand es id before → ((e : Enlistment) → IsIn e es → takes_part id e ≡ true → ⊥) → Stand es id after
 Stand-nobody es id before after stand none = Stand-as es id before after stand (λ e there part passes. absurd (none e there part))
@@ -352,9 +347,7 @@ module _ (boot : ℕ) (c : Course) (all : AllReady boot c) where
   c_readied = readied c
 
   readied-moved : Moved c c_readied
-  readied-moved = Moved-then
-      (moved-recording c _ c.works)
-      (moved-transaction (recording c (ready_parts c)) c_readied.transaction refl refl refl)
+  readied-moved = moved-still c c_readied.transaction c_readied.events c.works refl refl refl
 
   can-commit : CanCommit boot c_readied
   can-commit = record {
@@ -372,41 +365,32 @@ module _ (boot : ℕ) (c : Course) (all : AllReady boot c) where
     ];
   }
 
-  -- the superior is told
-  abbrev c_held_recorded : Enlistment → Course
-  c_held_recorded e = recorded (recording c_readied (Event.Held (c.transaction).id e.id e.manager e.information ∷ []))
-
-  held-or-committing : (found : Option Enlistment) → superior c ≡ found → Arrives boot c_readied (held_or_committing c_readied found)
-  held-or-committing (Some e) is =
-      let told = telling (c_held_recorded e) (is_its_superior c_readied) Notify.PrepareComplete unchanged in
-      let d = in_phase told Held in
-      record {
-        moved = Moved-then
-            (Moved-then
-            (Moved-then (moved-recording c_readied _ c.works)
-            (moved-transaction (recording c_readied (Event.Held (c.transaction).id e.id e.manager e.information ∷ [])) (c_held_recorded e).transaction refl refl refl))
-            (moved-telling (c_held_recorded e) (is_its_superior c_readied) Notify.PrepareComplete unchanged refl (changes-none (c_held_recorded e) (is_its_superior c_readied) (its-own c_readied (c_held_recorded e) refl))))
-            (moved-transaction told d.transaction refl refl refl);
-        stands = record {
-          outcome = all.undecided;
-          boots = rw all.here refl;
-          superior = subst (λ es. is_some (superior_of es (c.transaction).id) ≡ true) (sym (with-unchanged (is_its_superior c) c.enlistments)) (ap is_some is);
-          stand = subst (λ es. Stand es (c.transaction).id is_waiting) (sym (with-unchanged (is_its_superior c) c.enlistments)) all.stand;
-          awaited = refl;
-          alone = refl;
-          recorded = refl;
-        };
-      }
-  held-or-committing None is = if_cases (λ d. Arrives boot c_readied d) (participants c_readied == 0) (ended c_readied Committed) (committing c_readied)
-      (λ none.
-      let zero' = eqb-true (participants c_readied) 0 none in
-      arrives-ended boot c_readied Committed refl (can-commit.backed)
-      (Stand-nobody c.enlistments (c.transaction).id is_waiting (is_part_as Ended) all.stand (no-parts c_readied (omega arith))))
-      (λ some. arrives-committing boot c_readied can-commit)
-
-  pub arrives-all_ready : Arrives boot c (all_ready c)
-  unfolding all_ready
-  arrives-all_ready = arrives-then boot readied-moved (held-or-committing (superior c_readied) refl)
+  pub arrives-all_ready : Arrives boot c (run (all_readies (seen c)) c)
+  arrives-all_ready = all_readies-by (Arrives boot c) c waits
+      (λ top none. arrives-then boot readied-moved (arrives-ended boot c_readied Committed refl can-commit.backed
+      (Stand-nobody c.enlistments (c.transaction).id is_waiting (is_part_as Ended) all.stand (no-parts c (omega arith)))))
+      (λ top. arrives-then boot readied-moved (arrives-committing boot c_readied can-commit))
+    where
+      -- the superior is told
+      waits : (e : Enlistment) → superior c ≡ Some e → Arrives boot c (held c_readied e)
+      waits e is =
+          let c_held = record (recording c_readied (held_event (c.transaction).id (Some e))) { transaction = record c.transaction { is_recorded = true } } in
+          let told = telling c_held (is_its_superior c_readied) Notify.PrepareComplete unchanged in
+          record {
+            moved = Moved-then
+                (Moved-then (moved-still c c_held.transaction c_held.events c.works refl refl refl)
+                (moved-telling c_held (is_its_superior c_readied) Notify.PrepareComplete unchanged refl (changes-none c_held (is_its_superior c_readied) (its-own c_readied c_held refl))))
+                (moved-transaction told (held c_readied e).transaction refl refl refl);
+            stands = record {
+              outcome = all.undecided;
+              boots = rw all.here refl;
+              superior = subst (λ es. is_some (superior_of es (c.transaction).id) ≡ true) (sym (with-unchanged (is_its_superior c) c.enlistments)) (ap is_some is);
+              stand = subst (λ es. Stand es (c.transaction).id is_waiting) (sym (with-unchanged (is_its_superior c) c.enlistments)) all.stand;
+              awaited = refl;
+              alone = refl;
+              recorded = refl;
+            };
+          }
 
 -- the one that takes part
 pub only-one : (es : List Enlistment) (id : Id) → length (filter (takes_part id) es) ≡ 1 → (a b : Enlistment) → IsIn a es → IsIn b es → takes_part id a ≡ true → takes_part id b ≡ true → a ≡ b
