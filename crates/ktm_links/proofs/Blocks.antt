@@ -1,7 +1,9 @@
 -- Lemmas on keys in blocks.
 use Rattle.std.proofs.Common.{◌≡◌, ℕ, zero, suc, ◌+◌, ◌-◌, ◌<◌, ◌≤◌, List, [], ◌∷◌, ◌++◌, length, get_or, set, take, drop, refl, sym, ap, ◌∙◌, inl, inr, arith, append_assoc, length-append, length-take, length-drop, Some, None}
 use Rattle.std.specs.List.{insert, remove, slice_get}
-use Rattle.std.proofs.lemmas.List.{append-nil, get_or-append-add, get_or-set_same, get_or_default, get_or_past, length-set, take-append-drop}
+use Rattle.std.proofs.Math.ListN.{drop_of_length-le}
+use Rattle.std.proofs.Math.Seq.{drop-append-add}
+use Rattle.std.proofs.lemmas.List.{append-nil, drop-append-le, get_or-append-add, get_or-set_same, get_or_default, get_or_past, length-set, take-append-drop, take_all}
 use Rattle.std.proofs.lemmas.List.Edits.{length-insert, length-remove, insert-append_left, insert-append_right, remove-append_left, remove-append_right}
 use Rattle.std.proofs.lemmas.Bool.{cases_lt}
 use Rattle.std.proofs.lemmas.Option.{slice_get-get_or, slice_get_past}
@@ -445,4 +447,33 @@ got_none bs spot gap past =
     elim gap.here [
       | inl here ↦ absurd (omega (arith, here, ap (λ l. length l) (get_or_past bs spot.block [] past)))
       | inr end ↦ sym (slice_get_past (flat bs) (index_of bs spot) (omega (arith, end)))
+    ]
+
+-- ---- the keys from one on
+-- each of the later blocks has a key
+pub used_behind : (bs : List (List Key)) (i : ℕ) → AreUsed bs → AreUsed (drop i bs)
+used_behind bs zero used = used
+used_behind [] (suc i) used = tt
+used_behind (b ∷ bs) (suc i) used = used_behind bs i used.1
+
+-- all of a list from a place on
+pub all_from : {A : Type 0} (i : ℕ) (xs : List A) → take (length xs - i) (drop i xs) ≡ drop i xs
+all_from i xs = take_all (length xs - i) (drop i xs) (omega (arith, length-drop i xs))
+
+-- the keys from one on are those of its block, and those of the blocks behind it
+pub flat_from : (bs : List (List Key)) (spot : Spot) → spot.block < length bs → spot.place ≤ length (block_at bs spot.block)
+    → drop spot.place (block_at bs spot.block) ++ flat (drop (spot.block + 1) bs) ≡ drop (index_of bs spot) (flat bs)
+flat_from bs spot within place =
+    ap (λ n. drop spot.place (block_at bs spot.block) ++ flat (drop n bs)) (plus-one spot.block)
+    ∙ sym
+    (ap (λ l. drop (index_of bs spot) l) (flat-at bs spot.block within)
+    ∙ drop-append-add (flat (take spot.block bs)) (block_at bs spot.block ++ flat (drop (suc spot.block) bs)) spot.place
+    ∙ drop-append-le spot.place (block_at bs spot.block) (flat (drop (suc spot.block) bs)) place)
+
+-- behind the last block there is none
+pub none_from : (bs : List (List Key)) (spot : Spot) → IsGap bs spot → length bs ≤ spot.block → [] ≡ drop (index_of bs spot) (flat bs)
+none_from bs spot gap past =
+    elim gap.here [
+      | inl here ↦ absurd (omega (arith, here, ap (λ l. length l) (get_or_past bs spot.block [] past)))
+      | inr end ↦ sym (drop_of_length-le (flat bs) (omega (arith, end)))
     ]

@@ -3,6 +3,7 @@ use Rattle.std.specs.Prelude.{◌≡◌, ℕ, ◌<◌, true, false, List, [], �
 use Rattle.std.specs.Option.{option_map}
 use Rattle.std.specs.Coded.{Coded, code_by, coded×, coded_ℕ, coded_list}
 use Rattle.std.specs.declared.cmp.Ordering.{Ordering}
+use Rattle.std.specs.declared.cmp.Ordering.TheVariants.{Less}
 use Rattle.std.specs.Ordering.{nat_cmp, is_eq, is_lt}
 use Rattle.std.specs.Cmp.Lexicographic.{slice_cmp}
 use Rattle.ktm_links.specs.declared.list.Key.{Key}
@@ -83,6 +84,21 @@ module _ {T : Type 0} where
   abbrev pub first_from : List (NamedItem T) → List ℕ → Option (Key × T)
   first_from [] name = None
   first_from (e ∷ es) name = if is_lt (name_cmp e.name name) then first_from es name else Some (e.key, e.value)
+
+  -- each entry's name is above this one
+  abbrev pub AreAbove : List ℕ → List (NamedItem T) → Type 0
+  AreAbove name [] = Unit {0}
+  AreAbove name (e ∷ es) = (name_cmp name e.name ≡ Less) × AreAbove name es
+
+  -- the names rise strictly
+  abbrev pub IsRising : List (NamedItem T) → Type 0
+  IsRising [] = Unit {0}
+  IsRising (e ∷ es) = AreAbove e.name es × IsRising es
+
+  -- the entries whose names are not below this one, where the names rise
+  abbrev pub entries_from : List (NamedItem T) → List ℕ → List (NamedItem T)
+  entries_from [] name = []
+  entries_from (e ∷ es) name = if is_lt (name_cmp e.name name) then entries_from es name else e ∷ es
 
   -- this key stands under the first of the names of which this is so
   pub record IsFirstOf (P : List ℕ → Type 0) (entries : List (NamedItem T)) (key : Key) : Type 0 where

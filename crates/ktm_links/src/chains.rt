@@ -5,13 +5,14 @@ ghost use Rattle.std.specs.Option.{option_copied_mut, option_map};
 ghost use Rattle.ktm_links.specs.Items.{value_at};
 ghost use Rattle.ktm_links.specs.Lends.{lends_item};
 ghost use Rattle.ktm_links.specs.declared.list.Key.{Key};
-ghost use Rattle.ktm_links.specs.Mapped.{at, first_from, key_at, put, value_of, without_name, Begins, IsFirstOf, IsNoneOf, IsNotBelow, IsSpent, KeepsSpent};
+ghost use Rattle.ktm_links.specs.Mapped.{at, entries_from, first_from, key_at, put, value_of, without_name, Begins, IsFirstOf, IsNoneOf, IsNotBelow, IsRising, IsSpent, KeepsSpent};
 
 use crate::list::{Key, List};
 use crate::name::Name;
 use crate::named::Named;
 use crate::order::Order;
 use crate::search::{gap, not_below, search};
+use crate::walk::Walk;
 use ktm_base::NoMemory;
 use std::alloc::Global;
 use std::marker::Model;
@@ -99,6 +100,15 @@ impl<K: Name, T> Chains<K, T> {
     {
         self.order
             .get(not_below(&self.values, self.order.as_blocks(), name))
+    }
+
+    /// The entries whose names are not below this one, by rising name, one after another.
+    pub fn walk_from(&self, name: &[u8]) -> Walk<'_, K, T>
+        ensures entries { result ≡ entries_from self.now.entries name.now }
+        ensures rising { IsRising self.now.entries }
+    {
+        let spot = not_below(&self.values, self.order.as_blocks(), name);
+        Walk::new(&self.values, self.order.keys_from(spot))
     }
 
     /// The key of the value whose name is the first that begins with these bytes.

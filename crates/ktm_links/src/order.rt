@@ -4,6 +4,7 @@ ghost use Rattle.std.specs.List.{insert, remove, slice_get};
 ghost use Rattle.ktm_links.specs.Blocks.{flat, block_at, index_of, AreUsed, IsGap, IsRoom, IsSpot};
 
 use crate::block::{Block, HALF, Spot};
+use crate::keys::Keys;
 use crate::list::Key;
 use ktm_base::NoMemory;
 use std::alloc::Global;
@@ -144,6 +145,17 @@ impl Order {
         match self.blocks.get(spot.block) {
             Some(block) => block.get(spot.place),
             None => None,
+        }
+    }
+
+    /// The keys from there on.
+    pub(crate) fn keys_from(&self, spot: Spot) -> Keys<'_>
+        requires { IsGap self.now.blocks spot }
+        ensures { result ≡ drop (index_of self.now.blocks spot) (flat self.now.blocks) }
+    {
+        match self.blocks.get(spot.block) {
+            Some(block) => Keys::new(&block.as_slice()[spot.place..], &self.blocks[spot.block + 1..]),
+            None => Keys::new(&[], &[]),
         }
     }
 

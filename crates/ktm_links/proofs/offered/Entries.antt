@@ -12,8 +12,7 @@ use Rattle.std.specs.Option.{option_map}
 use Rattle.std.proofs.lemmas.Bool.Decides.{Decides-eqb}
 use Rattle.std.proofs.lemmas.Slice.Eq.{starts_is}
 use Rattle.ktm_links.specs.Items.{same_key}
-use Rattle.ktm_links.specs.Mapped.{Mapped, KeepsSpent, NamedItem, name_cmp, at, first_from, key_at, put, value_of, without_name, Begins, IsFirstOf, IsNoneOf, IsNotBelow}
-use Rattle.ktm_links.specs.Order.{AreAbove, IsRising}
+use Rattle.ktm_links.specs.Mapped.{Mapped, KeepsSpent, NamedItem, name_cmp, at, first_from, key_at, put, value_of, without_name, AreAbove, Begins, IsFirstOf, IsNoneOf, IsNotBelow, IsRising}
 use Rattle.ktm_links.proofs.offered.Keys.{none_of, same_key-true, same_key-self, other_generation}
 use Rattle.ktm_links.proofs.offered.Names.{begins_not_below, begins_between, not_lower, lower_differs, turned, name_same, name_equal, from_is_eq, is_eq-other}
 
