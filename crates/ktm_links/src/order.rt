@@ -154,7 +154,10 @@ impl Order {
         ensures { result ≡ drop (index_of self.now.blocks spot) (flat self.now.blocks) }
     {
         match self.blocks.get(spot.block) {
-            Some(block) => Keys::new(&block.as_slice()[spot.place..], &self.blocks[spot.block + 1..]),
+            Some(block) => Keys::new(
+                &block.as_slice()[spot.place..],
+                &self.blocks[spot.block + 1..],
+            ),
             None => Keys::new(&[], &[]),
         }
     }

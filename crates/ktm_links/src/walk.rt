@@ -12,6 +12,7 @@ use crate::named::Named;
 use std::marker::Model;
 
 /// An entry of a map: its name, the key of its value, and the value.
+#[derive(Drop)]
 pub struct EntryRef<'a, T> {
     pub name: &'a [u8],
     pub key: Key,
