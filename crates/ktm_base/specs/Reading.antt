@@ -1,5 +1,5 @@
 -- What a read of bytes puts behind those that are there.
-use Rattle.std.specs.Prelude.{◌≡◌, ℕ, ◌+◌, ◌<◌, List, ◌++◌, length, take, drop, Option, Some, None, Result, Ok, Err, IsSomeAnd, OnOk, OnErr, Vec, vec_capacity, vec_len}
+use Rattle.std.specs.Prelude.{◌≡◌, ℕ, ◌+◌, ◌<◌, List, ◌++◌, length, take, drop, Option, Some, None, Result, IsSomeAnd, OnOk, OnErr, Vec, vec_capacity, vec_len}
 use Rattle.ktm_base.specs.declared.fault.NoMemory.{NoMemory}
 
 -- the bytes from the offset on, as many as there are and at most so many

@@ -1,5 +1,5 @@
 -- What a contract sees of a `Chains`.
-use Rattle.std.specs.Prelude.{◌≡◌, ℕ, ◌<◌, true, false, List, [], ◌∷◌, ◌++◌, Option, Some, None, is_some, if◌then◌else◌, refl}
+use Rattle.std.specs.Prelude.{◌≡◌, ◌≢◌, ℕ, ◌<◌, true, false, List, [], ◌∷◌, ◌++◌, Option, Some, None, is_some, if◌then◌else◌, refl}
 use Rattle.std.specs.Option.{option_map}
 use Rattle.std.specs.Coded.{Coded, code_by, coded×, coded_ℕ, coded_list}
 use Rattle.std.specs.declared.cmp.Ordering.{Ordering}
@@ -140,6 +140,12 @@ module _ {T : Type 0} where
   -- what was spent stays spent
   abbrev pub KeepsSpent : Mapped T → Mapped T → Type 0
   KeepsSpent old new = (key : Key) → IsSpent old key → IsSpent new key
+
+  -- the key, if it is one, is spent, and each other one names what it did
+  pub record Spends (old new : Mapped T) (key : Option Key) : Type 0 where
+    pub now : (k : Key) → key ≡ Some k → IsSpent new k
+    pub others : (k : Key) → key ≢ Some k → value_of new.entries k ≡ value_of old.entries k
+    pub still : KeepsSpent old new
 
 -- the key that a map of keys has under the name
 abbrev pub key_under : List (NamedItem Key) → List ℕ → Option Key

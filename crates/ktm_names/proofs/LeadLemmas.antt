@@ -1,9 +1,9 @@
 -- Lemmas on what stands before the first star or question mark of a pattern.
-use Rattle.std.proofs.Common.{◌≡◌, ℕ, ◌≤◌, ◌-◌, ◌==◌, ◌&&◌, ◌||◌, Bool, true, false, List, [], ◌∷◌, length, drop, refl, sym, ap, ◌∙◌, inl, inr, arith, length-drop}
+use Rattle.std.proofs.Common.{◌≡◌, ℕ, ◌≤◌, ◌-◌, ◌==◌, false, List, [], ◌∷◌, length, drop, refl, sym, ap, ◌∙◌, inl, inr, arith, length-drop}
 use Rattle.std.proofs.lemmas.Bool.{cases_Bool, eq-eqb, ne_eqb}
 use Rattle.std.proofs.Math.ListN.{drop_of_length-le}
 use Rattle.ktm_base.specs.Names.{folded_byte, matches, question_mark, star}
-use Rattle.ktm_names.specs.Leading.{is_wild, reaches}
+use Rattle.ktm_names.specs.Leading.{reaches}
 
 -- a name that was read to the end of the pattern ends there, or does not
 pub at_end : (pattern name : List ℕ) (n : ℕ) → reaches (drop n pattern) (drop n name) ≡ reaches pattern name → n ≡ length pattern → n ≤ length name

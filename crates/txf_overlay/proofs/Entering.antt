@@ -1,6 +1,6 @@
 -- Lemmas on the entries of a directory as they are seen.
 use Rattle.std.proofs.Common.{◌≡◌, ℕ, ◌<◌, ◌≤◌, ◌==◌, not, Bool, true, false, is_some, filter, suc, length, List, [], ◌∷◌, ◌++◌, Option, Some, None, IfSome, refl, sym, ap, ◌∙◌, subst, arith, length-drop, inl, inr, ◌⊎◌}
-use Rattle.std.specs.Prelude.{bytes_eq, IfNone, drop, option_to_list}
+use Rattle.std.specs.Prelude.{bytes_eq, IfNone, option_to_list}
 use Rattle.std.specs.Option.{option_map}
 use Rattle.std.specs.Ordering.{is_eq, is_lt}
 use Rattle.std.specs.List.{list_all}
@@ -10,7 +10,7 @@ use Rattle.std.proofs.lemmas.Bool.{cases_Bool, eqb-true, eq-eqb, ne_eqb, not-tru
 use Rattle.std.proofs.lemmas.Option.{none-some, same_Some}
 use Rattle.std.proofs.lemmas.List.{length-map}
 use Rattle.std.proofs.lemmas.Slice.Eq.{bytes_eq-Decides}
-use Rattle.ktm_base.specs.Names.{IsName, folded}
+use Rattle.ktm_base.specs.Names.{folded}
 use Rattle.ktm_keyed.specs.Keyed.{comes_before}
 use Rattle.ktm_links.specs.Mapped.{name_cmp, Begins, IsNotBelow}
 use Rattle.ktm_links.proofs.offered.Names.{name_equal, name_same, turned}
@@ -28,12 +28,10 @@ use Rattle.txf_tree.proofs.Ordered.{AreAscending, IsIn, above_next, before_in, e
 use Rattle.txf_tree.proofs.Reaching.{AreAscending-filter}
 use Rattle.txf_overlay.specs.declared.listing.SeatRef.{SeatRef}
 use Rattle.txf_overlay.specs.OverlayState.{is_of_names, OverlayState, Seat, seen}
-use Rattle.txf_overlay.specs.declared.listing.Step.{Step}
 use Rattle.txf_overlay.specs.Listing.{first_order, is_left, passed, seats_left, IsNextSeat, IsNoSeat, IsReached, IsStepped}
 use Rattle.txf_overlay.specs.Names.{place_in}
 use Rattle.txf_overlay.specs.Views.{last_seat, seat_at, seats_of, StandsOver}
 use Rattle.ktm_world.proofs.offered.Lookups.{Above, Rises, Rises-from}
-use Rattle.txf_overlay.proofs.Trees.{at-All}
 use Rattle.txf_overlay.proofs.Views.{IsOneEach, IsOneEach-from, Seated, seated}
 
 -- ---- members

@@ -1,13 +1,11 @@
 -- Lemmas on the entries that begin with the characters before a pattern's first star or question mark.
-use Rattle.std.proofs.Common.{◌≡◌, ◌⊎◌, ℕ, ◌≤◌, Bool, true, false, not, cond, filter, eqb, List, [], ◌∷◌, ◌++◌, length, refl, sym, ap, ◌∙◌, inl, inr, arith}
-use Rattle.std.specs.Ordering.{is_lt, nat_cmp, ordering_reverse, ordering_then}
-use Rattle.std.specs.declared.cmp.Ordering.{Ordering}
-use Rattle.std.specs.declared.cmp.Ordering.TheVariants.{Less, Equal, Greater}
-use Rattle.std.proofs.lemmas.Bool.{cases_Bool, eqb-true, eq-eqb, true≢false}
-use Rattle.std.proofs.lemmas.Cmp.{nat_cmp_total, ranked, tied_itself}
+use Rattle.std.proofs.Common.{◌≡◌, ◌⊎◌, ℕ, Bool, true, false, not, cond, filter, eqb, List, [], ◌∷◌, ◌++◌, refl, sym, ap, ◌∙◌, inl, inr, arith}
+use Rattle.std.specs.Ordering.{is_lt, nat_cmp}
+use Rattle.std.proofs.lemmas.Bool.{cases_Bool, eqb-true, eq-eqb}
+use Rattle.std.proofs.lemmas.Cmp.{nat_cmp_total, tied_itself}
 use Rattle.ktm_base.specs.Names.{folded, folded_byte, matches}
 use Rattle.ktm_links.specs.Mapped.{name_cmp, IsNotBelow}
-use Rattle.ktm_links.proofs.offered.Comparing.{level, not_below_upto}
+use Rattle.ktm_links.proofs.offered.Comparing.{level}
 use Rattle.ktm_names.specs.Leading.{is_wild, lead, reaches}
 use Rattle.txf_tree.specs.Children.{Shown, matching}
 use Rattle.txf_tree.specs.Places.{child_name, entries_from}

@@ -1,6 +1,4 @@
-use Rattle.std.proofs.Common.{◌∙◌, ap}
 use Rattle.ktm_links.specs.Blocks.{index_of}
-use Rattle.ktm_links.specs.Order.{entries_of, ArePresent}
 use Rattle.ktm_links.proofs.InOrder.{entries_from-at, present_from}
 use Rattle.ktm_links.proofs.chains.Chains.walk_from.Goals as goal
 

@@ -1,6 +1,5 @@
-use Rattle.std.proofs.Common.{◌≡◌, ◌+◌, ◌++◌, List, length, IfNone, option_to_list}
-use Rattle.std.specs.Option.{option_map}
-use Rattle.txf_tree.specs.Children.{Shown, entries_in, entry_seen, matching}
+use Rattle.std.proofs.Common.{◌≡◌, ◌+◌, ◌++◌, List, length, option_to_list}
+use Rattle.txf_tree.specs.Children.{Shown, entries_in, matching}
 use Rattle.txf_tree.specs.TreeState.{tree_of}
 use Rattle.txf_tree.proofs.Reaching.{IsAhead}
 use Rattle.txf_overlay.specs.Listing.{steps_left, IsStepped}

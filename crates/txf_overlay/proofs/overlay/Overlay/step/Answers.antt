@@ -1,10 +1,8 @@
-use Rattle.std.proofs.Common.{◌≡◌, ◌<◌, ◌≤◌, ◌++◌, ◌∷◌, [], IfSome, List, Some, None, true, false, sym, ap, ◌∙◌, subst, arith}
+use Rattle.std.proofs.Common.{◌≡◌, ◌<◌, ◌≤◌, ◌++◌, ◌∷◌, [], List, sym, ap, ◌∙◌, subst, arith}
 use Rattle.std.specs.Ordering.{is_lt}
-use Rattle.std.specs.Prelude.{IfNone}
 use Rattle.txf_tree.specs.Children.{Shown}
 use Rattle.txf_tree.specs.TreeState.{tree_of}
-use Rattle.txf_overlay.specs.Listing.{first_order, passed, seats_left, steps_left, IsNextSeat, IsNoSeat, IsReached}
-use Rattle.txf_overlay.specs.declared.listing.SeatRef.{SeatRef}
+use Rattle.txf_overlay.specs.Listing.{passed, seats_left, steps_left, IsReached}
 use Rattle.txf_overlay.proofs.Entering.{gone-step, kept-step, last-step, own-step, passed-fewer, seats-less}
 use Rattle.txf_overlay.proofs.Keeping.{short-place}
 use Rattle.txf_overlay.proofs.overlay.Overlay.step.Goals as goal
