@@ -6,7 +6,7 @@ ghost use Rattle.ktm_base.specs.Stream.{Faults};
 ghost use Rattle.ktm_base.specs.Told.{Goes};
 ghost use Rattle.ktm_base.specs.Disk.{DiskState, DiskStatus, Wrote, WriteRefused, Synced, Grew, GrowthRefused, DeviceCall, IsSafe};
 ghost use Rattle.ktm_base.specs.Power.{after_arm, after_off, Powers, Restored, NotRestored};
-ghost use Rattle.ktm_cut.specs.Switch.{after_call, with_pending, status_at_start};
+ghost use Rattle.ktm_cut.specs.Switch.{with_pending, status_at_start};
 ghost use Rattle.ktm_cut.specs.Left.{left_of};
 ghost use Rattle.ktm_cut.specs.Told.{IsLengthKnown, length_at_sync};
 
@@ -30,7 +30,7 @@ pub struct CutDisk<B: Block> {
 }
 
 impl<B: Block> Disk for CutDisk<B> {
-    ghost use Rattle.ktm_cut.specs.Cut.{told_by, status_of, block_of, HasCause};
+    ghost use Rattle.ktm_cut.specs.Cut.{told_by, status_of, block_of, CutCall};
     ghost use Rattle.ktm_cut.specs.Lengths.{known_lengths};
 
     ghost told = { told_by };
@@ -42,9 +42,7 @@ impl<B: Block> Disk for CutDisk<B> {
         ensures same { told_by self.new ≡ told_by self.old }
         ensures pending { (status_of self.new).pending ≡ (status_of self.old).pending }
         ensures call { DeviceCall (status_of self.old) (status_of self.new) (is_err result) }
-        ensures counts { status_of self.new ≡ with_pending (after_call (status_of self.old) (is_err result)) (status_of self.new).pending }
-        ensures cause { OnErr result (HasCause self.old self.new) }
-        ensures faults { B.faults (block_of self.old) ≤ B.faults (block_of self.new) }
+        ensures after { CutCall self.old self.new (is_err result) }
     {
         self.switch.admit()?;
         match self.block.len() {
@@ -59,9 +57,7 @@ impl<B: Block> Disk for CutDisk<B> {
         ensures same { told_by self.new ≡ told_by self.old }
         ensures pending { (status_of self.new).pending ≡ (status_of self.old).pending }
         ensures call { DeviceCall (status_of self.old) (status_of self.new) (is_err result) }
-        ensures counts { status_of self.new ≡ with_pending (after_call (status_of self.old) (is_err result)) (status_of self.new).pending }
-        ensures cause { OnErr result (HasCause self.old self.new) }
-        ensures faults { B.faults (block_of self.old) ≤ B.faults (block_of self.new) }
+        ensures after { CutCall self.old self.new (is_err result) }
     {
         self.switch.admit()?;
         match self.block.read_at(at, buf) {
@@ -78,9 +74,7 @@ impl<B: Block> Disk for CutDisk<B> {
         ensures frozen { IsTrue (status_of self.old).is_down → told_by self.new ≡ told_by self.old }
         ensures pending { (status_of self.old).is_down ≡ false → (status_of self.new).pending ≡ (status_of self.old).pending + 1 }
         ensures call { DeviceCall (status_of self.old) (status_of self.new) (is_err result) }
-        ensures counts { status_of self.new ≡ with_pending (after_call (status_of self.old) (is_err result)) (status_of self.new).pending }
-        ensures cause { OnErr result (HasCause self.old self.new) }
-        ensures faults { B.faults (block_of self.old) ≤ B.faults (block_of self.new) }
+        ensures after { CutCall self.old self.new (is_err result) }
     {
         if !self.switch.is_down() {
             let kept = self.dirty.push((at, bytes.len() as u64)).is_ok();
@@ -98,9 +92,7 @@ impl<B: Block> Disk for CutDisk<B> {
         ensures err { OnErr result (told_by self.new ≡ told_by self.old) }
         ensures pending { (status_of self.new).pending ≡ (if is_ok result then 0 else (status_of self.old).pending) }
         ensures call { DeviceCall (status_of self.old) (status_of self.new) (is_err result) }
-        ensures counts { status_of self.new ≡ with_pending (after_call (status_of self.old) (is_err result)) (status_of self.new).pending }
-        ensures cause { OnErr result (HasCause self.old self.new) }
-        ensures faults { B.faults (block_of self.old) ≤ B.faults (block_of self.new) }
+        ensures after { CutCall self.old self.new (is_err result) }
         ensures flushed { OnOk result (B.waits (block_of self.new) ≡ false) }
     {
         self.switch.admit()?;
@@ -119,9 +111,7 @@ impl<B: Block> Disk for CutDisk<B> {
         ensures frozen { IsTrue (status_of self.old).is_down → told_by self.new ≡ told_by self.old }
         ensures pending { (status_of self.new).pending ≡ (status_of self.old).pending }
         ensures call { DeviceCall (status_of self.old) (status_of self.new) (is_err result) }
-        ensures counts { status_of self.new ≡ with_pending (after_call (status_of self.old) (is_err result)) (status_of self.new).pending }
-        ensures cause { OnErr result (HasCause self.old self.new) }
-        ensures faults { B.faults (block_of self.old) ≤ B.faults (block_of self.new) }
+        ensures after { CutCall self.old self.new (is_err result) }
     {
         if !self.switch.is_down() {
             self.asked = self.asked.max(len);

@@ -11,8 +11,8 @@ use Rattle.std.proofs.lemmas.Bool.{cases_lt, cases_Bool}
 use Rattle.std.proofs.lemmas.Option.{get_or_from_slice_get, same_Some, slice_get-get_or, slice_get_within}
 use Rattle.ktm_links.specs.declared.list.Key.{Key}
 use Rattle.ktm_links.specs.Items.{Listed, IsSpent as IsSpentKey, Item, item, same_key, value_at, with_value, without}
-use Rattle.ktm_links.specs.Mapped.{Mapped, IsSpent, NameAndValue, NamedItem, name_cmp, at, first_from, key_at, put, with_value as with_named, without_name, value_of, IsFirstOf, IsNoneOf, IsNotBelow}
-use Rattle.ktm_links.specs.Order.{order_in, order_at, entries_of, revalued, AreAbove, IsRising, ArePresent, HasKey, IsInOrder, IsFirstNotBelow}
+use Rattle.ktm_links.specs.Mapped.{Mapped, IsSpent, NameAndValue, NamedItem, name_cmp, at, first_from, key_at, put, with_value as with_named, without_name, value_of, AreAbove, IsFirstOf, IsNoneOf, IsNotBelow, IsRising, entries_from}
+use Rattle.ktm_links.specs.Order.{order_in, order_at, entries_of, revalued, ArePresent, HasKey, IsInOrder, IsFirstNotBelow}
 use Rattle.ktm_links.proofs.Blocks.{no_key}
 use Rattle.ktm_links.proofs.offered.Names.{less_equal, index_rises, name_equal, name_same, from_is_eq}
 use Rattle.ktm_links.proofs.offered.Keys.{cases_key, on_some, same_key-true, same_key-self, some_of, none_of, value_at-kept, value_at-last, value_at-others, value_at-with_same, value_at-with_other, value_at-append}
@@ -517,6 +517,26 @@ module _ {T : Type 0} where
       let s = some_of (value_at items k) present.0 in
       first_from-below items name k ks s.0 s.1 (first.below zero k (omega arith))
       ∙ first_from-none items name ks i present.1 (first_from-later items name k ks i first) (omega (arith, past))
+
+  -- ---- the keys from one on
+  pub present_from : (items : List (Item (NameAndValue T))) (ks : List Key) (i : ℕ) → ArePresent items ks → ArePresent items (drop i ks)
+  present_from items ks zero present = present
+  present_from items [] (suc i) present = tt
+  present_from items (k ∷ ks) (suc i) present = present_from items ks i present.1
+
+  -- the keys from the first name on that is not below are those of the entries from it on
+  pub entries_from-at : (items : List (Item (NameAndValue T))) (name : List ℕ) (ks : List Key) (i : ℕ) → ArePresent items ks
+      → IsFirstNotBelow items name ks i → entries_of items (drop i ks) ≡ entries_from (entries_of items ks) name
+  entries_from-at items name [] zero present first = refl
+  entries_from-at items name [] (suc i) present first = refl
+  entries_from-at items name (k ∷ ks) zero present first =
+      let s = some_of (value_at items k) present.0 in
+      let not_below : is_lt (name_cmp s.0.name name) ≡ false = ap (λ o. is_lt (order_in o name)) (sym s.1) ∙ first.not_below k (omega arith) in
+      rw (entries_of-cons items k ks s.0 s.1, not_below) refl
+  entries_from-at items name (k ∷ ks) (suc i) present first =
+      let s = some_of (value_at items k) present.0 in
+      let below : name_cmp s.0.name name ≡ Less = ap (λ o. order_in o name) (sym s.1) ∙ first.below zero k (omega arith) in
+      rw (entries_of-cons items k ks s.0 s.1, below) (entries_from-at items name ks i present.1 (first_from-later items name k ks i first))
 
   -- ---- what a key that was found stands for
   -- what is known of a key that was read where a search found the name

@@ -7,3 +7,4 @@ pub mod Links
 pub mod Mapped
 pub mod Numbers
 pub mod Order
+pub mod Walked

@@ -1,8 +1,9 @@
 -- What a contract sees of a `Chains`.
-use Rattle.std.specs.Prelude.{◌≡◌, ℕ, ◌<◌, true, false, List, [], ◌∷◌, ◌++◌, Option, Some, None, is_some, if◌then◌else◌, refl}
+use Rattle.std.specs.Prelude.{◌≡◌, ◌≢◌, ℕ, ◌<◌, true, false, List, [], ◌∷◌, ◌++◌, Option, Some, None, is_some, if◌then◌else◌, refl}
 use Rattle.std.specs.Option.{option_map}
 use Rattle.std.specs.Coded.{Coded, code_by, coded×, coded_ℕ, coded_list}
 use Rattle.std.specs.declared.cmp.Ordering.{Ordering}
+use Rattle.std.specs.declared.cmp.Ordering.TheVariants.{Less}
 use Rattle.std.specs.Ordering.{nat_cmp, is_eq, is_lt}
 use Rattle.std.specs.Cmp.Lexicographic.{slice_cmp}
 use Rattle.ktm_links.specs.declared.list.Key.{Key}
@@ -84,6 +85,21 @@ module _ {T : Type 0} where
   first_from [] name = None
   first_from (e ∷ es) name = if is_lt (name_cmp e.name name) then first_from es name else Some (e.key, e.value)
 
+  -- each entry's name is above this one
+  abbrev pub AreAbove : List ℕ → List (NamedItem T) → Type 0
+  AreAbove name [] = Unit {0}
+  AreAbove name (e ∷ es) = (name_cmp name e.name ≡ Less) × AreAbove name es
+
+  -- the names rise strictly
+  abbrev pub IsRising : List (NamedItem T) → Type 0
+  IsRising [] = Unit {0}
+  IsRising (e ∷ es) = AreAbove e.name es × IsRising es
+
+  -- the entries whose names are not below this one, where the names rise
+  abbrev pub entries_from : List (NamedItem T) → List ℕ → List (NamedItem T)
+  entries_from [] name = []
+  entries_from (e ∷ es) name = if is_lt (name_cmp e.name name) then entries_from es name else e ∷ es
+
   -- this key stands under the first of the names of which this is so
   pub record IsFirstOf (P : List ℕ → Type 0) (entries : List (NamedItem T)) (key : Key) : Type 0 where
     pub name : List ℕ
@@ -124,6 +140,12 @@ module _ {T : Type 0} where
   -- what was spent stays spent
   abbrev pub KeepsSpent : Mapped T → Mapped T → Type 0
   KeepsSpent old new = (key : Key) → IsSpent old key → IsSpent new key
+
+  -- the key, if it is one, is spent, and each other one names what it did
+  pub record Spends (old new : Mapped T) (key : Option Key) : Type 0 where
+    pub now : (k : Key) → key ≡ Some k → IsSpent new k
+    pub others : (k : Key) → key ≢ Some k → value_of new.entries k ≡ value_of old.entries k
+    pub still : KeepsSpent old new
 
 -- the key that a map of keys has under the name
 abbrev pub key_under : List (NamedItem Key) → List ℕ → Option Key

@@ -6,7 +6,7 @@ use Rattle.std.specs.List.{slice_get}
 use Rattle.std.specs.Ordering.{is_lt}
 use Rattle.ktm_links.specs.declared.list.Key.{Key}
 use Rattle.ktm_links.specs.Items.{Item, value_at, with_value}
-use Rattle.ktm_links.specs.Mapped.{NameAndValue, NamedItem, name_cmp}
+use Rattle.ktm_links.specs.Mapped.{NameAndValue, NamedItem, name_cmp, IsRising}
 
 -- the key is among these
 abbrev pub HasKey : Key → List Key → Type 0
@@ -14,16 +14,6 @@ HasKey key [] = ⊥
 HasKey key (k ∷ ks) = (k ≡ key) ⊎ HasKey key ks
 
 module _ {T : Type 0} where
-  -- each entry's name is above this one
-  abbrev pub AreAbove : List ℕ → List (NamedItem T) → Type 0
-  AreAbove name [] = Unit {0}
-  AreAbove name (e ∷ es) = (name_cmp name e.name ≡ Less) × AreAbove name es
-
-  -- the names rise strictly
-  abbrev pub IsRising : List (NamedItem T) → Type 0
-  IsRising [] = Unit {0}
-  IsRising (e ∷ es) = AreAbove e.name es × IsRising es
-
   -- how the name of a value, if there is one, stands to this one
   abbrev pub order_in : Option (NameAndValue T) → List ℕ → Ordering
   order_in None name = Less

@@ -1,5 +1,5 @@
 // A block of keys.
-ghost use Rattle.std.specs.Prelude.{◌≡◌, ◌<◌, ◌≤◌, [], IfOk, length, get_or, take, drop};
+ghost use Rattle.std.specs.Prelude.{◌≡◌, ◌+◌, ◌++◌, ◌<◌, ◌≤◌, [], IfOk, length, get_or, take, drop};
 ghost use Rattle.std.specs.List.{insert, remove, slice_get};
 ghost use Rattle.std.specs.Bool.{MatchBool};
 
@@ -93,6 +93,18 @@ impl Block {
         ensures rest { self.new ≡ remove self.old place }
     {
         self.keys.remove(place)
+    }
+
+    /// Moves the keys of another block behind its own.
+    pub(crate) fn take_all(&mut self, other: &mut Block)
+        requires { length self.old + length other.old ≤ 32 }
+        ensures all { self.new ≡ self.old ++ other.old }
+        ensures none { other.new ≡ [] }
+    {
+        if let Err(_) = self.keys.extend_from_slice(other.keys.as_slice()) {
+            unreachable!();
+        }
+        other.keys.clear();
     }
 
     /// Moves the upper half to a block that has no key.

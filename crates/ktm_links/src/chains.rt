@@ -5,13 +5,14 @@ ghost use Rattle.std.specs.Option.{option_copied_mut, option_map};
 ghost use Rattle.ktm_links.specs.Items.{value_at};
 ghost use Rattle.ktm_links.specs.Lends.{lends_item};
 ghost use Rattle.ktm_links.specs.declared.list.Key.{Key};
-ghost use Rattle.ktm_links.specs.Mapped.{at, first_from, key_at, put, value_of, without_name, Begins, IsFirstOf, IsNoneOf, IsNotBelow, IsSpent, KeepsSpent};
+ghost use Rattle.ktm_links.specs.Mapped.{at, entries_from, first_from, key_at, put, value_of, without_name, Begins, IsFirstOf, IsNoneOf, IsNotBelow, IsRising, KeepsSpent, Spends};
 
 use crate::list::{Key, List};
 use crate::name::Name;
 use crate::named::Named;
 use crate::order::Order;
 use crate::search::{gap, not_below, search};
+use crate::walk::Walk;
 use ktm_base::NoMemory;
 use std::alloc::Global;
 use std::marker::Model;
@@ -99,6 +100,15 @@ impl<K: Name, T> Chains<K, T> {
     {
         self.order
             .get(not_below(&self.values, self.order.as_blocks(), name))
+    }
+
+    /// The entries whose names are not below this one, by rising name, one after another.
+    pub fn walk_from(&self, name: &[u8]) -> Walk<'_, K, T>
+        ensures entries { result ≡ entries_from self.now.entries name.now }
+        ensures rising { IsRising self.now.entries }
+    {
+        let spot = not_below(&self.values, self.order.as_blocks(), name);
+        Walk::new(&self.values, self.order.keys_from(spot))
     }
 
     /// The key of the value whose name is the first that begins with these bytes.
@@ -214,9 +224,7 @@ impl<K: Name, T> Chains<K, T> {
         // Of each name and of each key, what it stands for behind the call.
         ensures gone { at self.new.entries name.now ≡ None }
         ensures other_names { (q : Seq ℕ) → q ≢ name.now → at self.new.entries q ≡ at self.old.entries q }
-        ensures now_spent { (k : Key) → key_at self.old.entries name.now ≡ Some k → IsSpent self.new k }
-        ensures other_keys { (k : Key) → key_at self.old.entries name.now ≢ Some k → value_of self.new.entries k ≡ value_of self.old.entries k }
-        ensures spent { KeepsSpent self.old self.new }
+        ensures keys { Spends self.old self.new (key_at self.old.entries name.now) }
     {
         match search(&self.values, self.order.as_blocks(), name) {
             Ok(spot) => {

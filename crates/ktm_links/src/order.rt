@@ -1,13 +1,18 @@
 // Keys in order.
-ghost use Rattle.std.specs.Prelude.{◌≡◌, ◌+◌, ◌-◌, ◌<◌, ◌≤◌, ◌∷◌, ◌++◌, [], IsOk, OnOk, OnErr, length, get_or, set, take, drop, vec_capacity};
+ghost use Rattle.std.specs.Prelude.{◌≡◌, ℕ, ◌+◌, ◌-◌, ◌<◌, ◌≤◌, ◌∷◌, ◌++◌, [], IsOk, OnOk, OnErr, length, get_or, set, take, drop, option_to_list, vec_capacity};
+ghost use Rattle.std.specs.Bool.{OnFalse, OnTrue};
 ghost use Rattle.std.specs.List.{insert, remove, slice_get};
-ghost use Rattle.ktm_links.specs.Blocks.{flat, block_at, index_of, AreUsed, IsGap, IsRoom, IsSpot};
+ghost use Rattle.ktm_links.specs.Blocks.{flat, block_at, index_of, joined, AreUsed, IsGap, IsRoom, IsSpot, Settles};
 
 use crate::block::{Block, HALF, Spot};
+use crate::keys::Keys;
 use crate::list::Key;
 use ktm_base::NoMemory;
 use std::alloc::Global;
 use std::marker::Model;
+
+// With how many keys more a block more is wanted at most.
+const EACH: usize = 8;
 
 /// Keys in order, in blocks, so that one is put in or taken out with a move of a block's keys at most.
 #[derive(Drop)]
@@ -16,13 +21,15 @@ pub(crate) struct Order {
     blocks: Vec<Block>,
     // Blocks with no key, for those that come.
     stock: Vec<Block>,
-    // How many keys there are.
+    // How many keys there are, and how many there can be with these blocks. A block is split only where it is full, and each
+    // two neighbours are more than half a block together, so that a block more is wanted only for eight keys more.
     len: usize,
+    capacity: usize,
     alloc: Global,
 }
 
 impl Model for Order {
-    ghost use Rattle.std.specs.Prelude.{◌+◌, length, vec_capacity};
+    ghost use Rattle.std.specs.Prelude.{vec_capacity};
     ghost use Rattle.ktm_links.specs.Blocks.{Blocks, blocks_code};
 
     ghost Value = { Blocks };
@@ -33,10 +40,10 @@ impl Model for Order {
 
     ghost view = { λ o. record {
       blocks = o.blocks.items;
-      capacity = length o.blocks.items + length o.stock.items;
+      capacity = o.capacity;
     } };
 
-    ghost invariant = { λ o. AreBlocks o.blocks.items o.stock.items (vec_capacity o.blocks) (vec_capacity o.stock) o.len };
+    ghost invariant = { λ o. AreBlocks o.blocks.items o.stock.items (vec_capacity o.blocks) (vec_capacity o.stock) o.len o.capacity };
 }
 
 // Puts the key into the block that has room for it.
@@ -56,6 +63,58 @@ fn remove_in(blocks: &mut Vec<Block>, spot: Spot) -> Key
     ensures capacity { vec_capacity blocks.new ≡ vec_capacity blocks.old }
 {
     blocks[spot.block].remove(spot.place)
+}
+
+// Takes the block behind this one out, once its keys stand behind those of this one.
+fn join(blocks: &mut Vec<Block>, at: usize) -> Block
+    requires within { at + 1 < length blocks.old.items }
+    requires few { length (block_at blocks.old.items at) + length (block_at blocks.old.items (at + 1)) ≤ 16 }
+    ensures free { result ≡ [] }
+    ensures items { blocks.new.items ≡ joined blocks.old.items at }
+    ensures capacity { vec_capacity blocks.new ≡ vec_capacity blocks.old }
+{
+    let mut next = blocks.remove(at + 1);
+    blocks[at].take_all(&mut next);
+    next
+}
+
+// Are this block and the one behind it, if there is one, half a block together at most.
+fn may_join(blocks: &[Block], at: usize) -> bool
+    requires { at < length blocks.now }
+    ensures joins { OnTrue result ((at + 1 < length blocks.now) × (length (block_at blocks.now at) + length (block_at blocks.now (at + 1)) ≤ 16)) }
+    ensures not { OnFalse result (at + 1 < length blocks.now → 16 < length (block_at blocks.now at) + length (block_at blocks.now (at + 1))) }
+{
+    at + 1 < blocks.len() && blocks[at].len() + blocks[at + 1].len() <= HALF
+}
+
+// Joins a block that lost a key with a neighbour, where both are half a block together at most, or takes it out, where it has
+// no key. It hands out the block that has none.
+fn settle(blocks: &mut Vec<Block>, at: usize) -> Option<Block>
+    requires { at < length blocks.old.items }
+    ensures settles { Settles blocks.old.items blocks.new.items at result }
+    ensures capacity { vec_capacity blocks.new ≡ vec_capacity blocks.old }
+{
+    if may_join(blocks, at) {
+        return Some(join(blocks, at));
+    }
+    if at > 0 && may_join(blocks, at - 1) {
+        return Some(join(blocks, at - 1));
+    }
+    if blocks[at].len() == 0 {
+        return Some(blocks.remove(at));
+    }
+    None
+}
+
+// Puts a block into the stock, if there is one.
+fn keep(stock: &mut Vec<Block>, freed: Option<Block>)
+    requires { length stock.old.items + length (option_to_list freed) ≤ vec_capacity stock.old }
+    ensures items { stock.new.items ≡ stock.old.items ++ option_to_list freed }
+    ensures capacity { vec_capacity stock.new ≡ vec_capacity stock.old }
+{
+    if let Some(block) = freed {
+        stock.push_reserved(block);
+    }
 }
 
 // Moves the upper half of the block to this one, which is put behind it.
@@ -81,6 +140,7 @@ impl Order {
             blocks: Vec::new(alloc),
             stock: Vec::new(alloc),
             len: 0,
+            capacity: 0,
             alloc,
         }
     }
@@ -96,16 +156,19 @@ impl Order {
     pub(crate) fn spare(&self) -> usize
         ensures { result ≡ self.now.capacity - length (flat self.now.blocks) }
     {
-        self.blocks.len() + self.stock.len() - self.len
+        self.capacity - self.len
     }
 
-    // One more block.
+    // One more block, with which eight more keys can come.
     fn grow(&mut self) -> Result<(), NoMemory>
         ensures blocks { self.new.blocks ≡ self.old.blocks }
-        ensures ok { OnOk result (self.new.capacity ≡ self.old.capacity + 1) }
-        ensures spare { OnOk result (self.new.capacity - length (flat self.new.blocks) ≡ self.old.capacity - length (flat self.old.blocks) + 1) }
+        ensures ok { OnOk result (self.new.capacity ≡ self.old.capacity + 8) }
+        ensures spare { OnOk result (self.new.capacity - length (flat self.new.blocks) ≡ self.old.capacity - length (flat self.old.blocks) + 8) }
         ensures err { OnErr result (self.new.capacity ≡ self.old.capacity) }
     {
+        let Some(capacity) = self.capacity.checked_add(EACH) else {
+            return Err(NoMemory);
+        };
         if let Err(_) = self.blocks.reserve(self.stock.len() + 1) {
             return Err(NoMemory);
         }
@@ -115,6 +178,7 @@ impl Order {
         match Block::new(self.alloc) {
             Ok(block) => {
                 self.stock.push_reserved(block);
+                self.capacity = capacity;
                 Ok(())
             }
             Err(NoMemory) => Err(NoMemory),
@@ -128,7 +192,7 @@ impl Order {
         ensures enough { n ≤ self.old.capacity - length (flat self.old.blocks) → IsOk result }
         ensures grows { self.old.capacity ≤ self.new.capacity }
     {
-        for spare in self.spare()..n {
+        while self.spare() < n {
             if let Err(NoMemory) = self.grow() {
                 return Err(NoMemory);
             }
@@ -147,9 +211,24 @@ impl Order {
         }
     }
 
+    /// The keys from there on.
+    pub(crate) fn keys_from(&self, spot: Spot) -> Keys<'_>
+        requires { IsGap self.now.blocks spot }
+        ensures { result ≡ drop (index_of self.now.blocks spot) (flat self.now.blocks) }
+    {
+        match self.blocks.get(spot.block) {
+            Some(block) => Keys::new(
+                &block.as_slice()[spot.place..],
+                &self.blocks[spot.block + 1..],
+            ),
+            None => Keys::new(&[], &[]),
+        }
+    }
+
     // Puts the key behind all others, in a block of its own.
     fn push_block(&mut self, key: Key)
-        requires { length (flat self.old.blocks) < self.old.capacity }
+        requires room { length (flat self.old.blocks) < self.old.capacity }
+        requires full { (last : ℕ) → last + 1 ≡ length self.old.blocks → 32 ≤ length (block_at self.old.blocks last) }
         ensures blocks { self.new.blocks ≡ self.old.blocks ++ (key ∷ []) ∷ [] }
         ensures capacity { self.new.capacity ≡ self.old.capacity }
     {
@@ -237,11 +316,8 @@ impl Order {
     {
         let key = remove_in(&mut self.blocks, spot);
         self.len -= 1;
-        if self.blocks[spot.block].len() > 0 {
-            return key;
-        }
-        let block = self.blocks.remove(spot.block);
-        self.stock.push_reserved(block);
+        let freed = settle(&mut self.blocks, spot.block);
+        keep(&mut self.stock, freed);
         key
     }
 }

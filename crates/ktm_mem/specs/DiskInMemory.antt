@@ -1,5 +1,6 @@
 -- What a disk in memory tells, and which of its calls fail.
 use Rattle.std.specs.Prelude.{◌≡◌, ℕ, Bool, ◌||◌, length}
+use Rattle.std.specs.Bool.{OnTrue}
 use Rattle.ktm_base.specs.Disk.{DiskState, DiskStatus}
 use Rattle.ktm_mem.specs.PowerSupply.{status_with, supply_after}
 use Rattle.ktm_mem.specs.Schedule.{fails_next}
@@ -26,7 +27,8 @@ disk_schedule d = d.supply.schedule
 abbrev pub refuses_next : MemDisk → Bool
 refuses_next d = d.supply.is_down || fails_next d.supply.schedule
 
--- what a call of a disk does beside its bytes: it is counted, and takes the disk down where it is refused; the room stays
+-- what a call of a disk does: it is counted, and takes the disk down where it is refused, when the bytes stay; the room stays
 pub record DiskCall (old new : MemDisk) (refused : Bool) : Type 0 where
+  pub seen : OnTrue refused ((state_of new).seen ≡ (state_of old).seen)
   pub supply : new.supply ≡ supply_after old.supply refused
   pub room : new.room ≡ old.room

@@ -112,7 +112,6 @@ impl Disk for MemDisk {
         ensures frozen { IsTrue (status_of self.old).is_down → Some (state_of self.new) ≡ Some (state_of self.old) }
         ensures pending { (status_of self.old).is_down ≡ false → (status_of self.new).pending ≡ (status_of self.old).pending + 1 }
         ensures call { DeviceCall (status_of self.old) (status_of self.new) (is_err result) }
-        ensures refused { OnErr result ((state_of self.new).seen ≡ (state_of self.old).seen) }
         ensures fails { is_err result ≡ refuses_next self.old }
         ensures after { DiskCall self.old self.new (is_err result) }
     {
@@ -151,7 +150,6 @@ impl Disk for MemDisk {
         ensures frozen { IsTrue (status_of self.old).is_down → Some (state_of self.new) ≡ Some (state_of self.old) }
         ensures pending { (status_of self.new).pending ≡ (status_of self.old).pending }
         ensures call { DeviceCall (status_of self.old) (status_of self.new) (is_err result) }
-        ensures refused { OnErr result ((state_of self.new).seen ≡ (state_of self.old).seen) }
         ensures fails { is_err result ≡ (refuses_next self.old || nat_lt (disk_room self.old) len) }
         ensures after { DiskCall self.old self.new (is_err result) }
     {

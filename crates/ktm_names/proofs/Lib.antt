@@ -2,3 +2,4 @@ pub mod PartLemmas
 pub mod PlaceLemmas
 pub mod PathLemmas
 pub mod WalkLemmas
+pub mod LeadLemmas

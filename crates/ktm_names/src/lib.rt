@@ -2,6 +2,7 @@
 #![tactic(auto)]
 
 mod fault;
+mod lead;
 mod list;
 mod parts;
 mod path;

@@ -1,8 +1,11 @@
 // Patterns.
-ghost use Rattle.std.specs.Prelude.{◌≡◌, ℕ, List, IfOk, IfErr};
+ghost use Rattle.std.specs.Prelude.{◌≡◌, ◌≤◌, ℕ, List, IfOk, IfErr, false, length};
+ghost use Rattle.ktm_base.specs.declared.limits.TheConstants.{MOST_NAME_BYTES};
 ghost use Rattle.ktm_base.specs.Names.{IsPattern, matches};
+ghost use Rattle.ktm_names.specs.Leading.{lead, reaches};
 ghost use Rattle.ktm_names.specs.Value.{PatternValue};
 
+use crate::lead::{lead, reaches};
 use crate::parts::{are_names, is_last_part, parts_of};
 use crate::wildcard::matches;
 use crate::{Path, PathFault};
@@ -24,6 +27,11 @@ impl Model for Pattern {
     ghost Value = { PatternValue };
 
     ghost view = { λ p. record { directory = p.directory; last = p.last } };
+
+    ghost use Rattle.std.specs.Prelude.{◌≤◌, length};
+    ghost use Rattle.ktm_base.specs.declared.limits.TheConstants.{MOST_NAME_BYTES};
+
+    ghost invariant = { λ p. length p.last ≤ MOST_NAME_BYTES };
 }
 
 impl Pattern {
@@ -58,6 +66,23 @@ impl Pattern {
         ensures { result.now ≡ self.now.last }
     {
         self.last.as_slice()
+    }
+
+    /// The characters of its last part before the first star or question mark.
+    pub fn lead(&self) -> &[u8]
+        ensures lead { result.now ≡ lead self.now.last }
+        ensures few { length result.now ≤ MOST_NAME_BYTES }
+        // which names begin with them
+        ensures only { (name : List ℕ) → reaches self.now.last name ≡ false → matches self.now.last name ≡ false }
+    {
+        lead(self.last.as_slice())
+    }
+
+    /// Does the name begin with these characters, and end behind them where the last part does. Only then it is matched.
+    pub fn reaches(&self, name: &[u8]) -> bool
+        ensures { result ≡ reaches self.now.last name.now }
+    {
+        reaches(self.last.as_slice(), name)
     }
 
     /// Does its last part match the name. It takes no memory, and about as many steps at most as its length times that

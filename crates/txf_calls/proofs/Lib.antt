@@ -7,6 +7,5 @@ pub mod Moving
 pub mod Numbered
 pub mod Paths
 pub mod Quotas
-pub mod Reading
 pub mod Texts
 pub mod Ways

@@ -1,6 +1,5 @@
 // The calls on an open file.
 ghost use Rattle.std.specs.Prelude.{◌≡◌, ◌∷◌, [], IfOk, take, drop};
-ghost use Rattle.ktm_base.specs.Reading.{IsRead};
 ghost use Rattle.ktm_base.specs.declared.refusal.Refusal.TheVariants.{DiskFull};
 ghost use Rattle.ktm_world.specs.FileCalls.{set_end, write_file};
 ghost use Rattle.ktm_world.specs.FileOutcome.{FileRoom, lacks_disk};
@@ -40,13 +39,6 @@ fn within_disk<V: Volume>(volume: &V, who: Option<Id>, plan: Plan, room: &Room) 
     unless_refused(refusal, plan)
 }
 
-// Reads bytes of a file from an offset on over those of a buffer.
-fn read_into<V: Volume>(volume: &V, file: OpenFile, offset: u64, into: &mut Vec<u8>) -> usize
-    ensures { IsRead (bytes_seen (V.files volume.now) file.transaction file.node) offset into.old.items into.new.items result }
-{
-    volume.read(file.transaction, file.node, offset, into)
-}
-
 // The bytes of a file from an offset on, at most so many. It takes the memory for those alone.
 fn bytes_from<V: Volume>(
     alloc: Global,
@@ -57,10 +49,8 @@ fn bytes_from<V: Volume>(
 ) -> Result<Bytes, NoMemory>
     ensures { IfOk result (λ bytes. bytes ≡ take length (drop offset (bytes_seen (V.files volume.now) file.transaction file.node))) }
 {
-    let size = volume.size(file.transaction, file.node);
-    let many = length.min(size.saturating_sub(offset)) as usize;
-    let mut bytes = vec![in alloc; 0; many]?;
-    read_into(volume, file, offset, &mut bytes);
+    let mut bytes = Vec::new(alloc);
+    volume.read(file.transaction, file.node, offset, length, &mut bytes)?;
     Ok(Bytes::new(bytes))
 }
 

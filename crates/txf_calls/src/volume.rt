@@ -55,9 +55,16 @@ pub trait Volume {
     fn size(&self, who: Option<Id>, file: u64) -> u64
         ensures { result ≡ length (bytes_seen (files self.now) who file) };
 
-    /// Reads bytes of a file that the caller sees from the offset on, and says how many.
-    fn read(&self, who: Option<Id>, file: u64, offset: u64, into: &mut [u8]) -> usize
-        ensures { IsRead (bytes_seen (files self.now) who file) offset into.old into.new result };
+    /// Puts at most so many bytes of a file that the caller sees, from the offset on, behind those that are there.
+    fn read(
+        &self,
+        who: Option<Id>,
+        file: u64,
+        offset: u64,
+        most: u64,
+        onto: &mut Vec<u8>,
+    ) -> Result<(), NoMemory>
+        ensures { IsRead (bytes_seen (files self.now) who file) offset most onto.old onto.new result };
 
     /// Does an open of the file make it the caller's first one: it is a transaction, and neither made the file nor opened it
     /// before.

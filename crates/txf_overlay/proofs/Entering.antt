@@ -1,37 +1,37 @@
 -- Lemmas on the entries of a directory as they are seen.
-use Rattle.std.proofs.Common.{◌≡◌, ℕ, ◌<◌, ◌≤◌, ◌==◌, not, Bool, true, false, is_some, filter, suc, length, List, [], ◌∷◌, ◌++◌, Option, Some, None, IfSome, refl, sym, ap, ◌∙◌, subst, arith, inl, inr, ◌⊎◌}
-use Rattle.std.specs.Prelude.{bytes_eq, IfNone}
+use Rattle.std.proofs.Common.{◌≡◌, ℕ, ◌<◌, ◌≤◌, ◌==◌, not, Bool, true, false, is_some, filter, suc, length, List, [], ◌∷◌, ◌++◌, Option, Some, None, IfSome, refl, sym, ap, ◌∙◌, subst, arith, length-drop, inl, inr, ◌⊎◌}
+use Rattle.std.specs.Prelude.{bytes_eq, IfNone, option_to_list}
 use Rattle.std.specs.Option.{option_map}
-use Rattle.std.specs.Ordering.{is_lt}
+use Rattle.std.specs.Ordering.{is_eq, is_lt}
 use Rattle.std.specs.List.{list_all}
-use Rattle.std.specs.declared.cmp.Ordering.TheVariants.{Less}
+use Rattle.std.specs.declared.cmp.Ordering.{Ordering}
+use Rattle.std.specs.declared.cmp.Ordering.TheVariants.{Less, Equal, Greater}
 use Rattle.std.proofs.lemmas.Bool.{cases_Bool, eqb-true, eq-eqb, ne_eqb, not-true, true≢false}
 use Rattle.std.proofs.lemmas.Option.{none-some, same_Some}
 use Rattle.std.proofs.lemmas.List.{length-map}
 use Rattle.std.proofs.lemmas.Slice.Eq.{bytes_eq-Decides}
-use Rattle.ktm_base.specs.declared.limits.TheConstants.{MOST_NAME_BYTES}
-use Rattle.ktm_base.specs.Names.{IsName, folded}
+use Rattle.ktm_base.specs.Names.{folded}
 use Rattle.ktm_keyed.specs.Keyed.{comes_before}
 use Rattle.ktm_links.specs.Mapped.{name_cmp, Begins, IsNotBelow}
-use Rattle.ktm_links.proofs.offered.Names.{name_same}
+use Rattle.ktm_links.proofs.offered.Names.{name_equal, name_same, turned}
 use Rattle.ktm_types.specs.declared.recorded.Node.{Node}
 use Rattle.ktm_world.specs.FileCalls.{in_order, with_entry}
 use Rattle.ktm_world.specs.Holds.{each_change}
 use Rattle.ktm_world.specs.Tree.{IsWellFormed, Tree, has_entries, node_at}
 use Rattle.txf_tree.specs.Children.{Shown, shown, children, entries_in, entry_seen}
 use Rattle.txf_tree.specs.declared.entry.Entry.{Entry}
-use Rattle.txf_tree.specs.Places.{after_child, child_name, entries_behind, entries_from, number_bytes}
+use Rattle.txf_tree.specs.Places.{after_child, child_name, entries_from, number_bytes}
 use Rattle.txf_tree.proofs.Digits.{number_begins}
 use Rattle.txf_tree.proofs.Listing.{AreDistinct, in_order-ascends, in_order-from, in_order-in}
-use Rattle.ktm_links.proofs.offered.Comparing.{less_from, not_below_upto}
-use Rattle.txf_tree.proofs.Ordered.{AreAscending, IsIn, above_next, below_next, entries_begun, entries_from-first, entries_from-none, greater_from, in-map, not_below, of-map}
+use Rattle.ktm_links.proofs.offered.Comparing.{below_next, less_from, not_below_upto}
+use Rattle.txf_tree.proofs.Ordered.{AreAscending, IsIn, above_next, before_in, entries_begun, entries_from-first, entries_from-none, greater_from, in-map, key_less, not_below, of-map}
+use Rattle.txf_tree.proofs.Reaching.{AreAscending-filter}
 use Rattle.txf_overlay.specs.declared.listing.SeatRef.{SeatRef}
 use Rattle.txf_overlay.specs.OverlayState.{is_of_names, OverlayState, Seat, seen}
-use Rattle.txf_overlay.specs.Listing.{is_before, IsNextSeat, IsNoSeat}
+use Rattle.txf_overlay.specs.Listing.{first_order, is_left, passed, seats_left, IsNextSeat, IsNoSeat, IsReached, IsStepped}
 use Rattle.txf_overlay.specs.Names.{place_in}
 use Rattle.txf_overlay.specs.Views.{last_seat, seat_at, seats_of, StandsOver}
 use Rattle.ktm_world.proofs.offered.Lookups.{Above, Rises, Rises-from}
-use Rattle.txf_overlay.proofs.Trees.{at-All}
 use Rattle.txf_overlay.proofs.Views.{IsOneEach, IsOneEach-from, Seated, seated}
 
 -- ---- members
@@ -140,11 +140,6 @@ record IsFirst (directory : ℕ) (from : List ℕ) (ss : List Shown) (s : Shown)
   high : IsNotBelow (child_name directory s.name) from
   first : (x : Shown) → IsIn x ss → IsNotBelow (child_name directory x.name) from → IsNotBelow (child_name directory x.name) (child_name directory s.name)
 
--- the entry that is lent is the first of these, or there is none
-abbrev IsFirstOf : ℕ → List ℕ → List Shown → Option Entry → Type 0
-IsFirstOf directory from ss None = (s : Shown) → IsIn s ss → IsNotBelow (child_name directory s.name) from → ⊥
-IsFirstOf directory from ss (Some e) = IsFirst directory from ss (entry_seen e)
-
 in-from : (directory : ℕ) (from : List ℕ) (ss : List Shown) (s : Shown) → IsIn s ss → IsNotBelow (child_name directory s.name) from → IsIn s (entries_from directory from ss)
 in-from directory from ss s there high =
     in-filter (λ entry. not (is_lt (name_cmp (child_name directory entry.name) from))) s ss there (ap not high)
@@ -161,27 +156,34 @@ not_below_next : (a : List ℕ) → IsNotBelow (a ++ 0 ∷ []) a
 not_below_next a = not_below a (a ++ 0 ∷ []) (below_next a)
 
 -- what the entries from a place on tell of the first one
-first-told : (directory : ℕ) (from : List ℕ) (ss : List Shown) (o : Option Entry) → entries_from directory from ss ≡ entries_behind directory ss o → IsFirstOf directory from ss o
-first-told directory from ss None is = λ s there high. subst (IsIn s) is (in-from directory from ss s there high)
-first-told directory from ss (Some e) is =
-    let here = of-from directory from ss (entry_seen e) (subst (IsIn (entry_seen e)) (sym is) (inl refl)) in
-    record {
+first-told : (directory : ℕ) (from : List ℕ) (ss : List Shown) (s : Shown) (rest : List Shown) → AreAscending ss → s ∷ rest ≡ entries_from directory from ss
+    → IsFirst directory from ss s × (rest ≡ entries_from directory (after_child directory s.name) ss)
+first-told directory from ss s rest ascending is =
+    let here = of-from directory from ss s (subst (IsIn s) is (inl refl)) in
+    let rise : AreAscending (s ∷ rest) =
+    subst AreAscending (sym is) (AreAscending-filter (λ entry. not (is_lt (name_cmp (child_name directory entry.name) from))) ss ascending) in
+    let first : IsFirst directory from ss s = record {
       there = here.0;
       high = here.1;
       first = λ x there high.
-          let at : (entry_seen e ≡ x) ⊎ IsIn x (entries_from directory (after_child directory e.name.now) ss) = subst (IsIn x) is (in-from directory from ss x there high) in
+          let at : (s ≡ x) ⊎ IsIn x rest = subst (IsIn x) (sym is) (in-from directory from ss x there high) in
           elim at [
-            | inl same ↦ subst (λ (x : Shown). IsNotBelow (child_name directory x.name) (child_name directory e.name.now)) same (not_below_itself (child_name directory e.name.now))
+            | inl same ↦ subst (λ (x : Shown). IsNotBelow (child_name directory x.name) (child_name directory s.name)) same (not_below_itself (child_name directory s.name))
             | inr later ↦
-                let rest = of-from directory (after_child directory e.name.now) ss x later in
-                not_below_upto (child_name directory x.name) (after_child directory e.name.now) (child_name directory e.name.now) rest.1 (not_below_next (child_name directory e.name.now))
+                not_below (child_name directory s.name) (child_name directory x.name) (key_less directory s.name x.name (before_in s.name x rest rise.0 later))
           ];
-    }
+    } in
+    let all = is ∙ entries_from-first directory from s ss ascending first.there first.high first.first in
+    (first, cc)
 
-first-tells : (directory : ℕ) (from : List ℕ) (ss : List Shown) (o : Option Entry) → AreAscending ss → IsFirstOf directory from ss o
-    → entries_from directory from ss ≡ entries_behind directory ss o
-first-tells directory from ss None ascending none = entries_from-none directory from ss none
-first-tells directory from ss (Some e) ascending is = entries_from-first directory from (entry_seen e) ss ascending is.there is.high is.first
+-- where there is none from a place on
+none-told : (directory : ℕ) (from : List ℕ) (ss : List Shown) → [] ≡ entries_from directory from ss
+    → (s : Shown) → IsIn s ss → IsNotBelow (child_name directory s.name) from → ⊥
+none-told directory from ss is s there high = subst (IsIn s) (sym is) (in-from directory from ss s there high)
+
+first-tells : (directory : ℕ) (from : List ℕ) (ss : List Shown) (s : Shown) → AreAscending ss → IsFirst directory from ss s
+    → entries_from directory from ss ≡ s ∷ entries_from directory (after_child directory s.name) ss
+first-tells directory from ss s ascending is = entries_from-first directory from s ss ascending is.there is.high is.first
 
 same-from : (directory : ℕ) (a b : List ℕ) (ss : List Shown) → ((s : Shown) → IsIn s ss → IsNotBelow (child_name directory s.name) a → IsNotBelow (child_name directory s.name) b)
     → ((s : Shown) → IsIn s ss → IsNotBelow (child_name directory s.name) b → IsNotBelow (child_name directory s.name) a) → entries_from directory a ss ≡ entries_from directory b ss
@@ -197,14 +199,12 @@ same-from directory a b (x ∷ ss) to back =
     ]
 
 -- ---- what is seen of the tree and of the held places
--- from the first place on the entries are those from another one on, from which these are the next entry of the tree and the next held place
-pub record IsReached (t : Tree) (o : OverlayState) (directory : ℕ) (from : List ℕ) (kept : Option Entry) (next : Option SeatRef) : Type 0 where
-  pub reached : List ℕ
-  pub same : entries_from directory from (entries_in (seen t o) directory) ≡ entries_from directory reached (entries_in (seen t o) directory)
-  pub behind : entries_from directory reached (entries_in t directory) ≡ entries_behind directory (entries_in t directory) kept
-  pub few : IfSome kept (λ entry. length entry.name.now ≤ MOST_NAME_BYTES)
-  pub held : IfSome next (λ seat. IsNextSeat o.held directory reached seat.place.now seat.node)
-  pub free : IfNone next (IsNoSeat o.held directory reached)
+-- where a walk begins
+pub begun : (t : Tree) (o : OverlayState) (directory : ℕ) (from : List ℕ) (children : List Shown) (seat : Option SeatRef) → list_all is_of_names o.names ≡ true
+    → children ≡ entries_from directory from (entries_in t directory) → IfSome seat (λ seat. IsNextSeat o.held directory from seat.place.now seat.node)
+    → IfNone seat (IsNoSeat o.held directory from) → IsReached t o directory children seat (entries_from directory from (entries_in (seen t o) directory))
+begun t o directory from children seat only is held free =
+    record { only = only; reached = from; children_are = is; left_are = refl; held = held; free = free }
 
 begins-child : (directory : ℕ) (name : List ℕ) → Begins (number_bytes directory) (child_name directory name)
 begins-child directory name = record { after = folded name; is = refl }
@@ -253,36 +253,96 @@ module _ (t : Tree) (o : OverlayState) (directory : ℕ) (only : list_all is_of_
   ascending : AreAscending (entries_in (seen t o) directory)
   ascending = entries-ascend (seen t o) directory stands.after
 
-  -- the names that are seen are short
-  pub few-seen : (from : List ℕ) (r : Option Entry) → entries_from directory from (entries_in (seen t o) directory) ≡ entries_behind directory (entries_in (seen t o) directory) r
-      → IfSome r (λ entry. length entry.name.now ≤ MOST_NAME_BYTES)
-  few-seen from None is = tt
-  few-seen from (Some r) is =
-      let e = entry-of (seen t o) directory (entry_seen r) stands.after (first-told directory from (entries_in (seen t o) directory) (Some r) is).there in
-      subst (λ (s : Shown). length s.name ≤ MOST_NAME_BYTES) e.is (at-All (λ n. IsName n.name) (seen t o) stands.after.names e.number e.node e.found).few
+  ascending-before : AreAscending (entries_in t directory)
+  ascending-before = entries-ascend t directory stands.before
 
-  -- ---- where no place is held any more
-  pub last-seen : (from : List ℕ) (kept : Option Entry) (next : Option SeatRef) → IsReached t o directory from kept next → next ≡ None
-      → entries_from directory from (entries_in (seen t o) directory) ≡ entries_behind directory (entries_in (seen t o) directory) kept
-  last-seen from kept next r is =
-      r.same ∙ first-tells directory r.reached (entries_in (seen t o) directory) kept ascending
-      (go kept (first-told directory r.reached (entries_in t directory) kept r.behind))
+  abbrev these : List ℕ → List Shown
+  these from = entries_from directory from (entries_in (seen t o) directory)
+
+  -- ---- the first entry of the tree
+  -- what is held behind an entry
+  held-behind : (seat : Option SeatRef) (reached : List ℕ) (s : Shown) → IsNotBelow (child_name directory s.name) reached
+      → IfSome seat (λ seat. IsNextSeat o.held directory reached seat.place.now seat.node)
+      → IfSome seat (λ seat. name_cmp (child_name directory s.name) seat.place.now ≡ Less)
+      → IfSome seat (λ seat. IsNextSeat o.held directory (after_child directory s.name) seat.place.now seat.node)
+  held-behind None reached s high held less = tt
+  held-behind (Some seat) reached s high held less = record {
+    there = held.there;
+    inside = held.inside;
+    high = above_next (child_name directory s.name) seat.place.now less;
+    first = λ q so some. held.first q (upto q so) some;
+  }
     where
-      free : (s : Shown) → IsNotBelow (child_name directory s.name) r.reached → seat_at o.held (child_name directory s.name) ≡ None
-      free s high =
-          let none : IsNoSeat o.held directory r.reached = rw is at r.free in
-          none (child_name directory s.name) (begins-child directory s.name) high
+      upto : (q : List ℕ) → IsNotBelow q (after_child directory s.name) → IsNotBelow q reached
+      upto q so =
+          not_below_upto q (child_name directory s.name) reached
+          (not_below_upto q (after_child directory s.name) (child_name directory s.name) so (not_below_next (child_name directory s.name))) high
 
-      go : (kept : Option Entry) → IsFirstOf directory r.reached (entries_in t directory) kept → IsFirstOf directory r.reached (entries_in (seen t o) directory) kept
-      go None none = λ s there high. none s (to-kept s there (free s high)) high
-      go (Some e) first = record {
-        there = to-seen (entry_seen e) first.there (free (entry_seen e) first.high);
-        high = first.high;
-        first = λ x there high. first.first x (to-kept x there (free x high)) high;
+  free-behind : (seat : Option SeatRef) (reached : List ℕ) (s : Shown) → IsNotBelow (child_name directory s.name) reached
+      → IfNone seat (IsNoSeat o.held directory reached) → IfNone seat (IsNoSeat o.held directory (after_child directory s.name))
+  free-behind None reached s high free = λ q begins so.
+      free q begins
+      (not_below_upto q (child_name directory s.name) reached
+      (not_below_upto q (after_child directory s.name) (child_name directory s.name) so (not_below_next (child_name directory s.name))) high)
+  free-behind (Some seat) reached s high free = tt
+
+  -- where the first entry of the tree is told, the others are left
+  told : (e : Entry) (rest left : List Shown) (seat : Option SeatRef) → (r : IsReached t o directory (entry_seen e ∷ rest) seat left)
+      → these r.reached ≡ entry_seen e ∷ these (after_child directory e.name.now)
+      → IfSome seat (λ seat. name_cmp (child_name directory e.name.now) seat.place.now ≡ Less)
+      → IsStepped t o directory rest (record { entry = Some e; seat = seat }) left
+  told e rest left seat r is less =
+      let first = first-told directory r.reached (entries_in t directory) (entry_seen e) rest ascending-before r.children_are in
+      record {
+        rest = these (after_child directory e.name.now);
+        first = r.left_are ∙ is;
+        none = tt;
+        reached = record {
+          only = only;
+          reached = after_child directory e.name.now;
+          children_are = first.1;
+          left_are = refl;
+          held = held-behind seat r.reached (entry_seen e) first.0.high r.held less;
+          free = free-behind seat r.reached (entry_seen e) first.0.high r.free;
+        };
       }
 
+  -- ---- where no place is held any more
+  module _ (reached : List ℕ) (none : IsNoSeat o.held directory reached) where
+    free-from : (s : Shown) → IsNotBelow (child_name directory s.name) reached → seat_at o.held (child_name directory s.name) ≡ None
+    free-from s high = none (child_name directory s.name) (begins-child directory s.name) high
+
+    last-first : (s : Shown) → IsFirst directory reached (entries_in t directory) s → IsFirst directory reached (entries_in (seen t o) directory) s
+    last-first s first = record {
+      there = to-seen s first.there (free-from s first.high);
+      high = first.high;
+      first = λ x there high. first.first x (to-kept x there (free-from x high)) high;
+    }
+
+    last-none : ((s : Shown) → IsIn s (entries_in t directory) → IsNotBelow (child_name directory s.name) reached → ⊥) → these reached ≡ []
+    last-none all = entries_from-none directory reached (entries_in (seen t o) directory) (λ s there high. all s (to-kept s there (free-from s high)) high)
+
+  -- the next entry of the tree is then the next that is seen
+  pub last-step : (children rest left : List Shown) (e : Option Entry) → IsReached t o directory children None left
+      → children ≡ option_to_list (option_map entry_seen e) ++ rest → IfNone e (children ≡ []) → IsStepped t o directory rest (record { entry = e; seat = None }) left
+  last-step children rest left None r is none =
+      let empty : left ≡ [] =
+      r.left_are ∙ last-none r.reached r.free (none-told directory r.reached (entries_in t directory) (sym none ∙ r.children_are)) in
+      record {
+        rest = left;
+        first = refl;
+        none = empty;
+        reached = record { only = only; reached = r.reached; children_are = sym is ∙ r.children_are; left_are = r.left_are; held = tt; free = r.free };
+      }
+  last-step children rest left (Some e) r is none =
+      let r' : IsReached t o directory (entry_seen e ∷ rest) None left = subst (λ c. IsReached t o directory c None left) is r in
+      let first = first-told directory r'.reached (entries_in t directory) (entry_seen e) rest ascending-before r'.children_are in
+      told e rest left None r'
+      (first-tells directory r'.reached (entries_in (seen t o) directory) (entry_seen e) ascending (last-first r'.reached r'.free (entry_seen e) first.0))
+      tt
+
   -- ---- where a place is held
-  module _ (kept : Option Entry) (place : List ℕ) (node : Option ℕ) (reached : List ℕ) (seat : IsNextSeat o.held directory reached place node) where
+  module _ (place : List ℕ) (node : Option ℕ) (reached : List ℕ) (seat : IsNextSeat o.held directory reached place node) where
     -- what is seen at a place that is not held is seen in the tree, and a held one is not below the first
     where-seen : (s : Shown) → IsIn s (entries_in (seen t o) directory) → IsNotBelow (child_name directory s.name) reached
         → IsIn s (entries_in t directory) ⊎ IsNotBelow (child_name directory s.name) place
@@ -300,71 +360,134 @@ module _ (t : Tree) (o : OverlayState) (directory : ℕ) (only : list_all is_of_
         go (Some v) is = absurd (true≢false (sym (ap is_lt less) ∙ seat.first q high (ap is_some is)))
 
     -- an entry of the tree before it is the first
-    pub kept-first : entries_from directory reached (entries_in t directory) ≡ entries_behind directory (entries_in t directory) kept → is_before directory kept place ≡ true
-        → entries_from directory reached (entries_in (seen t o) directory) ≡ entries_behind directory (entries_in (seen t o) directory) kept
-    kept-first is before = go kept (first-told directory reached (entries_in t directory) kept is) before
-      where
-        go : (kept : Option Entry) → IsFirstOf directory reached (entries_in t directory) kept → is_before directory kept place ≡ true
-            → entries_from directory reached (entries_in (seen t o) directory) ≡ entries_behind directory (entries_in (seen t o) directory) kept
-        go None first before = absurd (cc)
-        go (Some e) first before =
-            let less = less_from (name_cmp (child_name directory e.name.now) place) before in
-            first-tells directory reached (entries_in (seen t o) directory) (Some e) ascending
-            (record {
-              there = to-seen (entry_seen e) first.there (free-below (child_name directory e.name.now) first.high less);
-              high = first.high;
-              first = λ x there high. elim (where-seen x there high) [
-                | inl in_tree ↦ first.first x in_tree high
-                | inr behind ↦ not_below_upto (child_name directory x.name) place (child_name directory e.name.now) behind (not_below (child_name directory e.name.now) place less)
-              ];
-            })
+    kept-first : (s : Shown) → IsFirst directory reached (entries_in t directory) s → name_cmp (child_name directory s.name) place ≡ Less
+        → these reached ≡ s ∷ these (after_child directory s.name)
+    kept-first s first less =
+        first-tells directory reached (entries_in (seen t o) directory) s ascending
+        (record {
+          there = to-seen s first.there (free-below (child_name directory s.name) first.high less);
+          high = first.high;
+          first = λ x there high. elim (where-seen x there high) [
+            | inl in_tree ↦ first.first x in_tree high
+            | inr behind ↦ not_below_upto (child_name directory x.name) place (child_name directory s.name) behind (not_below (child_name directory s.name) place less)
+          ];
+        })
 
     -- where no entry of the tree is before it, none that is seen is
-    none-before : entries_from directory reached (entries_in t directory) ≡ entries_behind directory (entries_in t directory) kept → is_before directory kept place ≡ false
+    none-before : (children : List Shown) → children ≡ entries_from directory reached (entries_in t directory) → is_lt (first_order directory children place) ≡ false
         → (s : Shown) → IsIn s (entries_in (seen t o) directory) → IsNotBelow (child_name directory s.name) reached → IsNotBelow (child_name directory s.name) place
-    none-before is later s there high = elim (where-seen s there high) [
-      | inl in_tree ↦ go kept (first-told directory reached (entries_in t directory) kept is) later in_tree
+    none-before children is later s there high = elim (where-seen s there high) [
+      | inl in_tree ↦ go children is later in_tree
       | inr behind ↦ behind
     ]
       where
-        go : (kept : Option Entry) → IsFirstOf directory reached (entries_in t directory) kept → is_before directory kept place ≡ false
+        go : (children : List Shown) → children ≡ entries_from directory reached (entries_in t directory) → is_lt (first_order directory children place) ≡ false
             → IsIn s (entries_in t directory) → IsNotBelow (child_name directory s.name) place
-        go None none later in_tree = absurd (none s in_tree high)
-        go (Some e) first later in_tree =
-            not_below_upto (child_name directory s.name) (child_name directory e.name.now) place (first.first s in_tree high) later
+        go [] is later in_tree = absurd (none-told directory reached (entries_in t directory) is s in_tree high)
+        go (c ∷ cs) is later in_tree =
+            let first = first-told directory reached (entries_in t directory) c cs ascending-before is in
+            not_below_upto (child_name directory s.name) (child_name directory c.name) place (first.0.first s in_tree high) later
 
     -- the node that stands there is then the first
-    pub own-first : entries_from directory reached (entries_in t directory) ≡ entries_behind directory (entries_in t directory) kept → is_before directory kept place ≡ false
+    own-first : (children : List Shown) → children ≡ entries_from directory reached (entries_in t directory) → is_lt (first_order directory children place) ≡ false
         → (n : ℕ) → node ≡ Some n → (e : Entry) → Some (entry_seen e) ≡ option_map shown (node_at (seen t o) n)
-        → entries_from directory reached (entries_in (seen t o) directory) ≡ entries_behind directory (entries_in (seen t o) directory) (Some e)
-    own-first is later n node_is e entry = go (node_at (seen t o) n) refl entry
+        → these reached ≡ entry_seen e ∷ these (place ++ 0 ∷ [])
+    own-first children is later n node_is e entry = go (node_at (seen t o) n) refl entry
       where
-        go : (x : Option Node) → node_at (seen t o) n ≡ x → Some (entry_seen e) ≡ option_map shown x
-            → entries_from directory reached (entries_in (seen t o) directory) ≡ entries_behind directory (entries_in (seen t o) directory) (Some e)
+        go : (x : Option Node) → node_at (seen t o) n ≡ x → Some (entry_seen e) ≡ option_map shown x → these reached ≡ entry_seen e ∷ these (place ++ 0 ∷ [])
         go None found entry = absurd (none-some (entry_seen e) (sym entry))
         go (Some x) found entry =
             let own = own-in place n x (seat.there ∙ ap Some node_is) seat.inside found in
             let same : entry_seen e ≡ shown x = same_Some (entry_seen e) (shown x) entry in
             let at : child_name directory e.name.now ≡ place = ap (λ (s : Shown). child_name directory s.name) same ∙ own.1 in
-            first-tells directory reached (entries_in (seen t o) directory) (Some e) ascending
+            first-tells directory reached (entries_in (seen t o) directory) (entry_seen e) ascending
             (record {
               there = subst (λ (s : Shown). IsIn s (entries_in (seen t o) directory)) (sym same) own.0;
               high = subst (λ p. IsNotBelow p reached) (sym at) seat.high;
-              first = λ s there high. subst (λ p. IsNotBelow (child_name directory s.name) p) (sym at) (none-before is later s there high);
+              first = λ s there high. subst (λ p. IsNotBelow (child_name directory s.name) p) (sym at) (none-before children is later s there high);
             })
+            ∙ ap (λ p. entry_seen e ∷ these (p ++ 0 ∷ [])) at
 
-    -- where no node stands there, the entries are those from behind it on
-    pub gone-next : entries_from directory reached (entries_in t directory) ≡ entries_behind directory (entries_in t directory) kept → is_before directory kept place ≡ false → node ≡ None
-        → entries_from directory reached (entries_in (seen t o) directory) ≡ entries_from directory (place ++ 0 ∷ []) (entries_in (seen t o) directory)
-    gone-next is later node_is = same-from directory reached (place ++ 0 ∷ []) (entries_in (seen t o) directory)
-        (λ s there high.
-        let low = none-before is later s there high in
-        above_next place (child_name directory s.name)
-        (greater_from (child_name directory s.name) place low
-        (λ at. gone-out s there (ap (seat_at o.held) at ∙ seat.there ∙ ap Some node_is))))
+    -- from behind it on these are the entries of a tree, where all from the place before on are not below it
+    from-behind : (ss : List Shown) → ((s : Shown) → IsIn s ss → IsNotBelow (child_name directory s.name) reached → IsNotBelow (child_name directory s.name) (place ++ 0 ∷ []))
+        → entries_from directory reached ss ≡ entries_from directory (place ++ 0 ∷ []) ss
+    from-behind ss above = same-from directory reached (place ++ 0 ∷ []) ss above
         (λ s there high.
         not_below_upto (child_name directory s.name) place reached
         (not_below_upto (child_name directory s.name) (place ++ 0 ∷ []) place high (not_below_next place)) seat.high)
+
+    -- where no node stands there, the entries are those from behind it on
+    gone-next : (children : List Shown) → children ≡ entries_from directory reached (entries_in t directory) → is_lt (first_order directory children place) ≡ false → node ≡ None
+        → these reached ≡ these (place ++ 0 ∷ [])
+    gone-next children is later node_is = from-behind (entries_in (seen t o) directory) (λ s there high.
+        let low = none-before children is later s there high in
+        above_next place (child_name directory s.name)
+        (greater_from (child_name directory s.name) place low
+        (λ at. gone-out s there (ap (seat_at o.held) at ∙ seat.there ∙ ap Some node_is))))
+
+    -- the entries of the tree from behind it on
+    pub passed-next : (children : List Shown) → children ≡ entries_from directory reached (entries_in t directory) → is_lt (first_order directory children place) ≡ false
+        → passed (first_order directory children place) children ≡ entries_from directory (place ++ 0 ∷ []) (entries_in t directory)
+    passed-next [] is later =
+        is ∙ from-behind (entries_in t directory) (λ s there high. absurd (none-told directory reached (entries_in t directory) is s there high))
+    passed-next (s ∷ rest) is later = go (name_cmp (child_name directory s.name) place) refl later
+      where
+        first : IsFirst directory reached (entries_in t directory) s × (rest ≡ entries_from directory (after_child directory s.name) (entries_in t directory))
+        first = first-told directory reached (entries_in t directory) s rest ascending-before is
+
+        go : (order : Ordering) → name_cmp (child_name directory s.name) place ≡ order → is_lt order ≡ false
+            → passed order (s ∷ rest) ≡ entries_from directory (place ++ 0 ∷ []) (entries_in t directory)
+        go Less at later = absurd (cc)
+        go Equal at later =
+            first.1 ∙ ap (λ p. entries_from directory (p ++ 0 ∷ []) (entries_in t directory)) (name_equal (child_name directory s.name) place at)
+        go Greater at later = is ∙ from-behind (entries_in t directory) (λ x there high.
+            not_below_upto (child_name directory x.name) (child_name directory s.name) (place ++ 0 ∷ []) (first.0.first x there high)
+            (above_next place (child_name directory s.name) (turned (child_name directory s.name) place at)))
+
+  -- ---- the steps
+  -- to the entry of the tree before the held place
+  pub kept-step : (children rest left : List Shown) (e : Option Entry) (held : SeatRef) → IsReached t o directory children (Some held) left
+      → is_lt (first_order directory children held.place.now) ≡ true → children ≡ option_to_list (option_map entry_seen e) ++ rest → IfNone e (children ≡ [])
+      → IsStepped t o directory rest (record { entry = e; seat = Some held }) left
+  kept-step children rest left None held r less is none =
+      absurd (let no = ap (λ c. is_lt (first_order directory c held.place.now)) (sym none) ∙ less in cc)
+  kept-step children rest left (Some e) held r less is none =
+      let r' : IsReached t o directory (entry_seen e ∷ rest) (Some held) left = subst (λ c. IsReached t o directory c (Some held) left) is r in
+      let below = less_from (name_cmp (child_name directory e.name.now) held.place.now) (ap (λ c. is_lt (first_order directory c held.place.now)) (sym is) ∙ less) in
+      let first = first-told directory r'.reached (entries_in t directory) (entry_seen e) rest ascending-before r'.children_are in
+      told e rest left (Some held) r' (kept-first held.place.now held.node r'.reached r'.held (entry_seen e) first.0 below) below
+
+  module _ (children left : List Shown) (held : SeatRef) (next : Option SeatRef) (r : IsReached t o directory children (Some held) left)
+      (later : is_lt (first_order directory children held.place.now) ≡ false)
+      (then_held : IfSome next (λ seat. IsNextSeat o.held directory (held.place.now ++ 0 ∷ []) seat.place.now seat.node))
+      (then_free : IfNone next (IsNoSeat o.held directory (held.place.now ++ 0 ∷ []))) where
+    -- to the node that stands at the held place
+    pub own-step : (n : ℕ) (e : Entry) → held.node ≡ Some n → Some (entry_seen e) ≡ option_map shown (node_at (seen t o) n)
+        → IsStepped t o directory (passed (first_order directory children held.place.now) children) (record { entry = Some e; seat = next }) left
+    own-step n e node entry = record {
+      rest = these (held.place.now ++ 0 ∷ []);
+      first = r.left_are ∙ own-first held.place.now held.node r.reached r.held children r.children_are later n node e entry;
+      none = tt;
+      reached = record {
+        only = only;
+        reached = held.place.now ++ 0 ∷ [];
+        children_are = passed-next held.place.now held.node r.reached r.held children r.children_are later;
+        left_are = refl;
+        held = then_held;
+        free = then_free;
+      };
+    }
+
+    -- beyond the held place, where no node stands there
+    pub gone-step : held.node ≡ None → IsReached t o directory (passed (first_order directory children held.place.now) children) next left
+    gone-step node = record {
+      only = only;
+      reached = held.place.now ++ 0 ∷ [];
+      children_are = passed-next held.place.now held.node r.reached r.held children r.children_are later;
+      left_are = r.left_are ∙ gone-next held.place.now held.node r.reached r.held children r.children_are later node;
+      held = then_held;
+      free = then_free;
+    }
 
 -- the entry of a node with this name, which is a file or is not
 pub own-entry : (o : Option Node) (x : Node) (name : List ℕ) (file : Bool) → o ≡ Some x → name ≡ x.name → file ≡ is_some x.content
@@ -372,14 +495,6 @@ pub own-entry : (o : Option Node) (x : Node) (name : List ℕ) (file : Bool) →
 own-entry o x name file found name_is kind = rw found (λ i. Some (record { name = name_is i; is_directory = not (kind i) }))
 
 -- ---- the held places that are left
-abbrev is_left : List ℕ → Seat → Bool
-is_left from s = not (is_lt (name_cmp s.place from))
-
--- how many seats are not below the next one
-abbrev pub seats_left : List Seat → Option SeatRef → ℕ
-seats_left held None = 0
-seats_left held (Some s) = length (filter (is_left s.place.now) held)
-
 left-upto : (a b : List ℕ) (held : List Seat) → IsNotBelow b a → length (filter (is_left b) held) ≤ length (filter (is_left a) held)
 left-upto a b [] high = omega arith
 left-upto a b (s ∷ held) high = elim (cases_Bool (is_lt (name_cmp s.place b))) [
@@ -420,6 +535,13 @@ seats-less held directory s (Some n) there is =
     let upto = left-upto (s.place.now ++ 0 ∷ []) n.place.now held after.high in
     omega arith
 
+-- what is passed is no longer left
+pub passed-fewer : (order : Ordering) (ss : List Shown) → length (passed order ss) ≤ length ss
+passed-fewer order ss = elim (cases_Bool (is_eq order)) [
+  | inl is ↦ rw is (omega (arith, length-drop 1 ss))
+  | inr other ↦ rw other (omega arith)
+]
+
 -- ---- is there any
 with-some : (ns : List Node) (n : Node) → (length (with_entry ns n) == 0) ≡ false
 with-some [] n = refl
@@ -438,11 +560,11 @@ any-entries tree directory = ap (λ n. not (n == 0)) (length-map (in_order (chil
       | inr outside ↦ rw outside (go xs)
     ]
 
-pub any-seen : (tree : Tree) (directory : ℕ) (r : Option Entry)
-    → entries_from directory (number_bytes directory) (entries_in tree directory) ≡ entries_behind directory (entries_in tree directory) r → is_some r ≡ has_entries tree directory
-any-seen tree directory r is =
-    go r ∙ ap (λ (ss : List Shown). not (length ss == 0)) (sym is ∙ entries_begun directory (entries_in tree directory)) ∙ any-entries tree directory
+pub any-seen : (tree : Tree) (directory : ℕ) (r : Option Entry) (left rest : List Shown) → left ≡ entries_from directory (number_bytes directory) (entries_in tree directory)
+    → left ≡ option_to_list (option_map entry_seen r) ++ rest → IfNone r (left ≡ []) → is_some r ≡ has_entries tree directory
+any-seen tree directory r left rest all first none =
+    go r first none ∙ ap (λ (ss : List Shown). not (length ss == 0)) (all ∙ entries_begun directory (entries_in tree directory)) ∙ any-entries tree directory
   where
-    go : (r : Option Entry) → is_some r ≡ not (length (entries_behind directory (entries_in tree directory) r) == 0)
-    go None = refl
-    go (Some e) = sym (ap not (ne_eqb (suc (length (entries_from directory (after_child directory e.name.now) (entries_in tree directory)))) 0 (λ same. omega arith)))
+    go : (r : Option Entry) → left ≡ option_to_list (option_map entry_seen r) ++ rest → IfNone r (left ≡ []) → is_some r ≡ not (length left == 0)
+    go None first none = rw none refl
+    go (Some e) first none = rw first (sym (ap not (ne_eqb (suc (length rest)) 0 (λ same. omega arith))))

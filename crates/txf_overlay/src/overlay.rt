@@ -136,11 +136,17 @@ impl Overlay {
         }
     }
 
-    /// Reads bytes of a file that it wrote from the offset on, and says how many.
-    pub fn read(&self, file: u64, offset: u64, into: &mut [u8]) -> Option<usize>
-        ensures { IsReadIf (bytes_at self.now.written file) offset into.old into.new result }
+    /// Puts at most so many bytes of a file that it wrote, from the offset on, behind those that are there.
+    pub fn read(
+        &self,
+        file: u64,
+        offset: u64,
+        most: u64,
+        onto: &mut Vec<u8>,
+    ) -> Option<Result<(), NoMemory>>
+        ensures { IsReadIf (bytes_at self.now.written file) offset most onto.old onto.new result }
     {
-        read_if(self.bytes(file), offset, into)
+        read_if(self.bytes(file), offset, most, onto)
     }
 
     /// How many nodes there are that it made and did not drop.

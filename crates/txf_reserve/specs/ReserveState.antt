@@ -1,9 +1,9 @@
 -- What a contract sees of what undecided transactions hold.
-use Rattle.std.specs.Prelude.{◌≡◌, ℕ, List, [], filter, map}
+use Rattle.std.specs.Prelude.{◌≡◌, ℕ, ◌&&◌, ◌||◌, Bool, List, [], filter, map}
 use Rattle.std.specs.List.{list_any}
 use Rattle.ktm_base.specs.declared.id.Id.{Id}
 use Rattle.ktm_world.specs.Files.{FilesNow, own_changes}
-use Rattle.ktm_world.specs.Holds.{Holds, Place, holds_by, is_in, is_place_in}
+use Rattle.ktm_world.specs.Holds.{Holds, Place, directories_of, holds_by, is_in, is_place_in}
 use Rattle.ktm_world.specs.Transactions.{same_id}
 
 -- a transaction holds a file or a directory, or its use
@@ -59,3 +59,11 @@ pub record IsSameHold (a b : Holds) : Type 0 where
 -- each transaction holds what it holds of the files by its changes
 abbrev pub Keeps : ReserveState → FilesNow → Type 0
 Keeps state files = (id : Id) → IsSameHold (holds_in state id) (holds_by files.tree (own_changes files.table.own id) [])
+
+-- the transaction holds these nodes, names and dropped directories too, and the right to move directories, if it moves one; each other holds what it did
+pub record HoldsToo (numbers : List ℕ) (places : List Place) (dropped : List ℕ) (moves : Bool) (id : Id) (r r' : ReserveState) : Type 0 where
+  pub nodes : (who : Id) (n : ℕ) → is_in (holds_in r' who).nodes n ≡ (is_in (holds_in r who).nodes n || (same_id who id && is_in numbers n))
+  pub names : (who : Id) (p : Place) → is_place_in (holds_in r' who).places p ≡ (is_place_in (holds_in r who).places p || (same_id who id && is_place_in places p))
+  pub uses : (who : Id) (n : ℕ) → is_in (holds_in r' who).uses n ≡ (is_in (holds_in r who).uses n || (same_id who id && is_in (directories_of places) n))
+  pub drops : (who : Id) (n : ℕ) → is_in (holds_in r' who).dropped n ≡ (is_in (holds_in r who).dropped n || (same_id who id && is_in dropped n))
+  pub right : (who : Id) → (holds_in r' who).moves ≡ ((holds_in r who).moves || (same_id who id && moves))

@@ -10,7 +10,7 @@ ghost use Rattle.txf_reserve.specs.Acts.{listed, listed_place, places_held};
 ghost use Rattle.txf_reserve.specs.HeldPairs.{has_pair};
 ghost use Rattle.txf_reserve.specs.Parts.{is_number_held, is_other_among, is_place_held};
 ghost use Rattle.txf_reserve.specs.ReserveKeys.{node_key, place_key, AreKeys, IsNodeKey, IsPlaceKey};
-ghost use Rattle.txf_reserve.specs.ReserveState.{holds_in};
+ghost use Rattle.txf_reserve.specs.ReserveState.{holds_in, HoldsToo};
 
 use crate::act::{Held, directory_of};
 use crate::name::{EmptyName, NodeName, PlaceName, place_key};
@@ -152,11 +152,7 @@ impl Reserve {
     pub fn hold(&mut self, transaction: Id, held: &Held)
         requires spare { 0 < self.old.spare }
         requires short { HaveShortNames (places_held held.now) }
-        ensures nodes { (id : Id) (n : ℕ) → is_in (holds_in self.new id).nodes n ≡ (is_in (holds_in self.old id).nodes n || (same_id id transaction && is_in (listed held.now.node) n)) }
-        ensures places { (id : Id) (p : HeldPlace) → is_place_in (holds_in self.new id).places p ≡ (is_place_in (holds_in self.old id).places p || (same_id id transaction && is_place_in (places_held held.now) p)) }
-        ensures uses { (id : Id) (n : ℕ) → is_in (holds_in self.new id).uses n ≡ (is_in (holds_in self.old id).uses n || (same_id id transaction && is_in (directories_of (places_held held.now)) n)) }
-        ensures dropped { (id : Id) (n : ℕ) → is_in (holds_in self.new id).dropped n ≡ (is_in (holds_in self.old id).dropped n || (same_id id transaction && is_in (listed held.now.dropped) n)) }
-        ensures moves { (id : Id) → (holds_in self.new id).moves ≡ ((holds_in self.old id).moves || (same_id id transaction && held.now.moves)) }
+        ensures holds { HoldsToo (listed held.now.node) (places_held held.now) (listed held.now.dropped) held.now.moves transaction self.old self.new }
         ensures spare { self.old.spare ≤ self.new.spare + 1 }
     {
         hold_number(&mut self.nodes, transaction, held.node);

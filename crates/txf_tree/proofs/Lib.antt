@@ -9,6 +9,7 @@ pub mod Listing
 mod Naming
 mod Numbering
 pub mod Ordered
+pub mod Reaching
 mod Renaming
 mod Restart
 mod Upward

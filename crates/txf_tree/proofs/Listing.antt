@@ -1,11 +1,14 @@
 -- Lemmas on the entries of a directory in their order.
-use Rattle.std.proofs.Common.{◌≡◌, ◌⊎◌, ℕ, true, eqb, List, [], ◌∷◌, ◌++◌, map, Some, is_some, refl, sym, ap, ◌∙◌, subst, inl, inr, arith}
+use Rattle.std.proofs.Common.{◌≡◌, ◌⊎◌, ℕ, true, eqb, List, [], ◌∷◌, ◌++◌, map, Option, Some, None, append_assoc, is_some, refl, sym, ap, ◌∙◌, subst, inl, inr, arith}
 use Rattle.std.specs.declared.cmp.Ordering.TheVariants.{Less}
-use Rattle.std.proofs.lemmas.Bool.{cases_Bool, eqb-true, eq-eqb}
+use Rattle.std.specs.Option.{option_map}
+use Rattle.std.proofs.lemmas.Bool.{cases_Bool, eqb-false, eqb-true, eq-eqb}
 use Rattle.std.proofs.lemmas.Option.{same_Some}
 use Rattle.ktm_base.specs.Names.{folded}
 use Rattle.ktm_types.specs.declared.recorded.Node.{Node}
-use Rattle.ktm_links.specs.Mapped.{NamedItem, name_cmp, Begins, IsNotBelow}
+use Rattle.ktm_links.specs.declared.list.Key.{Key}
+use Rattle.ktm_links.specs.Mapped.{NamedItem, at, name_cmp, Begins, IsNotBelow, IsRising, entries_from as names_from}
+use Rattle.ktm_links.proofs.offered.Entries.{IsNext, from-next, from-none}
 use Rattle.ktm_links.proofs.offered.Names.{begins_between, begins_not_below}
 use Rattle.ktm_keyed.specs.Keyed.{comes_before}
 use Rattle.ktm_world.specs.FileCalls.{in_order, with_entry}
@@ -13,6 +16,7 @@ use Rattle.txf_tree.specs.Children.{Shown, children, entries_in, shown}
 use Rattle.txf_tree.specs.Indexes.{AreAbove, AreNamed, AreRising, IsFirstUnder, IsNoneUnder, IsTree, name_of, under}
 use Rattle.txf_tree.specs.Places.{after_child, child_name, entries_from, number_bytes}
 use Rattle.txf_tree.specs.TreeState.{NodeNow, now_at, tree_in}
+use Rattle.txf_tree.specs.Left.{child_from, children_of}
 use Rattle.txf_tree.proofs.Digits.{number_begins}
 use Rattle.ktm_links.proofs.offered.Comparing.{less_from, not_below_upto}
 use Rattle.txf_tree.proofs.Ordered.{AreAscending, IsBefore, IsBefore-lower, IsIn, entries_from-first, entries_from-none, greater_from, in-map, of-map}
@@ -159,6 +163,10 @@ entries-named names nodes directory s all there =
     subst (λ (s : Shown). is_some (under names (child_name directory s.name)) ≡ true) n.1
     (children-named names nodes directory n.0 all (in_order-from (children (tree_in nodes) directory) n.0 n.2))
 
+pub entries-ascend : (names : List (NamedItem ℕ)) (nodes : List NodeNow) (directory : ℕ) → IsTree nodes names → AreAscending (entries_in (tree_in nodes) directory)
+entries-ascend names nodes directory tree =
+    in_order-ascends (children (tree_in nodes) directory) (children-distinct names nodes directory tree.named tree.rising)
+
 -- ---- what the map of names tells of the entries
 pub entries_found : (nodes : List NodeNow) (names : List (NamedItem ℕ)) (directory : ℕ) (from : List ℕ) (number : ℕ) (x : NodeNow) → IsTree nodes names
     → (f : IsFirstUnder (λ q. IsNotBelow q from) names number) → now_at nodes number ≡ Some x → x.node.parent ≡ directory
@@ -168,8 +176,7 @@ entries_found nodes names directory from number x tree f found parent =
     let one : at.0 ≡ x = same_Some at.0 x (sym at.1 ∙ found) in
     let name : f.name ≡ child_name directory x.node.name =
     sym at.2 ∙ ap (λ (x : NodeNow). name_of x.node) one ∙ ap (λ d. child_name d x.node.name) parent in
-    entries_from-first directory from (shown x.node) (entries_in (tree_in nodes) directory)
-    (in_order-ascends (children (tree_in nodes) directory) (children-distinct names nodes directory tree.named tree.rising))
+    entries_from-first directory from (shown x.node) (entries_in (tree_in nodes) directory) (entries-ascend names nodes directory tree)
     (in-map shown x.node (in_order (children (tree_in nodes) directory))
     (in_order-in (children (tree_in nodes) directory) x.node (children-in nodes directory number x found parent)))
     (rw name at f.so)
@@ -200,3 +207,47 @@ entries_passed nodes names directory from number x tree f begins found other =
     let above = f.first (child_name directory s.name) so some in
     let between = begins_between (number_bytes directory) (folded s.name) f.name high above in
     other (number_begins directory x.node.parent (folded x.node.name) (rw name at between)))
+
+-- ---- a walk over the names
+is_some-map : {X Y : Type 0} (f : X → Y) (o : Option X) → is_some (option_map f o) ≡ true → is_some o ≡ true
+is_some-map f None some = some
+is_some-map f (Some x) some = refl
+
+-- the entries that a walk has left are those from its place on
+pub children-listed : (nodes : List NodeNow) (names : List (NamedItem ℕ)) (directory : ℕ) (from : List ℕ) → IsTree nodes names → IsRising names
+    → Begins (number_bytes directory) from → children_of nodes directory (names_from names from) ≡ entries_from directory from (entries_in (tree_in nodes) directory)
+children-listed nodes names directory from tree rising begins = go (names_from names from) from refl begins
+  where
+    beyond : (from : List ℕ) (e : NamedItem ℕ) (es : List (NamedItem ℕ)) → IsNext names from e es → IsFirstUnder (λ q. IsNotBelow q from) names e.value
+    beyond from e es next = record {
+      name = e.name;
+      there = ap (λ (o : Option (Key × ℕ)). option_map (λ e. e.1) o) next.there;
+      so = next.so;
+      first = λ q high some. next.first q high (is_some-map (λ (e : Key × ℕ). e.1) (at names q) some);
+    }
+
+    go : (es : List (NamedItem ℕ)) (from : List ℕ) → names_from names from ≡ es → Begins (number_bytes directory) from
+        → children_of nodes directory es ≡ entries_from directory from (entries_in (tree_in nodes) directory)
+    go [] from is begins =
+        sym (entries_ended nodes names directory from tree
+        (λ q high. ap (λ (o : Option (Key × ℕ)). option_map (λ e. e.1) o) (from-none names from is q high)))
+    go (e ∷ es) from is begins =
+        let next = from-next names from e es rising is in
+        let first = beyond from e es next in
+        let node = tree.only e.name e.value first.there in
+        ap (λ o. child_from directory o (children_of nodes directory es)) node.1
+        ∙ elim (cases_Bool (eqb node.0.node.parent directory)) [
+          | inl inside ↦
+              let parent = eqb-true node.0.node.parent directory inside in
+              let name : e.name ≡ child_name directory node.0.node.name = sym node.2 ∙ ap (λ d. child_name d node.0.node.name) parent in
+              let low : Begins (number_bytes directory) (e.name ++ 0 ∷ []) = record {
+                after = folded node.0.node.name ++ 0 ∷ [];
+                is = ap (λ l. l ++ 0 ∷ []) name ∙ append_assoc (number_bytes directory) (folded node.0.node.name) (0 ∷ []);
+              } in
+              rw inside
+              (ap (λ l. shown node.0.node ∷ l)
+              (go es (e.name ++ 0 ∷ []) next.rest low ∙ ap (λ p. entries_from directory (p ++ 0 ∷ []) (entries_in (tree_in nodes) directory)) name)
+              ∙ sym (entries_found nodes names directory from e.value node.0 tree first node.1 parent))
+          | inr outside ↦
+              rw outside (sym (entries_passed nodes names directory from e.value node.0 tree first begins node.1 (λ is. eqb-false node.0.node.parent directory outside is)))
+        ]

@@ -4,25 +4,20 @@ use Rattle.std.specs.Ordering.{is_lt, nat_cmp, ordering_reverse}
 use Rattle.std.specs.declared.cmp.Ordering.{Ordering}
 use Rattle.std.specs.declared.cmp.Ordering.TheVariants.{Less, Equal, Greater}
 use Rattle.std.proofs.lemmas.Bool.{cases_Bool}
-use Rattle.std.proofs.lemmas.Cmp.{nat_cmp_total, nat_list_cmp_total, ranked, tied_back, tied_itself}
+use Rattle.std.proofs.lemmas.Cmp.{nat_cmp_total, nat_list_cmp_total, ranked, tied_back}
 use Rattle.ktm_base.specs.Names.{folded}
 use Rattle.ktm_links.specs.Mapped.{name_cmp, IsNotBelow}
 use Rattle.ktm_links.proofs.offered.Names.{begins_not_below, name_equal, turned}
 use Rattle.txf_tree.specs.Children.{Shown}
 use Rattle.txf_tree.specs.Places.{after_child, child_name, entries_from, number_bytes}
 use Rattle.txf_tree.proofs.Digits.{number_bytes-alike}
-use Rattle.ktm_links.proofs.offered.Comparing.{not_below_upto}
+use Rattle.ktm_links.proofs.offered.Comparing.{below_next, not_below_upto}
 
 -- ---- the order of names
 
 -- a name above another is not below it
 pub not_below : (a b : List ℕ) → name_cmp a b ≡ Less → IsNotBelow b a
 not_below a b less = let greater : name_cmp b a ≡ Greater = nat_list_cmp_total.antisymm b a ∙ ap ordering_reverse less in rw greater refl
-
--- a name is below the one right after it
-pub below_next : (name : List ℕ) → name_cmp name (name ++ 0 ∷ []) ≡ Less
-below_next [] = refl
-below_next (c ∷ cs) = rw (tied_itself nat_cmp_total c) (below_next cs)
 
 -- a name above another is not below the one right after that
 pub above_next : (name other : List ℕ) → name_cmp name other ≡ Less → IsNotBelow other (name ++ 0 ∷ [])
@@ -89,7 +84,7 @@ IsBefore-lower name other (s ∷ ss) less before = (
 )
 
 -- ---- entries from a place on
-key_less : (directory : ℕ) (a b : List ℕ) → name_cmp (folded a) (folded b) ≡ Less → name_cmp (child_name directory a) (child_name directory b) ≡ Less
+pub key_less : (directory : ℕ) (a b : List ℕ) → name_cmp (folded a) (folded b) ≡ Less → name_cmp (child_name directory a) (child_name directory b) ≡ Less
 key_less directory a b less = number_bytes-alike directory (folded a) (folded b) ∙ less
 
 pub entries_from-all : (directory : ℕ) (from : List ℕ) (ss : List Shown) → ((s : Shown) → IsIn s ss → IsNotBelow (child_name directory s.name) from)

@@ -1,6 +1,7 @@
 -- What a contract sees of a node that is lent, and of the entries of a directory.
 use Rattle.std.specs.Prelude.{ℕ, ◌==◌, not, Bool, List, map, filter, is_some}
 use Rattle.std.specs.Option.{option_map}
+use Rattle.ktm_base.specs.Names.{matches}
 use Rattle.ktm_types.specs.declared.recorded.Node.{Node}
 use Rattle.ktm_world.specs.FileCalls.{in_order}
 use Rattle.ktm_world.specs.Tree.{Tree}
@@ -23,6 +24,10 @@ shown node = record { name = node.name; is_directory = not (is_some node.content
 -- the entry that is lent
 abbrev pub entry_seen : Entry → Shown
 entry_seen entry = record { name = entry.name.now; is_directory = entry.is_directory }
+
+-- the entries that the pattern matches
+abbrev pub matching : List ℕ → List Shown → List Shown
+matching pattern entries = filter (λ entry. matches pattern entry.name) entries
 
 -- the nodes in a directory
 abbrev pub children : Tree → ℕ → Tree

@@ -1,7 +1,7 @@
 -- Which entries are found, and how they are listed. No public clause cites this module.
-use Rattle.std.specs.Prelude.{ℕ, List, [], ◌∷◌, ◌++◌, map, filter, if◌then◌else◌}
-use Rattle.ktm_base.specs.Names.{backslash, matches}
-use Rattle.txf_tree.specs.Children.{Shown}
+use Rattle.std.specs.Prelude.{ℕ, List, [], ◌∷◌, ◌++◌, map, if◌then◌else◌}
+use Rattle.ktm_base.specs.Names.{backslash}
+use Rattle.txf_tree.specs.Children.{Shown, matching}
 
 -- the name of an entry as it is listed, a directory's with a backslash behind it
 abbrev pub shown_text : Shown → List ℕ
@@ -9,4 +9,4 @@ shown_text entry = if entry.is_directory then entry.name ++ backslash ∷ [] els
 
 -- the texts of the entries that match
 abbrev pub found : List Shown → List ℕ → List (List ℕ)
-found entries last = map shown_text (filter (λ entry. matches last entry.name) entries)
+found entries last = map shown_text (matching last entries)

@@ -1,11 +1,10 @@
 -- The places of entries in their directories, and the entries from a place on.
-use Rattle.std.specs.Prelude.{ℕ, not, List, [], ◌∷◌, ◌++◌, filter, Option, Some, None}
+use Rattle.std.specs.Prelude.{ℕ, not, List, [], ◌∷◌, ◌++◌, filter}
 use Rattle.std.specs.Ordering.{is_lt}
 use Rattle.ktm_base.specs.Names.{folded}
 use Rattle.ktm_links.specs.Mapped.{name_cmp}
 use Rattle.ktm_links.specs.Numbers.{digits}
-use Rattle.txf_tree.specs.Children.{Shown, entry_seen}
-use Rattle.txf_tree.specs.declared.entry.Entry.{Entry}
+use Rattle.txf_tree.specs.Children.{Shown}
 
 -- the eight bytes of a number, the greatest first
 unfoldable pub number_bytes : ℕ → List ℕ
@@ -22,8 +21,3 @@ after_child directory name = child_name directory name ++ 0 ∷ []
 -- the entries of a directory whose places are not below this one
 abbrev pub entries_from : ℕ → List ℕ → List Shown → List Shown
 entries_from directory from entries = filter (λ entry. not (is_lt (name_cmp (child_name directory entry.name) from))) entries
-
--- the entry that is lent, if one is, and those of the directory that are behind it
-abbrev pub entries_behind : ℕ → List Shown → Option Entry → List Shown
-entries_behind directory entries None = []
-entries_behind directory entries (Some entry) = entry_seen entry ∷ entries_from directory (after_child directory entry.name.now) entries

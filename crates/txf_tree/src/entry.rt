@@ -2,6 +2,7 @@
 ghost use Rattle.std.specs.Prelude.{◌≡◌, ◌++◌, ◌∷◌, [], map, OnOk};
 
 use ktm_base::NoMemory;
+use ktm_names::Pattern;
 use std::alloc::Global;
 use std::marker::Model;
 
@@ -39,7 +40,7 @@ impl<'a> Model for Entries<'a> {
 }
 
 impl<'a> Entries<'a> {
-    ghost use Rattle.txf_tree.specs.Children.{entry_seen};
+    ghost use Rattle.txf_tree.specs.Children.{entry_seen, matching};
 
     pub fn new(alloc: Global) -> Self
         ensures { result ≡ [] }
@@ -49,14 +50,24 @@ impl<'a> Entries<'a> {
         }
     }
 
-    /// One entry more, of which the caller knows that it comes behind the others.
-    pub fn push(&mut self, entry: Entry<'a>) -> Result<(), NoMemory>
+    // One entry more.
+    fn push(&mut self, entry: Entry<'a>) -> Result<(), NoMemory>
         ensures { OnOk result (self.new ≡ self.old ++ entry_seen entry.entry ∷ []) }
     {
         if let Err(_) = self.items.push(entry) {
             return Err(NoMemory);
         }
         Ok(())
+    }
+
+    /// One entry more, if the pattern matches it. The caller knows that it comes behind the others.
+    pub fn push_matching(&mut self, entry: Entry<'a>, pattern: &Pattern) -> Result<(), NoMemory>
+        ensures { OnOk result (self.new ≡ self.old ++ matching pattern.now.last (entry_seen entry.entry ∷ [])) }
+    {
+        if !pattern.matches(entry.name) {
+            return Ok(());
+        }
+        self.push(entry)
     }
 
     pub fn as_slice(&self) -> &[Entry<'a>]

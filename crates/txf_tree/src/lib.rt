@@ -5,16 +5,18 @@
 mod applies;
 mod bytes;
 mod change;
+mod children;
 mod content;
 mod entry;
-mod matching;
+mod listed;
 mod name;
 mod nodes;
 mod stored;
 mod tree;
 
 pub use change::{bytes_in, changes_bytes, is_drop, is_make, next_after, node_of};
+pub use children::Children;
 pub use entry::{Entries, Entry, NodeRef};
-pub use matching::matching_names;
-pub use name::{ChildName, NumberName, after_child, after_place, child_name, number_bytes};
+pub use listed::listed_names;
+pub use name::{ChildName, NumberName, after_place, child_name, number_bytes};
 pub use tree::Tree;

@@ -3,7 +3,7 @@ ghost use Rattle.std.specs.Prelude.{◌≡◌, ◌+◌, ◌≤◌, ◌++◌, ◌
 ghost use Rattle.ktm_base.specs.declared.limits.TheConstants.{MOST_NAME_BYTES};
 ghost use Rattle.ktm_base.specs.Bytes.{written};
 ghost use Rattle.ktm_base.specs.Names.{folded};
-ghost use Rattle.txf_tree.specs.Places.{after_child, child_name, number_bytes};
+ghost use Rattle.txf_tree.specs.Places.{child_name, number_bytes};
 
 use ktm_base::fold;
 use ktm_links::InlineName;
@@ -48,16 +48,6 @@ pub fn child_name(directory: u64, name: &[u8]) -> ChildName
     let mut room = [0; 263];
     write_child(&mut room, directory, name);
     InlineName::new(&room[..8 + name.len()])
-}
-
-/// The first place behind that of the child.
-pub fn after_child(directory: u64, name: &[u8]) -> InlineName<264>
-    requires { length name.now ≤ MOST_NAME_BYTES }
-    ensures { result ≡ after_child directory name.now }
-{
-    let mut room = [0; 264];
-    write_child(&mut room, directory, name);
-    InlineName::new(&room[..9 + name.len()])
 }
 
 // Writes bytes at the front.

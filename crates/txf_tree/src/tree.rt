@@ -4,23 +4,24 @@ ghost use Rattle.std.specs.Option.{option_map};
 ghost use Rattle.ktm_base.specs.Names.{IsName};
 ghost use Rattle.ktm_base.specs.Reading.{IsRead};
 ghost use Rattle.ktm_types.specs.declared.change.Change.TheVariants.{Make, Put, Cut, Move, Drop};
-ghost use Rattle.ktm_links.specs.Mapped.{Begins, IsNotBelow};
+ghost use Rattle.ktm_links.specs.Mapped.{Begins};
 ghost use Rattle.ktm_world.specs.Changes.{applies, bytes_in, changed, changed_all, new_content, node_of};
 ghost use Rattle.ktm_world.specs.Committed.{final_bytes, version_of, versions_after, without_version};
 ghost use Rattle.ktm_world.specs.Tree.{bytes_of, child_of, content_of, has_entries, is_at_or_below, is_directory, is_file, node_at, numbers_rise, parent_of, with_node};
-ghost use Rattle.txf_tree.specs.Children.{node_seen, entries_in};
-ghost use Rattle.txf_tree.specs.Indexes.{under, with_now, IsApplied, IsFirstUnder, IsNoneUnder};
-ghost use Rattle.txf_tree.specs.Places.{entries_behind, entries_from, number_bytes};
+ghost use Rattle.txf_tree.specs.Children.{node_seen, entries_in, matching};
+ghost use Rattle.txf_tree.specs.Indexes.{under, with_now, IsApplied};
+ghost use Rattle.txf_tree.specs.Places.{entries_from, number_bytes};
 ghost use Rattle.txf_tree.specs.TreeState.{dropped, fits, now_at, room_of, has_room, takes, tree_of, versions_of, KeepsRoom, KeepsRooms};
 
 use crate::change::{bytes_in, changes_bytes, node_of};
-use crate::entry::{Entries, Entry, NodeRef};
-use crate::name::{ChildName, after_child, child_name, number_bytes};
+use crate::children::Children;
+use crate::entry::{Entries, NodeRef};
+use crate::name::{ChildName, child_name, number_bytes};
 use crate::nodes::Nodes;
 use crate::stored::Stored;
 use ktm_base::{Bytes, MOST_NAME_BYTES, NoMemory, Text, read_at};
 use ktm_links::{Chains, Name};
-use ktm_names::ROOT;
+use ktm_names::{Pattern, ROOT};
 use ktm_types::{Change, Contents, Node, NodeKind};
 use std::alloc::Global;
 use std::marker::Model;
@@ -55,17 +56,6 @@ fn number_under(names: &Chains<ChildName, u64>, name: &[u8]) -> Option<u64>
     ensures { result ≡ under names.now.entries name.now }
 {
     match names.find(name) {
-        Some(key) => names.get(key).copied(),
-        None => None,
-    }
-}
-
-// The number under the first of the names that are not below this one.
-fn first_under(names: &Chains<ChildName, u64>, from: &[u8]) -> Option<u64>
-    ensures first { IfSome result (λ number. IsFirstUnder (λ q. IsNotBelow q from.now) names.now.entries number) }
-    ensures none { IfNone result (IsNoneUnder (λ q. IsNotBelow q from.now) names.now.entries) }
-{
-    match names.first_from(from) {
         Some(key) => names.get(key).copied(),
         None => None,
     }
@@ -179,11 +169,17 @@ impl Tree {
         self.content(file).len() as u64
     }
 
-    /// Reads bytes of a file from the offset on, and says how many.
-    pub fn read(&self, file: u64, offset: u64, into: &mut [u8]) -> usize
-        ensures { IsRead (bytes_of (tree_of self.now) file) offset into.old into.new result }
+    /// Puts at most so many bytes of a file, from the offset on, behind those that are there.
+    pub fn read(
+        &self,
+        file: u64,
+        offset: u64,
+        most: u64,
+        onto: &mut Vec<u8>,
+    ) -> Result<(), NoMemory>
+        ensures { IsRead (bytes_of (tree_of self.now) file) offset most onto.old onto.new result }
     {
-        read_at(self.content(file), offset, into)
+        read_at(self.content(file), offset, most, onto)
     }
 
     /// How often the bytes of a file were changed since the restart.
@@ -232,38 +228,33 @@ impl Tree {
         at == other
     }
 
-    /// The entries of a directory, by rising folded name. Their names are lent.
-    pub fn entries(&self, directory: u64) -> Result<Entries<'_>, NoMemory>
-        ensures { IfOk result (λ entries. entries ≡ entries_in (tree_of self.now) directory) }
+    /// The entries of a directory whose places are not below this one, one after another.
+    pub fn children(&self, directory: u64, from: &[u8]) -> Children<'_>
+        requires { Begins (number_bytes directory) from.now }
+        ensures { result ≡ entries_from directory from.now (entries_in (tree_of self.now) directory) }
     {
-        let mut entries = Entries::new(self.alloc);
-        let mut next = self.next_entry(directory, &number_bytes(directory));
-        while let Some(entry) = next {
-            if let Err(NoMemory) = entries.push(entry) {
-                return Err(NoMemory);
-            }
-            next = self.next_entry(directory, after_child(directory, entry.name).as_slice());
-        }
-        Ok(entries)
+        Children::new(&self.nodes, directory, self.names.walk_from(from))
     }
 
-    /// The first entry of the directory whose place is not below this one, so that an entry behind another is found without
-    /// memory.
-    pub fn next_entry(&self, directory: u64, from: &[u8]) -> Option<Entry<'_>>
-        requires { Begins (number_bytes directory) from.now }
-        ensures entries { entries_from directory from.now (entries_in (tree_of self.now) directory) ≡ entries_behind directory (entries_in (tree_of self.now) directory) result }
-        ensures few { IfSome result (λ entry. length entry.name.now ≤ MOST_NAME_BYTES) }
+    /// The entries of a directory that a pattern matches, by rising folded name. Their names are lent. No other is looked at
+    /// but those that begin with the characters before the pattern's first star or question mark, and the one behind them.
+    pub fn entries(&self, directory: u64, pattern: &Pattern) -> Result<Entries<'_>, NoMemory>
+        ensures { IfOk result (λ entries. entries ≡ matching pattern.now.last (entries_in (tree_of self.now) directory)) }
     {
-        let Some(number) = first_under(&self.names, from) else {
-            return None;
-        };
-        let Some(node) = self.nodes.get(number) else {
-            unreachable!();
-        };
-        if node.parent() != directory {
-            return None;
+        let mut entries = Entries::new(self.alloc);
+        let mut children = self.children(
+            directory,
+            child_name(directory, pattern.lead()).as_slice(),
+        );
+        while let Some(entry) = children.next() {
+            if !pattern.reaches(entry.name) {
+                return Ok(entries);
+            }
+            if let Err(NoMemory) = entries.push_matching(entry, pattern) {
+                return Err(NoMemory);
+            }
         }
-        Some(node.as_entry())
+        Ok(entries)
     }
 
     /// Makes room for so many more nodes. It fails where the memory does not reach, or where the tree has had nearly 2^64

@@ -80,17 +80,18 @@ impl Kept {
         }
     }
 
-    /// Reads bytes of the version from the offset on, if they are here, and says how many.
+    /// Puts at most so many bytes of the version, from the offset on, behind those that are there, if they are here.
     pub(crate) fn read(
         &self,
         file: u64,
         version: u64,
         offset: u64,
-        into: &mut [u8],
-    ) -> Option<usize>
-        ensures { IsReadIf (option_map (λ v. v.bytes) (find (is_version file version) self.now.older)) offset into.old into.new result }
+        most: u64,
+        onto: &mut Vec<u8>,
+    ) -> Option<Result<(), NoMemory>>
+        ensures { IsReadIf (option_map (λ v. v.bytes) (find (is_version file version) self.now.older)) offset most onto.old onto.new result }
     {
-        read_if(self.bytes(file, version), offset, into)
+        read_if(self.bytes(file, version), offset, most, onto)
     }
 
     /// The units of all bytes that are here.

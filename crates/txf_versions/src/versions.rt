@@ -84,11 +84,18 @@ impl Versions {
         self.kept.size(file, version)
     }
 
-    /// Reads bytes of such a version from the offset on, if they were kept, and says how many.
-    pub fn read_older(&self, file: u64, version: u64, offset: u64, into: &mut [u8]) -> Option<usize>
-        ensures { IsReadIf (option_map (λ v. v.bytes) (find (is_version file version) self.now.older)) offset into.old into.new result }
+    /// Puts at most so many bytes of such a version, from the offset on, behind those that are there, if they were kept.
+    pub fn read_older(
+        &self,
+        file: u64,
+        version: u64,
+        offset: u64,
+        most: u64,
+        onto: &mut Vec<u8>,
+    ) -> Option<Result<(), NoMemory>>
+        ensures { IsReadIf (option_map (λ v. v.bytes) (find (is_version file version) self.now.older)) offset most onto.old onto.new result }
     {
-        self.kept.read(file, version, offset, into)
+        self.kept.read(file, version, offset, most, onto)
     }
 
     /// The units of 4,096 bytes that the kept bytes take, those of each version rounded up.

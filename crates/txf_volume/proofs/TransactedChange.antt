@@ -26,7 +26,7 @@ use Rattle.txf_overlay.proofs.FilesMap.{IsRising-with, IsRising-without}
 use Rattle.txf_reserve.specs.ReserveState.{IsSameHold, Keeps, ReserveState, holds_in}
 use Rattle.txf_tree.specs.TreeState.{tree_of, versions_of}
 use Rattle.txf_volume.specs.Held.{FilesHeld, OwnHeld, files_of, overlay_in, own_held}
-use Rattle.txf_volume.specs.OwnParts.{HoldsToo, IsChangedIn, or_unchanged, starts, unchanged, with_overlay, written_next}
+use Rattle.txf_volume.specs.OwnParts.{HoldsChange, IsChangedIn, or_unchanged, starts, unchanged, with_overlay, written_next}
 use Rattle.txf_volume.specs.Ties.{AreFew, AreTied, IsOver, held_by_two, units_held}
 use Rattle.txf_laws.specs.FileEffects.{CanBeCounted}
 use Rattle.txf_laws.specs.Elements.{IsIn, each_pair}
@@ -357,7 +357,7 @@ module _ (h : FilesHeld) (units : ℕ) (tied : AreTied h units) (law : OwnFormLa
     few-then counted = few-counted (after h.reserve) (once-with h.overlays id new tied.once) owns-then (subst CanBeCounted (sym (files-then h.reserve)) counted)
 
     -- what it holds
-    keeps-then : (r' : ReserveState) → HoldsToo (node_of c) (places_of (seen (tree_of h.tree) old) c) (dropped_directory (seen (tree_of h.tree) old) c) (list_any (λ node. true) (moved_directory (seen (tree_of h.tree) old) c)) id h.reserve r'
+    keeps-then : (r' : ReserveState) → HoldsChange (seen (tree_of h.tree) old) c id h.reserve r'
         → Keeps r' (files_of (after r'))
     keeps-then r' holds who = elim (cases_Bool (same_id who id)) [
       | inl same ↦

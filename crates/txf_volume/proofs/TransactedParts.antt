@@ -27,7 +27,7 @@ use Rattle.txf_overlay.proofs.Trees.{Applies-from, at-All, is_there-some, node_a
 use Rattle.txf_overlay.proofs.Views.{LastIs, last-is, untouched}
 use Rattle.txf_reserve.specs.ReserveState.{ReserveState}
 use Rattle.txf_volume.specs.Held.{OwnHeld, overlay_in}
-use Rattle.txf_volume.specs.OwnParts.{HoldsToo, IsChanged, IsChangedIn, bare, bare_own, brought, or_unchanged, unchanged, with_overlay, written_next}
+use Rattle.txf_volume.specs.OwnParts.{HoldsChange, IsChanged, IsChangedIn, bare, bare_own, brought, or_unchanged, unchanged, with_overlay, written_next}
 
 -- ---- a node that is seen
 
@@ -88,7 +88,7 @@ changed-from tree fixed id c o p o' r r' names written is = record {
   names = is.names ∙ ap (λ ns. ns ++ filter is_of_names (c ∷ [])) names;
   written = is.written ∙ (λ i. written_with (λ file. if has_made (names i) file then [] else fixed) (written i) c);
   stands = is.stands;
-  holds = subst (λ ns. HoldsToo (node_of c) (places_of (changed_all tree ns) c) (dropped_directory (changed_all tree ns) c) (list_any (λ node. true) (moved_directory (changed_all tree ns) c)) id r r') names is.holds;
+  holds = subst (λ ns. HoldsChange (changed_all tree ns) c id r r') names is.holds;
 }
 
 pub few-new : (o : OverlayState) (fixed : List ℕ) (c : Change) → o.names ≡ [] → o.written ≡ [] → total_units (written_next unchanged fixed c) < 2 ^ 64 → total_units (written_next o fixed c) < 2 ^ 64

@@ -1,18 +1,20 @@
 -- What one change of a transaction makes of the parts of the files in memory. No public clause cites this module.
-use Rattle.std.specs.Prelude.{◌≡◌, ℕ, ◌+◌, ◌<◌, ◌&&◌, ◌||◌, true, Bool, List, [], ◌∷◌, ◌++◌, filter, length, Option, Some, None, if◌then◌else◌, slice_index_or, slice_set, drop, take}
+use Rattle.std.specs.Prelude.{◌≡◌, ℕ, ◌+◌, ◌<◌, ◌^◌, true, All, List, [], ◌∷◌, ◌++◌, filter, length, Option, Some, None, if◌then◌else◌, slice_index_or, slice_set, drop, take}
 use Rattle.std.specs.List.{list_any}
 use Rattle.ktm_base.specs.declared.id.Id.{Id}
 use Rattle.ktm_types.specs.declared.change.Change.{Change}
 use Rattle.ktm_types.specs.declared.change.Change.TheVariants.{Make, Put, Cut, Move, Drop}
-use Rattle.ktm_world.specs.Changes.{has_made, node_of}
-use Rattle.ktm_world.specs.Holds.{Place, directories_of, dropped_directory, is_in, is_place_in, moved_directory, place, places_of}
+use Rattle.ktm_world.specs.Changes.{applies, has_made, node_of}
+use Rattle.ktm_world.specs.Holds.{Place, dropped_directory, moved_directory, place, places_of}
 use Rattle.ktm_world.specs.Transactions.{same_id}
 use Rattle.ktm_world.specs.Tree.{Tree}
 use Rattle.txf_overlay.specs.Laws.{written_with}
 use Rattle.txf_overlay.specs.OverlayState.{OverlayState, Written, is_of_names, seen}
 use Rattle.txf_overlay.specs.Views.{StandsOver}
-use Rattle.txf_reserve.specs.ReserveState.{ReserveState, holds_in}
+use Rattle.txf_overlay.specs.Written.{total_units}
+use Rattle.txf_reserve.specs.ReserveState.{ReserveState, HoldsToo}
 use Rattle.txf_volume.specs.Held.{OwnHeld, overlay_in, without_own}
+use Rattle.txf_volume.specs.Ties.{IsOver}
 
 -- ---- the list of what transactions changed
 
@@ -63,17 +65,15 @@ brought (Cut node size pages) = None
 brought (Move node parent name) = Some (place parent name)
 brought (Drop node) = None
 
--- the transaction holds this too
-pub record HoldsToo (node : ℕ) (places : List Place) (dropped : List ℕ) (moves : Bool) (id : Id) (r r' : ReserveState) : Type 0 where
-  pub nodes : (who : Id) (n : ℕ) → is_in (holds_in r' who).nodes n ≡ (is_in (holds_in r who).nodes n || (same_id who id && is_in (node ∷ []) n))
-  pub names : (who : Id) (p : Place) → is_place_in (holds_in r' who).places p ≡ (is_place_in (holds_in r who).places p || (same_id who id && is_place_in places p))
-  pub uses : (who : Id) (n : ℕ) → is_in (holds_in r' who).uses n ≡ (is_in (holds_in r who).uses n || (same_id who id && is_in (directories_of places) n))
-  pub drops : (who : Id) (n : ℕ) → is_in (holds_in r' who).dropped n ≡ (is_in (holds_in r who).dropped n || (same_id who id && is_in dropped n))
-  pub right : (who : Id) → (holds_in r' who).moves ≡ ((holds_in r who).moves || (same_id who id && moves))
-
 -- the transaction holds what a change of this tree holds, too
 abbrev pub HoldsChange : Tree → Change → Id → ReserveState → ReserveState → Type 0
-HoldsChange tree c id r r' = HoldsToo (node_of c) (places_of tree c) (dropped_directory tree c) (list_any (λ node. true) (moved_directory tree c)) id r r'
+HoldsChange tree c id r r' = HoldsToo (node_of c ∷ []) (places_of tree c) (dropped_directory tree c) (list_any (λ node. true) (moved_directory tree c)) id r r'
+
+-- a change of a transaction applies to what that sees, and leaves files whose units can be counted; all that was changed stands over the tree
+pub record CanChange (tree : Tree) (fixed : List ℕ) (id : Id) (c : Change) (os : List OwnHeld) : Type 0 where
+  pub over : All (λ o. IsOver tree o.overlay) os
+  pub applies : applies (seen tree (or_unchanged (overlay_in os id))) c ≡ true
+  pub few : total_units (written_next (or_unchanged (overlay_in os id)) fixed c) < 2 ^ 64
 
 -- a transaction has made a change, and holds it
 pub record IsChanged (tree : Tree) (fixed : List ℕ) (id : Id) (c : Change) (o o' : OverlayState) (r r' : ReserveState) : Type 0 where

@@ -12,7 +12,7 @@ ghost use Rattle.txf_volume.specs.Ties.{IsOver};
 ghost use Rattle.txf_volume.specs.Held.{files_begun, files_of, overlay_in, tree_units, version_bytes, FilesHeld};
 
 use crate::own::{Own, overlay_of};
-use ktm_base::{Bytes, Id, read_at};
+use ktm_base::{Bytes, Id, NoMemory, read_at};
 use std::alloc::Global;
 use std::marker::Model;
 use txf_opens::Opens;
@@ -89,20 +89,21 @@ fn version_size(tree: &Tree, versions: &Versions, file: u64, version: u64) -> u6
     }
 }
 
-// Reads bytes of a version of a file from the offset on, and says how many.
+// Puts at most so many bytes of a version of a file, from the offset on, behind those that are there.
 fn read_version(
     tree: &Tree,
     versions: &Versions,
     file: u64,
     version: u64,
     offset: u64,
-    into: &mut [u8],
-) -> usize
-    ensures { IsRead (version_bytes (tree_of tree.now) versions.now.older file version) offset into.old into.new result }
+    most: u64,
+    onto: &mut Vec<u8>,
+) -> Result<(), NoMemory>
+    ensures { IsRead (version_bytes (tree_of tree.now) versions.now.older file version) offset most onto.old onto.new result }
 {
-    match versions.read_older(file, version, offset, into) {
-        Some(many) => many,
-        None => tree.read(file, offset, into),
+    match versions.read_older(file, version, offset, most, onto) {
+        Some(read) => read,
+        None => tree.read(file, offset, most, onto),
     }
 }
 
@@ -131,20 +132,21 @@ fn fixed_size(tree: &Tree, versions: &Versions, transaction: Id, file: u64) -> u
     }
 }
 
-// Reads some of those bytes from the offset on, and says how many.
+// Puts at most so many of those bytes, from the offset on, behind those that are there.
 fn read_fixed(
     tree: &Tree,
     versions: &Versions,
     transaction: Id,
     file: u64,
     offset: u64,
-    into: &mut [u8],
-) -> usize
-    ensures { (h : FilesHeld) → h.tree ≡ tree.now → h.versions ≡ versions.now → IsRead (fixed_bytes (files_of h) file (first_open_of (files_of h).first_opens transaction file)) offset into.old into.new result }
+    most: u64,
+    onto: &mut Vec<u8>,
+) -> Result<(), NoMemory>
+    ensures { (h : FilesHeld) → h.tree ≡ tree.now → h.versions ≡ versions.now → IsRead (fixed_bytes (files_of h) file (first_open_of (files_of h).first_opens transaction file)) offset most onto.old onto.new result }
 {
     match versions.first_open(transaction, file) {
-        Some(version) => read_version(tree, versions, file, version, offset, into),
-        None => tree.read(file, offset, into),
+        Some(version) => read_version(tree, versions, file, version, offset, most, onto),
+        None => tree.read(file, offset, most, onto),
     }
 }
 
@@ -211,33 +213,58 @@ impl Files {
         }
     }
 
-    // Reads bytes of a file that a transaction sees where it has changed something, and says how many.
+    // Puts at most so many bytes of a file that a transaction sees where it has changed something, from the offset on,
+    // behind those that are there.
     fn read_over(
         &self,
         overlay: &Overlay,
         transaction: Id,
         file: u64,
         offset: u64,
-        into: &mut [u8],
-    ) -> usize
+        most: u64,
+        onto: &mut Vec<u8>,
+    ) -> Result<(), NoMemory>
         requires there { overlay_in self.now.overlays transaction ≡ Some overlay.now }
         requires own { IsOwn overlay.now }
-        ensures { IsRead (bytes_seen (files_of self.now) (Some transaction) file) offset into.old into.new result }
+        ensures { IsRead (bytes_seen (files_of self.now) (Some transaction) file) offset most onto.old onto.new result }
     {
-        match overlay.read(file, offset, into) {
-            Some(many) => many,
-            None if overlay.has_made(file) => read_at(&[], offset, into),
-            None => read_fixed(&self.tree, &self.versions, transaction, file, offset, into),
+        match overlay.read(file, offset, most, onto) {
+            Some(read) => read,
+            None if overlay.has_made(file) => read_at(&[], offset, most, onto),
+            None => read_fixed(
+                &self.tree,
+                &self.versions,
+                transaction,
+                file,
+                offset,
+                most,
+                onto,
+            ),
         }
     }
 
-    // Reads bytes of a file that a transaction sees from the offset on, and says how many.
-    pub(crate) fn read_in(&self, transaction: Id, file: u64, offset: u64, into: &mut [u8]) -> usize
-        ensures { IsRead (bytes_seen (files_of self.now) (Some transaction) file) offset into.old into.new result }
+    // Puts at most so many bytes of a file that a transaction sees, from the offset on, behind those that are there.
+    pub(crate) fn read_in(
+        &self,
+        transaction: Id,
+        file: u64,
+        offset: u64,
+        most: u64,
+        onto: &mut Vec<u8>,
+    ) -> Result<(), NoMemory>
+        ensures { IsRead (bytes_seen (files_of self.now) (Some transaction) file) offset most onto.old onto.new result }
     {
         match self.overlay(transaction) {
-            Some(overlay) => self.read_over(overlay, transaction, file, offset, into),
-            None => read_fixed(&self.tree, &self.versions, transaction, file, offset, into),
+            Some(overlay) => self.read_over(overlay, transaction, file, offset, most, onto),
+            None => read_fixed(
+                &self.tree,
+                &self.versions,
+                transaction,
+                file,
+                offset,
+                most,
+                onto,
+            ),
         }
     }
 }

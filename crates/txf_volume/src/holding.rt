@@ -9,8 +9,9 @@ ghost use Rattle.txf_opens.specs.Acts.{place_in};
 ghost use Rattle.txf_overlay.specs.OverlayState.{seen};
 ghost use Rattle.txf_overlay.specs.Views.{StandsOver};
 ghost use Rattle.txf_reserve.specs.Acts.{listed};
+ghost use Rattle.txf_reserve.specs.ReserveState.{HoldsToo};
 ghost use Rattle.txf_tree.specs.TreeState.{tree_of};
-ghost use Rattle.txf_volume.specs.OwnParts.{brought, HoldsToo};
+ghost use Rattle.txf_volume.specs.OwnParts.{brought};
 
 use ktm_base::Id;
 use ktm_types::Change;
@@ -72,7 +73,7 @@ pub(crate) fn is_directory_seen(tree: &Tree, overlay: &Overlay, node: u64) -> bo
 /// The transaction holds a file too, whose bytes it changed.
 pub(crate) fn hold_file(reserve: &mut Reserve, transaction: Id, file: u64)
     requires { 0 < reserve.old.spare }
-    ensures { HoldsToo file [] [] false transaction reserve.old reserve.new }
+    ensures { HoldsToo (file ∷ []) [] [] false transaction reserve.old reserve.new }
 {
     reserve.hold(
         transaction,
@@ -90,7 +91,7 @@ pub(crate) fn hold_file(reserve: &mut Reserve, transaction: Id, file: u64)
 pub(crate) fn hold_made(reserve: &mut Reserve, transaction: Id, node: u64, at: Place<'_>)
     requires spare { 0 < reserve.old.spare }
     requires short { length at.name.now ≤ MOST_NAME_BYTES }
-    ensures { HoldsToo node (place_in at.entry ∷ []) [] false transaction reserve.old reserve.new }
+    ensures { HoldsToo (node ∷ []) (place_in at.entry ∷ []) [] false transaction reserve.old reserve.new }
 {
     reserve.hold(
         transaction,
@@ -116,7 +117,7 @@ pub(crate) fn hold_moved(
     requires spare { 0 < reserve.old.spare }
     requires short_from { length from.name.now ≤ MOST_NAME_BYTES }
     requires short_to { length to.name.now ≤ MOST_NAME_BYTES }
-    ensures { HoldsToo node (place_in from.entry ∷ place_in to.entry ∷ []) [] is_directory transaction reserve.old reserve.new }
+    ensures { HoldsToo (node ∷ []) (place_in from.entry ∷ place_in to.entry ∷ []) [] is_directory transaction reserve.old reserve.new }
 {
     reserve.hold(
         transaction,
@@ -140,7 +141,7 @@ pub(crate) fn hold_dropped(
 )
     requires spare { 0 < reserve.old.spare }
     requires short { length at.name.now ≤ MOST_NAME_BYTES }
-    ensures { HoldsToo node (place_in at.entry ∷ []) (listed dropped) false transaction reserve.old reserve.new }
+    ensures { HoldsToo (node ∷ []) (place_in at.entry ∷ []) (listed dropped) false transaction reserve.old reserve.new }
 {
     reserve.hold(
         transaction,

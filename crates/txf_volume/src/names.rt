@@ -7,13 +7,14 @@ ghost use Rattle.ktm_world.specs.Tree.{child_of, node_at};
 ghost use Rattle.txf_overlay.specs.OverlayState.{seen};
 ghost use Rattle.txf_overlay.specs.Views.{StandsOver};
 ghost use Rattle.txf_calls.specs.Leads.{seen_of};
-ghost use Rattle.txf_tree.specs.Children.{entries_in};
+ghost use Rattle.txf_tree.specs.Children.{entries_in, matching};
 ghost use Rattle.txf_tree.specs.TreeState.{tree_of};
 ghost use Rattle.txf_volume.specs.Held.{files_of};
 ghost use Rattle.txf_volume.specs.Ties.{seen_by, IsOver};
 
 use crate::files::Files;
 use ktm_base::{Id, NoMemory};
+use ktm_names::Pattern;
 use txf_calls::Seen;
 use txf_overlay::Overlay;
 use txf_tree::Entries;
@@ -107,13 +108,18 @@ impl Files {
         }
     }
 
-    // The entries of a directory.
-    pub(crate) fn entries(&self, who: Option<Id>, directory: u64) -> Result<Entries<'_>, NoMemory>
-        ensures { IfOk result (λ entries. entries ≡ entries_in (tree_seen (files_of self.now) who) directory) }
+    // The entries of a directory that a pattern matches.
+    pub(crate) fn entries(
+        &self,
+        who: Option<Id>,
+        directory: u64,
+        pattern: &Pattern,
+    ) -> Result<Entries<'_>, NoMemory>
+        ensures { IfOk result (λ entries. entries ≡ matching pattern.now.last (entries_in (tree_seen (files_of self.now) who) directory)) }
     {
         match self.overlay_for(who) {
-            Some(overlay) => overlay.entries(&self.tree, directory),
-            None => self.tree.entries(directory),
+            Some(overlay) => overlay.entries(&self.tree, directory, pattern),
+            None => self.tree.entries(directory, pattern),
         }
     }
 }

@@ -10,8 +10,8 @@ ghost use Rattle.txf_overlay.specs.Written.{total_units, HasBytes};
 ghost use Rattle.txf_reserve.specs.Acts.{listed};
 ghost use Rattle.txf_tree.specs.TreeState.{tree_of};
 ghost use Rattle.txf_volume.specs.Held.{overlay_in};
-ghost use Rattle.txf_volume.specs.OwnParts.{bare, bare_own, or_unchanged, starts, unchanged, written_next, IsChanged, IsChangedIn, IsPlace};
-ghost use Rattle.txf_volume.specs.Ties.{held_by_two, IsOver};
+ghost use Rattle.txf_volume.specs.OwnParts.{bare, bare_own, starts, unchanged, written_next, CanChange, IsChanged, IsChangedIn, IsPlace};
+ghost use Rattle.txf_volume.specs.Ties.{held_by_two};
 ghost use Rattle.txf_volume.specs.Transacted.{CanOwn, IsWithin};
 ghost use Rattle.txf_laws.specs.Elements.{each_pair};
 
@@ -250,9 +250,7 @@ fn change_at(
 ) -> Result<(), NoMemory>
     requires spare { 0 < reserve.old.spare }
     requires place { IsPlace overlays.old.items transaction place }
-    requires over { All (λ o. IsOver (tree_of tree.now) o.overlay) overlays.old.items }
-    requires applies { applies (seen (tree_of tree.now) (or_unchanged (overlay_in overlays.old.items transaction))) change ≡ true }
-    requires few { total_units (written_next (or_unchanged (overlay_in overlays.old.items transaction)) fixed.now change) < 2 ^ 64 }
+    requires can { CanChange (tree_of tree.now) fixed.now transaction change overlays.old.items }
     ensures ok { OnOk result (IsChangedIn (tree_of tree.now) fixed.now transaction change overlays.old.items overlays.new.items reserve.old reserve.new) }
     ensures err { OnErr result (map bare_own overlays.new.items ≡ map bare_own overlays.old.items) }
     ensures same { OnErr result (reserve.new ≡ reserve.old) }
@@ -317,10 +315,8 @@ pub(crate) fn change_own(
 ) -> Result<(), NoMemory>
     requires spare { 0 < reserve.old.spare }
     requires once { each_pair held_by_two overlays.old.items ≡ true }
-    requires over { All (λ o. IsOver (tree_of tree.now) o.overlay) overlays.old.items }
     requires formed { IsWellFormed (tree_of tree.now) }
-    requires applies { applies (seen (tree_of tree.now) (or_unchanged (overlay_in overlays.old.items transaction))) change ≡ true }
-    requires few { total_units (written_next (or_unchanged (overlay_in overlays.old.items transaction)) fixed.now change) < 2 ^ 64 }
+    requires can { CanChange (tree_of tree.now) fixed.now transaction change overlays.old.items }
     ensures ok { OnOk result (IsChangedIn (tree_of tree.now) fixed.now transaction change overlays.old.items overlays.new.items reserve.old reserve.new) }
     ensures err { OnErr result (map bare_own overlays.new.items ≡ map bare_own overlays.old.items) }
     ensures same { OnErr result (reserve.new ≡ reserve.old) }

@@ -8,7 +8,7 @@ use ktm_names::Pattern;
 use std::alloc::Global;
 use txf_calls::{Plan, Room, Seen, Volume};
 use txf_opens::Act;
-use txf_tree::matching_names;
+use txf_tree::listed_names;
 
 impl Volume for Files {
     ghost files = { files_of };
@@ -41,8 +41,8 @@ impl Volume for Files {
         directory: u64,
         pattern: &Pattern,
     ) -> Result<TextList, NoMemory> {
-        let entries = self.entries(who, directory)?;
-        matching_names(alloc, &entries, pattern)
+        let entries = self.entries(who, directory, pattern)?;
+        listed_names(alloc, &entries)
     }
 
     fn size(&self, who: Option<Id>, file: u64) -> u64 {
@@ -52,10 +52,17 @@ impl Volume for Files {
         }
     }
 
-    fn read(&self, who: Option<Id>, file: u64, offset: u64, into: &mut [u8]) -> usize {
+    fn read(
+        &self,
+        who: Option<Id>,
+        file: u64,
+        offset: u64,
+        most: u64,
+        onto: &mut Vec<u8>,
+    ) -> Result<(), NoMemory> {
         match who {
-            Some(transaction) => self.read_in(transaction, file, offset, into),
-            None => self.tree.read(file, offset, into),
+            Some(transaction) => self.read_in(transaction, file, offset, most, onto),
+            None => self.tree.read(file, offset, most, onto),
         }
     }
 

@@ -4,7 +4,7 @@ use Rattle.std.specs.Ordering.{is_eq, is_gt, is_lt, nat_cmp, ordering_reverse, o
 use Rattle.std.specs.declared.cmp.Ordering.{Ordering}
 use Rattle.std.specs.declared.cmp.Ordering.TheVariants.{Less, Equal, Greater}
 use Rattle.std.proofs.lemmas.Bool.{cases_Bool}
-use Rattle.std.proofs.lemmas.Cmp.{nat_list_cmp_total, ranked, upto}
+use Rattle.std.proofs.lemmas.Cmp.{nat_cmp_total, nat_list_cmp_total, ranked, tied_itself, upto}
 use Rattle.ktm_links.specs.Mapped.{name_cmp, IsNotBelow}
 use Rattle.ktm_links.proofs.offered.Names.{name_equal, name_same, from_is_eq}
 
@@ -31,6 +31,18 @@ not_above a b not_below = sym (ap is_lt (nat_list_cmp_total.antisymm a b) ∙ tu
 pub not_below_upto : (a b c : List ℕ) → IsNotBelow a b → IsNotBelow b c → IsNotBelow a c
 not_below_upto a b c high low =
     ap is_lt (nat_list_cmp_total.antisymm a c) ∙ turned_is (name_cmp c a) ∙ upto nat_list_cmp_total c b a (not_above b c low) (not_above a b high)
+
+-- a name is below the one right after it
+pub below_next : (name : List ℕ) → name_cmp name (name ++ 0 ∷ []) ≡ Less
+below_next [] = refl
+below_next (c ∷ cs) = rw (tied_itself nat_cmp_total c) (below_next cs)
+
+-- what is below a name is below those that are not below that
+pub below_upto : (a b c : List ℕ) → is_lt (name_cmp a b) ≡ true → IsNotBelow c b → is_lt (name_cmp a c) ≡ true
+below_upto a b c below high = elim (cases_Bool (is_lt (name_cmp a c))) [
+  | inl is ↦ is
+  | inr over ↦ absurd (let no = not_below_upto a c b over high in cc)
+]
 
 -- where a name is above another, it is not below the one right after that
 pub above_next : (q n : List ℕ) → IsNotBelow q n → (q ≡ n → ⊥) → IsNotBelow q (n ++ 0 ∷ [])

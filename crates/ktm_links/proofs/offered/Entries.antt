@@ -1,5 +1,5 @@
 -- Lemmas on the entries of a map.
-use Rattle.std.proofs.Common.{◌≡◌, ℕ, ◌+◌, true, false, List, [], ◌∷◌, Some, None, is_some, cond, drop, length, nat_eq, refl, sym, ap, ◌∙◌, inl, inr, arith}
+use Rattle.std.proofs.Common.{◌≡◌, ℕ, ◌+◌, true, false, List, [], ◌∷◌, ◌++◌, Some, None, is_some, cond, drop, length, nat_eq, refl, sym, ap, subst, ◌∙◌, inl, inr, arith}
 use Rattle.std.specs.declared.cmp.Ordering.{Ordering}
 use Rattle.std.specs.Ordering.{is_eq, is_lt}
 use Rattle.std.specs.declared.cmp.Ordering.TheVariants.{Less, Equal, Greater}
@@ -12,8 +12,8 @@ use Rattle.std.specs.Option.{option_map}
 use Rattle.std.proofs.lemmas.Bool.Decides.{Decides-eqb}
 use Rattle.std.proofs.lemmas.Slice.Eq.{starts_is}
 use Rattle.ktm_links.specs.Items.{same_key}
-use Rattle.ktm_links.specs.Mapped.{Mapped, KeepsSpent, NamedItem, name_cmp, at, first_from, key_at, put, value_of, without_name, Begins, IsFirstOf, IsNoneOf, IsNotBelow}
-use Rattle.ktm_links.specs.Order.{AreAbove, IsRising}
+use Rattle.ktm_links.specs.Mapped.{Mapped, KeepsSpent, NamedItem, name_cmp, at, first_from, key_at, put, value_of, without_name, AreAbove, Begins, IsFirstOf, IsNoneOf, IsNotBelow, IsRising, entries_from}
+use Rattle.ktm_links.proofs.offered.Comparing.{above_next, below_next, below_upto, not_below_upto}
 use Rattle.ktm_links.proofs.offered.Keys.{none_of, same_key-true, same_key-self, other_generation}
 use Rattle.ktm_links.proofs.offered.Names.{begins_not_below, begins_between, not_lower, lower_differs, turned, name_same, name_equal, from_is_eq, is_eq-other}
 
@@ -127,6 +127,62 @@ module _ {T : Type 0} where
   first_from-nothing (e ∷ es) name none q not_below =
       elim (cases_Bool (is_lt (name_cmp e.name name))) [
         | inl lower ↦ rw (lower_differs e.name q name lower not_below) (first_from-nothing es name (rw lower at none) q not_below)
+        | inr higher ↦ absurd (let some = rw higher at none in cc)
+      ]
+
+  -- ---- the entries from a name on
+  -- the entry is the first of those from the name on, and these are those behind it
+  pub record IsNext (es : List (NamedItem T)) (name : List ℕ) (e : NamedItem T) (behind : List (NamedItem T)) : Type 0 where
+    pub there : at es e.name ≡ Some (e.key, e.value)
+    pub so : IsNotBelow e.name name
+    pub first : (q : List ℕ) → IsNotBelow q name → is_some (at es q) ≡ true → IsNotBelow q e.name
+    pub rest : entries_from es (e.name ++ 0 ∷ []) ≡ behind
+
+  -- all of them, where the first is not below
+  from-above : (name : List ℕ) (es : List (NamedItem T)) → AreAbove name es → entries_from es (name ++ 0 ∷ []) ≡ es
+  from-above name [] above = refl
+  from-above name (e ∷ es) above =
+      rw (above_next e.name name (not_lower name e.name above.0) (λ same. let less = rw same at above.0 in let equal = name_same name in cc)) refl
+
+  pub from-next : (es : List (NamedItem T)) (name : List ℕ) (e : NamedItem T) (behind : List (NamedItem T)) → IsRising es → entries_from es name ≡ e ∷ behind
+      → IsNext es name e behind
+  from-next [] name e behind rising is = absurd (cc)
+  from-next (x ∷ xs) name e behind rising is =
+      elim (cases_Bool (is_lt (name_cmp x.name name))) [
+        | inl lower ↦
+            let rest = from-next xs name e behind rising.1 (rw lower at is) in
+            record {
+              there = rw (lower_differs x.name e.name name lower rest.so) rest.there;
+              so = rest.so;
+              first = λ q so some. rest.first q so (rw (lower_differs x.name q name lower so) at some);
+              rest =
+                  rw (below_upto x.name name (e.name ++ 0 ∷ []) lower (not_below_upto (e.name ++ 0 ∷ []) e.name name (not_lower e.name (e.name ++ 0 ∷ []) (below_next e.name)) rest.so))
+                  rest.rest;
+            }
+        | inr high ↦ here x e xs behind high rising (rw high at is)
+      ]
+    where
+      here : (x e : NamedItem T) (xs behind : List (NamedItem T)) → IsNotBelow x.name name → IsRising (x ∷ xs) → x ∷ xs ≡ e ∷ behind → IsNext (x ∷ xs) name e behind
+      here x e xs behind high rising is =
+          let this : x ≡ e = cc in
+          let same : xs ≡ behind = cc in
+          subst (λ e. IsNext (x ∷ xs) name e behind) this
+          (record {
+            there = rw (name_same x.name) refl;
+            so = high;
+            first = λ q so some. elim (cases_Bool (is_eq (name_cmp x.name q))) [
+              | inl this ↦ rw (← name_equal x.name q (from_is_eq (name_cmp x.name q) this), name_same x.name) refl
+              | inr other ↦ not_lower x.name q (above-at x.name xs q rising.0 (rw other at some))
+            ];
+            rest = rw (below_next x.name) (from-above x.name xs rising.0 ∙ same);
+          })
+
+  -- where there is none, nothing stands under such a name
+  pub from-none : (es : List (NamedItem T)) (name : List ℕ) → entries_from es name ≡ [] → IsNoneOf (λ q. IsNotBelow q name) es
+  from-none [] name none q not_below = refl
+  from-none (e ∷ es) name none q not_below =
+      elim (cases_Bool (is_lt (name_cmp e.name name))) [
+        | inl lower ↦ rw (lower_differs e.name q name lower not_below) (from-none es name (rw lower at none) q not_below)
         | inr higher ↦ absurd (let some = rw higher at none in cc)
       ]
 

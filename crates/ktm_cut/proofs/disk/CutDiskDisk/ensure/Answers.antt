@@ -1,4 +1,4 @@
-use Rattle.std.proofs.Common.{◌∙◌, ap}
+use Rattle.std.proofs.Common.{rules, ◌∙◌, ap}
 use Rattle.ktm_cut.specs.Switch.{fallen}
 use Rattle.ktm_cut.proofs.Calls.{falls, fell}
 use Rattle.ktm_cut.proofs.disk.CutDiskDisk.ensure.Goals as goal
@@ -7,6 +7,9 @@ pub returns-in-Err-clause-call : goal.returns-in-Err-clause-call
 returns-in-Err-clause-call g c =
     falls _ c.admit.new.self c.fall.new.self _ _ c.in_ok-admit.ensures.call (c.fall.ensures.state ∙ ap fallen c.grow.ensures.switch) (rw (← c.grow.ensures.switch) c.fall.ensures.later)
 
-pub returns-in-Err-clause-counts : goal.returns-in-Err-clause-counts
-returns-in-Err-clause-counts g c =
-    fell c.args.self.now.switch c.admit.new.self c.fall.new.self 0 _ c.in_ok-admit.ensures.call c.in_ok-admit.ensures.counts (c.fall.ensures.state ∙ ap fallen c.grow.ensures.switch)
+pub returns-in-Err-clause-after : goal.returns-in-Err-clause-after
+returns-in-Err-clause-after g c = record {
+  counts = fell c.args.self.now.switch c.admit.new.self c.fall.new.self 0 _ c.in_ok-admit.ensures.call c.in_ok-admit.ensures.counts (c.fall.ensures.state ∙ ap fallen c.grow.ensures.switch);
+  cause = search rules;
+  faults = search rules;
+}

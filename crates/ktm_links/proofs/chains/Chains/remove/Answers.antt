@@ -39,14 +39,6 @@ pub returns-in-Ok-clause-other_names : goal.returns-in-Ok-clause-other_names
 returns-in-Ok-clause-other_names g c = λ q differs.
     ap (λ es. at es q) (returns-in-Ok-clause-entries g c) ∙ at-without_other c.args.self.now.entries c.args.name.now q differs
 
-pub returns-in-Ok-clause-other_keys : goal.returns-in-Ok-clause-other_keys
-returns-in-Ok-clause-other_keys g c = λ k differs.
-    ap (λ es. value_of es k) (returns-in-Ok-clause-entries g c) ∙ value_of-without_other c.args.self.now.entries c.args.name.now k differs
-
-pub returns-in-Ok-clause-spent : goal.returns-in-Ok-clause-spent
-returns-in-Ok-clause-spent g c =
-    KeepsSpent-without_name _ _ c.args.name.now (returns-in-Ok-clause-entries g c) (rw (← c.self.view_is) c.unlink.ensures.next)
-
 pub returns-in-Err-clause-value : goal.returns-in-Err-clause-value
 returns-in-Err-clause-value g c =
     let free = absent _ _ _ _ c.self.invariant (rw c.as_blocks.ensures.blocks at c.in-Err.ensures.position) in
@@ -62,17 +54,26 @@ returns-in-Err-clause-gone g c =
     let free = absent _ _ _ _ c.self.invariant (rw c.as_blocks.ensures.blocks at c.in-Err.ensures.position) in
     rw (← c.self.view_is) (sym (none_at _ c.args.name.now free).0)
 
-pub returns-in-Ok-clause-now_spent : goal.returns-in-Ok-clause-now_spent
-returns-in-Ok-clause-now_spent g c = λ k is.
-    let t = taken _ c.args.name.now _ (index_of c.self.inside.order.blocks c.in-Ok.spot) c.remove-key.result c.self.invariant (within _ c.in-Ok.spot (rw c.as_blocks.ensures.blocks at c.in-Ok.ensures.spot)) (rw c.as_blocks.ensures.blocks at c.in-Ok.ensures.position) c.remove-key.ensures.key in
-    taken_spent _ _ _ _ _ _ _ _ t c.unlink.ensures.gone c.unlink.ensures.value c.unlink.ensures.items
-    (rw (c.unlink.ensures.items, c.remove-key.ensures.keys) refl) refl k
-    (ap (λ (m : Mapped _). key_at m.entries c.args.name.now) c.self.view_is ∙ is)
+pub returns-in-Ok-clause-keys : goal.returns-in-Ok-clause-keys
+returns-in-Ok-clause-keys g c = record {
+  now = λ k is.
+      let t = taken _ c.args.name.now _ (index_of c.self.inside.order.blocks c.in-Ok.spot) c.remove-key.result c.self.invariant (within _ c.in-Ok.spot (rw c.as_blocks.ensures.blocks at c.in-Ok.ensures.spot)) (rw c.as_blocks.ensures.blocks at c.in-Ok.ensures.position) c.remove-key.ensures.key in
+      taken_spent _ _ _ _ _ _ _ _ t c.unlink.ensures.gone c.unlink.ensures.value c.unlink.ensures.items
+      (rw (c.unlink.ensures.items, c.remove-key.ensures.keys) refl) refl k
+      (ap (λ (m : Mapped _). key_at m.entries c.args.name.now) c.self.view_is ∙ is);
+  others = λ k differs.
+      ap (λ es. value_of es k) (returns-in-Ok-clause-entries g c) ∙ value_of-without_other c.args.self.now.entries c.args.name.now k differs;
+  still = KeepsSpent-without_name _ _ c.args.name.now (returns-in-Ok-clause-entries g c) (rw (← c.self.view_is) c.unlink.ensures.next);
+}
 
-pub returns-in-Err-clause-now_spent : goal.returns-in-Err-clause-now_spent
-returns-in-Err-clause-now_spent g c = λ k is.
-    let some =
-    absent _ _ _ _ c.self.invariant (rw c.as_blocks.ensures.blocks at c.in-Err.ensures.position)
-    ∙ ap (λ (m : Mapped _). key_at m.entries c.args.name.now) c.self.view_is
-    ∙ is in
-    absurd (cc)
+pub returns-in-Err-clause-keys : goal.returns-in-Err-clause-keys
+returns-in-Err-clause-keys g c = record {
+  now = λ k is.
+      let some =
+      absent _ _ _ _ c.self.invariant (rw c.as_blocks.ensures.blocks at c.in-Err.ensures.position)
+      ∙ ap (λ (m : Mapped _). key_at m.entries c.args.name.now) c.self.view_is
+      ∙ is in
+      absurd (cc);
+  others = λ k differs. refl;
+  still = λ k spent. spent;
+}

@@ -1,18 +1,18 @@
-use Rattle.std.proofs.Common.{◌≡◌, ◌≤◌, ◌++◌, IfSome, length}
-use Rattle.ktm_base.specs.declared.limits.TheConstants.{MOST_NAME_BYTES}
-use Rattle.txf_tree.specs.Children.{entries_in}
-use Rattle.txf_tree.specs.Places.{entries_behind}
+use Rattle.std.proofs.Common.{◌≡◌, ◌+◌, ◌++◌, List, length, option_to_list}
+use Rattle.txf_tree.specs.Children.{Shown, entries_in, matching}
 use Rattle.txf_tree.specs.TreeState.{tree_of}
+use Rattle.txf_tree.proofs.Reaching.{IsAhead}
+use Rattle.txf_overlay.specs.Listing.{steps_left, IsStepped}
 use Rattle.txf_overlay.specs.OverlayState.{seen}
 use Rattle.txf_overlay.proofs.overlay.Overlay.entries.Given as goal
 
-abbrev pub invariant-loop-next : goal.invariant-loop-next
-invariant-loop-next l = record {
-  so_far :
-      l.entries ++ entries_behind l.directory (entries_in (seen (tree_of l.tree) l.self) l.directory) l.next
-      ≡ entries_in (seen (tree_of l.tree) l.self) l.directory;
-  few : IfSome l.next (λ entry. length entry.name.now ≤ MOST_NAME_BYTES);
+abbrev pub invariant-loop-step : goal.invariant-loop-step
+invariant-loop-step l = record {
+  left : List Shown;
+  so_far : l.entries ++ matching l.pattern.last left ≡ matching l.pattern.last (entries_in (seen (tree_of l.tree) l.self) l.directory);
+  ahead : IsAhead l.pattern.last left;
+  stepped : IsStepped (tree_of l.tree) l.self l.directory l.children l.step left;
 }
 
-abbrev pub decreases-loop-next : goal.decreases-loop-next
-decreases-loop-next l = length (entries_behind l.directory (entries_in (seen (tree_of l.tree) l.self) l.directory) l.next)
+abbrev pub decreases-loop-step : goal.decreases-loop-step
+decreases-loop-step l = steps_left l.self.held l.children l.step.seat + length (option_to_list l.step.entry)

@@ -1,15 +1,14 @@
-use Rattle.std.proofs.Common.{◌≡◌, ◌≤◌, ◌++◌, IfSome, length}
-use Rattle.ktm_base.specs.declared.limits.TheConstants.{MOST_NAME_BYTES}
-use Rattle.txf_tree.specs.Children.{entries_in}
-use Rattle.txf_tree.specs.Places.{entries_behind}
+use Rattle.std.proofs.Common.{◌≡◌, ◌++◌, length}
+use Rattle.txf_tree.specs.Children.{entries_in, matching}
 use Rattle.txf_tree.specs.TreeState.{tree_of}
+use Rattle.txf_tree.proofs.Reaching.{IsAhead}
 use Rattle.txf_tree.proofs.tree.Tree.entries.Given as goal
 
-abbrev pub invariant-loop-next : goal.invariant-loop-next
-invariant-loop-next l = record {
-  so_far : l.entries ++ entries_behind l.directory (entries_in (tree_of l.self) l.directory) l.next ≡ entries_in (tree_of l.self) l.directory;
-  few : IfSome l.next (λ entry. length entry.name.now ≤ MOST_NAME_BYTES);
+abbrev pub invariant-loop-entry : goal.invariant-loop-entry
+invariant-loop-entry l = record {
+  so_far : l.entries ++ matching l.pattern.last l.children ≡ matching l.pattern.last (entries_in (tree_of l.self) l.directory);
+  ahead : IsAhead l.pattern.last l.children;
 }
 
-abbrev pub decreases-loop-next : goal.decreases-loop-next
-decreases-loop-next l = length (entries_behind l.directory (entries_in (tree_of l.self) l.directory) l.next)
+abbrev pub decreases-loop-entry : goal.decreases-loop-entry
+decreases-loop-entry l = length l.children

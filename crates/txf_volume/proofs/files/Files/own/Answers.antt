@@ -1,4 +1,4 @@
-use Rattle.std.proofs.Common.{◌≡◌, Some, true, sym, subst}
+use Rattle.std.proofs.Common.{◌≡◌, Some, true, sym, subst, rules}
 use Rattle.txf_laws.specs.OwnChange.{owned}
 use Rattle.ktm_world.specs.Changes.{applies}
 use Rattle.ktm_world.specs.Files.{tree_seen}
@@ -8,18 +8,19 @@ use Rattle.txf_volume.proofs.TransactedCalls.{files-bare, tied-bare}
 use Rattle.txf_volume.proofs.TransactedChange.{made-files, made-tied, seen-is, units-few}
 use Rattle.txf_volume.proofs.files.Files.own.Goals as goal
 
-pub change_own-requires-clause-applies : goal.change_own-requires-clause-applies
-change_own-requires-clause-applies c =
-    subst (λ tree. applies tree c.args.change ≡ true)
-    (seen-is _ c.self.inside.units c.self.invariant c.law_of_own_forms.ensures c.args.transaction c.args.change c.fixed_bytes-fixed.result.now
-    c.node_of.result c.node_of.ensures c.fixed_bytes-fixed.ensures)
-    (subst (λ (h : FilesHeld). applies (tree_seen (files_of h) (Some c.args.transaction)) c.args.change ≡ true) (sym c.self.view_is) c.requires.applies)
-
-pub change_own-requires-clause-few : goal.change_own-requires-clause-few
-change_own-requires-clause-few c =
-    units-few _ c.self.inside.units c.self.invariant c.law_of_own_forms.ensures c.args.transaction c.args.change c.fixed_bytes-fixed.result.now
-    c.node_of.result c.node_of.ensures c.fixed_bytes-fixed.ensures
-    (subst (λ (h : FilesHeld). CanBeCounted (owned (files_of h) c.args.transaction c.args.change)) (sym c.self.view_is) c.requires.counted)
+pub change_own-requires-clause-can : goal.change_own-requires-clause-can
+change_own-requires-clause-can c = record {
+  over = search rules;
+  applies =
+      subst (λ tree. applies tree c.args.change ≡ true)
+      (seen-is _ c.self.inside.units c.self.invariant c.law_of_own_forms.ensures c.args.transaction c.args.change c.fixed_bytes-fixed.result.now
+      c.node_of.result c.node_of.ensures c.fixed_bytes-fixed.ensures)
+      (subst (λ (h : FilesHeld). applies (tree_seen (files_of h) (Some c.args.transaction)) c.args.change ≡ true) (sym c.self.view_is) c.requires.applies);
+  few =
+      units-few _ c.self.inside.units c.self.invariant c.law_of_own_forms.ensures c.args.transaction c.args.change c.fixed_bytes-fixed.result.now
+      c.node_of.result c.node_of.ensures c.fixed_bytes-fixed.ensures
+      (subst (λ (h : FilesHeld). CanBeCounted (owned (files_of h) c.args.transaction c.args.change)) (sym c.self.view_is) c.requires.counted);
+}
 
 pub invariant_of-self : goal.invariant_of-self
 invariant_of-self c = tied-bare _ c.self.inside.units c.self.invariant c.change_own.new.overlays.items c.change_own.new.reserve c.in-Err.ensures.err c.in-Err.ensures.same

@@ -1,0 +1,13 @@
+use Rattle.std.proofs.Common.{map, ap, ◌∙◌}
+use Rattle.std.proofs.lemmas.List.{take_all}
+use Rattle.txf_tree.specs.Children.{entry_seen}
+use Rattle.txf_tree.specs.Found.{shown_text}
+use Rattle.txf_tree.proofs.Filters.{found-listed}
+use Rattle.txf_tree.proofs.listed.listed_names.Goals as goal
+
+pub returns : goal.returns
+returns c = λ tree directory last is.
+    c.new.ensures ∙ c.loop-entry.invariant
+    ∙ ap (λ entries. map shown_text (map entry_seen entries)) (take_all c.loop-entry.entry-index c.as_slice-entries.result.now c.loop-entry-test.false)
+    ∙ ap (λ entries. map shown_text entries) (c.as_slice-entries.ensures ∙ is)
+    ∙ found-listed tree directory last
