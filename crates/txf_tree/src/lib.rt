@@ -13,7 +13,8 @@ mod nodes;
 mod stored;
 mod tree;
 
-pub use change::{bytes_in, changes_bytes, is_drop, is_make, next_after, node_of};
+pub use applies::{is_name, is_node_number};
+pub use change::{bytes_in, changes_bytes, is_drop, is_make, is_whole, next_after, node_of};
 pub use entry::{Entries, Entry, NodeRef};
 pub use matching::matching_names;
 pub use name::{ChildName, NumberName, after_child, after_place, child_name, number_bytes};
