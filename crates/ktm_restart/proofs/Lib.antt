@@ -1,4 +1,5 @@
 mod Past
+mod Placing
 mod Groups
 mod GoodLogs
 mod Spelled

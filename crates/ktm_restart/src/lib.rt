@@ -4,8 +4,10 @@
 
 mod durable;
 mod laws;
+mod managers;
 mod replay;
 mod replayed;
+mod table;
 
 pub use durable::Durable;
 pub use laws::{law_of_bad_images, law_of_bad_places, law_of_one_log, law_of_states};
