@@ -1,4 +1,5 @@
 mod Past
+mod OneOfKind
 mod Placing
 mod Groups
 mod GoodLogs

@@ -20,13 +20,13 @@ first-at p xs = elim (cases_Bool (nat_lt (prefix_len (λ x. not (p x)) xs) (leng
   | inr past ↦ rw past (omega (arith, ltb-false _ _ past, prefix_len-le-length (λ x. not (p x)) xs))
 ]
 
-first-found : {X : Type 0} (p : X → Bool) (xs : List X) (i : ℕ) → Some i ≡ position p xs → (i ≡ position_or_len p xs) × (position_or_len p xs < length xs)
+pub first-found : {X : Type 0} (p : X → Bool) (xs : List X) (i : ℕ) → Some i ≡ position p xs → (i ≡ position_or_len p xs) × (position_or_len p xs < length xs)
 first-found p xs i found = elim (cases_Bool (nat_lt (prefix_len (λ x. not (p x)) xs) (length xs))) [
   | inl within ↦ (same_Some _ _ (rw within at found), ltb-true _ _ within)
   | inr past ↦ absurd (none-some i (sym (rw past at found)))
 ]
 
-first-none : {X : Type 0} (p : X → Bool) (xs : List X) → None ≡ position p xs → length xs ≡ position_or_len p xs
+pub first-none : {X : Type 0} (p : X → Bool) (xs : List X) → None ≡ position p xs → length xs ≡ position_or_len p xs
 first-none p xs none = elim (cases_Bool (nat_lt (prefix_len (λ x. not (p x)) xs) (length xs))) [
   | inl within ↦ absurd (none-some _ (rw within at none))
   | inr past ↦ omega (arith, ltb-false _ _ past, prefix_len-le-length (λ x. not (p x)) xs)

@@ -4,4 +4,5 @@ pub mod Payloads
 pub mod Replayed
 pub mod Table
 pub mod Waiting
+pub mod Work
 pub mod Loads

@@ -5,6 +5,7 @@
 mod durable;
 mod laws;
 mod managers;
+mod parts;
 mod replay;
 mod replayed;
 mod table;
