@@ -2,6 +2,7 @@ mod Past
 mod OneOfKind
 mod Placing
 mod Groups
+mod Fitting
 mod GoodLogs
 mod Spelled
 mod Folds

@@ -2,6 +2,7 @@
 //! new image, up to the durable state that a machine starts from.
 #![tactic(auto)]
 
+mod amounts;
 mod durable;
 mod laws;
 mod managers;
