@@ -9,4 +9,5 @@ mod Folds
 mod LogLoads
 mod Replays
 mod BehindHeader
+mod TableSteps
 pub mod offered

@@ -112,6 +112,16 @@ pub(crate) fn has_undone_part(parts: &[RecordedPart]) -> bool
     parts.iter().any(|p| !p.is_done)
 }
 
+/// Is there a part.
+pub(crate) fn has_part(parts: &[RecordedPart]) -> bool
+    ensures { result ≡ list_any (λ p. true) parts.now }
+{
+    match parts {
+        [] => false,
+        [_, ..] => true,
+    }
+}
+
 // Takes out what the part at the index has, and leaves this there.
 fn replace_part(parts: &mut Vec<RecordedPart>, index: usize, part: Part) -> Part
     requires { index < length parts.old.items }

@@ -1,5 +1,4 @@
-use Rattle.std.proofs.Common.{◌≡◌, ◌∙◌, [], false, get_or, set, sym, ap}
-use Rattle.std.specs.List.{position}
+use Rattle.std.proofs.Common.{◌∙◌, [], false, get_or, set, sym, ap}
 use Rattle.ktm_types.specs.declared.event.DonePart.{DonePart}
 use Rattle.ktm_types.specs.declared.event.Part.TheVariants.{Settings}
 use Rattle.ktm_types.specs.declared.recorded.RecordedPart.{RecordedPart}
