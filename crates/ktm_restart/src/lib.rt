@@ -2,10 +2,14 @@
 //! new image, up to the durable state that a machine starts from.
 #![tactic(auto)]
 
+mod amounts;
 mod durable;
 mod laws;
+mod managers;
+mod parts;
 mod replay;
 mod replayed;
+mod table;
 
 pub use durable::Durable;
 pub use laws::{law_of_bad_images, law_of_bad_places, law_of_one_log, law_of_states};

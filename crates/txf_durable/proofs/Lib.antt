@@ -1,3 +1,5 @@
-mod Recordings
+mod Giving
 mod Rising
+mod Recordings
+mod Trying
 mod Units

@@ -2,7 +2,7 @@
 use Rattle.std.proofs.Common.{◌≡◌, ℕ, ◌+◌, ◌<◌, ◌≤◌, ◌==◌, ◌&&◌, not, Bool, true, false, suc, List, [], ◌∷◌, ◌++◌, length, take, drop, filter, nat_lt, nat_le, Some, None, refl, sym, ap, subst, ◌∙◌, arith, inl, inr, ne_eqb}
 use Rattle.std.specs.List.{list_all, position, prefix_len}
 use Rattle.std.specs.Option.{unwrap_or}
-use Rattle.std.proofs.lemmas.Bool.{and_parts, and_right, cases_Bool, eqb-true, eqb-false, leb-true, leb-false, ltb-false, not-true, true≢false}
+use Rattle.std.proofs.lemmas.Bool.{and_from, and_parts, and_right, cases_Bool, eqb-true, eqb-false, leb-true, leb-false, ltb-false, not-true, true≢false}
 use Rattle.std.proofs.lemmas.List.{drop_all, take_all}
 use Rattle.ktm_types.specs.declared.change.Change.{Change}
 use Rattle.ktm_types.specs.declared.change.Change.TheVariants.{Make, Put, Cut, Move, Drop}
@@ -54,8 +54,8 @@ from-lower [] a b low are = tt
 from-lower (c ∷ cs) a b low are = (are.0, omega (arith, low, are.1), are.2)
 
 -- the bytes that transactions record, at the start or behind a cut, are of files whose numbers never fall
-record Falls (cs : List Change) : Type 0 where
-  start : (least : ℕ) → are_final_bytes least None cs ≡ true → AreBytesFrom least cs
+pub record Falls (cs : List Change) : Type 0 where
+  pub start : (least : ℕ) → are_final_bytes least None cs ≡ true → AreBytesFrom least cs
   behind : (file : ℕ) → are_final_bytes (file + 1) (Some file) cs ≡ true → AreBytesFrom file cs
 
 cut-falls : (node size : ℕ) (pages : List ℕ) (cs : List Change) → Falls cs → (least : ℕ)
@@ -64,7 +64,7 @@ cut-falls node size pages cs falls least are =
     let parts = and_parts (nat_le least node && size == 0) _ are in
     (refl, leb-true _ _ (and_parts (nat_le least node) (size == 0) parts.0).0, falls.behind node parts.1)
 
-never-falls : (cs : List Change) → Falls cs
+pub never-falls : (cs : List Change) → Falls cs
 never-falls [] = record { start = λ least are. tt; behind = λ file are. tt }
 never-falls (Cut node size pages ∷ cs) =
     let falls = never-falls cs in
@@ -133,7 +133,7 @@ have-first cs n file later are above =
 
 -- ---- names, and bytes behind them
 
-ends-split : (names bytes : List Change) → are_names names ≡ true → begins_with_bytes bytes ≡ true → ends_in_bytes (names ++ bytes) ≡ are_final_bytes 0 None bytes
+pub ends-split : (names bytes : List Change) → are_names names ≡ true → begins_with_bytes bytes ≡ true → ends_in_bytes (names ++ bytes) ≡ are_final_bytes 0 None bytes
 ends-split [] [] are begins = refl
 ends-split [] (c ∷ cs) are begins = rw begins refl
 ends-split (c ∷ cs) bytes are begins =
@@ -179,3 +179,14 @@ pub not-recorded : (cs names bytes : List Change) → names ++ bytes ≡ cs → 
 not-recorded cs names bytes whole are begins none = subst (λ cs. are_recorded_changes cs ≡ false) whole
     (let ends = ends-split names bytes are begins ∙ none in
     rw ends (rw (and_right (has_changes (names ++ bytes)) false refl) refl))
+
+-- of changes as transactions record them, all behind the names are of bytes
+pub all-bytes : (cs names bytes : List Change) → names ++ bytes ≡ cs → are_names names ≡ true → begins_with_bytes bytes ≡ true → are_recorded_changes cs ≡ true → list_all changes_bytes bytes ≡ true
+all-bytes cs names bytes whole are begins recorded =
+    let ends = and_parts (has_changes cs && ends_in_bytes cs) (list_all (gives_bytes cs) (made_files cs)) recorded in
+    let final = sym (ends-split names bytes are begins) ∙ ap ends_in_bytes whole ∙ (and_parts (has_changes cs) (ends_in_bytes cs) ends.0).1 in
+    go bytes 0 (from-final bytes final)
+  where
+    go : (bs : List Change) (n : ℕ) → AreBytesFrom n bs → list_all changes_bytes bs ≡ true
+    go [] n are = refl
+    go (b ∷ bs) n are = and_from _ _ are.0 (go bs (node_of b) are.2)

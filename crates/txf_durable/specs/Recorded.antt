@@ -2,7 +2,9 @@
 use Rattle.std.specs.Prelude.{◌≡◌, ℕ, ◌≤◌, ◌==◌, not, Bool, true, false, List, [], ◌∷◌, nat_le, if◌then◌else◌}
 use Rattle.std.specs.List.{list_all}
 use Rattle.ktm_types.specs.declared.change.Change.{Change}
-use Rattle.ktm_world.specs.Changes.{changes_bytes, node_of}
+use Rattle.ktm_types.specs.declared.change.Change.TheVariants.{Put}
+use Rattle.ktm_world.specs.Changes.{bytes_in, changes_bytes, node_of}
+use Rattle.ktm_world.specs.Tree.{units_of}
 
 -- does no change put or cut bytes
 abbrev pub are_names : List Change → Bool
@@ -12,6 +14,11 @@ are_names changes = list_all (λ change. not (changes_bytes change)) changes
 abbrev pub begins_with_bytes : List Change → Bool
 begins_with_bytes [] = true
 begins_with_bytes (change ∷ changes) = changes_bytes change
+
+-- the units of the bytes that a change puts
+abbrev pub units_put : Change → ℕ
+units_put (Put node offset contents) = units_of (bytes_in contents)
+units_put _ = 0
 
 -- the changes are bytes of files from this one on, whose numbers never fall
 abbrev pub AreBytesFrom : ℕ → List Change → Type 0

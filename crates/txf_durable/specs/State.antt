@@ -2,7 +2,7 @@
 use Rattle.std.specs.Prelude.{◌≡◌, ℕ, ◌+◌, ◌<◌, ◌≤◌, ◌^◌, true, List, [], ◌∷◌, sum_by}
 use Rattle.ktm_types.specs.declared.change.Change.{Change}
 use Rattle.ktm_world.specs.Changes.{changed}
-use Rattle.ktm_world.specs.Tree.{Tree, bytes_or_none, units_of}
+use Rattle.ktm_world.specs.Tree.{Tree, IsWellFormed, bytes_or_none, units_of}
 use Rattle.txf_tree.specs.TreeState.{TreeState, fits, takes, tree_of, versions_of, KeepsRoom}
 
 -- the committed files and directories as they stand in memory, and the number of the next node
@@ -18,6 +18,11 @@ tree_units tree = sum_by (λ node. units_of (bytes_or_none node.content)) tree
 pub record IsCounted (t : TreeState) (many : ℕ) : Type 0 where
   pub versions : versions_of t ≡ []
   pub units : many ≡ tree_units (tree_of t)
+
+-- the files are well formed, and counted
+pub record AreSound (t : TreeState) (many : ℕ) : Type 0 where
+  pub counted : IsCounted t many
+  pub formed : IsWellFormed (tree_of t)
 
 -- the memory is there that a change takes, and the files have few enough units
 pub record CanMake (t : TreeState) (change : Change) : Type 0 where

@@ -1,16 +1,19 @@
 // The committed files while a log is read.
 ghost use Rattle.std.specs.Prelude.{◌≡◌, ◌+◌, ◌&&◌, ◌<◌, ◌≤◌, ◌^◌, [], ◌∷◌, true, length, sum_by, Ok, IfOk, IsOk};
 ghost use Rattle.std.specs.List.{list_all};
-ghost use Rattle.ktm_world.specs.Changes.{applies, changes_apply, changed, changed_all, next_after};
-ghost use Rattle.ktm_world.specs.Durable.{is_new_in, next_after_all};
+ghost use Rattle.ktm_world.specs.Changes.{applies, changes_apply, changes_bytes, changed, changed_all, next_after};
+ghost use Rattle.ktm_world.specs.Durable.{are_recorded_changes, is_new_in, next_after_all};
 ghost use Rattle.ktm_world.specs.Tree.{bytes_of, bytes_or_none, units_of};
 ghost use Rattle.txf_tree.specs.TreeState.{fits, tree_of, versions_of, KeepsRooms};
 ghost use Rattle.txf_durable.specs.State.{CanMake, CanMakeAll, IsCounted, IsMade};
 
+use crate::recorded::split_at_bytes;
+use crate::tried::{next_after_all, would_apply};
 use ktm_base::{NoMemory, UNIT_BYTES};
 use ktm_types::Change;
 use std::alloc::Global;
 use std::marker::Model;
+use txf_laws::law_of_forms;
 use txf_tree::{Tree, is_make, next_after, node_of};
 
 /// How many units there may be before a change, which adds no more than 2^52.
@@ -35,9 +38,9 @@ impl Model for DurableFiles {
 
     ghost view = { λ f. record { tree = f.tree; next_node = f.next_node } };
 
-    ghost use Rattle.txf_durable.specs.State.{IsCounted};
+    ghost use Rattle.txf_durable.specs.State.{AreSound};
 
-    ghost invariant = { λ f. IsCounted f.tree f.units };
+    ghost invariant = { λ f. AreSound f.tree f.units };
 }
 
 /// What a log came to.
@@ -179,6 +182,27 @@ impl DurableFiles {
         self.make(change)
     }
 
+    /// Would changes apply in order that have the form in which a transaction records them, and does none of them make a node that
+    /// is there. None is made. It takes memory only where some of them make, move or drop a node.
+    pub fn would_apply(&self, alloc: Global, changes: &[Change]) -> Result<bool, NoMemory>
+        requires { are_recorded_changes changes.now ≡ true }
+        ensures applies { IfOk result (λ all. all ≡ (changes_apply (tree_of self.now.tree) changes.now && list_all (is_new_in (tree_of self.now.tree)) changes.now)) }
+        ensures enough { list_all changes_bytes changes.now ≡ true → IsOk result }
+    {
+        let (names, bytes) = split_at_bytes(changes);
+        let apply = would_apply(alloc, &self.tree, names, bytes)?;
+        Ok(apply && self.are_new(changes))
+    }
+
+    /// The nodes that these changes make have their numbers from now on: the next node comes behind them.
+    pub fn give_numbers(&mut self, changes: &[Change])
+        requires { changes_apply (tree_of self.old.tree) changes.now ≡ true }
+        ensures tree { self.new.tree ≡ self.old.tree }
+        ensures next_node { self.new.next_node ≡ next_after_all self.old.next_node changes.now }
+    {
+        self.next_node = next_after_all(self.next_node, changes);
+    }
+
     /// Hands out what the log came to. The bytes of no file were changed since.
     pub fn into_parts(self) -> FilesRead
         ensures tree { tree_of result.tree ≡ tree_of self.tree }
@@ -219,6 +243,7 @@ impl DurableFiles {
     {
         let prepared = prepare(&mut self.tree, self.units, &change);
         if let Ok(true) = prepared {
+            law_of_forms();
             self.next_node = next_after(self.next_node, &change);
             self.units = restore(&mut self.tree, self.units, change);
         }

@@ -6,9 +6,10 @@ mod counts;
 mod files;
 mod numbers;
 mod recorded;
+mod tried;
 mod written;
 
-pub use counts::{name_changes, nodes_made};
+pub use counts::{name_changes, nodes_made, units_given};
 pub use files::{DurableFiles, FilesRead};
 pub use numbers::FileNumbers;
 pub use recorded::are_recorded_changes;

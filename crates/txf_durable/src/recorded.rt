@@ -19,7 +19,7 @@ fn first_bytes(changes: &[Change]) -> Option<usize>
 }
 
 // The changes of names that come first, and the rest, which begins with bytes.
-fn split_at_bytes(changes: &[Change]) -> (&[Change], &[Change])
+pub(crate) fn split_at_bytes(changes: &[Change]) -> (&[Change], &[Change])
     ensures whole { result.0.now ++ result.1.now ≡ changes.now }
     ensures names { are_names result.0.now ≡ true }
     ensures bytes { begins_with_bytes result.1.now ≡ true }

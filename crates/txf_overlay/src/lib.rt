@@ -2,6 +2,7 @@
 //! names and bytes over the committed tree.
 #![tactic(auto)]
 
+mod applies;
 mod files;
 mod laws;
 mod listing;

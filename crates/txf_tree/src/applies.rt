@@ -13,13 +13,15 @@ use ktm_names::ROOT;
 use ktm_types::Change;
 use ktm_world::law_of_paths;
 
-fn is_node_number(number: u64) -> bool
+/// May a new node have this number.
+pub fn is_node_number(number: u64) -> bool
     ensures { result ≡ is_node_number number }
 {
     (2..1 << 63).contains(&number)
 }
 
-fn is_name(name: &[u8]) -> bool
+/// May a node have this name.
+pub fn is_name(name: &[u8]) -> bool
     ensures { result ≡ is_name name.now }
 {
     law_of_paths();

@@ -68,7 +68,8 @@ pub fn bytes_in(contents: &Contents) -> &[u8]
     }
 }
 
-pub(crate) fn is_whole(contents: &Contents) -> bool
+/// Do the contents stand as bytes, and not as pages.
+pub fn is_whole(contents: &Contents) -> bool
     ensures { result ≡ is_whole contents.now }
 {
     match contents {

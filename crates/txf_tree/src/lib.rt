@@ -14,7 +14,8 @@ mod nodes;
 mod stored;
 mod tree;
 
-pub use change::{bytes_in, changes_bytes, is_drop, is_make, next_after, node_of};
+pub use applies::{is_name, is_node_number};
+pub use change::{bytes_in, changes_bytes, is_drop, is_make, is_whole, next_after, node_of};
 pub use children::Children;
 pub use entry::{Entries, Entry, NodeRef};
 pub use listed::listed_names;

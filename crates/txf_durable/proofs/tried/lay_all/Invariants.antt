@@ -1,0 +1,16 @@
+use Rattle.std.proofs.Common.{◌≡◌, ◌+◌, ◌≤◌, true, length, take, drop}
+use Rattle.ktm_world.specs.Changes.{changes_apply}
+use Rattle.txf_durable.specs.Recorded.{are_names}
+use Rattle.txf_overlay.specs.OverlayState.{seen}
+use Rattle.txf_overlay.specs.Views.{StandsOver}
+use Rattle.txf_tree.specs.TreeState.{tree_of}
+use Rattle.txf_durable.proofs.tried.lay_all.Given as goal
+
+abbrev pub invariant-loop-change : goal.invariant-loop-change
+invariant-loop-change l = record {
+  stands : StandsOver (tree_of l.tree) l.overlay;
+  names : l.overlay.names ≡ take l.change-index l.names;
+  apply : changes_apply (seen (tree_of l.tree) l.overlay) (drop l.change-index l.names) ≡ changes_apply (tree_of l.tree) l.names;
+  are : are_names (drop l.change-index l.names) ≡ true;
+  spare : length l.names ≤ l.overlay.spare + l.change-index;
+}
