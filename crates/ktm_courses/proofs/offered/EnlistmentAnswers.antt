@@ -276,11 +276,11 @@ undecided-rolls t = go t.phase
 
 -- ---- one enlistment answers
 
-module _ (boot : ℕ) (before_it : Course) (e : Enlistment) (stands : Stands boot (by before_it e)) (brought : (e : Enlistment) → IsIn e before_it.enlistments → is_unrecovered_well boot before_it.managers e ≡ true)
-    (rise : RiseEnlistments before_it.enlistments) (there : IsIn e before_it.enlistments) (own : same_id e.transaction (before_it.transaction).id ≡ true) where
+module _ (boot : ℕ) (begun : Course) (e : Enlistment) (stands : Stands boot (by begun e)) (brought : (e : Enlistment) → IsIn e begun.enlistments → is_unrecovered_well boot begun.managers e ≡ true)
+    (rise : RiseEnlistments begun.enlistments) (there : IsIn e begun.enlistments) (own : same_id e.transaction (begun.transaction).id ≡ true) where
   -- the course where it makes the call
   abbrev c : Course
-  c = by before_it e
+  c = by begun e
 
   it : (x : Enlistment) → IsIn x c.enlistments → has_id e.id x ≡ true → x ≡ e
   it x there' is = same-by_id (λ (f : Enlistment). f.id) c.enlistments rise x e there' there (same_id-equal x.id e.id is)
