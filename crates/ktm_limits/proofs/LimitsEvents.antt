@@ -56,7 +56,6 @@ use Rattle.ktm_states.proofs.offered.Limits.{Less-filter, limits-less}
 use Rattle.ktm_limits.proofs.LimitsBegun.{holds-arrived, holds-answering, commit-events, commit_complete-events, commit_transaction-events, pre_prepare-events, pre_prepare_complete-events, prepare-events, prepare_complete-events, read_only-events}
 use Rattle.ktm_limits.proofs.LimitsCalls.{Stays, stays-create_manager}
 use Rattle.ktm_limits.proofs.LimitsFiles.{stays-answers, stays-create_directory, stays-create_file, stays-create_own, stays-delete, stays-move, stays-on_file, stays-remove, stays-set_end, stays-write}
-use Rattle.ktm_courses.proofs.offered.Moves.{if_cases}
 use Rattle.ktm_records.proofs.offered.NoMore.{Fits, fits-within}
 use Rattle.ktm_owned.proofs.offered.OwnCalls.{caller-may}
 use Rattle.ktm_courses.proofs.offered.Endings.{waiting-parts}
@@ -66,6 +65,7 @@ use Rattle.txf_laws.proofs.offered.Tables.{Rises}
 use Rattle.ktm_records.proofs.offered.AgreementOfRollbacks.{is_undo, undoes-aborted, undoes-closing, undoes-led}
 use Rattle.ktm_records.proofs.offered.Stages.{early-pre_prepare, early-prepare, early-voting, voting-stage, waiting-held, waiting-recorded}
 use Rattle.ktm_courses.proofs.offered.HandlesAndTime.{close_handle-so, exit-so, tick-so}
+use Rattle.ktm_steps.proofs.offered.Ways.{if_cases}
 
 -- ---- what only undoes
 

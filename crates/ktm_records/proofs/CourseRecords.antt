@@ -19,7 +19,7 @@ use Rattle.ktm_world.specs.Phases.{enlistment_part, event_if, has_settings, is_s
 use Rattle.ktm_world.specs.Rows.{all_readies, commit_completes, commits, is_last, participants, prepare_completes, proceeds_without, read_onlies, without}
 use Rattle.ktm_world.specs.Steps.{Basis, events_ahead, events_of, held_event, is_recorded_by}
 use Rattle.ktm_world.specs.Transactions.{same_id}
-use Rattle.ktm_steps.proofs.offered.Ways.{Ways, choose, proceeds-by}
+use Rattle.ktm_steps.proofs.offered.Ways.{Ways, proceeds-by, if_cases}
 use Rattle.ktm_records.specs.Kept.{facts_apply}
 use Rattle.ktm_records.proofs.Facts.{MayDecide, awaits, decision-applies, facts-append, facts-if, facts-one}
 use Rattle.ktm_records.proofs.AddedParts.{pushed-awaits, pushed-changes, pushed-known, pushed-may, pushed-new, pushed-part, pushed-settings, pushed-still}
@@ -136,7 +136,7 @@ known-found (a ∷ ts) id some = elim (cases_Bool (same_id a.id id)) [
 pub apply-all_readies : (s : Durable) (b : Basis) (seen : Seen) → MayReady s b false false → Apply s (all_readies seen) b
 apply-all_readies s b seen can =
     facts-append (events_of Fact.ReadyFiles b) (events_of Fact.ReadyKeys b ++ _) s files.0 (facts-append (events_of Fact.ReadyKeys b) _ s_files keys.0
-    (choose (λ steps. Apply s_keys steps b_keys) seen.has_superior _ _ (λ above. holds b.superior refl) (λ top. choose (λ steps. Apply s_keys steps b_keys) (participants seen == 0) _ commits (λ none. refl) (λ some. apply-commits s_keys b_keys decides))))
+    (if_cases (λ steps. Apply s_keys steps b_keys) seen.has_superior _ _ (λ above. holds b.superior refl) (λ top. if_cases (λ steps. Apply s_keys steps b_keys) (participants seen == 0) _ commits (λ none. refl) (λ some. apply-commits s_keys b_keys decides))))
   where
     files : (facts_apply s (events_of Fact.ReadyFiles b) ≡ true) × MayReady (after_events s (events_of Fact.ReadyFiles b)) (record b { is_recorded = is_recorded_by Fact.ReadyFiles b }) true false
     files = ready-files s b can
@@ -203,7 +203,7 @@ apply-prepare_completes s basis seen e can new below = go (is_durable_at basis.m
     b = record basis { caller = Some e }
 
     next : (s' : Durable) (recorded : Bool) → MayReady s' (record b { is_recorded = recorded }) false false → Apply s' (if is_last seen then all_readies seen else []) (record b { is_recorded = recorded })
-    next s' recorded can' = choose (λ steps. Apply s' steps (record b { is_recorded = recorded })) (is_last seen) (all_readies seen) [] (λ last. apply-all_readies s' (record b { is_recorded = recorded }) seen can') (λ waits. refl)
+    next s' recorded can' = if_cases (λ steps. Apply s' steps (record b { is_recorded = recorded })) (is_last seen) (all_readies seen) [] (λ last. apply-all_readies s' (record b { is_recorded = recorded }) seen can') (λ waits. refl)
 
     go : (durable : Bool) → is_durable_at basis.managers e.manager ≡ durable
         → facts_apply s (event_if durable (Event.Ready b.id (enlistment_part e)) ++ events_ahead (if is_last seen then all_readies seen else []) (record b { is_recorded = durable || b.is_recorded })) ≡ true
@@ -215,7 +215,7 @@ apply-prepare_completes s basis seen e can new below = go (is_durable_at basis.m
 
 pub apply-read_onlies : (s : Durable) (b : Basis) (seen : Seen) (share : Share) → seen.has_files ≡ has_changes b.changes → seen.has_keys ≡ has_settings b.settings → MayReady s b false false → (seen.phase ≡ Phase.PrePreparing → b.is_recorded ≡ false)
     → Apply s (read_onlies seen share) b
-apply-read_onlies s b seen share has_files has_keys can other = choose (λ steps. Apply s steps b) (share.owes && is_last seen) (proceeds_without seen.phase (without share seen)) [] (λ last. goes_on seen.phase refl) (λ waits. refl)
+apply-read_onlies s b seen share has_files has_keys can other = if_cases (λ steps. Apply s steps b) (share.owes && is_last seen) (proceeds_without seen.phase (without share seen)) [] (λ last. goes_on seen.phase refl) (λ waits. refl)
   where
     goes_on : (phase : Phase) → seen.phase ≡ phase → Apply s (proceeds_without phase (without share seen)) b
     goes_on Phase.PrePreparing is = proceeds-by (λ steps. Apply s steps b) (without share seen) (apply-ways s b (without share seen) has_files has_keys can (other is))
@@ -225,5 +225,5 @@ apply-read_onlies s b seen share has_files has_keys can other = choose (λ steps
 
 pub apply-commit_completes : (s : Durable) (basis : Basis) (phase : Phase) (e : Enlistment) → (is_single_phase phase ≡ false → is_durable_at basis.managers e.manager ≡ true → fact_applies s (Event.Done basis.id (DonePart.Enlistment e.id)) ≡ true)
     → Apply s (commit_completes phase) (record basis { caller = Some e })
-apply-commit_completes s basis phase e applies = choose (λ steps. Apply s steps (record basis { caller = Some e })) (is_single_phase phase) _ _ (λ single. refl)
+apply-commit_completes s basis phase e applies = if_cases (λ steps. Apply s steps (record basis { caller = Some e })) (is_single_phase phase) _ _ (λ single. refl)
     (λ several. ap (facts_apply s) (append-nil (event_if (is_durable_at basis.managers e.manager) (Event.Done basis.id (DonePart.Enlistment e.id)))) ∙ facts-if s (is_durable_at basis.managers e.manager) (Event.Done basis.id (DonePart.Enlistment e.id)) (applies several))

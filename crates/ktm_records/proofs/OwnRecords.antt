@@ -45,11 +45,11 @@ use Rattle.ktm_world.specs.Uses.{file_room}
 use Rattle.ktm_world.specs.World.{decide_tick}
 use Rattle.ktm_courses.proofs.offered.Calls.{Passes, passed, of-answering}
 use Rattle.ktm_records.proofs.offered.AgreementOfCourses.{arrival}
-use Rattle.ktm_courses.proofs.offered.Moves.{if_cases}
 use Rattle.ktm_records.proofs.OwnEvents.{IsOwnEvent, IsSpelledPut, few-led, own-led}
 use Rattle.ktm_records.proofs.OwnTexts.{Texts, texts-with_own, texts-without_own}
 use Rattle.ktm_records.proofs.offered.AgreementOfRollbacks.{is_undo, undoes-aborted, undoes-closing}
 use Rattle.ktm_courses.proofs.offered.HandlesAndTime.{Closes, close_handle-so, exit-so, tick-so}
+use Rattle.ktm_steps.proofs.offered.Ways.{if_cases}
 
 -- ---- texts
 

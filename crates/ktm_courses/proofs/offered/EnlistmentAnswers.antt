@@ -20,7 +20,7 @@ use Rattle.ktm_courses.specs.SoundCourse.{is_last_recover, is_phase_back, is_unr
 use Rattle.txf_laws.proofs.offered.Diamonds.{none-from}
 use Rattle.txf_laws.proofs.offered.Lists.{IsIn-unmap}
 use Rattle.txf_laws.proofs.offered.Elements.{list_any-at, list_any-from, list_all-at}
-use Rattle.ktm_courses.proofs.offered.Moves.{same-by_id, if_parts, moved-changing, unrecovered-moved, if_cases, IsIn-map, IsSame, IsSame-refl, IsAlike, Moved, Moved-then, moved-transaction, moved-telling, Changes, stepped, with-unchanged, is_bystander, Stand, Stand-with, Stand-as, moved-still}
+use Rattle.ktm_courses.proofs.offered.Moves.{same-by_id, if_parts, moved-changing, unrecovered-moved, IsIn-map, IsSame, IsSame-refl, IsAlike, Moved, Moved-then, moved-transaction, moved-telling, Changes, stepped, with-unchanged, is_bystander, Stand, Stand-with, Stand-as, moved-still}
 use Rattle.ktm_courses.proofs.offered.Endings.{is_backed-from, waiting-parts, over-part, arrives-if_finished, may_be_told, arrives-aborting, none-at, list_any-told, list_any-with, filter-with, superior-with, idle-parts, part-parts, unprepared-recovered, Arrives, Stands, arrives-then, alike-owing, Stand-nobody, only-one, arrives-ended, arrives-all_ready}
 use Rattle.ktm_world.specs.Durable.{is_before}
 use Rattle.ktm_world.specs.Steps.{led, answered, run, seen, share_of}
@@ -29,7 +29,6 @@ use Rattle.txf_laws.proofs.offered.Tables.{same_id-equal, same_id-from, before_o
 use Rattle.ktm_courses.proofs.offered.CommitsBegun.{Fresh, arrives-pre_prepared}
 use Rattle.ktm_steps.specs.Laws.{IsPart, by, someone_owes, when_none_owes}
 use Rattle.ktm_steps.proofs.offered.Table.{rows_law}
-use Rattle.ktm_steps.proofs.offered.Ways.{choose}
 use Rattle.ktm_world.specs.Rows.{all_readies, proceeds, proceeds_without, row, tells_in}
 use Rattle.ktm_types.specs.declared.step.Answered.{Answered}
 use Rattle.ktm_types.specs.declared.step.Fact.{Fact}
@@ -37,6 +36,7 @@ use Rattle.ktm_types.specs.declared.step.Step.{Step}
 use Rattle.ktm_types.specs.declared.step.Step.TheVariants.{Record}
 use Rattle.ktm_base.specs.declared.id.Id.{Id}
 use Rattle.std.specs.List.{list_any, list_all}
+use Rattle.ktm_steps.proofs.offered.Ways.{if_cases}
 
 -- ---- enlistments by their Ids
 
@@ -721,7 +721,7 @@ module _ (boot : ℕ) (begun : Course) (e : Enlistment) (stands : Stands boot (b
 
     pub arrives-commit_complete : Arrives boot c (led PhaseInput.CommitComplete c)
     unfolding led
-    arrives-commit_complete = choose (λ steps. Arrives boot c (run steps c_finished)) (is_single_phase (c.transaction).phase) _ _
+    arrives-commit_complete = if_cases (λ steps. Arrives boot c (run steps c_finished)) (is_single_phase (c.transaction).phase) _ _
         (λ single. elim (is-committing (c.transaction).phase (phase-owing Owed.Commit is_commit)) [
           | inl phase ↦ absurd (true≢false (sym single ∙ ap is_single_phase phase))
           | inr phase ↦ arrives-then boot (finished-moved Owed.Commit is_commit) (arrives-ended boot c_finished TransactionOutcome.Committed refl (is_backed-from boot c.transaction stands.boots)

@@ -25,13 +25,13 @@ use Rattle.ktm_records.proofs.offered.Agreement.{Agreed}
 use Rattle.ktm_courses.proofs.offered.EnlistmentAnswers.{can_roll_back}
 use Rattle.ktm_courses.proofs.offered.Calls.{rolled_back}
 use Rattle.ktm_records.proofs.offered.AgreementOfCourses.{Follows, Was, agreed-arrived, begun, carried-itself, follows-from, none-in, none-unrecorded, placed-at, was, arrival}
-use Rattle.ktm_courses.proofs.offered.Moves.{if_cases}
 use Rattle.ktm_records.proofs.LoggedTransaction.{tracks-undone}
 use Rattle.ktm_courses.proofs.offered.HandlesAndTime.{Closes}
 use Rattle.std.proofs.lemmas.List.Folds.{list_all-append}
 use Rattle.std.proofs.lemmas.Bool.{and_from}
 use Rattle.std.specs.Prelude.{⊤}
 use Rattle.ktm_types.specs.declared.reply.Reply.TheVariants.{Done}
+use Rattle.ktm_steps.proofs.offered.Ways.{if_cases}
 
 -- a course that has rolled back: undone where the log had it, with nothing committed, in a phase that the log knows nothing of
 pub record HasUndone (c d : Course) : Type 0 where
