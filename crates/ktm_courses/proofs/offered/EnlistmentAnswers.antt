@@ -35,21 +35,13 @@ use Rattle.ktm_types.specs.declared.step.Fact.{Fact}
 use Rattle.ktm_types.specs.declared.step.Step.{Step}
 use Rattle.ktm_types.specs.declared.step.Step.TheVariants.{Record}
 use Rattle.ktm_base.specs.declared.id.Id.{Id}
-use Rattle.std.specs.List.{list_any, list_all}
+use Rattle.std.specs.List.{list_all}
 use Rattle.ktm_steps.proofs.offered.Ways.{if_cases}
 
 -- ---- enlistments by their Ids
 
 abbrev pub RiseEnlistments : List Enlistment → Type 0
 RiseEnlistments es = each_pair (λ (e f : Enlistment). is_before e.id f.id) es ≡ true
-
--- the enlistment, with those before it and those after it, of which none has its Id
-record Between (e : Enlistment) (es : List Enlistment) : Type 0 where
-  before : List Enlistment
-  after : List Enlistment
-  is : es ≡ before ++ (e ∷ after)
-  none_before : list_any (has_id e.id) before ≡ false
-  none_after : list_any (has_id e.id) after ≡ false
 
 -- an Id before another is another
 earlier : (a b : Id) → is_before a b ≡ true → same_id a b ≡ false
@@ -58,9 +50,10 @@ earlier a b before = false_from_ne_true _ (λ same. before_other a b before (sam
 later : (a b : Id) → is_before a b ≡ true → same_id b a ≡ false
 later a b before = false_from_ne_true _ (λ same. before_other a b before (sym (same_id-equal b a same)))
 
-between : (e : Enlistment) (es : List Enlistment) → RiseEnlistments es → IsIn e es → Between e es
-between e [] rise there = absurd there
-between e (f ∷ fs) rise (inl same) =
+-- one that takes part is the only one with its Id
+is-part-of : (c : Course) (e : Enlistment) (es : List Enlistment) → RiseEnlistments es → IsIn e es → takes_part (c.transaction).id e ≡ true → IsPart (record c { enlistments = es }) e
+is-part-of c e [] rise there part = absurd there
+is-part-of c e (f ∷ fs) rise (inl same) part =
     let first : list_all (λ (g : Enlistment). is_before f.id g.id) fs ≡ true = (and_parts (list_all (λ (g : Enlistment). is_before f.id g.id) fs) (each_pair (λ (a b : Enlistment). is_before a.id b.id) fs) rise).0 in
     record {
       before = [];
@@ -68,23 +61,22 @@ between e (f ∷ fs) rise (inl same) =
       is = ap (λ g. g ∷ fs) same;
       none_before = refl;
       none_after = none-from (has_id e.id) fs (λ g there. later e.id g.id (subst (λ (x : Enlistment). is_before x.id g.id ≡ true) same (list_all-at (λ (g : Enlistment). is_before f.id g.id) fs first g there)));
+      part = part;
     }
-between e (f ∷ fs) rise (inr there) =
+is-part-of c e (f ∷ fs) rise (inr there) part =
     let both = and_parts (list_all (λ (g : Enlistment). is_before f.id g.id) fs) (each_pair (λ (a b : Enlistment). is_before a.id b.id) fs) rise in
-    let rest = between e fs both.1 there in
+    let rest = is-part-of c e fs both.1 there part in
     record {
       before = f ∷ rest.before;
       after = rest.after;
       is = ap (λ gs. f ∷ gs) rest.is;
       none_before = rw (earlier f.id e.id (list_all-at (λ (g : Enlistment). is_before f.id g.id) fs both.0 e there)) rest.none_before;
       none_after = rest.none_after;
+      part = part;
     }
 
--- one that takes part is the only one with its Id
-pub is-part : (c : Course) (e : Enlistment) → RiseEnlistments c.enlistments → IsIn e c.enlistments → takes_part c.transaction.id e ≡ true → IsPart c e
-is-part c e rise there part =
-    let at = between e c.enlistments rise there in
-    record { before = at.before; after = at.after; is = at.is; none_before = at.none_before; none_after = at.none_after; part = part }
+pub is-part : (c : Course) (e : Enlistment) → RiseEnlistments c.enlistments → IsIn e c.enlistments → takes_part (c.transaction).id e ≡ true → IsPart c e
+is-part c e rise there part = is-part-of c e c.enlistments rise there part
 
 -- ---- what is owed
 
