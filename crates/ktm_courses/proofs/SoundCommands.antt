@@ -24,13 +24,13 @@ use Rattle.ktm_courses.specs.SoundCourse.{IsSoundCourse}
 use Rattle.ktm_courses.specs.SoundCourses.{CoursesLaw}
 use Rattle.ktm_courses.specs.Outcomes.{OutcomesLaw}
 use Rattle.ktm_courses.proofs.offered.Outcomes.{stay-refl}
-use Rattle.ktm_courses.proofs.offered.Moves.{if_cases}
 use Rattle.ktm_courses.proofs.offered.Views.{sound-alike}
 use Rattle.ktm_courses.proofs.offered.OutcomesMade.{IsSoundOutcome, sound-only_reply, Keeps, keeps-from}
 use Rattle.ktm_courses.proofs.offered.Calls.{Answers, sound-answering, Passes, passed, transaction-named, manager-named, enlistment-named, sound-commit_of, sound-rollback_of, goes-pre_prepare_complete, goes-prepare_complete, goes-read_only, goes-commit_complete, goes-rollback_complete, goes-single_phase_reject, goes-rollback_enlistment, goes-pre_prepare_enlistment, goes-prepare_enlistment, goes-commit_enlistment, goes-recover_enlistment, sound-recover_all, sound-take_first}
 use Rattle.ktm_courses.proofs.offered.Bindings.{sound-create_transaction, sound-open_transaction, sound-create_manager, sound-open_manager, sound-create_enlistment, sound-open_enlistment, sound-duplicate, sound-keep_information, sound-close_handle, sound-exit, sound-tick}
 use Rattle.ktm_courses.proofs.offered.SoundRestarts.{sound-opened}
 use Rattle.ktm_courses.proofs.offered.FileSteps.{plain-caller, caller-active, passes-left, sound-of_files, sound-opening, sound-on_file, sound-of_keys, sound-with_setting}
+use Rattle.ktm_steps.proofs.offered.Ways.{if_cases}
 
 module _ (x : Present) (sound : IsSoundCourse x) where
   -- an outcome of this machine

@@ -56,12 +56,13 @@ use Rattle.ktm_owned.proofs.offered.CoursesKept.{IsCourse, led-is}
 use Rattle.txf_laws.proofs.offered.Diamonds.{IsIn-map}
 use Rattle.txf_laws.proofs.offered.Elements.{IsIn-filter, list_all-at}
 use Rattle.txf_laws.proofs.offered.Lists.{IsIn-left, IsIn-cases, IsIn-unmap}
-use Rattle.ktm_courses.proofs.offered.Moves.{if_cases, same-by_id, NoBoots}
+use Rattle.ktm_courses.proofs.offered.Moves.{same-by_id, NoBoots}
 use Rattle.ktm_courses.proofs.offered.Outcomes.{changed-itself}
 use Rattle.ktm_laws.proofs.Sayings.{Only, Says, naming, naming-with, says-led}
 use Rattle.txf_laws.proofs.offered.Tables.{same_id-equal, same_id-from}
 use Rattle.ktm_courses.proofs.offered.OutcomesMade.{events-kept}
 use Rattle.ktm_courses.proofs.offered.HandlesAndTime.{Closes, close_handle-so, exit-so, tick-so}
+use Rattle.ktm_steps.proofs.offered.Ways.{if_cases}
 
 -- ---- what an outcome leaves
 

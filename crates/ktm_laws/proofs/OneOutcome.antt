@@ -54,10 +54,11 @@ use Rattle.ktm_laws.proofs.offered.PossibleLogs.{contains-passes, left-with, lef
 use Rattle.ktm_laws.proofs.Notes.{IsHonest, known, honest-decided, honest-ticked}
 use Rattle.txf_laws.proofs.offered.Lists.{IsIn-unmap}
 use Rattle.ktm_courses.proofs.offered.NewObjects.{counted-parts}
-use Rattle.ktm_courses.proofs.offered.Moves.{if_cases, same-by_id}
+use Rattle.ktm_courses.proofs.offered.Moves.{same-by_id}
 use Rattle.ktm_laws.proofs.Replies.{HasOutcome, named_id, enlisted_in, is_note, Replies, decided-replies}
 use Rattle.ktm_courses.proofs.offered.SoundRestarts.{booted}
 use Rattle.txf_laws.proofs.offered.Tables.{same_id-equal, same_id-from, recorded_at-found}
+use Rattle.ktm_steps.proofs.offered.Ways.{if_cases}
 
 -- ---- what a durable state says of an outcome that was told
 

@@ -61,10 +61,11 @@ use Rattle.ktm_courses.proofs.offered.Calls.{Passes, passed, transaction_at-foun
 use Rattle.txf_laws.proofs.offered.Elements.{find-in, list_all-at}
 use Rattle.ktm_laws.proofs.Notes.{}
 use Rattle.ktm_courses.proofs.offered.NewObjects.{counted-parts}
-use Rattle.ktm_courses.proofs.offered.Moves.{if_cases, same-by_id}
+use Rattle.ktm_courses.proofs.offered.Moves.{same-by_id}
 use Rattle.ktm_courses.proofs.offered.Outcomes.{changed-itself}
 use Rattle.txf_laws.proofs.offered.Tables.{same_id-from}
 use Rattle.ktm_courses.proofs.offered.HandlesAndTime.{Closes, close_handle-so, exit-so}
+use Rattle.ktm_steps.proofs.offered.Ways.{if_cases}
 
 -- ---- what is told of a transaction
 

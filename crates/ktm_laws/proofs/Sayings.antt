@@ -19,7 +19,7 @@ use Rattle.ktm_steps.specs.Outcomes.{IsTrue}
 use Rattle.ktm_steps.proofs.offered.Fading.{fades-run}
 use Rattle.ktm_steps.proofs.offered.Outcomes.{outcome_law}
 use Rattle.ktm_steps.proofs.offered.Recorded.{bare-facts, is_bare, passes-led}
-use Rattle.ktm_steps.proofs.offered.Staying.{either-course, stays-led, stays-step, led-keeps}
+use Rattle.ktm_steps.proofs.offered.Staying.{stays-led, stays-step, led-keeps}
 use Rattle.txf_laws.specs.Contents.{puts_some}
 use Rattle.txf_laws.specs.Elements.{IsIn}
 use Rattle.txf_laws.proofs.offered.Diamonds.{IsIn-map}
@@ -28,9 +28,9 @@ use Rattle.txf_laws.proofs.offered.Lists.{IsIn-cases, IsIn-unmap}
 use Rattle.txf_laws.proofs.offered.Tables.{same_id-equal}
 use Rattle.ktm_states.specs.Grammatical.{changes_of_event}
 use Rattle.ktm_courses.specs.SoundCourse.{is_outcome_of}
-use Rattle.ktm_courses.proofs.offered.Moves.{if_cases}
 use Rattle.ktm_courses.proofs.offered.Outcomes.{known-in}
 use Rattle.ktm_types.specs.declared.event.Part.{Part}
+use Rattle.ktm_steps.proofs.offered.Ways.{if_cases}
 
 -- ---- names, and what is put
 
@@ -139,7 +139,7 @@ module _ (names : List (Id × Id)) (own : Id) (caller : Option Enlistment) where
   about-step only (Step.Change answer) c tells = about-changing c c.caller _ tells
   about-step only (Step.End outcome) c tells = about-ended c outcome tells
   about-step only (Step.EndWhereFinished outcome) c tells =
-      either-course (λ d. (s : Sent) → IsIn s d.sent → (a : Id) × (s.note.enlistment ≡ Some a) × IsIn (a, own) names) (list_any (is_unfinished c.transaction.id) c.enlistments) c (ended c outcome) tells.about (about-ended c outcome tells)
+      if_cases (λ d. (s : Sent) → IsIn s d.sent → (a : Id) × (s.note.enlistment ≡ Some a) × IsIn (a, own) names) (list_any (is_unfinished c.transaction.id) c.enlistments) c (ended c outcome) (λ some. tells.about) (λ none. about-ended c outcome tells)
   about-step only _ c tells = tells.about
 
   tells-step : Only → (step : Step) (c : Course) → Tells c → Tells (carried step c)

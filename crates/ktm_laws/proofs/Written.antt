@@ -62,7 +62,6 @@ use Rattle.txf_laws.proofs.offered.ChangeTests.{applies-from}
 use Rattle.ktm_courses.proofs.offered.Calls.{Passes, passed}
 use Rattle.txf_laws.proofs.offered.Elements.{IsIn-flat_map, IsIn-kept, list_all-at, list_any-from, not-not}
 use Rattle.ktm_laws.proofs.Notes.{Comes, comes-effect}
-use Rattle.ktm_courses.proofs.offered.Moves.{if_cases}
 use Rattle.ktm_owned.proofs.offered.OpenCalls.{file-in, own-passes, lands-written}
 use Rattle.ktm_owned.proofs.offered.OwnCalls.{caller-may}
 use Rattle.ktm_owned.proofs.offered.PlainCalls.{plain-deleted, plain-removed, plain-made, plain-moved}
@@ -70,6 +69,7 @@ use Rattle.txf_laws.proofs.offered.Reservations.{own-apply, own_changes-by}
 use Rattle.ktm_laws.proofs.Sayings.{puts_all}
 use Rattle.ktm_owned.proofs.offered.SeenFiles.{below-next}
 use Rattle.ktm_courses.proofs.offered.HandlesAndTime.{Closes, close_handle-so, exit-so, tick-so}
+use Rattle.ktm_steps.proofs.offered.Ways.{if_cases}
 
 -- ---- what is committed
 

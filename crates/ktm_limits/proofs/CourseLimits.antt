@@ -29,12 +29,12 @@ use Rattle.ktm_limits.proofs.BudgetSteps.{budget-files, budget-keys, own_without
 use Rattle.ktm_records.proofs.offered.DurableLimits.{limits-from}
 use Rattle.txf_laws.proofs.offered.Elements.{IsIn-filter, each_pair-filter}
 use Rattle.ktm_states.proofs.offered.Limits.{Less-while, limits-less}
-use Rattle.ktm_courses.proofs.offered.Moves.{if_cases}
 use Rattle.ktm_records.proofs.offered.NoMore.{Fits}
 use Rattle.ktm_states.proofs.offered.Parts.{gathered, gathered-map, gathered-push}
 use Rattle.ktm_limits.proofs.RecordedLimits.{Seats, budget-now, is_live_part, is_live_superior, managers-now, recalled-counts, recalls, seated}
 use Rattle.ktm_courses.proofs.offered.OutcomesMade.{own_changes-without, own_settings-without}
 use Rattle.txf_laws.proofs.offered.Tables.{Rises, IsIn-with_recorded, Rises-with_recorded, is_earlier, recorded_at-found, recorded_at-there, same_id-equal, same_id-from}
+use Rattle.ktm_steps.proofs.offered.Ways.{if_cases}
 
 -- ---- the transaction with an Id
 

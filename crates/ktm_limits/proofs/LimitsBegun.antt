@@ -44,7 +44,7 @@ use Rattle.ktm_limits.proofs.RecordedCourses.{hold-commits, hold-prepare_complet
 use Rattle.txf_laws.proofs.offered.Sums.{count-less, count-strict}
 use Rattle.txf_laws.proofs.offered.Tables.{KnownOrNew, recorded_or_new-cases, same_id-equal}
 use Rattle.ktm_steps.proofs.offered.Recorded.{led-events}
-use Rattle.ktm_steps.proofs.offered.Ways.{Ways, choose, pre_prepares-by, prepares-by, proceeds-by, requests-by}
+use Rattle.ktm_steps.proofs.offered.Ways.{Ways, pre_prepares-by, prepares-by, proceeds-by, requests-by, if_cases}
 use Rattle.ktm_world.specs.Rows.{is_last, proceeds, row}
 use Rattle.ktm_types.specs.declared.input.Share.{Share}
 use Rattle.ktm_types.specs.declared.step.Step.{Step}
@@ -236,7 +236,7 @@ module _ (lists : ListsLaw) (x : Present) (course : IsSoundCourse x) (good : IsG
       prepare-events = by-row PhaseInput.Prepare (prepares-by (λ steps. Holds steps) (seen c) ways)
 
       pub pre_prepare_complete-events : limits_hold x.recorded (led PhaseInput.PrePrepareComplete c).events ≡ true
-      pre_prepare_complete-events = by-row PhaseInput.PrePrepareComplete (choose (λ steps. Holds steps) (is_last (seen c)) (proceeds (seen c)) [] (λ last. proceeds-by (λ steps. Holds steps) (seen c) ways) (λ waits. refl))
+      pre_prepare_complete-events = by-row PhaseInput.PrePrepareComplete (if_cases (λ steps. Holds steps) (is_last (seen c)) (proceeds (seen c)) [] (λ last. proceeds-by (λ steps. Holds steps) (seen c) ways) (λ waits. refl))
 
       pub read_only-events : (share : Share) → limits_hold x.recorded (led (PhaseInput.ReadOnly share) c).events ≡ true
       read_only-events share = by-row (PhaseInput.ReadOnly share) (hold-read_onlies lists x agrees sound fits t there live there' x.recorded (recorded_parts t.id) along few t.is_recorded caller (seen c) share)
@@ -267,7 +267,7 @@ module _ (lists : ListsLaw) (x : Present) (course : IsSoundCourse x) (good : IsG
 
   -- an enlistment has committed
   pub commit_complete-events : (t : Transaction) (there : IsIn t x.transactions.items) (e : Enlistment) → (t.phase ≡ Committing) ⊎ (t.phase ≡ SinglePhase) → limits_hold x.recorded (led PhaseInput.CommitComplete (course_of x t (Some e))).events ≡ true
-  commit_complete-events t there e phases = by-row t there (Some e) PhaseInput.CommitComplete (choose (λ steps. limits_hold x.recorded (events_ahead steps (basis (course_of x t (Some e)))) ≡ true) (is_single_phase t.phase) _ _ (λ single. refl) (λ several. elim phases [
+  commit_complete-events t there e phases = by-row t there (Some e) PhaseInput.CommitComplete (if_cases (λ steps. limits_hold x.recorded (events_ahead steps (basis (course_of x t (Some e)))) ≡ true) (is_single_phase t.phase) _ _ (λ single. refl) (λ several. elim phases [
     | inr single ↦ absurd (true≢false (sym (ap is_single_phase single) ∙ several))
     | inl over ↦ noted over (is_durable_at x.managers e.manager)
   ]))

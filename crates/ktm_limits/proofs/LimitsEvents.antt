@@ -1,8 +1,7 @@
 -- The limits hold after each event that a command records, and that the passing of time does.
-use Rattle.std.specs.Prelude.{if◌then◌else◌, ⊤}
+use Rattle.std.specs.Prelude.{if◌then◌else◌}
 use Rattle.std.proofs.Common.{◌≡◌, ℕ, ◌+◌, not, Bool, true, false, List, [], ◌∷◌, drop, length, take, Option, Some, None, is_none, refl, sym, ◌∙◌, ap, subst, inl, inr, ◌⊎◌}
 use Rattle.std.proofs.lemmas.Bool.{and_parts, and_from, true≢false}
-use Rattle.std.proofs.lemmas.List.Folds.{list_all-append}
 use Rattle.std.specs.List.{list_all}
 use Rattle.ktm_base.specs.declared.id.Id.{Id}
 use Rattle.ktm_base.specs.declared.id.Label.{Label}
@@ -19,7 +18,6 @@ use Rattle.ktm_types.specs.declared.object.Object.{Object}
 use Rattle.ktm_types.specs.declared.object.Transaction.{Transaction}
 use Rattle.ktm_types.specs.declared.options.Durability.{Durability}
 use Rattle.ktm_types.specs.declared.options.EnlistmentKind.{EnlistmentKind}
-use Rattle.ktm_types.specs.declared.reply.Reply.{Reply}
 use Rattle.ktm_types.specs.declared.reply.Reply.TheVariants.{Contents as Bytes, Done, Refused, Size}
 use Rattle.ktm_types.specs.declared.step.Owed.{Owed}
 use Rattle.ktm_world.specs.Decide.{of_files, opening, bound_file, on_file, caller, command_tests, command_effect, decide, events_of, refusal_of, with_room}
@@ -33,7 +31,6 @@ use Rattle.ktm_world.specs.Handles.{object_at}
 use Rattle.ktm_world.specs.Labels.{transaction_named, manager_named, enlistment_named, file_named, transaction_tests}
 use Rattle.ktm_world.specs.Lawful.{Agrees, stage_in}
 use Rattle.ktm_world.specs.Outcome.{Outcome, only_reply, apply, first_refusal, refuse_or, is_full}
-use Rattle.ktm_world.specs.Phases.{event_if}
 use Rattle.ktm_world.specs.Present.{Present}
 use Rattle.ktm_world.specs.Steps.{led, share_of}
 use Rattle.ktm_world.specs.TransactionCalls.{aborted_by, answering, before_pre_prepare, before_prepare, commit_of, commit_reply, commit_transaction, rollback_transaction, rollback_of, create_transaction, open_transaction, open_to_transaction, transaction_with, get_transaction_information, create_resource_manager, new_id, open_resource_manager, open_to_manager, manager_with, recover_resource_manager, recover_all, get_notification, take_first, create_enlistment, open_enlistment, open_to_enlistment, enlistment_with, course_of, enlistment_tests, superior_tests, is_voting, keep_information, may_vote, phase_passes, pre_prepare_complete, prepare_complete, read_only_enlistment, commit_complete, rollback_complete, single_phase_reject, rollback_enlistment, pre_prepare_enlistment, prepare_enlistment, commit_enlistment, recover_enlistment, set_information, get_information, tick, waits_for_superior, recovery_of}
@@ -55,27 +52,22 @@ use Rattle.ktm_courses.proofs.offered.Arrivals.{stands-now, brought-now}
 use Rattle.ktm_courses.proofs.offered.Calls.{Passes, passed, active-phase, transaction-named, enlistment-named, enlistment-allowed, superior-allowed, phase-passed, waiting-rolls}
 use Rattle.ktm_records.proofs.offered.DurableLimits.{limits-from}
 use Rattle.txf_laws.proofs.offered.Elements.{list_all-at, not-not}
-use Rattle.ktm_records.proofs.offered.AgreementOfCourses.{arrival}
 use Rattle.ktm_states.proofs.offered.Limits.{Less-filter, limits-less}
 use Rattle.ktm_limits.proofs.LimitsBegun.{holds-arrived, holds-answering, commit-events, commit_complete-events, commit_transaction-events, pre_prepare-events, pre_prepare_complete-events, prepare-events, prepare_complete-events, read_only-events}
 use Rattle.ktm_limits.proofs.LimitsCalls.{Stays, stays-create_manager}
 use Rattle.ktm_limits.proofs.LimitsFiles.{stays-answers, stays-create_directory, stays-create_file, stays-create_own, stays-delete, stays-move, stays-on_file, stays-remove, stays-set_end, stays-write}
-use Rattle.ktm_courses.proofs.offered.Moves.{if_cases}
 use Rattle.ktm_records.proofs.offered.NoMore.{Fits, fits-within}
 use Rattle.ktm_owned.proofs.offered.OwnCalls.{caller-may}
 use Rattle.ktm_courses.proofs.offered.Endings.{waiting-parts}
 use Rattle.ktm_limits.proofs.RecordedLimits.{agreeing-limits}
 use Rattle.ktm_limits.proofs.RecordedCourses.{uncounted}
 use Rattle.txf_laws.proofs.offered.Tables.{Rises}
-use Rattle.ktm_records.proofs.offered.AgreementOfRollbacks.{rollback-undone}
+use Rattle.ktm_records.proofs.offered.AgreementOfRollbacks.{is_undo, undoes-aborted, undoes-closing, undoes-led}
 use Rattle.ktm_records.proofs.offered.Stages.{early-pre_prepare, early-prepare, early-voting, voting-stage, waiting-held, waiting-recorded}
-use Rattle.ktm_courses.proofs.offered.HandlesAndTime.{Closes, close_handle-so, exit-so, tick-so}
+use Rattle.ktm_courses.proofs.offered.HandlesAndTime.{close_handle-so, exit-so, tick-so}
+use Rattle.ktm_steps.proofs.offered.Ways.{if_cases}
 
 -- ---- what only undoes
-
-abbrev is_undo : Event → Bool
-is_undo (Undo id) = true
-is_undo _ = false
 
 -- the outcome records nothing but rollbacks
 abbrev Undoes : Outcome → Type 0
@@ -91,25 +83,6 @@ undos-hold (e ∷ es) s undos limits = let parts = and_parts (is_undo e) (list_a
         let left = limits-less s (without_recorded s.transactions id) (Less-filter (λ r. not (same_id r.id id)) s.transactions) limits in
         and_from _ _ left (rest (after_event s (Undo id)) left)
     one _ is rest = absurd (true≢false (sym is))
-
-undoes-aborted : (x : Present) (t : Transaction) (caller : Option Enlistment) (reply : Reply) → Undoes (aborted_by x t caller reply)
-undoes-aborted x t caller reply =
-    subst (λ es. list_all is_undo es ≡ true) (sym ((arrival x (led PhaseInput.Rollback (course_of x t caller)) reply).events ∙ (rollback-undone (course_of x t caller)).events)) (go t.is_recorded)
-  where
-    go : (b : Bool) → list_all is_undo (event_if b (Undo t.id)) ≡ true
-    go true = refl
-    go false = refl
-
-undoes-closing : Closes (λ x. ⊤) (λ x o. Undoes o)
-undoes-closing = record {
-  rolls = record {
-    reply = λ x asked. refl;
-    rolls = λ x t asked there can. undoes-aborted x t None Done;
-    goes_on = λ x a next first second. list_all-append is_undo a.events (next (apply x a)).events ∙ and_from _ _ first (second tt);
-  };
-  unbinds = λ x process label asked. refl;
-  ends = λ x number asked. refl;
-}
 
 -- ---- what records one event
 
@@ -284,11 +257,7 @@ module _ (agreeing : AgreeingLaw) (keeping : FilesKeptLaw) (lists : ListsLaw) (f
 
   aborts : (o : Option Enlistment) → Holds (answering x o (λ e. PhaseInput.Rollback))
   aborts o = holds-answering lists x kept.sound.course kept.good kept.agrees kept.sound.files fits o (λ e. PhaseInput.Rollback) (λ e is t found at own.
-      undos-hold (led PhaseInput.Rollback (course_of x t (Some e))).events x.recorded (subst (λ es. list_all is_undo es ≡ true) (sym (rollback-undone (course_of x t (Some e))).events) (one t.is_recorded t.id)) kept.good.limits)
-    where
-      one : (b : Bool) (id : Id) → list_all is_undo (event_if b (Undo id)) ≡ true
-      one true id = refl
-      one false id = refl
+      undos-hold (led PhaseInput.Rollback (course_of x t (Some e))).events x.recorded (undoes-led (course_of x t (Some e)) refl) kept.good.limits)
 
   effect-holds : (process : Pid) (command : Command) → Passes (command_tests x process command) → After (command_effect x process command) → Holds (command_effect x process command)
   unfolding commit_transaction rollback_transaction get_transaction_information recover_resource_manager get_notification pre_prepare_complete prepare_complete read_only_enlistment commit_complete rollback_complete single_phase_reject rollback_enlistment pre_prepare_enlistment prepare_enlistment commit_enlistment recover_enlistment set_information get_information create_transaction read_file get_size find_files

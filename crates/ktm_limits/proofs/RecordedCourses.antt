@@ -20,7 +20,7 @@ use Rattle.ktm_world.specs.Phases.{enlistment_part, event_if, has_settings}
 use Rattle.ktm_world.specs.Present.{Present}
 use Rattle.ktm_world.specs.Steps.{Basis, basis, events_ahead, held_event, lasting_of}
 use Rattle.ktm_world.specs.Transactions.{is_live, same_id}
-use Rattle.ktm_steps.proofs.offered.Ways.{Ways, choose, proceeds-by}
+use Rattle.ktm_steps.proofs.offered.Ways.{Ways, proceeds-by, if_cases}
 use Rattle.txf_laws.specs.Elements.{IsIn}
 use Rattle.txf_laws.specs.Footprint.{ListsLaw}
 use Rattle.ktm_records.specs.Kept.{limits_hold}
@@ -138,8 +138,8 @@ module _ (lists : ListsLaw) (x : Present) (agrees : Agrees x) (sound : IsSoundFi
   pub hold-all_readies : (s : Durable) (n : ℕ) → Along x t s [] [] n 0 → Enough n 0 → (recorded : Bool) (caller : Option Enlistment) (seen : Seen) → Hold s (all_readies seen) (basis_of recorded caller)
   hold-all_readies s n along few recorded caller seen =
       holds-append (event_if (has_changes cs) (Event.Ready t.id (Part.Changes cs))) _ s files.0 (holds-append (event_if (has_settings ss) (Event.Ready t.id (Part.Settings ss))) _ s_files keys.0
-      (choose (λ steps. Hold s_keys steps (basis_of ready caller)) seen.has_superior _ _ (λ above. held (lasting_of (superior_of x.transactions.enlistments t.id)) superior-few) (λ top.
-      choose (λ steps. Hold s_keys steps (basis_of ready caller)) (participants seen == 0) _ commits (λ none. refl) (λ some. hold-commits s_keys n 0 keys.1 few ready caller (λ not'.
+      (if_cases (λ steps. Hold s_keys steps (basis_of ready caller)) seen.has_superior _ _ (λ above. held (lasting_of (superior_of x.transactions.enlistments t.id)) superior-few) (λ top.
+      if_cases (λ steps. Hold s_keys steps (basis_of ready caller)) (participants seen == 0) _ commits (λ none. refl) (λ some. hold-commits s_keys n 0 keys.1 few ready caller (λ not'.
       let d = or_parts (recorded || has_changes cs) (has_settings ss) not' in ((or_parts recorded (has_changes cs) d.0).1, d.1))))))
     where
       ready : Bool
@@ -183,7 +183,7 @@ module _ (lists : ListsLaw) (x : Present) (agrees : Agrees x) (sound : IsSoundFi
   hold-prepare_completes s n along few recorded e seen = go (is_durable_at x.managers e.manager)
     where
       next : (s' : Durable) (recorded' : Bool) → Along x t s' [] [] (n + 1) 0 → Hold s' (if is_last seen then all_readies seen else []) (basis_of recorded' (Some e))
-      next s' recorded' along' = choose (λ steps. Hold s' steps (basis_of recorded' (Some e))) (is_last seen) (all_readies seen) [] (λ last. hold-all_readies s' (n + 1) along' few recorded' (Some e) seen) (λ waits. refl)
+      next s' recorded' along' = if_cases (λ steps. Hold s' steps (basis_of recorded' (Some e))) (is_last seen) (all_readies seen) [] (λ last. hold-all_readies s' (n + 1) along' few recorded' (Some e) seen) (λ waits. refl)
 
       go : (durable : Bool) → limits_hold s (event_if durable (Event.Ready t.id (enlistment_part e)) ++ events_ahead (if is_last seen then all_readies seen else []) (basis_of (durable || recorded) (Some e))) ≡ true
       go false = next s recorded (along-as x t s [] [] [] [] n (n + 1) 0 refl refl (omega arith) along)
@@ -194,7 +194,7 @@ module _ (lists : ListsLaw) (x : Present) (agrees : Agrees x) (sound : IsSoundFi
 
   pub hold-read_onlies : (s : Durable) (n : ℕ) → Along x t s [] [] n 0 → Enough n 0 → (recorded : Bool) (caller : Option Enlistment) (seen : Seen) (share : Share) → Hold s (read_onlies seen share) (basis_of recorded caller)
   hold-read_onlies s n along few recorded caller seen share =
-      choose (λ steps. Hold s steps (basis_of recorded caller)) (share.owes && is_last seen) (proceeds_without seen.phase (without share seen)) [] (λ last. goes_on seen.phase) (λ waits. refl)
+      if_cases (λ steps. Hold s steps (basis_of recorded caller)) (share.owes && is_last seen) (proceeds_without seen.phase (without share seen)) [] (λ last. goes_on seen.phase) (λ waits. refl)
     where
       goes_on : (phase : Phase) → Hold s (proceeds_without phase (without share seen)) (basis_of recorded caller)
       goes_on PrePreparing = proceeds-by (λ steps. Hold s steps (basis_of recorded caller)) (without share seen) (hold-ways s n along few recorded caller (without share seen))

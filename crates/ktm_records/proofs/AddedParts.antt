@@ -23,8 +23,8 @@ use Rattle.txf_laws.proofs.offered.Elements.{list_any-at, list_any-from}
 use Rattle.ktm_records.proofs.Facts.{awaits}
 use Rattle.txf_laws.proofs.offered.Lists.{IsIn-cases, IsIn-left}
 use Rattle.ktm_states.proofs.offered.Parts.{gathered, gathered-push, is_among-push}
-use Rattle.ktm_courses.proofs.offered.Moves.{if_cases}
 use Rattle.txf_laws.proofs.offered.Tables.{recorded_or_new-cases, same_id-equal, same_id-from}
+use Rattle.ktm_steps.proofs.offered.Ways.{if_cases}
 
 -- ---- one among those that were recorded
 

@@ -28,7 +28,7 @@ use Rattle.ktm_courses.proofs.offered.Arrivals.{brought-now, stands-now}
 use Rattle.txf_laws.proofs.offered.Elements.{list_any-at, list_any-from}
 use Rattle.ktm_records.proofs.offered.AgreementOfCourses.{Follows, Was, course_enlistments, none-in, placed-at, was}
 use Rattle.ktm_records.proofs.AgreementOfUnprepared.{follows-nothing, follows-pre_prepared, follows-to_commit, follows-to_pre_prepare, follows-to_prepare}
-use Rattle.ktm_courses.proofs.offered.Moves.{Stand, if_cases, if_parts, same-by_id}
+use Rattle.ktm_courses.proofs.offered.Moves.{Stand, if_parts, same-by_id}
 use Rattle.ktm_records.proofs.LoggedOrder.{or_new}
 use Rattle.ktm_courses.proofs.offered.Endings.{Stands, idle-parts}
 use Rattle.ktm_records.proofs.ReadyCourses.{Prepares, changed-one, changed-other, enlistments-other, follows-preparing, none-prepared, prepares-durable, prepares-first, readies-alike, readies-volatile}
@@ -40,6 +40,7 @@ use Rattle.ktm_steps.proofs.offered.Table.{rows_law}
 use Rattle.ktm_world.specs.Rows.{all_readies, proceeds, proceeds_without}
 use Rattle.ktm_types.specs.declared.step.Answered.{Answered}
 use Rattle.ktm_records.proofs.offered.Stages.{early-unrecorded, early-voting, is_early, voting-stage}
+use Rattle.ktm_steps.proofs.offered.Ways.{if_cases}
 
 -- ---- a transaction of which nobody is prepared
 

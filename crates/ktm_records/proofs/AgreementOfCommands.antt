@@ -49,12 +49,12 @@ use Rattle.ktm_records.proofs.AgreementOfDecisions.{follows-commit_complete, fol
 use Rattle.txf_laws.proofs.offered.Elements.{list_all-at, not-not}
 use Rattle.ktm_courses.proofs.offered.FileSteps.{IsActiveCaller, caller-active, file-active, passes-left, plain-caller, with_setting-same}
 use Rattle.ktm_records.proofs.offered.AgreementOfCourses.{Follows, agreed-arrived, was}
-use Rattle.ktm_courses.proofs.offered.Moves.{if_cases}
 use Rattle.ktm_courses.proofs.offered.CommitsBegun.{arrives-to_commit}
 use Rattle.ktm_records.proofs.AgreementOfSilentSteps.{IsSilent, agreed-silent, silent-recovered, silent-rollback_complete, silent-single_phase_reject}
 use Rattle.ktm_records.proofs.AgreementOfRestarts.{agreed-opened}
 use Rattle.ktm_records.proofs.offered.AgreementOfRollbacks.{agreed-aborted_by}
 use Rattle.ktm_records.proofs.offered.Stages.{early-pre_prepare, early-prepare, is_early, waiting-held, waiting-recorded}
+use Rattle.ktm_steps.proofs.offered.Ways.{if_cases}
 
 module _ (x : Present) (sound : IsSoundCourse x) (agreed : Agreed x) where
   replies : (reply : Reply) → Agreed (apply x (only_reply x reply))

@@ -45,11 +45,11 @@ use Rattle.ktm_records.proofs.AgreementOfSilentSteps.{is_kept}
 use Rattle.ktm_records.proofs.LoggedUndecided.{AreUndone, parts-undone}
 use Rattle.txf_laws.proofs.offered.Tables.{same_id-sym}
 use Rattle.ktm_records.proofs.LoggedTransaction.{Tracks, done_by, tracks-done}
-use Rattle.ktm_steps.proofs.offered.Ways.{choose}
 use Rattle.ktm_world.specs.Rows.{commits}
 use Rattle.ktm_world.specs.Steps.{answered, led, run}
 use Rattle.ktm_types.specs.declared.step.Answered.{Answered}
 use Rattle.ktm_types.specs.declared.input.PhaseInput.{PhaseInput}
+use Rattle.ktm_steps.proofs.offered.Ways.{if_cases}
 
 -- ---- the parts of a decided transaction
 
@@ -317,7 +317,7 @@ module _ (x : Present) (sound : IsSoundCourse x) (files : IsSoundFiles x) (good 
 
     pub follows-commit_complete : Follows x t.id had.before had.behind (led PhaseInput.CommitComplete c)
     unfolding led
-    follows-commit_complete = choose (λ steps. Follows x t.id had.before had.behind (run steps c_finished)) (is_single_phase t.phase) _ _
+    follows-commit_complete = if_cases (λ steps. Follows x t.id had.before had.behind (run steps c_finished)) (is_single_phase t.phase) _ _
         (λ single. elim committing-or [ inl phase ↦ absurd (true≢false (sym single ∙ ap is_single_phase phase)) | inr phase ↦ follows-single_committed phase ])
         (λ several. elim committing-or [ inr phase ↦ absurd (true≢false (sym (ap is_single_phase phase) ∙ several)) | inl phase ↦ follows-done phase ])
       where

@@ -24,13 +24,13 @@ use Rattle.txf_laws.specs.Elements.{IsIn}
 use Rattle.ktm_courses.specs.SoundCourse.{IsSoundCourse}
 use Rattle.ktm_records.proofs.offered.Agreement.{Agreed, filter-alike}
 use Rattle.ktm_records.proofs.offered.AgreementOfCourses.{agreed-arrived, begun, carried-itself, course_enlistments, course_in, course_summaries, follows-from, none-in, none-unrecorded, was}
-use Rattle.ktm_courses.proofs.offered.Moves.{if_cases}
 use Rattle.ktm_courses.proofs.offered.Endings.{Arrives}
 use Rattle.ktm_steps.specs.Laws.{by}
 use Rattle.ktm_steps.proofs.offered.Lists.{Pass, row-passes, row_lists}
 use Rattle.ktm_world.specs.Rows.{row}
 use Rattle.ktm_types.specs.declared.step.Answered.{Answered}
 use Rattle.ktm_types.specs.declared.step.Step.{Step}
+use Rattle.ktm_steps.proofs.offered.Ways.{if_cases}
 
 -- a step records and commits nothing, and the log has to have of the transaction what it had to have
 pub record IsSilent (c d : Course) : Type 0 where

@@ -34,7 +34,7 @@ use Rattle.txf_laws.proofs.offered.Tables.{same_id-equal}
 use Rattle.ktm_records.proofs.UndoFacts.{FactsOf, facts-aborted_by}
 use Rattle.ktm_steps.proofs.offered.Recorded.{led-events, records_nothing, silent-led, silent-recovery}
 use Rattle.ktm_steps.proofs.offered.Lists.{Pass, row_lists}
-use Rattle.ktm_steps.proofs.offered.Ways.{Ways, choose, pre_prepares-by, prepares-by, proceeds-by, requests-by}
+use Rattle.ktm_steps.proofs.offered.Ways.{Ways, pre_prepares-by, prepares-by, proceeds-by, requests-by, if_cases}
 use Rattle.ktm_world.specs.Rows.{is_last, proceeds, row}
 use Rattle.ktm_records.proofs.offered.Stages.{early-pre_prepare, early-prepare, early-unrecorded, early-voting, is_early, voting-stage, waiting-held, waiting-recorded}
 
@@ -113,7 +113,7 @@ module _ (x : Present) (kept : IsKept x) where
         let phase = is-pre_preparing t.phase (phase-owing x.recorded.boots (course_of x t (Some e)) e (stands t at (Some e)) (brought-now x t (Some e) kept.sound.course) kept.sound.course.enlistments.rise (in_es e is) own Owed.PrePrepare (owed-pre_prepare e owes)) in
         let early = ap is_early phase in
         let c = course_of x t (Some e) in
-        by-row PhaseInput.PrePrepareComplete t (Some e) (choose (λ steps. Apply x.recorded steps (basis c)) (is_last (seen c)) (proceeds (seen c)) [] (λ last. proceeds-by (λ steps. Apply x.recorded steps (basis c)) (seen c) (ways t at (Some e) early)) (λ waits. refl)))
+        by-row PhaseInput.PrePrepareComplete t (Some e) (if_cases (λ steps. Apply x.recorded steps (basis c)) (is_last (seen c)) (proceeds (seen c)) [] (λ last. proceeds-by (λ steps. Apply x.recorded steps (basis c)) (seen c) (ways t at (Some e) early)) (λ waits. refl)))
 
     pub facts-prepare_complete : Passes (enlistment_tests o owes_prepare) → FactsOf x (answering x o (λ e. PhaseInput.PrepareComplete))
     facts-prepare_complete tests = answers o (λ e. PhaseInput.PrepareComplete) (λ e is t at own found.

@@ -13,16 +13,17 @@ use Rattle.ktm_types.specs.declared.object.Phase.{Phase}
 use Rattle.ktm_types.specs.declared.step.Fact.{Fact}
 use Rattle.ktm_types.specs.declared.step.Step.{Step}
 use Rattle.ktm_world.specs.Changes.{has_changes}
-use Rattle.ktm_world.specs.Durable.{Durable, Recorded, after_event, after_events, fact_applies, has_part, is_new_enlistment, is_ready, is_sole, may_get_ready, part_applies, recorded_at, recorded_or_new}
+use Rattle.ktm_world.specs.Durable.{Durable, Recorded, after_event, after_events, fact_applies, has_part, is_new_enlistment, is_ready, is_sole, may_get_ready, part_applies, recorded_at, recorded_or_new, enlistments_in}
 use Rattle.ktm_world.specs.Enlistments.{Enlistment, is_durable_at}
 use Rattle.ktm_world.specs.Phases.{enlistment_part, event_if, has_settings, is_single_phase}
 use Rattle.ktm_world.specs.Rows.{all_readies, commit_completes, commits, is_last, participants, prepare_completes, proceeds_without, read_onlies, without}
 use Rattle.ktm_world.specs.Steps.{Basis, events_ahead, events_of, held_event, is_recorded_by}
 use Rattle.ktm_world.specs.Transactions.{same_id}
-use Rattle.ktm_steps.proofs.offered.Ways.{Ways, choose, proceeds-by}
+use Rattle.ktm_steps.proofs.offered.Ways.{Ways, proceeds-by, if_cases}
 use Rattle.ktm_records.specs.Kept.{facts_apply}
 use Rattle.ktm_records.proofs.Facts.{MayDecide, awaits, decision-applies, facts-append, facts-if, facts-one}
 use Rattle.ktm_records.proofs.AddedParts.{pushed-awaits, pushed-changes, pushed-known, pushed-may, pushed-new, pushed-part, pushed-settings, pushed-still}
+use Rattle.std.specs.List.{list_any}
 
 -- what these steps record applies
 abbrev pub Apply : Durable → List Step → Basis → Type 0
@@ -48,13 +49,21 @@ apply-commits s b can = go b.is_recorded refl
 
 -- ---- a transaction that may get ready
 
--- it is new to the log, or ready there; its files and its keys are ready too, or they apply, and its superior is new
+-- its files are ready in the log, or apply
+abbrev HasFiles : Durable → Basis → Bool → Type 0
+HasFiles s b ready = has_changes b.changes ≡ true → (if ready then awaits DonePart.Files (recorded_or_new s.transactions b.id).parts else part_applies s b.id (Changes b.changes)) ≡ true
+
+-- and so its keys
+abbrev HasKeys : Durable → Basis → Bool → Type 0
+HasKeys s b ready = has_settings b.settings ≡ true → (if ready then awaits DonePart.Keys (recorded_or_new s.transactions b.id).parts else part_applies s b.id (Settings b.settings)) ≡ true
+
+-- it is new to the log, or ready there, with its files and its keys, or without, and its superior is new
 pub record MayReady (s : Durable) (b : Basis) (with_files with_keys : Bool) : Type 0 where
   pub may : may_get_ready s b.id ≡ true
   pub new : b.is_recorded ≡ false → recorded_at s.transactions b.id ≡ None
   pub has : b.is_recorded ≡ true → has_part (recorded_or_new s.transactions b.id) ≡ true
-  pub files : has_changes b.changes ≡ true → (if with_files then awaits DonePart.Files (recorded_or_new s.transactions b.id).parts else part_applies s b.id (Changes b.changes)) ≡ true
-  pub keys : has_settings b.settings ≡ true → (if with_keys then awaits DonePart.Keys (recorded_or_new s.transactions b.id).parts else part_applies s b.id (Settings b.settings)) ≡ true
+  pub files : HasFiles s b with_files
+  pub keys : HasKeys s b with_keys
   pub superior : (e : Enlistment) → b.superior ≡ Some e → is_new_enlistment s e.id e.manager e.information ≡ true
 
 -- with one part more in the log
@@ -62,10 +71,7 @@ module _ (s : Durable) (b : Basis) (part : Part) where
   abbrev s' : Durable
   s' = after_event s (Event.Ready b.id part)
 
-  ready-more : (recorded f k : Bool) → recorded ≡ true → may_get_ready s b.id ≡ true
-      → (has_changes b.changes ≡ true → (if f then awaits DonePart.Files (recorded_or_new s'.transactions b.id).parts else part_applies s' b.id (Changes b.changes)) ≡ true)
-      → (has_settings b.settings ≡ true → (if k then awaits DonePart.Keys (recorded_or_new s'.transactions b.id).parts else part_applies s' b.id (Settings b.settings)) ≡ true)
-      → ((e : Enlistment) → b.superior ≡ Some e → is_new_enlistment s' e.id e.manager e.information ≡ true) → MayReady s' (record b { is_recorded = recorded }) f k
+  ready-more : (recorded f k : Bool) → recorded ≡ true → may_get_ready s b.id ≡ true → HasFiles s' b f → HasKeys s' b k → ((e : Enlistment) → b.superior ≡ Some e → is_new_enlistment s' e.id e.manager e.information ≡ true) → MayReady s' (record b { is_recorded = recorded }) f k
   ready-more recorded f k is may files keys superior = record {
     may = pushed-may s b.id part may;
     new = λ other. absurd (true≢false (sym is ∙ other));
@@ -79,49 +85,36 @@ module _ (s : Durable) (b : Basis) (part : Part) where
   awaited : (done : DonePart) → awaits done (recorded_or_new s'.transactions b.id).parts ≡ awaits done ((recorded_or_new s.transactions b.id).parts ++ record { is_done = false; part = part } ∷ [])
   awaited done = ap (λ (r : Recorded). awaits done r.parts) (pushed-known s b.id part)
 
--- recorded or not, where nothing takes part
-still-recorded : (s : Durable) (b : Basis) (f k f' k' : Bool) → MayReady s b f k → (has_changes b.changes ≡ true → (if f' then awaits DonePart.Files (recorded_or_new s.transactions b.id).parts else part_applies s b.id (Changes b.changes)) ≡ true)
-    → (has_settings b.settings ≡ true → (if k' then awaits DonePart.Keys (recorded_or_new s.transactions b.id).parts else part_applies s b.id (Settings b.settings)) ≡ true) → MayReady s (record b { is_recorded = b.is_recorded || false }) f' k'
-still-recorded s b f k f' k' can files keys = record {
-  may = can.may;
-  new = λ other. can.new (or_parts b.is_recorded false other).0;
-  has = λ is. elim (or_cases b.is_recorded false is) [ inl recorded ↦ can.has recorded | inr wrong ↦ absurd (true≢false (sym wrong)) ];
-  files = files;
-  keys = keys;
-  superior = can.superior;
-}
+  -- the files or the keys get ready, where they take part
+  ready-own : (f k f' k' a : Bool) → MayReady s b f k → ((e : Enlistment) → list_any (λ other. same_id other e.id) (enlistments_in part) ≡ false) → (a ≡ true → (part_applies s b.id part ≡ true) × HasFiles s' b f' × HasKeys s' b k') → (a ≡ false → HasFiles s b f' × HasKeys s b k')
+      → (facts_apply s (event_if a (Event.Ready b.id part)) ≡ true) × MayReady (after_events s (event_if a (Event.Ready b.id part))) (record b { is_recorded = b.is_recorded || a }) f' k'
+  ready-own f k f' k' true can own takes leaves = let now = takes refl in (
+    facts-one s (Event.Ready b.id part) (and_from _ _ can.may now.0),
+    ready-more (b.is_recorded || true) f' k' (or_right _ _ refl) can.may now.1 now.2 (λ e is. pushed-new s b.id part e.id e.manager e.information (can.superior e is) (own e)),
+  )
+  ready-own f k f' k' false can own takes leaves = let still = leaves refl in (
+    refl,
+    record {
+      may = can.may;
+      new = λ other. can.new (or_parts b.is_recorded false other).0;
+      has = λ is. elim (or_cases b.is_recorded false is) [ inl recorded ↦ can.has recorded | inr wrong ↦ absurd (true≢false (sym wrong)) ];
+      files = still.0;
+      keys = still.1;
+      superior = can.superior;
+    },
+  )
 
--- the files get ready, where they take part
 ready-files : (s : Durable) (b : Basis) → MayReady s b false false
     → (facts_apply s (events_of Fact.ReadyFiles b) ≡ true) × MayReady (after_events s (events_of Fact.ReadyFiles b)) (record b { is_recorded = is_recorded_by Fact.ReadyFiles b }) true false
-ready-files s b can = go (has_changes b.changes) refl
-  where
-    go : (a : Bool) → has_changes b.changes ≡ a
-        → (facts_apply s (event_if a (Event.Ready b.id (Changes b.changes))) ≡ true) × MayReady (after_events s (event_if a (Event.Ready b.id (Changes b.changes)))) (record b { is_recorded = b.is_recorded || a }) true false
-    go true some = (
-      facts-one s (Event.Ready b.id (Changes b.changes)) (and_from _ _ can.may (can.files some)),
-      ready-more s b (Changes b.changes) (b.is_recorded || true) true false (or_right _ _ refl) can.may
-          (λ is. awaited s b (Changes b.changes) DonePart.Files ∙ pushed-awaits s b.id (Changes b.changes) DonePart.Files refl)
-          (λ is. sym (pushed-settings s b.id (Changes b.changes) b.settings refl) ∙ can.keys is)
-          (λ e is. pushed-new s b.id (Changes b.changes) e.id e.manager e.information (can.superior e is) refl),
-    )
-    go false none = (refl, still-recorded s b false false true false can (λ some. absurd (true≢false (sym some ∙ none))) can.keys)
+ready-files s b can = let part = Changes b.changes in ready-own s b part false false true false (has_changes b.changes) can (λ e. refl)
+    (λ some. (can.files some, λ is. awaited s b part DonePart.Files ∙ pushed-awaits s b.id part DonePart.Files refl, λ is. sym (pushed-settings s b.id part b.settings refl) ∙ can.keys is))
+    (λ none. (λ some. absurd (true≢false (sym some ∙ none)), can.keys))
 
--- and so do the keys
 ready-keys : (s : Durable) (b : Basis) → MayReady s b true false
     → (facts_apply s (events_of Fact.ReadyKeys b) ≡ true) × MayReady (after_events s (events_of Fact.ReadyKeys b)) (record b { is_recorded = is_recorded_by Fact.ReadyKeys b }) true true
-ready-keys s b can = go (has_settings b.settings) refl
-  where
-    go : (a : Bool) → has_settings b.settings ≡ a
-        → (facts_apply s (event_if a (Event.Ready b.id (Settings b.settings))) ≡ true) × MayReady (after_events s (event_if a (Event.Ready b.id (Settings b.settings)))) (record b { is_recorded = b.is_recorded || a }) true true
-    go true some = (
-      facts-one s (Event.Ready b.id (Settings b.settings)) (and_from _ _ can.may (can.keys some)),
-      ready-more s b (Settings b.settings) (b.is_recorded || true) true true (or_right _ _ refl) can.may
-          (λ is. awaited s b (Settings b.settings) DonePart.Files ∙ pushed-still s b.id (Settings b.settings) DonePart.Files (can.files is))
-          (λ is. awaited s b (Settings b.settings) DonePart.Keys ∙ pushed-awaits s b.id (Settings b.settings) DonePart.Keys refl)
-          (λ e is. pushed-new s b.id (Settings b.settings) e.id e.manager e.information (can.superior e is) refl),
-    )
-    go false none = (refl, still-recorded s b true false true true can can.files (λ some. absurd (true≢false (sym some ∙ none))))
+ready-keys s b can = let part = Settings b.settings in ready-own s b part true false true true (has_settings b.settings) can (λ e. refl)
+    (λ some. (can.keys some, λ is. awaited s b part DonePart.Files ∙ pushed-still s b.id part DonePart.Files (can.files is), λ is. awaited s b part DonePart.Keys ∙ pushed-awaits s b.id part DonePart.Keys refl))
+    (λ none. (can.files, λ some. absurd (true≢false (sym some ∙ none))))
 
 -- one that has a part is there
 known-found : (ts : List Recorded) (id : Id) → has_part (recorded_or_new ts id) ≡ true → recorded_at ts id ≡ Some (recorded_or_new ts id)
@@ -136,7 +129,7 @@ known-found (a ∷ ts) id some = elim (cases_Bool (same_id a.id id)) [
 pub apply-all_readies : (s : Durable) (b : Basis) (seen : Seen) → MayReady s b false false → Apply s (all_readies seen) b
 apply-all_readies s b seen can =
     facts-append (events_of Fact.ReadyFiles b) (events_of Fact.ReadyKeys b ++ _) s files.0 (facts-append (events_of Fact.ReadyKeys b) _ s_files keys.0
-    (choose (λ steps. Apply s_keys steps b_keys) seen.has_superior _ _ (λ above. holds b.superior refl) (λ top. choose (λ steps. Apply s_keys steps b_keys) (participants seen == 0) _ commits (λ none. refl) (λ some. apply-commits s_keys b_keys decides))))
+    (if_cases (λ steps. Apply s_keys steps b_keys) seen.has_superior _ _ (λ above. holds b.superior refl) (λ top. if_cases (λ steps. Apply s_keys steps b_keys) (participants seen == 0) _ commits (λ none. refl) (λ some. apply-commits s_keys b_keys decides))))
   where
     files : (facts_apply s (events_of Fact.ReadyFiles b) ≡ true) × MayReady (after_events s (events_of Fact.ReadyFiles b)) (record b { is_recorded = is_recorded_by Fact.ReadyFiles b }) true false
     files = ready-files s b can
@@ -203,7 +196,7 @@ apply-prepare_completes s basis seen e can new below = go (is_durable_at basis.m
     b = record basis { caller = Some e }
 
     next : (s' : Durable) (recorded : Bool) → MayReady s' (record b { is_recorded = recorded }) false false → Apply s' (if is_last seen then all_readies seen else []) (record b { is_recorded = recorded })
-    next s' recorded can' = choose (λ steps. Apply s' steps (record b { is_recorded = recorded })) (is_last seen) (all_readies seen) [] (λ last. apply-all_readies s' (record b { is_recorded = recorded }) seen can') (λ waits. refl)
+    next s' recorded can' = if_cases (λ steps. Apply s' steps (record b { is_recorded = recorded })) (is_last seen) (all_readies seen) [] (λ last. apply-all_readies s' (record b { is_recorded = recorded }) seen can') (λ waits. refl)
 
     go : (durable : Bool) → is_durable_at basis.managers e.manager ≡ durable
         → facts_apply s (event_if durable (Event.Ready b.id (enlistment_part e)) ++ events_ahead (if is_last seen then all_readies seen else []) (record b { is_recorded = durable || b.is_recorded })) ≡ true
@@ -215,7 +208,7 @@ apply-prepare_completes s basis seen e can new below = go (is_durable_at basis.m
 
 pub apply-read_onlies : (s : Durable) (b : Basis) (seen : Seen) (share : Share) → seen.has_files ≡ has_changes b.changes → seen.has_keys ≡ has_settings b.settings → MayReady s b false false → (seen.phase ≡ Phase.PrePreparing → b.is_recorded ≡ false)
     → Apply s (read_onlies seen share) b
-apply-read_onlies s b seen share has_files has_keys can other = choose (λ steps. Apply s steps b) (share.owes && is_last seen) (proceeds_without seen.phase (without share seen)) [] (λ last. goes_on seen.phase refl) (λ waits. refl)
+apply-read_onlies s b seen share has_files has_keys can other = if_cases (λ steps. Apply s steps b) (share.owes && is_last seen) (proceeds_without seen.phase (without share seen)) [] (λ last. goes_on seen.phase refl) (λ waits. refl)
   where
     goes_on : (phase : Phase) → seen.phase ≡ phase → Apply s (proceeds_without phase (without share seen)) b
     goes_on Phase.PrePreparing is = proceeds-by (λ steps. Apply s steps b) (without share seen) (apply-ways s b (without share seen) has_files has_keys can (other is))
@@ -225,5 +218,5 @@ apply-read_onlies s b seen share has_files has_keys can other = choose (λ steps
 
 pub apply-commit_completes : (s : Durable) (basis : Basis) (phase : Phase) (e : Enlistment) → (is_single_phase phase ≡ false → is_durable_at basis.managers e.manager ≡ true → fact_applies s (Event.Done basis.id (DonePart.Enlistment e.id)) ≡ true)
     → Apply s (commit_completes phase) (record basis { caller = Some e })
-apply-commit_completes s basis phase e applies = choose (λ steps. Apply s steps (record basis { caller = Some e })) (is_single_phase phase) _ _ (λ single. refl)
+apply-commit_completes s basis phase e applies = if_cases (λ steps. Apply s steps (record basis { caller = Some e })) (is_single_phase phase) _ _ (λ single. refl)
     (λ several. ap (facts_apply s) (append-nil (event_if (is_durable_at basis.managers e.manager) (Event.Done basis.id (DonePart.Enlistment e.id)))) ∙ facts-if s (is_durable_at basis.managers e.manager) (Event.Done basis.id (DonePart.Enlistment e.id)) (applies several))

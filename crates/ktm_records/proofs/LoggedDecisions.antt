@@ -21,10 +21,10 @@ use Rattle.ktm_records.specs.Kept.{is_carried_out}
 use Rattle.txf_laws.proofs.offered.Diamonds.{none-from}
 use Rattle.txf_laws.proofs.offered.Elements.{list_any-from}
 use Rattle.ktm_records.proofs.offered.AgreementOfCourses.{course_enlistments, course_in, course_now, course_summaries, none-in}
-use Rattle.ktm_courses.proofs.offered.Moves.{if_cases}
 use Rattle.ktm_states.proofs.offered.OwnGroups.{is_open}
 use Rattle.ktm_records.proofs.LoggedOrder.{if_there, while_open}
 use Rattle.ktm_records.proofs.AgreementOfSilentSteps.{none-kept}
+use Rattle.ktm_steps.proofs.offered.Ways.{if_cases}
 
 -- ---- whether it stays
 

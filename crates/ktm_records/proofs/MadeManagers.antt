@@ -28,7 +28,7 @@ use Rattle.txf_laws.proofs.offered.Diamonds.{none-from}
 use Rattle.txf_laws.proofs.offered.Elements.{IsIn-filter, list_all-at, length-filter-less}
 use Rattle.txf_laws.proofs.offered.Lists.{IsIn-unmap}
 use Rattle.ktm_courses.proofs.offered.NewObjects.{next_id, next-other}
-use Rattle.ktm_courses.proofs.offered.Moves.{if_cases}
+use Rattle.ktm_steps.proofs.offered.Ways.{if_cases}
 
 -- one manager more
 one-more : (ids : List Id) (id : Id) → length (with_manager ids id) ≡ length ids + 1

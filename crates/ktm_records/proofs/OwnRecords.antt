@@ -1,9 +1,9 @@
 -- What each command records: at most six events of what it changes or of what one transaction has to commit, or rollbacks alone; and the keys that
 -- transactions have set stay texts.
 use Rattle.std.specs.Prelude.{⊤}
-use Rattle.std.proofs.Common.{◌≡◌, ℕ, ◌≤◌, not, Bool, true, false, List, [], ◌∷◌, ◌++◌, length, Option, Some, None, refl, sym, ◌∙◌, subst, arith, inl, inr, ◌⊎◌}
+use Rattle.std.proofs.Common.{◌≡◌, ℕ, ◌≤◌, not, Bool, true, List, [], ◌∷◌, ◌++◌, length, Option, Some, None, refl, sym, subst, arith, inl, inr, ◌⊎◌, ap}
 use Rattle.std.proofs.lemmas.Bool.{ltb-false}
-use Rattle.std.specs.List.{AllByRecursion}
+use Rattle.std.specs.List.{AllByRecursion, list_all}
 use Rattle.ktm_base.specs.declared.id.Id.{Id}
 use Rattle.ktm_base.specs.declared.id.Label.{Label}
 use Rattle.ktm_base.specs.declared.id.Pid.{Pid}
@@ -14,7 +14,6 @@ use Rattle.ktm_types.specs.declared.change.Change.TheVariants.{Cut}
 use Rattle.ktm_types.specs.declared.command.Command.{Command}
 use Rattle.ktm_types.specs.declared.command.Command.TheVariants.{CreateTransaction, OpenTransaction, CommitTransaction, RollbackTransaction, GetTransactionInformation, CreateResourceManager, OpenResourceManager, RecoverResourceManager, GetNotificationResourceManager, CreateEnlistment, OpenEnlistment, RecoverEnlistment, PrePrepareComplete, PrepareComplete, ReadOnlyEnlistment, CommitComplete, RollbackComplete, SinglePhaseReject, RollbackEnlistment, PrePrepareEnlistment, PrepareEnlistment, CommitEnlistment, SetEnlistmentRecoveryInformation, GetEnlistmentRecoveryInformation, CreateFile, CreateFileTransacted, ReadFile, WriteFile, SetEndOfFile, GetFileSizeEx, FlushFileBuffers, DeleteFile, CreateDirectory, RemoveDirectory, MoveFile, DeleteFileTransacted, CreateDirectoryTransacted, RemoveDirectoryTransacted, MoveFileTransacted, FindFiles, FindFilesTransacted, KvSet, KvUnset, KvGet, KvList, CloseHandle, DuplicateHandle, Exit}
 use Rattle.ktm_types.specs.declared.event.Event.{Event}
-use Rattle.ktm_types.specs.declared.event.Event.TheVariants.{Undo}
 use Rattle.ktm_types.specs.declared.object.Object.{Object}
 use Rattle.ktm_types.specs.declared.object.Transaction.{Transaction}
 use Rattle.ktm_types.specs.declared.options.Access.{Access}
@@ -36,22 +35,21 @@ use Rattle.ktm_world.specs.Handles.{object_at}
 use Rattle.ktm_world.specs.KeyCalls.{with_setting}
 use Rattle.ktm_world.specs.Keys.{OwnSettings, own_settings}
 use Rattle.ktm_world.specs.Labels.{enlistment_named, file_named, file_tests, manager_named, transaction_named}
-use Rattle.ktm_world.specs.Outcome.{Outcome, apply, first_refusal, is_full, only_reply, refuse_or, within_log}
-use Rattle.ktm_world.specs.Phases.{Course, event_if}
+use Rattle.ktm_world.specs.Outcome.{Outcome, first_refusal, is_full, only_reply, refuse_or, within_log}
+use Rattle.ktm_world.specs.Phases.{Course}
 use Rattle.ktm_world.specs.Present.{Present}
 use Rattle.ktm_world.specs.TransactionCalls.{answering, arrived, commit_complete, commit_enlistment, commit_of, commit_reply, commit_transaction, course_of, create_enlistment, create_resource_manager, create_transaction, enlist, enlistment_with, get_information, get_notification, get_transaction_information, keep_information, manager_with, open_enlistment, open_resource_manager, open_to_enlistment, open_to_manager, open_to_transaction, open_transaction, pre_prepare_complete, pre_prepare_enlistment, prepare_complete, prepare_enlistment, read_only_enlistment, recover_all, recover_enlistment, recover_resource_manager, rollback_complete, rollback_enlistment, rollback_of, rollback_transaction, set_information, single_phase_reject, take_first, tick, transaction_with, recovery_of}
 use Rattle.ktm_world.specs.Steps.{led, share_of}
 use Rattle.ktm_world.specs.Transactions.{is_undecided}
 use Rattle.ktm_world.specs.Uses.{file_room}
 use Rattle.ktm_world.specs.World.{decide_tick}
-use Rattle.ktm_steps.proofs.offered.Recorded.{all-append}
 use Rattle.ktm_courses.proofs.offered.Calls.{Passes, passed, of-answering}
 use Rattle.ktm_records.proofs.offered.AgreementOfCourses.{arrival}
-use Rattle.ktm_courses.proofs.offered.Moves.{if_cases}
 use Rattle.ktm_records.proofs.OwnEvents.{IsOwnEvent, IsSpelledPut, few-led, own-led}
 use Rattle.ktm_records.proofs.OwnTexts.{Texts, texts-with_own, texts-without_own}
-use Rattle.ktm_records.proofs.offered.AgreementOfRollbacks.{rollback-undone}
+use Rattle.ktm_records.proofs.offered.AgreementOfRollbacks.{is_undo, undoes-aborted, undoes-closing}
 use Rattle.ktm_courses.proofs.offered.HandlesAndTime.{Closes, close_handle-so, exit-so, tick-so}
+use Rattle.ktm_steps.proofs.offered.Ways.{if_cases}
 
 -- ---- texts
 
@@ -68,18 +66,13 @@ texts-setting x (Some id) key value text texts = texts-with_own x.keys.own id ke
 
 -- ---- rollbacks
 
--- is the event a rollback
-abbrev pub IsUndo : Event → Type 0
-IsUndo (Undo transaction) = ⊤
-IsUndo _ = ⊥
-
 -- an outcome records rollbacks alone
 record Rolls (x : Present) (o : Outcome) : Type 0 where
   texts : KeepsTexts x o
-  undos : AllByRecursion IsUndo o.events
+  undos : list_all is_undo o.events ≡ true
 
 rolls-same : (x : Present) (o : Outcome) → o.own ≡ x.keys.own → o.events ≡ [] → Rolls x o
-rolls-same x o own none = record { texts = subst Texts (sym own); undos = subst (AllByRecursion IsUndo) (sym none) tt }
+rolls-same x o own none = record { texts = subst Texts (sym own); undos = ap (list_all is_undo) none }
 
 rolls-reply : (x : Present) (reply : Reply) → Rolls x (only_reply x reply)
 rolls-reply x reply = rolls-same x (only_reply x reply) refl refl
@@ -87,19 +80,15 @@ rolls-reply x reply = rolls-same x (only_reply x reply) refl refl
 rolls-back : (x : Present) (t : Transaction) (caller : Option Enlistment) (reply : Reply) → Rolls x (arrived x (led PhaseInput.Rollback (course_of x t caller)) reply)
 rolls-back x t caller reply = record {
   texts = texts-arrived x (led PhaseInput.Rollback (course_of x t caller)) reply;
-  undos = subst (AllByRecursion IsUndo) (sym ((arrival x (led PhaseInput.Rollback (course_of x t caller)) reply).events ∙ (rollback-undone (course_of x t caller)).events)) (undo t.is_recorded);
+  undos = undoes-aborted x t caller reply;
 }
-  where
-    undo : (b : Bool) → AllByRecursion IsUndo (event_if b (Undo t.id))
-    undo true = (tt, tt)
-    undo false = tt
 
 rolls-closing : Closes (λ x. ⊤) Rolls
 rolls-closing = record {
   rolls = record {
     reply = λ x asked. rolls-reply x Done;
     rolls = λ x t asked there can. rolls-back x t None Done;
-    goes_on = λ x a next first second. let rest = second tt in record { texts = λ texts. rest.texts (first.texts texts); undos = all-append IsUndo a.events (next (apply x a)).events first.undos rest.undos };
+    goes_on = λ x a next first second. let rest = second tt in record { texts = λ texts. rest.texts (first.texts texts); undos = undoes-closing.rolls.goes_on x a next first.undos (λ asked. rest.undos) };
   };
   unbinds = λ x process label asked. rolls-same x _ refl refl;
   ends = λ x number asked. rolls-same x _ refl refl;
@@ -128,7 +117,7 @@ module _ (Files : List Change → Type 0) (Keys : OwnSettings → Type 0) where
 
   -- rollbacks alone, or at most six events that are so
   abbrev pub IsShortGroup : List Event → Type 0
-  IsShortGroup events = AllByRecursion IsUndo events ⊎ (AllByRecursion (IsOwnEvent Files Keys) events × (length events ≤ 6))
+  IsShortGroup events = (list_all is_undo events ≡ true) ⊎ (AllByRecursion (IsOwnEvent Files Keys) events × (length events ≤ 6))
 
   -- an outcome records such a group, and leaves the keys texts
   pub record Does (x : Present) (o : Outcome) : Type 0 where
@@ -212,7 +201,7 @@ module _ (Files : List Change → Type 0) (Keys : OwnSettings → Type 0) where
     does-of_files None o put = record { texts = λ texts. texts; group = go o.change (put refl) }
       where
         go : (change : Option Change) → IsPut change → IsShortGroup (events_of None change)
-        go None put' = inl tt
+        go None put' = inl refl
         go (Some change) put' = inr ((put', tt), omega arith)
 
     does-files : (who : Option Id) (o : FileOutcome) → IsPut o.change → Does x (of_files x who o)
@@ -316,7 +305,7 @@ module _ (Files : List Change → Type 0) (Keys : OwnSettings → Type 0) where
     -- ---- keys
 
     does-setting : (who : Option Id) (key : List ℕ) (value : Option (List ℕ)) → IsText key → Does x (of_keys x (record { reply = Done; own = with_setting x.keys.own who key value }))
-    does-setting who key value text = record { texts = texts-setting x who key value text; group = inl tt }
+    does-setting who key value text = record { texts = texts-setting x who key value text; group = inl refl }
 
     -- ---- every call
 

@@ -26,9 +26,9 @@ use Rattle.txf_laws.specs.Elements.{IsIn}
 use Rattle.ktm_records.specs.Spelling.{AreRecordedTexts, AreTexts, HaveTextKeys, settings_of_event}
 use Rattle.txf_laws.proofs.offered.Elements.{IsIn-filter, IsIn-flat_map, IsIn-unflat}
 use Rattle.txf_laws.proofs.offered.Lists.{IsIn-cases, IsIn-unmap}
-use Rattle.ktm_courses.proofs.offered.Moves.{if_cases}
 use Rattle.txf_laws.proofs.offered.CommitsOfOthers.{All-by, All-in}
 use Rattle.txf_laws.proofs.offered.Tables.{recorded_at-found}
+use Rattle.ktm_steps.proofs.offered.Ways.{if_cases}
 
 -- is the key a text
 abbrev pub HasTextKey : Keyed (Option (List ℕ)) → Type 0

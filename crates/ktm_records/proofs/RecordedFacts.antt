@@ -43,11 +43,11 @@ use Rattle.txf_laws.proofs.offered.Elements.{IsIn-filter, list_all-at}
 use Rattle.ktm_records.proofs.Facts.{facts-one}
 use Rattle.txf_laws.proofs.offered.Lists.{IsIn-unmap}
 use Rattle.ktm_courses.proofs.offered.NewObjects.{next-other}
-use Rattle.ktm_courses.proofs.offered.Moves.{if_cases}
 use Rattle.ktm_records.proofs.offered.PlainFacts.{MayLand, facts-of_files, facts-opening, facts-plain, facts-set_end, facts-write, lands-created}
 use Rattle.ktm_owned.proofs.offered.PlainCalls.{plain-deleted, plain-made, plain-moved, plain-removed}
 use Rattle.ktm_records.proofs.UndoFacts.{FactsOf, facts-closed, facts-exit, facts-tick}
 use Rattle.std.proofs.lemmas.Option.{none-some}
+use Rattle.ktm_steps.proofs.offered.Ways.{if_cases}
 
 module _ (lists : ListsLaw) (formed : FormedLaw) (x : Present) (kept : IsKept x) where
   -- ---- what records nothing

@@ -32,9 +32,10 @@ use Rattle.ktm_records.specs.Spelling.{AreSpelled, SpellingLaw}
 use Rattle.ktm_records.proofs.offered.DurableLimits.{limits-kept}
 use Rattle.txf_laws.proofs.offered.Elements.{list_all-at, list_any-at, length-filter-less}
 use Rattle.ktm_records.proofs.OwnEvents.{IsOwnEvent, IsSpelledPut}
-use Rattle.ktm_records.proofs.OwnRecords.{IsShortGroup, IsUndo, Owned, does-decided, does-tick}
+use Rattle.ktm_records.proofs.OwnRecords.{IsShortGroup, Owned, does-decided, does-tick}
 use Rattle.ktm_records.proofs.offered.OwnSizes.{spelled-name, spelled-owned}
 use Rattle.ktm_records.proofs.OwnTexts.{grouped-texts, recorded-texts, restarted-texts, spelled-texts}
+use Rattle.ktm_records.proofs.offered.AgreementOfRollbacks.{is_undo}
 
 -- ---- the parts of events
 
@@ -121,20 +122,13 @@ spelled-events (event ∷ events) s is named own =
 
 -- ---- rollbacks
 
-own-undo : (event : Event) → IsUndo event → IsOwn event
+own-undo : (event : Event) → is_undo event ≡ true → IsOwn event
 own-undo (Undo transaction) is = tt
-own-undo (Boot boot) is = absurd is
-own-undo (MadeRm manager) is = absurd is
-own-undo (Plain change) is = absurd is
-own-undo (Ready transaction part) is = absurd is
-own-undo (Single transaction part) is = absurd is
-own-undo (Held transaction enlistment manager information) is = absurd is
-own-undo (Decide transaction) is = absurd is
-own-undo (Done transaction done) is = absurd is
+own-undo _ is = absurd (true≢false (sym is))
 
-own-undos : (events : List Event) → AllByRecursion IsUndo events → AllByRecursion IsOwn events
+own-undos : (events : List Event) → list_all is_undo events ≡ true → AllByRecursion IsOwn events
 own-undos [] all = tt
-own-undos (event ∷ events) all = (own-undo event all.0, own-undos events all.1)
+own-undos (event ∷ events) all = let parts = and_parts (is_undo event) (list_all is_undo events) all in (own-undo event parts.0, own-undos events parts.1)
 
 -- one that is there is left out
 length-left : {X : Type 0} (keep : X → Bool) (xs : List X) (x : X) → IsIn x xs → keep x ≡ false → length (filter keep xs) + 1 ≤ length xs
@@ -145,22 +139,15 @@ length-left keep (y ∷ ys) x (inr there) out =
     elim (cases_Bool (keep y)) [ inl stays ↦ rw stays (omega (arith, rest)) | inr goes ↦ rw goes (omega (arith, rest)) ]
 
 -- each takes a transaction out of the log
-few-undos : (events : List Event) (s : Durable) → facts_apply s events ≡ true → AllByRecursion IsUndo events → length events ≤ length s.transactions
+few-undos : (events : List Event) (s : Durable) → facts_apply s events ≡ true → list_all is_undo events ≡ true → length events ≤ length s.transactions
 few-undos [] s is all = omega arith
 few-undos (Undo transaction ∷ events) s is all =
     let here = and_parts (fact_applies s (Undo transaction)) (facts_apply (after_event s (Undo transaction)) events) is in
     let at = list_any-at (λ (t : Recorded). same_id t.id transaction && not (is_decided t.stage)) s.transactions here.0 in
     let left = length-left (λ (t : Recorded). not (same_id t.id transaction)) s.transactions at.0 at.1 (ap not (and_parts (same_id at.0.id transaction) (not (is_decided at.0.stage)) at.2).0) in
-    let rest = few-undos events (after_event s (Undo transaction)) here.1 all.1 in
+    let rest = few-undos events (after_event s (Undo transaction)) here.1 all in
     omega (arith, left, rest)
-few-undos (Boot boot ∷ events) s is all = absurd all.0
-few-undos (MadeRm manager ∷ events) s is all = absurd all.0
-few-undos (Plain change ∷ events) s is all = absurd all.0
-few-undos (Ready transaction part ∷ events) s is all = absurd all.0
-few-undos (Single transaction part ∷ events) s is all = absurd all.0
-few-undos (Held transaction enlistment manager information ∷ events) s is all = absurd all.0
-few-undos (Decide transaction ∷ events) s is all = absurd all.0
-few-undos (Done transaction done ∷ events) s is all = absurd all.0
+few-undos (_ ∷ events) s is all = absurd (true≢false (sym all))
 
 -- ---- what a restart records
 

@@ -23,12 +23,13 @@ use Rattle.txf_laws.proofs.offered.Lists.{IsIn-unmap}
 use Rattle.txf_laws.proofs.offered.Elements.{list_all-at, list_all-from, list_any-at, list_any-from}
 use Rattle.txf_laws.proofs.offered.Tables.{same_id-equal, same_id-from, same_id-sym}
 use Rattle.ktm_courses.proofs.offered.Views.{recorded-durable, list_any-map, list_all-map, each_pair-map}
-use Rattle.ktm_courses.proofs.offered.Moves.{same-by_id, if_cases}
+use Rattle.ktm_courses.proofs.offered.Moves.{same-by_id}
 use Rattle.ktm_courses.proofs.offered.Endings.{superior-found}
 use Rattle.ktm_courses.proofs.offered.NewObjects.{list_all-push, list_any-push, list_any-silent, filter-silent, superior-silent, each_pair-push, next_id, counted-before, counted-more, counted-next, next-other}
 use Rattle.ktm_world.specs.TransactionCalls.{later}
 use Rattle.ktm_types.specs.declared.object.TransactionOutcome.TheVariants.{Undetermined}
 use Rattle.ktm_world.specs.Enlistments.{has_id, with_enlistments}
+use Rattle.ktm_steps.proofs.offered.Ways.{if_cases}
 
 -- ---- a transaction
 

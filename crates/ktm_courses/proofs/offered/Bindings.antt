@@ -32,7 +32,7 @@ use Rattle.txf_laws.specs.Elements.{IsIn}
 use Rattle.ktm_courses.specs.SoundCourse.{IsSoundCourse, have_labels_apart, is_there}
 use Rattle.txf_laws.proofs.offered.Elements.{IsIn-filter, list_all-at, list_any-from, each_pair-filter, not-not}
 use Rattle.txf_laws.proofs.offered.Tables.{same_id-from}
-use Rattle.ktm_courses.proofs.offered.Moves.{find-found, if_cases, NoBoots, NoBoots-none, NoBoots-one}
+use Rattle.ktm_courses.proofs.offered.Moves.{find-found, NoBoots, NoBoots-none, NoBoots-one}
 use Rattle.ktm_courses.proofs.offered.Views.{sound-alike, sound-served}
 use Rattle.ktm_courses.specs.Outcomes.{OutcomesStay}
 use Rattle.ktm_courses.proofs.offered.Outcomes.{stay-refl, stay-then, stay-push}
@@ -41,6 +41,7 @@ use Rattle.ktm_courses.proofs.offered.NewObjects.{list_any-last, next_id, sound-
 use Rattle.ktm_courses.proofs.offered.Beginnings.{with_transaction, sound-with_transaction, with_manager, sound-with_manager, new_enlistment, with_new_enlistment, sound-with_enlistment, sound-clock, sound-with_information}
 use Rattle.ktm_courses.proofs.offered.Calls.{Passes, passed, active-phase, sound-aborted_by}
 use Rattle.ktm_courses.proofs.offered.HandlesAndTime.{Closes, close_handle-so, exit-so, tick-so}
+use Rattle.ktm_steps.proofs.offered.Ways.{if_cases}
 
 -- ---- labels
 

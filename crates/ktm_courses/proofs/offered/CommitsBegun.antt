@@ -15,12 +15,12 @@ use Rattle.ktm_world.specs.Phases.{Course, ended, in_phase, recording, telling, 
 use Rattle.ktm_world.specs.Transactions.{is_undecided}
 use Rattle.ktm_world.specs.Changes.{has_changes}
 use Rattle.ktm_world.specs.Steps.{led, run, counted, seen}
-use Rattle.ktm_steps.proofs.offered.Ways.{Ways, commit-by, pre_prepare-by, prepare-by, proceed-by}
+use Rattle.ktm_steps.proofs.offered.Ways.{Ways, commit-by, pre_prepare-by, prepare-by, proceed-by, if_cases}
 use Rattle.txf_laws.specs.Elements.{IsIn}
 use Rattle.ktm_courses.specs.SoundCourse.{is_last_recover, is_unrecovered_well, is_outcome_of, is_of_its_boot, is_superior_as, is_idle, is_waiting, is_part_as, is_awaited, has_durable_part, is_recorded_as_asked}
 use Rattle.txf_laws.proofs.offered.Diamonds.{none-from}
 use Rattle.txf_laws.proofs.offered.Elements.{list_any-at, list_any-from}
-use Rattle.ktm_courses.proofs.offered.Moves.{if_cases, IsIn-map, IsSame, IsSame-refl, Moved, Moved-then, moved-transaction, moved-telling, Changes, changes-none, stepped, with-unchanged, Stand, Stand-with, moved-still}
+use Rattle.ktm_courses.proofs.offered.Moves.{IsIn-map, IsSame, IsSame-refl, Moved, Moved-then, moved-transaction, moved-telling, Changes, changes-none, stepped, with-unchanged, Stand, Stand-with, moved-still}
 use Rattle.ktm_courses.proofs.offered.Endings.{filter-with, superior-with, idle-parts, part-parts, unprepared-recovered, Arrives, arrives-then, its-own, arrives-ended, alike-owing, no-parts, Stand-nobody, only-one, arrives-all_ready, AllReady}
 use Rattle.ktm_steps.proofs.offered.Counts.{parts-counted, some-counted}
 use Rattle.ktm_world.specs.Rows.{proceeds}

@@ -19,7 +19,7 @@ use Rattle.ktm_world.specs.Steps.{led, counted, held_event, is_meant, run, seen}
 use Rattle.txf_laws.specs.Elements.{IsIn}
 use Rattle.ktm_courses.specs.SoundCourse.{is_last_recover, is_unrecovered_well, is_outcome_of, is_of_its_boot, has_superior_as_asked, is_idle, is_waiting, owes_until_finished, is_part_as, is_awaited, has_durable_part, is_recorded_as_asked}
 use Rattle.txf_laws.proofs.offered.Elements.{IsIn-kept, list_any-at, list_any-from}
-use Rattle.ktm_courses.proofs.offered.Moves.{if_cases, IsSame, IsAlike, Moved, Moved-then, moved-transaction, moved-telling, changes-none, stepped, with-unchanged, Stand, Stand-with, Stand-as, moved-still}
+use Rattle.ktm_courses.proofs.offered.Moves.{IsSame, IsAlike, Moved, Moved-then, moved-transaction, moved-telling, changes-none, stepped, with-unchanged, Stand, Stand-with, Stand-as, moved-still}
 use Rattle.ktm_steps.proofs.offered.Table.{all_readies-by, held, readied}
 use Rattle.ktm_steps.proofs.offered.Counts.{some-counted}
 use Rattle.ktm_world.specs.Rows.{all_readies, commits}
@@ -27,6 +27,7 @@ use Rattle.ktm_types.specs.declared.step.Fact.{Fact}
 use Rattle.ktm_types.specs.declared.step.Step.{Step}
 use Rattle.ktm_types.specs.declared.step.Step.TheVariants.{Record}
 use Rattle.ktm_types.specs.declared.step.Who.{Who}
+use Rattle.ktm_steps.proofs.offered.Ways.{if_cases}
 
 -- ---- tests on enlistments
 

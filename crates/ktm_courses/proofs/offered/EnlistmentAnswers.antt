@@ -20,7 +20,7 @@ use Rattle.ktm_courses.specs.SoundCourse.{is_last_recover, is_phase_back, is_unr
 use Rattle.txf_laws.proofs.offered.Diamonds.{none-from}
 use Rattle.txf_laws.proofs.offered.Lists.{IsIn-unmap}
 use Rattle.txf_laws.proofs.offered.Elements.{list_any-at, list_any-from, list_all-at}
-use Rattle.ktm_courses.proofs.offered.Moves.{same-by_id, if_parts, moved-changing, unrecovered-moved, if_cases, IsIn-map, IsSame, IsSame-refl, IsAlike, Moved, Moved-then, moved-transaction, moved-telling, Changes, stepped, with-unchanged, is_bystander, Stand, Stand-with, Stand-as, moved-still}
+use Rattle.ktm_courses.proofs.offered.Moves.{same-by_id, if_parts, moved-changing, unrecovered-moved, IsIn-map, IsSame, IsSame-refl, IsAlike, Moved, Moved-then, moved-transaction, moved-telling, Changes, stepped, with-unchanged, is_bystander, Stand, Stand-with, Stand-as, moved-still}
 use Rattle.ktm_courses.proofs.offered.Endings.{is_backed-from, waiting-parts, over-part, arrives-if_finished, may_be_told, arrives-aborting, none-at, list_any-told, list_any-with, filter-with, superior-with, idle-parts, part-parts, unprepared-recovered, Arrives, Stands, arrives-then, alike-owing, Stand-nobody, only-one, arrives-ended, arrives-all_ready}
 use Rattle.ktm_world.specs.Durable.{is_before}
 use Rattle.ktm_world.specs.Steps.{led, answered, run, seen, share_of}
@@ -29,27 +29,19 @@ use Rattle.txf_laws.proofs.offered.Tables.{same_id-equal, same_id-from, before_o
 use Rattle.ktm_courses.proofs.offered.CommitsBegun.{Fresh, arrives-pre_prepared}
 use Rattle.ktm_steps.specs.Laws.{IsPart, by, someone_owes, when_none_owes}
 use Rattle.ktm_steps.proofs.offered.Table.{rows_law}
-use Rattle.ktm_steps.proofs.offered.Ways.{choose}
 use Rattle.ktm_world.specs.Rows.{all_readies, proceeds, proceeds_without, row, tells_in}
 use Rattle.ktm_types.specs.declared.step.Answered.{Answered}
 use Rattle.ktm_types.specs.declared.step.Fact.{Fact}
 use Rattle.ktm_types.specs.declared.step.Step.{Step}
 use Rattle.ktm_types.specs.declared.step.Step.TheVariants.{Record}
 use Rattle.ktm_base.specs.declared.id.Id.{Id}
-use Rattle.std.specs.List.{list_any, list_all}
+use Rattle.std.specs.List.{list_all}
+use Rattle.ktm_steps.proofs.offered.Ways.{if_cases}
 
 -- ---- enlistments by their Ids
 
 abbrev pub RiseEnlistments : List Enlistment → Type 0
 RiseEnlistments es = each_pair (λ (e f : Enlistment). is_before e.id f.id) es ≡ true
-
--- the enlistment, with those before it and those after it, of which none has its Id
-record Between (e : Enlistment) (es : List Enlistment) : Type 0 where
-  before : List Enlistment
-  after : List Enlistment
-  is : es ≡ before ++ (e ∷ after)
-  none_before : list_any (has_id e.id) before ≡ false
-  none_after : list_any (has_id e.id) after ≡ false
 
 -- an Id before another is another
 earlier : (a b : Id) → is_before a b ≡ true → same_id a b ≡ false
@@ -58,9 +50,10 @@ earlier a b before = false_from_ne_true _ (λ same. before_other a b before (sam
 later : (a b : Id) → is_before a b ≡ true → same_id b a ≡ false
 later a b before = false_from_ne_true _ (λ same. before_other a b before (sym (same_id-equal b a same)))
 
-between : (e : Enlistment) (es : List Enlistment) → RiseEnlistments es → IsIn e es → Between e es
-between e [] rise there = absurd there
-between e (f ∷ fs) rise (inl same) =
+-- one that takes part is the only one with its Id
+is-part-of : (c : Course) (e : Enlistment) (es : List Enlistment) → RiseEnlistments es → IsIn e es → takes_part (c.transaction).id e ≡ true → IsPart (record c { enlistments = es }) e
+is-part-of c e [] rise there part = absurd there
+is-part-of c e (f ∷ fs) rise (inl same) part =
     let first : list_all (λ (g : Enlistment). is_before f.id g.id) fs ≡ true = (and_parts (list_all (λ (g : Enlistment). is_before f.id g.id) fs) (each_pair (λ (a b : Enlistment). is_before a.id b.id) fs) rise).0 in
     record {
       before = [];
@@ -68,23 +61,22 @@ between e (f ∷ fs) rise (inl same) =
       is = ap (λ g. g ∷ fs) same;
       none_before = refl;
       none_after = none-from (has_id e.id) fs (λ g there. later e.id g.id (subst (λ (x : Enlistment). is_before x.id g.id ≡ true) same (list_all-at (λ (g : Enlistment). is_before f.id g.id) fs first g there)));
+      part = part;
     }
-between e (f ∷ fs) rise (inr there) =
+is-part-of c e (f ∷ fs) rise (inr there) part =
     let both = and_parts (list_all (λ (g : Enlistment). is_before f.id g.id) fs) (each_pair (λ (a b : Enlistment). is_before a.id b.id) fs) rise in
-    let rest = between e fs both.1 there in
+    let rest = is-part-of c e fs both.1 there part in
     record {
       before = f ∷ rest.before;
       after = rest.after;
       is = ap (λ gs. f ∷ gs) rest.is;
       none_before = rw (earlier f.id e.id (list_all-at (λ (g : Enlistment). is_before f.id g.id) fs both.0 e there)) rest.none_before;
       none_after = rest.none_after;
+      part = part;
     }
 
--- one that takes part is the only one with its Id
-pub is-part : (c : Course) (e : Enlistment) → RiseEnlistments c.enlistments → IsIn e c.enlistments → takes_part c.transaction.id e ≡ true → IsPart c e
-is-part c e rise there part =
-    let at = between e c.enlistments rise there in
-    record { before = at.before; after = at.after; is = at.is; none_before = at.none_before; none_after = at.none_after; part = part }
+pub is-part : (c : Course) (e : Enlistment) → RiseEnlistments c.enlistments → IsIn e c.enlistments → takes_part (c.transaction).id e ≡ true → IsPart c e
+is-part c e rise there part = is-part-of c e c.enlistments rise there part
 
 -- ---- what is owed
 
@@ -276,11 +268,11 @@ undecided-rolls t = go t.phase
 
 -- ---- one enlistment answers
 
-module _ (boot : ℕ) (before_it : Course) (e : Enlistment) (stands : Stands boot (by before_it e)) (brought : (e : Enlistment) → IsIn e before_it.enlistments → is_unrecovered_well boot before_it.managers e ≡ true)
-    (rise : RiseEnlistments before_it.enlistments) (there : IsIn e before_it.enlistments) (own : same_id e.transaction (before_it.transaction).id ≡ true) where
+module _ (boot : ℕ) (begun : Course) (e : Enlistment) (stands : Stands boot (by begun e)) (brought : (e : Enlistment) → IsIn e begun.enlistments → is_unrecovered_well boot begun.managers e ≡ true)
+    (rise : RiseEnlistments begun.enlistments) (there : IsIn e begun.enlistments) (own : same_id e.transaction (begun.transaction).id ≡ true) where
   -- the course where it makes the call
   abbrev c : Course
-  c = by before_it e
+  c = by begun e
 
   it : (x : Enlistment) → IsIn x c.enlistments → has_id e.id x ≡ true → x ≡ e
   it x there' is = same-by_id (λ (f : Enlistment). f.id) c.enlistments rise x e there' there (same_id-equal x.id e.id is)
@@ -721,7 +713,7 @@ module _ (boot : ℕ) (before_it : Course) (e : Enlistment) (stands : Stands boo
 
     pub arrives-commit_complete : Arrives boot c (led PhaseInput.CommitComplete c)
     unfolding led
-    arrives-commit_complete = choose (λ steps. Arrives boot c (run steps c_finished)) (is_single_phase (c.transaction).phase) _ _
+    arrives-commit_complete = if_cases (λ steps. Arrives boot c (run steps c_finished)) (is_single_phase (c.transaction).phase) _ _
         (λ single. elim (is-committing (c.transaction).phase (phase-owing Owed.Commit is_commit)) [
           | inl phase ↦ absurd (true≢false (sym single ∙ ap is_single_phase phase))
           | inr phase ↦ arrives-then boot (finished-moved Owed.Commit is_commit) (arrives-ended boot c_finished TransactionOutcome.Committed refl (is_backed-from boot c.transaction stands.boots)

@@ -15,7 +15,7 @@ use Rattle.ktm_world.specs.Transactions.{is_active, transaction_at}
 use Rattle.txf_laws.specs.Elements.{IsIn}
 use Rattle.ktm_courses.proofs.offered.Calls.{active-phase, may-roll, transaction_at-found}
 use Rattle.ktm_courses.proofs.offered.EnlistmentAnswers.{can_roll_back}
-use Rattle.ktm_courses.proofs.offered.Moves.{if_cases}
+use Rattle.ktm_steps.proofs.offered.Ways.{if_cases}
 
 -- of a machine that is as asked, something is so of an outcome
 module _ (Asked : Present → Type 0) (P : Present → Outcome → Type 0) where

@@ -22,13 +22,9 @@ use Rattle.ktm_steps.proofs.offered.Staying.{Stays, stays, stays-then}
 use Rattle.txf_laws.proofs.offered.Elements.{IsIn-filter, each_pair-either}
 use Rattle.txf_laws.proofs.offered.Tables.{before_other}
 use Rattle.ktm_world.specs.Steps.{lasting, lasting_of}
+use Rattle.ktm_steps.proofs.offered.Ways.{if_cases}
 
--- either branch of a test
-pub if_cases : {X : Type 0} (P : X → Type 0) (b : Bool) (x y : X) → (b ≡ true → P x) → (b ≡ false → P y) → P (if b then x else y)
-if_cases P true x y on off = on refl
-if_cases P false x y on off = off refl
-
--- what holds of it, and what it takes
+-- what holds where one of two is taken
 pub if_parts : (b x y : Bool) → (if b then x else y) ≡ true → ((b ≡ true) × (x ≡ true)) ⊎ ((b ≡ false) × (y ≡ true))
 if_parts true x y is = inl (refl, is)
 if_parts false x y is = inr (refl, is)

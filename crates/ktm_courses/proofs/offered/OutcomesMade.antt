@@ -36,10 +36,11 @@ use Rattle.ktm_courses.specs.Outcomes.{OutcomesStay}
 use Rattle.ktm_courses.proofs.offered.Outcomes.{stay-refl, stay-changed, stays-known}
 use Rattle.txf_laws.proofs.offered.Elements.{list_all-at, list_all-from, list_any-at}
 use Rattle.txf_laws.proofs.offered.Tables.{same_id-equal, same_id-sym}
-use Rattle.ktm_courses.proofs.offered.Moves.{if_cases, is_boot, NoBoots, NoBoots-none, of-superior}
+use Rattle.ktm_courses.proofs.offered.Moves.{is_boot, NoBoots, NoBoots-none, of-superior}
 use Rattle.ktm_courses.proofs.offered.Endings.{Arrives}
 use Rattle.ktm_courses.proofs.offered.Views.{sound-alike, sound-served}
 use Rattle.ktm_courses.proofs.offered.Arrivals.{with_course, changed_to, IsIn-changed, sound-course, notes-course}
+use Rattle.ktm_steps.proofs.offered.Ways.{if_cases}
 
 -- ---- events that are no boots
 

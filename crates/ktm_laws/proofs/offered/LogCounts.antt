@@ -20,8 +20,8 @@ use Rattle.ktm_records.specs.Kept.{facts_apply, limits_hold}
 use Rattle.ktm_states.specs.OwnGroup.{OwnGroupLaw}
 use Rattle.ktm_laws.specs.Running.{IsRoomy}
 use Rattle.txf_laws.proofs.offered.Elements.{list_all-at, list_all-from, IsIn-unflat}
-use Rattle.ktm_courses.proofs.offered.Moves.{if_cases}
 use Rattle.ktm_courses.proofs.offered.OutcomesMade.{event-kept}
+use Rattle.ktm_steps.proofs.offered.Ways.{if_cases}
 
 -- ---- what applies
 

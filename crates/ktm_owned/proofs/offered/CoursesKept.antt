@@ -18,9 +18,10 @@ use Rattle.ktm_world.specs.Rows.{row}
 use Rattle.ktm_world.specs.Steps.{carried, changing, led, run, seen}
 use Rattle.ktm_world.specs.Transactions.{is_undecided}
 use Rattle.ktm_steps.proofs.offered.Lists.{each-row-passes}
-use Rattle.ktm_steps.proofs.offered.Staying.{either-course, stays-led, stays-step}
+use Rattle.ktm_steps.proofs.offered.Staying.{stays-led, stays-step}
 use Rattle.ktm_courses.proofs.offered.Moves.{NoBoots}
 use Rattle.ktm_courses.proofs.offered.OutcomesMade.{led-no_boots}
+use Rattle.ktm_steps.proofs.offered.Ways.{if_cases}
 
 -- at most one work, which commits what the transaction has to commit
 abbrev pub OneWork : List Change → OwnSettings → List Work → Type 0
@@ -152,8 +153,8 @@ module _ (t : Transaction) (cs : List Change) (ss : OwnSettings) where
   works-run s (Step.EndWhereFinished outcome ∷ steps) c passes has is =
       let all = and_parts (is_known outcome && keeps s steps) (keeps over steps) passes in
       let both = and_parts (is_known outcome) (keeps s steps) all.0 in
-      either-course (λ d. Done (run steps d)) (list_any (is_unfinished c.transaction.id) c.enlistments) c (ended c outcome)
-      (works-run s steps c both.1 has is) (works-run over steps (ended c outcome) all.1 (has-ended c outcome has) (over-ended s c outcome both.0 is))
+      if_cases (λ d. Done (run steps d)) (list_any (is_unfinished c.transaction.id) c.enlistments) c (ended c outcome)
+      (λ some. works-run s steps c both.1 has is) (λ none. works-run over steps (ended c outcome) all.1 (has-ended c outcome has) (over-ended s c outcome both.0 is))
   works-run s (Step.Change answer ∷ steps) c passes has is = works-run s steps (carried (Step.Change answer) c) passes (has-step (Step.Change answer) c has) (same-changing s c c.caller _ is)
   works-run s (Step.Record fact ∷ steps) c passes has is = works-run s steps (carried (Step.Record fact) c) passes (has-step (Step.Record fact) c has) (same s c (carried (Step.Record fact) c) refl refl is)
   works-run s (Step.Tell who kind ∷ steps) c passes has is = works-run s steps (carried (Step.Tell who kind) c) passes (has-step (Step.Tell who kind) c has) (same s c (carried (Step.Tell who kind) c) refl refl is)

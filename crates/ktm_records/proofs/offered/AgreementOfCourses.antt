@@ -30,11 +30,12 @@ use Rattle.ktm_records.proofs.offered.Agreement.{Agreed, durable-stays, filter-a
 use Rattle.txf_laws.proofs.offered.Diamonds.{IsIn-map, IsIn-right}
 use Rattle.txf_laws.proofs.offered.Elements.{IsIn-unflat, first-same, list_all-at, list_all-from, rest-same, some-not_none}
 use Rattle.txf_laws.proofs.offered.Lists.{IsIn-cases, IsIn-left}
-use Rattle.ktm_courses.proofs.offered.Moves.{if_cases, Moved}
+use Rattle.ktm_courses.proofs.offered.Moves.{Moved}
 use Rattle.ktm_records.proofs.LoggedOrder.{Place, earlier-other, gathered-at, if_there, later-other, place, placed, unmap-append}
 use Rattle.ktm_courses.proofs.offered.OutcomesMade.{own_changes-without, own_settings-without}
 use Rattle.txf_laws.proofs.offered.Tables.{same_id-equal}
 use Rattle.ktm_records.proofs.LoggedTransaction.{Tracks}
+use Rattle.ktm_steps.proofs.offered.Ways.{if_cases}
 
 -- ---- Ids of summaries
 

@@ -1,6 +1,6 @@
--- What was recorded agrees with what is so now after a transaction has rolled back.
+-- What is recorded of a transaction that rolls back, with which what is so then agrees.
 use Rattle.std.proofs.Common.{◌≡◌, Bool, true, false, [], ◌∷◌, ◌++◌, Option, None, refl, sym, ◌∙◌, ap, List}
-use Rattle.std.specs.List.{list_any}
+use Rattle.std.specs.List.{list_any, list_all}
 use Rattle.ktm_base.specs.declared.notify.Notify.{Notify}
 use Rattle.ktm_types.specs.declared.event.Event.{Event}
 use Rattle.ktm_types.specs.declared.input.PhaseInput.{PhaseInput}
@@ -24,9 +24,14 @@ use Rattle.ktm_courses.specs.SoundCourse.{IsSoundCourse}
 use Rattle.ktm_records.proofs.offered.Agreement.{Agreed}
 use Rattle.ktm_courses.proofs.offered.EnlistmentAnswers.{can_roll_back}
 use Rattle.ktm_courses.proofs.offered.Calls.{rolled_back}
-use Rattle.ktm_records.proofs.offered.AgreementOfCourses.{Follows, Was, agreed-arrived, begun, carried-itself, follows-from, none-in, none-unrecorded, placed-at, was}
-use Rattle.ktm_courses.proofs.offered.Moves.{if_cases}
+use Rattle.ktm_records.proofs.offered.AgreementOfCourses.{Follows, Was, agreed-arrived, begun, carried-itself, follows-from, none-in, none-unrecorded, placed-at, was, arrival}
 use Rattle.ktm_records.proofs.LoggedTransaction.{tracks-undone}
+use Rattle.ktm_courses.proofs.offered.HandlesAndTime.{Closes}
+use Rattle.std.proofs.lemmas.List.Folds.{list_all-append}
+use Rattle.std.proofs.lemmas.Bool.{and_from}
+use Rattle.std.specs.Prelude.{⊤}
+use Rattle.ktm_types.specs.declared.reply.Reply.TheVariants.{Done}
+use Rattle.ktm_steps.proofs.offered.Ways.{if_cases}
 
 -- a course that has rolled back: undone where the log had it, with nothing committed, in a phase that the log knows nothing of
 pub record HasUndone (c d : Course) : Type 0 where
@@ -43,6 +48,37 @@ unfolding led ended
 rollback-undone c =
     let d = run undoing c in
     if_cases (λ d. HasUndone c d) (list_any (is_unfinished d.transaction.id) d.enlistments) d (ended d Aborted) (λ some. record { events = refl; works = refl; stage = refl }) (λ none. record { events = refl; works = refl; stage = refl })
+
+-- ---- rollbacks alone are recorded
+
+-- is the event a rollback
+abbrev pub is_undo : Event → Bool
+is_undo (Event.Undo id) = true
+is_undo _ = false
+
+pub undoes-led : (c : Course) → c.events ≡ [] → list_all is_undo (led PhaseInput.Rollback c).events ≡ true
+undoes-led c none = ap (list_all is_undo) ((rollback-undone c).events ∙ ap (λ es. es ++ event_if c.transaction.is_recorded (Event.Undo c.transaction.id)) none) ∙ go c.transaction.is_recorded
+  where
+    go : (b : Bool) → list_all is_undo (event_if b (Event.Undo c.transaction.id)) ≡ true
+    go true = refl
+    go false = refl
+
+pub undoes-aborted : (x : Present) (t : Transaction) (caller : Option Enlistment) (reply : Reply) → list_all is_undo (aborted_by x t caller reply).events ≡ true
+undoes-aborted x t caller reply = ap (list_all is_undo) (arrival x (led PhaseInput.Rollback (course_of x t caller)) reply).events ∙ undoes-led (course_of x t caller) refl
+
+-- also where handles are closed, and as time passes
+pub undoes-closing : Closes (λ x. ⊤) (λ x o. list_all is_undo o.events ≡ true)
+undoes-closing = record {
+  rolls = record {
+    reply = λ x asked. refl;
+    rolls = λ x t asked there can. undoes-aborted x t None Done;
+    goes_on = λ x a next first second. list_all-append is_undo a.events (next (apply x a)).events ∙ and_from _ _ first (second tt);
+  };
+  unbinds = λ x process label asked. refl;
+  ends = λ x number asked. refl;
+}
+
+-- ---- what is so agrees
 
 module _ (x : Present) (sound : IsSoundCourse x) (agreed : Agreed x) (t : Transaction) (there : IsIn t x.transactions.items) (caller : Option Enlistment) where
   abbrev c : Course

@@ -14,9 +14,10 @@ use Rattle.ktm_world.specs.Transactions.{change_at, is_live, same_id, transactio
 use Rattle.ktm_steps.proofs.offered.Fading.{fades-run}
 use Rattle.txf_laws.specs.Elements.{IsIn}
 use Rattle.txf_laws.proofs.offered.Elements.{list_any-at, list_any-from}
-use Rattle.ktm_courses.proofs.offered.Moves.{if_cases, stepped}
+use Rattle.ktm_courses.proofs.offered.Moves.{stepped}
 use Rattle.txf_laws.proofs.offered.Sums.{count-cons, count-map-less, one-less}
 use Rattle.txf_laws.proofs.offered.Tables.{same_id-equal, same_id-from}
+use Rattle.ktm_steps.proofs.offered.Ways.{if_cases}
 
 -- ---- enlistments
 

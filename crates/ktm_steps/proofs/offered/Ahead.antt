@@ -8,7 +8,7 @@ use Rattle.ktm_world.specs.Enlistments.{Enlistment, has_id, is_unfinished}
 use Rattle.ktm_world.specs.Phases.{Course, ended, is_its_superior, owing, unchanged}
 use Rattle.ktm_world.specs.Steps.{answered, carried, changing, basis, events_ahead, events_of, is_meant, run}
 use Rattle.ktm_steps.proofs.offered.Lasting.{basis-with, lasting-answered}
-use Rattle.ktm_steps.proofs.offered.Staying.{either-course}
+use Rattle.ktm_steps.proofs.offered.Ways.{if_cases}
 
 basis-ended : (c : Course) (outcome : TransactionOutcome) → basis (ended c outcome) ≡ basis c
 unfolding ended
@@ -43,7 +43,7 @@ events-ahead (Step.Ask who kind owed ∷ steps) c = goes-on steps c (carried (St
 events-ahead (Step.Change answer ∷ steps) c = goes-on steps c (carried (Step.Change answer) c) (still-change answer c c.caller) (events-ahead steps (carried (Step.Change answer) c))
 events-ahead (Step.End outcome ∷ steps) c = goes-on steps c (ended c outcome) (basis-ended c outcome, events-ended c outcome) (events-ahead steps (ended c outcome))
 events-ahead (Step.EndWhereFinished outcome ∷ steps) c = goes-on steps c (carried (Step.EndWhereFinished outcome) c)
-    (either-course (Still c) (list_any (is_unfinished c.transaction.id) c.enlistments) c (ended c outcome) (refl, refl) (basis-ended c outcome, events-ended c outcome))
+    (if_cases (Still c) (list_any (is_unfinished c.transaction.id) c.enlistments) c (ended c outcome) (λ some. (refl, refl)) (λ none. (basis-ended c outcome, events-ended c outcome)))
     (events-ahead steps (carried (Step.EndWhereFinished outcome) c))
 events-ahead (Step.Commit ∷ steps) c = events-ahead steps (carried Step.Commit c)
 events-ahead (Step.Enter phase ∷ steps) c = events-ahead steps (carried (Step.Enter phase) c)

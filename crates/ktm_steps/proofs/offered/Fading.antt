@@ -12,7 +12,8 @@ use Rattle.ktm_world.specs.Enlistments.{Enlistment, has_id, is_unfinished, with_
 use Rattle.ktm_world.specs.Phases.{Course, ended, is_its_superior, owing, unchanged}
 use Rattle.ktm_world.specs.Steps.{answered, carried, changing, is_meant, run}
 use Rattle.ktm_steps.specs.Fading.{Fades, GoesOn}
-use Rattle.ktm_steps.proofs.offered.Staying.{either-course, run-keeps}
+use Rattle.ktm_steps.proofs.offered.Staying.{run-keeps}
+use Rattle.ktm_steps.proofs.offered.Ways.{if_cases}
 
 -- ---- enlistments
 
@@ -70,7 +71,7 @@ fades-step (Step.Tell who kind) c = fades-with (is_meant who c) unchanged c _ re
 fades-step (Step.Ask who kind owed) c = fades-with (is_meant who c) (owing owed) c _ refl (λ e. record { lasts = refl; read_only = λ is. is; prepared = λ is. is; finished = λ is. is; recovered = λ is. is })
 fades-step (Step.Change answer) c = fades-changing answer c c.caller
 fades-step (Step.End outcome) c = fades-ended c outcome
-fades-step (Step.EndWhereFinished outcome) c = either-course (Fades c) (list_any (is_unfinished c.transaction.id) c.enlistments) c (ended c outcome) (fades-same c c refl) (fades-ended c outcome)
+fades-step (Step.EndWhereFinished outcome) c = if_cases (Fades c) (list_any (is_unfinished c.transaction.id) c.enlistments) c (ended c outcome) (λ some. fades-same c c refl) (λ none. fades-ended c outcome)
 fades-step _ c = fades-same c _ refl
 
 pub fades-run : (steps : List Step) (c : Course) → Fades c (run steps c)

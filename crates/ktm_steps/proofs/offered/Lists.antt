@@ -16,7 +16,7 @@ use Rattle.ktm_types.specs.declared.step.Step.TheVariants.{Record, Tell, Ask, Ch
 use Rattle.ktm_types.specs.declared.step.Who.{Who}
 use Rattle.ktm_world.specs.Phases.{is_single_phase}
 use Rattle.ktm_world.specs.Rows.{aborts, all_readies, commits, is_last, participants, proceeds, proceeds_without, recovers_superior, rejects_one_phase, rollback_completes, row, tells_in, without}
-use Rattle.ktm_steps.proofs.offered.Ways.{Ways, choose, pre_prepares-by, prepares-by, proceeds-by, requests-by}
+use Rattle.ktm_steps.proofs.offered.Ways.{Ways, pre_prepares-by, prepares-by, proceeds-by, requests-by, if_cases}
 
 -- ---- lists
 
@@ -67,7 +67,7 @@ Pass test ls = AllByRecursion (λ steps. test steps ≡ true) ls
 readies-pass : (test : List Step → Bool) (s : Seen) → Pass test readied → test (all_readies s) ≡ true
 readies-pass test s (held, (ends, (decides, none))) =
     let after = λ (steps : List Step). test (Record Fact.ReadyFiles ∷ Record Fact.ReadyKeys ∷ steps) ≡ true in
-    choose after s.has_superior _ _ (λ above. held) (λ top. choose after (participants s == 0) _ commits (λ nobody. ends) (λ some. decides))
+    if_cases after s.has_superior _ _ (λ above. held) (λ top. if_cases after (participants s == 0) _ commits (λ nobody. ends) (λ some. decides))
 
 ways-pass : (test : List Step → Bool) (s : Seen) → Pass test going → Ways (λ steps. test steps ≡ true) s
 ways-pass test s (requested, (pre_prepared, (pre_preparing, (preparing, (one, (files, (keys, (ends, ready)))))))) = record {
@@ -101,14 +101,14 @@ row-passes test s PhaseInput.CommitTransaction pass = requests-by (λ steps. tes
 row-passes test s PhaseInput.Rollback (is, none) = is
 row-passes test s PhaseInput.PrePrepareComplete (none, pass) =
     let after = λ (steps : List Step). test (Change Answered.PrePrepared ∷ steps) in
-    choose (λ steps. after steps ≡ true) (is_last s) (proceeds s) [] (λ last. proceeds-by (λ steps. after steps ≡ true) s (ways-pass after s pass)) (λ waits. none)
+    if_cases (λ steps. after steps ≡ true) (is_last s) (proceeds s) [] (λ last. proceeds-by (λ steps. after steps ≡ true) s (ways-pass after s pass)) (λ waits. none)
 row-passes test s PhaseInput.PrepareComplete (none, pass) =
-    let after = λ (steps : List Step). test (Change Answered.Prepared ∷ Record Fact.Ready ∷ steps) in choose (λ steps. after steps ≡ true) (is_last s) (all_readies s) [] (λ last. readies-pass after s pass) (λ waits. none)
+    let after = λ (steps : List Step). test (Change Answered.Prepared ∷ Record Fact.Ready ∷ steps) in if_cases (λ steps. after steps ≡ true) (is_last s) (all_readies s) [] (λ last. readies-pass after s pass) (λ waits. none)
 row-passes test s (PhaseInput.ReadOnly share) (none, pass) =
     let after = λ (steps : List Step). test (Change Answered.ReadOnly ∷ steps) in
-    choose (λ steps. after steps ≡ true) (share.owes && is_last s) (proceeds_without s.phase (without share s)) [] (λ last. without-pass after s.phase (without share s) (none, pass)) (λ waits. none)
+    if_cases (λ steps. after steps ≡ true) (share.owes && is_last s) (proceeds_without s.phase (without share s)) [] (λ last. without-pass after s.phase (without share s) (none, pass)) (λ waits. none)
 row-passes test s PhaseInput.SinglePhaseReject (is, none) = is
-row-passes test s PhaseInput.CommitComplete (ends, (done, none)) = choose (λ steps. test (Change Answered.Finished ∷ steps) ≡ true) (is_single_phase s.phase) _ _ (λ one. ends) (λ several. done)
+row-passes test s PhaseInput.CommitComplete (ends, (done, none)) = if_cases (λ steps. test (Change Answered.Finished ∷ steps) ≡ true) (is_single_phase s.phase) _ _ (λ one. ends) (λ several. done)
 row-passes test s PhaseInput.RollbackComplete (is, none) = is
 row-passes test s PhaseInput.PrePrepare pass = pre_prepares-by (λ steps. test steps ≡ true) s (ways-pass test s pass)
 row-passes test s PhaseInput.Prepare pass = prepares-by (λ steps. test steps ≡ true) s (ways-pass test s pass)

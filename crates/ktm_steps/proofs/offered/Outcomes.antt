@@ -19,8 +19,7 @@ use Rattle.ktm_world.specs.Rows.{aborts, all_readies, commit_completes, commits,
 use Rattle.ktm_world.specs.Steps.{answered, carried, changing, is_meant, led, run, seen}
 use Rattle.ktm_steps.proofs.offered.Lists.{Pass, row-passes, row_lists}
 use Rattle.ktm_steps.specs.Outcomes.{AreTrue, IsKnownIn, KeepsTrue, MayBe, MayCome, OutcomeLaw, StaysTrue, TellsOnly, known, IsTrue}
-use Rattle.ktm_steps.proofs.offered.Ways.{Ways, choose, pre_prepares-by, prepares-by, proceeds-by, requests-by}
-use Rattle.ktm_steps.proofs.offered.Staying.{either-course}
+use Rattle.ktm_steps.proofs.offered.Ways.{Ways, pre_prepares-by, prepares-by, proceeds-by, requests-by, if_cases}
 
 through : (k j t : Option Bool) → MayBe k j → MayBe j t → MayBe k t
 through k j t (inl none) second = inl none
@@ -74,9 +73,9 @@ stays-true k (Step.Decide outcome ∷ steps) c may tells ok =
     then-true k (told_outcome outcome) _ ok.0 (stays-true (told_outcome outcome) steps (decided c outcome) (inr refl) (tells-wider k (told_outcome outcome) c ok.0 tells) ok.1)
 stays-true k (Step.End outcome ∷ steps) c may tells ok =
     then-true k (told_outcome outcome) _ ok.0 (stays-true (told_outcome outcome) steps (ended c outcome) (inr (sym (ended-known c outcome))) (ended-tells k c outcome ok.0 ok.1 tells) ok.2)
-stays-true k (Step.EndWhereFinished outcome ∷ steps) c may tells ok = either-course (λ d. StaysTrue k (run steps d)) (list_any (is_unfinished c.transaction.id) c.enlistments) c (ended c outcome)
-    (stays-true k steps c may tells ok.2)
-    (then-true k (told_outcome outcome) _ ok.0 (stays-true (told_outcome outcome) steps (ended c outcome) (inr (sym (ended-known c outcome))) (ended-tells k c outcome ok.0 ok.1 tells) ok.3))
+stays-true k (Step.EndWhereFinished outcome ∷ steps) c may tells ok = if_cases (λ d. StaysTrue k (run steps d)) (list_any (is_unfinished c.transaction.id) c.enlistments) c (ended c outcome)
+    (λ some. stays-true k steps c may tells ok.2)
+    (λ none. then-true k (told_outcome outcome) _ ok.0 (stays-true (told_outcome outcome) steps (ended c outcome) (inr (sym (ended-known c outcome))) (ended-tells k c outcome ok.0 ok.1 tells) ok.3))
 stays-true k (Step.Record fact ∷ steps) c may tells ok = stays-true k steps (carried (Step.Record fact) c) may tells ok
 stays-true k (Step.Commit ∷ steps) c may tells ok = stays-true k steps (carried Step.Commit c) may tells ok
 stays-true k (Step.Enter phase ∷ steps) c may tells ok = stays-true k steps (carried (Step.Enter phase) c) may tells ok
@@ -91,7 +90,7 @@ true-aborts : AreTrue None aborts
 true-aborts = (inl refl, (inr refl, (inr refl, (inr refl, inr refl, tt, tt))))
 
 true-all_readies : (s : Seen) → AreTrue None (all_readies s)
-true-all_readies s = choose (AreTrue None) s.has_superior _ _ (λ above. (inl refl, tt)) (λ top. choose (AreTrue None) (participants s == 0) _ commits (λ none. (inl refl, inr refl, tt)) (λ some. true-commits))
+true-all_readies s = if_cases (AreTrue None) s.has_superior _ _ (λ above. (inl refl, tt)) (λ top. if_cases (AreTrue None) (participants s == 0) _ commits (λ none. (inl refl, inr refl, tt)) (λ some. true-commits))
 
 true-ways : (s : Seen) → Ways (AreTrue None) s
 true-ways s = record {
@@ -107,7 +106,7 @@ true-ways s = record {
 }
 
 true-where : (k : Option Bool) (b : Bool) (steps : List Step) → AreTrue k steps → AreTrue k (if b then steps else [])
-true-where k b steps ok = choose (AreTrue k) b steps [] (λ is. ok) (λ other. tt)
+true-where k b steps ok = if_cases (AreTrue k) b steps [] (λ is. ok) (λ other. tt)
 
 true-proceeds_without : (phase : Phase) (s : Seen) → AreTrue None (proceeds_without phase s)
 true-proceeds_without PrePreparing s = proceeds-by (AreTrue None) s (true-ways s)
@@ -116,7 +115,7 @@ true-proceeds_without SinglePhase s = (inl refl, inr refl, tt)
 true-proceeds_without _ s = tt
 
 true-commit_completes : (k : Option Bool) (phase : Phase) → MayBe k (Some true) → AreTrue k (commit_completes phase)
-true-commit_completes k phase may = choose (AreTrue k) (is_single_phase phase) _ _ (λ one. (may, inr refl, tt)) (λ several. (may, inr refl, tt, tt))
+true-commit_completes k phase may = if_cases (AreTrue k) (is_single_phase phase) _ _ (λ one. (may, inr refl, tt)) (λ several. (may, inr refl, tt, tt))
 
 true-rollback_completes : (k : Option Bool) → MayBe k (Some false) → AreTrue k rollback_completes
 true-rollback_completes k may = (may, inr refl, tt, tt)
@@ -219,8 +218,8 @@ decided-run k (Step.End outcome ∷ steps) c only =
     from-this (known c) (known (ended c outcome)) k (run steps (ended c outcome)) (ended-known c outcome ∙ this-told k outcome both.0) (decided-run k steps (ended c outcome) both.1)
 decided-run k (Step.EndWhereFinished outcome ∷ steps) c only =
     let both = and_parts (is_this k outcome) (decides_only k steps) only in
-    either-course (λ d. IsOr (known c) k (run steps d)) (list_any (is_unfinished c.transaction.id) c.enlistments) c (ended c outcome) (decided-run k steps c both.1)
-    (from-this (known c) (known (ended c outcome)) k (run steps (ended c outcome)) (ended-known c outcome ∙ this-told k outcome both.0) (decided-run k steps (ended c outcome) both.1))
+    if_cases (λ d. IsOr (known c) k (run steps d)) (list_any (is_unfinished c.transaction.id) c.enlistments) c (ended c outcome) (λ some. decided-run k steps c both.1)
+    (λ none. from-this (known c) (known (ended c outcome)) k (run steps (ended c outcome)) (ended-known c outcome ∙ this-told k outcome both.0) (decided-run k steps (ended c outcome) both.1))
 decided-run k (Step.Change answer ∷ steps) c only =
     subst (λ before. IsOr before k (run steps (carried (Step.Change answer) c))) (known-changing c c.caller (answered answer)) (decided-run k steps (carried (Step.Change answer) c) only)
 decided-run k (Step.Record fact ∷ steps) c only = decided-run k steps (carried (Step.Record fact) c) only

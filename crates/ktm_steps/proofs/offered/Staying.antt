@@ -1,6 +1,5 @@
 -- What no step changes of a course: which transaction it is, what it has to commit, and who makes the call.
-use Rattle.std.specs.Prelude.{if◌then◌else◌}
-use Rattle.std.proofs.Common.{◌≡◌, Bool, true, false, List, [], ◌∷◌, Option, Some, None, refl, ◌∙◌}
+use Rattle.std.proofs.Common.{◌≡◌, List, [], ◌∷◌, Option, Some, None, refl, ◌∙◌}
 use Rattle.std.specs.List.{list_any}
 use Rattle.ktm_types.specs.declared.input.PhaseInput.{PhaseInput}
 use Rattle.ktm_types.specs.declared.object.TransactionOutcome.{TransactionOutcome}
@@ -9,6 +8,7 @@ use Rattle.ktm_world.specs.Enlistments.{Enlistment, is_unfinished}
 use Rattle.ktm_world.specs.Phases.{Course, ended}
 use Rattle.ktm_world.specs.Rows.{row}
 use Rattle.ktm_world.specs.Steps.{carried, changing, led, run, seen}
+use Rattle.ktm_steps.proofs.offered.Ways.{if_cases}
 
 -- what each step keeps is kept by steps, one after another, and by each row
 pub run-keeps : (P : Course → Type 0) → ((step : Step) (c : Course) → P c → P (carried step c)) → (steps : List Step) (c : Course) → P c → P (run steps c)
@@ -43,11 +43,6 @@ stays-then b c d first second = record {
   caller = second.caller ∙ first.caller;
 }
 
--- one of two courses is so
-pub either-course : (P : Course → Type 0) (b : Bool) (c d : Course) → P c → P d → P (if b then c else d)
-either-course P true c d first second = first
-either-course P false c d first second = second
-
 stays-ended : (c : Course) (outcome : TransactionOutcome) → Stays c (ended c outcome)
 unfolding ended
 stays-ended c outcome = record { id = refl; timeout = refl; created = refl; managers = refl; changes = refl; settings = refl; caller = refl }
@@ -59,7 +54,7 @@ stays-changing c (Some e) f = record { id = refl; timeout = refl; created = refl
 pub stays-step : (step : Step) (c : Course) → Stays c (carried step c)
 stays-step (Step.Change answer) c = stays-changing c c.caller _
 stays-step (Step.End outcome) c = stays-ended c outcome
-stays-step (Step.EndWhereFinished outcome) c = either-course (Stays c) (list_any (is_unfinished c.transaction.id) c.enlistments) c (ended c outcome) (stays c) (stays-ended c outcome)
+stays-step (Step.EndWhereFinished outcome) c = if_cases (Stays c) (list_any (is_unfinished c.transaction.id) c.enlistments) c (ended c outcome) (λ some. stays c) (λ none. stays-ended c outcome)
 stays-step _ c = record { id = refl; timeout = refl; created = refl; managers = refl; changes = refl; settings = refl; caller = refl }
 
 pub stays-led : (input : PhaseInput) (c : Course) → Stays c (led input c)

@@ -18,7 +18,7 @@ use Rattle.ktm_steps.specs.Laws.{IsPart, RowsLaw, by, someone_owes, when_none_ow
 use Rattle.ktm_steps.proofs.offered.Counts.{owed-less, seen-left, seen-settled}
 use Rattle.ktm_steps.proofs.offered.Superiors.{tells-superior}
 use Rattle.ktm_steps.proofs.offered.Lasting.{has_superior-kept, lasting-answered, superior-with}
-use Rattle.ktm_steps.proofs.offered.Ways.{choose}
+use Rattle.ktm_steps.proofs.offered.Ways.{if_cases}
 
 -- ---- all are prepared
 
@@ -41,7 +41,7 @@ all_readies-by P c waits nobody decides = at (superior c) refl
     at : (o : Option Enlistment) → superior c ≡ o → P (run (if is_some o then Record Fact.Held ∷ Tell Who.Superior Notify.PrepareComplete ∷ Enter Held ∷ [] else (if participants (seen c) == 0 then End Committed ∷ [] else commits)) (readied c))
     at (Some e) is = subst P
         (sym (ap (λ o. in_phase (telling (record (recording d (held_event d.transaction.id (lasting_of o))) { transaction = record d.transaction { is_recorded = is_some (lasting_of o) || d.transaction.is_recorded } }) (is_its_superior d) Notify.PrepareComplete unchanged) Held) is)) (waits e is)
-    at None is = choose (λ steps. P (run steps (readied c))) (participants (seen c) == 0) (End Committed ∷ []) commits (λ none. nobody is (eqb-true (participants (seen c)) 0 none)) (λ some. decides is)
+    at None is = if_cases (λ steps. P (run steps (readied c))) (participants (seen c) == 0) (End Committed ∷ []) commits (λ none. nobody is (eqb-true (participants (seen c)) 0 none)) (λ some. decides is)
 
 -- ---- answers
 

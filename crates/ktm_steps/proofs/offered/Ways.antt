@@ -33,19 +33,19 @@ pub record Ways (P : List Step → Type 0) (s : Seen) : Type 0 where
   -- no enlistment takes part
   pub ready : (s.enlistments == 0) ≡ true → P (all_readies s)
 
--- one of two lists is so, each where it is chosen
-pub choose : (P : List Step → Type 0) (b : Bool) (xs ys : List Step) → (b ≡ true → P xs) → (b ≡ false → P ys) → P (if b then xs else ys)
-choose P true xs ys on off = on refl
-choose P false xs ys on off = off refl
+-- one of two is so, each where it is chosen
+pub if_cases : {X : Type 0} (P : X → Type 0) (b : Bool) (x y : X) → (b ≡ true → P x) → (b ≡ false → P y) → P (if b then x else y)
+if_cases P true x y on off = on refl
+if_cases P false x y on off = off refl
 
 module _ (P : List Step → Type 0) (s : Seen) (ways : Ways P s) where
   all-by : P (prepares_all s)
-  all-by = choose P (s.enlistments == 0) _ _ ways.ready ways.preparing
+  all-by = if_cases P (s.enlistments == 0) _ _ ways.ready ways.preparing
 
   one-by : s.has_superior ≡ false → participants s ≡ 1 → P (commits_one s)
   one-by alone one =
-      choose P s.has_files _ _ (ways.files one)
-      (λ no_files. choose P s.has_keys _ _ (ways.keys one no_files) (λ no_keys. choose P (s.in_one_phase == 0) _ _ (λ none. all-by) (ways.one_phase alone one no_files no_keys)))
+      if_cases P s.has_files _ _ (ways.files one)
+      (λ no_files. if_cases P s.has_keys _ _ (ways.keys one no_files) (λ no_keys. if_cases P (s.in_one_phase == 0) _ _ (λ none. all-by) (ways.one_phase alone one no_files no_keys)))
 
   alone-by : (n : ℕ) → s.has_superior ≡ false → participants s ≡ n → P (prepares_alone s n)
   alone-by zero alone none = ways.nobody none
@@ -53,16 +53,16 @@ module _ (P : List Step → Type 0) (s : Seen) (ways : Ways P s) where
   alone-by (suc (suc more)) alone several = all-by
 
   pub prepares-by : P (prepares s)
-  prepares-by = choose P s.has_superior _ _ (λ above. all-by) (λ alone. alone-by _ alone refl)
+  prepares-by = if_cases P s.has_superior _ _ (λ above. all-by) (λ alone. alone-by _ alone refl)
 
   pub proceeds-by : P (proceeds s)
-  proceeds-by = choose P s.has_superior _ _ ways.pre_prepared (λ alone. prepares-by)
+  proceeds-by = if_cases P s.has_superior _ _ ways.pre_prepared (λ alone. prepares-by)
 
   pub pre_prepares-by : P (pre_prepares s)
-  pre_prepares-by = choose P (s.asking == 0) _ _ (λ none. proceeds-by) ways.pre_preparing
+  pre_prepares-by = if_cases P (s.asking == 0) _ _ (λ none. proceeds-by) ways.pre_preparing
 
   pub requests-by : P (requests s)
-  requests-by = choose P s.has_superior _ _ ways.requested (λ alone. pre_prepares-by)
+  requests-by = if_cases P s.has_superior _ _ ways.requested (λ alone. pre_prepares-by)
 
 -- where the row of what begins leads to
 module _ (P : Course → Type 0) (c : Course) (ways : Ways (λ steps. P (run steps c)) (seen c)) where
