@@ -1,0 +1,186 @@
+// The queues of all resource managers, in one table of slots.
+ghost use Rattle.std.specs.Prelude.{◌≡◌, ◌+◌, ◌-◌, ◌*◌, ◌^◌, ◌<◌, ◌≤◌, ◌++◌, ◌∷◌, [], IfNone, OnSome, IsOk, None, OnErr, OnOk, false, is_some, length, min, true};
+ghost use Rattle.ktm_notify.specs.Linked.{linked_behind};
+ghost use Rattle.ktm_notify.specs.Queues.{first_note, queue_at, with_note, without_first, KeepsQueues};
+
+use crate::note::Note;
+use ktm_base::NoMemory;
+use ktm_links::{Key, List};
+use std::alloc::Global;
+use std::marker::Model;
+
+/// How many notifications may wait for an enlistment.
+const SLOTS: usize = 5;
+
+/// A notification that waits, and the one behind it in its queue.
+#[derive(Clone, Copy)]
+pub(crate) struct Slot {
+    manager: usize,
+    note: Note,
+    next: Option<Key>,
+}
+
+/// The first and the last notification of a queue.
+#[derive(Clone, Copy)]
+pub(crate) struct Ends {
+    first: Option<Key>,
+    last: Option<Key>,
+}
+
+/// The queues of resource managers, each by its manager's place among all. What is sent to one touches no other.
+#[derive(Drop)]
+pub struct Queues {
+    slots: List<Slot>,
+    ends: Vec<Ends>,
+}
+
+impl Ends {
+    // The ends once the first notification is taken, with this one behind it, if there is one.
+    fn without_first(self, next: Option<Key>) -> Ends
+        ensures first { result.first ≡ next }
+        ensures more { is_some next ≡ true → result.last ≡ self.last }
+        ensures none { is_some next ≡ false → result.last ≡ None }
+    {
+        match next {
+            Some(_) => Ends {
+                first: next,
+                last: self.last,
+            },
+            None => Ends {
+                first: None,
+                last: None,
+            },
+        }
+    }
+}
+
+impl Model for Queues {
+    ghost use Rattle.ktm_notify.specs.Queues.{QueuesState};
+    ghost use Rattle.ktm_notify.specs.Linked.{queues_in, AreQueues};
+    ghost use Rattle.std.specs.Prelude.{length};
+
+    ghost Value = { QueuesState };
+
+    ghost view = { λ q. record { queues = queues_in q.slots.items 0 q.ends.items; waiting = length q.slots.items; spare = q.slots.spare; sent = q.slots.next } };
+
+    ghost invariant = { λ q. AreQueues q.slots.items q.ends.items };
+}
+
+// Links the last notification of a queue, if it has one, to the one behind it.
+fn link(slots: &mut List<Slot>, last: Option<Key>, next: Key)
+    ensures items { slots.new.items ≡ linked_behind slots.old.items last next }
+    ensures list { (slots.new.next ≡ slots.old.next) × (slots.new.spare ≡ slots.old.spare) }
+{
+    let Some(last) = last else {
+        return;
+    };
+    if let Some(slot) = slots.get(last) {
+        let slot = Slot {
+            next: Some(next),
+            ..*slot
+        };
+        let _ = slots.replace(last, slot);
+    }
+}
+
+impl Queues {
+    /// No queues.
+    pub fn new(alloc: Global) -> Self
+        ensures queues { result.queues ≡ [] }
+        ensures waiting { result.waiting ≡ 0 }
+        ensures sent { result.sent ≡ 0 }
+    {
+        Queues {
+            slots: List::new(alloc),
+            ends: Vec::new(alloc),
+        }
+    }
+
+    /// How many queues there are.
+    pub fn len(&self) -> usize
+        ensures { result ≡ length self.now.queues }
+    {
+        self.ends.len()
+    }
+
+    /// A queue more, of a resource manager behind all others, with nothing in it.
+    pub fn add(&mut self) -> Result<(), NoMemory>
+        ensures ok { OnOk result (self.new.queues ≡ self.old.queues ++ [] ∷ []) }
+        ensures err { OnErr result (self.new.queues ≡ self.old.queues) }
+        ensures slots { KeepsQueues self.old self.new }
+    {
+        self.ends.push(Ends {
+            first: None,
+            last: None,
+        })?;
+        Ok(())
+    }
+
+    /// Makes room for five notifications of each of so many enlistments, those that wait counted: to them nothing is sent for
+    /// which there is no room.
+    pub fn admit(&mut self, enlistments: usize) -> Result<(), NoMemory>
+        ensures room { OnOk result (min (5 * enlistments) (2 ^ 64 - 1) ≤ self.new.waiting + self.new.spare) }
+        ensures enough { min (5 * enlistments) (2 ^ 64 - 1) ≤ self.old.waiting + self.old.spare → IsOk result }
+        ensures queues { self.new.queues ≡ self.old.queues }
+        ensures waiting { self.new.waiting ≡ self.old.waiting }
+        ensures sent { self.new.sent ≡ self.old.sent }
+        ensures spare { self.old.spare ≤ self.new.spare }
+    {
+        let slots = enlistments.saturating_mul(SLOTS);
+        self.slots.reserve(slots.saturating_sub(self.slots.len()))
+    }
+
+    /// Puts a notification at the end of a queue. It takes no memory, and cannot fail.
+    pub fn send(&mut self, manager: usize, note: Note)
+        requires there { manager < length self.old.queues }
+        requires spare { 0 < self.old.spare }
+        ensures queues { self.new.queues ≡ with_note self.old.queues manager note }
+        ensures waiting { self.new.waiting ≡ self.old.waiting + 1 }
+        ensures spare { self.new.spare + 1 ≡ self.old.spare }
+        ensures sent { self.new.sent ≡ self.old.sent + 1 }
+    {
+        let key = self.slots.push_spare(Slot {
+            manager,
+            note,
+            next: None,
+        });
+        let ends = self.ends[manager];
+        link(&mut self.slots, ends.last, key);
+        self.ends[manager] = Ends {
+            first: Some(ends.first.unwrap_or(key)),
+            last: Some(key),
+        };
+    }
+
+    /// The first notification of a queue, if one waits.
+    pub fn first(&self, manager: usize) -> Option<Note>
+        requires { manager < length self.now.queues }
+        ensures { result ≡ first_note (queue_at self.now.queues manager) }
+    {
+        let first = self.ends[manager].first?;
+        let slot = self.slots.get(first)?;
+        Some(slot.note)
+    }
+
+    /// Takes the first notification out of a queue, if one waits. Its room is there for another, as long as fewer than 2^64 - 1
+    /// were sent.
+    pub fn take(&mut self, manager: usize) -> Option<Note>
+        requires { manager < length self.old.queues }
+        ensures note { result ≡ first_note (queue_at self.old.queues manager) }
+        ensures queues { self.new.queues ≡ without_first self.old.queues manager }
+        ensures waiting { OnSome result (self.new.waiting + 1 ≡ self.old.waiting) }
+        ensures spare { OnSome result (self.new.spare ≡ min (self.old.spare + 1) (2 ^ 64 - 1 - self.old.sent)) }
+        ensures sent { self.new.sent ≡ self.old.sent }
+        ensures none { IfNone result (self.new ≡ self.old) }
+    {
+        let ends = self.ends[manager];
+        let Some(first) = ends.first else {
+            return None;
+        };
+        let Some(slot) = self.slots.unlink(first) else {
+            unreachable!();
+        };
+        self.ends[manager] = ends.without_first(slot.next);
+        Some(slot.note)
+    }
+}
