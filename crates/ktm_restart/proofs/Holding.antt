@@ -58,7 +58,7 @@ spares s t cs none =
 abbrev NoneElse : Durable → Option Id → Type 0
 NoneElse s who = (t : Recorded) → IsIn t (others_waiting s who) → has_work t ≡ false
 
-pub none-else : (s : Durable) (id : Id) → none_waits_but (Some id) s.transactions ≡ true → NoneElse s (Some id)
+none-else : (s : Durable) (id : Id) → none_waits_but (Some id) s.transactions ≡ true → NoneElse s (Some id)
 none-else s id none t there =
     let in_ts = IsIn-filter (λ (u : Recorded). not (is_decided u.stage) && not (same_id u.id id)) s.transactions t there in
     none-other-waits s.transactions id none t in_ts.0 (λ e. true≢false (sym (same_id-from t.id id e) ∙ not-true _ (and_parts (not (is_decided t.stage)) (not (same_id t.id id)) in_ts.1).1))
@@ -77,7 +77,7 @@ changes-alone s who cs none =
 abbrev gives_key : OwnSettings → Keyed (Option (List ℕ)) → Bool
 gives_key ds setting = is_some (value_at ds setting.key)
 
-pub settings-alone : (s : Durable) (who : Option Id) (ss : OwnSettings) → NoneElse s who → settings_apply s who ss ≡ true
+settings-alone : (s : Durable) (who : Option Id) (ss : OwnSettings) → NoneElse s who → settings_apply s who ss ≡ true
 settings-alone s who ss none =
     list_all-from (λ (t : Recorded). not (list_any (gives_key (settings_of t)) ss)) (others_waiting s who)
     (λ t there. subst (λ (ds : OwnSettings). not (list_any (gives_key ds) ss) ≡ true) (sym (no-work t (none t there)).1)
@@ -85,7 +85,7 @@ settings-alone s who ss none =
 
 -- ---- an event that is taken
 
-pub takes-by : (s s' : Durable) (event : Event) (taken : Bool) → taken ≡ fact_applies s event → (taken ≡ true → s' ≡ fact_of s event) → Takes s event taken s'
+takes-by : (s s' : Durable) (event : Event) (taken : Bool) → taken ≡ fact_applies s event → (taken ≡ true → s' ≡ fact_of s event) → Takes s event taken s'
 takes-by s s' event taken is after = record {
   refused = λ none. and_left _ _ (and_left _ _ (sym is ∙ none));
   fact = λ some. sym is ∙ some;
@@ -115,7 +115,7 @@ new-settings ts id none = ap (λ (t : Recorded). not (has_settings_part t)) (or-
     go (Some t) is = absurd (true≢false (sym is))
 
 -- the one part of a transaction, where the transaction is of the present boot and nothing of it is recorded
-pub single-changes : (s : Durable) (id : Id) (cs : List Change) → none_waits_but None s.transactions ≡ true → (id.boot == s.boots && is_none (recorded_at s.transactions id)) ≡ true
+single-changes : (s : Durable) (id : Id) (cs : List Change) → none_waits_but None s.transactions ≡ true → (id.boot == s.boots && is_none (recorded_at s.transactions id)) ≡ true
     → (are_recorded_changes cs && (changes_apply s.tree cs && list_all (is_new_in s.tree) cs)) ≡ fact_applies s (Single id (Changes cs))
 single-changes s id cs none may =
     let new = new-changes s.transactions id (and_parts (id.boot == s.boots) (is_none (recorded_at s.transactions id)) may).1 in
@@ -123,7 +123,7 @@ single-changes s id cs none may =
     ∙ ap (λ b. (b && are_recorded_changes cs) && recorded_changes_apply s (Some id) cs) (sym new)
     ∙ ap (λ b. b && true && (not (has_changes_part (recorded_or_new s.transactions id)) && are_recorded_changes cs && recorded_changes_apply s (Some id) cs)) (sym may)
 
-pub single-settings : (s : Durable) (id : Id) (ss : OwnSettings) → none_waits_but None s.transactions ≡ true → (id.boot == s.boots && is_none (recorded_at s.transactions id)) ≡ true
+single-settings : (s : Durable) (id : Id) (ss : OwnSettings) → none_waits_but None s.transactions ≡ true → (id.boot == s.boots && is_none (recorded_at s.transactions id)) ≡ true
     → are_good_settings ss ≡ fact_applies s (Single id (Settings ss))
 single-settings s id ss none may =
     let new = new-settings s.transactions id (and_parts (id.boot == s.boots) (is_none (recorded_at s.transactions id)) may).1 in
@@ -196,7 +196,7 @@ shuffled true false k c l e m = refl
 shuffled false n k c l e m = refl
 
 -- what is committed fits, what waits fits into what is left, and there are not too many transactions and managers
-pub limits-tested : (s : Durable) → is_within_limits s ≡
+limits-tested : (s : Durable) → is_within_limits s ≡
     (fits_in (committed s.tree s.keys) (limits s.units) && fits_in (total s.tree s.transactions) (minus (limits s.units) (committed s.tree s.keys)) && nat_le (length s.transactions) MOST_LIVE && nat_le (length s.managers) MOST_LIVE)
 unfolding is_within_limits
 limits-tested s =
@@ -244,11 +244,6 @@ rest-fits s room all is some =
     ap (fits_in (total s.tree s.transactions)) is
     ∙ ap (λ b. b && fits_in (total s.tree s.transactions) (minus (limits s.units) (committed s.tree s.keys))) (sym all)
     ∙ sym (and-true (fits s)) ∙ ap (λ b. fits s && b) (sym some) ∙ sym (limits-both s)
-
--- how many events there were is no part of the limits
-pub limits-counted : (s : Durable) (n : ℕ) → is_within_limits (record s { events = n }) ≡ is_within_limits s
-unfolding is_within_limits
-limits-counted s n = refl
 
 -- an event that is taken, and may be counted, applies where the limits hold
 pub event-tested : (s : Durable) (event : Event) → fact_applies s event ≡ true → nat_lt (s.events + 1) (2 ^ 63) ≡ true → is_within_limits (fact_of s event) ≡ event_applies s event

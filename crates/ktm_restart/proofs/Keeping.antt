@@ -28,7 +28,7 @@ use Rattle.ktm_restart.proofs.TableSteps.{or-new-id}
 
 -- ---- nothing waits
 
-pub empty-from : (cs : List Change) → has_changes cs ≡ false → cs ≡ []
+empty-from : (cs : List Change) → has_changes cs ≡ false → cs ≡ []
 empty-from [] none = refl
 empty-from (c ∷ cs) none = absurd (true≢false none)
 
@@ -99,7 +99,7 @@ kept-filter tree keep ts kept = record {
 abbrev IsAlone : List Recorded → Recorded → Type 0
 IsAlone ts t = (u : Recorded) → IsIn u ts → (u.id ≡ t.id → ⊥) → has_work t ≡ true → has_work u ≡ true → ⊥
 
-pub kept-with : (tree : Tree) (ts : List Recorded) (t : Recorded) → AreKept tree ts → IsKept tree t → IsAlone ts t → AreKept tree (with_recorded ts t)
+kept-with : (tree : Tree) (ts : List Recorded) (t : Recorded) → AreKept tree ts → IsKept tree t → IsAlone ts t → AreKept tree (with_recorded ts t)
 kept-with tree ts t kept this alone = record {
   rise = Rises-with_recorded ts t kept.rise;
   each = λ x there. elim (IsIn-with_recorded ts t x kept.rise there) [ inl e ↦ subst (IsKept tree) (sym e) this | inr (here, other) ↦ kept.each x here ];
@@ -148,9 +148,6 @@ pushed test ps part n few = le-leb _ _ (omega (arith, count_among-push test ps (
 
 one-each : (t : Recorded) → has_one_part_each t ≡ true → (count_among (is_part_of DonePart.Files) t.parts ≤ 1) × (count_among (is_part_of DonePart.Keys) t.parts ≤ 1)
 one-each t parts = let both = and_parts (nat_le (count_among (is_part_of DonePart.Files) t.parts) 1) (nat_le (count_among (is_part_of DonePart.Keys) t.parts) 1) parts in (leb-true _ _ both.0, leb-true _ _ both.1)
-
-pub files-one : (t : Recorded) → has_one_part_each t ≡ true → count_among (is_part_of DonePart.Files) t.parts ≤ 1
-files-one t parts = (one-each t parts).0
 
 with-part-kept : (s : Durable) (id : Id) (part : Part) (t : Recorded) → IsKept s.tree t → recorded_or_new s.transactions id ≡ t → part_applies s id part ≡ true → IsKept s.tree (with_one_part t part)
 with-part-kept s id (Enlistment enlistment manager information) t kept is applies =
