@@ -1,10 +1,9 @@
 -- What fits into a room, one after another.
-use Rattle.std.proofs.Common.{◌≡◌, ℕ, zero, suc, ◌+◌, ◌-◌, ◌<◌, ◌≤◌, ◌&&◌, not, Bool, true, false, List, [], ◌∷◌, ◌++◌, length, drop, get_or, cond, count_by, sum_by, nat_le, refl, sym, ◌∙◌, ap, subst, arith, inl, inr, length-append}
+use Rattle.std.proofs.Common.{◌≡◌, ℕ, zero, suc, ◌+◌, ◌-◌, ◌<◌, ◌&&◌, not, Bool, true, false, List, [], ◌∷◌, length, drop, get_or, cond, count_by, nat_le, refl, sym, ◌∙◌, ap, subst, arith, inl, inr, length-append}
 use Rattle.std.specs.List.{flat_map}
-use Rattle.std.proofs.lemmas.Bool.{and_from, and_parts, cases_Bool, false_from_ne_true, le-leb, leb-true, true≢false}
+use Rattle.std.proofs.lemmas.Bool.{and_from, and_parts, le-leb, leb-true}
 use Rattle.std.proofs.lemmas.List.{at_drop_more}
 use Rattle.std.proofs.lemmas.List.Sums.{sum_by-cons}
-use Rattle.ktm_base.specs.declared.id.Id.{Id}
 use Rattle.ktm_types.specs.declared.event.Part.{Part}
 use Rattle.ktm_types.specs.declared.event.Part.TheVariants.{Enlistment, Changes, Settings}
 use Rattle.ktm_types.specs.declared.recorded.RecordedPart.{RecordedPart}
@@ -68,12 +67,6 @@ fits-plus a b room =
         ∙ ap (λ x. x && (e && e')) (swap (u && n && k) (u' && n' && k') c c')
         ∙ swap (u && n && k && c) (u' && n' && k' && c') e e'
 
--- nothing fits into every room
-pub fits-none : (tree : Tree) (room : Amounts) → fits_in (total tree []) room ≡ true
-fits-none tree room =
-    and_from _ _ (and_from _ _ (and_from _ _ (and_from _ _ (le-leb 0 room.units (omega arith)) (le-leb 0 room.nodes (omega arith))) (le-leb 0 room.keys (omega arith))) (le-leb 0 room.changes (omega arith)))
-    (le-leb 0 room.enlistments (omega arith))
-
 total-cons : (tree : Tree) (t : Recorded) (ts : List Recorded) → total tree (t ∷ ts) ≡ plus (amounts_of tree t) (total tree ts)
 total-cons tree t ts = λ i. record {
   units = sum_by-cons (λ (u : Recorded). (amounts_of tree u).units) t ts i;
@@ -84,12 +77,12 @@ total-cons tree t ts = λ i. record {
 }
 
 -- the first fits, and the others into what is left
-pub fits-cons : (tree : Tree) (t : Recorded) (ts : List Recorded) (room : Amounts) → fits_in (total tree (t ∷ ts)) room ≡ (fits_in (amounts_of tree t) room && fits_in (total tree ts) (minus room (amounts_of tree t)))
+fits-cons : (tree : Tree) (t : Recorded) (ts : List Recorded) (room : Amounts) → fits_in (total tree (t ∷ ts)) room ≡ (fits_in (amounts_of tree t) room && fits_in (total tree ts) (minus room (amounts_of tree t)))
 fits-cons tree t ts room = ap (λ a. fits_in a room) (total-cons tree t ts) ∙ fits-plus (amounts_of tree t) (total tree ts) room
 
 -- ---- at an index
 
-pub in-at : {X : Type 0} (xs : List X) (i : ℕ) (d : X) → i < length xs → IsIn (get_or xs i d) xs
+in-at : {X : Type 0} (xs : List X) (i : ℕ) (d : X) → i < length xs → IsIn (get_or xs i d) xs
 in-at [] i d within = absurd (omega arith)
 in-at (x ∷ xs) zero d within = inl refl
 in-at (x ∷ xs) (suc i) d within = inr (in-at xs i d (omega arith))

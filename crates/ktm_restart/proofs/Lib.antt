@@ -1,11 +1,13 @@
 mod Past
 mod OneOfKind
 mod Placing
-mod Groups
+mod Coming
 mod Fitting
 mod GoodLogs
 mod Spelled
 mod Folds
+mod Holding
+mod Keeping
 mod LogLoads
 mod Replays
 mod BehindHeader

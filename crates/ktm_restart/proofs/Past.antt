@@ -1,18 +1,17 @@
 -- A change that leaves its file longer than all units of the image applies to no state.
-use Rattle.std.proofs.Common.{◌≡◌, ℕ, ◌+◌, ◌-◌, ◌*◌, ◌<◌, ◌≤◌, ◌==◌, ◌&&◌, Bool, true, false, List, [], ◌∷◌, ◌++◌, Option, Some, None, length, sum_by, refl, ap, ◌∙◌, arith, inl, inr}
+use Rattle.std.proofs.Common.{◌≡◌, ℕ, ◌+◌, ◌-◌, ◌*◌, ◌<◌, ◌≤◌, ◌==◌, true, false, List, [], ◌∷◌, ◌++◌, Option, Some, None, length, sum_by, refl, sym, ap, ◌∙◌, arith, inl, inr}
 use Rattle.std.specs.Prelude.{nat_le, take, drop, replicate, is_some}
-use Rattle.std.specs.List.{list_all}
-use Rattle.std.proofs.lemmas.Bool.{cases_Bool, and_parts, ltb-true}
+use Rattle.std.proofs.lemmas.Bool.{cases_Bool, and_left, and_parts, false_from_ne_true, le-leb, leb-true, ltb-true, true≢false}
 use Rattle.std.proofs.lemmas.List.{length-append, length-replicate, length-take}
 use Rattle.std.proofs.lemmas.List.Sums.{sum_by-cons}
 use Rattle.std.proofs.lemmas.Option.{same_Some}
 use Rattle.ktm_types.specs.declared.change.Change.{Change}
 use Rattle.ktm_types.specs.declared.change.Change.TheVariants.{Make, Put, Cut, Move, Drop}
 use Rattle.ktm_types.specs.declared.recorded.Node.{Node}
-use Rattle.ktm_forms.specs.Taking.{within}
-use Rattle.ktm_world.specs.Changes.{applies, changes_apply, bytes_in, changed}
-use Rattle.ktm_world.specs.Durable.{is_new_in}
-use Rattle.ktm_world.specs.Keys.{Store}
+use Rattle.ktm_types.specs.declared.event.Event.TheVariants.{Plain}
+use Rattle.ktm_states.proofs.offered.WaitingChanges.{recorded_changes_apply-all}
+use Rattle.ktm_world.specs.Changes.{applies, bytes_in, changed}
+use Rattle.ktm_world.specs.Durable.{Durable, event_applies, fact_applies, fact_of, is_within_limits, units_in_use}
 use Rattle.ktm_world.specs.Tree.{Tree, bytes_or_none, content_of, cut_to, node_at, put_over, units_of}
 use Rattle.ktm_world.proofs.offered.Lookups.{map_node, node_at-there}
 use Rattle.ktm_restart.specs.Waiting.{passes_units}
@@ -81,17 +80,17 @@ long_after units tree (Cut node size pages) does_apply passes =
 long_after units tree (Move node parent name) does_apply passes = absurd (cc)
 long_after units tree (Drop node) does_apply passes = absurd (cc)
 
-pub past_units : (units : ℕ) (tree : Tree) (keys : Store) (c : Change) (few : Bool) → passes_units units c ≡ true
-    → (changes_apply tree (c ∷ []) && list_all (is_new_in tree) (c ∷ []) && within units (changed tree c) keys && few) ≡ false
-past_units units tree keys c few passes = elim (cases_Bool (applies tree c)) [
-  | inl does_apply ↦
-      let more = long_after units tree c does_apply passes in
-      let past : nat_le (sum_by node_units (changed tree c)) units ≡ false = grind arith in
-      none_past (applies tree c) (list_all (is_new_in tree) (c ∷ [])) (nat_le (sum_by node_units (changed tree c)) units) _ _ few past
-  | inr not_so ↦ rw not_so refl
-]
-  where
-    none_past : (a b n d e few : Bool) → n ≡ false → ((a && true) && b && (n && d && e) && few) ≡ false
-    none_past true true n d e few past = rw past refl
-    none_past true false n d e few past = refl
-    none_past false b n d e few past = refl
+-- it passes the limits
+past_limits : (s : Durable) → nat_le (sum_by node_units s.tree) s.units ≡ false → is_within_limits s ≡ false
+unfolding is_within_limits
+past_limits s past =
+    let more : nat_le (units_in_use s) s.units ≡ false = false_from_ne_true _ (λ within. true≢false (sym (le-leb (sum_by node_units s.tree) s.units (let all = leb-true (units_in_use s) s.units within in omega arith)) ∙ past)) in
+    and_left _ _ (and_left _ _ (and_left _ _ (and_left _ _ (and_left _ _ (and_left _ _ more)))))
+
+pub past_units : (s : Durable) (c : Change) → passes_units s.units c ≡ true → event_applies s (Plain c) ≡ false
+past_units s c passes = and_left _ _ (false_from_ne_true _ (λ all.
+    let parts = and_parts (fact_applies s (Plain c)) (is_within_limits (fact_of s (Plain c))) all in
+    let does_apply = (and_parts (applies s.tree c) true (recorded_changes_apply-all s None (c ∷ []) parts.0)).0 in
+    let more = long_after s.units s.tree c does_apply passes in
+    let past : nat_le (sum_by node_units (changed s.tree c)) s.units ≡ false = grind arith in
+    true≢false (sym parts.1 ∙ past_limits (fact_of s (Plain c)) past)))

@@ -15,7 +15,7 @@ use Rattle.ktm_world.specs.Durable.{Recorded, emptied_part, enlistments_in, is_b
 use Rattle.ktm_world.specs.Transactions.{same_id}
 use Rattle.txf_laws.specs.Elements.{IsIn}
 use Rattle.txf_laws.proofs.offered.Tables.{KnownOrNew, Rises, before_other, fresh, is_before-then, recorded_or_new-cases, rises-first, rises-rest, same_id-equal, same_id-from, same_id-sym}
-use Rattle.ktm_states.proofs.offered.Parts.{gathered, count_among, count_among-map, gathered-map}
+use Rattle.ktm_states.proofs.offered.Parts.{gathered, gathered-map}
 use Rattle.ktm_restart.specs.Work.{without_changes, without_settings}
 
 -- the transaction, or a new one where there is none
@@ -68,7 +68,7 @@ absent-without (a ∷ ts) id none = elim (cases_Bool (same_id a.id id)) [
   | inr other ↦ rw other (ap (λ l. a ∷ l) (absent-without ts id (rw other at none)))
 ]
 
-pub taken-none : (ts : List Recorded) (id : Id) → recorded_at (without_recorded ts id) id ≡ None
+taken-none : (ts : List Recorded) (id : Id) → recorded_at (without_recorded ts id) id ≡ None
 taken-none [] id = refl
 taken-none (a ∷ ts) id = elim (cases_Bool (same_id a.id id)) [
   | inl same ↦ rw same (taken-none ts id)
@@ -86,7 +86,7 @@ none-other [] id first = refl
 none-other (a ∷ ts) id first =
     rw (false_from_ne_true (same_id a.id id) (λ same. before_other id a.id (first a (inl refl)) (sym (same_id-equal a.id id same)))) (ap (λ l. a ∷ l) (none-other ts id (λ u there. first u (inr there))))
 
-pub with-without : (ts : List Recorded) (t : Recorded) → Rises ts → with_recorded (without_recorded ts t.id) t ≡ with_recorded ts t
+with-without : (ts : List Recorded) (t : Recorded) → Rises ts → with_recorded (without_recorded ts t.id) t ≡ with_recorded ts t
 with-without [] t rises = refl
 with-without (a ∷ ts) t rises = elim (cases_Bool (same_id a.id t.id)) [
   | inl same ↦
@@ -130,20 +130,9 @@ settings-kept p = go p.part
     go (Changes changes) = refl
     go (Settings settings) = refl
 
-kind-kept : (p : RecordedPart) → is_part_of DonePart.Keys (without_changes p).part ≡ is_part_of DonePart.Keys p.part
-kind-kept p = go p.part
-  where
-    go : (part : Part) → is_part_of DonePart.Keys (without_changes (record { is_done = p.is_done; part = part })).part ≡ is_part_of DonePart.Keys part
-    go (Enlistment enlistment manager information) = refl
-    go (Changes changes) = refl
-    go (Settings settings) = refl
-
 -- changes that are taken leave the settings
 pub settings-left : (ps : List RecordedPart) → gathered settings_in (map without_changes ps) ≡ gathered settings_in ps
 settings-left ps = gathered-map settings_in without_changes settings-kept ps
-
-pub keys-left : (ps : List RecordedPart) → count_among (is_part_of DonePart.Keys) (map without_changes ps) ≡ count_among (is_part_of DonePart.Keys) ps
-keys-left ps = count_among-map (is_part_of DonePart.Keys) without_changes kind-kept ps
 
 -- ---- one after another
 
@@ -179,7 +168,7 @@ part-enlisted (Enlistment enlistment manager information) id = or-none (same_id 
 part-enlisted (Changes changes) id = refl
 part-enlisted (Settings settings) id = refl
 
-pub parts-enlisted : (ps : List RecordedPart) (id : Id) → list_any (λ other. same_id other id) (flat_map (λ (p : RecordedPart). enlistments_in p.part) ps) ≡ list_any (λ (p : RecordedPart). is_part_of (DonePart.Enlistment id) p.part) ps
+parts-enlisted : (ps : List RecordedPart) (id : Id) → list_any (λ other. same_id other id) (flat_map (λ (p : RecordedPart). enlistments_in p.part) ps) ≡ list_any (λ (p : RecordedPart). is_part_of (DonePart.Enlistment id) p.part) ps
 parts-enlisted [] id = refl
 parts-enlisted (p ∷ ps) id =
     list_any-append (λ other. same_id other id) (enlistments_in p.part) (flat_map (λ (q : RecordedPart). enlistments_in q.part) ps)

@@ -12,7 +12,7 @@ use Rattle.ktm_states.specs.GoodState.{has_one_part_each}
 use Rattle.ktm_world.specs.Changes.{bytes_in, changed_all, changes_apply, changes_bytes, has_changes, nodes_made}
 use Rattle.ktm_world.specs.Committed.{written_files}
 use Rattle.ktm_world.specs.Durable.{Durable, Recorded, are_recorded_changes, changes_of, enlistments_of, is_decided, is_new_in, settings_of}
-use Rattle.ktm_world.specs.Keys.{OwnSettings, Store}
+use Rattle.ktm_world.specs.Keys.{Store}
 use Rattle.ktm_world.specs.Transactions.{is_of}
 use Rattle.ktm_world.specs.Tree.{Tree, bytes_of, bytes_or_none, units_of}
 use Rattle.ktm_restart.specs.declared.amounts.Amounts.{Amounts}

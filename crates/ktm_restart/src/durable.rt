@@ -15,6 +15,7 @@ use std::marker::Model;
 use txf_durable::FilesRead;
 
 /// What the groups of an image's log stand for. They are applied in place: neither a change nor a key or a value is copied.
+/// Between groups no changes and no settings wait.
 #[derive(Drop)]
 pub struct Durable {
     replayed: Replayed,
@@ -26,6 +27,11 @@ impl Model for Durable {
     ghost Value = { Durable };
 
     ghost view = { λ s. s.replayed.state };
+
+    ghost use Rattle.std.specs.Prelude.{◌≡◌, None, true};
+    ghost use Rattle.ktm_restart.specs.Waiting.{none_waits_but};
+
+    ghost invariant = { λ s. none_waits_but None s.replayed.state.transactions ≡ true };
 }
 
 impl Durable {
@@ -86,6 +92,16 @@ impl Durable {
         ensures refused { is_built_group events.items ≡ false → IsOk result }
         ensures boots { (boot : ℕ) → events.items ≡ Boot boot ∷ [] → IsOk result }
     {
-        self.replayed.apply_group(events)
+        match self.replayed.apply_group(events) {
+            Ok(true) => Ok(true),
+            Ok(false) => {
+                self.replayed.forget_transactions();
+                Ok(false)
+            }
+            Err(NoMemory) => {
+                self.replayed.forget_transactions();
+                Err(NoMemory)
+            }
+        }
     }
 }

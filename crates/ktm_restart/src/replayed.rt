@@ -1,72 +1,80 @@
-// The durable state in memory while a log is read, and what groups of events make of it.
-ghost use Rattle.std.specs.Prelude.{◌≡◌, ◌&&◌, ◌+◌, ◌^◌, ◌≤◌, List, [], ◌∷◌, All, Ok, false, true, IfOk, IfSome, IsOk, IsSomeAnd, OnOk, length, is_none, is_some, count_by, nat_lt, nat_le, sum_by};
+// The durable state in memory while a log is read, and what each event makes of it.
+ghost use Rattle.std.specs.Prelude.{◌≡◌, ◌&&◌, ◌+◌, ◌^◌, ◌<◌, ◌≤◌, [], ◌∷◌, Ok, None, Some, not, false, true, IfOk, IsOk, OnOk, is_none, length, nat_eq, nat_le, nat_lt, sum_by};
 ghost use Rattle.std.specs.List.{list_all};
-ghost use Rattle.ktm_base.specs.declared.id.Id.{Id};
-ghost use Rattle.ktm_types.specs.declared.change.Change.{Change};
-ghost use Rattle.ktm_types.specs.declared.event.Event.TheVariants.{Boot, Plain, Ready, Single};
-ghost use Rattle.ktm_types.specs.declared.event.Part.TheVariants.{Changes, Settings};
+ghost use Rattle.ktm_types.specs.declared.event.Event.{Event as Recording};
+ghost use Rattle.ktm_types.specs.declared.event.Event.TheVariants.{Boot, MadeRm, Plain, Ready, Single, Held, Decide, Undo, Done};
+ghost use Rattle.ktm_base.specs.declared.limits.TheConstants.{MOST_LIVE};
 ghost use Rattle.ktm_forms.specs.Built.{is_built_group};
-ghost use Rattle.ktm_forms.specs.Commits.{both_events};
-ghost use Rattle.ktm_forms.specs.Taking.{within};
-ghost use Rattle.ktm_world.specs.Changes.{changes_apply, changed_all};
-ghost use Rattle.ktm_world.specs.Durable.{after_events, are_recorded_changes, empty_state, events_apply, is_new_in, is_sole, next_after_all};
-ghost use Rattle.ktm_world.specs.Keys.{OwnSettings, are_good_settings, stored_all};
-ghost use Rattle.ktm_world.specs.Tree.{bytes_of, bytes_or_none, units_of};
-ghost use Rattle.ktm_restart.specs.Replayed.{CanChange, CanTake, CanTakePart};
-ghost use Rattle.ktm_restart.specs.Waiting.{has_units_for, may_wait, passes_units};
+ghost use Rattle.ktm_world.specs.Changes.{changes_apply, changed_all, has_changes};
+ghost use Rattle.ktm_world.specs.Durable.{after_event, after_events, are_recorded_changes, empty_state, event_applies, events_apply, has_changes_part, has_settings_part, is_new_enlistment, is_new_in, is_within_limits, may_get_ready, next_after_all, part_applies, recorded_at, recorded_or_new, with_committed, with_part};
+ghost use Rattle.ktm_world.specs.Keys.{are_good_settings, stored_all};
+ghost use Rattle.ktm_world.specs.Tree.{bytes_or_none, units_of};
+ghost use Rattle.ktm_restart.specs.Replayed.{CanChange, CanCommit, CanTake, CanTakePart, Takes};
+ghost use Rattle.ktm_restart.specs.Waiting.{committed, may_come, none_waits_but, passes_units};
 ghost use Rattle.txf_durable.specs.State.{CanMake, CanMakeAll};
 ghost use Rattle.txf_tree.specs.TreeState.{tree_of, versions_of};
 
-use ktm_base::{Bytes, Id, NoMemory, UNIT_BYTES};
+use crate::amounts::{Amounts, have_room, limits, without};
+use crate::managers::Managers;
+use crate::parts::changes_in;
+use crate::table::Table;
+use ktm_base::{Bytes, Id, MOST_INFORMATION_BYTES, MOST_LIVE, NoMemory, UNIT_BYTES};
 use ktm_forms::is_built_group;
 use ktm_keyed::KeyedList;
-use ktm_types::{Change, Event, Part, Setting};
+use ktm_types::{Change, DonePart, Event, Part, Setting, Superior};
 use ktm_world::{are_good_settings, make_all};
 use std::alloc::Global;
 use std::marker::Model;
-use txf_durable::{
-    DurableFiles, FileNumbers, FilesRead, are_recorded_changes, gather_written, name_changes,
-    nodes_made,
-};
+use txf_durable::{DurableFiles, FileNumbers, FilesRead, are_recorded_changes};
 use txf_tree::bytes_in;
 
 /// The most events that an image may ever record.
 const MOST_EVENTS: u64 = (1 << 63) - 1;
 
-/// What the groups that were read so far stand for, with the memory that is there for the next one.
+/// What the events that were read so far stand for, with the memory that is there for the next one.
 #[derive(Drop)]
 pub(crate) struct Replayed {
+    alloc: Global,
     units: u32,
     image: u16,
     events: u64,
     boots: u32,
     files: DurableFiles,
     keys: KeyedList<Bytes>,
-    // The files that a group writes, while it is applied.
+    managers: Managers,
+    // The changes and the settings that wait are in the parts of their transactions, as they came.
+    transactions: Table,
+    // The files that a transaction writes, while its changes are tested.
     written: FileNumbers,
 }
 
 impl Model for Replayed {
-    ghost use Rattle.ktm_forms.specs.Built.{built_state};
     ghost use Rattle.ktm_restart.specs.Replayed.{ReplayedState};
     ghost use Rattle.txf_tree.specs.TreeState.{tree_of};
 
     ghost Value = { ReplayedState };
 
     ghost view = { λ s. record {
-      state = built_state s.units s.image s.events s.boots s.files.next_node (tree_of s.files.tree) s.keys.items;
+      state = record {
+        units = s.units;
+        image = s.image;
+        events = s.events;
+        boots = s.boots;
+        next_node = s.files.next_node;
+        tree = tree_of s.files.tree;
+        keys = s.keys.items;
+        managers = s.managers.managers;
+        transactions = s.transactions.transactions;
+      };
       files = s.files.tree;
       keys = s.keys.spare;
+      managers = s.managers.spare;
       written = s.written;
     } };
-}
 
-// Is there room for so many more.
-fn has_room(most: u32, used: usize, more: usize) -> bool
-    ensures { result ≡ nat_le (used + more) most }
-{
-    let most = most as usize;
-    used <= most && more <= most - used
+    ghost use Rattle.ktm_restart.specs.Waiting.{AreKept};
+
+    ghost invariant = { λ s. AreKept (tree_of s.files.tree) s.transactions.transactions };
 }
 
 // Would the change leave its file longer than all units of the image together: it is then refused before memory is taken for
@@ -86,60 +94,21 @@ fn passes_units(units: u32, change: &Change) -> bool
     }
 }
 
-fn count_set(settings: &[Setting]) -> usize
-    ensures { result ≡ count_by (λ setting. is_some setting.value) settings.now }
-{
-    settings.iter().filter(|s| s.value.is_some()).count()
-}
-
-fn count_unset(settings: &[Setting]) -> usize
-    ensures { result ≡ count_by (λ setting. is_none setting.value) settings.now }
-{
-    settings.len() - count_set(settings)
-}
-
-// The changes of a transaction whose files are ready.
-fn into_changes(event: Event) -> Option<(Id, Vec<Change>)>
-    ensures found { (transaction : Id) (changes : List Change) → event ≡ Ready transaction (Changes changes)
-        → IsSomeAnd result (λ part. (part.0 ≡ transaction) × (part.1.items ≡ changes)) }
-    ensures only { IfSome result (λ part. event ≡ Ready part.0 (Changes part.1.items)) }
-{
-    match event {
-        Event::Ready {
-            transaction,
-            part: Part::Changes(changes),
-        } => Some((transaction, changes.into_vec())),
-        _ => None,
-    }
-}
-
-// The settings of a transaction whose keys are ready.
-fn into_settings(event: Event) -> Option<Vec<Setting>>
-    ensures found { (transaction : Id) (settings : OwnSettings) → event ≡ Ready transaction (Settings settings)
-        → IsSomeAnd result (λ part. part.items ≡ settings) }
-    ensures only { IfSome result (λ part. (transaction : Id) × (event ≡ Ready transaction (Settings part.items))) }
-{
-    match event {
-        Event::Ready {
-            part: Part::Settings(settings),
-            ..
-        } => Some(settings.into_vec()),
-        _ => None,
-    }
-}
-
 impl Replayed {
     // The state of an image that was just formatted.
     pub(crate) fn empty(alloc: Global, units: u32, image: u16) -> Self
         ensures { result.state ≡ empty_state units image }
     {
         Replayed {
+            alloc,
             units,
             image,
             events: 0,
             boots: 0,
             files: DurableFiles::new(alloc),
             keys: KeyedList::new(alloc),
+            managers: Managers::new(alloc),
+            transactions: Table::new(alloc),
             written: FileNumbers::new(alloc),
         }
     }
@@ -179,96 +148,87 @@ impl Replayed {
         (files.into_parts(), keys)
     }
 
-    // Are the files and the keys within the units of the image.
+    // What the files and the keys take.
+    fn committed(&self) -> Amounts
+        ensures { result ≡ committed self.now.state.tree self.now.state.keys }
+    {
+        Amounts {
+            units: u128::from(self.files.units()),
+            nodes: self.files.nodes() as u128 + 1,
+            keys: self.keys.len() as u128,
+            changes: 0,
+            enlistments: 0,
+        }
+    }
+
+    // Is the state within the limits. It goes through what waits, and through nothing that is committed.
     fn is_within(&self) -> bool
-        ensures { result ≡ within self.now.state.units self.now.state.tree self.now.state.keys }
+        ensures { result ≡ is_within_limits self.now.state }
     {
-        self.files.units() <= u64::from(self.units)
-            && self.files.nodes() < self.units as usize
-            && self.keys.len() <= self.units as usize
+        let Some(room) = without(limits(self.units), self.committed()) else {
+            return false;
+        };
+        self.are_few() && have_room(room, self.transactions.as_slice())
     }
 
-    // May so many events more be recorded.
-    fn has_events_left(&self, events: u64) -> bool
-        requires { events ≤ 5 }
-        ensures { result ≡ nat_lt (self.now.state.events + events) (2 ^ 63) }
+    // Are there no more transactions and resource managers than there may be.
+    fn are_few(&self) -> bool
+        ensures { result ≡ (nat_le (length self.now.state.transactions) MOST_LIVE && nat_le (length self.now.state.managers) MOST_LIVE) }
     {
-        self.events <= MOST_EVENTS - events
+        self.transactions.as_slice().len() <= MOST_LIVE && self.managers.len() <= MOST_LIVE
     }
 
-    // A restart of the machine counts a boot.
+    // May one event more be recorded.
+    fn has_events_left(&self) -> bool
+        ensures { result ≡ nat_lt (self.now.state.events + 1) (2 ^ 63) }
+    {
+        self.events < MOST_EVENTS
+    }
+
+    // A restart of the machine counts a boot, and forgets the transactions that are ready and neither held nor decided.
     fn boot(&mut self, boot: u32) -> bool
-        ensures applies { result ≡ events_apply self.old.state (Boot boot ∷ []) }
-        ensures after { result ≡ true → self.new.state ≡ after_events self.old.state (Boot boot ∷ []) }
+        ensures { Takes self.old.state (Boot boot) result self.new.state }
     {
-        if boot == u32::MAX
-            || u64::from(boot) != u64::from(self.boots) + 1
-            || !self.has_events_left(1)
-        {
+        if boot == u32::MAX || u64::from(boot) != u64::from(self.boots) + 1 {
             return false;
         }
         self.boots = boot;
-        self.events += 1;
-        self.is_within()
+        self.transactions.forget_ready();
+        true
     }
 
-    // Counts one event more, by which the files were changed, and tells whether it may be recorded and the image has room for
-    // what is then committed.
-    fn add_event(&mut self) -> bool
-        ensures applies { result ≡ (within self.old.state.units self.old.state.tree self.old.state.keys && nat_lt (self.old.state.events + 1) (2 ^ 63)) }
-        ensures after { result ≡ true → self.new.state ≡ record self.old.state { events = self.old.state.events + 1 } }
+    // A durable resource manager was made.
+    fn add_manager(&mut self, manager: Id) -> Result<bool, NoMemory>
+        ensures takes { IfOk result (λ taken. Takes self.old.state (MadeRm manager) taken self.new.state) }
+        ensures enough { 0 < self.old.managers → IsOk result }
     {
-        if !self.has_events_left(1) {
-            return false;
-        }
-        self.events += 1;
-        self.is_within()
-    }
-
-    // Changes the files by one event.
-    fn change(&mut self, changes: Vec<Change>) -> Result<bool, NoMemory>
-        ensures applies { IfOk result (λ applied. applied ≡ (changes_apply self.old.state.tree changes.items && list_all (is_new_in self.old.state.tree) changes.items
-            && within self.old.state.units (changed_all self.old.state.tree changes.items) self.old.state.keys && nat_lt (self.old.state.events + 1) (2 ^ 63))) }
-        ensures after { result ≡ Ok true → self.new.state ≡ record self.old.state {
-          events = self.old.state.events + 1;
-          tree = changed_all self.old.state.tree changes.items;
-          next_node = next_after_all self.old.state.next_node changes.items;
-        } }
-        ensures enough { CanMakeAll self.old.files changes.items → IsOk result }
-    {
-        if !self.files.commit(changes)? {
+        if manager.boot != self.boots || self.managers.contains(manager) {
             return Ok(false);
         }
-        Ok(self.add_event())
+        self.managers.add(manager)?;
+        Ok(true)
     }
 
-    // Changes the files by one event of one change.
-    fn change_one(&mut self, change: Change) -> Result<bool, NoMemory>
-        ensures applies { IfOk result (λ applied. applied ≡ (changes_apply self.old.state.tree (change ∷ []) && list_all (is_new_in self.old.state.tree) (change ∷ [])
-            && within self.old.state.units (changed_all self.old.state.tree (change ∷ [])) self.old.state.keys && nat_lt (self.old.state.events + 1) (2 ^ 63))) }
-        ensures after { result ≡ Ok true → self.new.state ≡ record self.old.state {
-          events = self.old.state.events + 1;
-          tree = changed_all self.old.state.tree (change ∷ []);
-          next_node = next_after_all self.old.state.next_node (change ∷ []);
-        } }
-        ensures enough { CanMake self.old.files change → IsOk result }
-    {
-        if !self.files.commit_one(change)? {
-            return Ok(false);
-        }
-        Ok(self.add_event())
-    }
-
-    // A plain call changed the files.
+    // A plain call changed the files. One that would leave its file too long is refused before memory is taken for it.
     fn change_plainly(&mut self, change: Change) -> Result<bool, NoMemory>
-        ensures applies { IfOk result (λ applied. applied ≡ events_apply self.old.state (Plain change ∷ [])) }
-        ensures after { result ≡ Ok true → self.new.state ≡ after_events self.old.state (Plain change ∷ []) }
+        requires { none_waits_but None self.old.state.transactions ≡ true }
+        ensures takes { IfOk result (λ taken. Takes self.old.state (Plain change) taken self.new.state) }
         ensures enough { CanMake self.old.files change → IsOk result }
     {
         if passes_units(self.units, &change) {
             return Ok(false);
         }
-        self.change_one(change)
+        self.commit_change(change)
+    }
+
+    // Commits one change, if it applies.
+    fn commit_change(&mut self, change: Change) -> Result<bool, NoMemory>
+        requires { none_waits_but None self.old.state.transactions ≡ true }
+        ensures applies { IfOk result (λ applied. applied ≡ (changes_apply self.old.state.tree (change ∷ []) && list_all (is_new_in self.old.state.tree) (change ∷ []))) }
+        ensures after { result ≡ Ok true → self.new.state ≡ with_committed self.old.state (change ∷ []) [] }
+        ensures enough { CanMake self.old.files change → IsOk result }
+    {
+        self.files.commit_one(change)
     }
 
     // Takes the memory for the numbers of the files that so many changes write.
@@ -277,220 +237,296 @@ impl Replayed {
         ensures enough { changes ≤ self.old.written.room → IsOk result }
         ensures state { self.new.state ≡ self.old.state }
         ensures files { self.new.files ≡ self.old.files }
-        ensures keys { self.new.keys ≡ self.old.keys }
     {
         self.written.reserve(changes)
     }
 
-    // Takes the memory for so many keys more.
-    fn reserve_keys(&mut self, keys: usize) -> Result<(), NoMemory>
-        ensures room { OnOk result (keys ≤ self.new.keys) }
-        ensures enough { keys ≤ self.old.keys → IsOk result }
-        ensures state { self.new.state ≡ self.old.state }
-        ensures files { self.new.files ≡ self.old.files }
-        ensures written { self.new.written ≡ self.old.written }
-    {
-        self.keys.reserve(keys)
-    }
-
     // Have the changes the form in which a transaction records them.
-    fn are_recorded(&mut self, changes: &[Change]) -> bool
-        requires { length changes.now ≤ self.old.written.room }
-        ensures recorded { result ≡ are_recorded_changes changes.now }
+    fn are_recorded(&mut self, changes: &[Change]) -> Result<bool, NoMemory>
+        ensures recorded { IfOk result (λ are. are ≡ are_recorded_changes changes.now) }
+        ensures enough { length changes.now ≤ self.old.written.room → IsOk result }
         ensures state { self.new.state ≡ self.old.state }
         ensures files { self.new.files ≡ self.old.files }
-        ensures keys { self.new.keys ≡ self.old.keys }
-        ensures room { self.new.written.room ≡ self.old.written.room }
     {
-        are_recorded_changes(&mut self.written, changes)
+        self.reserve_written(changes.len())?;
+        Ok(are_recorded_changes(&mut self.written, changes))
     }
 
-    // A transaction commits what it changed, and nothing else.
-    fn commit_changes(&mut self, transaction: Id, changes: Vec<Change>) -> Result<bool, NoMemory>
-        ensures applies { IfOk result (λ applied. applied ≡ events_apply self.old.state (Single transaction (Changes changes.items) ∷ [])) }
-        ensures after { result ≡ Ok true → self.new.state ≡ after_events self.old.state (Single transaction (Changes changes.items) ∷ []) }
+    // Is there no transaction with this Id yet, which is of the present boot.
+    fn may_commit_alone(&self, transaction: Id) -> bool
+        ensures { result ≡ (nat_eq transaction.boot self.now.state.boots && is_none (recorded_at self.now.state.transactions transaction)) }
+    {
+        transaction.boot == self.boots && self.transactions.get(transaction).is_none()
+    }
+
+    // Commits changes, if they have the form in which they are recorded, and apply.
+    fn commit_changes(&mut self, changes: Vec<Change>) -> Result<bool, NoMemory>
+        requires { none_waits_but None self.old.state.transactions ≡ true }
+        ensures applies { IfOk result (λ applied. applied ≡ (are_recorded_changes changes.items && (changes_apply self.old.state.tree changes.items && list_all (is_new_in self.old.state.tree) changes.items))) }
+        ensures after { result ≡ Ok true → self.new.state ≡ with_committed self.old.state changes.items [] }
         ensures enough { CanChange self.old changes.items → IsOk result }
     {
-        if transaction.boot != self.boots {
+        if !self.are_recorded(&changes)? {
             return Ok(false);
         }
-        self.reserve_written(changes.len())?;
-        if !self.are_recorded(&changes) {
-            return Ok(false);
-        }
-        self.change(changes)
+        self.files.commit(changes)
     }
 
-    // Makes settings in the store, counts the events that record them, and tells whether the image has room for what is then
-    // committed. It takes no memory.
-    fn set(&mut self, settings: Vec<Setting>, events: u64) -> bool
-        requires left { nat_lt (self.old.state.events + events) (2 ^ 63) ≡ true }
-        requires room { length settings.items ≤ self.old.keys }
-        ensures applies { result ≡ within self.old.state.units self.old.state.tree (stored_all self.old.state.keys settings.items) }
-        ensures after { self.new.state ≡ record self.old.state { events = self.old.state.events + events; keys = stored_all self.old.state.keys settings.items } }
-    {
-        make_all(&mut self.keys, settings);
-        self.events += events;
-        self.is_within()
-    }
-
-    // A transaction commits what it set, and nothing else.
-    fn commit_settings(&mut self, transaction: Id, settings: Vec<Setting>) -> Result<bool, NoMemory>
-        ensures applies { IfOk result (λ applied. applied ≡ events_apply self.old.state (Single transaction (Settings settings.items) ∷ [])) }
-        ensures after { result ≡ Ok true → self.new.state ≡ after_events self.old.state (Single transaction (Settings settings.items) ∷ []) }
+    // Commits settings, if they are good ones.
+    fn commit_settings(&mut self, settings: Vec<Setting>) -> Result<bool, NoMemory>
+        ensures applies { IfOk result (λ applied. applied ≡ are_good_settings settings.items) }
+        ensures after { result ≡ Ok true → self.new.state ≡ with_committed self.old.state [] settings.items }
         ensures enough { length settings.items ≤ self.old.keys → IsOk result }
     {
-        if transaction.boot != self.boots
-            || !self.has_events_left(1)
-            || !are_good_settings(&settings)
-        {
+        if !are_good_settings(&settings) {
             return Ok(false);
         }
-        self.reserve_keys(settings.len())?;
-        Ok(self.set(settings, 1))
+        self.keys.reserve(settings.len())?;
+        make_all(&mut self.keys, settings);
+        Ok(true)
     }
 
     // A transaction commits its one part.
     fn commit_part(&mut self, transaction: Id, part: Part) -> Result<bool, NoMemory>
-        ensures applies { IfOk result (λ applied. applied ≡ (is_sole part && events_apply self.old.state (Single transaction part ∷ []))) }
-        ensures after { result ≡ Ok true → self.new.state ≡ after_events self.old.state (Single transaction part ∷ []) }
+        requires { none_waits_but None self.old.state.transactions ≡ true }
+        ensures takes { IfOk result (λ taken. Takes self.old.state (Single transaction part) taken self.new.state) }
         ensures enough { CanTakePart self.old part → IsOk result }
     {
+        if !self.may_commit_alone(transaction) {
+            return Ok(false);
+        }
         match part {
-            Part::Changes(changes) => self.commit_changes(transaction, changes.into_vec()),
-            Part::Settings(settings) => self.commit_settings(transaction, settings.into_vec()),
+            Part::Changes(changes) => self.commit_changes(changes.into_vec()),
+            Part::Settings(settings) => self.commit_settings(settings.into_vec()),
             Part::Enlistment { .. } => Ok(false),
         }
     }
 
-    // Is there room for these beside what is committed, but for the units of the files.
-    fn may_wait(&self, changes: &[Change], settings: &[Setting]) -> bool
-        ensures { result ≡ may_wait self.now.state changes.now settings.now }
+    // Is the transaction of the present boot, and new or ready.
+    fn may_get_ready(&self, transaction: Id) -> bool
+        ensures { result ≡ may_get_ready self.now.state transaction }
     {
-        has_room(self.units, name_changes(changes), count_unset(settings))
-            && has_room(self.units, self.keys.len(), count_set(settings))
-            && self.files.nodes() < self.units as usize
-            && has_room(self.units - 1, self.files.nodes(), nodes_made(changes))
+        transaction.boot == self.boots && self.transactions.is_ready(transaction)
     }
 
-    // May these be recorded as the parts of a transaction that commits, but for what the files say.
-    fn may_commit(&mut self, changes: &[Change], settings: &[Setting]) -> bool
-        requires { length changes.now ≤ self.old.written.room }
-        ensures may { result ≡ (nat_lt (self.old.state.events + 5) (2 ^ 63) && are_good_settings settings.now
-            && may_wait self.old.state changes.now settings.now && are_recorded_changes changes.now) }
+    // Is it an enlistment of the present boot that no transaction has, of a resource manager that is there.
+    fn is_new_enlistment(&self, enlistment: Id, manager: Id, information: &[u8]) -> bool
+        ensures { result ≡ is_new_enlistment self.now.state enlistment manager information.now }
+    {
+        enlistment.boot == self.boots
+            && !self.transactions.has_enlistment(enlistment)
+            && self.managers.contains(manager)
+            && information.len() <= MOST_INFORMATION_BYTES
+    }
+
+    // May the changes wait: they are the first of their transaction, have the form in which they are recorded, and apply.
+    fn may_wait(&mut self, transaction: Id, changes: &[Change]) -> Result<bool, NoMemory>
+        ensures may { IfOk result (λ may. may ≡ (not (has_changes_part (recorded_or_new self.old.state.transactions transaction)) && are_recorded_changes changes.now
+            && (changes_apply self.old.state.tree changes.now && list_all (is_new_in self.old.state.tree) changes.now))) }
         ensures state { self.new.state ≡ self.old.state }
-        ensures files { self.new.files ≡ self.old.files }
-        ensures keys { self.new.keys ≡ self.old.keys }
-        ensures room { self.new.written.room ≡ self.old.written.room }
     {
-        self.has_events_left(5)
-            && are_good_settings(settings)
-            && self.may_wait(changes, settings)
-            && self.are_recorded(changes)
+        if self.transactions.has_part_of(transaction, DonePart::Files)
+            || !self.are_recorded(changes)?
+        {
+            return Ok(false);
+        }
+        self.files.would_apply(self.alloc, changes)
     }
 
-    // Is there room for so many units, and for those of the written files once more.
-    fn has_units_left(&self, units: u64) -> bool
-        ensures { result ≡ nat_le (units + sum_by (λ file. units_of (bytes_of self.now.state.tree file)) self.now.written.numbers) self.now.state.units }
+    // May the settings wait: they are the first of their transaction, and good ones.
+    fn may_set(&self, transaction: Id, settings: &[Setting]) -> bool
+        ensures { result ≡ (not (has_settings_part (recorded_or_new self.now.state.transactions transaction)) && are_good_settings settings.now) }
     {
-        let most = u64::from(self.units);
-        units <= most && self.files.units_of(self.written.as_slice()) <= u128::from(most - units)
+        !self.transactions.has_part_of(transaction, DonePart::Keys) && are_good_settings(settings)
     }
 
-    // Commits changes that wait in these units.
-    fn commit_files(&mut self, changes: Vec<Change>) -> Result<bool, NoMemory>
-        requires { length changes.items ≤ self.old.written.room }
-        ensures applies { IfOk result (λ applied. applied ≡ (changes_apply self.old.state.tree changes.items && list_all (is_new_in self.old.state.tree) changes.items
-            && has_units_for self.old.state changes.items)) }
-        ensures after { result ≡ Ok true → self.new.state ≡ record self.old.state {
-          tree = changed_all self.old.state.tree changes.items;
-          next_node = next_after_all self.old.state.next_node changes.items;
-        } }
-        ensures enough { CanMakeAll self.old.files changes.items → IsOk result }
-        ensures keys { self.new.keys ≡ self.old.keys }
+    // Does a part of a transaction apply.
+    fn part_applies(&mut self, transaction: Id, part: &Part) -> Result<bool, NoMemory>
+        requires { may_come self.old.state (Ready transaction part.now) ≡ true }
+        ensures applies { IfOk result (λ applies. applies ≡ part_applies self.old.state transaction part.now) }
+        ensures state { self.new.state ≡ self.old.state }
     {
-        gather_written(&mut self.written, &changes);
-        let units = self.files.units();
+        match part {
+            Part::Enlistment {
+                enlistment,
+                manager,
+                information,
+            } => Ok(self.is_new_enlistment(*enlistment, *manager, information.as_slice())),
+            Part::Changes(changes) => self.may_wait(transaction, changes.as_slice()),
+            Part::Settings(settings) => Ok(self.may_set(transaction, settings.as_slice())),
+        }
+    }
+
+    // The transaction has one part more, whose changes apply. For want of memory the transaction is lost.
+    fn add_part(&mut self, transaction: Id, part: Part) -> Result<(), NoMemory>
+        requires come { may_come self.old.state (Ready transaction part) ≡ true }
+        requires applies { part_applies self.old.state transaction part ≡ true }
+        ensures { OnOk result (self.new.state ≡ with_part self.old.state transaction part) }
+    {
+        self.files.give_numbers(changes_in(&part));
+        self.transactions.add_part(self.alloc, transaction, part)?;
+        Ok(())
+    }
+
+    // A participant of a transaction is prepared.
+    fn get_ready(&mut self, transaction: Id, part: Part) -> Result<bool, NoMemory>
+        requires { may_come self.old.state (Ready transaction part) ≡ true }
+        ensures { IfOk result (λ taken. Takes self.old.state (Ready transaction part) taken self.new.state) }
+    {
+        if !self.may_get_ready(transaction) || !self.part_applies(transaction, &part)? {
+            return Ok(false);
+        }
+        self.add_part(transaction, part)?;
+        Ok(true)
+    }
+
+    // A transaction waits for its superior.
+    fn hold(&mut self, transaction: Id, superior: Superior) -> Result<bool, NoMemory>
+        ensures { IfOk result (λ taken. Takes self.old.state (Held transaction superior.enlistment superior.manager superior.information) taken self.new.state) }
+    {
+        if !self.may_get_ready(transaction)
+            || !self.is_new_enlistment(
+                superior.enlistment,
+                superior.manager,
+                superior.information.as_slice(),
+            )
+        {
+            return Ok(false);
+        }
+        self.transactions.hold(self.alloc, transaction, superior)?;
+        Ok(true)
+    }
+
+    // Commits what waited, and makes room for it before.
+    fn commit(&mut self, changes: Vec<Change>, settings: Vec<Setting>) -> Result<bool, NoMemory>
+        requires apply { changes_apply self.old.state.tree changes.items ≡ true }
+        requires new { list_all (is_new_in self.old.state.tree) changes.items ≡ true }
+        requires waits { has_changes changes.items ≡ true → none_waits_but None self.old.state.transactions ≡ true }
+        ensures after { IfOk result (λ all. (all ≡ true) × (self.new.state ≡ with_committed self.old.state changes.items settings.items)) }
+        ensures enough { CanMakeAll self.old.files changes.items → length settings.items ≤ self.old.keys → IsOk result }
+    {
+        self.keys.reserve(settings.len())?;
         if !self.files.commit(changes)? {
             return Ok(false);
         }
-        Ok(self.has_units_left(units))
+        make_all(&mut self.keys, settings);
+        Ok(true)
     }
 
-    // A transaction commits what it changed and what it set.
-    fn commit_both(
-        &mut self,
-        transaction: Id,
-        changes: Vec<Change>,
-        settings: Vec<Setting>,
-    ) -> Result<bool, NoMemory>
-        ensures applies { IfOk result (λ applied. applied ≡ events_apply self.old.state (both_events transaction changes.items settings.items)) }
-        ensures after { result ≡ Ok true → self.new.state ≡ after_events self.old.state (both_events transaction changes.items settings.items) }
-        ensures enough { CanChange self.old changes.items → length settings.items ≤ self.old.keys → IsOk result }
+    // A prepared transaction commits: what waited is made.
+    fn decide(&mut self, transaction: Id) -> Result<bool, NoMemory>
+        ensures takes { IfOk result (λ taken. Takes self.old.state (Decide transaction) taken self.new.state) }
+        ensures enough { CanCommit self.old (recorded_at self.old.state.transactions transaction) → IsOk result }
     {
-        if transaction.boot != self.boots {
+        if !self.transactions.may_decide(transaction) {
             return Ok(false);
         }
-        self.reserve_written(changes.len())?;
-        self.reserve_keys(settings.len())?;
-        if !self.may_commit(&changes, &settings) {
-            return Ok(false);
-        }
-        if !self.commit_files(changes)? {
-            return Ok(false);
-        }
-        Ok(self.set(settings, 5))
+        let (changes, settings) = self.transactions.decide(self.alloc, transaction);
+        self.commit(changes, settings)
     }
 
-    // Applies an event that is a group by itself.
-    fn apply_alone(&mut self, event: Event) -> Result<bool, NoMemory>
-        ensures applies { IfOk result (λ applied. applied ≡ (is_built_group (event ∷ []) && events_apply self.old.state (event ∷ []))) }
-        ensures after { result ≡ Ok true → self.new.state ≡ after_events self.old.state (event ∷ []) }
+    // A prepared transaction rolls back.
+    fn undo(&mut self, transaction: Id) -> bool
+        ensures { Takes self.old.state (Undo transaction) result self.new.state }
+    {
+        if !self.transactions.may_undo(transaction) {
+            return false;
+        }
+        self.transactions.forget(transaction);
+        true
+    }
+
+    // A participant of a decided transaction is done.
+    fn finish(&mut self, transaction: Id, done: DonePart) -> bool
+        ensures { Takes self.old.state (Done transaction done) result self.new.state }
+    {
+        if !self.transactions.may_finish(transaction, done) {
+            return false;
+        }
+        self.transactions.finish(transaction, done);
+        true
+    }
+
+    // Makes of the state what an event makes of it, if it applies but for the limits, and does not count it.
+    fn take(&mut self, event: Event) -> Result<bool, NoMemory>
+        requires { may_come self.old.state event ≡ true }
+        ensures takes { IfOk result (λ taken. Takes self.old.state event taken self.new.state) }
         ensures enough { CanTake self.old event → IsOk result }
     {
         match event {
             Event::Boot { boot } => Ok(self.boot(boot)),
+            Event::MadeRm { manager } => self.add_manager(manager),
             Event::Plain { change } => self.change_plainly(change),
+            Event::Ready { transaction, part } => self.get_ready(transaction, part),
             Event::Single { transaction, part } => self.commit_part(transaction, part),
-            _ => Ok(false),
+            Event::Held {
+                transaction,
+                enlistment,
+                manager,
+                information,
+            } => self.hold(
+                transaction,
+                Superior {
+                    enlistment,
+                    manager,
+                    information,
+                },
+            ),
+            Event::Decide { transaction } => self.decide(transaction),
+            Event::Undo { transaction } => Ok(self.undo(transaction)),
+            Event::Done { transaction, done } => Ok(self.finish(transaction, done)),
         }
     }
 
-    // Applies what is recorded of a transaction whose files and keys are ready.
-    fn apply_parts(&mut self, files: Event, keys: Event) -> Result<bool, NoMemory>
-        ensures applies { (transaction other : Id) (changes : List Change) (settings : OwnSettings) → files ≡ Ready transaction (Changes changes) → keys ≡ Ready other (Settings settings)
-            → IfOk result (λ applied. applied ≡ events_apply self.old.state (both_events transaction changes settings)) }
-        ensures after { (transaction other : Id) (changes : List Change) (settings : OwnSettings) → files ≡ Ready transaction (Changes changes) → keys ≡ Ready other (Settings settings)
-            → result ≡ Ok true → self.new.state ≡ after_events self.old.state (both_events transaction changes settings) }
-        ensures enough { CanTake self.old files → CanTake self.old keys → IsOk result }
+    // Counts the event that was taken.
+    fn count(&mut self)
+        requires { nat_lt (self.old.state.events + 1) (2 ^ 63) ≡ true }
+        ensures { self.new.state ≡ record self.old.state { events = self.old.state.events + 1 } }
     {
-        let Some((transaction, changes)) = into_changes(files) else {
-            return Ok(false);
-        };
-        let Some(settings) = into_settings(keys) else {
-            return Ok(false);
-        };
-        self.commit_both(transaction, changes, settings)
+        self.events += 1;
     }
 
-    // Applies a group of events. It answers false where the group is not built or does not apply; the state is then of no use,
-    // as it is where memory is wanted.
+    /// Applies an event. It answers false where the event does not apply; the state is then of no use, as it is where memory is
+    /// wanted. An event that is tested against what other transactions hold comes only while these hold nothing.
+    pub(crate) fn apply(&mut self, event: Event) -> Result<bool, NoMemory>
+        requires { may_come self.old.state event ≡ true }
+        ensures applies { IfOk result (λ applied. applied ≡ event_applies self.old.state event) }
+        ensures after { result ≡ Ok true → self.new.state ≡ after_event self.old.state event }
+        ensures enough { CanTake self.old event → IsOk result }
+    {
+        if !self.has_events_left() || !self.take(event)? {
+            return Ok(false);
+        }
+        self.count();
+        Ok(self.is_within())
+    }
+
+    /// Applies a group of events, one after another, before which nothing waits. It answers false where the group is not built
+    /// or does not apply; the state is then of no use, as it is where memory is wanted. A group that is not built wants none.
     pub(crate) fn apply_group(&mut self, events: Vec<Event>) -> Result<bool, NoMemory>
+        requires { none_waits_but None self.old.state.transactions ≡ true }
         ensures applies { IfOk result (λ applied. applied ≡ (is_built_group events.items && events_apply self.old.state events.items)) }
         ensures after { result ≡ Ok true → self.new.state ≡ after_events self.old.state events.items }
-        ensures enough { All (CanTake self.old) events.items → IsOk result }
+        ensures rest { result ≡ Ok true → none_waits_but None self.new.state.transactions ≡ true }
+        ensures enough { (event : Recording) → events.items ≡ event ∷ [] → CanTake self.old event → IsOk result }
         ensures refused { is_built_group events.items ≡ false → IsOk result }
     {
+        let _ = &self.alloc;
         if !is_built_group(&events) {
             return Ok(false);
         }
-        let mut events = events.into_iter();
-        let Some(first) = events.next() else {
-            return Ok(false);
-        };
-        match events.next() {
-            None => self.apply_alone(first),
-            Some(second) => self.apply_parts(first, second),
+        for event in events {
+            if !self.apply(event)? {
+                return Ok(false);
+            }
         }
+        Ok(true)
+    }
+
+    /// Forgets all transactions that are not over.
+    pub(crate) fn forget_transactions(&mut self)
+        ensures { self.new.state.transactions ≡ [] }
+    {
+        self.transactions.clear();
     }
 }

@@ -425,4 +425,11 @@ impl Table {
     {
         let _ = self.take(id);
     }
+
+    /// All transactions are forgotten.
+    pub(crate) fn clear(&mut self)
+        ensures { self.new.transactions ≡ [] }
+    {
+        self.items.clear();
+    }
 }

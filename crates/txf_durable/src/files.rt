@@ -140,17 +140,6 @@ impl DurableFiles {
         self.next_node
     }
 
-    /// The units of the files with these numbers, one after another.
-    pub fn units_of(&self, files: &[u64]) -> u128
-        ensures { result ≡ sum_by (λ file. units_of (bytes_of (tree_of self.now.tree) file)) files.now }
-    {
-        let mut units = 0;
-        for file in files {
-            units += u128::from(units_at(&self.tree, *file));
-        }
-        units
-    }
-
     /// Makes changes in order, if they apply and none of them makes a node that is there before the first, and tells whether
     /// that is so. It fails for want of memory, and where the files have nearly 2^64 units. Where not all changes were made
     /// the files are of no use, since some of them may have been.

@@ -13,4 +13,3 @@ pub use counts::{name_changes, nodes_made, units_given};
 pub use files::{DurableFiles, FilesRead};
 pub use numbers::FileNumbers;
 pub use recorded::are_recorded_changes;
-pub use written::gather_written;

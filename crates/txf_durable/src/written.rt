@@ -36,7 +36,7 @@ fn add_change(files: &mut FileNumbers, change: &Change)
 }
 
 /// Makes the numbers those of the files that the changes write or make, and leave. It takes no memory.
-pub fn gather_written(files: &mut FileNumbers, changes: &[Change])
+pub(crate) fn gather_written(files: &mut FileNumbers, changes: &[Change])
     requires { length changes.now ≤ files.old.room }
     ensures numbers { files.new.numbers ≡ written_files changes.now }
     ensures room { files.new.room ≡ files.old.room }

@@ -1,13 +1,11 @@
-use Rattle.std.proofs.Common.{refl, sym, ◌∙◌, arith}
-use Rattle.ktm_forms.specs.Built.{built_state}
+use Rattle.std.proofs.Common.{sym, subst, not}
+use Rattle.ktm_world.specs.Durable.{is_ready}
 use Rattle.txf_tree.specs.TreeState.{tree_of}
-use Rattle.ktm_restart.proofs.Groups.{boot_applies}
+use Rattle.ktm_restart.specs.Waiting.{AreKept}
+use Rattle.ktm_restart.proofs.Keeping.{kept-filter}
 use Rattle.ktm_restart.proofs.replayed.Replayed.boot.Goals as goal
 
-pub returns-clause-applies : goal.returns-clause-applies
-returns-clause-applies c =
-    let s = c.self.inside in
-    rw (← c.self.view_is) (
-    c.is_within.ensures
-    ∙ sym (boot_applies (built_state s.units s.image s.events s.boots s.files.next_node (tree_of s.files.tree) s.keys.items) c.args.boot refl (omega arith) (omega arith)
-    (sym (rw (← c.self.view_is) at c.has_events_left.ensures) ∙ c.if-not-has_events_left.false)))
+pub invariant_of-self : goal.invariant_of-self
+invariant_of-self c =
+    let tree = tree_of c.self.inside.files.tree in
+    subst (AreKept tree) (sym c.forget_ready.ensures) (kept-filter tree (λ t. not (is_ready t.stage)) c.self.inside.transactions.transactions c.self.invariant)
