@@ -1,5 +1,5 @@
 // The entries of a directory, one after another.
-ghost use Rattle.std.specs.Prelude.{◌≡◌, ◌++◌, ◌≤◌, [], IfNone, IfSome, length, option_to_list};
+ghost use Rattle.std.specs.Prelude.{◌≡◌, ◌++◌, ◌≤◌, [], IfNone, IfSome, drop, length, option_to_list};
 ghost use Rattle.std.specs.List.{slice_get};
 ghost use Rattle.std.specs.Option.{option_map};
 ghost use Rattle.ktm_base.specs.declared.limits.TheConstants.{MOST_NAME_BYTES};
@@ -93,5 +93,14 @@ impl<'a> Children<'a> {
             self.first = next_child(self.nodes, self.directory, &mut self.names);
         }
         first
+    }
+
+    /// Goes on behind the first one, if one is left.
+    pub fn skip(&mut self)
+        ensures { self.new ≡ drop 1 self.old }
+    {
+        if self.first.is_some() {
+            self.first = next_child(self.nodes, self.directory, &mut self.names);
+        }
     }
 }
