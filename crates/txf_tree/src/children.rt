@@ -88,10 +88,8 @@ impl<'a> Children<'a> {
         ensures none { IfNone result (self.old ≡ []) }
         ensures few { IfSome result (λ entry. length entry.name.now ≤ MOST_NAME_BYTES) }
     {
-        let first = self.first;
-        if first.is_some() {
-            self.first = next_child(self.nodes, self.directory, &mut self.names);
-        }
+        let first = self.first();
+        self.skip();
         first
     }
 
