@@ -423,10 +423,6 @@ upper_room bs i place keys within above under is most =
     }
 
 -- ---- one key less
--- a block that was written and read
-same_block : (bs : List (List Key)) (i : ℕ) (x k : List Key) → i < length bs → k ≡ get_or (set bs i x) i k → k ≡ x
-same_block bs i x k within is = is ∙ get_or-set_same bs i x k within
-
 -- a list of no length is empty
 none_left : (k : List Key) → length k ≤ 0 → k ≡ []
 none_left [] none = refl
@@ -448,11 +444,6 @@ flat-join (b ∷ c ∷ bs) (suc k) within = ap (λ l. b ++ l) (flat-join (c ∷ 
 flat-joined : (bs : List (List Key)) (k : ℕ) → k + 1 < length bs → flat (joined bs k) ≡ flat bs
 flat-joined bs k within =
     ap (λ n. flat (remove (set bs k (block_at bs k ++ block_at bs n)) n)) (plus-one k) ∙ flat-join bs k (omega (arith, within))
-
-length-joined : (bs : List (List Key)) (k : ℕ) → k + 1 < length bs → length (joined bs k) + 1 ≡ length bs
-length-joined bs k within =
-    let count = length-set bs k (block_at bs k ++ block_at bs (k + 1)) in
-    length-remove (set bs k (block_at bs k ++ block_at bs (k + 1))) (k + 1) (omega (arith, count, within)) ∙ count
 
 used-join : (bs : List (List Key)) (k : ℕ) (x : List Key) → AreUsed bs → 0 < length x → AreUsed (remove (set bs k x) (suc k))
 used-join [] k x used some = tt
@@ -660,11 +651,6 @@ without_key bs new stock freed blocks_room stock_room blocks_room' stock_room' l
       eight = omega (arith, are.eight, count, left.count);
       enough = omega (arith, are.enough);
     }
-
--- what is freed has room in the stock
-pub freed_fits : (bs new stock freed : List (List Key)) (blocks_room stock_room len capacity : ℕ) → AreBlocks bs stock blocks_room stock_room len capacity → IsLeft bs new freed
-    → length stock + length freed ≤ stock_room
-freed_fits bs new stock freed blocks_room stock_room len capacity are left = omega (arith, left.count, are.stock_fits)
 
 -- a key less leaves room for one more
 pub spare_more : (bs new stock : List (List Key)) (blocks_room stock_room len capacity : ℕ) (spot : Spot) → AreBlocks bs stock blocks_room stock_room len capacity → IsSpot bs spot

@@ -48,7 +48,7 @@ fn pass(children: &mut Children<'_>, order: Ordering)
     ensures { children.new ≡ passed order children.old }
 {
     if order.is_eq() {
-        children.next();
+        children.skip();
     }
 }
 

@@ -1,5 +1,8 @@
 -- Lemmas on the entries that begin with the characters before a pattern's first star or question mark.
-use Rattle.std.proofs.Common.{◌≡◌, ◌⊎◌, ℕ, Bool, true, false, not, cond, filter, eqb, List, [], ◌∷◌, ◌++◌, refl, sym, ap, ◌∙◌, inl, inr, arith}
+use Rattle.std.proofs.Common.{◌≡◌, ◌⊎◌, ℕ, Bool, true, false, not, cond, filter, eqb, List, [], ◌∷◌, ◌++◌, drop, Option, Some, None, refl, sym, ap, ◌∙◌, inl, inr, arith}
+use Rattle.std.specs.List.{slice_get}
+use Rattle.std.specs.Prelude.{option_to_list}
+use Rattle.std.proofs.lemmas.Option.{same_Some}
 use Rattle.std.specs.Ordering.{is_lt, nat_cmp}
 use Rattle.std.proofs.lemmas.Bool.{cases_Bool, eqb-true, eq-eqb}
 use Rattle.std.proofs.lemmas.Cmp.{nat_cmp_total, tied_itself}
@@ -119,6 +122,21 @@ ahead_of_lead pattern directory ss rise = record {
   rise = AreAscending-filter (λ entry. not (is_lt (name_cmp (child_name directory entry.name) (child_name directory (lead pattern))))) ss rise;
   high = high-from pattern directory ss;
 }
+
+-- the first of entries, and the others
+pub first_of : (s : Shown) (ss : List Shown) → Some s ≡ slice_get ss 0 → ss ≡ s ∷ drop 1 ss
+first_of s [] is = absurd (cc)
+first_of s (x ∷ ss) is = ap (λ x. x ∷ ss) (same_Some x s (sym is))
+
+-- what is taken out, and what is left
+pub taken_of : (o : Option Shown) (ss : List Shown) → o ≡ slice_get ss 0 → ss ≡ option_to_list o ++ drop 1 ss
+taken_of None [] is = refl
+taken_of None (x ∷ ss) is = absurd (cc)
+taken_of (Some s) ss is = first_of s ss is
+
+pub none_of : (ss : List Shown) → None ≡ slice_get ss 0 → ss ≡ []
+none_of [] is = refl
+none_of (x ∷ ss) is = absurd (cc)
 
 -- one is matched, or not
 pub matched_next : (pattern : List ℕ) (s : Shown) (ss : List Shown) → matching pattern (s ∷ []) ++ matching pattern ss ≡ matching pattern (s ∷ ss)

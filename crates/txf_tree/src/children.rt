@@ -1,5 +1,5 @@
 // The entries of a directory, one after another.
-ghost use Rattle.std.specs.Prelude.{◌≡◌, ◌++◌, ◌≤◌, [], IfNone, IfSome, length, option_to_list};
+ghost use Rattle.std.specs.Prelude.{◌≡◌, ◌++◌, ◌≤◌, [], IfNone, IfSome, drop, length, option_to_list};
 ghost use Rattle.std.specs.List.{slice_get};
 ghost use Rattle.std.specs.Option.{option_map};
 ghost use Rattle.ktm_base.specs.declared.limits.TheConstants.{MOST_NAME_BYTES};
@@ -88,10 +88,17 @@ impl<'a> Children<'a> {
         ensures none { IfNone result (self.old ≡ []) }
         ensures few { IfSome result (λ entry. length entry.name.now ≤ MOST_NAME_BYTES) }
     {
-        let first = self.first;
-        if first.is_some() {
+        let first = self.first();
+        self.skip();
+        first
+    }
+
+    /// Goes on behind the first one, if one is left.
+    pub fn skip(&mut self)
+        ensures { self.new ≡ drop 1 self.old }
+    {
+        if self.first.is_some() {
             self.first = next_child(self.nodes, self.directory, &mut self.names);
         }
-        first
     }
 }

@@ -246,13 +246,14 @@ impl Tree {
             directory,
             child_name(directory, pattern.lead()).as_slice(),
         );
-        while let Some(entry) = children.next() {
+        while let Some(entry) = children.first() {
             if !pattern.reaches(entry.name) {
                 return Ok(entries);
             }
             if let Err(NoMemory) = entries.push_matching(entry, pattern) {
                 return Err(NoMemory);
             }
+            children.skip();
         }
         Ok(entries)
     }
